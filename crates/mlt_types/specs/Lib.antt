@@ -1,0 +1,4 @@
+pub mod Cells
+pub mod Limits
+pub mod Pseudokeys
+pub mod Refusals
