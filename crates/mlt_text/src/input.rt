@@ -1,0 +1,92 @@
+//! All that a reader has.
+
+ghost use Rattle.std.specs.Prelude.{◌≡◌, ◌≤◌, ◌<◌, ◌⊎◌, ℕ, List, length, IfOk, IfErr, OnErr, IfSome, IsErr, take, vec_len, true, [], ◌++◌, ◌+◌};
+ghost use Rattle.std.specs.Io.{ReadsAtMost};
+ghost use Rattle.std.specs.Io.KnownBytes.{Consumes, IsAtEnd, Keeps, ReadConsumes};
+
+use mlt_types::Refusal;
+use std::alloc::Global;
+use std::io::{ErrorKind, Read};
+
+/// The greatest number of bytes of an input: 16,777,216.
+pub const MAX_INPUT: usize = 16_777_216;
+
+// How many bytes one read asks for at most.
+const PIECE: usize = 65_536;
+
+/// All that the reader has, up to its end. A read that is interrupted is tried again.
+///
+/// # Errors
+/// `Io` where a read fails, or the reader has more than `MAX_INPUT` bytes; of these at most one is read
+/// past the limit. `OutOfMemory` where a growth is refused. What was read before is lost.
+pub fn read_input<R: Read>(alloc: Global, reader: &mut R) -> Result<Vec<u8>, Refusal>
+    // all that the reader had, which fits
+    ensures ok { IfOk result (λ bytes. Consumes (R.remaining reader.old) (R.remaining reader.new) bytes.items
+        × IsAtEnd (R.remaining reader.new) × length bytes.items ≤ 16777216) }
+    // a longer input is refused
+    ensures long { IfSome (R.remaining reader.old) (λ input. 16777216 < length input → IsErr result) }
+    // never is more read than one byte past the limit
+    ensures bounded { (taken : List ℕ) × Consumes (R.remaining reader.old) (R.remaining reader.new) taken
+        × length taken ≤ 16777217 }
+    ensures refusals { IfErr result (λ refusal. (refusal ≡ Refusal.OutOfMemory) ⊎ (refusal ≡ Refusal.Io)) }
+{
+    let mut bytes = Vec::new(alloc);
+    let mut piece = zeros(alloc, PIECE)?;
+    for _ in 0..u64::MAX {
+        let room = PIECE.min(MAX_INPUT + 1 - bytes.len());
+        if read_piece(reader, &mut piece[..room], &mut bytes)? {
+            return Ok(bytes);
+        }
+    }
+    Err(Refusal::Io)
+}
+
+// So many zeros.
+fn zeros(alloc: Global, count: usize) -> Result<Vec<u8>, Refusal>
+    ensures length { IfOk result (λ zeros. vec_len zeros ≡ count) }
+    ensures refusal { IfErr result (λ refusal. refusal ≡ Refusal.OutOfMemory) }
+{
+    Ok(vec![in alloc; 0; count]?)
+}
+
+// Appends what one read gives, and answers whether the reader was at its end.
+fn read_piece<R: Read>(
+    reader: &mut R,
+    piece: &mut [u8],
+    bytes: &mut Vec<u8>,
+) -> Result<bool, Refusal>
+    requires room { 0 < length piece.old }
+    requires within { length bytes.old.items + length piece.old ≤ 16777217 }
+    ensures ok { IfOk result (λ ended. (read : List ℕ) × (bytes.new.items ≡ bytes.old.items ++ read)
+        × Consumes (R.remaining reader.old) (R.remaining reader.new) read
+        × (ended ≡ true → (read ≡ []) × IsAtEnd (R.remaining reader.new)) × length bytes.new.items ≤ 16777216) }
+    ensures err { OnErr result ((read : List ℕ) × Consumes (R.remaining reader.old) (R.remaining reader.new) read
+        × length bytes.old.items + length read ≤ 16777217) }
+    ensures refusals { IfErr result (λ refusal. (refusal ≡ Refusal.OutOfMemory) ⊎ (refusal ≡ Refusal.Io)) }
+{
+    let count = read_some(reader, piece)?;
+    if bytes.len() + count > MAX_INPUT {
+        return Err(Refusal::Io);
+    }
+    bytes.extend_from_slice(&piece[..count])?;
+    Ok(count == 0)
+}
+
+// One read, tried again while it is interrupted.
+fn read_some<R: Read>(reader: &mut R, buffer: &mut [u8]) -> Result<usize, Refusal>
+    ensures bound { ReadsAtMost result buffer.new }
+    ensures bytes { ReadConsumes (R.remaining reader.old) (R.remaining reader.new) result buffer.new }
+    ensures refusal { IfErr result (λ refusal. refusal ≡ Refusal.Io) }
+{
+    for _ in 0..u64::MAX {
+        match reader.read(buffer) {
+            Ok(count) => return Ok(count),
+            Err(error) => {
+                if error.kind() != ErrorKind::Interrupted {
+                    return Err(Refusal::Io);
+                }
+            }
+        }
+    }
+    Err(Refusal::Io)
+}

@@ -1,0 +1,11 @@
+//! Whole texts: all that a reader has, and a text to a writer.
+#![tactic(auto)]
+
+mod input;
+mod output;
+
+pub use input::{MAX_INPUT, read_input};
+pub use output::write_text;
+
+#[cfg(test)]
+mod tests;

@@ -1,0 +1,66 @@
+//! A text to a writer.
+
+ghost use Rattle.std.specs.Prelude.{◌≡◌, ◌≤◌, ◌<◌, length, IfOk, IfErr, OnOk, OnErr, take};
+ghost use Rattle.std.specs.Io.KnownBytes.{Appends, Keeps};
+ghost use Rattle.mlt_text.specs.Texts.{AppendsFront};
+
+use mlt_types::Refusal;
+use std::io::{ErrorKind, Write};
+
+/// Writes the text, in as many writes as it takes, and flushes. A write that is interrupted is tried
+/// again.
+///
+/// # Errors
+/// `Io` where a write fails or takes nothing, or the flush fails. The writer then has a front of the
+/// text.
+pub fn write_text<W: Write>(writer: &mut W, text: &[u8]) -> Result<(), Refusal>
+    ensures ok { OnOk result (Appends (W.contents writer.old) (W.contents writer.new) text.now) }
+    ensures err { OnErr result (AppendsFront (W.contents writer.old) (W.contents writer.new) text.now) }
+    ensures refusal { IfErr result (λ refusal. refusal ≡ Refusal.Io) }
+{
+    let mut at = 0;
+    while at < text.len() {
+        let count = write_some(writer, &text[at..])?;
+        at += count;
+    }
+    flush(writer)
+}
+
+// One write of at least one byte, tried again while it is interrupted.
+fn write_some<W: Write>(writer: &mut W, text: &[u8]) -> Result<usize, Refusal>
+    ensures count { IfOk result (λ count. (0 < count) × (count ≤ length text.now)) }
+    ensures ok { IfOk result (λ count. Appends (W.contents writer.old) (W.contents writer.new) (take count text.now)) }
+    ensures err { OnErr result (Keeps (W.contents writer.old) (W.contents writer.new)) }
+    ensures refusal { IfErr result (λ refusal. refusal ≡ Refusal.Io) }
+{
+    for _ in 0..u64::MAX {
+        match writer.write(text) {
+            Ok(0) => return Err(Refusal::Io),
+            Ok(count) => return Ok(count),
+            Err(error) => {
+                if error.kind() != ErrorKind::Interrupted {
+                    return Err(Refusal::Io);
+                }
+            }
+        }
+    }
+    Err(Refusal::Io)
+}
+
+// Flushes, again while it is interrupted.
+fn flush<W: Write>(writer: &mut W) -> Result<(), Refusal>
+    ensures bytes { Keeps (W.contents writer.old) (W.contents writer.new) }
+    ensures refusal { IfErr result (λ refusal. refusal ≡ Refusal.Io) }
+{
+    for _ in 0..u64::MAX {
+        match writer.flush() {
+            Ok(()) => return Ok(()),
+            Err(error) => {
+                if error.kind() != ErrorKind::Interrupted {
+                    return Err(Refusal::Io);
+                }
+            }
+        }
+    }
+    Err(Refusal::Io)
+}
