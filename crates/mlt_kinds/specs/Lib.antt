@@ -1,0 +1,5 @@
+pub mod AccountLaws
+pub mod Accounts
+pub mod Bases
+pub mod Operations
+pub mod Texts

@@ -1,0 +1,8 @@
+-- Operations and the cells that they are on.
+use Rattle.mlt_types.specs.declared.cell.Cell.{Cell}
+use Rattle.mlt_types.specs.declared.cell.Cell.TheVariants as cell
+use Rattle.mlt_kinds.specs.declared.operation.ObjOp.{ObjOp}
+use Rattle.mlt_kinds.specs.declared.operation.ObjOp.TheVariants.{Account}
+
+abbrev pub cell_of : ObjOp → Cell
+cell_of (Account a op) = cell.Account a

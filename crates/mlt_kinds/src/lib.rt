@@ -1,0 +1,16 @@
+//! Kinds of object: their operations, replies and states, and what a step of one cell is.
+//!
+//! An operation with its reply is the unit of conflict (Weihl, IEEE Transactions on Computers 37(12),
+//! 1988, section 2): each is legal in some states, and leads from each of these to one other.
+#![tactic(auto)]
+
+mod account;
+mod kind;
+mod operation;
+
+pub use account::{Account, AccountOp, MAX_BALANCE};
+pub use kind::Kind;
+pub use operation::{Done, ObjOp, ObjReply};
+
+#[cfg(test)]
+mod tests;

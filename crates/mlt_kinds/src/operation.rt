@@ -1,0 +1,157 @@
+//! Operations with the cells that they are on, replies, and the texts of both.
+
+ghost use Rattle.std.specs.Prelude.{◌≡◌, Some};
+ghost use Rattle.mlt_kinds.specs.Operations.{cell_of};
+
+use crate::account::AccountOp;
+use mlt_types::Cell;
+use std::fmt;
+use std::marker::Model;
+
+/// An operation on a cell.
+#[derive(Clone, Copy, Debug, PartialEq, Eq)]
+pub enum ObjOp {
+    /// What is asked of the account of this number.
+    Account(u32, AccountOp),
+}
+
+/// What an operation is told.
+#[derive(Clone, Copy, Debug, PartialEq, Eq)]
+pub enum ObjReply {
+    /// The account was made.
+    Opened,
+    /// The account was there already.
+    Exists,
+    /// The account was removed.
+    Closed,
+    /// The account has a balance above 0, and stays.
+    NotEmpty,
+    /// The amount was added or taken away.
+    Done,
+    /// The balance would pass its greatest value, and stays.
+    Over,
+    /// The balance is smaller than the amount, and stays.
+    Short,
+    /// There is no such account.
+    Missing,
+    /// The value that was read.
+    Is(u64),
+}
+
+impl ObjOp {
+    /// The cell that the operation is on.
+    pub fn cell(&self) -> Cell
+        ensures { result ≡ cell_of self.now }
+    {
+        match *self {
+            ObjOp::Account(account, _) => Cell::Account(account),
+        }
+    }
+}
+
+/// An operation that was done, with its reply. A contract sees the pair of the two.
+#[derive(Clone, Copy, Debug, PartialEq, Eq)]
+pub struct Done {
+    cell: Cell,
+    op: ObjOp,
+    reply: ObjReply,
+}
+
+impl Model for Done {
+    ghost use Rattle.std.specs.Prelude.{◌≡◌};
+    ghost use Rattle.mlt_kinds.specs.declared.operation.ObjOp.{ObjOp};
+    ghost use Rattle.mlt_kinds.specs.declared.operation.ObjReply.{ObjReply};
+    ghost use Rattle.mlt_kinds.specs.Operations.{cell_of};
+
+    ghost Value = { ObjOp × ObjReply };
+
+    ghost view = { λ d. (d.op, d.reply) };
+
+    ghost invariant = { λ d. d.cell ≡ cell_of d.op };
+
+    ghost inverse = { λ p. record { cell = cell_of p.0; op = p.0; reply = p.1 } };
+}
+
+impl Done {
+    /// An operation with its reply.
+    pub fn new(op: ObjOp, reply: ObjReply) -> Done
+        ensures { result ≡ (op, reply) }
+    {
+        let cell = op.cell();
+        Done { cell, op, reply }
+    }
+
+    /// The cell that the operation is on.
+    pub fn cell(&self) -> Cell
+        ensures { result ≡ cell_of self.now.0 }
+    {
+        self.cell
+    }
+
+    /// The operation.
+    pub fn op(&self) -> ObjOp
+        ensures { result ≡ self.now.0 }
+    {
+        self.op
+    }
+
+    /// What the operation was told.
+    pub fn reply(&self) -> ObjReply
+        ensures { result ≡ self.now.1 }
+    {
+        self.reply
+    }
+}
+
+impl fmt::Display for ObjOp {
+    ghost use Rattle.std.specs.Prelude.{Some};
+    ghost use Rattle.mlt_kinds.specs.Texts.{op_text};
+
+    ghost output = { λ op. Some (op_text op) };
+
+    fn fmt<W: fmt::Write>(&self, f: &mut fmt::Formatter<W>) -> fmt::Result {
+        match *self {
+            ObjOp::Account(account, op) => match op {
+                AccountOp::Open => write!(f, "open {account}"),
+                AccountOp::Close => write!(f, "close {account}"),
+                AccountOp::Deposit(amount) => write!(f, "deposit {account} {amount}"),
+                AccountOp::Withdraw(amount) => write!(f, "withdraw {account} {amount}"),
+                AccountOp::Balance => write!(f, "balance {account}"),
+            },
+        }
+    }
+}
+
+impl fmt::Display for ObjReply {
+    ghost use Rattle.std.specs.Prelude.{Some};
+    ghost use Rattle.mlt_kinds.specs.Texts.{reply_text};
+
+    ghost output = { λ reply. Some (reply_text reply) };
+
+    fn fmt<W: fmt::Write>(&self, f: &mut fmt::Formatter<W>) -> fmt::Result {
+        match *self {
+            ObjReply::Opened => write!(f, "opened"),
+            ObjReply::Exists => write!(f, "exists"),
+            ObjReply::Closed => write!(f, "closed"),
+            ObjReply::NotEmpty => write!(f, "notempty"),
+            ObjReply::Done => write!(f, "done"),
+            ObjReply::Over => write!(f, "over"),
+            ObjReply::Short => write!(f, "short"),
+            ObjReply::Missing => write!(f, "missing"),
+            ObjReply::Is(value) => write!(f, "is {value}"),
+        }
+    }
+}
+
+impl fmt::Display for Done {
+    ghost use Rattle.std.specs.Prelude.{Some};
+    ghost use Rattle.mlt_kinds.specs.Texts.{done_text};
+
+    ghost output = { λ done. Some (done_text done) };
+
+    fn fmt<W: fmt::Write>(&self, f: &mut fmt::Formatter<W>) -> fmt::Result {
+        let op = self.op;
+        let reply = self.reply;
+        write!(f, "{op} {reply}")
+    }
+}
