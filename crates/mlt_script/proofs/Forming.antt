@@ -1,0 +1,95 @@
+-- What a line can be by itself: its faults are Line and Words, and a client is below 1000.
+use Rattle.std.proofs.Common.{◌≡◌, ℕ, ◌<◌, List, [], ◌∷◌, length, inl, inr, Bool, true, false, cond, ltb, Option, Some, None, refl, arith}
+use Rattle.std.specs.Prelude.{option_and_then, nat_lt}
+use Rattle.std.specs.List.{list_all}
+use Rattle.std.proofs.lemmas.Bool.{ltb-true}
+use Rattle.mlt_types.specs.declared.refusal.ScriptCause.TheVariants as cause
+use Rattle.mlt_kinds.specs.declared.operation.ObjOp.{ObjOp}
+use Rattle.mlt_kinds.specs.declared.operation.ObjReply.{ObjReply}
+use Rattle.mlt_script.specs.declared.forms.LineForm.{LineForm}
+use Rattle.mlt_script.specs.declared.forms.LineForm.TheVariants.{Begins, Says, Closes}
+use Rattle.mlt_script.specs.declared.keyword.Keyword.{Keyword}
+use Rattle.mlt_script.specs.declared.keyword.Keyword.TheVariants as key
+use Rattle.mlt_script.specs.declared.keyword.Word.{Word}
+use Rattle.mlt_script.specs.declared.keyword.Word.TheVariants.{Key, Number, Other}
+use Rattle.mlt_script.specs.declared.line.Reading.TheVariants.{Bad, Skip}
+use Rattle.mlt_script.specs.declared.script.Ending.TheVariants.{Commit, Abort}
+use Rattle.mlt_script.specs.declared.script.Statement.TheVariants.{Ask, Need}
+use Rattle.mlt_script.specs.Forms.{form_of, key_form, begin_form, operation_at, asking_at, finish}
+use Rattle.mlt_script.specs.Lines.{Raw, content, is_comment, is_allowed}
+use Rattle.mlt_script.specs.Readings.{reading, said_by, form_or_fault, outside_comment, IsReading}
+use Rattle.mlt_script.specs.Words.{words_of}
+
+abbrev IsForm : LineForm → Type 0
+IsForm (Begins client) = client < 1000
+IsForm form = Unit {0}
+
+abbrev AnyForm : Option LineForm → Type 0
+AnyForm None = Unit {0}
+AnyForm (Some form) = IsForm form
+
+finished : (form : LineForm) → IsForm form → (rest : List Word) → AnyForm (finish form rest)
+finished form h [] = h
+finished form h (w ∷ ws) = tt
+
+after_any : {A : Type 0} (o : Option A) (next : A → Option LineForm) → ((x : A) → AnyForm (next x)) → AnyForm (option_and_then next o)
+after_any None next h = tt
+after_any (Some x) next h = h x
+
+begins_if : (n : ℕ) (rest : List Word) (b : Bool) → ltb n 1000 ≡ b → AnyForm (option_and_then (λ (c : ℕ × List Word). finish (Begins c.0) c.1) (cond b (Some (n, rest)) None))
+begins_if n rest true e = finished (Begins n) (ltb-true n 1000 e) rest
+begins_if n rest false e = tt
+
+begins : (words : List Word) → AnyForm (begin_form words)
+unfolding begin_form
+begins [] = omega arith
+begins (Number n ∷ rest) = begins_if n rest (ltb n 1000) refl
+begins (Key k ∷ rest) = tt
+begins (Other ∷ rest) = tt
+
+asks : (k : Keyword) (rest : List Word) → AnyForm (option_and_then (λ (o : ObjOp × List Word). finish (Says (Ask o.0)) o.1) (operation_at k rest))
+asks k rest = after_any (operation_at k rest) _ (λ o. finished (Says (Ask o.0)) tt o.1)
+
+needs : (rest : List Word) → AnyForm (option_and_then (λ (a : (ObjOp × ObjReply) × List Word). finish (Says (Need a.0.0 a.0.1)) a.1) (asking_at rest))
+needs rest = after_any (asking_at rest) _ (λ a. finished (Says (Need a.0.0 a.0.1)) tt a.1)
+
+keyed : (k : Keyword) (rest : List Word) → AnyForm (key_form k rest)
+unfolding key_form
+keyed key.Begin rest = begins rest
+keyed key.Commit rest = finished (Closes Commit) tt rest
+keyed key.Abort rest = finished (Closes Abort) tt rest
+keyed key.Need rest = needs rest
+keyed k rest = asks _ rest
+
+formed : (words : List Word) → AnyForm (form_of words)
+formed [] = tt
+formed (Key k ∷ rest) = keyed k rest
+formed (Number n ∷ rest) = tt
+formed (Other ∷ rest) = tt
+
+of_form : (o : Option LineForm) → AnyForm o → IsReading (form_or_fault o)
+of_form None h = inr refl
+of_form (Some (Begins client)) h = h
+of_form (Some (Says s)) h = tt
+of_form (Some (Closes e)) h = tt
+
+of_words : (words : List Word) → IsReading (said_by words)
+of_words [] = tt
+of_words (w ∷ ws) = of_form (form_of (w ∷ ws)) (formed (w ∷ ws))
+
+if_allowed : (b : Bool) (raw : Raw) → IsReading (cond b (said_by (words_of (content raw))) (Bad cause.Line))
+if_allowed true raw = of_words (words_of (content raw))
+if_allowed false raw = inl refl
+
+if_comment : (b : Bool) (raw : Raw) → IsReading (cond b Skip (outside_comment raw))
+if_comment true raw = tt
+if_comment false raw = if_allowed (list_all is_allowed (content raw)) raw
+
+if_long : (b : Bool) (raw : Raw) → IsReading (cond b (Bad cause.Line) (cond (is_comment (content raw)) Skip (outside_comment raw)))
+if_long true raw = inl refl
+if_long false raw = if_comment (is_comment (content raw)) raw
+
+-- a fault of a line by itself is Line or Words, and a begin is that of a client below 1000
+pub readings : (raw : Raw) → IsReading (reading raw)
+unfolding reading
+readings raw = if_long (nat_lt 200 (length raw.bytes)) raw

@@ -1,0 +1,9 @@
+pub mod Splitting
+pub mod Cutting
+pub mod Numerals
+pub mod Forming
+pub mod Soundness
+pub mod Completeness
+pub mod Scanning
+pub mod Deciding
+pub mod Asking

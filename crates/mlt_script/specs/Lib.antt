@@ -1,0 +1,11 @@
+pub mod Scripts
+pub mod Follows
+pub mod Cursors
+pub mod Numbers
+pub mod Words
+pub mod Forms
+pub mod Lines
+pub mod Readings
+pub mod Grammar
+pub mod Scan
+pub mod Parsers

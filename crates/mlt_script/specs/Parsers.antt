@@ -1,0 +1,14 @@
+-- The state that a parser is in.
+use Rattle.std.specs.Prelude.{List, Option, Some, None}
+use Rattle.mlt_script.specs.declared.parser.OpenScript.{OpenScript}
+use Rattle.mlt_script.specs.declared.parser.Parser.{Parser}
+use Rattle.mlt_script.specs.Scan.{State}
+use Rattle.mlt_script.specs.Scan.State.{Outside, Inside}
+use Rattle.mlt_script.specs.Scripts.{ScriptForm}
+
+abbrev pub state_with : List ScriptForm → Option OpenScript → State
+state_with scripts None = Outside scripts
+state_with scripts (Some script) = Inside scripts script.client script.statements.items
+
+abbrev pub state_of : Parser → State
+state_of parser = state_with parser.scripts.items parser.begun

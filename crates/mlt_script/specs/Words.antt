@@ -1,0 +1,68 @@
+-- The words of a line.
+use Rattle.std.specs.Prelude.{ℕ, List, [], ◌∷◌, ◌++◌, map, Option, Some, None, ◌==◌, Bool, ◌||◌, if◌then◌else◌, codes}
+use Rattle.std.specs.Str.{bytes_eq}
+use Rattle.mlt_script.specs.declared.keyword.Keyword.{Keyword}
+use Rattle.mlt_script.specs.declared.keyword.Keyword.TheVariants as key
+use Rattle.mlt_script.specs.declared.keyword.Word.{Word}
+use Rattle.mlt_script.specs.declared.keyword.Word.TheVariants as word
+use Rattle.mlt_script.specs.Numbers.{number_of}
+
+abbrev pub spelling : Keyword → List ℕ
+spelling key.Begin = codes "begin"
+spelling key.Commit = codes "commit"
+spelling key.Abort = codes "abort"
+spelling key.Need = codes "need"
+spelling key.Is = codes "is"
+spelling key.Open = codes "open"
+spelling key.Close = codes "close"
+spelling key.Deposit = codes "deposit"
+spelling key.Withdraw = codes "withdraw"
+spelling key.Balance = codes "balance"
+spelling key.Opened = codes "opened"
+spelling key.Exists = codes "exists"
+spelling key.Closed = codes "closed"
+spelling key.NotEmpty = codes "notempty"
+spelling key.Done = codes "done"
+spelling key.Over = codes "over"
+spelling key.Short = codes "short"
+spelling key.Missing = codes "missing"
+
+abbrev pub all_keywords : List Keyword
+all_keywords = key.Begin ∷ key.Commit ∷ key.Abort ∷ key.Need ∷ key.Is ∷ key.Open ∷ key.Close ∷ key.Deposit ∷ key.Withdraw ∷ key.Balance ∷ key.Opened ∷ key.Exists ∷ key.Closed ∷ key.NotEmpty ∷ key.Done ∷ key.Over ∷ key.Short ∷ key.Missing ∷ []
+
+-- the one of the keywords that is spelled so
+abbrev pub spelled_among : List Keyword → List ℕ → Option Keyword
+spelled_among [] bytes = None
+spelled_among (k ∷ keys) bytes = if bytes_eq (spelling k) bytes then Some k else spelled_among keys bytes
+
+unfoldable pub keyword_of : List ℕ → Option Keyword
+keyword_of bytes = spelled_among all_keywords bytes
+
+abbrev pub number_or_other : Option ℕ → Word
+number_or_other (Some n) = word.Number n
+number_or_other None = word.Other
+
+abbrev pub keyword_or : Option Keyword → Word → Word
+keyword_or (Some k) otherwise = word.Key k
+keyword_or None otherwise = otherwise
+
+-- a keyword, or else a number, or else neither
+unfoldable pub word_of : List ℕ → Word
+word_of bytes = keyword_or (keyword_of bytes) (number_or_other (number_of bytes))
+
+-- spaces and tabs
+abbrev pub is_blank : ℕ → Bool
+is_blank byte = byte == 32 || byte == 9
+
+-- the bytes between two blanks, where there are any
+abbrev pub word_if : List ℕ → List (List ℕ)
+word_if [] = []
+word_if (b ∷ bs) = (b ∷ bs) ∷ []
+
+-- the words of a line whose front was begun, a part of a word
+unfoldable pub words_from : List ℕ → List ℕ → List (List ℕ)
+words_from begun [] = word_if begun
+words_from begun (b ∷ bs) = if is_blank b then word_if begun ++ words_from [] bs else words_from (begun ++ b ∷ []) bs
+
+unfoldable pub words_of : List ℕ → List Word
+words_of line = map word_of (words_from [] line)

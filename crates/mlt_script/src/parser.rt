@@ -1,0 +1,177 @@
+//! Texts of scripts.
+
+ghost use Rattle.std.specs.Prelude.{◌≡◌, ◌≤◌, ◌<◌, ◌⊎◌, ℕ, List, length, IfOk, IfErr, IsErrAnd, MatchResult, [], Err};
+ghost use Rattle.mlt_types.specs.declared.refusal.ScriptCause.{ScriptCause};
+ghost use Rattle.mlt_script.specs.Grammar.{Spells, IsFirstFault, IsDecided};
+ghost use Rattle.mlt_script.specs.Lines.{lines};
+ghost use Rattle.mlt_script.specs.Readings.{reading, IsReading};
+ghost use Rattle.mlt_script.specs.Scan.{scan, step, advance, at_end, Gives, Advances};
+ghost use Rattle.mlt_script.specs.Scan.State.{Outside, Inside};
+ghost use Rattle.mlt_script.specs.Scripts.{ScriptForm};
+
+use crate::forms::LineForm;
+use crate::keyword::Word;
+use crate::line::{Reading, first_line, read_line};
+use crate::script::{Script, Statement};
+use mlt_types::{Refusal, ScriptCause};
+use std::alloc::Global;
+
+/// A script whose ending has not come yet.
+#[derive(Drop)]
+struct OpenScript {
+    client: u16,
+    statements: Vec<Statement>,
+    ghost client_in_range: { client < 1000 },
+    ghost statements_in_range: { length statements.items ≤ 256 },
+}
+
+/// What was read of a text so far. After an `Err` it is of no more use.
+#[derive(Drop)]
+struct Parser {
+    scripts: Vec<Script>,
+    begun: Option<OpenScript>,
+}
+
+fn misplaced(line: u64) -> Refusal
+    ensures { result ≡ Refusal.ScriptFault line ScriptCause.Place }
+{
+    Refusal::ScriptFault {
+        line,
+        cause: ScriptCause::Place,
+    }
+}
+
+impl Parser {
+    ghost use Rattle.mlt_script.specs.Parsers.{state_of};
+
+    fn new(alloc: Global) -> Parser
+        ensures { state_of result ≡ Outside [] }
+    {
+        Parser {
+            scripts: Vec::new(alloc),
+            begun: None,
+        }
+    }
+
+    /// Goes over a line outside a script.
+    fn begin(&mut self, alloc: Global, line: u64, form: LineForm) -> Result<(), Refusal>
+        requires { IsReading (Reading.Form form) }
+        ensures { Advances result line (step (Outside self.old.scripts.items) form) (state_of self.new) }
+    {
+        match form {
+            LineForm::Begins(client) => {
+                self.begun = Some(OpenScript {
+                    client,
+                    statements: Vec::new(alloc),
+                });
+                Ok(())
+            }
+            _ => Err(misplaced(line)),
+        }
+    }
+
+    /// Goes over a line inside a script.
+    fn go_on(&mut self, mut script: OpenScript, line: u64, form: LineForm) -> Result<(), Refusal>
+        ensures { Advances result line (step (Inside self.old.scripts.items script.client script.statements.items) form) (state_of self.new) }
+    {
+        match form {
+            LineForm::Begins(_) => Err(misplaced(line)),
+            LineForm::Says(statement) => {
+                if script.statements.len() >= 256 {
+                    return Err(Refusal::ScriptFault {
+                        line,
+                        cause: ScriptCause::Long,
+                    });
+                }
+                script.statements.push(statement)?;
+                self.begun = Some(script);
+                Ok(())
+            }
+            LineForm::Closes(ending) => {
+                self.scripts
+                    .push(Script::new(script.client, script.statements, ending))?;
+                self.begun = None;
+                Ok(())
+            }
+        }
+    }
+
+    /// Goes over a line of a form.
+    fn step(&mut self, alloc: Global, line: u64, form: LineForm) -> Result<(), Refusal>
+        requires { IsReading (Reading.Form form) }
+        ensures { Advances result line (step (state_of self.old) form) (state_of self.new) }
+    {
+        match self.begun.take() {
+            None => self.begin(alloc, line, form),
+            Some(script) => self.go_on(script, line, form),
+        }
+    }
+
+    /// Goes over a line.
+    fn read(
+        &mut self,
+        alloc: Global,
+        words: &mut Vec<Word>,
+        line: u64,
+        bytes: &[u8],
+        ended: bool,
+    ) -> Result<(), Refusal>
+        ensures { Advances result line (advance (state_of self.old) (reading record { bytes = bytes.now; ended = ended })) (state_of self.new) }
+    {
+        match read_line(words, bytes, ended)? {
+            Reading::Bad(cause) => Err(Refusal::ScriptFault { line, cause }),
+            Reading::Skip => Ok(()),
+            Reading::Form(form) => self.step(alloc, line, form),
+        }
+    }
+
+    /// The scripts, where the last one is closed.
+    fn finish(self, line: u64) -> Result<Vec<Script>, Refusal>
+        ensures { Gives (λ scripts. scripts.items) result (at_end (state_of self) line) }
+    {
+        match self.begun {
+            None => Ok(self.scripts),
+            Some(_) => Err(Refusal::ScriptFault {
+                line,
+                cause: ScriptCause::Unfinished,
+            }),
+        }
+    }
+}
+
+/// The scripts of a text, or its first fault, line by line. One buffer serves the words of all lines.
+fn read_lines(alloc: Global, text: &[u8]) -> Result<Vec<Script>, Refusal>
+    ensures { Gives (λ scripts. scripts.items) result (scan (Outside []) 0 (lines text.now)) }
+{
+    let mut words = Vec::new(alloc);
+    let mut parser = Parser::new(alloc);
+    let mut rest = text;
+    let mut line = 0u64;
+    while !rest.is_empty() {
+        let (bytes, ended, after) = first_line(rest);
+        line += 1;
+        parser.read(alloc, &mut words, line, bytes, ended)?;
+        rest = after;
+    }
+    parser.finish(line)
+}
+
+/// The scripts of a text, in order. Lines are counted from 1; blank lines and lines whose first word begins with
+/// `#` are skipped.
+///
+/// # Errors
+/// `ScriptFault` exactly where the text has a fault, with the number of its first faulty line and the first cause
+/// there. `OutOfMemory` where memory runs out.
+pub fn parse(alloc: Global, text: &[u8]) -> Result<Vec<Script>, Refusal>
+    ensures spelled { IfOk result (λ scripts. Spells text.now scripts.items) }
+    ensures accepted { (scripts : List ScriptForm) → Spells text.now scripts
+        → MatchResult result (λ found. found.items ≡ scripts) (λ refusal. refusal ≡ Refusal.OutOfMemory) }
+    ensures fault { (line : ℕ) (cause : ScriptCause) → result ≡ Err (Refusal.ScriptFault line cause) → IsFirstFault text.now line cause }
+    ensures faulty { (line : ℕ) (cause : ScriptCause) → IsFirstFault text.now line cause
+        → IsErrAnd result (λ refusal. (refusal ≡ Refusal.ScriptFault line cause) ⊎ (refusal ≡ Refusal.OutOfMemory)) }
+    ensures refusals { IfErr result (λ refusal. (refusal ≡ Refusal.OutOfMemory)
+        ⊎ ((line : ℕ) × (cause : ScriptCause) × (refusal ≡ Refusal.ScriptFault line cause))) }
+    ensures decided { IsDecided text.now }
+{
+    read_lines(alloc, text)
+}
