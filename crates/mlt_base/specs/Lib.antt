@@ -1,0 +1,3 @@
+pub mod BaseEntries
+pub mod BaseText
+pub mod Growth

@@ -1,0 +1,3 @@
+pub mod Transcripts
+pub mod OneRun
+pub mod Appends
