@@ -1,0 +1,21 @@
+-- What `solo` writes for an input.
+use Rattle.std.specs.Prelude.{◌≡◌, ℕ, ◌≤◌, List, length, Option}
+use Rattle.std.specs.Io.KnownBytes.{Consumes, IsAtEnd}
+use Rattle.mlt_types.specs.declared.refusal.Refusal.{Refusal}
+use Rattle.mlt_types.specs.declared.refusal.Refusal.TheVariants.{OutOfMemory}
+use Rattle.mlt_kinds.specs.Bases.{Base}
+use Rattle.mlt_script.specs.Grammar.{Spells}
+use Rattle.mlt_script.specs.Scripts.{ScriptForm}
+use Rattle.mlt_serial.specs.declared.outcome.Outcome.{Outcome}
+use Rattle.mlt_serial.specs.declared.report.Form.TheVariants.{Solo}
+use Rattle.mlt_serial.specs.Serial.{AreMarksOf, IsSerialRun}
+use Rattle.mlt_serial.specs.Texts.{report_text}
+
+-- The input spells scripts, and the text is that of their run one after another, where a script that is refused is refused memory.
+abbrev pub IsSoloText : List ℕ → List ℕ → Type 0
+IsSoloText input text = (scripts : List ScriptForm) × (marks : List (Option (ℕ × Refusal))) × (outcomes : List Outcome) × (base : Base)
+    × Spells input scripts × IsSerialRun scripts marks outcomes base × AreMarksOf OutOfMemory marks × (text ≡ report_text Solo outcomes base)
+
+-- From what a reader had before and has after: it gave the input, which is not too long, and is at its end.
+abbrev pub GivesWhole : Option (List ℕ) → Option (List ℕ) → List ℕ → Type 0
+GivesWhole before after input = Consumes before after input × IsAtEnd after × (length input ≤ 16777216)
