@@ -1,3 +1,5 @@
+ghost use Rattle.std.specs.Prelude.{◌≤◌};
+
 use super::*;
 use mlt_types::{Low, Mult, ScriptCause};
 use std::io;
