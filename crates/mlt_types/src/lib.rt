@@ -4,6 +4,7 @@
 
 mod cell;
 mod limits;
+mod mode;
 mod number;
 mod open_set;
 mod pseudo;
@@ -11,6 +12,7 @@ mod refusal;
 
 pub use cell::{Cell, Key};
 pub use limits::Limits;
+pub use mode::Mode;
 pub use number::{PageNo, TxId, Value};
 pub use open_set::OpenSet;
 pub use pseudo::{Low, Mult, Pseudo};
