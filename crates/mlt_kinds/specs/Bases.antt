@@ -1,37 +1,72 @@
 -- Bases: what all cells hold, without pages; and the runs of operations over them.
-use Rattle.std.specs.Prelude.{◌≡◌, ◌≢◌, ℕ, Option, List, [], ◌∷◌, refl}
-use Rattle.std.specs.Ordering.{nat_cmp}
-use Rattle.std.specs.Coded.{Coded, code_by, coded_ℕ}
+use Rattle.std.specs.Prelude.{◌≡◌, ◌≢◌, ℕ, ◌+◌, Bool, Option, None, Some, is_some, List, [], ◌∷◌, refl}
+use Rattle.std.specs.declared.cmp.Ordering.{Ordering}
+use Rattle.std.specs.Ordering.{nat_cmp, ordering_then}
+use Rattle.std.specs.Coded.{Coded, code_by, coded_ℕ, coded×}
 use Rattle.std.specs.FinMap as map
+use Rattle.std.specs.FinSet as set
+use Rattle.mlt_types.specs.declared.cell.Cell.{Cell}
+use Rattle.mlt_types.specs.declared.cell.Cell.TheVariants.{Account, Element, Counter}
 use Rattle.mlt_kinds.specs.declared.operation.ObjOp.{ObjOp}
-use Rattle.mlt_kinds.specs.declared.operation.ObjOp.TheVariants.{Account}
 use Rattle.mlt_kinds.specs.declared.operation.ObjReply.{ObjReply}
-use Rattle.mlt_kinds.specs.Accounts.{AccountStep}
+use Rattle.mlt_kinds.specs.Cells.{CellState, CellStep}
+use Rattle.mlt_kinds.specs.Cells.CellState.{AccountState, ElementState, CounterState}
+use Rattle.mlt_kinds.specs.Operations.{cell_of}
 
--- the balances of the accounts that there are
+-- elements by their sets, and in one set by their numbers
+abbrev pub element_cmp : ℕ × ℕ → ℕ × ℕ → Ordering
+element_cmp x y = ordering_then (nat_cmp x.0 y.0) (nat_cmp x.1 y.1)
+
+-- The balances of the accounts that there are; the elements that are in their sets, each as its set and its number;
+-- and the values of the counters that are not 0, each less 1, so that no base has a counter at 0.
 pub record Base : Type 0 where
   pub accounts : map.FinMap nat_cmp ℕ
+  pub elements : map.FinMap element_cmp (Unit {0})
+  pub counters : map.FinMap nat_cmp ℕ
 
 -- a base is stored as its maps
 abbrev pub coded_base : Coded Base
 coded_base =
-    code_by (map.FinMap nat_cmp ℕ) (map.code coded_ℕ coded_ℕ) (λ b. b.accounts) (λ m. record { accounts = m }) (λ _. refl)
+    code_by (map.FinMap nat_cmp ℕ × (map.FinMap element_cmp (Unit {0}) × map.FinMap nat_cmp ℕ))
+      (coded× (map.code coded_ℕ coded_ℕ) (coded× (set.code (coded× coded_ℕ coded_ℕ)) (map.code coded_ℕ coded_ℕ)))
+      (λ b. (b.accounts, (b.elements, b.counters)))
+      (λ m. record { accounts = m.0; elements = m.1.0; counters = m.1.1 })
+      (λ _. refl)
 
--- no account
+-- no account and no element, and every counter at 0
 abbrev pub empty_base : Base
-empty_base = record { accounts = map.empty }
+empty_base = record { accounts = map.empty; elements = map.empty; counters = map.empty }
 
--- the state of an account
+-- the balance of an account, None where there is no such account
 abbrev pub account_at : Base → ℕ → Option ℕ
 account_at b a = map.get b.accounts a
 
--- the two bases differ in no account but this one
-abbrev pub SameButAccount : Base → Base → ℕ → Type 0
-SameButAccount b b' a = (other : ℕ) → other ≢ a → account_at b' other ≡ account_at b other
+-- whether an element is in its set
+abbrev pub element_at : Base → ℕ → ℕ → Bool
+element_at b s e = is_some (map.get b.elements (s, e))
+
+-- the value of a counter of which this is kept
+abbrev pub counter_value : Option ℕ → ℕ
+counter_value None = 0
+counter_value (Some less_one) = less_one + 1
+
+-- the value of a counter
+abbrev pub counter_at : Base → ℕ → ℕ
+counter_at b c = counter_value (map.get b.counters c)
+
+-- what a cell holds
+abbrev pub state_at : Base → Cell → CellState
+state_at b (Account a) = AccountState (account_at b a)
+state_at b (Element s e) = ElementState (element_at b s e)
+state_at b (Counter c) = CounterState (counter_at b c)
+
+-- the two bases differ in no cell but this one
+abbrev pub SameButCell : Base → Base → Cell → Type 0
+SameButCell b b' cell = (other : Cell) → other ≢ cell → state_at b' other ≡ state_at b other
 
 -- An operation with its reply is a step of the one cell that it is on; all other cells are as before.
 abbrev pub Step : Base → ObjOp × ObjReply → Base → Type 0
-Step b (Account a op, reply) b' = AccountStep (account_at b a) op reply (account_at b' a) × SameButAccount b b' a
+Step b x b' = CellStep (state_at b (cell_of x.0)) x (state_at b' (cell_of x.0)) × SameButCell b b' (cell_of x.0)
 
 -- operations with their replies, in order
 abbrev pub Transcript : Type 0

@@ -1,5 +1,10 @@
 pub mod AccountLaws
 pub mod Accounts
 pub mod Bases
+pub mod Cells
+pub mod CounterLaws
+pub mod Counters
+pub mod ElementLaws
+pub mod Elements
 pub mod Operations
 pub mod Texts

@@ -2,7 +2,9 @@
 use Rattle.mlt_types.specs.declared.cell.Cell.{Cell}
 use Rattle.mlt_types.specs.declared.cell.Cell.TheVariants as cell
 use Rattle.mlt_kinds.specs.declared.operation.ObjOp.{ObjOp}
-use Rattle.mlt_kinds.specs.declared.operation.ObjOp.TheVariants.{Account}
+use Rattle.mlt_kinds.specs.declared.operation.ObjOp.TheVariants.{Account, Element, Counter}
 
 abbrev pub cell_of : ObjOp → Cell
 cell_of (Account a op) = cell.Account a
+cell_of (Element s e op) = cell.Element s e
+cell_of (Counter c op) = cell.Counter c

@@ -5,10 +5,14 @@
 #![tactic(auto)]
 
 mod account;
+mod counter;
+mod element;
 mod kind;
 mod operation;
 
 pub use account::{Account, AccountOp, MAX_BALANCE};
+pub use counter::{Counter, CounterOp};
+pub use element::{Element, ElementOp};
 pub use kind::Kind;
 pub use operation::{Done, ObjOp, ObjReply};
 

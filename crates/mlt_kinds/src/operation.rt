@@ -4,6 +4,8 @@ ghost use Rattle.std.specs.Prelude.{◌≡◌, Some};
 ghost use Rattle.mlt_kinds.specs.Operations.{cell_of};
 
 use crate::account::AccountOp;
+use crate::counter::CounterOp;
+use crate::element::ElementOp;
 use mlt_types::Cell;
 use std::fmt;
 use std::marker::Model;
@@ -13,6 +15,10 @@ use std::marker::Model;
 pub enum ObjOp {
     /// What is asked of the account of this number.
     Account(u32, AccountOp),
+    /// What is asked of an element: the set, and the element.
+    Element(u16, u32, ElementOp),
+    /// What is asked of the counter of this number.
+    Counter(u32, CounterOp),
 }
 
 /// What an operation is told.
@@ -26,7 +32,7 @@ pub enum ObjReply {
     Closed,
     /// The account has a balance above 0, and stays.
     NotEmpty,
-    /// The amount was added or taken away.
+    /// The amount was added or taken away; of a counter, modulo 2^64.
     Done,
     /// The balance would pass its greatest value, and stays.
     Over,
@@ -34,6 +40,18 @@ pub enum ObjReply {
     Short,
     /// There is no such account.
     Missing,
+    /// The element was put into the set.
+    Added,
+    /// The element was in the set already.
+    Present,
+    /// The element was taken out of the set.
+    Removed,
+    /// The element was not in the set, so that nothing was taken out.
+    Absent,
+    /// The element is in the set.
+    Yes,
+    /// The element is not in the set.
+    No,
     /// The value that was read.
     Is(u64),
 }
@@ -45,6 +63,8 @@ impl ObjOp {
     {
         match *self {
             ObjOp::Account(account, _) => Cell::Account(account),
+            ObjOp::Element(set, element, _) => Cell::Element(set, element),
+            ObjOp::Counter(counter, _) => Cell::Counter(counter),
         }
     }
 }
@@ -118,6 +138,16 @@ impl fmt::Display for ObjOp {
                 AccountOp::Withdraw(amount) => write!(f, "withdraw {account} {amount}"),
                 AccountOp::Balance => write!(f, "balance {account}"),
             },
+            ObjOp::Element(set, element, op) => match op {
+                ElementOp::Add => write!(f, "add {set} {element}"),
+                ElementOp::Remove => write!(f, "remove {set} {element}"),
+                ElementOp::Has => write!(f, "has {set} {element}"),
+            },
+            ObjOp::Counter(counter, op) => match op {
+                CounterOp::Up(amount) => write!(f, "up {counter} {amount}"),
+                CounterOp::Down(amount) => write!(f, "down {counter} {amount}"),
+                CounterOp::Read => write!(f, "read {counter}"),
+            },
         }
     }
 }
@@ -138,6 +168,12 @@ impl fmt::Display for ObjReply {
             ObjReply::Over => write!(f, "over"),
             ObjReply::Short => write!(f, "short"),
             ObjReply::Missing => write!(f, "missing"),
+            ObjReply::Added => write!(f, "added"),
+            ObjReply::Present => write!(f, "present"),
+            ObjReply::Removed => write!(f, "removed"),
+            ObjReply::Absent => write!(f, "absent"),
+            ObjReply::Yes => write!(f, "yes"),
+            ObjReply::No => write!(f, "no"),
             ObjReply::Is(value) => write!(f, "is {value}"),
         }
     }
