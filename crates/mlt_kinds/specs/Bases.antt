@@ -1,5 +1,5 @@
 -- Bases: what all cells hold, without pages; and the runs of operations over them.
-use Rattle.std.specs.Prelude.{◌≡◌, ◌≢◌, ℕ, ◌+◌, Bool, Option, None, Some, is_some, List, [], ◌∷◌, refl}
+use Rattle.std.specs.Prelude.{◌≡◌, ◌≢◌, ℕ, zero, suc, ◌+◌, Bool, true, false, Option, None, Some, is_some, List, [], ◌∷◌, refl}
 use Rattle.std.specs.declared.cmp.Ordering.{Ordering}
 use Rattle.std.specs.Ordering.{nat_cmp, ordering_then}
 use Rattle.std.specs.Coded.{Coded, code_by, coded_ℕ, coded×}
@@ -59,6 +59,28 @@ abbrev pub state_at : Base → Cell → CellState
 state_at b (Account a) = AccountState (account_at b a)
 state_at b (Element s e) = ElementState (element_at b s e)
 state_at b (Counter c) = CounterState (counter_at b c)
+
+-- the map with this at the key, or with nothing there
+abbrev pub with_entry : {K X : Type 0} {R : K → K → Ordering} → map.FinMap R X → K → Option X → map.FinMap R X
+with_entry m k None = map.remove m k
+with_entry m k (Some x) = map.insert m k x
+
+-- what is kept of an element
+abbrev pub element_entry : Bool → Option (Unit {0})
+element_entry true = Some tt
+element_entry false = None
+
+-- what is kept of a counter's value
+abbrev pub counter_entry : ℕ → Option ℕ
+counter_entry zero = None
+counter_entry (suc less_one) = Some less_one
+
+-- the base with this in one cell; the same base, where a cell of this kind can't hold it
+abbrev pub with_state : Base → Cell → CellState → Base
+with_state b (Account a) (AccountState s) = record b { accounts = with_entry b.accounts a s }
+with_state b (Element s e) (ElementState p) = record b { elements = with_entry b.elements (s, e) (element_entry p) }
+with_state b (Counter c) (CounterState v) = record b { counters = with_entry b.counters c (counter_entry v) }
+with_state b _ _ = b
 
 -- the two bases differ in no cell but this one
 abbrev pub SameButCell : Base → Base → Cell → Type 0

@@ -1,5 +1,5 @@
 -- The laws of the table of elements: one answer, one start, and states stay in range.
-use Rattle.std.proofs.Common.{◌≡◌, Bool, true, false, refl, sym, ◌∙◌, ap, arith}
+use Rattle.std.proofs.Common.{◌≡◌, Bool, true, false, refl, sym, ◌∙◌, ap}
 use Rattle.mlt_kinds.specs.declared.element.ElementOp.{ElementOp}
 use Rattle.mlt_kinds.specs.declared.element.ElementOp.TheVariants.{Add, Remove, Has}
 use Rattle.mlt_kinds.specs.declared.operation.ObjReply.{ObjReply}

@@ -1,5 +1,6 @@
 pub mod AccountLaws
 pub mod Accounts
+pub mod BaseLaws
 pub mod Bases
 pub mod Cells
 pub mod CounterLaws

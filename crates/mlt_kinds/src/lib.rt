@@ -8,12 +8,14 @@ mod account;
 mod counter;
 mod element;
 mod kind;
+mod laws;
 mod operation;
 
 pub use account::{Account, AccountOp, MAX_BALANCE};
 pub use counter::{Counter, CounterOp};
 pub use element::{Element, ElementOp};
 pub use kind::Kind;
+pub use laws::{steps_of_bases_are_fixed, steps_of_bases_pass};
 pub use operation::{Done, ObjOp, ObjReply};
 
 #[cfg(test)]

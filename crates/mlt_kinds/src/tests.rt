@@ -1,8 +1,11 @@
-//! Texts, steps of an account with their inverses, and what was done.
+//! Texts, steps of a cell with their inverses, and what was done.
 
 ghost use Rattle.mlt_kinds.specs.Accounts.{IsAccount};
 
-use crate::{Account, AccountOp, Done, Kind, MAX_BALANCE, ObjOp, ObjReply};
+use crate::{
+    Account, AccountOp, Counter, CounterOp, Done, Element, ElementOp, Kind, MAX_BALANCE, ObjOp,
+    ObjReply, steps_of_bases_are_fixed, steps_of_bases_pass,
+};
 use mlt_types::Cell;
 use std::alloc::AllocError;
 use std::process::Abort;
@@ -28,6 +31,36 @@ fn texts_of_operations(rt: HostRuntime) -> Result<(), AllocError> {
 }
 
 #[test]
+fn texts_of_operations_on_elements(rt: HostRuntime) -> Result<(), AllocError> {
+    let table = [
+        (ElementOp::Add, "add 65535 4294967295"),
+        (ElementOp::Remove, "remove 65535 4294967295"),
+        (ElementOp::Has, "has 65535 4294967295"),
+    ];
+    for (op, text) in table {
+        let op = ObjOp::Element(u16::MAX, u32::MAX, op);
+        let printed = format!(in rt.alloc(); "{op}")?;
+        assert!(rt; printed.as_str() == text, "{printed}");
+    }
+    Ok(())
+}
+
+#[test]
+fn texts_of_operations_on_counters(rt: HostRuntime) -> Result<(), AllocError> {
+    let table = [
+        (CounterOp::Up(0), "up 4294967295 0"),
+        (CounterOp::Down(u64::MAX), "down 4294967295 18446744073709551615"),
+        (CounterOp::Read, "read 4294967295"),
+    ];
+    for (op, text) in table {
+        let op = ObjOp::Counter(u32::MAX, op);
+        let printed = format!(in rt.alloc(); "{op}")?;
+        assert!(rt; printed.as_str() == text, "{printed}");
+    }
+    Ok(())
+}
+
+#[test]
 fn texts_of_replies(rt: HostRuntime) -> Result<(), AllocError> {
     let table = [
         (ObjReply::Opened, "opened"),
@@ -38,6 +71,12 @@ fn texts_of_replies(rt: HostRuntime) -> Result<(), AllocError> {
         (ObjReply::Over, "over"),
         (ObjReply::Short, "short"),
         (ObjReply::Missing, "missing"),
+        (ObjReply::Added, "added"),
+        (ObjReply::Present, "present"),
+        (ObjReply::Removed, "removed"),
+        (ObjReply::Absent, "absent"),
+        (ObjReply::Yes, "yes"),
+        (ObjReply::No, "no"),
         (ObjReply::Is(50), "is 50"),
     ];
     for (reply, text) in table {
@@ -131,4 +170,61 @@ fn steps(rt: &impl Abort, before: Option<u64>, op: AccountOp, reply: ObjReply, a
     assert_eq!(rt; told, reply, "{op:?}");
     assert_eq!(rt; state, after, "{op:?}");
     assert_eq!(rt; Account::undo(&state, &op, &told), before, "{op:?}");
+}
+
+#[test]
+fn steps_of_an_element(rt: HostRuntime) {
+    element_steps(&rt, false, ElementOp::Add, ObjReply::Added, true);
+    element_steps(&rt, true, ElementOp::Add, ObjReply::Present, true);
+    element_steps(&rt, true, ElementOp::Remove, ObjReply::Removed, false);
+    element_steps(&rt, false, ElementOp::Remove, ObjReply::Absent, false);
+    element_steps(&rt, true, ElementOp::Has, ObjReply::Yes, true);
+    element_steps(&rt, false, ElementOp::Has, ObjReply::No, false);
+}
+
+// The operation is told the reply and leads to the state after, and its inverse leads back.
+fn element_steps(rt: &impl Abort, before: bool, op: ElementOp, reply: ObjReply, after: bool) {
+    let (state, told) = Element::apply(&before, &op);
+    assert_eq!(rt; told, reply, "{op:?}");
+    assert_eq!(rt; state, after, "{op:?}");
+    assert_eq!(rt; Element::undo(&state, &op, &told), before, "{op:?}");
+}
+
+#[test]
+fn steps_of_a_counter(rt: HostRuntime) {
+    let most = u64::MAX;
+    let done = ObjReply::Done;
+    counter_steps(&rt, 0, CounterOp::Up(0), done, 0);
+    counter_steps(&rt, 0, CounterOp::Up(most), done, most);
+    counter_steps(&rt, most, CounterOp::Up(1), done, 0);
+    counter_steps(&rt, most, CounterOp::Up(most), done, most - 1);
+    counter_steps(&rt, 0, CounterOp::Down(0), done, 0);
+    counter_steps(&rt, 0, CounterOp::Down(1), done, most);
+    counter_steps(&rt, 0, CounterOp::Down(most), done, 1);
+    counter_steps(&rt, most, CounterOp::Down(most), done, 0);
+    counter_steps(&rt, 0, CounterOp::Read, ObjReply::Is(0), 0);
+    counter_steps(&rt, most, CounterOp::Read, ObjReply::Is(most), most);
+}
+
+// The operation is told the reply and leads to the state after, and its inverse leads back.
+fn counter_steps(rt: &impl Abort, before: u64, op: CounterOp, reply: ObjReply, after: u64) {
+    let (state, told) = Counter::apply(&before, &op);
+    assert_eq!(rt; told, reply, "{op:?}");
+    assert_eq!(rt; state, after, "{op:?}");
+    assert_eq!(rt; Counter::undo(&state, &op, &told), before, "{op:?}");
+}
+
+#[test]
+fn laws_of_bases() {
+    steps_of_bases_are_fixed();
+    steps_of_bases_pass();
+}
+
+#[test]
+fn cells_of_operations(rt: HostRuntime) {
+    let element = ObjOp::Element(4, 9, ElementOp::Has);
+    assert_eq!(rt; element.cell(), Cell::Element(4, 9));
+    let counter = ObjOp::Counter(7, CounterOp::Read);
+    assert_eq!(rt; counter.cell(), Cell::Counter(7));
+    assert_eq!(rt; Done::new(element, ObjReply::No).cell(), Cell::Element(4, 9));
 }
