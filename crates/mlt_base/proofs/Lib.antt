@@ -1,1 +1,3 @@
-pub mod Entries
+pub mod Maps
+pub mod Steps
+pub mod Texts

@@ -1,11 +1,16 @@
 -- Which operations take memory.
-use Rattle.std.specs.Prelude.{◌≡◌, None}
+use Rattle.std.specs.Prelude.{◌≡◌, None, false}
 use Rattle.mlt_kinds.specs.declared.account.AccountOp.TheVariants.{Open}
+use Rattle.mlt_kinds.specs.declared.counter.CounterOp.TheVariants.{Up, Down}
+use Rattle.mlt_kinds.specs.declared.element.ElementOp.TheVariants.{Add}
 use Rattle.mlt_kinds.specs.declared.operation.ObjOp.{ObjOp}
-use Rattle.mlt_kinds.specs.declared.operation.ObjOp.TheVariants.{Account}
-use Rattle.mlt_kinds.specs.Bases.{Base, account_at}
+use Rattle.mlt_kinds.specs.declared.operation.ObjOp.TheVariants.{Account, Element, Counter}
+use Rattle.mlt_kinds.specs.Bases.{Base, account_at, counter_at, element_at}
 
--- the operation makes an object that the base does not have
+-- the operation makes an account or an element that the base does not have, or changes a counter that is 0
 abbrev pub MakesObject : Base → ObjOp → Type 0
 MakesObject base (Account account Open) = account_at base account ≡ None
-MakesObject base (Account account _) = ⊥
+MakesObject base (Element set element Add) = element_at base set element ≡ false
+MakesObject base (Counter counter (Up n)) = counter_at base counter ≡ 0
+MakesObject base (Counter counter (Down n)) = counter_at base counter ≡ 0
+MakesObject base _ = ⊥

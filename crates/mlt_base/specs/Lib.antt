@@ -1,3 +1,5 @@
-pub mod BaseEntries
 pub mod BaseText
 pub mod Growth
+pub mod Kept
+pub mod Plans
+pub mod Records

@@ -1,48 +1,53 @@
-//! The base of all objects, in maps.
+//! The base of all objects, in maps and a set.
 
-ghost use Rattle.std.specs.Prelude.{◌≡◌, IfOk, OnOk, OnErr, IfErr, IsSome};
+ghost use Rattle.std.specs.Prelude.{◌≡◌, IfOk, OnOk, OnErr, IfErr};
 ghost use Rattle.std.specs.String.{string_bytes};
 ghost use Rattle.mlt_base.specs.BaseText.{base_text};
 ghost use Rattle.mlt_base.specs.Growth.{MakesObject};
 ghost use Rattle.mlt_kinds.specs.Accounts.{IsAccount};
-ghost use Rattle.mlt_kinds.specs.Bases.{account_at, empty_base, SameButAccount, Step};
+ghost use Rattle.mlt_kinds.specs.Bases.{account_at, counter_at, element_at, empty_base, Step};
 
-use crate::text::accounts_text;
-use mlt_kinds::{Account, AccountOp, Kind, ObjOp, ObjReply};
+use crate::accounts::Accounts;
+use crate::counters::Counters;
+use crate::elements::Elements;
+use mlt_kinds::{
+    Account, AccountOp, Counter, CounterOp, Element, ElementOp, Kind, ObjOp, ObjReply,
+};
 use mlt_types::Refusal;
 use std::alloc::Global;
-use std::collections::BTreeMap;
 use std::marker::Model;
 
 /// What all objects hold, kept in memory without pages. A contract sees the base of the objects.
 #[derive(Drop)]
 pub struct Base {
     alloc: Global,
-    accounts: BTreeMap<u32, u64>,
+    accounts: Accounts,
+    elements: Elements,
+    counters: Counters,
 }
 
 impl Model for Base {
     ghost use Rattle.mlt_kinds.specs.Bases.{Base as ObjectBase, coded_base};
-    ghost use Rattle.mlt_base.specs.BaseEntries.{base_of, AreAccounts};
+    ghost use Rattle.mlt_base.specs.Kept.{base_of};
 
     ghost Value = { ObjectBase };
 
     ghost coded = { coded_base };
 
-    ghost view = { λ base. base_of base.accounts.entries };
-
-    ghost invariant = { λ base. AreAccounts base.accounts.entries };
+    ghost view = { λ base. base_of base.accounts base.elements base.counters };
 }
 
-#[tactic(auto, using(crate::proofs::Entries::account_in_entries))]
+#[tactic(auto, using(crate::proofs::Steps::step_that_stays))]
 impl Base {
-    /// The base with no object.
+    /// The base with no account, no element, and every counter at 0.
     pub fn new(alloc: Global) -> Base
         ensures { result ≡ empty_base }
     {
         Base {
             alloc,
-            accounts: BTreeMap::new(alloc),
+            accounts: Accounts::new(alloc),
+            elements: Elements::new(alloc),
+            counters: Counters::new(alloc),
         }
     }
 
@@ -51,22 +56,38 @@ impl Base {
         ensures state { result ≡ account_at self.now account }
         ensures in_range { IsAccount result }
     {
-        self.accounts.get(&account).copied()
+        self.accounts.balance(account)
+    }
+
+    /// Whether an element is in its set.
+    pub fn has(&self, set: u16, element: u32) -> bool
+        ensures { result ≡ element_at self.now set element }
+    {
+        self.elements.has(set, element)
+    }
+
+    /// The value of a counter, 0 to 2^64 - 1.
+    pub fn value(&self, counter: u32) -> u64
+        ensures { result ≡ counter_at self.now counter }
+    {
+        self.counters.value(counter)
     }
 
     /// Does an operation, and answers what it is told. No other cell changes.
     ///
     /// # Errors
-    /// `OutOfMemory`, where an account was to be made and a growth was refused; the base is then as
-    /// before.
+    /// `OutOfMemory`, where an account or an element was to be made, or a counter at 0 to be changed, and a
+    /// growth was refused; the base is then as before.
     pub fn apply(&mut self, op: &ObjOp) -> Result<ObjReply, Refusal>
         ensures step { IfOk result (λ reply. Step self.old (op.now, reply) self.new) }
         ensures err { OnErr result (self.new ≡ self.old) }
         ensures growth { OnErr result (MakesObject self.old op.now) }
         ensures refusal { IfErr result (λ refusal. refusal ≡ Refusal.OutOfMemory) }
     {
-        match op {
-            ObjOp::Account(account, op) => self.apply_account(*account, *op),
+        match *op {
+            ObjOp::Account(account, op) => self.apply_account(account, op),
+            ObjOp::Element(set, element, op) => self.apply_element(set, element, op),
+            ObjOp::Counter(counter, op) => self.apply_counter(counter, op),
         }
     }
 
@@ -76,31 +97,45 @@ impl Base {
         ensures growth { OnErr result (MakesObject self.old (ObjOp.Account account op)) }
         ensures refusal { IfErr result (λ refusal. refusal ≡ Refusal.OutOfMemory) }
     {
-        let before = self.balance(account);
+        let before = self.accounts.balance(account);
         let (after, reply) = Account::apply(&before, &op);
         if after != before {
-            self.set_account(account, after)?;
+            self.accounts.set(account, after)?;
         }
         Ok(reply)
     }
 
-    fn set_account(&mut self, account: u32, state: Option<u64>) -> Result<(), Refusal>
-        requires { IsAccount state }
-        ensures state { OnOk result (account_at self.new account ≡ state) }
-        ensures others { OnOk result (SameButAccount self.old self.new account) }
+    fn apply_element(
+        &mut self,
+        set: u16,
+        element: u32,
+        op: ElementOp,
+    ) -> Result<ObjReply, Refusal>
+        ensures step { IfOk result (λ reply. Step self.old (ObjOp.Element set element op, reply) self.new) }
         ensures err { OnErr result (self.new ≡ self.old) }
-        ensures growth { OnErr result ((account_at self.old account ≡ None) × IsSome state) }
+        ensures growth { OnErr result (MakesObject self.old (ObjOp.Element set element op)) }
         ensures refusal { IfErr result (λ refusal. refusal ≡ Refusal.OutOfMemory) }
     {
-        match state {
-            Some(balance) => {
-                self.accounts.insert(account, balance)?;
-            }
-            None => {
-                self.accounts.remove(&account);
-            }
+        let before = self.elements.has(set, element);
+        let (after, reply) = Element::apply(&before, &op);
+        if after != before {
+            self.elements.set(set, element, after)?;
         }
-        Ok(())
+        Ok(reply)
+    }
+
+    fn apply_counter(&mut self, counter: u32, op: CounterOp) -> Result<ObjReply, Refusal>
+        ensures step { IfOk result (λ reply. Step self.old (ObjOp.Counter counter op, reply) self.new) }
+        ensures err { OnErr result (self.new ≡ self.old) }
+        ensures growth { OnErr result (MakesObject self.old (ObjOp.Counter counter op)) }
+        ensures refusal { IfErr result (λ refusal. refusal ≡ Refusal.OutOfMemory) }
+    {
+        let before = self.counters.value(counter);
+        let (after, reply) = Counter::apply(&before, &op);
+        if after != before {
+            self.counters.set(counter, after)?;
+        }
+        Ok(reply)
     }
 
     /// The same base once more.
@@ -113,11 +148,13 @@ impl Base {
     {
         Ok(Base {
             alloc: self.alloc,
-            accounts: self.accounts.clone()?,
+            accounts: self.accounts.copy()?,
+            elements: self.elements.copy()?,
+            counters: self.counters.copy()?,
         })
     }
 
-    /// The text of the base: a line `account A b` for each account, by rising number.
+    /// The text of the base, as `write_base` writes it.
     ///
     /// # Errors
     /// `OutOfMemory`, where a growth was refused.
@@ -125,6 +162,10 @@ impl Base {
         ensures text { IfOk result (λ text. string_bytes text ≡ base_text self.now) }
         ensures refusal { IfErr result (λ refusal. refusal ≡ Refusal.OutOfMemory) }
     {
-        accounts_text(self.alloc, &self.accounts)
+        let mut text = String::new(self.alloc);
+        self.accounts.push_text(&mut text)?;
+        self.elements.push_text(&mut text)?;
+        self.counters.push_text(&mut text)?;
+        Ok(text)
     }
 }

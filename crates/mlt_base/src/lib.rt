@@ -1,10 +1,16 @@
-//! The base of all objects kept in memory, without pages: operations in order, and its text.
+//! The base of all objects kept in memory, without pages: operations in order, and its text. And records
+//! read as objects: what an operation finds, is told and changes, and how it is undone.
 #![tactic(auto)]
 
+mod accounts;
 mod base;
+mod counters;
+mod elements;
+mod record;
 mod text;
 
 pub use base::Base;
+pub use record::{RecChange, inverse, plan, reply};
 pub use text::write_base;
 
 #[cfg(test)]

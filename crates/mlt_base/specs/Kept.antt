@@ -1,0 +1,33 @@
+-- What the maps and the set of a base are kept as: lists of entries and keys.
+use Rattle.std.specs.Prelude.{ℕ, ◌-◌, ◌≤◌, List, Option, None, Some, map}
+use Rattle.std.specs.Ordering.{nat_cmp}
+use Rattle.std.specs.FinMap as finmap
+use Rattle.std.specs.Map.{lookup}
+use Rattle.std.specs.BTreeMap.{is_at}
+use Rattle.mlt_kinds.specs.Accounts.{IsAccount}
+use Rattle.mlt_kinds.specs.Bases.{Base, element_cmp}
+
+-- the base of these accounts, elements and counters
+abbrev pub base_of : finmap.FinMap nat_cmp ℕ → finmap.FinMap element_cmp (Unit {0}) → finmap.FinMap nat_cmp ℕ → Base
+base_of accounts elements counters = record { accounts = accounts; elements = elements; counters = counters }
+
+-- every balance is in range
+abbrev pub AreBalances : List (ℕ × ℕ) → Type 0
+AreBalances entries = (account : ℕ) → IsAccount (lookup (is_at (nat_cmp account)) entries)
+
+-- nothing, or a number other than 0
+abbrev pub IsNotZero : Option ℕ → Type 0
+IsNotZero None = Unit {0}
+IsNotZero (Some value) = 1 ≤ value
+
+-- no value is 0
+abbrev pub AreNotZero : List (ℕ × ℕ) → Type 0
+AreNotZero entries = (counter : ℕ) → IsNotZero (lookup (is_at (nat_cmp counter)) entries)
+
+-- the entries with their values less 1
+abbrev pub less_one : List (ℕ × ℕ) → List (ℕ × ℕ)
+less_one = map (λ e. (e.0, e.1 - 1))
+
+-- the keys as entries that have nothing beside them
+abbrev pub with_nothing : List (ℕ × ℕ) → List ((ℕ × ℕ) × Unit {0})
+with_nothing = map (λ k. (k, tt))
