@@ -27,6 +27,12 @@ same_reply reply.Done reply.Done = true
 same_reply reply.Over reply.Over = true
 same_reply reply.Short reply.Short = true
 same_reply reply.Missing reply.Missing = true
+same_reply reply.Added reply.Added = true
+same_reply reply.Present reply.Present = true
+same_reply reply.Removed reply.Removed = true
+same_reply reply.Absent reply.Absent = true
+same_reply reply.Yes reply.Yes = true
+same_reply reply.No reply.No = true
 same_reply (reply.Is v) (reply.Is w) = v == w
 same_reply _ _ = false
 

@@ -28,7 +28,13 @@ fn is_same_reply(reply: ObjReply, wanted: ObjReply) -> bool
         | (ObjReply::Done, ObjReply::Done)
         | (ObjReply::Over, ObjReply::Over)
         | (ObjReply::Short, ObjReply::Short)
-        | (ObjReply::Missing, ObjReply::Missing) => true,
+        | (ObjReply::Missing, ObjReply::Missing)
+        | (ObjReply::Added, ObjReply::Added)
+        | (ObjReply::Present, ObjReply::Present)
+        | (ObjReply::Removed, ObjReply::Removed)
+        | (ObjReply::Absent, ObjReply::Absent)
+        | (ObjReply::Yes, ObjReply::Yes)
+        | (ObjReply::No, ObjReply::No) => true,
         (ObjReply::Is(value), ObjReply::Is(amount)) => value == amount,
         _ => false,
     }

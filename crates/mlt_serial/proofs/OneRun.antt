@@ -1,14 +1,9 @@
 -- The scripts and the marks fix the outcomes and the base.
 use Rattle.std.proofs.Common.{map, ◌≡◌, ℕ, List, [], ◌∷◌, length, refl, sym, ap, ◌∙◌, subst, inl, inr, arith}
-use Rattle.std.proofs.lemmas.Bool.{cases_eq}
-use Rattle.std.specs.Ordering.{nat_cmp}
-use Rattle.std.specs.FinMap as finmap
-use Rattle.std.specs.Cmp.{nat_cmp_total}
 use Rattle.mlt_kinds.specs.declared.operation.ObjOp.{ObjOp}
-use Rattle.mlt_kinds.specs.declared.operation.ObjOp.TheVariants.{Account}
 use Rattle.mlt_kinds.specs.declared.operation.ObjReply.{ObjReply}
-use Rattle.mlt_kinds.specs.AccountLaws.{account_one_answer}
-use Rattle.mlt_kinds.specs.Bases.{Base, Step, Runs, Transcript, account_at}
+use Rattle.mlt_kinds.specs.BaseLaws.{base_one_answer}
+use Rattle.mlt_kinds.specs.Bases.{Base, Step, Runs, Transcript}
 use Rattle.mlt_script.specs.declared.script.Ending.{Ending}
 use Rattle.mlt_script.specs.declared.script.Ending.TheVariants.{Commit, Abort}
 use Rattle.mlt_script.specs.Scripts.{ScriptForm}
@@ -20,21 +15,6 @@ use Rattle.mlt_serial.specs.declared.outcome.Outcome.{Outcome}
 use Rattle.mlt_serial.specs.Serial.{IsRun, AreRuns, mark_of, mark_of_end, story_of}
 use Rattle.mlt_serial.proofs.Transcripts.{reaches_front}
 use Rattle.mlt_script.specs.Follows.Plan.{Ends, Asks}
-
--- the accounts fix the base
-same_base : (b c : Base) → ((a : ℕ) → account_at b a ≡ account_at c a) → b ≡ c
-same_base b c h = ap (λ (m : finmap.FinMap nat_cmp ℕ). let base : Base = record { accounts = m } in base) (finmap.same_map nat_cmp_total finmap.nat_cmp-IsAntisymmetric b.accounts c.accounts h)
-
--- an operation is told one reply, and leads to one base
-pub step_one_answer : (b c d : Base) (op : ObjOp) (r q : ObjReply) → Step b (op, r) c → Step b (op, q) d → (r ≡ q) × (c ≡ d)
-step_one_answer b c d (Account a op) r q h k =
-    let one = account_one_answer (account_at b a) op r q (account_at c a) (account_at d a) h.0 k.0 in (
-      one.0,
-      same_base c d (λ other. elim (cases_eq other a) [
-        | inl e ↦ ap (account_at c) e ∙ one.1 ∙ ap (account_at d) (sym e)
-        | inr n ↦ h.1 other n ∙ sym (k.1 other n)
-      ]),
-    )
 
 -- Two transcripts of one plan from one base are one, where both come to an end.
 one_transcript : (p : Plan) (b m n : Base) (t u : Transcript) (e f : Ending) → Reaches p t (Ends e) → Reaches p u (Ends f) → Runs b t m → Runs b u n
@@ -49,7 +29,7 @@ one_transcript (Asks o after) b m n ((op, rx) ∷ t) ((oq, ry) ∷ u) e f h k r 
     let oq_is : oq ≡ o = k.0 in
     let sx : Step b (o, rx) r.0 = subst (λ (z : ObjOp). Step b (z, rx) r.0) op_is r.1 in
     let sy : Step b (o, ry) s.0 = subst (λ (z : ObjOp). Step b (z, ry) s.0) oq_is s.1 in
-    let one = step_one_answer b r.0 s.0 o rx ry sx sy in
+    let one = base_one_answer b r.0 s.0 o rx ry sx sy in
     let k' : Reaches (after rx) u (Ends f) = subst (λ (z : ObjReply). Reaches (after z) u (Ends f)) (sym one.0) k.1 in
     let s' : Runs r.0 u n = subst (λ (z : Base). Runs z u n) (sym one.1) s.2 in
     let rest = one_transcript (after rx) r.0 m n t u e f h.1 k' r.2 s' in
@@ -68,7 +48,7 @@ one_front (Asks o after) q s b m n ((op, rx) ∷ t) ((oq, ry) ∷ u) h k r v l =
     let oq_is : oq ≡ o = k.0 in
     let sx : Step b (o, rx) r.0 = subst (λ (z : ObjOp). Step b (z, rx) r.0) op_is r.1 in
     let sy : Step b (o, ry) v.0 = subst (λ (z : ObjOp). Step b (z, ry) v.0) oq_is v.1 in
-    let one = step_one_answer b r.0 v.0 o rx ry sx sy in
+    let one = base_one_answer b r.0 v.0 o rx ry sx sy in
     let k' : Reaches (after rx) u s = subst (λ (z : ObjReply). Reaches (after z) u s) (sym one.0) k.1 in
     let v' : Runs r.0 u n = subst (λ (z : Base). Runs z u n) (sym one.1) v.2 in
     let rest = one_front (after rx) q s r.0 m n t u h.1 k' r.2 v' (omega arith) in
