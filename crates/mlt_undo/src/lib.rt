@@ -1,0 +1,13 @@
+//! Undo lists: the operations that a transaction would have to take back, last in, first out.
+//!
+//! An operation that has ended is not undone by page images, but by a further operation that runs its
+//! inverse; a transaction is undone by the inverses of its operations, last to first (Weikum, ACM TODS
+//! 16(1), 1991, section 3).
+#![tactic(auto)]
+
+mod list;
+
+pub use list::UndoList;
+
+#[cfg(test)]
+mod tests;
