@@ -1,0 +1,4 @@
+pub mod Histories
+pub mod Interleavings
+pub mod Runs
+pub mod Tables
