@@ -24,5 +24,5 @@ pub use laws::{
 };
 pub use steps::Steps;
 
-
-
+#[cfg(test)]
+mod tests;
