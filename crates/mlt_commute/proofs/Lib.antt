@@ -1,0 +1,8 @@
+pub mod Rows
+pub mod AccountPairs
+pub mod AccountRows
+pub mod ElementPairs
+pub mod CounterPairs
+pub mod AccountExact
+pub mod ElementExact
+pub mod CounterExact

@@ -1,0 +1,41 @@
+//! Clashes of operations on whole bases, and commit order over them.
+
+ghost use Rattle.std.specs.Prelude.{◌≡◌};
+ghost use Rattle.mlt_commute.specs.Clashes.{clashes, marked_classes};
+
+use crate::table::Table;
+use mlt_kinds::{Account, Counter, Done, Element, ObjOp};
+
+/// Whether an operation with its reply, requested later, clashes with one that is held: they are on one cell,
+/// and the table of its kind marks their classes.
+pub fn clash(held: &Done, requested: &Done) -> bool
+    ensures { result ≡ clashes held.now requested.now }
+{
+    let reply = held.reply();
+    let answer = requested.reply();
+    match (held.op(), requested.op()) {
+        (ObjOp::Account(account, op), ObjOp::Account(other, request)) => {
+            account == other && are_marked::<Account>(&op, &reply, &request, &answer)
+        },
+        (ObjOp::Element(set, element, op), ObjOp::Element(other_set, other, request)) => {
+            set == other_set
+                && element == other
+                && are_marked::<Element>(&op, &reply, &request, &answer)
+        },
+        (ObjOp::Counter(counter, op), ObjOp::Counter(other, request)) => {
+            counter == other && are_marked::<Counter>(&op, &reply, &request, &answer)
+        },
+        _ => false,
+    }
+}
+
+// Whether both have a class, and the table marks the two.
+fn are_marked<K: Table>(op: &K::Op, reply: &K::Reply, request: &K::Op, answer: &K::Reply) -> bool
+    ensures { result
+        ≡ marked_classes K.marks (K.class_of op.now reply.now) (K.class_of request.now answer.now) }
+{
+    match (K::class(op, reply), K::class(request, answer)) {
+        (Some(held), Some(requested)) => K::conflicts(held, requested),
+        _ => false,
+    }
+}

@@ -1,0 +1,21 @@
+//! Which operations conflict: the exact tables of accounts, elements and counters, and the law that makes
+//! commit order right over them.
+//!
+//! An operation with its reply has a class. Of an ordered pair of classes, held and requested, the table says
+//! whether some operations of them, at some state, do not right commute backward (Weihl, IEEE Transactions on
+//! Computers 37(12), 1988, section 3); nothing else is marked. No call takes memory.
+#![tactic(auto)]
+
+mod accounts;
+mod clashes;
+mod counters;
+mod elements;
+mod example;
+mod table;
+
+pub use accounts::AccountClass;
+pub use clashes::clash;
+pub use counters::CounterClass;
+pub use elements::ElementClass;
+pub use example::Example;
+pub use table::Table;
