@@ -5,7 +5,7 @@ use Rattle.mlt_kinds.specs.Accounts.{AccountStep, IsLegal, next_of}
 use Rattle.mlt_kinds.specs.declared.account.AccountOp.{AccountOp}
 use Rattle.mlt_kinds.specs.declared.operation.ObjReply.{ObjReply}
 use Rattle.mlt_commute.specs.declared.accounts.AccountClass.{AccountClass}
-use Rattle.mlt_commute.specs.declared.accounts.AccountClass.TheVariants.{Opened, Exists, Closed, NotEmpty, Deposited, Over, Withdrawn, Short, Balance, Missing}
+use Rattle.mlt_commute.specs.declared.accounts.AccountClass.TheVariants.{Opened}
 use Rattle.mlt_commute.specs.AccountTable.{account_class, account_marks, account_item, account_breach}
 use Rattle.mlt_commute.specs.Tables.{paired, IsOfClass, BreaksAt, ClassesConflict, ClassesPass}
 use Rattle.mlt_commute.proofs.AccountPairs.{Legal, after, Fits, amount_in, account_rows_pass, account_rows_break, breach_fits}

@@ -5,7 +5,6 @@ use Rattle.mlt_kinds.specs.declared.account.AccountOp.{AccountOp}
 use Rattle.mlt_kinds.specs.declared.account.AccountOp.TheVariants.{Open, Deposit, Withdraw, Balance}
 use Rattle.mlt_kinds.specs.declared.operation.ObjReply.{ObjReply}
 use Rattle.mlt_kinds.specs.declared.operation.ObjReply.TheVariants.{Opened, Is}
-use Rattle.mlt_commute.specs.declared.accounts.AccountClass.{AccountClass}
 use Rattle.mlt_commute.specs.AccountTable.{account_class}
 use Rattle.mlt_commute.proofs.AccountPairs.{Legal, after, Fits}
 use Rattle.mlt_commute.proofs.Rows.{RowIsLegal, row_after, HasRows}

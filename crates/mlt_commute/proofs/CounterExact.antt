@@ -1,5 +1,5 @@
 -- The table of counters is exact.
-use Rattle.std.proofs.Common.{◌≡◌, ℕ, true, false, refl, sym, ◌∙◌, arith}
+use Rattle.std.proofs.Common.{◌≡◌, false, refl, arith}
 use Rattle.std.specs.Bool.{MatchBool}
 use Rattle.mlt_kinds.specs.Counters.{CounterStep, IsLegal, next_of}
 use Rattle.mlt_commute.specs.declared.counters.CounterClass.{CounterClass}

@@ -1,5 +1,5 @@
 -- The rows of counters, and which classes pass which.
-use Rattle.std.proofs.Common.{◌≡◌, ℕ, ◌+◌, ◌-◌, ◌<◌, ◌%◌, ◌^◌, Bool, true, false, Option, None, Some, refl, sym, ◌∙◌, arith}
+use Rattle.std.proofs.Common.{◌≡◌, ℕ, ◌+◌, ◌-◌, ◌<◌, ◌%◌, ◌^◌, false, refl, arith}
 use Rattle.mlt_kinds.specs.Counters.{IsLegal, next_of}
 use Rattle.mlt_kinds.specs.declared.counter.CounterOp.{CounterOp}
 use Rattle.mlt_kinds.specs.declared.counter.CounterOp.TheVariants.{Up, Down, Read}

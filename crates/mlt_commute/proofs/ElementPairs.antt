@@ -1,5 +1,5 @@
 -- The rows of elements, and which classes pass which: one tactic serves every pair.
-use Rattle.std.proofs.Common.{◌≡◌, ℕ, Bool, true, false, Option, None, Some, refl, sym, arith}
+use Rattle.std.proofs.Common.{◌≡◌, ℕ, Bool, true, false, refl, arith}
 use Rattle.mlt_kinds.specs.Elements.{IsLegal, next_of}
 use Rattle.mlt_kinds.specs.declared.element.ElementOp.{ElementOp}
 use Rattle.mlt_kinds.specs.declared.element.ElementOp.TheVariants.{Add}

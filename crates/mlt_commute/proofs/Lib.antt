@@ -6,3 +6,6 @@ pub mod CounterPairs
 pub mod AccountExact
 pub mod ElementExact
 pub mod CounterExact
+pub mod BasePasses
+pub mod BaseBreaks
+pub mod BaseOrder

@@ -1,7 +1,8 @@
 -- A kind whose table has rows: where a class with an amount is legal, and what it leads to. What is shown of classes and
 -- amounts holds of operations and replies.
-use Rattle.std.proofs.Common.{◌≡◌, ℕ, Bool, true, false, Option, None, Some, refl, sym, ap, subst, ◌∙◌}
+use Rattle.std.proofs.Common.{◌≡◌, ℕ, Bool, false, Option, None, Some, refl, sym, ap, subst, ◌∙◌}
 use Rattle.mlt_order.specs.Runs.{RightCommutesBackward}
+use Rattle.mlt_commute.specs.Clashes.{marked_classes}
 use Rattle.mlt_commute.specs.Tables.{paired, IsOfClass, BreaksAt, ClassesPass}
 
 module _ {S O R C : Type 0}
@@ -83,3 +84,20 @@ module _ {S O R C : Type 0}
               let F : S → Type 0 = Legal p n in
               break.2 second.0 (subst F (sym second.2) first.0) (sym first.2 ∙ ap (after p n) (sym second.2)),
         )
+
+    -- items whose classes are not marked pass, and those without a class are never legal
+    pub items_pass : (marks : C → C → Bool) → ((p q : C) → marks p q ≡ false → RowsPass p q) →
+        (x y : O × R) → marked_classes marks (class_of x.0 x.1) (class_of y.0 y.1) ≡ false → RightCommutesBackward (paired StepBy) x y
+    items_pass marks sound x y free =
+        let Goal : Option C → Option C → Type 0 = λ p q.
+        class_of x.0 x.1 ≡ p → class_of y.0 y.1 ≡ q → marked_classes marks p q ≡ false → RightCommutesBackward (paired StepBy) x y in
+        let none : (z : O × R) (s t : S) → class_of z.0 z.1 ≡ None → StepBy s z.0 z.1 t → ⊥ = λ z s t is h.
+        let F : Option C → Type 0 = λ row. RowIsLegal row (amount z.0 z.1) s in
+        subst F is (rows.into z.0 z.1 s h.0).0 in
+        elim (class_of x.0 x.1) as (λ p. Goal p (class_of y.0 y.1)) [
+          | None ↦ λ p_is q_is e b m s h i. absurd (none x b m p_is h)
+          | Some p ↦ elim (class_of y.0 y.1) as (λ q. Goal (Some p) q) [
+            | None ↦ λ p_is q_is e b m s h i. absurd (none y m s q_is i)
+            | Some q ↦ λ p_is q_is e. classes_pass p q (sound p q e) x y p_is q_is
+          ]
+        ] refl refl free

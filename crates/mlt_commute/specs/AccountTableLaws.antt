@@ -1,5 +1,5 @@
 -- Each class of accounts has an operation that is told its reply in some state.
-use Rattle.std.specs.Prelude.{◌≡◌, ℕ, Option, None, Some}
+use Rattle.std.specs.Prelude.{None, Some}
 use Rattle.std.proofs.Common.{refl, arith}
 use Rattle.mlt_kinds.specs.Accounts.{AccountStep, max_balance}
 use Rattle.mlt_commute.specs.declared.accounts.AccountClass.{AccountClass}

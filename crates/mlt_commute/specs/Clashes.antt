@@ -1,5 +1,5 @@
 -- Whether an operation with its reply, requested later, clashes with one that is held.
-use Rattle.std.specs.Prelude.{Bool, false, Option, Some, None, if◌then◌else◌, ◌==◌}
+use Rattle.std.specs.Prelude.{Bool, false, Option, Some, if◌then◌else◌, ◌==◌}
 use Rattle.mlt_kinds.specs.declared.operation.ObjOp.{ObjOp}
 use Rattle.mlt_kinds.specs.declared.operation.ObjOp.TheVariants.{Account, Element, Counter}
 use Rattle.mlt_kinds.specs.declared.operation.ObjReply.{ObjReply}

@@ -1,5 +1,4 @@
 -- Each class of counters has an operation that is told its reply in some state.
-use Rattle.std.specs.Prelude.{◌≡◌}
 use Rattle.std.proofs.Common.{refl, arith}
 use Rattle.mlt_kinds.specs.Counters.{CounterStep}
 use Rattle.mlt_commute.specs.declared.counters.CounterClass.{CounterClass}

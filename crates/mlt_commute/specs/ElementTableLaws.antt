@@ -1,5 +1,5 @@
 -- Each class of elements has an operation that is told its reply in some state.
-use Rattle.std.specs.Prelude.{◌≡◌, true, false}
+use Rattle.std.specs.Prelude.{true, false}
 use Rattle.std.proofs.Common.{refl}
 use Rattle.mlt_kinds.specs.Elements.{ElementStep}
 use Rattle.mlt_commute.specs.declared.elements.ElementClass.{ElementClass}

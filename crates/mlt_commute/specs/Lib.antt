@@ -1,5 +1,6 @@
 pub mod AccountTable
 pub mod AccountTableLaws
+pub mod BaseConflicts
 pub mod Clashes
 pub mod CounterTable
 pub mod CounterTableLaws

@@ -11,6 +11,7 @@ mod clashes;
 mod counters;
 mod elements;
 mod example;
+mod laws;
 mod table;
 
 pub use accounts::AccountClass;
@@ -18,4 +19,8 @@ pub use clashes::clash;
 pub use counters::CounterClass;
 pub use elements::ElementClass;
 pub use example::Example;
+pub use laws::{
+    clashes_are_exact, every_history_of_bases_is_serializable, operation_without_clash_may_come,
+    steps_of_bases_meet_the_laws,
+};
 pub use table::Table;

@@ -11,7 +11,7 @@ use Rattle.mlt_order.proofs.RunLemmas.{serial_push, contains-nothing}
 use Rattle.mlt_order.proofs.Tables.{at_each, changed}
 use Rattle.mlt_order.proofs.Parts.{without}
 use Rattle.mlt_order.proofs.Mixing.{interleaving_push, interleaving_pop, interleaving_without, interleaving_of_nothing}
-use Rattle.mlt_order.proofs.UndoLaws.{begin, done, undo, commit}
+use Rattle.mlt_order.proofs.UndoLaws.{begin, done, undo, undo_goes, commit}
 use Rattle.mlt_order.proofs.Growing.{but_last-push}
 
 module _ {P : Type 0} where
@@ -180,3 +180,14 @@ module _ {S P : Type 0} (step : S → P → S → Type 0) (start : S) where
 
   pub kept_by_history : IsFunctional step → IsInjective step → (history : List (Entry P)) (s : S) → MayFollow step no_lists start history s → Kept (after_entries no_lists history) s
   kept_by_history fun inj history s r = kept_all fun inj history no_lists start s r at_start
+
+  -- the last item under a number can be taken back, to one state
+  pub last_goes : IsFunctional step → IsInjective step → (history : List (Entry P)) (s : S) (i : ℕ) (rest : List P) (item : P) →
+      MayFollow step no_lists start history s → (after_entries no_lists history).transcripts i ≡ rest ++ item ∷ [] →
+      (earlier : S) × step earlier item s × ((other : S) → step other item s → other ≡ earlier)
+  last_goes fun inj history s i rest item h last =
+      let k = kept_by_history fun inj history s h in
+      let f = (after_entries no_lists history).transcripts in
+      let new = changed f i rest in
+      undo_goes step inj k.serializable.0 s i item f (with_entry f i rest)
+      (last ∙ ap (λ z. z ++ item ∷ []) (sym new.0), λ j n. sym (new.1 j n)) k.mixed.0 k.mixed.1 k.serializable.2
