@@ -17,6 +17,9 @@ use Rattle.mlt_kinds.specs.Cells.CellState.{AccountState, ElementState, CounterS
 use Rattle.mlt_kinds.specs.Bases.{Base, Step, state_at, with_state, empty_base}
 use Rattle.mlt_kinds.specs.BaseLaws.{step_to, state_here, cell_step_states}
 use Rattle.mlt_kinds.specs.Operations.{cell_of}
+use Rattle.std.specs.Bool.{MatchBool}
+use Rattle.mlt_order.specs.Runs.{RightCommutesBackward}
+use Rattle.mlt_commute.proofs.BasePasses.{clash_free_pass}
 use Rattle.mlt_commute.specs.AccountTable.{account_class, account_marks}
 use Rattle.mlt_commute.specs.ElementTable.{element_class, element_marks}
 use Rattle.mlt_commute.specs.CounterTable.{counter_class, counter_marks}
@@ -170,3 +173,11 @@ clashing_break (Element s e op, reply) (Account b other, answer) clash = absurd 
 clashing_break (Element s e op, reply) (Counter d other, answer) clash = absurd (cc clash)
 clashing_break (Counter c op, reply) (Account b other, answer) clash = absurd (cc clash)
 clashing_break (Counter c op, reply) (Element t f other, answer) clash = absurd (cc clash)
+
+-- a test of clashes is exact
+pub clash_exact : (held requested : ObjOp × ObjReply) → MatchBool (clashes held requested) (SomeLikeThemBreak held requested) (RightCommutesBackward Step held requested)
+clash_exact held requested =
+    elim (clashes held requested) as (λ b. clashes held requested ≡ b → MatchBool b (SomeLikeThemBreak held requested) (RightCommutesBackward Step held requested)) [
+      | true ↦ clashing_break held requested
+      | false ↦ clash_free_pass held requested
+    ] refl

@@ -1,14 +1,28 @@
-//! Clashes of operations on whole bases, and commit order over them.
+//! Clashes of operations on whole bases.
 
-ghost use Rattle.std.specs.Prelude.{◌≡◌};
+ghost use Rattle.std.specs.Prelude.{◌≡◌, MatchBool};
+ghost use Rattle.mlt_commute.specs.BaseConflicts.{SomeLikeThemBreak};
 ghost use Rattle.mlt_commute.specs.Clashes.{clashes, marked_classes};
+ghost use Rattle.mlt_kinds.specs.Bases.{Step};
+ghost use Rattle.mlt_order.specs.Runs.{RightCommutesBackward};
 
 use crate::table::Table;
 use mlt_kinds::{Account, Counter, Done, Element, ObjOp};
 
 /// Whether an operation with its reply, requested later, clashes with one that is held: they are on one cell,
-/// and the table of its kind marks their classes.
+/// and the table of its kind marks their classes. Where they do not, the requested operation right commutes
+/// backward with the held one over all bases; where they do, some operations on the cell and of their classes
+/// do not, in some base.
 pub fn clash(held: &Done, requested: &Done) -> bool
+    ensures table { result ≡ clashes held.now requested.now }
+    ensures exact { MatchBool result (SomeLikeThemBreak held.now requested.now)
+        (RightCommutesBackward Step held.now requested.now) }
+{
+    is_marked_on_one_cell(held, requested)
+}
+
+// Whether they are on one cell, and the table of its kind marks their classes.
+fn is_marked_on_one_cell(held: &Done, requested: &Done) -> bool
     ensures { result ≡ clashes held.now requested.now }
 {
     let reply = held.reply();
