@@ -1,0 +1,134 @@
+//! Buckets of eight slots.
+
+ghost use Rattle.std.specs.Prelude.{◌≡◌, ◌+◌, ◌<◌, false, true, not, map, position, replicate, slice_index_or, slice_set};
+ghost use Rattle.mlt_page.specs.Slots.{half, is_ghost_of, is_kept, is_live_of};
+ghost use Rattle.mlt_page.specs.declared.slot.Slot.TheVariants.{Free, Live, Ghost};
+
+use crate::slot::Slot;
+use mlt_types::{Key, OpenSet, Pseudo, TxId, Value};
+use std::marker::Model;
+
+/// The slots of a bucket.
+pub const SLOTS: usize = 8;
+
+/// A bucket: the pseudokeys of its keys agree in their first `depth` bits.
+#[derive(Clone, Copy, Debug, PartialEq, Eq)]
+pub struct Bucket {
+    /// How many bits its pseudokeys agree in, 0 to 16.
+    pub depth: u8,
+    /// Its slots, in no order.
+    pub slots: [Slot; SLOTS],
+}
+
+impl Model for Bucket {
+    ghost use Rattle.std.specs.Prelude.{◌≡◌, length};
+    ghost use Rattle.mlt_page.specs.Values.{BucketFields};
+
+    ghost Value = { BucketFields };
+
+    ghost view = { λ bucket. record { depth = bucket.depth; slots = bucket.slots } };
+
+    ghost invariant = { λ bucket. length bucket.slots ≡ 8 };
+
+    ghost inverse = { λ fields. record { depth = fields.depth; slots = fields.slots } };
+}
+
+impl Bucket {
+    /// A bucket with free slots alone.
+    pub fn empty(depth: u8) -> Bucket
+        ensures depth { result.depth ≡ depth }
+        ensures slots { result.slots ≡ replicate 8 Free }
+    {
+        Bucket {
+            depth,
+            slots: [Slot::Free; SLOTS],
+        }
+    }
+
+    /// The first slot with the record of the key, if there is one.
+    pub fn find_live(&self, key: Key) -> Option<usize>
+        ensures { result ≡ position (is_live_of key) self.now.slots }
+    {
+        self.slots.iter().position(|slot| slot.is_live_of(key))
+    }
+
+    /// The first slot with a ghost that `owner` left of the key, if there is one.
+    pub fn find_ghost(&self, key: Key, owner: TxId) -> Option<usize>
+        ensures { result ≡ position (is_ghost_of key owner) self.now.slots }
+    {
+        self.slots
+            .iter()
+            .position(|slot| slot.is_ghost_of(key, owner))
+    }
+
+    /// The lowest slot that a record may be put into: free, or a ghost whose owner is not open.
+    pub fn room(&self, opens: &OpenSet) -> Option<usize>
+        ensures { result ≡ position (λ slot. not (is_kept opens.now slot)) self.now.slots }
+    {
+        self.slots.iter().position(|slot| !slot.is_kept(opens))
+    }
+
+    /// Puts a record into slot `at`, which is free or has a ghost whose owner is not open. No other slot changes.
+    pub fn put(&mut self, at: usize, key: Key, value: Value, opens: &OpenSet)
+        requires at { at < 8 }
+        requires room { is_kept opens.now (slice_index_or self.old.slots at Free) ≡ false }
+        ensures { self.new ≡ record self.old { slots = slice_set self.old.slots at (Live key value) } }
+    {
+        prove!(!self.slots[at].is_kept(opens));
+        self.slots[at] = Slot::Live(key, value);
+    }
+
+    /// Gives the key's record in slot `at` another value. No other slot changes.
+    pub fn set_value(&mut self, at: usize, key: Key, value: Value)
+        requires at { at < 8 }
+        requires live { is_live_of key (slice_index_or self.old.slots at Free) ≡ true }
+        ensures { self.new ≡ record self.old { slots = slice_set self.old.slots at (Live key value) } }
+    {
+        self.slots[at] = Slot::Live(key, value);
+    }
+
+    /// Removes the key's record in slot `at`, and leaves a ghost of `owner` there, with value 0. No other slot
+    /// changes.
+    pub fn to_ghost(&mut self, at: usize, key: Key, owner: TxId)
+        requires at { at < 8 }
+        requires live { is_live_of key (slice_index_or self.old.slots at Free) ≡ true }
+        ensures { self.new ≡ record self.old { slots = slice_set self.old.slots at (Ghost key 0 owner) } }
+    {
+        self.slots[at] = Slot::Ghost(key, 0, owner);
+    }
+
+    /// Makes the ghost in slot `at`, which `owner` left of the key, a record again. No other slot changes.
+    pub fn revive(&mut self, at: usize, key: Key, owner: TxId, value: Value)
+        requires at { at < 8 }
+        requires ghost_of_owner { is_ghost_of key owner (slice_index_or self.old.slots at Free) ≡ true }
+        ensures { self.new ≡ record self.old { slots = slice_set self.old.slots at (Live key value) } }
+    {
+        prove!(self.slots[at].is_ghost_of(key, owner));
+        self.slots[at] = Slot::Live(key, value);
+    }
+
+    /// The two halves of a split by the bit behind the first `place` of pseudokeys: of the keys with 0 there,
+    /// and of those with 1. Records and ghosts of open owners go to the same place of their half, and all
+    /// other slots of both are free.
+    pub fn part<P: Pseudo>(&self, place: u8, pseudo: &P, opens: &OpenSet) -> (Bucket, Bucket)
+        requires { place < 64 }
+        ensures zeros { result.0 ≡ record { depth = place + 1; slots = map (half (P.bits_of pseudo.now) opens.now place 0) self.now.slots } }
+        ensures ones { result.1 ≡ record { depth = place + 1; slots = map (half (P.bits_of pseudo.now) opens.now place 1) self.now.slots } }
+    {
+        let mut zeros = [Slot::Free; SLOTS];
+        let mut ones = [Slot::Free; SLOTS];
+        for at in 0..SLOTS {
+            let (zero, one) = self.slots[at].halves(place, pseudo, opens);
+            zeros[at] = zero;
+            ones[at] = one;
+        }
+        let depth = place + 1;
+        (
+            Bucket {
+                depth,
+                slots: zeros,
+            },
+            Bucket { depth, slots: ones },
+        )
+    }
+}

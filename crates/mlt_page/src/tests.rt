@@ -1,0 +1,1 @@
+//! Buckets at their boundaries.

@@ -1,0 +1,24 @@
+-- What a contract sees of a store: its pages, by their numbers, and how many there may be.
+use Rattle.std.specs.Prelude.{ℕ, Option, refl}
+use Rattle.std.specs.Ordering.{nat_cmp}
+use Rattle.std.specs.Coded.{Coded, code_by, coded×, coded_ℕ}
+use Rattle.std.specs.FinMap as map
+use Rattle.mlt_page.specs.declared.page.Page.{Page}
+use Rattle.mlt_page.specs.contracts.page.Page.{the_row}
+
+-- a finite map from page numbers to pages
+abbrev pub Pages : Type 0
+Pages = map.FinMap nat_cmp Page
+
+-- the page of a number, if there is one
+abbrev pub page_at : Pages → ℕ → Option Page
+page_at pages number = map.get pages number
+
+pub record PageStore : Type 0 where
+  pub pages : Pages
+  pub max_pages : ℕ
+
+-- a store is stored as the pair of its fields
+abbrev pub coded_store : Coded PageStore
+coded_store =
+    code_by (Pages × ℕ) (coded× (map.code coded_ℕ the_row.coded) coded_ℕ) (λ s. (s.pages, s.max_pages)) (λ p. record { pages = p.0; max_pages = p.1 }) (λ _. refl)

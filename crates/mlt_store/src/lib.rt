@@ -1,0 +1,9 @@
+//! The store of pages, in memory.
+#![tactic(auto)]
+
+mod store;
+
+pub use store::Store;
+
+#[cfg(test)]
+mod tests;

@@ -1,0 +1,1 @@
+//! A store at its limit.
