@@ -1,7 +1,6 @@
 -- The pages that the slots of a slab make, and what is true of every store.
-use Rattle.std.specs.Prelude.{ℕ, ◌≤◌}
 use Rattle.std.specs.FinMap as map
-use Rattle.slab.specs.Slab.{Slab, entries, slab_len}
+use Rattle.slab.specs.Slab.{Slab, entries}
 use Rattle.mlt_page.specs.declared.page.Page.{Page}
 use Rattle.mlt_store.specs.Stores.{Pages}
 

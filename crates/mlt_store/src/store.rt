@@ -32,6 +32,7 @@ impl Model for Store {
     ghost invariant = { λ s. slab_len s.pages ≤ s.max_pages };
 }
 
+#[tactic(auto, using(crate::proofs::Numbered::page_in_slab, crate::proofs::Numbered::pages_counted, crate::proofs::Numbered::page_put, crate::proofs::Numbered::page_taken))]
 impl Store {
     /// A store without pages, for as many as the limits allow.
     pub fn new(alloc: Global, limits: &Limits) -> Store
@@ -78,21 +79,13 @@ impl Store {
         ensures no_room { (result ≡ Err Refusal.NoRoom) ↔ (map.len self.old.pages ≡ self.old.max_pages) }
         ensures refusal { IfErr result (λ refusal. (refusal ≡ Refusal.NoRoom) ⊎ (refusal ≡ Refusal.OutOfMemory)) }
     {
-        let number = self.reserve_number()?;
-        self.pages.insert_reserved(page);
-        Ok(number)
-    }
-
-    fn reserve_number(&mut self) -> Result<PageNo, Refusal>
-        ensures { self.new ≡ self.old }
-    {
         if self.pages.len() >= self.max_pages as usize {
             return Err(Refusal::NoRoom);
         }
         let Ok(number) = u32::try_from(self.pages.vacant_key()) else {
             return Err(Refusal::OutOfMemory);
         };
-        self.pages.reserve(1)?;
+        self.pages.insert(page)?;
         Ok(PageNo(number))
     }
 
