@@ -1,6 +1,6 @@
 //! Buckets of eight slots.
 
-ghost use Rattle.std.specs.Prelude.{◌≡◌, ◌+◌, ◌<◌, false, true, not, map, position, replicate, slice_index_or, slice_set};
+ghost use Rattle.std.specs.Prelude.{◌≡◌, ◌+◌, ◌<◌, IfSome, false, true, not, map, position, replicate, slice_index_or, slice_set};
 ghost use Rattle.mlt_page.specs.Slots.{half, is_ghost_of, is_kept, is_live_of};
 ghost use Rattle.mlt_page.specs.declared.slot.Slot.TheVariants.{Free, Live, Ghost};
 
@@ -47,14 +47,16 @@ impl Bucket {
 
     /// The first slot with the record of the key, if there is one.
     pub fn find_live(&self, key: Key) -> Option<usize>
-        ensures { result ≡ position (is_live_of key) self.now.slots }
+        ensures place { result ≡ position (is_live_of key) self.now.slots }
+        ensures within { IfSome result (λ at. at < 8) }
     {
         self.slots.iter().position(|slot| slot.is_live_of(key))
     }
 
     /// The first slot with a ghost that `owner` left of the key, if there is one.
     pub fn find_ghost(&self, key: Key, owner: TxId) -> Option<usize>
-        ensures { result ≡ position (is_ghost_of key owner) self.now.slots }
+        ensures place { result ≡ position (is_ghost_of key owner) self.now.slots }
+        ensures within { IfSome result (λ at. at < 8) }
     {
         self.slots
             .iter()
@@ -63,7 +65,8 @@ impl Bucket {
 
     /// The lowest slot that a record may be put into: free, or a ghost whose owner is not open.
     pub fn room(&self, opens: &OpenSet) -> Option<usize>
-        ensures { result ≡ position (λ slot. not (is_kept opens.now slot)) self.now.slots }
+        ensures place { result ≡ position (λ slot. not (is_kept opens.now slot)) self.now.slots }
+        ensures within { IfSome result (λ at. at < 8) }
     {
         self.slots.iter().position(|slot| !slot.is_kept(opens))
     }

@@ -1,6 +1,6 @@
 //! The directory: its header, and its pages of 256 entries.
 
-ghost use Rattle.std.specs.Prelude.{◌≡◌, ℕ, ◌+◌, ◌/◌, ◌<◌, ◌≤◌, ◌⊎◌, replicate, slice_index, slice_set};
+ghost use Rattle.std.specs.Prelude.{◌≡◌, ℕ, ◌+◌, ◌/◌, ◌<◌, ◌≤◌, ◌⊎◌, length, replicate, slice_index, slice_set};
 
 use mlt_types::PageNo;
 use std::marker::Model;
@@ -57,6 +57,7 @@ impl DirPage {
     /// Names a bucket page at the `count` places from `from` on. No other entry changes.
     pub fn set_entries(&mut self, from: usize, count: usize, bucket: PageNo)
         requires { from + count ≤ 256 }
+        ensures size { length self.new ≡ 256 }
         ensures inside { (at : ℕ) → from ≤ at → at < from + count → slice_index self.new at ≡ bucket }
         ensures outside { (at : ℕ) → (at < from) ⊎ (from + count ≤ at) → slice_index self.new at ≡ slice_index self.old at }
     {
@@ -67,21 +68,24 @@ impl DirPage {
 
     /// The page that the first 128 entries make where the directory doubles: each stands twice.
     pub fn first_half_doubled(&self) -> DirPage
-        ensures { (at : ℕ) → at < 256 → slice_index result at ≡ slice_index self.now (at / 2) }
+        ensures size { length result ≡ 256 }
+        ensures entries { (at : ℕ) → at < 256 → slice_index result at ≡ slice_index self.now (at / 2) }
     {
         self.doubled(0)
     }
 
     /// The page that the last 128 entries make where the directory doubles: each stands twice.
     pub fn second_half_doubled(&self) -> DirPage
-        ensures { (at : ℕ) → at < 256 → slice_index result at ≡ slice_index self.now (128 + at / 2) }
+        ensures size { length result ≡ 256 }
+        ensures entries { (at : ℕ) → at < 256 → slice_index result at ≡ slice_index self.now (128 + at / 2) }
     {
         self.doubled(128)
     }
 
     fn doubled(&self, from: usize) -> DirPage
         requires { from ≤ 128 }
-        ensures { (at : ℕ) → at < 256 → slice_index result at ≡ slice_index self.now (from + at / 2) }
+        ensures size { length result ≡ 256 }
+        ensures entries { (at : ℕ) → at < 256 → slice_index result at ≡ slice_index self.now (from + at / 2) }
     {
         let mut entries = self.entries;
         for at in 0..DIR_ENTRIES {

@@ -1,1 +1,97 @@
-//! Buckets at their boundaries.
+//! Buckets at their boundaries, and pages of the directory.
+
+use crate::{Bucket, DIR_ENTRIES, DirPage, HeadPage, Page, SLOTS, Slot};
+use mlt_types::{Cell, Key, Low, OpenSet, PageNo, TxId};
+use std::mem::size_of;
+
+fn account(number: u32) -> Key {
+    Key::of(&Cell::Account(number))
+}
+
+// Transactions 5 and 7 are open.
+fn open_set() -> OpenSet {
+    let mut opens = OpenSet::new();
+    opens.insert(TxId(5));
+    opens.insert(TxId(7));
+    opens
+}
+
+// Seven slots are taken: accounts 0 and 32768 live, ghosts of accounts 1 and 32769 of the open
+// transaction 5, of account 2 of the closed transaction 6, of account 3 of the open transaction 7, and account 4.
+fn some_bucket() -> Bucket {
+    Bucket {
+        depth: 0,
+        slots: [
+            Slot::Live(account(0), 10),
+            Slot::Live(account(32_768), 11),
+            Slot::Ghost(account(1), 0, TxId(5)),
+            Slot::Ghost(account(32_769), 0, TxId(5)),
+            Slot::Ghost(account(2), 0, TxId(6)),
+            Slot::Ghost(account(3), 0, TxId(7)),
+            Slot::Free,
+            Slot::Live(account(4), 12),
+        ],
+    }
+}
+
+#[test]
+fn slots_are_found(rt: HostRuntime) {
+    let bucket = some_bucket();
+    assert_eq!(rt; bucket.find_live(account(0)), Some(0));
+    assert_eq!(rt; bucket.find_live(account(4)), Some(7));
+    assert_eq!(rt; bucket.find_live(account(1)), None);
+    assert_eq!(rt; bucket.find_ghost(account(1), TxId(5)), Some(2));
+    assert_eq!(rt; bucket.find_ghost(account(1), TxId(7)), None);
+    assert_eq!(rt; bucket.find_ghost(account(0), TxId(5)), None);
+}
+
+#[test]
+fn room_is_free_or_of_a_closed_owner(rt: HostRuntime) {
+    let mut bucket = some_bucket();
+    let mut opens = open_set();
+    assert_eq!(rt; bucket.room(&opens), Some(4));
+    opens.insert(TxId(6));
+    assert_eq!(rt; bucket.room(&opens), Some(6));
+    bucket.slots[6] = Slot::Live(account(9), 0);
+    assert_eq!(rt; bucket.room(&opens), None);
+    opens.remove(TxId(5));
+    assert_eq!(rt; bucket.room(&opens), Some(2));
+    assert_eq!(rt; Bucket::empty(0).room(&opens), Some(0));
+}
+
+#[test]
+fn one_slot_changes(rt: HostRuntime) {
+    let opens = open_set();
+    let mut bucket = Bucket::empty(3);
+    bucket.put(7, account(8), 20, &opens);
+    assert_eq!(rt; bucket.slots[7], Slot::Live(account(8), 20));
+    assert_eq!(rt; bucket.find_live(account(8)), Some(7));
+    bucket.set_value(7, account(8), 21);
+    assert_eq!(rt; bucket.slots[7], Slot::Live(account(8), 21));
+    bucket.to_ghost(7, account(8), TxId(5));
+    assert_eq!(rt; bucket.slots[7], Slot::Ghost(account(8), 0, TxId(5)));
+    bucket.revive(7, account(8), TxId(5), 22);
+    assert_eq!(rt; bucket.slots[7], Slot::Live(account(8), 22));
+    assert_eq!(rt; bucket.depth, 3);
+    assert!(rt; bucket.slots[..7] == [Slot::Free; 7]);
+}
+
+#[test]
+fn halves_of_a_split(rt: HostRuntime) {
+    let (zeros, ones) = some_bucket().part(0, &Low, &open_set());
+    let zero_slots = [
+        Slot::Live(account(0), 10),
+        Slot::Free,
+        Slot::Ghost(account(1), 0, TxId(5)),
+        Slot::Free,
+        Slot::Free,
+        Slot::Ghost(account(3), 0, TxId(7)),
+        Slot::Free,
+        Slot::Live(account(4), 12),
+    ];
+    assert_eq!(rt; zeros.slots, zero_slots);
+    assert_eq!(rt; ones.slots[1], Slot::Live(account(32_768), 11));
+    assert_eq!(rt; ones.slots[3], Slot::Ghost(account(32_769), 0, TxId(5)));
+    assert_eq!(rt; ones.room(&open_set()), Some(0));
+    assert_eq!(rt; (zeros.depth, ones.depth), (1, 1));
+}
