@@ -87,7 +87,8 @@ impl Bucket {
         requires live { is_live_of key (slice_index_or self.old.slots at Free) ≡ true }
         ensures { self.new ≡ record self.old { slots = slice_set self.old.slots at (Live key value) } }
     {
-        self.slots[at] = Slot::Live(key, value);
+        let record = Slot::Live(key, value);
+        self.slots[at] = record;
     }
 
     /// Removes the key's record in slot `at`, and leaves a ghost of `owner` there, with value 0. No other slot

@@ -61,8 +61,8 @@ impl DirPage {
         ensures inside { (at : ℕ) → from ≤ at → at < from + count → slice_index self.new at ≡ bucket }
         ensures outside { (at : ℕ) → (at < from) ⊎ (from + count ≤ at) → slice_index self.new at ≡ slice_index self.old at }
     {
-        for at in from..from + count {
-            self.entries[at] = bucket;
+        for place in from..from + count {
+            self.entries[place] = bucket;
         }
     }
 

@@ -1,6 +1,6 @@
 //! Buckets at their boundaries, and pages of the directory.
 
-use crate::{Bucket, DIR_ENTRIES, DirPage, HeadPage, Page, SLOTS, Slot};
+use crate::{Bucket, DirPage, HeadPage, Page, Slot};
 use mlt_types::{Cell, Key, Low, OpenSet, PageNo, TxId};
 use std::mem::size_of;
 
@@ -8,11 +8,17 @@ fn account(number: u32) -> Key {
     Key::of(&Cell::Account(number))
 }
 
+fn add(opens: &mut OpenSet, id: u64) {
+    if !opens.is_full() {
+        opens.insert(TxId(id));
+    }
+}
+
 // Transactions 5 and 7 are open.
 fn open_set() -> OpenSet {
     let mut opens = OpenSet::new();
-    opens.insert(TxId(5));
-    opens.insert(TxId(7));
+    add(&mut opens, 5);
+    add(&mut opens, 7);
     opens
 }
 
@@ -50,7 +56,7 @@ fn room_is_free_or_of_a_closed_owner(rt: HostRuntime) {
     let mut bucket = some_bucket();
     let mut opens = open_set();
     assert_eq!(rt; bucket.room(&opens), Some(4));
-    opens.insert(TxId(6));
+    add(&mut opens, 6);
     assert_eq!(rt; bucket.room(&opens), Some(6));
     bucket.slots[6] = Slot::Live(account(9), 0);
     assert_eq!(rt; bucket.room(&opens), None);
@@ -62,16 +68,17 @@ fn room_is_free_or_of_a_closed_owner(rt: HostRuntime) {
 #[test]
 fn one_slot_changes(rt: HostRuntime) {
     let opens = open_set();
+    let key = account(8);
     let mut bucket = Bucket::empty(3);
-    bucket.put(7, account(8), 20, &opens);
-    assert_eq!(rt; bucket.slots[7], Slot::Live(account(8), 20));
-    assert_eq!(rt; bucket.find_live(account(8)), Some(7));
-    bucket.set_value(7, account(8), 21);
-    assert_eq!(rt; bucket.slots[7], Slot::Live(account(8), 21));
-    bucket.to_ghost(7, account(8), TxId(5));
-    assert_eq!(rt; bucket.slots[7], Slot::Ghost(account(8), 0, TxId(5)));
-    bucket.revive(7, account(8), TxId(5), 22);
-    assert_eq!(rt; bucket.slots[7], Slot::Live(account(8), 22));
+    bucket.put(7, key, 20, &opens);
+    assert_eq!(rt; bucket.slots[7], Slot::Live(key, 20));
+    assert_eq!(rt; bucket.find_live(key), Some(7));
+    bucket.set_value(7, key, 21);
+    assert_eq!(rt; bucket.slots[7], Slot::Live(key, 21));
+    bucket.to_ghost(7, key, TxId(5));
+    assert_eq!(rt; bucket.slots[7], Slot::Ghost(key, 0, TxId(5)));
+    bucket.revive(7, key, TxId(5), 22);
+    assert_eq!(rt; bucket.slots[7], Slot::Live(key, 22));
     assert_eq!(rt; bucket.depth, 3);
     assert!(rt; bucket.slots[..7] == [Slot::Free; 7]);
 }
@@ -94,4 +101,48 @@ fn halves_of_a_split(rt: HostRuntime) {
     assert_eq!(rt; ones.slots[3], Slot::Ghost(account(32_769), 0, TxId(5)));
     assert_eq!(rt; ones.room(&open_set()), Some(0));
     assert_eq!(rt; (zeros.depth, ones.depth), (1, 1));
+}
+
+#[test]
+fn the_last_bit_parts_too(rt: HostRuntime) {
+    let mut bucket = Bucket::empty(15);
+    bucket.put(0, account(6), 1, &open_set());
+    bucket.put(1, account(7), 2, &open_set());
+    let (zeros, ones) = bucket.part(15, &Low, &open_set());
+    assert_eq!(rt; zeros.find_live(account(6)), Some(0));
+    assert_eq!(rt; zeros.find_live(account(7)), None);
+    assert_eq!(rt; ones.find_live(account(7)), Some(1));
+    assert_eq!(rt; ones.depth, 16);
+}
+
+#[test]
+fn directory_pages_double(rt: HostRuntime) {
+    let mut page = DirPage::new(PageNo(2));
+    page.set_entry(0, PageNo(3));
+    page.set_entry(255, PageNo(4));
+    page.set_entries(128, 2, PageNo(5));
+    let first = page.first_half_doubled();
+    assert_eq!(rt; first.entry(1), PageNo(3));
+    assert_eq!(rt; first.entry(2), PageNo(2));
+    let second = page.second_half_doubled();
+    assert_eq!(rt; second.entry(3), PageNo(5));
+    assert_eq!(rt; second.entry(4), PageNo(2));
+    assert_eq!(rt; second.entry(253), PageNo(2));
+    assert_eq!(rt; second.entry(254), PageNo(4));
+}
+
+#[test]
+fn headers_name_directory_pages(rt: HostRuntime) {
+    let mut head = HeadPage::new(PageNo(1));
+    assert_eq!(rt; head.depth, 0);
+    assert_eq!(rt; head.dir(0), PageNo(1));
+    head.set_dir(255, PageNo(9));
+    assert_eq!(rt; head.dir(254), PageNo(1));
+    assert_eq!(rt; head.dir(255), PageNo(9));
+}
+
+#[test]
+fn a_page_is_about_a_kilobyte(rt: HostRuntime) {
+    assert_eq!(rt; size_of::<Slot>(), 32);
+    assert!(rt; size_of::<Page>() <= 1_040);
 }
