@@ -5,6 +5,7 @@ use mlt_kinds::{AccountOp, CounterOp, Done, ElementOp, ObjOp, ObjReply};
 use mlt_types::{Cell, Key, Mode, Refusal, Value};
 use std::io;
 use std::io::{ErrorKind, Write};
+use std::process::Abort;
 use std::test::Fail;
 
 const MOST: u64 = 1_000_000_000_000_000_000;
@@ -180,28 +181,67 @@ fn write_fault_leaves_a_front(rt: HostRuntime) -> Result<(), Fail> {
     Ok(())
 }
 
+fn planned(rt: &impl Abort, op: ObjOp, cell: Cell, mode: Mode) {
+    let (key, planned) = plan(&op);
+    assert_eq!(rt; key, Key::of(&cell), "{op:?}");
+    assert_eq!(rt; planned, mode, "{op:?}");
+}
+
 #[test]
-fn keys_and_modes(rt: HostRuntime) {
-    let table = [
-        (ObjOp::Account(1, AccountOp::Open), Mode::Exclusive),
-        (ObjOp::Account(1, AccountOp::Close), Mode::Exclusive),
-        (ObjOp::Account(1, AccountOp::Deposit(0)), Mode::Exclusive),
-        (ObjOp::Account(1, AccountOp::Withdraw(0)), Mode::Exclusive),
-        (ObjOp::Account(1, AccountOp::Balance), Mode::Shared),
-        (ObjOp::Element(4, 9, ElementOp::Add), Mode::Exclusive),
-        (ObjOp::Element(4, 9, ElementOp::Remove), Mode::Exclusive),
-        (ObjOp::Element(4, 9, ElementOp::Has), Mode::Shared),
-        (ObjOp::Counter(7, CounterOp::Up(0)), Mode::Exclusive),
-        (ObjOp::Counter(7, CounterOp::Down(0)), Mode::Exclusive),
-        (ObjOp::Counter(7, CounterOp::Read), Mode::Shared),
-    ];
-    for (op, mode) in table {
-        let (key, planned) = plan(&op);
-        assert_eq!(rt; planned, mode, "{op:?}");
-        assert_eq!(rt; key, Key::of(&op.cell()), "{op:?}");
-    }
-    let (key, _) = plan(&ObjOp::Element(4, 9, ElementOp::Has));
-    assert_eq!(rt; key, Key::of(&Cell::Element(4, 9)));
+fn keys_and_modes_of_accounts(rt: HostRuntime) {
+    let cell = Cell::Account(1);
+    let write = Mode::Exclusive;
+    planned(&rt, ObjOp::Account(1, AccountOp::Open), cell, write);
+    planned(&rt, ObjOp::Account(1, AccountOp::Close), cell, write);
+    planned(&rt, ObjOp::Account(1, AccountOp::Deposit(0)), cell, write);
+    planned(&rt, ObjOp::Account(1, AccountOp::Withdraw(0)), cell, write);
+    planned(&rt, ObjOp::Account(1, AccountOp::Balance), cell, Mode::Shared);
+}
+
+#[test]
+fn keys_and_modes_of_elements_and_counters(rt: HostRuntime) {
+    let write = Mode::Exclusive;
+    let element = Cell::Element(4, 9);
+    planned(&rt, ObjOp::Element(4, 9, ElementOp::Add), element, write);
+    planned(&rt, ObjOp::Element(4, 9, ElementOp::Remove), element, write);
+    planned(&rt, ObjOp::Element(4, 9, ElementOp::Has), element, Mode::Shared);
+    let counter = Cell::Counter(7);
+    planned(&rt, ObjOp::Counter(7, CounterOp::Up(0)), counter, write);
+    planned(&rt, ObjOp::Counter(7, CounterOp::Down(0)), counter, write);
+    planned(&rt, ObjOp::Counter(7, CounterOp::Read), counter, Mode::Shared);
+}
+
+// Where the record has the value, or there is none, the operation is told this and makes this change.
+fn told(
+    rt: &impl Abort,
+    op: ObjOp,
+    live: Option<Value>,
+    wanted: ObjReply,
+    wanted_change: Option<RecChange>,
+) {
+    let (reply, change) = reply(&op, live);
+    assert_eq!(rt; reply, wanted, "{op:?} at {live:?}");
+    assert_eq!(rt; change, wanted_change, "{op:?} at {live:?}");
+}
+
+fn account(op: AccountOp) -> ObjOp {
+    ObjOp::Account(1, op)
+}
+
+fn element(op: ElementOp) -> ObjOp {
+    ObjOp::Element(4, 9, op)
+}
+
+fn counter(op: CounterOp) -> ObjOp {
+    ObjOp::Counter(7, op)
+}
+
+fn deposit(amount: u64) -> ObjOp {
+    account(AccountOp::Deposit(amount))
+}
+
+fn withdraw(amount: u64) -> ObjOp {
+    account(AccountOp::Withdraw(amount))
 }
 
 fn add(value: Value) -> Option<RecChange> {
@@ -214,115 +254,97 @@ fn set(value: Value) -> Option<RecChange> {
 
 #[test]
 fn replies_from_records_of_accounts(rt: HostRuntime) {
-    let gone = Some(RecChange::ToGhost);
-    let table = [
-        (AccountOp::Open, None, ObjReply::Opened, add(0)),
-        (AccountOp::Open, Some(5), ObjReply::Exists, None),
-        (AccountOp::Close, Some(0), ObjReply::Closed, gone),
-        (AccountOp::Close, Some(1), ObjReply::NotEmpty, None),
-        (AccountOp::Deposit(5), Some(MOST - 5), ObjReply::Done, set(MOST)),
-        (AccountOp::Deposit(6), Some(MOST - 5), ObjReply::Over, None),
-        (AccountOp::Deposit(u64::MAX), Some(MOST), ObjReply::Over, None),
-        (AccountOp::Deposit(0), Some(3), ObjReply::Done, set(3)),
-        (AccountOp::Withdraw(5), Some(5), ObjReply::Done, set(0)),
-        (AccountOp::Withdraw(6), Some(5), ObjReply::Short, None),
-        (AccountOp::Balance, Some(MOST), ObjReply::Is(MOST), None),
-        (AccountOp::Close, None, ObjReply::Missing, None),
-        (AccountOp::Deposit(1), None, ObjReply::Missing, None),
-        (AccountOp::Withdraw(0), None, ObjReply::Missing, None),
-        (AccountOp::Balance, None, ObjReply::Missing, None),
-    ];
-    for (op, live, told, change) in table {
-        assert_eq!(rt; reply(&ObjOp::Account(1, op), live), (told, change), "{op:?}");
-    }
+    let open = ObjOp::Account(1, AccountOp::Open);
+    let close = ObjOp::Account(1, AccountOp::Close);
+    let balance = ObjOp::Account(1, AccountOp::Balance);
+    told(&rt, open, None, ObjReply::Opened, add(0));
+    told(&rt, open, Some(5), ObjReply::Exists, None);
+    told(&rt, close, Some(0), ObjReply::Closed, Some(RecChange::ToGhost));
+    told(&rt, close, Some(1), ObjReply::NotEmpty, None);
+    told(&rt, close, None, ObjReply::Missing, None);
+    told(&rt, balance, Some(MOST), ObjReply::Is(MOST), None);
+    told(&rt, balance, None, ObjReply::Missing, None);
+}
+
+#[test]
+fn replies_to_deposits_and_withdrawals(rt: HostRuntime) {
+    let done = ObjReply::Done;
+    told(&rt, deposit(5), Some(MOST - 5), done, set(MOST));
+    told(&rt, deposit(6), Some(MOST - 5), ObjReply::Over, None);
+    told(&rt, deposit(u64::MAX), Some(MOST), ObjReply::Over, None);
+    told(&rt, deposit(0), Some(3), done, set(3));
+    told(&rt, deposit(1), None, ObjReply::Missing, None);
+    told(&rt, withdraw(5), Some(5), done, set(0));
+    told(&rt, withdraw(6), Some(5), ObjReply::Short, None);
+    told(&rt, withdraw(0), None, ObjReply::Missing, None);
 }
 
 #[test]
 fn replies_from_records_of_elements(rt: HostRuntime) {
     let gone = Some(RecChange::ToGhost);
-    let table = [
-        (ElementOp::Add, None, ObjReply::Added, add(0)),
-        (ElementOp::Add, Some(0), ObjReply::Present, None),
-        (ElementOp::Remove, Some(0), ObjReply::Removed, gone),
-        (ElementOp::Remove, None, ObjReply::Absent, None),
-        (ElementOp::Has, Some(0), ObjReply::Yes, None),
-        (ElementOp::Has, None, ObjReply::No, None),
-    ];
-    for (op, live, told, change) in table {
-        assert_eq!(rt; reply(&ObjOp::Element(4, 9, op), live), (told, change), "{op:?}");
-    }
+    told(&rt, element(ElementOp::Add), None, ObjReply::Added, add(0));
+    told(&rt, element(ElementOp::Add), Some(0), ObjReply::Present, None);
+    told(&rt, element(ElementOp::Remove), Some(0), ObjReply::Removed, gone);
+    told(&rt, element(ElementOp::Remove), None, ObjReply::Absent, None);
+    told(&rt, element(ElementOp::Has), Some(0), ObjReply::Yes, None);
+    told(&rt, element(ElementOp::Has), None, ObjReply::No, None);
 }
 
 #[test]
 fn replies_from_records_of_counters(rt: HostRuntime) {
     let most = u64::MAX;
-    let table = [
-        (CounterOp::Up(6), Some(most), ObjReply::Done, set(5)),
-        (CounterOp::Up(6), None, ObjReply::Done, add(6)),
-        (CounterOp::Up(0), None, ObjReply::Done, add(0)),
-        (CounterOp::Down(6), Some(5), ObjReply::Done, set(most)),
-        (CounterOp::Down(6), None, ObjReply::Done, add(most - 5)),
-        (CounterOp::Down(0), None, ObjReply::Done, add(0)),
-        (CounterOp::Read, Some(5), ObjReply::Is(5), None),
-        (CounterOp::Read, None, ObjReply::Is(0), None),
-    ];
-    for (op, live, told, change) in table {
-        assert_eq!(rt; reply(&ObjOp::Counter(7, op), live), (told, change), "{op:?}");
-    }
+    let done = ObjReply::Done;
+    told(&rt, counter(CounterOp::Up(6)), Some(most), done, set(5));
+    told(&rt, counter(CounterOp::Up(6)), None, done, add(6));
+    told(&rt, counter(CounterOp::Up(0)), None, done, add(0));
+    told(&rt, counter(CounterOp::Down(6)), Some(5), done, set(most));
+    told(&rt, counter(CounterOp::Down(6)), None, done, add(most - 5));
+    told(&rt, counter(CounterOp::Down(0)), None, done, add(0));
+    told(&rt, counter(CounterOp::Read), Some(5), ObjReply::Is(5), None);
+    told(&rt, counter(CounterOp::Read), None, ObjReply::Is(0), None);
 }
 
-fn account(op: AccountOp, reply: ObjReply) -> Done {
-    Done::new(ObjOp::Account(1, op), reply)
-}
-
-fn element(op: ElementOp, reply: ObjReply) -> Done {
-    Done::new(ObjOp::Element(4, 9, op), reply)
-}
-
-fn counter(op: CounterOp, reply: ObjReply) -> Done {
-    Done::new(ObjOp::Counter(7, op), reply)
+fn undone(rt: &impl Abort, op: ObjOp, reply: ObjReply, change: Option<RecChange>) {
+    assert_eq!(rt; inverse(&Done::new(op, reply)), change, "{op:?} told {reply:?}");
 }
 
 #[test]
 fn inverses_of_account_operations(rt: HostRuntime) {
-    let table = [
-        (AccountOp::Open, ObjReply::Opened, Some(RecChange::ToGhost)),
-        (AccountOp::Open, ObjReply::Exists, None),
-        (AccountOp::Close, ObjReply::Closed, Some(RecChange::Revive)),
-        (AccountOp::Close, ObjReply::NotEmpty, None),
-        (AccountOp::Deposit(5), ObjReply::Done, Some(RecChange::Minus(5))),
-        (AccountOp::Deposit(5), ObjReply::Over, None),
-        (AccountOp::Withdraw(5), ObjReply::Done, Some(RecChange::Plus(5))),
-        (AccountOp::Withdraw(5), ObjReply::Short, None),
-        (AccountOp::Balance, ObjReply::Is(5), None),
-        (AccountOp::Close, ObjReply::Missing, None),
-    ];
-    for (op, reply, change) in table {
-        assert_eq!(rt; inverse(&account(op, reply)), change, "{op:?}");
-    }
+    let done = ObjReply::Done;
+    let gone = Some(RecChange::ToGhost);
+    let back = Some(RecChange::Revive);
+    let less = Some(RecChange::Minus(5));
+    let more = Some(RecChange::Plus(5));
+    undone(&rt, account(AccountOp::Open), ObjReply::Opened, gone);
+    undone(&rt, account(AccountOp::Open), ObjReply::Exists, None);
+    undone(&rt, account(AccountOp::Close), ObjReply::Closed, back);
+    undone(&rt, account(AccountOp::Close), ObjReply::NotEmpty, None);
+    undone(&rt, account(AccountOp::Deposit(5)), done, less);
+    undone(&rt, account(AccountOp::Deposit(5)), ObjReply::Over, None);
+    undone(&rt, account(AccountOp::Withdraw(5)), done, more);
+    undone(&rt, account(AccountOp::Withdraw(5)), ObjReply::Short, None);
+    undone(&rt, account(AccountOp::Balance), ObjReply::Is(5), None);
+    undone(&rt, account(AccountOp::Close), ObjReply::Missing, None);
 }
 
 #[test]
 fn inverses_of_element_operations(rt: HostRuntime) {
-    let table = [
-        (ElementOp::Add, ObjReply::Added, Some(RecChange::ToGhost)),
-        (ElementOp::Add, ObjReply::Present, None),
-        (ElementOp::Remove, ObjReply::Removed, Some(RecChange::Revive)),
-        (ElementOp::Remove, ObjReply::Absent, None),
-        (ElementOp::Has, ObjReply::Yes, None),
-        (ElementOp::Has, ObjReply::No, None),
-    ];
-    for (op, reply, change) in table {
-        assert_eq!(rt; inverse(&element(op, reply)), change, "{op:?}");
-    }
+    let gone = Some(RecChange::ToGhost);
+    let back = Some(RecChange::Revive);
+    undone(&rt, element(ElementOp::Add), ObjReply::Added, gone);
+    undone(&rt, element(ElementOp::Add), ObjReply::Present, None);
+    undone(&rt, element(ElementOp::Remove), ObjReply::Removed, back);
+    undone(&rt, element(ElementOp::Remove), ObjReply::Absent, None);
+    undone(&rt, element(ElementOp::Has), ObjReply::Yes, None);
+    undone(&rt, element(ElementOp::Has), ObjReply::No, None);
 }
 
 #[test]
 fn inverses_of_counter_operations(rt: HostRuntime) {
-    let up = counter(CounterOp::Up(5), ObjReply::Done);
-    assert_eq!(rt; inverse(&up), Some(RecChange::Minus(5)));
-    let down = counter(CounterOp::Down(5), ObjReply::Done);
-    assert_eq!(rt; inverse(&down), Some(RecChange::Plus(5)));
-    let read = counter(CounterOp::Read, ObjReply::Is(5));
-    assert_eq!(rt; inverse(&read), None);
+    let done = ObjReply::Done;
+    let less = Some(RecChange::Minus(5));
+    let more = Some(RecChange::Plus(5));
+    undone(&rt, counter(CounterOp::Up(5)), done, less);
+    undone(&rt, counter(CounterOp::Down(5)), done, more);
+    undone(&rt, counter(CounterOp::Read), ObjReply::Is(5), None);
 }
