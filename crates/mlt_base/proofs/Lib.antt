@@ -1,3 +1,4 @@
 pub mod Maps
+pub mod Meanings
 pub mod Steps
 pub mod Texts

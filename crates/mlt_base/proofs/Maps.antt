@@ -93,11 +93,11 @@ pub element_map_updated : (old new : List (ℕ × ℕ)) (k : ℕ × ℕ) (presen
     → finmap.from_entries {R = element_cmp} (with_nothing new) ≡ with_entry (finmap.from_entries (with_nothing old)) k (element_entry present)
 element_map_updated old new k present h =
     map_updated element_cmp_total element_cmp_tells_apart (with_nothing old) (with_nothing new) k (element_entry present) (λ q.
-      same_nothing _ _ (
-        found_key new q ∙ h q
-        ∙ ap (cond (is_at (element_cmp k) q) present) (sym (found_key old q))
-        ∙ sym (there (is_at (element_cmp k) q) present (lookup (is_at (element_cmp q)) (with_nothing old)))
-      ))
+    same_nothing _ _ (
+    found_key new q ∙ h q
+    ∙ ap (cond (is_at (element_cmp k) q) present) (sym (found_key old q))
+    ∙ sym (there (is_at (element_cmp k) q) present (lookup (is_at (element_cmp q)) (with_nothing old)))
+    ))
 
 -- ---- counters
 
@@ -142,8 +142,8 @@ pub counter_map_updated : (old new : List (ℕ × ℕ)) (k v : ℕ)
     → finmap.from_entries {R = nat_cmp} (less_one new) ≡ with_entry (finmap.from_entries (less_one old)) k (counter_entry v)
 counter_map_updated old new k v h =
     number_map_updated (less_one old) (less_one new) k (counter_entry v) (λ q.
-      found_value new q ∙ ap lessened (h q) ∙ lessened_kept (is_at (nat_cmp k) q) v (lookup (is_at (nat_cmp q)) old)
-      ∙ ap (cond (is_at (nat_cmp k) q) (counter_entry v)) (sym (found_value old q)))
+    found_value new q ∙ ap lessened (h q) ∙ lessened_kept (is_at (nat_cmp k) q) v (lookup (is_at (nat_cmp q)) old)
+    ∙ ap (cond (is_at (nat_cmp k) q) (counter_entry v)) (sym (found_value old q)))
 
 pub kept_more : (v : ℕ) → 1 ≤ v → kept v ≡ Some v
 kept_more zero h = absurd (omega arith)

@@ -105,12 +105,7 @@ impl Base {
         Ok(reply)
     }
 
-    fn apply_element(
-        &mut self,
-        set: u16,
-        element: u32,
-        op: ElementOp,
-    ) -> Result<ObjReply, Refusal>
+    fn apply_element(&mut self, set: u16, element: u32, op: ElementOp) -> Result<ObjReply, Refusal>
         ensures step { IfOk result (λ reply. Step self.old (ObjOp.Element set element op, reply) self.new) }
         ensures err { OnErr result (self.new ≡ self.old) }
         ensures growth { OnErr result (MakesObject self.old (ObjOp.Element set element op)) }

@@ -6,10 +6,12 @@ mod accounts;
 mod base;
 mod counters;
 mod elements;
+mod meaning;
 mod record;
 mod text;
 
 pub use base::Base;
+pub use meaning::records_mean_bases;
 pub use record::{RecChange, inverse, plan, reply};
 pub use text::write_base;
 

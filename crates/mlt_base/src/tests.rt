@@ -1,6 +1,6 @@
 //! Operations on a base, its text, and records read as objects.
 
-use crate::{Base, RecChange, inverse, plan, reply, write_base};
+use crate::{Base, RecChange, inverse, plan, records_mean_bases, reply, write_base};
 use mlt_kinds::{AccountOp, CounterOp, Done, ElementOp, ObjOp, ObjReply};
 use mlt_types::{Cell, Key, Mode, Refusal, Value};
 use std::io;
@@ -195,7 +195,12 @@ fn keys_and_modes_of_accounts(rt: HostRuntime) {
     planned(&rt, ObjOp::Account(1, AccountOp::Close), cell, write);
     planned(&rt, ObjOp::Account(1, AccountOp::Deposit(0)), cell, write);
     planned(&rt, ObjOp::Account(1, AccountOp::Withdraw(0)), cell, write);
-    planned(&rt, ObjOp::Account(1, AccountOp::Balance), cell, Mode::Shared);
+    planned(
+        &rt,
+        ObjOp::Account(1, AccountOp::Balance),
+        cell,
+        Mode::Shared,
+    );
 }
 
 #[test]
@@ -204,11 +209,21 @@ fn keys_and_modes_of_elements_and_counters(rt: HostRuntime) {
     let element = Cell::Element(4, 9);
     planned(&rt, ObjOp::Element(4, 9, ElementOp::Add), element, write);
     planned(&rt, ObjOp::Element(4, 9, ElementOp::Remove), element, write);
-    planned(&rt, ObjOp::Element(4, 9, ElementOp::Has), element, Mode::Shared);
+    planned(
+        &rt,
+        ObjOp::Element(4, 9, ElementOp::Has),
+        element,
+        Mode::Shared,
+    );
     let counter = Cell::Counter(7);
     planned(&rt, ObjOp::Counter(7, CounterOp::Up(0)), counter, write);
     planned(&rt, ObjOp::Counter(7, CounterOp::Down(0)), counter, write);
-    planned(&rt, ObjOp::Counter(7, CounterOp::Read), counter, Mode::Shared);
+    planned(
+        &rt,
+        ObjOp::Counter(7, CounterOp::Read),
+        counter,
+        Mode::Shared,
+    );
 }
 
 // Where the record has the value, or there is none, the operation is told this and makes this change.
@@ -259,7 +274,13 @@ fn replies_from_records_of_accounts(rt: HostRuntime) {
     let balance = ObjOp::Account(1, AccountOp::Balance);
     told(&rt, open, None, ObjReply::Opened, add(0));
     told(&rt, open, Some(5), ObjReply::Exists, None);
-    told(&rt, close, Some(0), ObjReply::Closed, Some(RecChange::ToGhost));
+    told(
+        &rt,
+        close,
+        Some(0),
+        ObjReply::Closed,
+        Some(RecChange::ToGhost),
+    );
     told(&rt, close, Some(1), ObjReply::NotEmpty, None);
     told(&rt, close, None, ObjReply::Missing, None);
     told(&rt, balance, Some(MOST), ObjReply::Is(MOST), None);
@@ -283,9 +304,27 @@ fn replies_to_deposits_and_withdrawals(rt: HostRuntime) {
 fn replies_from_records_of_elements(rt: HostRuntime) {
     let gone = Some(RecChange::ToGhost);
     told(&rt, element(ElementOp::Add), None, ObjReply::Added, add(0));
-    told(&rt, element(ElementOp::Add), Some(0), ObjReply::Present, None);
-    told(&rt, element(ElementOp::Remove), Some(0), ObjReply::Removed, gone);
-    told(&rt, element(ElementOp::Remove), None, ObjReply::Absent, None);
+    told(
+        &rt,
+        element(ElementOp::Add),
+        Some(0),
+        ObjReply::Present,
+        None,
+    );
+    told(
+        &rt,
+        element(ElementOp::Remove),
+        Some(0),
+        ObjReply::Removed,
+        gone,
+    );
+    told(
+        &rt,
+        element(ElementOp::Remove),
+        None,
+        ObjReply::Absent,
+        None,
+    );
     told(&rt, element(ElementOp::Has), Some(0), ObjReply::Yes, None);
     told(&rt, element(ElementOp::Has), None, ObjReply::No, None);
 }
@@ -300,12 +339,22 @@ fn replies_from_records_of_counters(rt: HostRuntime) {
     told(&rt, counter(CounterOp::Down(6)), Some(5), done, set(most));
     told(&rt, counter(CounterOp::Down(6)), None, done, add(most - 5));
     told(&rt, counter(CounterOp::Down(0)), None, done, add(0));
-    told(&rt, counter(CounterOp::Read), Some(5), ObjReply::Is(5), None);
+    told(
+        &rt,
+        counter(CounterOp::Read),
+        Some(5),
+        ObjReply::Is(5),
+        None,
+    );
     told(&rt, counter(CounterOp::Read), None, ObjReply::Is(0), None);
 }
 
 fn undone(rt: &impl Abort, op: ObjOp, reply: ObjReply, change: Option<RecChange>) {
-    assert_eq!(rt; inverse(&Done::new(op, reply)), change, "{op:?} told {reply:?}");
+    assert_eq!(rt;
+        inverse(&Done::new(op, reply)),
+        change,
+        "{op:?} told {reply:?}"
+    );
 }
 
 #[test]
@@ -347,4 +396,9 @@ fn inverses_of_counter_operations(rt: HostRuntime) {
     undone(&rt, counter(CounterOp::Up(5)), done, less);
     undone(&rt, counter(CounterOp::Down(5)), done, more);
     undone(&rt, counter(CounterOp::Read), ObjReply::Is(5), None);
+}
+
+#[test]
+fn laws_of_records() {
+    records_mean_bases();
 }

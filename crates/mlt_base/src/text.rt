@@ -18,10 +18,7 @@ use std::collections::{BTreeMap, BTreeSet};
 use std::io::Write;
 
 // Appends a line for each account.
-pub(crate) fn push_accounts(
-    text: &mut String,
-    balances: &BTreeMap<u32, u64>,
-) -> Result<(), Refusal>
+pub(crate) fn push_accounts(text: &mut String, balances: &BTreeMap<u32, u64>) -> Result<(), Refusal>
     ensures text { OnOk result (string_bytes text.new ≡ string_bytes text.old ++ flat_map account_line balances.now.entries) }
     ensures by_number { OnOk result (tree.IsOrdered nat_cmp balances.now) }
     ensures refusal { IfErr result (λ refusal. refusal ≡ Refusal.OutOfMemory) }
@@ -33,10 +30,7 @@ pub(crate) fn push_accounts(
 }
 
 // Appends a line for each element.
-pub(crate) fn push_elements(
-    text: &mut String,
-    keys: &BTreeSet<(u16, u32)>,
-) -> Result<(), Refusal>
+pub(crate) fn push_elements(text: &mut String, keys: &BTreeSet<(u16, u32)>) -> Result<(), Refusal>
     ensures text { OnOk result (string_bytes text.new ≡ string_bytes text.old ++ flat_map key_line keys.now.keys) }
     ensures by_key { OnOk result (sorted.IsOrdered element_cmp keys.now) }
     ensures refusal { IfErr result (λ refusal. refusal ≡ Refusal.OutOfMemory) }
@@ -49,10 +43,7 @@ pub(crate) fn push_elements(
 }
 
 // Appends a line for each counter.
-pub(crate) fn push_counters(
-    text: &mut String,
-    values: &BTreeMap<u32, u64>,
-) -> Result<(), Refusal>
+pub(crate) fn push_counters(text: &mut String, values: &BTreeMap<u32, u64>) -> Result<(), Refusal>
     ensures text { OnOk result (string_bytes text.new ≡ string_bytes text.old ++ flat_map value_line values.now.entries) }
     ensures by_number { OnOk result (tree.IsOrdered nat_cmp values.now) }
     ensures refusal { IfErr result (λ refusal. refusal ≡ Refusal.OutOfMemory) }

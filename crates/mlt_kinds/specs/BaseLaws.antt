@@ -77,13 +77,13 @@ counter_inside s t e = cc
 pub same_base : (b d : Base) → ((c : Cell) → state_at b c ≡ state_at d c) → b ≡ d
 same_base b d h =
     let accounts : b.accounts ≡ d.accounts =
-      map.same_map nat_cmp_total map.nat_cmp-IsAntisymmetric b.accounts d.accounts (λ a. account_inside _ _ (h (Account a)))
+    map.same_map nat_cmp_total map.nat_cmp-IsAntisymmetric b.accounts d.accounts (λ a. account_inside _ _ (h (Account a)))
     in
     let elements : b.elements ≡ d.elements =
-      map.same_map element_cmp_total element_cmp_tells_apart b.elements d.elements (λ k. same_element _ _ (element_inside _ _ (h (Element k.0 k.1))))
+    map.same_map element_cmp_total element_cmp_tells_apart b.elements d.elements (λ k. same_element _ _ (element_inside _ _ (h (Element k.0 k.1))))
     in
     let counters : b.counters ≡ d.counters =
-      map.same_map nat_cmp_total map.nat_cmp-IsAntisymmetric b.counters d.counters (λ c. same_counter _ _ (counter_inside _ _ (h (Counter c))))
+    map.same_map nat_cmp_total map.nat_cmp-IsAntisymmetric b.counters d.counters (λ c. same_counter _ _ (counter_inside _ _ (h (Counter c))))
     in
     λ i. record { accounts = accounts i; elements = elements i; counters = counters i }
 
@@ -107,11 +107,13 @@ cell_one_start _ _ _ _ r h k = absurd (first_of (cc, grind arith))
 -- an operation is told one reply, and leads to one base
 pub base_one_answer : (b c d : Base) (o : ObjOp) (r q : ObjReply) → Step b (o, r) c → Step b (o, q) d → (r ≡ q) × (c ≡ d)
 base_one_answer b c d o r q h k =
-    let one = cell_one_answer o _ _ _ r q h.0 k.0 in
-    (one.0, same_base c d (λ other. elim (one_cell_or_two other (cell_of o)) [
-      | inl e ↦ subst (λ (x : Cell). state_at c x ≡ state_at d x) (sym e) one.1
-      | inr n ↦ h.1 other n ∙ sym (k.1 other n)
-    ]))
+    let one = cell_one_answer o _ _ _ r q h.0 k.0 in (
+      one.0,
+      same_base c d (λ other. elim (one_cell_or_two other (cell_of o)) [
+        | inl e ↦ subst (λ (x : Cell). state_at c x ≡ state_at d x) (sym e) one.1
+        | inr n ↦ h.1 other n ∙ sym (k.1 other n)
+      ]),
+    )
 
 -- an operation with its reply leads to a base from one base
 pub base_one_start : (b c d : Base) (o : ObjOp) (r : ObjReply) → Step b (o, r) d → Step c (o, r) d → b ≡ c
@@ -208,12 +210,18 @@ apart_steps_pass p q apart b m s h k =
     let here : state_at n d ≡ state_at s d = state_here b d (state_at s d) (cell_step_states q _ _ first).1 in
     let there : state_at b c ≡ state_at n c = sym (state_beside b d (state_at s d) c apart) in
     let second : CellStep (state_at n c) p (state_at s c) =
-      subst (λ x. CellStep x p (state_at s c)) there (subst (CellStep (state_at b c) p) (sym (k.1 c apart)) h.0)
-    in
-    (n, to, (second, λ other o. elim (one_cell_or_two other d) [
-      | inl e ↦ subst (λ (x : Cell). state_at s x ≡ state_at n x) (sym e) (sym here)
-      | inr f ↦ k.1 other f ∙ h.1 other o ∙ sym (state_beside b d (state_at s d) other f)
-    ]))
+    subst (λ x. CellStep x p (state_at s c)) there (subst (CellStep (state_at b c) p) (sym (k.1 c apart)) h.0)
+    in (
+      n,
+      to,
+      (
+        second,
+        λ other o. elim (one_cell_or_two other d) [
+          | inl e ↦ subst (λ (x : Cell). state_at s x ≡ state_at n x) (sym e) (sym here)
+          | inr f ↦ k.1 other f ∙ h.1 other o ∙ sym (state_beside b d (state_at s d) other f)
+        ],
+      ),
+    )
 
 -- operations on one cell pass, where they do so on the cell
 pub cell_steps_pass : (p q : ObjOp × ObjReply) → cell_of p.0 ≡ cell_of q.0 → PassesOnCell p q → Passes p q
@@ -226,7 +234,13 @@ cell_steps_pass p q one pass b m s h k =
     let to : Step b q n = step_to b q way.0 way.1 in
     let here : way.0 ≡ state_at n d = sym (state_here b d way.0 (cell_step_states q _ _ way.1).1) in
     let second : CellStep (state_at n d) p (state_at s d) = subst (λ x. CellStep x p (state_at s d)) here way.2 in
-    let second' : CellStep (state_at n c) p (state_at s c) = subst (λ (x : Cell). CellStep (state_at n x) p (state_at s x)) (sym one) second in
-    (n, to, (second', λ other o.
-      let o' : other ≢ d = λ e. o (e ∙ sym one) in
-      k.1 other o' ∙ h.1 other o ∙ sym (state_beside b d way.0 other o')))
+    let second' : CellStep (state_at n c) p (state_at s c) = subst (λ (x : Cell). CellStep (state_at n x) p (state_at s x)) (sym one) second in (
+      n,
+      to,
+      (
+        second',
+        λ other o.
+            let o' : other ≢ d = λ e. o (e ∙ sym one) in
+            k.1 other o' ∙ h.1 other o ∙ sym (state_beside b d way.0 other o'),
+      ),
+    )

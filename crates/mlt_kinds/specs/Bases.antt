@@ -28,10 +28,10 @@ pub record Base : Type 0 where
 abbrev pub coded_base : Coded Base
 coded_base =
     code_by (map.FinMap nat_cmp ℕ × (map.FinMap element_cmp (Unit {0}) × map.FinMap nat_cmp ℕ))
-      (coded× (map.code coded_ℕ coded_ℕ) (coded× (set.code (coded× coded_ℕ coded_ℕ)) (map.code coded_ℕ coded_ℕ)))
-      (λ b. (b.accounts, (b.elements, b.counters)))
-      (λ m. record { accounts = m.0; elements = m.1.0; counters = m.1.1 })
-      (λ _. refl)
+    (coded× (map.code coded_ℕ coded_ℕ) (coded× (set.code (coded× coded_ℕ coded_ℕ)) (map.code coded_ℕ coded_ℕ)))
+    (λ b. (b.accounts, (b.elements, b.counters)))
+    (λ m. record { accounts = m.0; elements = m.1.0; counters = m.1.1 })
+    (λ _. refl)
 
 -- no account and no element, and every counter at 0
 abbrev pub empty_base : Base

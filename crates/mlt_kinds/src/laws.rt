@@ -18,13 +18,11 @@ pub fn steps_of_bases_are_fixed()
     ensures one_start { (b c d : Base) (op : ObjOp) (r : ObjReply) → Step b (op, r) d → Step c (op, r) d → b ≡ c }
     ensures of_the_cell { (b : Base) (x : ObjOp × ObjReply) (s : CellState) → CellStep (state_at b (cell_of x.0)) x s
         → Step b x (with_state b (cell_of x.0) s) }
-{
-}
+{}
 
 /// Operations on different cells pass each other in every base, and operations on one cell do where they do
 /// so on the cell: then the second may come before the first, with the same end.
 pub fn steps_of_bases_pass()
     ensures apart { (p q : ObjOp × ObjReply) → cell_of p.0 ≢ cell_of q.0 → Passes p q }
     ensures on_one_cell { (p q : ObjOp × ObjReply) → cell_of p.0 ≡ cell_of q.0 → PassesOnCell p q → Passes p q }
-{
-}
+{}

@@ -49,7 +49,10 @@ fn texts_of_operations_on_elements(rt: HostRuntime) -> Result<(), AllocError> {
 fn texts_of_operations_on_counters(rt: HostRuntime) -> Result<(), AllocError> {
     let table = [
         (CounterOp::Up(0), "up 4294967295 0"),
-        (CounterOp::Down(u64::MAX), "down 4294967295 18446744073709551615"),
+        (
+            CounterOp::Down(u64::MAX),
+            "down 4294967295 18446744073709551615",
+        ),
         (CounterOp::Read, "read 4294967295"),
     ];
     for (op, text) in table {
@@ -226,5 +229,8 @@ fn cells_of_operations(rt: HostRuntime) {
     assert_eq!(rt; element.cell(), Cell::Element(4, 9));
     let counter = ObjOp::Counter(7, CounterOp::Read);
     assert_eq!(rt; counter.cell(), Cell::Counter(7));
-    assert_eq!(rt; Done::new(element, ObjReply::No).cell(), Cell::Element(4, 9));
+    assert_eq!(rt;
+        Done::new(element, ObjReply::No).cell(),
+        Cell::Element(4, 9)
+    );
 }
