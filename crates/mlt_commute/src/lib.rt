@@ -3,7 +3,7 @@
 //!
 //! An operation with its reply has a class. Of an ordered pair of classes, held and requested, the table says
 //! whether some operations of them, at some state, do not right commute backward (Weihl, IEEE Transactions on
-//! Computers 37(12), 1988, section 3); nothing else is marked. No call takes memory.
+//! Computers 37(12), 1988); nothing else is marked. No call takes memory.
 #![tactic(auto)]
 
 mod accounts;

@@ -5,4 +5,5 @@ pub mod Mixing
 pub mod FirstItems
 pub mod UndoLaws
 pub mod Growing
+pub mod Stages
 pub mod Keeping

@@ -72,6 +72,12 @@ after_entries lists (entry ∷ entries) = after_entries (after_entry lists entry
 abbrev pub lists_of : {P : Type 0} → List (Entry P) → Lists P
 lists_of history = after_entries no_lists history
 
+-- the items that were done, each with its number, in order
+abbrev pub items_done : {P : Type 0} → List (Entry P) → List (ℕ × P)
+items_done [] = []
+items_done (Did i item ∷ entries) = (i, item) ∷ items_done entries
+items_done (_ ∷ entries) = items_done entries
+
 -- the item right commutes backward with each item that the transaction of another number holds
 abbrev pub PassesOthers : {S P : Type 0} → (S → P → S → Type 0) → (ℕ → List P) → ℕ → P → Type 0
 PassesOthers {S} {P} step held i item =

@@ -1,8 +1,10 @@
 //! The laws over whole histories: what a manager of transactions keeps, entry by entry.
 
-ghost use Rattle.std.specs.Prelude.{◌≡◌, ◌≢◌, ℕ, List, [], ◌∷◌, ◌++◌, Contains};
-ghost use Rattle.mlt_order.specs.Histories.{Entry, IsCommitOrderSerializable, IsHistory, MayCome, after_entry, lists_of};
-ghost use Rattle.mlt_order.specs.Histories.Stage.{Running};
+ghost use Rattle.std.specs.Prelude.{◌≡◌, ◌≢◌, ◌↔◌, ℕ, List, [], ◌∷◌, ◌++◌, Contains};
+ghost use Rattle.mlt_order.specs.Histories.{Entry, IsCommitOrderSerializable, IsHistory, MayCome, after_entry, items_done, lists_of};
+ghost use Rattle.mlt_order.specs.Histories.Entry.{Begun};
+ghost use Rattle.mlt_order.specs.Histories.Stage.{Fresh, Running};
+ghost use Rattle.mlt_order.specs.Interleavings.{items_of};
 ghost use Rattle.mlt_order.specs.Tables.{AreFinitelyMany};
 
 use crate::steps::Steps;
@@ -42,6 +44,17 @@ pub fn history_grows<T: Steps>()
 pub fn history_fixes_its_state<T: Steps>()
     ensures { (start one other : T.State) (history : List (Entry T.Item))
         → IsHistory T.step start history one → IsHistory T.step start history other → one ≡ other }
+{}
+
+/// A number is fresh just until its transaction begins, so that none begins twice. A running transaction
+/// holds all that it did, taken back or not.
+pub fn lists_tell_what_was_begun_and_done<T: Steps>()
+    ensures fresh { (start state : T.State) (history : List (Entry T.Item)) (i : ℕ)
+        → IsHistory T.step start history state
+        → ((lists_of history).stage i ≡ Fresh) ↔ (Contains history (Begun i) → ⊥) }
+    ensures held { (start state : T.State) (history : List (Entry T.Item)) (i : ℕ)
+        → IsHistory T.step start history state → (lists_of history).stage i ≡ Running
+        → (lists_of history).held i ≡ items_of i (items_done history) }
 {}
 
 /// What is open is held, and of a number that is not running nothing is open or held.

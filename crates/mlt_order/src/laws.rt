@@ -46,11 +46,13 @@ pub fn commit_keeps_undone_to<T: Steps>()
         → (next : T.State) × Runs T.step base (before i) next × UndoneTo T.step next after state }
 {}
 
-/// At most one base is left when the open transcripts are undone, and at most one is reached by transcripts
-/// that run one after another.
+/// At most one base is left when the open transcripts are undone, the state itself where none is open, and at
+/// most one is reached by transcripts that run one after another.
 pub fn one_base_fits<T: Steps>()
     ensures undone { (one other state : T.State) (transcripts : ℕ → List T.Item) → AreFinitelyMany transcripts
         → UndoneTo T.step one transcripts state → UndoneTo T.step other transcripts state → one ≡ other }
+    ensures nothing_open { (base state : T.State) (transcripts : ℕ → List T.Item) → ((i : ℕ) → transcripts i ≡ [])
+        → UndoneTo T.step base transcripts state → base ≡ state }
     ensures serial { (start one other : T.State) (transcripts : List (List T.Item))
         → IsSerialBase T.step start transcripts one → IsSerialBase T.step start transcripts other
         → one ≡ other }
