@@ -103,7 +103,7 @@ counter_breaks c d s x y break = (
 )
 
 module _ {S O R C : Type 0} (step : S → O → R → S → Type 0) (class_of : O → R → Option C) (marks : C → C → Bool)
-         (exact : (p q : C) → marks p q ≡ true → ClassesConflict step class_of p q) where
+    (exact : (p q : C) → marks p q ≡ true → ClassesConflict step class_of p q) where
   -- items of the classes of these break at some state
   abbrev pub LikeItemsBreak : O × R → O × R → Type 0
   LikeItemsBreak x y =

@@ -54,7 +54,7 @@ pub element_has_rows : HasRows element_class IsLegal next_of amount Fits Legal a
 element_has_rows = record {
   into = λ o r s h. ((fitting o r s).0 h, tt);
   from = λ o r s h f. (fitting o r s).1 h;
-  next = λ o r s h. (fitting o r s).2 h
+  next = λ o r s h. (fitting o r s).2 h;
 }
 
 abbrev Passes : ElementClass → ElementClass → Bool → Type 0

@@ -6,8 +6,8 @@ use Rattle.mlt_commute.specs.Clashes.{marked_classes}
 use Rattle.mlt_commute.specs.Tables.{paired, IsOfClass, BreaksAt, ClassesPass}
 
 module _ {S O R C : Type 0}
-         (class_of : O → R → Option C) (IsLegal : O → R → S → Type 0) (next_of : O → R → S → S)
-         (amount : O → R → ℕ) (Fits : O → Type 0) (Legal : C → ℕ → S → Type 0) (after : C → ℕ → S → S) where
+    (class_of : O → R → Option C) (IsLegal : O → R → S → Type 0) (next_of : O → R → S → S)
+    (amount : O → R → ℕ) (Fits : O → Type 0) (Legal : C → ℕ → S → Type 0) (after : C → ℕ → S → S) where
   -- where a row is legal
   abbrev pub RowIsLegal : Option C → ℕ → S → Type 0
   RowIsLegal None n s = ⊥

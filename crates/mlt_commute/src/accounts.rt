@@ -75,7 +75,13 @@ impl Table for Account {
         let (held_amount, requested_amount, state) = breach(held, requested);
         let (first, first_reply) = item(held, held_amount);
         let (second, second_reply) = item(requested, requested_amount);
-        Some(Example { state, first, first_reply, second, second_reply })
+        Some(Example {
+            state,
+            first,
+            first_reply,
+            second,
+            second_reply,
+        })
     }
 }
 
@@ -102,7 +108,10 @@ fn is_marked(held: AccountClass, requested: AccountClass) -> bool
         AccountClass::Over => matches!(requested, AccountClass::Closed | AccountClass::Withdrawn),
         AccountClass::Withdrawn => matches!(
             requested,
-            AccountClass::Closed | AccountClass::Deposited | AccountClass::Short | AccountClass::Balance
+            AccountClass::Closed
+                | AccountClass::Deposited
+                | AccountClass::Short
+                | AccountClass::Balance
         ),
         AccountClass::Short => matches!(requested, AccountClass::Closed | AccountClass::Deposited),
         AccountClass::Balance => matches!(
@@ -142,12 +151,24 @@ fn breach(held: AccountClass, requested: AccountClass) -> (u64, u64, Option<u64>
         (AccountClass::Deposited, AccountClass::Closed) => (0, 0, Some(0)),
         (AccountClass::Deposited, AccountClass::Over) => (1, 1, Some(MAX_BALANCE - 1)),
         (AccountClass::Over, AccountClass::Closed) => (MAX_BALANCE + 1, 0, Some(0)),
-        (AccountClass::Over, _) | (AccountClass::Withdrawn, AccountClass::Deposited) => (1, 1, Some(MAX_BALANCE)),
+        (AccountClass::Over, _) | (AccountClass::Withdrawn, AccountClass::Deposited) => (
+            1,
+            1,
+            Some(MAX_BALANCE),
+        ),
         (AccountClass::Withdrawn, AccountClass::Balance) => (1, 0, Some(1)),
-        (AccountClass::Withdrawn, _) | (AccountClass::Balance, AccountClass::Withdrawn) => (1, 1, Some(1)),
+        (AccountClass::Withdrawn, _) | (AccountClass::Balance, AccountClass::Withdrawn) => (
+            1,
+            1,
+            Some(1),
+        ),
         (AccountClass::Deposited, _) | (AccountClass::Short, _) => (1, 1, Some(0)),
         (AccountClass::Balance, AccountClass::Deposited) => (0, 1, Some(0)),
-        (AccountClass::Exists, _) | (AccountClass::Closed, _) | (AccountClass::Balance, _) => (0, 0, Some(0)),
+        (AccountClass::Exists, _) | (AccountClass::Closed, _) | (AccountClass::Balance, _) => (
+            0,
+            0,
+            Some(0),
+        ),
         (AccountClass::Opened, _) | (AccountClass::Missing, _) => (0, 0, None),
     }
 }

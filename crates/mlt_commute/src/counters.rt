@@ -53,7 +53,13 @@ impl Table for Counter {
         };
         let (first, first_reply) = item(held, held_amount);
         let (second, second_reply) = item(requested, requested_amount);
-        Some(Example { state, first, first_reply, second, second_reply })
+        Some(Example {
+            state,
+            first,
+            first_reply,
+            second,
+            second_reply,
+        })
     }
 }
 

@@ -62,7 +62,13 @@ impl Table for Element {
         let state = before(held);
         let (first, first_reply) = item(held);
         let (second, second_reply) = item(requested);
-        Some(Example { state, first, first_reply, second, second_reply })
+        Some(Example {
+            state,
+            first,
+            first_reply,
+            second,
+            second_reply,
+        })
     }
 }
 
@@ -102,5 +108,8 @@ fn item(class: ElementClass) -> (ElementOp, ObjReply)
 fn before(class: ElementClass) -> bool
     ensures { result ≡ element_before class }
 {
-    matches!(class, ElementClass::Present | ElementClass::Removed | ElementClass::Yes)
+    matches!(
+        class,
+        ElementClass::Present | ElementClass::Removed | ElementClass::Yes
+    )
 }

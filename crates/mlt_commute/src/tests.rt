@@ -4,9 +4,12 @@ ghost use Rattle.std.specs.Prelude.{◌≡◌};
 
 use crate::{
     AccountClass, CounterClass, ElementClass, Example, Table, clash, clashes_are_exact,
-    every_history_of_bases_is_serializable, operation_without_clash_may_come, steps_of_bases_meet_the_laws,
+    every_history_of_bases_is_serializable, operation_without_clash_may_come,
+    steps_of_bases_meet_the_laws,
 };
-use mlt_kinds::{Account, AccountOp, Counter, CounterOp, Done, Element, ElementOp, Kind, ObjOp, ObjReply};
+use mlt_kinds::{
+    Account, AccountOp, Counter, CounterOp, Done, Element, ElementOp, Kind, ObjOp, ObjReply,
+};
 use std::process::Abort;
 
 const ACCOUNT_CLASSES: [AccountClass; 10] = [
@@ -85,7 +88,9 @@ where
     assert!(rt; first_reply == example.first_reply && second_reply == example.second_reply);
     let (other, second_reply) = K::apply(&example.state, &example.second);
     let (end, first_reply) = K::apply(&other, &example.first);
-    let is_same = first_reply == example.first_reply && second_reply == example.second_reply && end == after;
+    let is_same = first_reply == example.first_reply
+        && second_reply == example.second_reply
+        && end == after;
     assert!(rt; !is_same);
 }
 

@@ -30,11 +30,11 @@ module _ {P : Type 0} where
       let held_now = changed lists.held i (lists.held i ++ p ∷ []) in
       at_each i (λ j. (q : P) → Contains (new.transcripts j) q → Contains (new.held j) q)
       (λ q h.
-          let F : List P → Type 0 = λ l. Contains l q in
-          subst F (sym held_now.0) (elim (Contains-append_cases (lists.transcripts i) (p ∷ []) q (subst F open_now.0 h)) [
-            | inl a ↦ Contains-append_left (lists.held i) (p ∷ []) q (covers i q a)
-            | inr z ↦ Contains-append_right (lists.held i) (p ∷ []) q z
-          ]))
+      let F : List P → Type 0 = λ l. Contains l q in
+      subst F (sym held_now.0) (elim (Contains-append_cases (lists.transcripts i) (p ∷ []) q (subst F open_now.0 h)) [
+        | inl a ↦ Contains-append_left (lists.held i) (p ∷ []) q (covers i q a)
+        | inr z ↦ Contains-append_right (lists.held i) (p ∷ []) q z
+      ]))
       (λ j n q h. let F : List P → Type 0 = λ l. Contains l q in subst F (sym (held_now.1 j n)) (covers j q (subst F (open_now.1 j n) h)))
 
   covers_took_back : (lists : Lists P) (i : ℕ) (rest : List P) (p : P) → lists.transcripts i ≡ rest ++ p ∷ [] → Covers lists → Covers (after_entry lists (TookBack i))
@@ -109,7 +109,7 @@ module _ {S P : Type 0} (step : S → P → S → Type 0) (start : S) where
         serializable = (b.0, b.1, done step b.0 s t i p lists.transcripts g (λ j q n here. h.1 j q n (k.covers j q here)) gains h.2 b.2);
         covers = covers_did lists i p k.covers;
         only = running_changed lists i new (lists.held i ++ p ∷ []) h.0 k.only;
-        mixed = (k.mixed.0 ++ (i, p) ∷ [], interleaving_push i p lists.transcripts g gains k.mixed.0 k.mixed.1)
+        mixed = (k.mixed.0 ++ (i, p) ∷ [], interleaving_push i p lists.transcripts g gains k.mixed.0 k.mixed.1);
       }
 
   kept_took_back : IsInjective step → (lists : Lists P) (s t : S) (i : ℕ) → MayCome step lists s (TookBack i) t → Kept lists s → Kept (after_entry lists (TookBack i)) t
@@ -125,7 +125,7 @@ module _ {S P : Type 0} (step : S → P → S → Type 0) (start : S) where
         serializable = (b.0, b.1, undo step inj b.0 s t i h.1 lists.transcripts g gains h.3 b.2);
         covers = covers_took_back lists i h.0 h.1 h.2 k.covers;
         only = running_took_back lists i k.only;
-        mixed = (popped.0.0 ++ popped.0.1, popped.1)
+        mixed = (popped.0.0 ++ popped.0.1, popped.1);
       }
 
   kept_committed : IsFunctional step → (lists : Lists P) (s : S) (i : ℕ) → Kept lists s → Kept (after_entry lists (Committed i)) s
@@ -140,7 +140,7 @@ module _ {S P : Type 0} (step : S → P → S → Type 0) (start : S) where
         serializable = (r.0, serial_push step lists.committed (lists.transcripts i) start b.0 r.0 b.1 r.1, r.2);
         covers = covers_ended lists i k.covers;
         only = running_ended lists i k.only;
-        mixed = (m, mixes)
+        mixed = (m, mixes);
       }
 
   kept_closed : (lists : Lists P) (s : S) (i : ℕ) → lists.transcripts i ≡ [] → Kept lists s → Kept (after_entry lists (Closed i)) s
@@ -152,7 +152,7 @@ module _ {S P : Type 0} (step : S → P → S → Type 0) (start : S) where
         serializable = (b.0, b.1, begin step b.0 s i lists.transcripts g none emptied b.2);
         covers = covers_ended lists i k.covers;
         only = running_ended lists i k.only;
-        mixed = (without i k.mixed.0, interleaving_without i lists.transcripts g emptied k.mixed.0 k.mixed.1)
+        mixed = (without i k.mixed.0, interleaving_without i lists.transcripts g emptied k.mixed.0 k.mixed.1);
       }
 
   kept : IsFunctional step → IsInjective step → (lists : Lists P) (s : S) (entry : Entry P) (t : S) → MayCome step lists s entry t → Kept lists s → Kept (after_entry lists entry) t
@@ -175,7 +175,7 @@ module _ {S P : Type 0} (step : S → P → S → Type 0) (start : S) where
     );
     covers = λ j q h. h;
     only = λ j h. (refl, refl);
-    mixed = ([], λ i. refl)
+    mixed = ([], λ i. refl);
   }
 
   pub kept_by_history : IsFunctional step → IsInjective step → (history : List (Entry P)) (s : S) → MayFollow step no_lists start history s → Kept (after_entries no_lists history) s

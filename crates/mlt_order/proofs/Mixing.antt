@@ -16,8 +16,8 @@ module _ {P : Type 0} where
       at_each i (λ j. items_of j (m ++ (i, p) ∷ []) ≡ g j)
       (items_of-append i m ((i, p) ∷ []) ∙ ap (λ l. items_of i m ++ l) (items_of-same i (i, p) [] refl) ∙ ap (λ l. l ++ p ∷ []) (mixes i) ∙ sym gains.0)
       (λ j n.
-          items_of-append j m ((i, p) ∷ []) ∙ ap (λ l. items_of j m ++ l) (items_of-other j (i, p) [] (λ e. n (sym e))) ∙
-          append-nil (items_of j m) ∙ mixes j ∙ sym (gains.1 j n))
+      items_of-append j m ((i, p) ∷ []) ∙ ap (λ l. items_of j m ++ l) (items_of-other j (i, p) [] (λ e. n (sym e))) ∙
+      append-nil (items_of j m) ∙ mixes j ∙ sym (gains.1 j n))
 
   -- the list under i before all others
   pub interleaving_before : (i : ℕ) (f g : ℕ → List P) → IsEmptied f g i → (m : List (ℕ × P)) → IsInterleaving g m → IsInterleaving f (numbered i (f i) ++ m)
@@ -26,7 +26,7 @@ module _ {P : Type 0} where
       (items_of-append i (numbered i (f i)) m ∙ ap (λ l. l ++ items_of i m) (items_of-numbered_same i (f i)) ∙ ap (λ l. f i ++ l) (mixes i ∙ emptied.0) ∙
       append-nil (f i))
       (λ j n.
-          items_of-append j (numbered i (f i)) m ∙ ap (λ l. l ++ items_of j m) (items_of-numbered_other i j (f i) n) ∙ mixes j ∙ emptied.1 j n)
+      items_of-append j (numbered i (f i)) m ∙ ap (λ l. l ++ items_of j m) (items_of-numbered_other i j (f i) n) ∙ mixes j ∙ emptied.1 j n)
 
   -- the item that stands last under i is taken out
   pub interleaving_pop : (i : ℕ) (p : P) (f g : ℕ → List P) → Gains f g i p → (m : List (ℕ × P)) → IsInterleaving g m →
@@ -37,8 +37,8 @@ module _ {P : Type 0} where
         at_each i (λ j. items_of j (l.0 ++ l.1) ≡ f j)
             (items_of-append i l.0 l.1 ∙ ap (λ z. items_of i l.0 ++ z) l.4 ∙ append-nil (items_of i l.0) ∙ l.3)
             (λ j n.
-                items_of-append j l.0 l.1 ∙ ap (λ z. items_of j l.0 ++ z) (sym (items_of-other j (i, p) l.1 (λ e. n (sym e)))) ∙
-                sym (ap (items_of j) l.2 ∙ items_of-append j l.0 ((i, p) ∷ l.1)) ∙ mixes j ∙ gains.1 j n),
+            items_of-append j l.0 l.1 ∙ ap (λ z. items_of j l.0 ++ z) (sym (items_of-other j (i, p) l.1 (λ e. n (sym e)))) ∙
+            sym (ap (items_of j) l.2 ∙ items_of-append j l.0 ((i, p) ∷ l.1)) ∙ mixes j ∙ gains.1 j n),
       )
 
   -- all items of i are taken out
@@ -73,8 +73,7 @@ module _ {P : Type 0} where
       )
 
   pub finitely_many_mix : (lists : ℕ → List P) → AreFinitelyMany lists ↔ ((m : List (ℕ × P)) × IsInterleaving lists m)
-  finitely_many_mix lists =
-      (
-        λ finite. mix_below finite.0 lists finite.1,
-        λ mixed. let bounded = numbers_are_bounded mixed.0 in (bounded.0, λ i h. sym (mixed.1 i) ∙ bounded.1 i h),
-      )
+  finitely_many_mix lists = (
+    λ finite. mix_below finite.0 lists finite.1,
+    λ mixed. let bounded = numbers_are_bounded mixed.0 in (bounded.0, λ i h. sym (mixed.1 i) ∙ bounded.1 i h),
+  )

@@ -49,7 +49,7 @@ abbrev pub ended : {P : Type 0} → Lists P → ℕ → Lists P
 ended lists i = record lists {
   stage = with_entry lists.stage i Stage.Ended;
   transcripts = with_entry lists.transcripts i [];
-  held = with_entry lists.held i []
+  held = with_entry lists.held i [];
 }
 
 -- the lists after one more entry
@@ -57,7 +57,7 @@ abbrev pub after_entry : {P : Type 0} → Lists P → Entry P → Lists P
 after_entry lists (Begun i) = record lists { stage = with_entry lists.stage i Stage.Running }
 after_entry lists (Did i item) = record lists {
   transcripts = with_entry lists.transcripts i (lists.transcripts i ++ item ∷ []);
-  held = with_entry lists.held i (lists.held i ++ item ∷ [])
+  held = with_entry lists.held i (lists.held i ++ item ∷ []);
 }
 after_entry lists (TookBack i) = record lists { transcripts = with_entry lists.transcripts i (but_last (lists.transcripts i)) }
 after_entry lists (Committed i) = record (ended lists i) { committed = lists.committed ++ lists.transcripts i ∷ [] }

@@ -24,7 +24,7 @@ pub fn last_item_can_be_taken_back<T: Steps>()
     ensures { (start state : T.State) (history : List (Entry T.Item)) (i : ℕ) (rest : List T.Item) (item : T.Item)
         → IsHistory T.step start history state → (lists_of history).transcripts i ≡ rest ++ item ∷ []
         → (earlier : T.State) × T.step earlier item state
-            × ((other : T.State) → T.step other item state → other ≡ earlier) }
+        × ((other : T.State) → T.step other item state → other ≡ earlier) }
 {}
 
 /// A history grows at its end by an entry that may come, and its lists by that entry; each front of a history

@@ -22,7 +22,7 @@ pub fn begin_keeps_undone_to<T: Steps>()
 pub fn done_keeps_undone_to<T: Steps>()
     ensures { (base state next : T.State) (i : ℕ) (item : T.Item) (before after : ℕ → List T.Item)
         → ((j : ℕ) (earlier : T.Item) → j ≢ i → Contains (before j) earlier
-            → RightCommutesBackward T.step earlier item)
+        → RightCommutesBackward T.step earlier item)
         → Gains before after i item → T.step state item next
         → UndoneTo T.step base before state → UndoneTo T.step base after next }
 {}
@@ -36,7 +36,7 @@ pub fn undo_keeps_undone_to<T: Steps>()
     ensures goes { (base state : T.State) (i : ℕ) (item : T.Item) (before after : ℕ → List T.Item)
         → Gains after before i item → AreFinitelyMany before → UndoneTo T.step base before state
         → (earlier : T.State) × T.step earlier item state
-            × ((other : T.State) → T.step other item state → other ≡ earlier) }
+        × ((other : T.State) → T.step other item state → other ≡ earlier) }
 {}
 
 /// A transcript that commits runs alone from the base, and where it ends is the base of what stays open.

@@ -14,12 +14,13 @@ mod laws;
 mod steps;
 
 pub use history::{
-    every_history_is_serializable, history_fixes_its_state, history_grows, last_item_can_be_taken_back,
-    lists_hold_what_is_open, lists_tell_what_was_begun_and_done,
+    every_history_is_serializable, history_fixes_its_state, history_grows,
+    last_item_can_be_taken_back, lists_hold_what_is_open, lists_tell_what_was_begun_and_done,
 };
 pub use laws::{
-    begin_keeps_undone_to, commit_keeps_undone_to, done_keeps_undone_to, finitely_many_have_an_interleaving,
-    interleavings_take_first_items, one_base_fits, undo_keeps_undone_to,
+    begin_keeps_undone_to, commit_keeps_undone_to, done_keeps_undone_to,
+    finitely_many_have_an_interleaving, interleavings_take_first_items, one_base_fits,
+    undo_keeps_undone_to,
 };
 pub use steps::Steps;
 

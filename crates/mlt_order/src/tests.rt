@@ -3,9 +3,10 @@
 ghost use Rattle.std.specs.Prelude.{◌≡◌};
 
 use crate::{
-    Steps, begin_keeps_undone_to, commit_keeps_undone_to, done_keeps_undone_to, every_history_is_serializable,
-    finitely_many_have_an_interleaving, history_fixes_its_state, history_grows, interleavings_take_first_items,
-    last_item_can_be_taken_back, lists_hold_what_is_open, lists_tell_what_was_begun_and_done, one_base_fits,
+    Steps, begin_keeps_undone_to, commit_keeps_undone_to, done_keeps_undone_to,
+    every_history_is_serializable, finitely_many_have_an_interleaving, history_fixes_its_state,
+    history_grows, interleavings_take_first_items, last_item_can_be_taken_back,
+    lists_hold_what_is_open, lists_tell_what_was_begun_and_done, one_base_fits,
     undo_keeps_undone_to,
 };
 
