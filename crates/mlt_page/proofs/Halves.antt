@@ -16,5 +16,5 @@ next_half f slots half n s d slots_sized sized within is halves k lt = grind (ar
 pub all_halves : (f : Slot → Slot) (slots half : List Slot) (bucket : BucketFields) (depth : ℕ) → slots ≡ bucket.slots → length slots ≡ 8 → length half ≡ 8 → AreHalves f slots half 8 → ◌≡◌ {A = BucketFields} (record { depth = depth; slots = half }) (record { depth = depth; slots = map f bucket.slots })
 all_halves f slots half bucket depth of_bucket slots_sized half_sized halves =
     let same = ext_get_or Free half (map f slots) (half_sized ∙ sym slots_sized ∙ sym (length-map slots f)) (λ k lt.
-        halves k (omega (arith, half_sized, lt)) ∙ sym (get_or-map f slots k Free Free (omega (arith, slots_sized, half_sized, lt)))) in
+    halves k (omega (arith, half_sized, lt)) ∙ sym (get_or-map f slots k Free Free (omega (arith, slots_sized, half_sized, lt)))) in
     λ i. record { depth = depth; slots = (same ∙ ap (map f) of_bucket) i }

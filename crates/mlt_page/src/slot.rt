@@ -52,12 +52,7 @@ impl Slot {
 
     /// What stands at this place in the two halves of a split by the bit behind the first `place` of
     /// pseudokeys: in the half of the keys with 0 there, and in that of the keys with 1.
-    pub(crate) fn halves<P: Pseudo>(
-        &self,
-        place: u8,
-        pseudo: &P,
-        opens: &OpenSet,
-    ) -> (Slot, Slot)
+    pub(crate) fn halves<P: Pseudo>(&self, place: u8, pseudo: &P, opens: &OpenSet) -> (Slot, Slot)
         requires { place < 64 }
         ensures zero { result.0 ≡ half (P.bits_of pseudo.now) opens.now place 0 self.now }
         ensures one { result.1 ≡ half (P.bits_of pseudo.now) opens.now place 1 self.now }

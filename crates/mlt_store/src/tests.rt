@@ -6,10 +6,7 @@ use mlt_types::{Limits, PageNo, Refusal};
 use std::test::Fail;
 
 fn empty(rt: &HostRuntime, max_pages: u32) -> Result<Store, Refusal> {
-    Ok(Store::new(
-        rt.alloc(),
-        &Limits::checked(64, 1, max_pages, 0, 1)?,
-    ))
+    Ok(Store::new(rt.alloc(), &Limits::checked(64, 1, max_pages, 0, 1)?))
 }
 
 fn bucket(depth: u8) -> Page {

@@ -9,8 +9,8 @@ use Rattle.mlt_store.proofs.store.Store.write.Goals.{in-Some, in-None}
 
 pub returns-clause-pages : goal.returns-clause-pages
 returns-clause-pages c = elim c.match-get_mut.branch [
-    | in-Some w ↦ λ _.
-        ap (λ (s : Inside). record { pages = pages_of s.pages; max_pages = s.max_pages }) w.self-inside-is
-        ∙ page_written c.self.inside.pages c.self.inside.max_pages c.number.inside.0 c.args.number w.in-Some.place.now c.args.page c.args.self.now c.self.view_is c.number.view_is (sym c.get_mut.follows ∙ ap option_copied_mut w.in-Some.is)
-    | in-None w ↦ λ yes. absurd (false≢true (sym w.result-is ∙ yes))
-  ]
+  | in-Some w ↦ λ _.
+      ap (λ (s : Inside). record { pages = pages_of s.pages; max_pages = s.max_pages }) w.self-inside-is
+      ∙ page_written c.self.inside.pages c.self.inside.max_pages c.number.inside.0 c.args.number w.in-Some.place.now c.args.page c.args.self.now c.self.view_is c.number.view_is (sym c.get_mut.follows ∙ ap option_copied_mut w.in-Some.is)
+  | in-None w ↦ λ yes. absurd (false≢true (sym w.result-is ∙ yes))
+]
