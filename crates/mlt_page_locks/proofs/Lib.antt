@@ -1,0 +1,4 @@
+pub mod Pages
+pub mod Tables
+pub mod Conflicts
+pub mod Grants

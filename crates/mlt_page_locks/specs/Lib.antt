@@ -1,0 +1,5 @@
+pub mod Maps
+pub mod LockTables
+pub mod Requests
+pub mod LockLaws
+pub mod LockLists

@@ -1,0 +1,149 @@
+//! The locks of one transaction, in a list that is scanned.
+
+ghost use Rattle.std.specs.Prelude.{◌≡◌, ◌==◌, ◌≤◌, ◌&&◌, not, position};
+ghost use Rattle.std.specs.FinMap as map;
+ghost use Rattle.mlt_page_locks.specs.Requests.{stronger, with_page, is_against};
+ghost use Rattle.mlt_page_locks.specs.LockTables.{goes_with};
+ghost use Rattle.mlt_page_locks.specs.LockLists.{is_free, is_list_of};
+
+use arrayvec::ArrayVec;
+use mlt_types::{Mode, PageNo, TxId};
+use std::marker::Model;
+
+/// A lock on one page.
+#[derive(Clone, Copy, Debug)]
+pub(crate) struct PageLock {
+    pub page: PageNo,
+    pub mode: Mode,
+}
+
+impl Default for PageLock {
+    fn default() -> PageLock {
+        PageLock {
+            page: PageNo(0),
+            mode: Mode::Shared,
+        }
+    }
+}
+
+/// The locks of one transaction, at most 300; a list with no lock is nobody's. A contract sees the number of the
+/// transaction and a map from its pages to their modes.
+#[derive(Drop)]
+pub(crate) struct LockList {
+    tx: TxId,
+    locks: ArrayVec<PageLock, 300>,
+}
+
+impl Model for LockList {
+    ghost use Rattle.std.specs.Prelude.{◌≡◌, length};
+    ghost use Rattle.std.specs.FinMap as map;
+    ghost use Rattle.mlt_page_locks.specs.LockLists.{HeldPages, coded_pages, modes_of};
+
+    ghost Value = { HeldPages };
+
+    ghost coded = { coded_pages };
+
+    ghost view = { λ list. record { tx = list.tx; modes = modes_of list.locks.items } };
+
+    ghost invariant = { λ list. map.len (modes_of list.locks.items) ≡ length list.locks.items };
+}
+
+impl LockList {
+    /// A list with no lock.
+    pub fn new() -> LockList
+        ensures { result ≡ record { tx = 0; modes = map.empty } }
+    {
+        LockList {
+            tx: TxId(0),
+            locks: ArrayVec::new(),
+        }
+    }
+
+    /// Whether the list has no lock.
+    pub fn is_free(&self) -> bool
+        ensures { result ≡ is_free self.now }
+    {
+        self.locks.is_empty()
+    }
+
+    /// Whose locks these are. A list with no lock has a number too, which says nothing.
+    pub fn tx(&self) -> TxId
+        ensures { result ≡ self.now.tx }
+    {
+        self.tx
+    }
+
+    /// Whether these are locks of `tx`.
+    pub fn is_of(&self, tx: TxId) -> bool
+        ensures { result ≡ is_list_of tx self.now }
+    {
+        self.tx == tx && !self.is_free()
+    }
+
+    /// The mode in which a page is held, if it is.
+    pub fn mode_of(&self, page: PageNo) -> Option<Mode>
+        ensures { result ≡ map.get self.now.modes page }
+    {
+        let place = place_of(&self.locks, page)?;
+        Some(self.locks[place].mode)
+    }
+
+    /// Whether another transaction has a lock here that does not go with one of `tx`.
+    pub fn conflicts(&self, tx: TxId, page: PageNo, mode: Mode) -> bool
+        ensures { result ≡ (not (self.now.tx == tx) && is_against (map.get self.now.modes page) mode) }
+    {
+        self.tx != tx
+            && self
+                .mode_of(page)
+                .is_some_and(|held| !goes_with(held, mode))
+    }
+
+    /// Makes the list that of `tx`.
+    pub fn give_to(&mut self, tx: TxId)
+        ensures { self.new ≡ record { tx = tx; modes = self.old.modes } }
+    {
+        self.tx = tx;
+    }
+
+    /// Adds a lock, or makes one that is there stronger.
+    pub fn add(&mut self, page: PageNo, mode: Mode)
+        requires { map.len (map.insert self.old.modes page mode) ≤ 300 }
+        ensures { self.new ≡ record { tx = self.old.tx; modes = with_page self.old.modes page mode } }
+    {
+        match place_of(&self.locks, page) {
+            Some(place) => {
+                let mode = stronger(self.locks[place].mode, mode);
+                self.locks[place] = PageLock { page, mode };
+            }
+            None => self.locks.push(PageLock { page, mode }),
+        }
+    }
+
+    /// Takes all locks away.
+    pub fn clear(&mut self)
+        ensures { self.new ≡ record { tx = self.old.tx; modes = map.empty } }
+    {
+        self.locks.clear();
+    }
+}
+
+fn place_of(locks: &[PageLock], page: PageNo) -> Option<usize>
+    ensures { result ≡ position (λ lock. lock.page == page) locks.now }
+{
+    locks.iter().position(|lock| lock.page == page)
+}
+
+fn goes_with(held: Mode, asked: Mode) -> bool
+    ensures { result ≡ goes_with held asked }
+{
+    held == Mode::Shared && asked == Mode::Shared
+}
+
+fn stronger(held: Mode, asked: Mode) -> Mode
+    ensures { result ≡ stronger (Some held) asked }
+{
+    match held {
+        Mode::Shared => asked,
+        Mode::Exclusive => Mode::Exclusive,
+    }
+}

@@ -1,0 +1,15 @@
+-- The images that a list makes.
+use Rattle.std.specs.Prelude.{◌≡◌, ◌+◌, ◌<◌, List, [], ◌∷◌, ◌++◌, length}
+use Rattle.std.specs.FinMap as map
+use Rattle.mlt_subtx.specs.declared.image.Image.{Image}
+use Rattle.mlt_subtx.specs.Images.{Images}
+
+-- each image under its page
+abbrev pub images_of : List Image → Images
+images_of [] = map.empty
+images_of (image ∷ images) = map.insert (images_of images) image.page image.first
+
+-- each page has one image, and images are put behind the first two only once there are two
+pub record IsKept (near far : List Image) : Type 0 where
+  pub once : map.len (images_of (near ++ far)) ≡ length near + length far
+  pub near_first : 0 < length far → length near ≡ 2

@@ -1,0 +1,46 @@
+//! First images of pages.
+
+ghost use Rattle.std.specs.Prelude.{◌≡◌, ◌==◌, true, is_some};
+ghost use Rattle.std.specs.List.{list_any};
+ghost use Rattle.mlt_store.specs.Stores.{page_at};
+ghost use Rattle.mlt_subtx.specs.Images.{with_first};
+
+use mlt_page::Page;
+use mlt_store::Store;
+use mlt_types::PageNo;
+
+/// What a page had before a subtransaction first wrote it: nothing, where it was made then.
+#[derive(Clone, Copy, Debug)]
+pub(crate) struct Image {
+    pub page: PageNo,
+    pub first: Option<Page>,
+}
+
+impl Default for Image {
+    fn default() -> Image {
+        Image {
+            page: PageNo(0),
+            first: None,
+        }
+    }
+}
+
+impl Image {
+    /// Gives the page what it had at first, or drops it.
+    pub fn put_back(&self, store: &mut Store)
+        requires { is_some (page_at store.old.pages self.now.page) ≡ true }
+        ensures { store.new ≡ record store.old { pages = with_first store.old.pages self.now.page self.now.first } }
+    {
+        match self.first {
+            Some(page) => store.write(self.page, page),
+            None => store.drop_page(self.page),
+        };
+    }
+}
+
+/// Whether one of the images is of this page.
+pub(crate) fn has_image(images: &[Image], page: PageNo) -> bool
+    ensures { result ≡ list_any (λ image. image.page == page) images.now }
+{
+    images.iter().any(|image| image.page == page)
+}

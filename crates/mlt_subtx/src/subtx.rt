@@ -1,0 +1,180 @@
+//! Subtransactions.
+
+ghost use Rattle.std.specs.Prelude.{◌≡◌, ◌≤◌, ◌<◌, ◌+◌, ◌==◌, ◌++◌, [], ◌∷◌, ◌⊎◌, ◌↔◌, ℕ, length, true, false, is_some, None, Some, Err, IfOk, IfErr, OnOk, OnErr, option_copied};
+ghost use Rattle.std.specs.FinMap as map;
+ghost use Rattle.mlt_types.specs.declared.mode.Mode.TheVariants.{Exclusive};
+ghost use Rattle.mlt_store.specs.Stores.{page_at};
+ghost use Rattle.mlt_page_locks.specs.LockTables.{AreCompatible};
+ghost use Rattle.mlt_page_locks.specs.Requests.{granted, released};
+ghost use Rattle.mlt_subtx.specs.Images.{image_of, with_image, put_back, AreThere, started};
+ghost use Rattle.mlt_subtx.specs.ImageLists.{images_of, IsKept};
+ghost use Rattle.mlt_subtx.specs.Locking.{LocksPagesThere, HasRoomForOneMore};
+
+use crate::image::{Image, has_image};
+use arrayvec::ArrayVec;
+use mlt_page::Page;
+use mlt_page_locks::{Grant, PageLocks};
+use mlt_store::Store;
+use mlt_types::{Mode, PageNo, Refusal, TxId};
+use std::alloc::Global;
+use std::marker::Model;
+
+/// A running subtransaction of a transaction: the first images of the pages that it has written or made. Room for
+/// two images is in the value. A contract sees the number of the transaction and a map of images.
+///
+/// That a page is locked before it is read or written is the caller's part.
+#[derive(Drop)]
+pub struct Subtx {
+    tx: TxId,
+    near: ArrayVec<Image, 2>,
+    far: Vec<Image>,
+}
+
+impl Model for Subtx {
+    ghost use Rattle.std.specs.Prelude.{◌++◌};
+    ghost use Rattle.mlt_subtx.specs.Images.{Running, coded_running};
+    ghost use Rattle.mlt_subtx.specs.ImageLists.{images_of, IsKept};
+
+    ghost Value = { Running };
+
+    ghost coded = { coded_running };
+
+    ghost view = { λ s. record { tx = s.tx; images = images_of (s.near.items ++ s.far.items) } };
+
+    ghost invariant = { λ s. IsKept s.near.items s.far.items };
+}
+
+impl Subtx {
+    /// A subtransaction of `tx` that has written nothing.
+    pub fn start(alloc: Global, tx: TxId) -> Subtx
+        ensures { result ≡ started tx }
+    {
+        Subtx {
+            tx,
+            near: ArrayVec::new(),
+            far: Vec::new(alloc),
+        }
+    }
+
+    /// Reads a page.
+    pub fn read<'a>(&self, store: &'a Store, number: PageNo) -> Option<&'a Page>
+        ensures { option_copied result ≡ page_at store.now.pages number }
+    {
+        store.read(number)
+    }
+
+    /// Writes a page that is there. The first time, the page is kept as it was.
+    ///
+    /// # Errors
+    /// `OutOfMemory`, where the page is at least the third and a growth was refused. Then nothing has changed.
+    pub fn write(&mut self, store: &mut Store, number: PageNo, page: Page) -> Result<(), Refusal>
+        requires { is_some (page_at store.old.pages number) ≡ true }
+        ensures store { OnOk result (store.new ≡ record store.old { pages = map.insert store.old.pages number page }) }
+        ensures images { OnOk result (self.new ≡ record self.old { images = with_image self.old.images number (page_at store.old.pages number) }) }
+        ensures kept { OnOk result (put_back self.new.images store.new.pages ≡ put_back self.old.images store.old.pages) }
+        ensures err { OnErr result ((self.new ≡ self.old) × (store.new ≡ store.old)) }
+        ensures third { OnErr result ((2 ≤ map.len self.old.images) × (image_of self.old.images number ≡ None)) }
+        ensures refusal { IfErr result (λ refusal. refusal ≡ Refusal.OutOfMemory) }
+    {
+        if !self.has_image(number) {
+            let first = self.read(store, number).copied();
+            self.keep(number, first)?;
+        }
+        store.write(number, page);
+        Ok(())
+    }
+
+    /// Makes a page and locks it exclusively.
+    ///
+    /// # Errors
+    /// `NoRoom` exactly where the store has as many pages as it may have; else `OutOfMemory`, where a growth was
+    /// refused. Then nothing has changed.
+    pub fn grow(
+        &mut self,
+        store: &mut Store,
+        locks: &mut PageLocks,
+        page: Page,
+    ) -> Result<PageNo, Refusal>
+        requires there { AreThere self.old.images store.old.pages }
+        requires unlocked { LocksPagesThere locks.old store.old.pages }
+        requires room { HasRoomForOneMore locks.old self.old.tx }
+        ensures fresh { IfOk result (λ number. page_at store.old.pages number ≡ None) }
+        ensures store { IfOk result (λ number. store.new ≡ record store.old { pages = map.insert store.old.pages number page }) }
+        ensures images { IfOk result (λ number. self.new ≡ record self.old { images = map.insert self.old.images number None }) }
+        ensures locks { IfOk result (λ number. locks.new ≡ granted locks.old self.old.tx number Exclusive) }
+        ensures kept { OnOk result (put_back self.new.images store.new.pages ≡ put_back self.old.images store.old.pages) }
+        ensures err { OnErr result ((self.new ≡ self.old) × (store.new ≡ store.old) × (locks.new ≡ locks.old)) }
+        ensures no_room { (result ≡ Err Refusal.NoRoom) ↔ (map.len store.old.pages ≡ store.old.max_pages) }
+        ensures refusal { IfErr result (λ refusal. (refusal ≡ Refusal.NoRoom) ⊎ (refusal ≡ Refusal.OutOfMemory)) }
+    {
+        let number = store.grow(page)?;
+        if let Err(refusal) = self.keep(number, None) {
+            store.drop_page(number);
+            return Err(refusal);
+        }
+        match locks.ask(self.tx, number, Mode::Exclusive) {
+            Grant::Held => Ok(number),
+            Grant::Waiting(_) => unreachable!(),
+        }
+    }
+
+    /// Puts the first images back, drops the pages that were made, the last one first, and releases all locks. The
+    /// subtransaction is then as one that has just started.
+    pub fn roll_back(&mut self, store: &mut Store, locks: &mut PageLocks)
+        requires { AreThere self.old.images store.old.pages }
+        ensures store { store.new ≡ record store.old { pages = put_back self.old.images store.old.pages } }
+        ensures locks { locks.new ≡ released locks.old self.old.tx }
+        ensures images { self.new ≡ started self.old.tx }
+    {
+        put_all_back(&mut self.far, &mut self.near, store);
+        locks.release_all(self.tx);
+    }
+
+    /// Keeps what was written and releases all locks. The subtransaction is then as one that has just started.
+    pub fn end(&mut self, locks: &mut PageLocks)
+        ensures locks { locks.new ≡ released locks.old self.old.tx }
+        ensures images { self.new ≡ started self.old.tx }
+    {
+        self.near.clear();
+        self.far.clear();
+        locks.release_all(self.tx);
+    }
+
+    fn has_image(&self, page: PageNo) -> bool
+        ensures { result ≡ is_some (image_of self.now.images page) }
+    {
+        has_image(&self.near, page) || has_image(&self.far, page)
+    }
+
+    // Keeps the first image of a page that has none.
+    fn keep(&mut self, page: PageNo, first: Option<Page>) -> Result<(), Refusal>
+        requires { image_of self.old.images page ≡ None }
+        ensures ok { OnOk result (self.new ≡ record self.old { images = map.insert self.old.images page first }) }
+        ensures err { OnErr result (self.new ≡ self.old) }
+        ensures third { OnErr result (2 ≤ map.len self.old.images) }
+        ensures refusal { IfErr result (λ refusal. refusal ≡ Refusal.OutOfMemory) }
+    {
+        let image = Image { page, first };
+        if self.near.is_full() {
+            self.far.push(image)?;
+        } else {
+            self.near.push(image);
+        }
+        Ok(())
+    }
+}
+
+fn put_all_back(far: &mut Vec<Image>, near: &mut ArrayVec<Image, 2>, store: &mut Store)
+    requires kept { IsKept near.old.items far.old.items }
+    requires there { AreThere (images_of (near.old.items ++ far.old.items)) store.old.pages }
+    ensures store { store.new ≡ record store.old { pages = put_back (images_of (near.old.items ++ far.old.items)) store.old.pages } }
+    ensures far { far.new.items ≡ [] }
+    ensures near { near.new.items ≡ [] }
+{
+    while let Some(image) = far.pop() {
+        image.put_back(store);
+    }
+    while let Some(image) = near.pop() {
+        image.put_back(store);
+    }
+}
