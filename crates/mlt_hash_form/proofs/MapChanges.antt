@@ -1,0 +1,62 @@
+-- The map of the records, and what changes do to it
+use Rattle.std.proofs.Common.{ℕ, ◌≡◌, ◌<◌, ◌^◌, cond, Option, Some, None, sym, ◌∙◌, ap, inl, inr}
+use Rattle.std.specs.Ordering.{nat_cmp, eq_by_cmp}
+use Rattle.std.specs.FinMap as map
+use Rattle.std.specs.FinMap.{nat_cmp-IsAntisymmetric}
+use Rattle.std.specs.FinSet as set
+use Rattle.std.proofs.lemmas.Cmp.{nat_cmp_total}
+use Rattle.std.proofs.lemmas.Bool.{cases_Bool, both_ways, cond-true, cond-false}
+use Rattle.mlt_page.specs.declared.slot.Slot.{Slot}
+use Rattle.mlt_page.specs.declared.slot.Slot.TheVariants.{Free, Live}
+use Rattle.mlt_page.specs.declared.page.Page.{Page}
+use Rattle.mlt_hash_form.specs.Changes.{ChangesRecord, IsOpening, IsSplit}
+use Rattle.mlt_hash_form.specs.File.{buckets_of, lead_of, HasForm, look_up}
+use Rattle.mlt_hash_form.specs.Form.{slot_at}
+use Rattle.mlt_hash_form.specs.Records.{live_records}
+use Rattle.mlt_hash_form.proofs.InPages.{same_option}
+use Rattle.mlt_hash_form.proofs.Lookup.{found}
+use Rattle.mlt_hash_form.proofs.OpeningFile.{opening_is_free}
+use Rattle.mlt_hash_form.proofs.SingleChanges.{none_from}
+use Rattle.mlt_hash_form.proofs.PrefixForm.{once_live}
+use Rattle.mlt_hash_form.proofs.RecordMap.{records_are_the_map, tied, tied_itself}
+
+pub map_is_look_up : (bits : ℕ → ℕ) (pages : map.FinMap nat_cmp Page) (root : ℕ) → ((k : ℕ) → bits k < 2 ^ 64) → HasForm bits (map.get pages) root → (key : ℕ) → map.get (live_records pages) key ≡ look_up bits (map.get pages) root key
+map_is_look_up bits pages root bounded file key =
+    let is = records_are_the_map pages (once_live bits (map.get pages) root bounded file) key in
+    let at = found bits _ (lead_of (map.get pages) root) (buckets_of (map.get pages)) file.form key in
+    same_option _ _ (λ v e. (at v).0 ((is v).0 e)) (λ v e. (is v).1 ((at v).1 e))
+
+-- two maps with one answer at a key, and the answers of a third elsewhere
+module _ (bits : ℕ → ℕ) (pages pages' : map.FinMap nat_cmp Page) (root key : ℕ) (value : Option ℕ) (bounded : (k : ℕ) → bits k < 2 ^ 64) (file : HasForm bits (map.get pages) root) (file' : HasForm bits (map.get pages') root) (here : look_up bits (map.get pages') root key ≡ value) (others : (k : ℕ) → (k ≡ key → ⊥) → look_up bits (map.get pages') root k ≡ look_up bits (map.get pages) root k) where
+  change_at : (q : ℕ) → map.get (live_records pages') q ≡ cond (eq_by_cmp nat_cmp q key) value (map.get (live_records pages) q)
+  change_at q =
+      elim (cases_Bool (eq_by_cmp nat_cmp q key)) [
+        | inl e ↦
+            map_is_look_up bits pages' root bounded file' q ∙ ap (look_up bits (map.get pages') root) (tied q key e) ∙ here ∙ sym (cond-true _ value _ e)
+        | inr e ↦
+            let ne : q ≡ key → ⊥ = λ s. both_ways _ e (ap (λ k. eq_by_cmp nat_cmp q k) (sym s) ∙ tied_itself q) in
+            map_is_look_up bits pages' root bounded file' q ∙ others q ne ∙ sym (map_is_look_up bits pages root bounded file q) ∙ sym (cond-false _ value _ e)
+      ]
+
+pub inserted : (bits : ℕ → ℕ) (pages pages' : map.FinMap nat_cmp Page) (root key value n i : ℕ) (after : Slot) → ((k : ℕ) → bits k < 2 ^ 64) → HasForm bits (map.get pages) root
+    → ChangesRecord bits (map.get pages) (map.get pages') root key (Some value) n i after → live_records pages' ≡ map.insert (live_records pages) key value
+inserted bits pages pages' root key value n i after bounded file changes =
+    map.same_map nat_cmp_total nat_cmp-IsAntisymmetric _ _ (λ q. change_at bits pages pages' root key (Some value) bounded file changes.form changes.here changes.others q ∙ sym (map.get-insert nat_cmp_total (live_records pages) key value q))
+
+pub removed : (bits : ℕ → ℕ) (pages pages' : map.FinMap nat_cmp Page) (root key n i : ℕ) (after : Slot) → ((k : ℕ) → bits k < 2 ^ 64) → HasForm bits (map.get pages) root
+    → ChangesRecord bits (map.get pages) (map.get pages') root key None n i after → live_records pages' ≡ map.remove (live_records pages) key
+removed bits pages pages' root key n i after bounded file changes =
+    map.same_map nat_cmp_total nat_cmp-IsAntisymmetric _ _ (λ q. change_at bits pages pages' root key None bounded file changes.form changes.here changes.others q ∙ sym (map.get-remove nat_cmp_total (live_records pages) key q))
+
+pub left_by_split : (bits : ℕ → ℕ) (opens : set.FinSet nat_cmp) (pages pages' : map.FinMap nat_cmp Page) (root n new : ℕ) → ((k : ℕ) → bits k < 2 ^ 64) → HasForm bits (map.get pages) root
+    → IsSplit bits opens (map.get pages) (map.get pages') root n new → live_records pages' ≡ live_records pages
+left_by_split bits opens pages pages' root n new bounded file split =
+    map.same_map nat_cmp_total nat_cmp-IsAntisymmetric _ _ (λ q. map_is_look_up bits pages' root bounded split.form q ∙ split.values q ∙ sym (map_is_look_up bits pages root bounded file q))
+
+-- the opening file has no live slot, so its map is empty
+pub opening_map : (pages : map.FinMap nat_cmp Page) (root d n : ℕ) → IsOpening (map.get pages) root d n → live_records pages ≡ map.empty
+opening_map pages root d n is =
+    let free = opening_is_free (λ _. 0) (map.get pages) root d n is in
+    let dead : (m i k v : ℕ) → slot_at (buckets_of (map.get pages)) m i ≡ Live k v → ⊥ = λ m i k v e. let q : Free ≡ Live k v = sym (free m i) ∙ e in cc in
+    let records = records_are_the_map pages (λ m l i j k v w e f. absurd (dead m i k v e)) in
+    map.same_map nat_cmp_total nat_cmp-IsAntisymmetric _ _ (λ q. none_from _ (λ v e. let r = (records q v).0 e in dead r.0 r.1 q v r.2) ∙ sym (map.get-empty nat_cmp q))

@@ -1,0 +1,5 @@
+use Rattle.mlt_hash_form.proofs.SingleChanges.{to_ghost_changes}
+use Rattle.mlt_hash_form.proofs.change_laws.to_ghost_removes_the_record.Goals as goal
+
+pub returns : goal.returns
+returns c = to_ghost_changes

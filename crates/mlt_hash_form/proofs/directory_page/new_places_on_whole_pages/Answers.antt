@@ -1,0 +1,7 @@
+use Rattle.mlt_hash_form.specs.File.{header_of, buckets_of}
+use Rattle.mlt_hash_form.specs.Splits.{prefix_of}
+use Rattle.mlt_hash_form.proofs.InPlace.{whole_pages}
+use Rattle.mlt_hash_form.proofs.directory_page.new_places_on_whole_pages.Goals as goal
+
+pub returns : goal.returns
+returns c = λ base root n x. whole_pages (header_of (base root)).depth (buckets_of base n).depth (prefix_of base n x)

@@ -1,0 +1,5 @@
+use Rattle.mlt_hash_form.proofs.HeldPages.{change_of_kept}
+use Rattle.mlt_hash_form.proofs.held_laws.change_of_a_kept_file.Goals as goal
+
+pub returns : goal.returns
+returns c = change_of_kept

@@ -1,0 +1,5 @@
+use Rattle.mlt_hash_form.proofs.HeldPages.{split_keeps}
+use Rattle.mlt_hash_form.proofs.held_laws.split_keeps_the_file.Goals as goal
+
+pub returns : goal.returns
+returns c = split_keeps

@@ -1,0 +1,24 @@
+-- The records of a file as a finite map
+use Rattle.std.specs.Prelude.{ℕ, ◌≡◌, List, [], ◌∷◌, Option, Some, ◌↔◌}
+use Rattle.std.specs.List.{flat_map}
+use Rattle.std.specs.Ordering.{nat_cmp}
+use Rattle.std.specs.FinMap as map
+use Rattle.mlt_page.specs.declared.slot.Slot.{Slot}
+use Rattle.mlt_page.specs.declared.slot.Slot.TheVariants.{Free, Live, Ghost}
+use Rattle.mlt_page.specs.declared.page.Page.{Page}
+use Rattle.mlt_hash_form.specs.File.{IsRecord, buckets_of}
+
+-- the key and the value of a live slot
+abbrev pub live_pairs : Slot → List (ℕ × ℕ)
+live_pairs Free = []
+live_pairs (Live key value) = (key, value) ∷ []
+live_pairs (Ghost key value owner) = []
+
+-- The pairs of all live slots of all bucket pages, as a map from keys to values. It says the records where no key
+-- stands in two live slots.
+abbrev pub live_records : map.FinMap nat_cmp Page → map.FinMap nat_cmp ℕ
+live_records pages = map.from_entries (flat_map (λ n. flat_map live_pairs (buckets_of (map.get pages) n).slots) (map.keys pages))
+
+-- a map has just the records of these pages
+abbrev pub HasRecords : map.FinMap nat_cmp ℕ → (ℕ → Option Page) → Type 0
+HasRecords records pages = (key value : ℕ) → (map.get records key ≡ Some value) ↔ IsRecord pages key value

@@ -1,0 +1,107 @@
+//! How deep a bucket has to be split until an addition finds room.
+
+ghost use Rattle.std.specs.Prelude.{◌≡◌, ℕ, List, ◌<◌, ◌≤◌, ◌^◌, ◌↔◌, MatchOption, Option, length, map, slice_index_or, true, false};
+ghost use Rattle.std.specs.List.{list_all};
+ghost use Rattle.std.specs.Ordering.{nat_cmp};
+ghost use Rattle.std.specs.FinSet as set;
+ghost use Rattle.mlt_page.specs.Slots.{half, is_kept};
+ghost use Rattle.mlt_page.specs.declared.slot.Slot.{Slot};
+ghost use Rattle.mlt_page.specs.declared.slot.Slot.TheVariants.{Free};
+ghost use Rattle.mlt_page.specs.declared.page.Page.{Page};
+ghost use Rattle.mlt_hash_form.specs.File.{HasForm, buckets_of, lead_of};
+ghost use Rattle.mlt_hash_form.specs.Room.{IsCrowded, agrees, is_crowded};
+
+use crate::place::first_bits;
+use mlt_page::{Bucket, Slot};
+use mlt_types::{OpenSet, Pseudo};
+
+/// Whether the slot's room is taken by a key that agrees with a pseudokey in its first `depth` bits.
+fn agrees<P: Pseudo>(slot: &Slot, depth: u8, bits: u64, pseudo: &P, opens: &OpenSet) -> bool
+    requires { depth ≤ 64 }
+    ensures { result ≡ agrees (P.bits_of pseudo.now) opens.now depth bits slot.now }
+{
+    match slot {
+        Slot::Free => false,
+        Slot::Live(key, _) | Slot::Ghost(key, _, _) => {
+            slot.is_kept(opens) && first_bits(pseudo.bits(key), depth) == first_bits(bits, depth)
+        }
+    }
+}
+
+/// Whether a key of this pseudokey would find no room in the bucket, were it split down to a depth of at most 64.
+pub fn is_crowded<P: Pseudo>(
+    bucket: &Bucket,
+    depth: u8,
+    bits: u64,
+    pseudo: &P,
+    opens: &OpenSet,
+) -> bool
+    requires { depth ≤ 64 }
+    ensures { result ≡ is_crowded (P.bits_of pseudo.now) opens.now depth bits bucket.now.slots }
+{
+    bucket
+        .slots
+        .iter()
+        .all(|slot| agrees(slot, depth, bits, pseudo, opens))
+}
+
+/// The least depth, from the bucket's own up to `most`, at which a key of this pseudokey finds room, if there is one.
+pub fn depth_with_room<P: Pseudo>(
+    bucket: &Bucket,
+    most: u8,
+    bits: u64,
+    pseudo: &P,
+    opens: &OpenSet,
+) -> Option<u8>
+    requires { most ≤ 16 }
+    ensures { let crowded = λ (d : ℕ). is_crowded (P.bits_of pseudo.now) opens.now d bits bucket.now.slots in
+        MatchOption result
+        ((d : ℕ) → bucket.now.depth ≤ d → d ≤ most → crowded d ≡ true)
+        (λ least. (bucket.now.depth ≤ least) × (least ≤ most) × (crowded least ≡ false)
+        × ((d : ℕ) → bucket.now.depth ≤ d → d < least → crowded d ≡ true)) }
+{
+    for depth in bucket.depth..most + 1 {
+        if !is_crowded(bucket, depth, bits, pseudo, opens) {
+            return Some(depth);
+        }
+    }
+    None
+}
+
+/// Eight slots of the file agree with a pseudokey in some bits just where those of its bucket do: it is known there
+/// that no split makes room.
+pub fn crowding_is_local()
+    ensures { (bits : ℕ → ℕ) (opens : set.FinSet nat_cmp) (pages : ℕ → Option Page) (root depth x : ℕ)
+        → ((k : ℕ) → bits k < 2 ^ 64) → x < 2 ^ 64 → HasForm bits pages root
+        → (buckets_of pages (lead_of pages root x)).depth ≤ depth → depth ≤ 64
+        → IsCrowded bits opens (buckets_of pages) depth x ↔ (is_crowded bits opens depth x (buckets_of pages (lead_of pages root x)).slots ≡ true) }
+{}
+
+/// What is crowded in some bits is so in fewer.
+pub fn crowding_in_fewer_bits()
+    ensures { (bits : ℕ → ℕ) (opens : set.FinSet nat_cmp) (less more x : ℕ) (slots : List Slot)
+        → less ≤ more → more ≤ 64
+        → is_crowded bits opens more x slots ≡ true → is_crowded bits opens less x slots ≡ true }
+{}
+
+/// A key's bucket is crowded at its own depth just where each of its slots is kept.
+pub fn crowding_at_own_depth()
+    ensures { (bits : ℕ → ℕ) (opens : set.FinSet nat_cmp) (pages : ℕ → Option Page) (root x : ℕ)
+        → ((k : ℕ) → bits k < 2 ^ 64) → x < 2 ^ 64 → HasForm bits pages root
+        → (is_crowded bits opens (buckets_of pages (lead_of pages root x)).depth x (buckets_of pages (lead_of pages root x)).slots ≡ true)
+        ↔ (list_all (is_kept opens) (buckets_of pages (lead_of pages root x)).slots ≡ true) }
+{}
+
+/// A half of a split bucket is crowded only where the bucket was: a split takes no room away.
+pub fn half_is_no_more_crowded()
+    ensures { (bits : ℕ → ℕ) (opens later : set.FinSet nat_cmp) (place bit depth x : ℕ) (slots : List Slot)
+        → is_crowded bits later depth x (map (half bits opens place bit) slots) ≡ true
+        → is_crowded bits later depth x slots ≡ true }
+{}
+
+/// Slots of which fewer are kept, since owners of ghosts have closed, are crowded only where they were.
+pub fn fewer_kept_slots_are_no_more_crowded()
+    ensures { (bits : ℕ → ℕ) (opens later : set.FinSet nat_cmp) (depth x : ℕ) (slots : List Slot)
+        → ((i : ℕ) → i < length slots → is_kept later (slice_index_or slots i Free) ≡ true → is_kept opens (slice_index_or slots i Free) ≡ true)
+        → is_crowded bits later depth x slots ≡ true → is_crowded bits opens depth x slots ≡ true }
+{}
