@@ -1,0 +1,9 @@
+pub mod Changes
+pub mod GhostLookup
+pub mod InStep
+pub mod Lists
+pub mod Moves
+pub mod PathEnds
+pub mod SlotTests
+pub mod Slots
+pub mod Transactions

@@ -1,0 +1,4 @@
+pub mod Ghosts
+pub mod Moves
+pub mod Operations
+pub mod Paths

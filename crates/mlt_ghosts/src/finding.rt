@@ -1,0 +1,72 @@
+//! Where the ghost of a key is found.
+
+ghost use Rattle.std.specs.Prelude.{◌≡◌, ℕ, ◌<◌, IfSome, MatchOption, None, Option, Some, option_map, position};
+ghost use Rattle.mlt_page.specs.Slots.{is_ghost_of};
+ghost use Rattle.mlt_page.specs.Values.{BucketFields};
+ghost use Rattle.mlt_hash_form.specs.File.{HasForm, buckets_of, lead_of};
+ghost use Rattle.mlt_store.specs.Stores.{page_at};
+ghost use Rattle.mlt_page.specs.declared.page.Page.{Page};
+ghost use Rattle.mlt_ghosts.specs.Ghosts.{IsGhostAt};
+ghost use Rattle.mlt_ghosts.specs.Paths.{LeadsTo, NamesBucket};
+
+use crate::root::Root;
+use mlt_hash_form::Place;
+use mlt_page::Page;
+use mlt_store::Store;
+use mlt_types::{Key, PageNo, Pseudo, TxId};
+
+/// The page that the directory names at the key's place, if there are a header and that page of the directory.
+fn named_bucket<P: Pseudo>(store: &Store, root: &Root<P>, key: Key) -> Option<PageNo>
+    ensures named { let pages = page_at store.now.pages in let x = P.bits_of root.now.pseudo key in
+        MatchOption result ((n : ℕ) → NamesBucket pages root.now.page x n → ⊥) (λ n. NamesBucket pages root.now.page x n) }
+    ensures in_form { let pages = page_at store.now.pages in
+        HasForm (P.bits_of root.now.pseudo) pages root.now.page → result ≡ Some (lead_of pages root.now.page (P.bits_of root.now.pseudo key)) }
+{
+    let Some(Page::Head(head)) = store.read(root.page) else {
+        return None;
+    };
+    if head.depth > 16 {
+        return None;
+    }
+    let place = Place::of(root.pseudo.bits(&key), head.depth);
+    let Some(Page::Dir(dir)) = store.read(head.dir(place.dir)) else {
+        return None;
+    };
+    Some(dir.entry(place.entry))
+}
+
+/// The ghost that `owner` left of the key, as the page and the slot where it stands: found exactly where the bucket
+/// that the key's bits lead to has it. If there is no header of a depth of at most 16, or no directory page or
+/// bucket where the path leads, there is none.
+pub fn ghost_of<P: Pseudo>(
+    store: &Store,
+    root: &Root<P>,
+    key: Key,
+    owner: TxId,
+) -> Option<(PageNo, usize)>
+    ensures found { let pages = page_at store.now.pages in let x = P.bits_of root.now.pseudo key in
+        (n : ℕ) (bucket : BucketFields) → LeadsTo pages root.now.page x n bucket
+        → result ≡ option_map (λ i. (n, i)) (position (is_ghost_of key owner) bucket.slots) }
+    ensures no_path { let pages = page_at store.now.pages in let x = P.bits_of root.now.pseudo key in
+        ((n : ℕ) (bucket : BucketFields) → LeadsTo pages root.now.page x n bucket → ⊥) → result ≡ None }
+    ensures in_form { let pages = page_at store.now.pages in let n = lead_of pages root.now.page (P.bits_of root.now.pseudo key) in
+        HasForm (P.bits_of root.now.pseudo) pages root.now.page
+        → result ≡ option_map (λ i. (n, i)) (position (is_ghost_of key owner) (buckets_of pages n).slots) }
+    ensures within { IfSome result (λ at. at.1 < 8) }
+{
+    let number = named_bucket(store, root, key)?;
+    let Some(Page::Bucket(bucket)) = store.read(number) else {
+        return None;
+    };
+    let at = bucket.find_ghost(key, owner)?;
+    Some((number, at))
+}
+
+/// In a file of the form the look-up in a key's bucket is exact: it tells a ghost that the owner left of the key, and
+/// where it tells none there is none in the whole file.
+pub fn look_up_finds_the_ghost()
+    ensures { (bits : ℕ → ℕ) (pages : ℕ → Option Page) (root key owner : ℕ) → HasForm bits pages root
+        → let n = lead_of pages root (bits key) in let found = position (is_ghost_of key owner) (buckets_of pages n).slots in
+        ((i : ℕ) → found ≡ Some i → IsGhostAt pages owner key n i)
+            × (found ≡ None → (m i : ℕ) → IsGhostAt pages owner key m i → ⊥) }
+{}
