@@ -1,0 +1,12 @@
+-- The texts of the items of a history: the lines of a trace, without their ends.
+use Rattle.std.specs.Prelude.{ℕ, List, ◌∷◌, ◌++◌, codes}
+use Rattle.mlt_kinds.specs.Texts.{with_number, done_text}
+use Rattle.mlt_trace.specs.declared.item.TraceItem.{TraceItem}
+use Rattle.mlt_trace.specs.declared.item.TraceItem.TheVariants.{Begin, Op, Back, Commit, Abort}
+
+abbrev pub item_text : TraceItem → List ℕ
+item_text (Begin tx) = with_number (codes "begin") tx
+item_text (Op tx done) = with_number (codes "op") tx ++ 32 ∷ done_text done
+item_text (Back tx) = with_number (codes "back") tx
+item_text (Commit tx n) = with_number (with_number (codes "commit") tx) n
+item_text (Abort tx) = with_number (codes "abort") tx
