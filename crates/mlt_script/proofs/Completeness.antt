@@ -1,6 +1,6 @@
 -- A scan finds the scripts of a text, and its first fault.
-use Rattle.std.proofs.Common.{◌≡◌, ℕ, ◌+◌, ◌≤◌, List, [], ◌∷◌, ◌++◌, length, map, inl, inr, Result, Ok, Err, refl, sym, ap, ◌∙◌, append_assoc, length-append, arith}
-use Rattle.std.proofs.lemmas.List.{append-nil}
+use Rattle.std.proofs.Common.{◌≡◌, ℕ, ◌+◌, ◌<◌, ◌≤◌, List, [], ◌∷◌, ◌++◌, length, map, inl, inr, None, Result, Ok, Err, refl, sym, ap, ◌∙◌, append_assoc, length-append, arith}
+use Rattle.std.proofs.lemmas.List.{append-nil, map-append}
 use Rattle.std.proofs.lemmas.Bool.{lt-ltb, le-ltb}
 use Rattle.mlt_types.specs.declared.refusal.ScriptCause.{ScriptCause}
 use Rattle.mlt_types.specs.declared.refusal.ScriptCause.TheVariants as cause
@@ -8,13 +8,22 @@ use Rattle.mlt_script.specs.declared.forms.LineForm.{LineForm}
 use Rattle.mlt_script.specs.declared.forms.LineForm.TheVariants.{Begins, Says, Closes}
 use Rattle.mlt_script.specs.declared.line.Reading.{Reading}
 use Rattle.mlt_script.specs.declared.line.Reading.TheVariants.{Bad, Skip, Form}
-use Rattle.mlt_script.specs.declared.script.Statement.{Statement}
+use Rattle.mlt_script.specs.declared.statement.Asking.{Asking}
+use Rattle.mlt_script.specs.declared.statement.Wanted.{Wanted}
+use Rattle.mlt_script.specs.declared.statement.Statement.{Statement}
+use Rattle.mlt_script.specs.declared.statement.Line.{Line}
+use Rattle.mlt_script.specs.declared.statement.Line.TheVariants as line
+use Rattle.mlt_script.specs.Blocks.{Block, Open, join, grow, longest, nesting, path, depth, widest, deepest}
+use Rattle.mlt_script.specs.Blocks.Block.{Nothing, Then, If}
+use Rattle.mlt_script.specs.Blocks.Open.{Top, InFirst, InSecond}
 use Rattle.mlt_script.specs.Lines.{Raw}
 use Rattle.mlt_script.specs.Readings.{reading}
-use Rattle.mlt_script.specs.Scripts.{ScriptForm}
-use Rattle.mlt_script.specs.Grammar.{IsScript, AreScripts, lines_of_script, lines_of_scripts, IsLawful, AreLawful, form_in, forms_of, AreWhole, AreOpen, IsSound, IsNoBegin, IsFault, IsFirstFaultOf}
-use Rattle.mlt_script.specs.Scan.{State, scan, advance, step, after}
+use Rattle.mlt_script.specs.Scripts.{ScriptForm, IsScript, one_more}
+use Rattle.mlt_script.specs.TreeLaws.{grow_nothing, grow_twice}
+use Rattle.mlt_script.specs.Grammar.{AreScripts, IsSpelled, IsSpelledOpen, IsSpelledScript, AreSpelled, IsLawful, AreLawful, form_in, forms_of, AreWhole, AreOpen, IsSound, IsNoBegin, HasNoPlace, IsAskingHere, IsFault, IsFirstFaultOf}
+use Rattle.mlt_script.specs.Scan.{State, scan, advance, step, said, after, line_fault}
 use Rattle.mlt_script.specs.Scan.State.{Outside, Inside}
+use Rattle.mlt_script.proofs.Placing.{path_grow, depth_grow}
 
 abbrev and_then : Result State ScriptCause → (State → Result State ScriptCause) → Result State ScriptCause
 and_then (Ok s) next = next s
@@ -33,44 +42,110 @@ walk_one : (s t : State) (f : LineForm) (fs : List LineForm) → step s f ≡ Ok
 unfolding walk
 walk_one s t f fs e = ap (λ r. and_then r (λ t. walk t fs)) e
 
-walk_statements : (statements so_far : List Statement) (scripts : List ScriptForm) (client : ℕ) (more : List LineForm) → length so_far + length statements ≤ 256
-    → walk (Inside scripts client so_far) (map Says statements ++ more) ≡ walk (Inside scripts client (so_far ++ statements)) more
-walk_statements [] so_far scripts client more l = ap (λ (xs : List Statement). walk (Inside scripts client xs) more) (sym (append-nil so_far))
-walk_statements (x ∷ xs) so_far scripts client more l =
-    walk_one (Inside scripts client so_far) (Inside scripts client (so_far ++ x ∷ [])) (Says x) (map Says xs ++ more) (rw (lt-ltb (length so_far) 256 (omega arith)) refl)
-    ∙ walk_statements xs (so_far ++ x ∷ []) scripts client more (rw length-append (omega arith))
-    ∙ ap (λ (ys : List Statement). walk (Inside scripts client ys) more) (append_assoc so_far (x ∷ []) xs)
-
-walk_script : (s : ScriptForm) (scripts : List ScriptForm) (more : List LineForm) → IsScript s → walk (Outside scripts) (lines_of_script s ++ more) ≡ walk (Outside (scripts ++ s ∷ [])) more
-walk_script s scripts more h =
-    walk_one (Outside scripts) (Inside scripts s.client []) (Begins s.client) ((map Says s.statements ++ Closes s.ending ∷ []) ++ more) refl
-    ∙ ap (walk (Inside scripts s.client [])) (append_assoc (map Says s.statements) (Closes s.ending ∷ []) more)
-    ∙ walk_statements s.statements [] scripts s.client (Closes s.ending ∷ more) (let l = h.1 in omega (arith, l))
-    ∙ walk_one (Inside scripts s.client s.statements) (Outside (scripts ++ s ∷ [])) (Closes s.ending) more refl
-
-walk_scripts : (found scripts : List ScriptForm) (more : List LineForm) → AreScripts found → walk (Outside scripts) (lines_of_scripts found ++ more) ≡ walk (Outside (scripts ++ found)) more
-walk_scripts [] scripts more h = ap (λ (xs : List ScriptForm). walk (Outside xs) more) (sym (append-nil scripts))
-walk_scripts (s ∷ found) scripts more h =
-    ap (walk (Outside scripts)) (append_assoc (lines_of_script s) (lines_of_scripts found) more)
-    ∙ walk_script s scripts (lines_of_scripts found ++ more) h.0
-    ∙ walk_scripts found (scripts ++ s ∷ []) more h.1
-    ∙ ap (λ (xs : List ScriptForm). walk (Outside xs) more) (append_assoc scripts (s ∷ []) found)
-
 walk_end : (s : State) → walk s [] ≡ Ok s
 unfolding walk
 walk_end s = refl
 
+module _ (scripts : List ScriptForm) (client : ℕ) where
+  -- up to here in the script
+  abbrev here : Open → State
+  here o = Inside scripts client o
+
+  says : (o : Open) (l : Line) (fs : List LineForm) → line_fault o l ≡ None → walk (here o) (Says l ∷ fs) ≡ walk (here (one_more o l)) fs
+  says o l fs f = walk_one (here o) (here (one_more o l)) (Says l) fs (ap (said scripts client (one_more o l)) f)
+
+  plain_stands : (o : Open) (s : Statement) → path o < 256 → line_fault o (line.Plain s) ≡ None
+  plain_stands o s l = rw (lt-ltb (path o) 256 l) refl
+
+  if_stands : (o : Open) (a : Asking) (w : Wanted) → path o < 256 → depth o < 16 → line_fault o (line.If a w) ≡ None
+  if_stands o a w l d = rw (lt-ltb (depth o) 16 d, lt-ltb (path o) 256 l) refl
+
+  map_two : (x y : List Line) (l : Line) (more : List LineForm) → map Says (x ++ l ∷ y) ++ more ≡ map Says x ++ Says l ∷ (map Says y ++ more)
+  map_two x y l more = ap (λ (fs : List LineForm). fs ++ more) (map-append Says x (l ∷ y)) ∙ append_assoc (map Says x) (Says l ∷ map Says y) more
+
+  -- Within the limits the lines of a block may stand where they are.
+  stands : (b : Block) (x : List Line) (o : Open) (more : List LineForm) → IsSpelled b x → path o + longest b ≤ 256 → depth o + nesting b ≤ 16
+      → walk (here o) (map Says x ++ more) ≡ walk (here (grow o b)) more
+  stands Nothing x o more h l d =
+      ap (λ (ls : List Line). walk (here o) (map Says ls ++ more)) h ∙ ap (λ (p : Open). walk (here p) more) (sym (grow_nothing o))
+  stands (Then s rest) x o more (z, e, h) l d =
+      ap (λ (ls : List Line). walk (here o) (map Says ls ++ more)) e
+      ∙ says o (line.Plain s) (map Says z ++ more) (plain_stands o s (omega (arith, l)))
+      ∙ stands rest z (grow o (Then s Nothing)) more h
+      (let p = path_grow o (Then s Nothing) in omega (arith, p, l)) (let p = depth_grow o (Then s Nothing) in omega (arith, p, d))
+      ∙ ap (λ (p : Open). walk (here p) more) (grow_twice o (Then s Nothing) rest)
+  stands (If a w first second rest) x o more (u, v, z, p, q, r, inl e) l d =
+      let whole : Block = If a w first second Nothing in
+      ap (λ (ls : List Line). walk (here o) (map Says ls ++ more)) e
+      ∙ says o (line.If a w) (map Says (u ++ line.Else ∷ (v ++ line.End ∷ z)) ++ more) (if_stands o a w (omega (arith, l)) (omega (arith, d)))
+      ∙ ap (walk (here (InFirst o a w Nothing))) (map_two u (v ++ line.End ∷ z) line.Else more)
+      ∙ stands first u (InFirst o a w Nothing) (Says line.Else ∷ (map Says (v ++ line.End ∷ z) ++ more)) p (omega (arith, l)) (omega (arith, d))
+      ∙ says (InFirst o a w first) line.Else (map Says (v ++ line.End ∷ z) ++ more) refl
+      ∙ ap (walk (here (InSecond o a w first Nothing))) (map_two v z line.End more)
+      ∙ stands second v (InSecond o a w first Nothing) (Says line.End ∷ (map Says z ++ more)) q (omega (arith, l)) (omega (arith, d))
+      ∙ says (InSecond o a w first second) line.End (map Says z ++ more) refl
+      ∙ stands rest z (grow o whole) more r (let k = path_grow o whole in omega (arith, k, l)) (let k = depth_grow o whole in omega (arith, k, d))
+      ∙ ap (λ (p : Open). walk (here p) more) (grow_twice o whole rest)
+  stands (If a w first second rest) x o more (u, v, z, p, q, r, inr (n, e)) l d =
+      let whole : Block = If a w first Nothing Nothing in
+      let same : join whole rest ≡ If a w first second rest = ap (λ (b : Block). If a w first b rest) (sym n) in
+      ap (λ (ls : List Line). walk (here o) (map Says ls ++ more)) e
+      ∙ says o (line.If a w) (map Says (u ++ line.End ∷ z) ++ more) (if_stands o a w (omega (arith, l)) (omega (arith, d)))
+      ∙ ap (walk (here (InFirst o a w Nothing))) (map_two u z line.End more)
+      ∙ stands first u (InFirst o a w Nothing) (Says line.End ∷ (map Says z ++ more)) p (omega (arith, l)) (omega (arith, d))
+      ∙ says (InFirst o a w first) line.End (map Says z ++ more) refl
+      ∙ stands rest z (grow o whole) more r (let k = path_grow o whole in omega (arith, k, l)) (let k = depth_grow o whole in omega (arith, k, d))
+      ∙ ap (λ (p : Open). walk (here p) more) (grow_twice o whole rest ∙ ap (grow o) same)
+
+  -- the lines of a script that is read up to somewhere, from its begin
+  opens : (o : Open) (x : List Line) (more : List LineForm) → IsSpelledOpen o x → widest o ≤ 256 → deepest o ≤ 16
+      → walk (here (Top Nothing)) (map Says x ++ more) ≡ walk (here o) more
+  opens (Top b) x more h l d = stands b x (Top Nothing) more h (omega (arith, l)) (omega (arith, d))
+  opens (InFirst o a w first) x more (u, v, p, q, e) l d =
+      ap (λ (ls : List Line). walk (here (Top Nothing)) (map Says ls ++ more)) e
+      ∙ ap (walk (here (Top Nothing))) (map_two u v (line.If a w) more)
+      ∙ opens o u (Says (line.If a w) ∷ (map Says v ++ more)) p (omega (arith, l)) (omega (arith, d))
+      ∙ says o (line.If a w) (map Says v ++ more) (if_stands o a w (omega (arith, l)) (omega (arith, d)))
+      ∙ stands first v (InFirst o a w Nothing) more q (omega (arith, l)) (omega (arith, d))
+  opens (InSecond o a w first second) x more (u, v, z, p, q, r, e) l d =
+      ap (λ (ls : List Line). walk (here (Top Nothing)) (map Says ls ++ more)) e
+      ∙ ap (walk (here (Top Nothing))) (map_two u (v ++ line.Else ∷ z) (line.If a w) more)
+      ∙ opens o u (Says (line.If a w) ∷ (map Says (v ++ line.Else ∷ z) ++ more)) p (omega (arith, l)) (omega (arith, d))
+      ∙ says o (line.If a w) (map Says (v ++ line.Else ∷ z) ++ more) (if_stands o a w (omega (arith, l)) (omega (arith, d)))
+      ∙ ap (walk (here (InFirst o a w Nothing))) (map_two v z line.Else more)
+      ∙ stands first v (InFirst o a w Nothing) (Says line.Else ∷ (map Says z ++ more)) q (omega (arith, l)) (omega (arith, d))
+      ∙ says (InFirst o a w first) line.Else (map Says z ++ more) refl
+      ∙ stands second z (InSecond o a w first Nothing) more r (omega (arith, l)) (omega (arith, d))
+
+walk_script : (s : ScriptForm) (scripts : List ScriptForm) (x more : List LineForm) → IsScript s → IsSpelledScript s x → walk (Outside scripts) (x ++ more) ≡ walk (Outside (scripts ++ s ∷ [])) more
+walk_script s scripts x more h (ls, p, e) =
+    ap (λ (fs : List LineForm). walk (Outside scripts) (fs ++ more)) e
+    ∙ walk_one (Outside scripts) (Inside scripts s.client (Top Nothing)) (Begins s.client) ((map Says ls ++ Closes s.ending ∷ []) ++ more) refl
+    ∙ ap (walk (Inside scripts s.client (Top Nothing))) (append_assoc (map Says ls) (Closes s.ending ∷ []) more)
+    ∙ stands scripts s.client s.block ls (Top Nothing) (Closes s.ending ∷ more) p (let l = h.1 in omega (arith, l)) (let d = h.2 in omega (arith, d))
+    ∙ walk_one (Inside scripts s.client (Top s.block)) (Outside (scripts ++ s ∷ [])) (Closes s.ending) more refl
+
+walk_scripts : (found scripts : List ScriptForm) (x more : List LineForm) → AreScripts found → AreSpelled found x → walk (Outside scripts) (x ++ more) ≡ walk (Outside (scripts ++ found)) more
+walk_scripts [] scripts x more h e =
+    ap (λ (fs : List LineForm). walk (Outside scripts) (fs ++ more)) e ∙ ap (λ (xs : List ScriptForm). walk (Outside xs) more) (sym (append-nil scripts))
+walk_scripts (s ∷ found) scripts x more h (u, v, p, q, e) =
+    ap (λ (fs : List LineForm). walk (Outside scripts) (fs ++ more)) e
+    ∙ ap (walk (Outside scripts)) (append_assoc u v more)
+    ∙ walk_script s scripts u (v ++ more) h.0 p
+    ∙ walk_scripts found (scripts ++ s ∷ []) v more h.1 q
+    ∙ ap (λ (xs : List ScriptForm). walk (Outside xs) more) (append_assoc scripts (s ∷ []) found)
+
 whole_leads : (raws : List Raw) (scripts : List ScriptForm) → AreWhole raws scripts → Leads (Outside []) (forms_of raws) (Outside scripts)
 whole_leads raws scripts h =
-    ap (walk (Outside [])) (h.1.1 ∙ sym (append-nil (lines_of_scripts scripts))) ∙ walk_scripts scripts [] [] h.0 ∙ walk_end (Outside scripts)
+    ap (walk (Outside [])) (sym (append-nil (forms_of raws))) ∙ walk_scripts scripts [] (forms_of raws) [] h.0 h.2 ∙ walk_end (Outside scripts)
 
-open_leads : (raws : List Raw) (scripts : List ScriptForm) (client : ℕ) (statements : List Statement) → AreOpen raws scripts client statements
-    → Leads (Outside []) (forms_of raws) (Inside scripts client statements)
-open_leads raws scripts client statements h =
-    ap (walk (Outside [])) h.3.1 ∙ walk_scripts scripts [] (Begins client ∷ map Says statements) h.0
-    ∙ walk_one (Outside scripts) (Inside scripts client []) (Begins client) (map Says statements) refl
-    ∙ ap (walk (Inside scripts client [])) (sym (append-nil (map Says statements)))
-    ∙ walk_statements statements [] scripts client [] (let l = h.2 in omega (arith, l)) ∙ walk_end (Inside scripts client statements)
+open_leads : (raws : List Raw) (scripts : List ScriptForm) (client : ℕ) (o : Open) → AreOpen raws scripts client o
+    → Leads (Outside []) (forms_of raws) (Inside scripts client o)
+open_leads raws scripts client o (all, small, within, lawful, (x, ls, p, q, k)) =
+    ap (walk (Outside [])) k ∙ walk_scripts scripts [] x (Begins client ∷ map Says ls) all p
+    ∙ walk_one (Outside scripts) (Inside scripts client (Top Nothing)) (Begins client) (map Says ls) refl
+    ∙ ap (walk (Inside scripts client (Top Nothing))) (sym (append-nil (map Says ls)))
+    ∙ opens scripts client o ls [] q within.0 within.1 ∙ walk_end (Inside scripts client o)
 
 abbrev Scans : State → List Raw → List Raw → State → ℕ → Type 0
 Scans s raws more t n = scan s n (raws ++ more) ≡ scan t (n + length raws) more
@@ -89,7 +164,7 @@ read_goes (Form f) s t fs n next total l e go = stepped (step s f) fs t n next t
 
 same_state : (s t : State) → Leads s [] t → s ≡ t
 unfolding walk
-same_state s t e = cc e
+same_state s t e = cc
 
 -- lines without a fault are gone over
 goes : (raws more : List Raw) (s t : State) (n : ℕ) → AreLawful raws → Leads s (forms_of raws) t → Scans s raws more t n
@@ -102,12 +177,12 @@ goes (raw ∷ raws) more s t n l e =
 pub finds_scripts : (raws : List Raw) (scripts : List ScriptForm) → AreWhole raws scripts → scan (Outside []) 0 raws ≡ Ok scripts
 unfolding scan
 finds_scripts raws scripts h =
-    ap (scan (Outside []) 0) (sym (append-nil raws)) ∙ goes raws [] (Outside []) (Outside scripts) 0 h.1.0 (whole_leads raws scripts h)
+    ap (scan (Outside []) 0) (sym (append-nil raws)) ∙ goes raws [] (Outside []) (Outside scripts) 0 h.1 (whole_leads raws scripts h)
 
 -- the state that lines without a fault lead to
 up_to : (before : List Raw) → IsSound before → (s : State) × AreLawful before × Leads (Outside []) (forms_of before) s
-up_to before (inl (scripts, h)) = (Outside scripts, h.1.0, whole_leads before scripts h)
-up_to before (inr (count, (scripts, client, statements, h, l))) = (Inside scripts client statements, h.3.0, open_leads before scripts client statements h)
+up_to before (inl (scripts, h)) = (Outside scripts, h.1, whole_leads before scripts h)
+up_to before (inr (o, (scripts, client, h))) = (Inside scripts client o, h.3, open_leads before scripts client o h)
 
 fault_at : (before : List Raw) (raw : Raw) (after_it : List Raw) (s : State) (r : Reading) (c : ScriptCause) → AreLawful before → Leads (Outside []) (forms_of before) s
     → reading raw ≡ r → advance s r ≡ Err c → scan (Outside []) 0 (before ++ raw ∷ after_it) ≡ Err (length before + 1, c)
@@ -123,27 +198,48 @@ no_begin scripts (Begins client) h = absurd h
 no_begin scripts (Says x) h = refl
 no_begin scripts (Closes e) h = refl
 
-too_long : (scripts : List ScriptForm) (client : ℕ) (statements : List Statement) (x : Statement) → length statements ≡ 256 → advance (Inside scripts client statements) (Form (Says x)) ≡ Err cause.Long
-too_long scripts client statements x l = rw (le-ltb (length statements) 256 (omega (arith, l))) refl
+no_place : (scripts : List ScriptForm) (client : ℕ) (o : Open) (form : LineForm) → HasNoPlace o form → advance (Inside scripts client o) (Form form) ≡ Err cause.Place
+no_place scripts client o (Begins other) h = refl
+no_place scripts client (Top b) (Closes e) h = absurd (omega (arith, h))
+no_place scripts client (InFirst o a w first) (Closes e) h = refl
+no_place scripts client (InSecond o a w first second) (Closes e) h = refl
+no_place scripts client (Top b) (Says line.Else) h = refl
+no_place scripts client (InFirst o a w first) (Says line.Else) h = absurd (cc h)
+no_place scripts client (InSecond o a w first second) (Says line.Else) h = refl
+no_place scripts client (Top b) (Says line.End) h = refl
+no_place scripts client (InFirst o a w first) (Says line.End) h = absurd (omega (arith, h))
+no_place scripts client (InSecond o a w first second) (Says line.End) h = absurd (omega (arith, h))
+no_place scripts client o (Says (line.Plain s)) h = absurd h
+no_place scripts client o (Says (line.If a w)) h = absurd h
 
-ends_open : (raws : List Raw) (scripts : List ScriptForm) (client : ℕ) (statements : List Statement) → AreOpen raws scripts client statements → scan (Outside []) 0 raws ≡ Err (length raws, cause.Unfinished)
+too_long : (scripts : List ScriptForm) (client : ℕ) (o : Open) (l : Line) → IsAskingHere o l → path o + 1 ≡ 257 → advance (Inside scripts client o) (Form (Says l)) ≡ Err cause.Long
+too_long scripts client o (line.Plain s) h k = rw (le-ltb (path o) 256 (omega (arith, k))) refl
+too_long scripts client o (line.If a w) h k = rw (lt-ltb (depth o) 16 h, le-ltb (path o) 256 (omega (arith, k))) refl
+too_long scripts client o line.Else h k = absurd h
+too_long scripts client o line.End h k = absurd h
+
+too_deep : (scripts : List ScriptForm) (client : ℕ) (o : Open) (a : Asking) (w : Wanted) → depth o ≡ 16 → advance (Inside scripts client o) (Form (Says (line.If a w))) ≡ Err cause.Deep
+too_deep scripts client o a w d = rw (le-ltb (depth o) 16 (omega (arith, d))) refl
+
+ends_open : (raws : List Raw) (scripts : List ScriptForm) (client : ℕ) (o : Open) → AreOpen raws scripts client o → scan (Outside []) 0 raws ≡ Err (length raws, cause.Unfinished)
 unfolding scan
-ends_open raws scripts client statements h =
-    ap (scan (Outside []) 0) (sym (append-nil raws)) ∙ goes raws [] (Outside []) (Inside scripts client statements) 0 h.3.0 (open_leads raws scripts client statements h)
+ends_open raws scripts client o h =
+    ap (scan (Outside []) 0) (sym (append-nil raws)) ∙ goes raws [] (Outside []) (Inside scripts client o) 0 h.3 (open_leads raws scripts client o h)
     ∙ ap (λ n. Err (n, cause.Unfinished)) (omega arith)
 
 finds_it : (before : List Raw) (raw : Raw) (after_it : List Raw) (c : ScriptCause) → IsFault before raw after_it c → scan (Outside []) 0 (before ++ raw ∷ after_it) ≡ Err (length before + 1, c)
 finds_it before raw after_it cause.Line h = let u = up_to before h.0 in fault_at before raw after_it u.0 (Bad cause.Line) cause.Line u.1 u.2 h.1 refl
 finds_it before raw after_it cause.Words h = let u = up_to before h.0 in fault_at before raw after_it u.0 (Bad cause.Words) cause.Words u.1 u.2 h.1 refl
 finds_it before raw after_it cause.Place (inl ((scripts, h), (form, e, n))) =
-    fault_at before raw after_it (Outside scripts) (Form form) cause.Place h.1.0 (whole_leads before scripts h) e (no_begin scripts form n)
-finds_it before raw after_it cause.Place (inr ((count, (scripts, client, statements, h, l)), (other, e))) =
-    fault_at before raw after_it (Inside scripts client statements) (Form (Begins other)) cause.Place h.3.0 (open_leads before scripts client statements h) e refl
-finds_it before raw after_it cause.Deep h = absurd h
-finds_it before raw after_it cause.Long ((scripts, client, statements, h, l), (x, e)) =
-    fault_at before raw after_it (Inside scripts client statements) (Form (Says x)) cause.Long h.3.0 (open_leads before scripts client statements h) e (too_long scripts client statements x l)
-finds_it before raw after_it cause.Unfinished (none, (count, (scripts, client, statements, h, l))) =
-    ap (λ xs. scan (Outside []) 0 (before ++ raw ∷ xs)) none ∙ ends_open (before ++ raw ∷ []) scripts client statements h
+    fault_at before raw after_it (Outside scripts) (Form form) cause.Place h.1 (whole_leads before scripts h) e (no_begin scripts form n)
+finds_it before raw after_it cause.Place (inr (o, (scripts, client, h), (form, e, n))) =
+    fault_at before raw after_it (Inside scripts client o) (Form form) cause.Place h.3 (open_leads before scripts client o h) e (no_place scripts client o form n)
+finds_it before raw after_it cause.Deep (o, (scripts, client, h), (a, w, e), d) =
+    fault_at before raw after_it (Inside scripts client o) (Form (Says (line.If a w))) cause.Deep h.3 (open_leads before scripts client o h) e (too_deep scripts client o a w d)
+finds_it before raw after_it cause.Long (o, (scripts, client, h), (l, e, i), k) =
+    fault_at before raw after_it (Inside scripts client o) (Form (Says l)) cause.Long h.3 (open_leads before scripts client o h) e (too_long scripts client o l i k)
+finds_it before raw after_it cause.Unfinished (none, (o, (scripts, client, h))) =
+    ap (λ (xs : List Raw). scan (Outside []) 0 (before ++ raw ∷ xs)) none ∙ ends_open (before ++ raw ∷ []) scripts client o h
     ∙ ap (λ n. Err (n, cause.Unfinished)) (rw length-append (omega arith))
 
 pub finds_fault : (raws : List Raw) (line : ℕ) (c : ScriptCause) → IsFirstFaultOf raws line c → scan (Outside []) 0 raws ≡ Err (line, c)

@@ -4,18 +4,18 @@ use Rattle.std.specs.Prelude.{option_and_then, nat_lt}
 use Rattle.std.specs.List.{list_all}
 use Rattle.std.proofs.lemmas.Bool.{ltb-true}
 use Rattle.mlt_types.specs.declared.refusal.ScriptCause.TheVariants as cause
-use Rattle.mlt_kinds.specs.declared.operation.ObjOp.{ObjOp}
-use Rattle.mlt_kinds.specs.declared.operation.ObjReply.{ObjReply}
 use Rattle.mlt_script.specs.declared.forms.LineForm.{LineForm}
 use Rattle.mlt_script.specs.declared.forms.LineForm.TheVariants.{Begins, Says, Closes}
 use Rattle.mlt_script.specs.declared.keyword.Keyword.{Keyword}
 use Rattle.mlt_script.specs.declared.keyword.Keyword.TheVariants as key
 use Rattle.mlt_script.specs.declared.keyword.Word.{Word}
-use Rattle.mlt_script.specs.declared.keyword.Word.TheVariants.{Key, Number, Other}
+use Rattle.mlt_script.specs.declared.keyword.Word.TheVariants.{Key, Variable, Number, Other}
+use Rattle.mlt_script.specs.declared.letter.Letter.{Letter}
 use Rattle.mlt_script.specs.declared.line.Reading.TheVariants.{Bad, Skip}
-use Rattle.mlt_script.specs.declared.script.Ending.TheVariants.{Commit, Abort}
-use Rattle.mlt_script.specs.declared.script.Statement.TheVariants.{Ask, Need}
-use Rattle.mlt_script.specs.Forms.{form_of, key_form, begin_form, operation_at, asking_at, finish}
+use Rattle.mlt_script.specs.declared.statement.Ending.TheVariants.{Commit, Abort}
+use Rattle.mlt_script.specs.declared.statement.Statement.TheVariants.{Ask, Need, Let}
+use Rattle.mlt_script.specs.declared.statement.Line.TheVariants.{Plain, If, Else, End}
+use Rattle.mlt_script.specs.Forms.{form_of, key_form, begin_form, ask_form, need_form, if_form, let_form, equals_source, number_below, letter_at, key_at, source_at, asking_at, asking_is_at, finish}
 use Rattle.mlt_script.specs.Lines.{Raw, content, is_comment, is_allowed}
 use Rattle.mlt_script.specs.Readings.{reading, said_by, form_or_fault, outside_comment, IsReading}
 use Rattle.mlt_script.specs.Words.{words_of}
@@ -41,17 +41,33 @@ begins_if n rest true e = finished (Begins n) (ltb-true n 1000 e) rest
 begins_if n rest false e = tt
 
 begins : (words : List Word) → AnyForm (begin_form words)
-unfolding begin_form
+unfolding begin_form number_below
 begins [] = omega arith
 begins (Number n ∷ rest) = begins_if n rest (ltb n 1000) refl
 begins (Key k ∷ rest) = tt
+begins (Variable l ∷ rest) = tt
 begins (Other ∷ rest) = tt
 
-asks : (k : Keyword) (rest : List Word) → AnyForm (option_and_then (λ (o : ObjOp × List Word). finish (Says (Ask o.0)) o.1) (operation_at k rest))
-asks k rest = after_any (operation_at k rest) _ (λ o. finished (Says (Ask o.0)) tt o.1)
+asks : (k : Keyword) (rest : List Word) → AnyForm (ask_form k rest)
+unfolding ask_form
+asks k rest = after_any (asking_at k rest) _ (λ o. finished (Says (Plain (Ask o.0))) tt o.1)
 
-needs : (rest : List Word) → AnyForm (option_and_then (λ (a : (ObjOp × ObjReply) × List Word). finish (Says (Need a.0.0 a.0.1)) a.1) (asking_at rest))
-needs rest = after_any (asking_at rest) _ (λ a. finished (Says (Need a.0.0 a.0.1)) tt a.1)
+needs : (rest : List Word) → AnyForm (need_form rest)
+unfolding need_form
+needs rest = after_any (asking_is_at rest) _ (λ a. finished (Says (Plain (Need a.0.0 a.0.1))) tt a.1)
+
+conditions : (rest : List Word) → AnyForm (if_form rest)
+unfolding if_form
+conditions rest = after_any (asking_is_at rest) _ (λ a. finished (Says (If a.0.0 a.0.1)) tt a.1)
+
+sources : (l : Letter) (k : Keyword) (rest : List Word) → AnyForm (equals_source l k rest)
+sources l key.Equals rest =
+    after_any (key_at rest) _ (λ k. after_any (source_at k.0 k.1) _ (λ s. finished (Says (Plain (Let l s.0))) tt s.1))
+sources l k rest = tt
+
+sets : (rest : List Word) → AnyForm (let_form rest)
+unfolding let_form
+sets rest = after_any (letter_at rest) _ (λ l. after_any (key_at l.1) _ (λ k. sources l.0 k.0 k.1))
 
 keyed : (k : Keyword) (rest : List Word) → AnyForm (key_form k rest)
 unfolding key_form
@@ -59,13 +75,15 @@ keyed key.Begin rest = begins rest
 keyed key.Commit rest = finished (Closes Commit) tt rest
 keyed key.Abort rest = finished (Closes Abort) tt rest
 keyed key.Need rest = needs rest
+keyed key.Let rest = sets rest
+keyed key.If rest = conditions rest
+keyed key.Else rest = finished (Says Else) tt rest
+keyed key.End rest = finished (Says End) tt rest
 keyed k rest = asks _ rest
 
 formed : (words : List Word) → AnyForm (form_of words)
-formed [] = tt
-formed (Key k ∷ rest) = keyed k rest
-formed (Number n ∷ rest) = tt
-formed (Other ∷ rest) = tt
+unfolding form_of
+formed words = after_any (key_at words) _ (λ k. keyed k.0 k.1)
 
 of_form : (o : Option LineForm) → AnyForm o → IsReading (form_or_fault o)
 of_form None h = inr refl

@@ -1,9 +1,15 @@
 pub mod Splitting
 pub mod Cutting
 pub mod Numerals
+pub mod Running
+pub mod Trees
+pub mod Placing
+pub mod Scanning
 pub mod Forming
 pub mod Soundness
 pub mod Completeness
-pub mod Scanning
 pub mod Deciding
-pub mod Asking
+pub mod Pieces
+pub mod Rereading
+pub mod Printed
+pub mod Parting

@@ -1,11 +1,13 @@
 -- What a cursor still asks.
 use Rattle.std.specs.Prelude.{ℕ, ◌-◌, length, drop}
 use Rattle.mlt_script.specs.declared.cursor.Cursor.{Cursor}
-use Rattle.mlt_script.specs.Follows.{Plan, plan}
+use Rattle.mlt_script.specs.declared.skipping.Skipping.TheVariants.{Nowhere}
+use Rattle.mlt_script.specs.Follows.{Plan}
+use Rattle.mlt_script.specs.Runs.{run}
 
 abbrev pub plan_of : Cursor → Plan
-plan_of c = plan (drop c.at c.statements.now) c.ending
+plan_of c = run (drop c.at c.lines.now) Nowhere c.variables c.ending
 
--- at most how many operations it still asks
+-- how many lines are left, of which each asks at most one operation
 abbrev pub left_of : Cursor → ℕ
-left_of c = length c.statements.now - c.at
+left_of c = length c.lines.now - c.at

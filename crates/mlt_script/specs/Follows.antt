@@ -1,21 +1,50 @@
 -- What a script asks, and which transcripts follow it.
-use Rattle.std.specs.Prelude.{◌≡◌, List, [], ◌∷◌, ◌++◌, Bool, true, false, ◌==◌, if◌then◌else◌}
+use Rattle.std.specs.Prelude.{◌≡◌, ℕ, List, [], ◌∷◌, ◌++◌, Bool, true, false, ◌==◌, slice_index, slice_set, replicate, if◌then◌else◌}
+use Rattle.mlt_kinds.specs.declared.account.AccountOp.TheVariants as account
+use Rattle.mlt_kinds.specs.declared.counter.CounterOp.TheVariants as counter
 use Rattle.mlt_kinds.specs.declared.operation.ObjOp.{ObjOp}
+use Rattle.mlt_kinds.specs.declared.operation.ObjOp.TheVariants.{Account, Counter}
 use Rattle.mlt_kinds.specs.declared.operation.ObjReply.{ObjReply}
-use Rattle.mlt_kinds.specs.Bases.{Transcript}
-use Rattle.mlt_script.specs.declared.script.Statement.{Statement}
-use Rattle.mlt_script.specs.declared.script.Statement.TheVariants.{Ask, Need}
-use Rattle.mlt_script.specs.declared.script.Ending.{Ending}
-use Rattle.mlt_script.specs.declared.script.Ending.TheVariants.{Commit, Abort}
-use Rattle.mlt_script.specs.Scripts.{ScriptForm}
 use Rattle.mlt_kinds.specs.declared.operation.ObjReply.TheVariants as reply
+use Rattle.mlt_kinds.specs.Bases.{Transcript}
+use Rattle.mlt_script.specs.declared.statement.Asking.{Asking}
+use Rattle.mlt_script.specs.declared.statement.Asking.TheVariants.{Fixed, By}
+use Rattle.mlt_script.specs.declared.statement.Wanted.{Wanted}
+use Rattle.mlt_script.specs.declared.statement.Wanted.TheVariants as wanted
+use Rattle.mlt_script.specs.declared.statement.Source.{Source}
+use Rattle.mlt_script.specs.declared.statement.Source.TheVariants as source
+use Rattle.mlt_script.specs.declared.statement.Statement.{Statement}
+use Rattle.mlt_script.specs.declared.statement.Statement.TheVariants.{Ask, Need, Let}
+use Rattle.mlt_script.specs.declared.statement.Ending.{Ending}
+use Rattle.mlt_script.specs.declared.statement.Ending.TheVariants.{Commit, Abort}
 use Rattle.mlt_script.specs.declared.cursor.Next.{Next}
 use Rattle.mlt_script.specs.declared.cursor.Next.TheVariants as next
+use Rattle.mlt_script.specs.Blocks.{Block}
+use Rattle.mlt_script.specs.Blocks.Block.{Nothing, Then, If}
+use Rattle.mlt_script.specs.Forms.{with_amount}
+use Rattle.mlt_script.specs.Letters.{index_of}
+use Rattle.mlt_script.specs.Scripts.{ScriptForm}
 
 -- What is left of a script: its end, or an operation that it asks and how it goes on at each reply.
 pub data Plan : Type 0 where
   Ends : Ending → Plan
   Asks : ObjOp → (ObjReply → Plan) → Plan
+
+-- the values of the variables a to z
+abbrev pub Variables : Type 0
+Variables = List ℕ
+
+abbrev pub no_values : Variables
+no_values = replicate 26 0
+
+-- the operation that is asked
+abbrev pub asked : Variables → Asking → ObjOp
+asked vs (Fixed op) = op
+asked vs (By op l) = with_amount op (slice_index vs (index_of l))
+
+abbrev pub asked_from : Source → ObjOp
+asked_from (source.Balance a) = Account a account.Balance
+asked_from (source.Read c) = Counter c counter.Read
 
 -- whether the two replies are the same one
 abbrev pub same_reply : ObjReply → ObjReply → Bool
@@ -36,14 +65,46 @@ same_reply reply.No reply.No = true
 same_reply (reply.Is v) (reply.Is w) = v == w
 same_reply _ _ = false
 
--- What statements ask, up to the ending that follows them.
-abbrev pub plan : List Statement → Ending → Plan
-plan [] end = Ends end
-plan (Ask op ∷ rest) end = Asks op (λ r. plan rest end)
-plan (Need op wanted ∷ rest) end = Asks op (λ r. if same_reply r wanted then plan rest end else Ends Abort)
+-- the reply that a script compares with
+abbrev pub wanted_reply : Variables → Wanted → ObjReply
+wanted_reply vs (wanted.Reply r) = r
+wanted_reply vs (wanted.ValueOf l) = reply.Is (slice_index vs (index_of l))
+
+abbrev pub is_wanted : Variables → Wanted → ObjReply → Bool
+is_wanted vs w r = same_reply r (wanted_reply vs w)
+
+-- the value of a reply, 0 where it is none
+abbrev pub value_of : ObjReply → ℕ
+value_of (reply.Is v) = v
+value_of r = 0
+
+-- What a statement of one line asks.
+abbrev pub asked_by : Variables → Statement → ObjOp
+asked_by vs (Ask a) = asked vs a
+asked_by vs (Need a w) = asked vs a
+asked_by vs (Let l s) = asked_from s
+
+-- whether the script goes on at the reply
+abbrev pub goes_on : Variables → Statement → ObjReply → Bool
+goes_on vs (Ask a) r = true
+goes_on vs (Need a w) r = is_wanted vs w r
+goes_on vs (Let l s) r = true
+
+-- the variables after it
+abbrev pub set_by : Variables → Statement → ObjReply → Variables
+set_by vs (Ask a) r = vs
+set_by vs (Need a w) r = vs
+set_by vs (Let l s) r = slice_set vs (index_of l) (value_of r)
+
+-- What statements ask, and then what comes after them, by cases on the statements.
+abbrev pub plan : Block → Variables → (Variables → Plan) → Plan
+plan Nothing vs after = after vs
+plan (Then s rest) vs after = Asks (asked_by vs s) (λ r. if goes_on vs s r then plan rest (set_by vs s r) after else Ends Abort)
+plan (If a w first second rest) vs after =
+    Asks (asked vs a) (λ r. if is_wanted vs w r then plan first vs (λ us. plan rest us after) else plan second vs (λ us. plan rest us after))
 
 abbrev pub plan_of_script : ScriptForm → Plan
-plan_of_script s = plan s.statements s.ending
+plan_of_script s = plan s.block no_values (λ vs. Ends s.ending)
 
 -- Told the replies of the transcript in turn, a plan asks for just its operations, and the other plan is what is left.
 abbrev pub Reaches : Plan → Transcript → Plan → Type 0

@@ -1,9 +1,14 @@
 -- The forms of a line. A function reads from the front of the words, and gives what it read and the words after it.
 use Rattle.std.specs.Prelude.{◌≡◌, ℕ, ◌^◌, List, [], ◌∷◌, Option, Some, None, option_and_then, option_map, nat_lt, if◌then◌else◌}
 use denote.Ref.{Bor}
+use Rattle.mlt_kinds.specs.declared.account.AccountOp.{AccountOp}
 use Rattle.mlt_kinds.specs.declared.account.AccountOp.TheVariants as account
+use Rattle.mlt_kinds.specs.declared.element.ElementOp.{ElementOp}
+use Rattle.mlt_kinds.specs.declared.element.ElementOp.TheVariants as element
+use Rattle.mlt_kinds.specs.declared.counter.CounterOp.{CounterOp}
+use Rattle.mlt_kinds.specs.declared.counter.CounterOp.TheVariants as counter
 use Rattle.mlt_kinds.specs.declared.operation.ObjOp.{ObjOp}
-use Rattle.mlt_kinds.specs.declared.operation.ObjOp.TheVariants.{Account}
+use Rattle.mlt_kinds.specs.declared.operation.ObjOp.TheVariants.{Account, Element, Counter}
 use Rattle.mlt_kinds.specs.declared.operation.ObjReply.{ObjReply}
 use Rattle.mlt_kinds.specs.declared.operation.ObjReply.TheVariants as reply
 use Rattle.mlt_script.specs.declared.forms.LineForm.{LineForm}
@@ -11,80 +16,206 @@ use Rattle.mlt_script.specs.declared.forms.LineForm.TheVariants.{Begins, Says, C
 use Rattle.mlt_script.specs.declared.keyword.Keyword.{Keyword}
 use Rattle.mlt_script.specs.declared.keyword.Keyword.TheVariants as key
 use Rattle.mlt_script.specs.declared.keyword.Word.{Word}
-use Rattle.mlt_script.specs.declared.keyword.Word.TheVariants.{Key, Number}
-use Rattle.mlt_script.specs.declared.script.Ending.TheVariants.{Commit, Abort}
-use Rattle.mlt_script.specs.declared.script.Statement.TheVariants.{Ask, Need}
+use Rattle.mlt_script.specs.declared.keyword.Word.TheVariants.{Key, Variable, Number, Other}
+use Rattle.mlt_script.specs.declared.letter.Letter.{Letter}
+use Rattle.mlt_script.specs.declared.statement.AmountOp.{AmountOp}
+use Rattle.mlt_script.specs.declared.statement.AmountOp.TheVariants as amount
+use Rattle.mlt_script.specs.declared.statement.Asking.{Asking}
+use Rattle.mlt_script.specs.declared.statement.Asking.TheVariants.{Fixed, By}
+use Rattle.mlt_script.specs.declared.statement.Wanted.{Wanted}
+use Rattle.mlt_script.specs.declared.statement.Wanted.TheVariants as wanted
+use Rattle.mlt_script.specs.declared.statement.Source.{Source}
+use Rattle.mlt_script.specs.declared.statement.Source.TheVariants as source
+use Rattle.mlt_script.specs.declared.statement.Ending.TheVariants.{Commit, Abort}
+use Rattle.mlt_script.specs.declared.statement.Statement.TheVariants.{Ask, Need, Let}
+use Rattle.mlt_script.specs.declared.statement.Line.TheVariants as line
+use Rattle.mlt_script.specs.Words.{words_of, word_at}
 
 infixl 10 ◌>>=◌
 abbrev pub ◌>>=◌ : {A B : Type 0} → Option A → (A → Option B) → Option B
 o >>= f = option_and_then f o
 
--- a function of the program gave what is read here, and the words after it
-abbrev pub Reads : {A : Type 0} → Option (A × Bor (List Word)) → Option (A × List Word) → Type 0
-Reads result read = option_map (λ x. (x.0, x.1.now)) result ≡ read
+-- a function of the program gave what is read here, and a text of the words after it
+abbrev pub Reads : {A : Type 0} → Option (A × Bor (List ℕ)) → Option (A × List Word) → Type 0
+Reads result read = option_map (λ x. (x.0, words_of x.1.now)) result ≡ read
 
-abbrev pub number_below : ℕ → List Word → Option (ℕ × List Word)
-number_below limit (Number n ∷ rest) = if nat_lt n limit then Some (n, rest) else None
-number_below limit words = None
+abbrev pub key_in : Word → List Word → Option (Keyword × List Word)
+key_in (Key k) rest = Some (k, rest)
+key_in w rest = None
 
-abbrev pub account_at : List Word → Option (ℕ × List Word)
-account_at words = number_below (2 ^ 32) words
+-- a keyword
+unfoldable pub key_at : List Word → Option (Keyword × List Word)
+key_at words = do
+  w ← word_at words
+  key_in w.0 w.1
 
-abbrev pub client_at : List Word → Option (ℕ × List Word)
-client_at words = number_below 1000 words
+abbrev pub number_in : ℕ → Word → List Word → Option (ℕ × List Word)
+number_in limit (Number n) rest = if nat_lt n limit then Some (n, rest) else None
+number_in limit w rest = None
 
-abbrev pub amount_at : List Word → Option (ℕ × List Word)
-amount_at (Number n ∷ rest) = Some (n, rest)
-amount_at words = None
+-- a number below the limit
+unfoldable pub number_below : ℕ → List Word → Option (ℕ × List Word)
+number_below limit words = do
+  w ← word_at words
+  number_in limit w.0 w.1
+
+abbrev pub letter_in : Word → List Word → Option (Letter × List Word)
+letter_in (Variable l) rest = Some (l, rest)
+letter_in w rest = None
+
+-- the name of a variable
+unfoldable pub letter_at : List Word → Option (Letter × List Word)
+letter_at words = do
+  w ← word_at words
+  letter_in w.0 w.1
+
+-- the operation with this amount
+abbrev pub with_amount : AmountOp → ℕ → ObjOp
+with_amount (amount.Deposit a) n = Account a (account.Deposit n)
+with_amount (amount.Withdraw a) n = Account a (account.Withdraw n)
+with_amount (amount.Up c) n = Counter c (counter.Up n)
+with_amount (amount.Down c) n = Counter c (counter.Down n)
+
+abbrev pub amount_in : AmountOp → Word → List Word → Option (Asking × List Word)
+amount_in op (Number n) rest = Some (Fixed (with_amount op n), rest)
+amount_in op (Variable l) rest = Some (By op l, rest)
+amount_in op w rest = None
+
+-- the amount of an operation: a number, or a variable
+unfoldable pub amount_at : AmountOp → List Word → Option (Asking × List Word)
+amount_at op words = do
+  w ← word_at words
+  amount_in op w.0 w.1
+
+unfoldable pub account_at : AccountOp → List Word → Option (Asking × List Word)
+account_at op words = do
+  a ← number_below (2 ^ 32) words
+  Some (Fixed (Account a.0 op), a.1)
+
+unfoldable pub element_at : ElementOp → List Word → Option (Asking × List Word)
+element_at op words = do
+  s ← number_below (2 ^ 16) words
+  e ← number_below (2 ^ 32) s.1
+  Some (Fixed (Element s.0 e.0 op), e.1)
+
+unfoldable pub counter_at : CounterOp → List Word → Option (Asking × List Word)
+counter_at op words = do
+  c ← number_below (2 ^ 32) words
+  Some (Fixed (Counter c.0 op), c.1)
+
+-- the number of an account or a counter, and an amount
+unfoldable pub deposit_at : List Word → Option (Asking × List Word)
+deposit_at words = do
+  a ← number_below (2 ^ 32) words
+  amount_at (amount.Deposit a.0) a.1
+
+unfoldable pub withdraw_at : List Word → Option (Asking × List Word)
+withdraw_at words = do
+  a ← number_below (2 ^ 32) words
+  amount_at (amount.Withdraw a.0) a.1
+
+unfoldable pub up_at : List Word → Option (Asking × List Word)
+up_at words = do
+  c ← number_below (2 ^ 32) words
+  amount_at (amount.Up c.0) c.1
+
+unfoldable pub down_at : List Word → Option (Asking × List Word)
+down_at words = do
+  c ← number_below (2 ^ 32) words
+  amount_at (amount.Down c.0) c.1
 
 -- an OP whose first word is the keyword
-unfoldable pub operation_at : Keyword → List Word → Option (ObjOp × List Word)
-operation_at key.Open words = do
-  a ← account_at words
-  Some (Account a.0 account.Open, a.1)
-operation_at key.Close words = do
-  a ← account_at words
-  Some (Account a.0 account.Close, a.1)
-operation_at key.Deposit words = do
-  a ← account_at words
-  n ← amount_at a.1
-  Some (Account a.0 (account.Deposit n.0), n.1)
-operation_at key.Withdraw words = do
-  a ← account_at words
-  n ← amount_at a.1
-  Some (Account a.0 (account.Withdraw n.0), n.1)
-operation_at key.Balance words = do
-  a ← account_at words
-  Some (Account a.0 account.Balance, a.1)
-operation_at keyword words = None
+unfoldable pub asking_at : Keyword → List Word → Option (Asking × List Word)
+asking_at key.Open words = account_at account.Open words
+asking_at key.Close words = account_at account.Close words
+asking_at key.Deposit words = deposit_at words
+asking_at key.Withdraw words = withdraw_at words
+asking_at key.Balance words = account_at account.Balance words
+asking_at key.Add words = element_at element.Add words
+asking_at key.Remove words = element_at element.Remove words
+asking_at key.Has words = element_at element.Has words
+asking_at key.Up words = up_at words
+asking_at key.Down words = down_at words
+asking_at key.Read words = counter_at counter.Read words
+asking_at keyword words = None
 
--- a REPLY: a reply word, or an amount, which stands for `is v`
-unfoldable pub reply_at : List Word → Option (ObjReply × List Word)
-reply_at (Key key.Opened ∷ rest) = Some (reply.Opened, rest)
-reply_at (Key key.Exists ∷ rest) = Some (reply.Exists, rest)
-reply_at (Key key.Closed ∷ rest) = Some (reply.Closed, rest)
-reply_at (Key key.NotEmpty ∷ rest) = Some (reply.NotEmpty, rest)
-reply_at (Key key.Done ∷ rest) = Some (reply.Done, rest)
-reply_at (Key key.Over ∷ rest) = Some (reply.Over, rest)
-reply_at (Key key.Short ∷ rest) = Some (reply.Short, rest)
-reply_at (Key key.Missing ∷ rest) = Some (reply.Missing, rest)
-reply_at words = do
-  n ← amount_at words
+abbrev pub fixed : Asking → List Word → Option (ObjOp × List Word)
+fixed (Fixed op) rest = Some (op, rest)
+fixed (By op l) rest = None
+
+-- an OP whose amount, if it has one, is a number
+unfoldable pub op_at : List Word → Option (ObjOp × List Word)
+op_at words = do
+  k ← key_at words
+  a ← asking_at k.0 k.1
+  fixed a.0 a.1
+
+-- a reply of one word
+unfoldable pub reply_word : Keyword → Option ObjReply
+reply_word key.Opened = Some reply.Opened
+reply_word key.Exists = Some reply.Exists
+reply_word key.Closed = Some reply.Closed
+reply_word key.NotEmpty = Some reply.NotEmpty
+reply_word key.Done = Some reply.Done
+reply_word key.Over = Some reply.Over
+reply_word key.Short = Some reply.Short
+reply_word key.Missing = Some reply.Missing
+reply_word key.Added = Some reply.Added
+reply_word key.Present = Some reply.Present
+reply_word key.Removed = Some reply.Removed
+reply_word key.Absent = Some reply.Absent
+reply_word key.Yes = Some reply.Yes
+reply_word key.No = Some reply.No
+reply_word keyword = None
+
+abbrev pub with_reply : List Word → Option ObjReply → Option (ObjReply × List Word)
+with_reply rest (Some r) = Some (r, rest)
+with_reply rest None = None
+
+abbrev pub value_at : List Word → Option (ObjReply × List Word)
+value_at words = do
+  n ← number_below (2 ^ 64) words
   Some (reply.Is n.0, n.1)
 
--- is REPLY, after an OP
-abbrev pub is_reply : ObjOp → List Word → Option ((ObjOp × ObjReply) × List Word)
-is_reply o (Key key.Is ∷ rest) = do
-  r ← reply_at rest
-  Some ((o, r.0), r.1)
-is_reply o words = None
+unfoldable pub reply_after : Keyword → List Word → Option (ObjReply × List Word)
+reply_after key.Is rest = value_at rest
+reply_after keyword rest = with_reply rest (reply_word keyword)
+
+-- the text of a reply: a word, or is v
+unfoldable pub reply_at : List Word → Option (ObjReply × List Word)
+reply_at words = do
+  k ← key_at words
+  reply_after k.0 k.1
+
+abbrev pub with_wanted : List Word → Option ObjReply → Option (Wanted × List Word)
+with_wanted rest (Some r) = Some (wanted.Reply r, rest)
+with_wanted rest None = None
+
+abbrev pub wanted_in : Word → List Word → Option (Wanted × List Word)
+wanted_in (Key keyword) rest = with_wanted rest (reply_word keyword)
+wanted_in (Number n) rest = Some (wanted.Reply (reply.Is n), rest)
+wanted_in (Variable l) rest = Some (wanted.ValueOf l, rest)
+wanted_in Other rest = None
+
+-- a REPLY of a script: a reply word, or an amount, which stands for `is v`
+unfoldable pub wanted_at : List Word → Option (Wanted × List Word)
+wanted_at words = do
+  w ← word_at words
+  wanted_in w.0 w.1
+
+abbrev pub is_wanted : Asking → Keyword → List Word → Option ((Asking × Wanted) × List Word)
+is_wanted a key.Is rest = do
+  w ← wanted_at rest
+  Some ((a, w.0), w.1)
+is_wanted a keyword rest = None
 
 -- OP is REPLY
-unfoldable pub asking_at : List Word → Option ((ObjOp × ObjReply) × List Word)
-asking_at (Key keyword ∷ rest) = do
-  o ← operation_at keyword rest
-  is_reply o.0 o.1
-asking_at words = None
+unfoldable pub asking_is_at : List Word → Option ((Asking × Wanted) × List Word)
+asking_is_at words = do
+  k ← key_at words
+  a ← asking_at k.0 k.1
+  i ← key_at a.1
+  is_wanted a.0 i.0 i.1
 
 -- the form, where no word is left
 abbrev pub finish : LineForm → List Word → Option LineForm
@@ -95,22 +226,62 @@ finish form (w ∷ ws) = None
 unfoldable pub begin_form : List Word → Option LineForm
 begin_form [] = Some (Begins 0)
 begin_form (w ∷ ws) = do
-  c ← client_at (w ∷ ws)
+  c ← number_below 1000 (w ∷ ws)
   finish (Begins c.0) c.1
+
+-- what a variable is set from, whose first word is the keyword
+unfoldable pub source_at : Keyword → List Word → Option (Source × List Word)
+source_at key.Balance words = do
+  a ← number_below (2 ^ 32) words
+  Some (source.Balance a.0, a.1)
+source_at key.Read words = do
+  c ← number_below (2 ^ 32) words
+  Some (source.Read c.0, c.1)
+source_at keyword words = None
+
+abbrev pub equals_source : Letter → Keyword → List Word → Option LineForm
+equals_source l key.Equals rest = do
+  k ← key_at rest
+  s ← source_at k.0 k.1
+  finish (Says (line.Plain (Let l s.0))) s.1
+equals_source l keyword rest = None
+
+-- let v = balance A, or let v = read C
+unfoldable pub let_form : List Word → Option LineForm
+let_form words = do
+  l ← letter_at words
+  k ← key_at l.1
+  equals_source l.0 k.0 k.1
+
+unfoldable pub need_form : List Word → Option LineForm
+need_form words = do
+  a ← asking_is_at words
+  finish (Says (line.Plain (Need a.0.0 a.0.1))) a.1
+
+unfoldable pub if_form : List Word → Option LineForm
+if_form words = do
+  a ← asking_is_at words
+  finish (Says (line.If a.0.0 a.0.1)) a.1
+
+unfoldable pub ask_form : Keyword → List Word → Option LineForm
+ask_form keyword words = do
+  a ← asking_at keyword words
+  finish (Says (line.Plain (Ask a.0))) a.1
 
 -- a line whose first word is the keyword
 unfoldable pub key_form : Keyword → List Word → Option LineForm
 key_form key.Begin rest = begin_form rest
 key_form key.Commit rest = finish (Closes Commit) rest
 key_form key.Abort rest = finish (Closes Abort) rest
-key_form key.Need rest = do
-  a ← asking_at rest
-  finish (Says (Need a.0.0 a.0.1)) a.1
-key_form keyword rest = do
-  o ← operation_at keyword rest
-  finish (Says (Ask o.0)) o.1
+key_form key.Need rest = need_form rest
+key_form key.Let rest = let_form rest
+key_form key.If rest = if_form rest
+key_form key.Else rest = finish (Says line.Else) rest
+key_form key.End rest = finish (Says line.End) rest
+key_form keyword rest = ask_form keyword rest
 
 -- the form of a line of these words, if they are one
-abbrev pub form_of : List Word → Option LineForm
-form_of (Key keyword ∷ rest) = key_form keyword rest
-form_of words = None
+unfoldable pub form_of : List Word → Option LineForm
+form_of words = do
+  k ← key_at words
+  key_form k.0 k.1

@@ -1,32 +1,48 @@
 -- Which scripts a text is, and where its first fault stands.
-use Rattle.std.specs.Prelude.{◌≡◌, ℕ, ◌+◌, ◌<◌, ◌≤◌, List, [], ◌∷◌, ◌++◌, length, map, ◌⊎◌}
+use Rattle.std.specs.Prelude.{◌≡◌, ℕ, ◌+◌, ◌<◌, List, [], ◌∷◌, ◌++◌, length, map, Bool, true, false, ◌⊎◌}
 use Rattle.mlt_types.specs.declared.refusal.ScriptCause.{ScriptCause}
 use Rattle.mlt_types.specs.declared.refusal.ScriptCause.TheVariants as cause
 use Rattle.mlt_script.specs.declared.forms.LineForm.{LineForm}
 use Rattle.mlt_script.specs.declared.forms.LineForm.TheVariants.{Begins, Says, Closes}
 use Rattle.mlt_script.specs.declared.line.Reading.{Reading}
 use Rattle.mlt_script.specs.declared.line.Reading.TheVariants.{Bad, Form}
-use Rattle.mlt_script.specs.declared.script.Statement.{Statement}
+use Rattle.mlt_script.specs.declared.statement.Asking.{Asking}
+use Rattle.mlt_script.specs.declared.statement.Wanted.{Wanted}
+use Rattle.mlt_script.specs.declared.statement.Line.{Line}
+use Rattle.mlt_script.specs.declared.statement.Line.TheVariants as line
+use Rattle.mlt_script.specs.Blocks.{Block, Open, path, depth, IsWithin}
+use Rattle.mlt_script.specs.Blocks.Block.{Nothing, Then, If}
+use Rattle.mlt_script.specs.Blocks.Open.{Top, InFirst, InSecond}
 use Rattle.mlt_script.specs.Lines.{Raw, lines}
 use Rattle.mlt_script.specs.Readings.{reading}
-use Rattle.mlt_script.specs.Scripts.{ScriptForm}
-
--- a script's own limits
-abbrev pub IsScript : ScriptForm → Type 0
-IsScript s = (s.client < 1000) × (length s.statements ≤ 256)
+use Rattle.mlt_script.specs.Scripts.{ScriptForm, IsScript}
 
 abbrev pub AreScripts : List ScriptForm → Type 0
 AreScripts [] = Unit {0}
 AreScripts (s ∷ scripts) = IsScript s × AreScripts scripts
 
--- a script is its begin, its statements and its ending, a line each
-abbrev pub lines_of_script : ScriptForm → List LineForm
-lines_of_script s = Begins s.client ∷ (map Says s.statements ++ Closes s.ending ∷ [])
+-- The lines of statements. Where the second part of an if is empty, its else may be left out.
+abbrev pub IsSpelled : Block → List Line → Type 0
+IsSpelled Nothing ls = ls ≡ []
+IsSpelled (Then s rest) ls = (z : List Line) × (ls ≡ line.Plain s ∷ z) × IsSpelled rest z
+IsSpelled (If a w first second rest) ls = (x : List Line) × (y : List Line) × (z : List Line) × IsSpelled first x × IsSpelled second y × IsSpelled rest z
+    × ((ls ≡ line.If a w ∷ (x ++ line.Else ∷ (y ++ line.End ∷ z))) ⊎ ((second ≡ Nothing) × (ls ≡ line.If a w ∷ (x ++ line.End ∷ z))))
+
+-- the lines of a script that is read up to somewhere, behind its begin
+abbrev pub IsSpelledOpen : Open → List Line → Type 0
+IsSpelledOpen (Top b) ls = IsSpelled b ls
+IsSpelledOpen (InFirst o a w first) ls = (x : List Line) × (y : List Line) × IsSpelledOpen o x × IsSpelled first y × (ls ≡ x ++ line.If a w ∷ y)
+IsSpelledOpen (InSecond o a w first second) ls = (x : List Line) × (y : List Line) × (z : List Line) × IsSpelledOpen o x × IsSpelled first y × IsSpelled second z
+    × (ls ≡ x ++ line.If a w ∷ (y ++ line.Else ∷ z))
+
+-- a script is its begin, the lines of its statements and its ending
+abbrev pub IsSpelledScript : ScriptForm → List LineForm → Type 0
+IsSpelledScript s forms = (ls : List Line) × IsSpelled s.block ls × (forms ≡ Begins s.client ∷ (map Says ls ++ Closes s.ending ∷ []))
 
 -- one script after the other
-abbrev pub lines_of_scripts : List ScriptForm → List LineForm
-lines_of_scripts [] = []
-lines_of_scripts (s ∷ scripts) = lines_of_script s ++ lines_of_scripts scripts
+abbrev pub AreSpelled : List ScriptForm → List LineForm → Type 0
+AreSpelled [] forms = forms ≡ []
+AreSpelled (s ∷ scripts) forms = (x : List LineForm) × (y : List LineForm) × IsSpelledScript s x × AreSpelled scripts y × (forms ≡ x ++ y)
 
 abbrev pub IsLawful : Reading → Type 0
 IsLawful (Bad c) = ⊥
@@ -46,18 +62,17 @@ abbrev pub forms_of : List Raw → List LineForm
 forms_of [] = []
 forms_of (raw ∷ raws) = form_in (reading raw) ++ forms_of raws
 
--- no line is faulty by itself, and their forms are these
-abbrev pub Say : List Raw → List LineForm → Type 0
-Say raws forms = AreLawful raws × (forms_of raws ≡ forms)
-
 -- the lines are just these scripts
 abbrev pub AreWhole : List Raw → List ScriptForm → Type 0
-AreWhole raws scripts = AreScripts scripts × Say raws (lines_of_scripts scripts)
+AreWhole raws scripts = AreScripts scripts × AreLawful raws × AreSpelled scripts (forms_of raws)
 
--- the lines are just these scripts and then the begin of one more, with some statements
-abbrev pub AreOpen : List Raw → List ScriptForm → ℕ → List Statement → Type 0
-AreOpen raws scripts client statements = AreScripts scripts × (client < 1000) × (length statements ≤ 256)
-    × Say raws (lines_of_scripts scripts ++ Begins client ∷ map Says statements)
+-- the forms are those of these scripts, then a begin, and then what is read of that script
+abbrev pub AreSpelledOpen : List ScriptForm → ℕ → Open → List LineForm → Type 0
+AreSpelledOpen scripts client o forms = (x : List LineForm) × (ls : List Line) × AreSpelled scripts x × IsSpelledOpen o ls × (forms ≡ x ++ Begins client ∷ map Says ls)
+
+-- the lines are just these scripts, and then one more that is read up to somewhere
+abbrev pub AreOpen : List Raw → List ScriptForm → ℕ → Open → Type 0
+AreOpen raws scripts client o = AreScripts scripts × (client < 1000) × IsWithin o × AreLawful raws × AreSpelledOpen scripts client o (forms_of raws)
 
 -- the text is just these scripts
 abbrev pub Spells : List ℕ → List ScriptForm → Type 0
@@ -67,17 +82,34 @@ Spells text scripts = AreWhole (lines text) scripts
 abbrev pub IsClosed : List Raw → Type 0
 IsClosed raws = (scripts : List ScriptForm) × AreWhole raws scripts
 
--- the lines have no fault, and end inside a script, so many operations after its begin
-abbrev pub IsOpen : List Raw → ℕ → Type 0
-IsOpen raws count = (scripts : List ScriptForm) × (client : ℕ) × (statements : List Statement)
-    × AreOpen raws scripts client statements × (length statements ≡ count)
+-- the lines have no fault, and end inside a script, up to here
+abbrev pub IsOpen : List Raw → Open → Type 0
+IsOpen raws o = (scripts : List ScriptForm) × (client : ℕ) × AreOpen raws scripts client o
 
 abbrev pub IsSound : List Raw → Type 0
-IsSound raws = IsClosed raws ⊎ ((count : ℕ) × IsOpen raws count)
+IsSound raws = IsClosed raws ⊎ ((o : Open) × IsOpen raws o)
 
 abbrev pub IsNoBegin : LineForm → Type 0
 IsNoBegin (Begins client) = ⊥
 IsNoBegin form = Unit {0}
+
+abbrev pub is_in_first : Open → Bool
+is_in_first (InFirst o a w first) = true
+is_in_first o = false
+
+-- Inside a script: a begin; an ending inside an if; an else elsewhere than in the first part of an if; an end outside each if.
+abbrev pub HasNoPlace : Open → LineForm → Type 0
+HasNoPlace o (Begins client) = Unit {0}
+HasNoPlace o (Closes e) = 0 < depth o
+HasNoPlace o (Says line.Else) = is_in_first o ≡ false
+HasNoPlace o (Says line.End) = depth o ≡ 0
+HasNoPlace o (Says l) = ⊥
+
+-- the line asks an operation, and is no if inside 16 others
+abbrev pub IsAskingHere : Open → Line → Type 0
+IsAskingHere o (line.Plain s) = Unit {0}
+IsAskingHere o (line.If a w) = depth o < 16
+IsAskingHere o l = ⊥
 
 -- After lines that have no fault, the line has this one. The lines after it matter only to Unfinished.
 abbrev pub IsFault : List Raw → Raw → List Raw → ScriptCause → Type 0
@@ -85,10 +117,11 @@ IsFault before raw after cause.Line = IsSound before × (reading raw ≡ Bad cau
 IsFault before raw after cause.Words = IsSound before × (reading raw ≡ Bad cause.Words)
 IsFault before raw after cause.Place =
     (IsClosed before × ((form : LineForm) × (reading raw ≡ Form form) × IsNoBegin form))
-    ⊎ (((count : ℕ) × IsOpen before count) × ((client : ℕ) × (reading raw ≡ Form (Begins client))))
-IsFault before raw after cause.Deep = ⊥
-IsFault before raw after cause.Long = IsOpen before 256 × ((statement : Statement) × (reading raw ≡ Form (Says statement)))
-IsFault before raw after cause.Unfinished = (after ≡ []) × ((count : ℕ) × IsOpen (before ++ raw ∷ []) count)
+    ⊎ ((o : Open) × IsOpen before o × ((form : LineForm) × (reading raw ≡ Form form) × HasNoPlace o form))
+IsFault before raw after cause.Deep = (o : Open) × IsOpen before o × ((a : Asking) × (w : Wanted) × (reading raw ≡ Form (Says (line.If a w)))) × (depth o ≡ 16)
+IsFault before raw after cause.Long =
+    (o : Open) × IsOpen before o × ((l : Line) × (reading raw ≡ Form (Says l)) × IsAskingHere o l) × (path o + 1 ≡ 257)
+IsFault before raw after cause.Unfinished = (after ≡ []) × ((o : Open) × IsOpen (before ++ raw ∷ []) o)
 
 -- the first fault of the lines, which are counted from 1
 abbrev pub IsFirstFaultOf : List Raw → ℕ → ScriptCause → Type 0

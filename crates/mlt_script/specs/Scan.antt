@@ -1,30 +1,61 @@
 -- How the parser goes over the lines: one after the other, up to the first fault.
-use Rattle.std.specs.Prelude.{◌≡◌, ℕ, ◌+◌, List, [], ◌∷◌, ◌++◌, length, nat_lt, Result, Ok, Err, if◌then◌else◌}
+use Rattle.std.specs.Prelude.{◌≡◌, ℕ, ◌+◌, List, [], ◌∷◌, ◌++◌, nat_lt, Option, Some, None, Result, Ok, Err, if◌then◌else◌}
 use Rattle.mlt_types.specs.declared.refusal.Refusal.{Refusal}
 use Rattle.mlt_types.specs.declared.refusal.Refusal.TheVariants.{OutOfMemory, ScriptFault}
 use Rattle.mlt_types.specs.declared.refusal.ScriptCause.{ScriptCause}
-use Rattle.mlt_types.specs.declared.refusal.ScriptCause.TheVariants.{Place, Long, Unfinished}
+use Rattle.mlt_types.specs.declared.refusal.ScriptCause.TheVariants.{Place, Deep, Long, Unfinished}
 use Rattle.mlt_script.specs.declared.forms.LineForm.{LineForm}
 use Rattle.mlt_script.specs.declared.forms.LineForm.TheVariants.{Begins, Says, Closes}
 use Rattle.mlt_script.specs.declared.line.Reading.{Reading}
 use Rattle.mlt_script.specs.declared.line.Reading.TheVariants.{Bad, Skip, Form}
-use Rattle.mlt_script.specs.declared.script.Statement.{Statement}
+use Rattle.mlt_script.specs.declared.statement.Ending.{Ending}
+use Rattle.mlt_script.specs.declared.statement.Line.{Line}
+use Rattle.mlt_script.specs.declared.statement.Line.TheVariants as line
+use Rattle.mlt_script.specs.Blocks.{Open, path, depth}
+use Rattle.mlt_script.specs.Blocks.Block.{Nothing}
+use Rattle.mlt_script.specs.Blocks.Open.{Top, InFirst}
 use Rattle.mlt_script.specs.Lines.{Raw}
 use Rattle.mlt_script.specs.Readings.{reading}
-use Rattle.mlt_script.specs.Scripts.{ScriptForm}
+use Rattle.mlt_script.specs.Scripts.{ScriptForm, one_more}
 
--- after these scripts: outside a script, or inside one of this client with these statements so far
+-- after these scripts: outside a script, or inside one of this client, up to here
 pub data State : Type 0 where
   Outside : List ScriptForm → State
-  Inside : List ScriptForm → ℕ → List Statement → State
+  Inside : List ScriptForm → ℕ → Open → State
+
+abbrev pub long_fault : Open → Option ScriptCause
+long_fault o = if nat_lt (path o) 256 then None else Some Long
+
+abbrev pub else_fault : Open → Option ScriptCause
+else_fault (InFirst o a w first) = None
+else_fault o = Some Place
+
+abbrev pub end_fault : Open → Option ScriptCause
+end_fault (Top b) = Some Place
+end_fault o = None
+
+-- why a line may not stand here
+abbrev pub line_fault : Open → Line → Option ScriptCause
+line_fault o (line.Plain s) = long_fault o
+line_fault o (line.If a w) = if nat_lt (depth o) 16 then long_fault o else Some Deep
+line_fault o line.Else = else_fault o
+line_fault o line.End = end_fault o
+
+abbrev pub said : List ScriptForm → ℕ → Open → Option ScriptCause → Result State ScriptCause
+said scripts client o None = Ok (Inside scripts client o)
+said scripts client o (Some fault) = Err fault
+
+abbrev pub ended : List ScriptForm → ℕ → Open → Ending → Result State ScriptCause
+ended scripts client (Top b) e = Ok (Outside (scripts ++ record { client = client; block = b; ending = e } ∷ []))
+ended scripts client o e = Err Place
 
 -- the state after a line of the form, or why it may not stand there
 abbrev pub step : State → LineForm → Result State ScriptCause
-step (Outside scripts) (Begins client) = Ok (Inside scripts client [])
+step (Outside scripts) (Begins client) = Ok (Inside scripts client (Top Nothing))
 step (Outside scripts) form = Err Place
-step (Inside scripts client statements) (Begins other) = Err Place
-step (Inside scripts client statements) (Says s) = if nat_lt (length statements) 256 then Ok (Inside scripts client (statements ++ s ∷ [])) else Err Long
-step (Inside scripts client statements) (Closes e) = Ok (Outside (scripts ++ record { client = client; statements = statements; ending = e } ∷ []))
+step (Inside scripts client o) (Begins other) = Err Place
+step (Inside scripts client o) (Says l) = said scripts client (one_more o l) (line_fault o l)
+step (Inside scripts client o) (Closes e) = ended scripts client o e
 
 abbrev pub advance : State → Reading → Result State ScriptCause
 advance state (Bad fault) = Err fault
@@ -33,7 +64,7 @@ advance state (Form form) = step state form
 
 abbrev pub at_end : State → ℕ → Result (List ScriptForm) (ℕ × ScriptCause)
 at_end (Outside scripts) n = Ok scripts
-at_end (Inside scripts client statements) n = Err (n, Unfinished)
+at_end (Inside scripts client o) n = Err (n, Unfinished)
 
 abbrev pub after : Result State ScriptCause → ℕ → (State → Result (List ScriptForm) (ℕ × ScriptCause)) → Result (List ScriptForm) (ℕ × ScriptCause)
 after (Err fault) line next = Err (line, fault)

@@ -1,168 +1,173 @@
 //! The forms of a line.
 
 ghost use Rattle.std.specs.Prelude.{◌≡◌};
-ghost use Rattle.mlt_script.specs.Forms.{Reads, account_at, amount_at, client_at, operation_at, reply_at, asking_at, finish, begin_form, key_form, form_of};
+ghost use Rattle.mlt_script.specs.Forms.{Reads, number_below, letter_at, asking_is_at, source_at, finish, begin_form, let_form, need_form, if_form, ask_form, key_form, form_of};
+ghost use Rattle.mlt_script.specs.Words.{words_of};
 
 use crate::keyword::{Keyword, Word};
-use crate::script::{Ending, Statement};
-use mlt_kinds::{AccountOp, ObjOp, ObjReply};
+use crate::letter::Letter;
+use crate::operations::{asking, keyword, number_32, wanted};
+use crate::statement::{Asking, Ending, Line, Source, Statement, Wanted};
+use crate::words::next_word;
 
 /// What a line says.
 #[derive(Clone, Copy)]
 pub enum LineForm {
     /// A script of this client begins.
     Begins(u16),
-    /// A statement of the script.
-    Says(Statement),
+    /// A line of the script.
+    Says(Line),
     /// The script ends.
     Closes(Ending),
 }
 
-fn account(words: &[Word]) -> Option<(u32, &[Word])>
-    ensures { Reads result (account_at words.now) }
+#[tactic(auto, unfolding(crate::specs::Forms::number_below))]
+fn client(text: &[u8]) -> Option<(u16, &[u8])>
+    ensures { Reads result (number_below 1000 (words_of text.now)) }
 {
-    match words {
-        [Word::Number(number), rest @ ..] if *number < 1 << 32 => Some((*number as u32, rest)),
+    match next_word(text)? {
+        (Word::Number(number), rest) if number < 1000 => Some((number as u16, rest)),
         _ => None,
     }
 }
 
-fn client(words: &[Word]) -> Option<(u16, &[Word])>
-    ensures { Reads result (client_at words.now) }
+#[tactic(auto, unfolding(crate::specs::Forms::letter_at))]
+fn variable(text: &[u8]) -> Option<(Letter, &[u8])>
+    ensures { Reads result (letter_at (words_of text.now)) }
 {
-    match words {
-        [Word::Number(number), rest @ ..] if *number < 1000 => Some((*number as u16, rest)),
+    match next_word(text)? {
+        (Word::Variable(letter), rest) => Some((letter, rest)),
         _ => None,
-    }
-}
-
-fn amount(words: &[Word]) -> Option<(u64, &[Word])>
-    ensures { Reads result (amount_at words.now) }
-{
-    match words {
-        [Word::Number(number), rest @ ..] => Some((*number, rest)),
-        _ => None,
-    }
-}
-
-/// The operation whose first word is the keyword.
-#[tactic(auto, unfolding(crate::specs::Forms::operation_at))]
-fn operation(keyword: Keyword, words: &[Word]) -> Option<(ObjOp, &[Word])>
-    ensures { Reads result (operation_at keyword words.now) }
-{
-    match keyword {
-        Keyword::Open => {
-            let (account, rest) = account(words)?;
-            Some((ObjOp::Account(account, AccountOp::Open), rest))
-        }
-        Keyword::Close => {
-            let (account, rest) = account(words)?;
-            Some((ObjOp::Account(account, AccountOp::Close), rest))
-        }
-        Keyword::Deposit => {
-            let (account, rest) = account(words)?;
-            let (amount, rest) = amount(rest)?;
-            Some((ObjOp::Account(account, AccountOp::Deposit(amount)), rest))
-        }
-        Keyword::Withdraw => {
-            let (account, rest) = account(words)?;
-            let (amount, rest) = amount(rest)?;
-            Some((ObjOp::Account(account, AccountOp::Withdraw(amount)), rest))
-        }
-        Keyword::Balance => {
-            let (account, rest) = account(words)?;
-            Some((ObjOp::Account(account, AccountOp::Balance), rest))
-        }
-        _ => None,
-    }
-}
-
-/// A reply word, or an amount, which stands for `is v`.
-#[tactic(auto, unfolding(crate::specs::Forms::reply_at))]
-fn reply(words: &[Word]) -> Option<(ObjReply, &[Word])>
-    ensures { Reads result (reply_at words.now) }
-{
-    match words {
-        [Word::Key(Keyword::Opened), rest @ ..] => Some((ObjReply::Opened, rest)),
-        [Word::Key(Keyword::Exists), rest @ ..] => Some((ObjReply::Exists, rest)),
-        [Word::Key(Keyword::Closed), rest @ ..] => Some((ObjReply::Closed, rest)),
-        [Word::Key(Keyword::NotEmpty), rest @ ..] => Some((ObjReply::NotEmpty, rest)),
-        [Word::Key(Keyword::Done), rest @ ..] => Some((ObjReply::Done, rest)),
-        [Word::Key(Keyword::Over), rest @ ..] => Some((ObjReply::Over, rest)),
-        [Word::Key(Keyword::Short), rest @ ..] => Some((ObjReply::Short, rest)),
-        [Word::Key(Keyword::Missing), rest @ ..] => Some((ObjReply::Missing, rest)),
-        _ => {
-            let (amount, rest) = amount(words)?;
-            Some((ObjReply::Is(amount), rest))
-        }
     }
 }
 
 /// `OP is REPLY`
-#[tactic(auto, unfolding(crate::specs::Forms::asking_at))]
-fn asking(words: &[Word]) -> Option<((ObjOp, ObjReply), &[Word])>
-    ensures { Reads result (asking_at words.now) }
+#[tactic(auto, unfolding(crate::specs::Forms::asking_is_at))]
+fn asking_is(text: &[u8]) -> Option<((Asking, Wanted), &[u8])>
+    ensures { Reads result (asking_is_at (words_of text.now)) }
 {
-    match words {
-        [Word::Key(keyword), rest @ ..] => {
-            let (asked, rest) = operation(*keyword, rest)?;
-            match rest {
-                [Word::Key(Keyword::Is), rest @ ..] => {
-                    let (wanted, rest) = reply(rest)?;
-                    Some(((asked, wanted), rest))
-                }
-                _ => None,
-            }
+    let (first, rest) = keyword(text)?;
+    let (asking, rest) = asking(first, rest)?;
+    match keyword(rest)? {
+        (Keyword::Is, rest) => {
+            let (wanted, rest) = wanted(rest)?;
+            Some(((asking, wanted), rest))
         }
         _ => None,
     }
 }
 
 /// The form, where no word is left.
-fn finished(form: LineForm, rest: &[Word]) -> Option<LineForm>
-    ensures { result ≡ finish form rest.now }
+fn finished(form: LineForm, rest: &[u8]) -> Option<LineForm>
+    ensures { result ≡ finish form (words_of rest.now) }
 {
-    if rest.is_empty() { Some(form) } else { None }
+    match next_word(rest) {
+        None => Some(form),
+        Some(_) => None,
+    }
 }
 
 /// What stands after `begin`.
 #[tactic(auto, unfolding(crate::specs::Forms::begin_form))]
-fn begin(words: &[Word]) -> Option<LineForm>
-    ensures { result ≡ begin_form words.now }
+fn begin(text: &[u8]) -> Option<LineForm>
+    ensures { result ≡ begin_form (words_of text.now) }
 {
-    if words.is_empty() {
+    if next_word(text).is_none() {
         return Some(LineForm::Begins(0));
     }
-    let (client, rest) = client(words)?;
+    let (client, rest) = client(text)?;
     finished(LineForm::Begins(client), rest)
+}
+
+#[tactic(auto, unfolding(crate::specs::Forms::source_at))]
+fn source(keyword: Keyword, text: &[u8]) -> Option<(Source, &[u8])>
+    ensures { Reads result (source_at keyword (words_of text.now)) }
+{
+    match keyword {
+        Keyword::Balance => {
+            let (account, rest) = number_32(text)?;
+            Some((Source::Balance(account), rest))
+        }
+        Keyword::Read => {
+            let (counter, rest) = number_32(text)?;
+            Some((Source::Read(counter), rest))
+        }
+        _ => None,
+    }
+}
+
+/// What stands after `let`.
+#[tactic(auto, unfolding(crate::specs::Forms::let_form))]
+fn setting(text: &[u8]) -> Option<LineForm>
+    ensures { result ≡ let_form (words_of text.now) }
+{
+    let (letter, rest) = variable(text)?;
+    match keyword(rest)? {
+        (Keyword::Equals, rest) => {
+            let (first, rest) = keyword(rest)?;
+            let (source, rest) = source(first, rest)?;
+            finished(
+                LineForm::Says(Line::Plain(Statement::Let(letter, source))),
+                rest,
+            )
+        }
+        _ => None,
+    }
+}
+
+/// What stands after `need`.
+#[tactic(auto, unfolding(crate::specs::Forms::need_form))]
+fn need(text: &[u8]) -> Option<LineForm>
+    ensures { result ≡ need_form (words_of text.now) }
+{
+    let ((asking, wanted), rest) = asking_is(text)?;
+    finished(
+        LineForm::Says(Line::Plain(Statement::Need(asking, wanted))),
+        rest,
+    )
+}
+
+/// What stands after `if`.
+#[tactic(auto, unfolding(crate::specs::Forms::if_form))]
+fn condition(text: &[u8]) -> Option<LineForm>
+    ensures { result ≡ if_form (words_of text.now) }
+{
+    let ((asking, wanted), rest) = asking_is(text)?;
+    finished(LineForm::Says(Line::If(asking, wanted)), rest)
+}
+
+/// An operation whose first word is the keyword.
+#[tactic(auto, unfolding(crate::specs::Forms::ask_form))]
+fn plain(keyword: Keyword, text: &[u8]) -> Option<LineForm>
+    ensures { result ≡ ask_form keyword (words_of text.now) }
+{
+    let (asking, rest) = asking(keyword, text)?;
+    finished(LineForm::Says(Line::Plain(Statement::Ask(asking))), rest)
 }
 
 /// A line whose first word is the keyword.
 #[tactic(auto, unfolding(crate::specs::Forms::key_form))]
-fn keyed(keyword: Keyword, rest: &[Word]) -> Option<LineForm>
-    ensures { result ≡ key_form keyword rest.now }
+fn keyed(keyword: Keyword, rest: &[u8]) -> Option<LineForm>
+    ensures { result ≡ key_form keyword (words_of rest.now) }
 {
     match keyword {
         Keyword::Begin => begin(rest),
         Keyword::Commit => finished(LineForm::Closes(Ending::Commit), rest),
         Keyword::Abort => finished(LineForm::Closes(Ending::Abort), rest),
-        Keyword::Need => {
-            let ((asked, wanted), rest) = asking(rest)?;
-            finished(LineForm::Says(Statement::Need(asked, wanted)), rest)
-        }
-        _ => {
-            let (asked, rest) = operation(keyword, rest)?;
-            finished(LineForm::Says(Statement::Ask(asked)), rest)
-        }
+        Keyword::Need => need(rest),
+        Keyword::Let => setting(rest),
+        Keyword::If => condition(rest),
+        Keyword::Else => finished(LineForm::Says(Line::Else), rest),
+        Keyword::End => finished(LineForm::Says(Line::End), rest),
+        _ => plain(keyword, rest),
     }
 }
 
 /// What the words of a line say, if they are one of its forms.
-pub fn line_form(words: &[Word]) -> Option<LineForm>
-    ensures { result ≡ form_of words.now }
+#[tactic(auto, unfolding(crate::specs::Forms::form_of))]
+pub fn line_form(text: &[u8]) -> Option<LineForm>
+    ensures { result ≡ form_of (words_of text.now) }
 {
-    match words {
-        [Word::Key(keyword), rest @ ..] => keyed(*keyword, rest),
-        _ => None,
-    }
+    let (first, rest) = keyword(text)?;
+    keyed(first, rest)
 }

@@ -1,8 +1,9 @@
 //! Keywords, and what a word of a line is.
 
 ghost use Rattle.std.specs.Prelude.{◌≡◌};
-ghost use Rattle.mlt_script.specs.Words.{spelling, keyword_of, word_of, all_keywords};
+ghost use Rattle.mlt_script.specs.Words.{spelling, keyword_of, letter_word, word_of, all_keywords};
 
+use crate::letter::{Letter, find_letter};
 use crate::number::number;
 
 /// A word with a meaning of its own.
@@ -12,12 +13,23 @@ pub enum Keyword {
     Commit,
     Abort,
     Need,
+    Let,
+    If,
+    Else,
+    End,
     Is,
+    Equals,
     Open,
     Close,
     Deposit,
     Withdraw,
     Balance,
+    Add,
+    Remove,
+    Has,
+    Up,
+    Down,
+    Read,
     Opened,
     Exists,
     Closed,
@@ -26,6 +38,12 @@ pub enum Keyword {
     Over,
     Short,
     Missing,
+    Added,
+    Present,
+    Removed,
+    Absent,
+    Yes,
+    No,
 }
 
 /// What a word of a line is.
@@ -33,23 +51,36 @@ pub enum Keyword {
 pub enum Word {
     /// A word with a meaning of its own.
     Key(Keyword),
+    /// The name of a variable.
+    Variable(Letter),
     /// 1 to 20 digits of a number below 2^64.
     Number(u64),
-    /// Neither.
+    /// None of these.
     Other,
 }
 
-const KEYWORDS: [Keyword; 18] = [
+const KEYWORDS: [Keyword; 35] = [
     Keyword::Begin,
     Keyword::Commit,
     Keyword::Abort,
     Keyword::Need,
+    Keyword::Let,
+    Keyword::If,
+    Keyword::Else,
+    Keyword::End,
     Keyword::Is,
+    Keyword::Equals,
     Keyword::Open,
     Keyword::Close,
     Keyword::Deposit,
     Keyword::Withdraw,
     Keyword::Balance,
+    Keyword::Add,
+    Keyword::Remove,
+    Keyword::Has,
+    Keyword::Up,
+    Keyword::Down,
+    Keyword::Read,
     Keyword::Opened,
     Keyword::Exists,
     Keyword::Closed,
@@ -58,10 +89,17 @@ const KEYWORDS: [Keyword; 18] = [
     Keyword::Over,
     Keyword::Short,
     Keyword::Missing,
+    Keyword::Added,
+    Keyword::Present,
+    Keyword::Removed,
+    Keyword::Absent,
+    Keyword::Yes,
+    Keyword::No,
 ];
 
 impl Keyword {
-    fn text(self) -> &'static [u8]
+    /// How the keyword is written.
+    pub fn text(self) -> &'static [u8]
         ensures { result.now ≡ spelling self }
     {
         match self {
@@ -69,12 +107,23 @@ impl Keyword {
             Keyword::Commit => b"commit",
             Keyword::Abort => b"abort",
             Keyword::Need => b"need",
+            Keyword::Let => b"let",
+            Keyword::If => b"if",
+            Keyword::Else => b"else",
+            Keyword::End => b"end",
             Keyword::Is => b"is",
+            Keyword::Equals => b"=",
             Keyword::Open => b"open",
             Keyword::Close => b"close",
             Keyword::Deposit => b"deposit",
             Keyword::Withdraw => b"withdraw",
             Keyword::Balance => b"balance",
+            Keyword::Add => b"add",
+            Keyword::Remove => b"remove",
+            Keyword::Has => b"has",
+            Keyword::Up => b"up",
+            Keyword::Down => b"down",
+            Keyword::Read => b"read",
             Keyword::Opened => b"opened",
             Keyword::Exists => b"exists",
             Keyword::Closed => b"closed",
@@ -83,11 +132,17 @@ impl Keyword {
             Keyword::Over => b"over",
             Keyword::Short => b"short",
             Keyword::Missing => b"missing",
+            Keyword::Added => b"added",
+            Keyword::Present => b"present",
+            Keyword::Removed => b"removed",
+            Keyword::Absent => b"absent",
+            Keyword::Yes => b"yes",
+            Keyword::No => b"no",
         }
     }
 }
 
-fn all() -> [Keyword; 18]
+fn all() -> [Keyword; 35]
     ensures { result ≡ all_keywords }
 {
     KEYWORDS
@@ -105,6 +160,15 @@ fn find_keyword(word: &[u8]) -> Option<Keyword>
     None
 }
 
+fn variable(word: &[u8]) -> Option<Letter>
+    ensures { result ≡ letter_word word.now }
+{
+    match word {
+        [byte] => find_letter(*byte),
+        _ => None,
+    }
+}
+
 /// What a word is.
 #[tactic(auto, unfolding(crate::specs::Words::word_of))]
 pub fn classify(word: &[u8]) -> Word
@@ -112,6 +176,9 @@ pub fn classify(word: &[u8]) -> Word
 {
     if let Some(keyword) = find_keyword(word) {
         return Word::Key(keyword);
+    }
+    if let Some(letter) = variable(word) {
+        return Word::Variable(letter);
     }
     match number(word) {
         Some(value) => Word::Number(value),

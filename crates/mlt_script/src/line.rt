@@ -1,16 +1,14 @@
 //! The lines of a text, and what each says.
 
-ghost use Rattle.std.specs.Prelude.{◌≡◌, ◌<◌, ◌∷◌, length, IfOk};
+ghost use Rattle.std.specs.Prelude.{◌≡◌, ◌<◌, ◌∷◌, length};
 ghost use Rattle.std.specs.List.{list_all, position};
 ghost use Rattle.mlt_script.specs.Lines.{lines, is_lf, is_comment, is_allowed, without_cr};
 ghost use Rattle.mlt_script.specs.Readings.{reading, said_by};
 ghost use Rattle.mlt_script.specs.Words.{words_of};
 
 use crate::forms::{LineForm, line_form};
-use crate::keyword::Word;
-use crate::words::split_words;
+use crate::words::next_word;
 use mlt_types::ScriptCause;
-use std::alloc::AllocError;
 
 fn find_lf(text: &[u8]) -> Option<usize>
     ensures { result ≡ position is_lf text.now }
@@ -69,34 +67,32 @@ fn allowed(line: &[u8]) -> bool
         .all(|byte| *byte == b'\t' || (*byte >= 0x20 && *byte <= 0x7E))
 }
 
-fn read_words(words: &mut Vec<Word>, line: &[u8]) -> Result<Reading, AllocError>
-    ensures { IfOk result (λ found. found ≡ said_by (words_of line.now)) }
+fn read_words(line: &[u8]) -> Reading
+    ensures { result ≡ said_by (words_of line.now) }
 {
-    split_words(words, line)?;
-    if words.is_empty() {
-        return Ok(Reading::Skip);
+    if next_word(line).is_none() {
+        return Reading::Skip;
     }
-    match line_form(words) {
-        Some(form) => Ok(Reading::Form(form)),
-        None => Ok(Reading::Bad(ScriptCause::Words)),
+    match line_form(line) {
+        Some(form) => Reading::Form(form),
+        None => Reading::Bad(ScriptCause::Words),
     }
 }
 
-/// What a line is, given its bytes before the LF and whether an LF ends it. In `words` it leaves what it needs
-/// no more.
+/// What a line is, given its bytes before the LF and whether an LF ends it.
 #[tactic(auto, unfolding(crate::specs::Readings::reading))]
-pub fn read_line(words: &mut Vec<Word>, bytes: &[u8], ended: bool) -> Result<Reading, AllocError>
-    ensures { IfOk result (λ found. found ≡ reading record { bytes = bytes.now; ended = ended }) }
+pub fn read_line(bytes: &[u8], ended: bool) -> Reading
+    ensures { result ≡ reading record { bytes = bytes.now; ended = ended } }
 {
     if bytes.len() > 200 {
-        return Ok(Reading::Bad(ScriptCause::Line));
+        return Reading::Bad(ScriptCause::Line);
     }
     let line = if ended { trimmed(bytes) } else { bytes };
     if comment(line) {
-        return Ok(Reading::Skip);
+        return Reading::Skip;
     }
     if !allowed(line) {
-        return Ok(Reading::Bad(ScriptCause::Line));
+        return Reading::Bad(ScriptCause::Line);
     }
-    read_words(words, line)
+    read_words(line)
 }

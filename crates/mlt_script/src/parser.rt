@@ -5,25 +5,17 @@ ghost use Rattle.mlt_types.specs.declared.refusal.ScriptCause.{ScriptCause};
 ghost use Rattle.mlt_script.specs.Grammar.{Spells, IsFirstFault, IsDecided};
 ghost use Rattle.mlt_script.specs.Lines.{lines};
 ghost use Rattle.mlt_script.specs.Readings.{reading, IsReading};
-ghost use Rattle.mlt_script.specs.Scan.{scan, step, advance, at_end, Gives, Advances};
+ghost use Rattle.mlt_script.specs.Scan.{scan, step, ended, advance, at_end, Gives, Advances};
 ghost use Rattle.mlt_script.specs.Scan.State.{Outside, Inside};
-ghost use Rattle.mlt_script.specs.Scripts.{ScriptForm};
+ghost use Rattle.mlt_script.specs.Scripts.{ScriptForm, open_of};
 
 use crate::forms::LineForm;
-use crate::keyword::Word;
 use crate::line::{Reading, first_line, read_line};
-use crate::script::{Script, Statement};
+use crate::open_script::OpenScript;
+use crate::script::Script;
+use crate::statement::Ending;
 use mlt_types::{Refusal, ScriptCause};
 use std::alloc::Global;
-
-/// A script whose ending has not come yet.
-#[derive(Drop)]
-struct OpenScript {
-    client: u16,
-    statements: Vec<Statement>,
-    ghost client_in_range: { client < 1000 },
-    ghost statements_in_range: { length statements.items ≤ 256 },
-}
 
 /// What was read of a text so far. After an `Err` it is of no more use.
 #[derive(Drop)]
@@ -60,39 +52,46 @@ impl Parser {
     {
         match form {
             LineForm::Begins(client) => {
-                self.begun = Some(OpenScript {
-                    client,
-                    statements: Vec::new(alloc),
-                });
+                self.begun = Some(OpenScript::new(alloc, client));
                 Ok(())
             }
             _ => Err(misplaced(line)),
         }
     }
 
+    /// Ends the script that is open.
+    fn close(&mut self, script: OpenScript, line: u64, ending: Ending) -> Result<(), Refusal>
+        ensures { Advances result line (ended self.old.scripts.items script.client (open_of script.lines.items) ending) (state_of self.new) }
+    {
+        if !script.ifs.is_empty() {
+            return Err(misplaced(line));
+        }
+        let OpenScript {
+            client,
+            lines,
+            count: _,
+            ifs: _,
+        } = script;
+        self.scripts.push(Script::new(client, lines, ending))?;
+        self.begun = None;
+        Ok(())
+    }
+
     /// Goes over a line inside a script.
-    fn go_on(&mut self, mut script: OpenScript, line: u64, form: LineForm) -> Result<(), Refusal>
-        ensures { Advances result line (step (Inside self.old.scripts.items script.client script.statements.items) form) (state_of self.new) }
+    fn go_on(&mut self, script: OpenScript, line: u64, form: LineForm) -> Result<(), Refusal>
+        ensures { Advances result line (step (Inside self.old.scripts.items script.client (open_of script.lines.items)) form) (state_of self.new) }
     {
         match form {
             LineForm::Begins(_) => Err(misplaced(line)),
-            LineForm::Says(statement) => {
-                if script.statements.len() >= 256 {
-                    return Err(Refusal::ScriptFault {
-                        line,
-                        cause: ScriptCause::Long,
-                    });
+            LineForm::Says(said) => match script.fault_of(said) {
+                Some(cause) => Err(Refusal::ScriptFault { line, cause }),
+                None => {
+                    let script = script.say(said)?;
+                    self.begun = Some(script);
+                    Ok(())
                 }
-                script.statements.push(statement)?;
-                self.begun = Some(script);
-                Ok(())
-            }
-            LineForm::Closes(ending) => {
-                self.scripts
-                    .push(Script::new(script.client, script.statements, ending))?;
-                self.begun = None;
-                Ok(())
-            }
+            },
+            LineForm::Closes(ending) => self.close(script, line, ending),
         }
     }
 
@@ -108,17 +107,10 @@ impl Parser {
     }
 
     /// Goes over a line.
-    fn read(
-        &mut self,
-        alloc: Global,
-        words: &mut Vec<Word>,
-        line: u64,
-        bytes: &[u8],
-        ended: bool,
-    ) -> Result<(), Refusal>
+    fn read(&mut self, alloc: Global, line: u64, bytes: &[u8], ended: bool) -> Result<(), Refusal>
         ensures { Advances result line (advance (state_of self.old) (reading record { bytes = bytes.now; ended = ended })) (state_of self.new) }
     {
-        match read_line(words, bytes, ended)? {
+        match read_line(bytes, ended) {
             Reading::Bad(cause) => Err(Refusal::ScriptFault { line, cause }),
             Reading::Skip => Ok(()),
             Reading::Form(form) => self.step(alloc, line, form),
@@ -139,18 +131,17 @@ impl Parser {
     }
 }
 
-/// The scripts of a text, or its first fault, line by line. One buffer serves the words of all lines.
+/// The scripts of a text, or its first fault, line by line.
 fn read_lines(alloc: Global, text: &[u8]) -> Result<Vec<Script>, Refusal>
     ensures { Gives (λ scripts. scripts.items) result (scan (Outside []) 0 (lines text.now)) }
 {
-    let mut words = Vec::new(alloc);
     let mut parser = Parser::new(alloc);
     let mut rest = text;
     let mut line = 0u64;
     while !rest.is_empty() {
         let (bytes, ended, after) = first_line(rest);
         line += 1;
-        parser.read(alloc, &mut words, line, bytes, ended)?;
+        parser.read(alloc, line, bytes, ended)?;
         rest = after;
     }
     parser.finish(line)

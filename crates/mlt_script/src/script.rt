@@ -1,57 +1,49 @@
 //! Scripts.
 
-ghost use Rattle.std.specs.Prelude.{◌≡◌, ◌<◌, ◌≤◌, length};
+ghost use Rattle.std.specs.Prelude.{◌≡◌, ◌<◌, ◌≤◌};
+ghost use Rattle.mlt_script.specs.Blocks.{longest, nesting, lines_of};
+ghost use Rattle.mlt_script.specs.Scripts.{tree_of};
 
-use mlt_kinds::{ObjOp, ObjReply};
+use crate::statement::{Ending, Line};
 use std::marker::Model;
 
-/// A line between a script's `begin` and its ending.
-#[derive(Clone, Copy, Debug, PartialEq, Eq)]
-pub enum Statement {
-    /// Asks the operation, and goes on at any reply.
-    Ask(ObjOp),
-    /// Asks the operation, goes on at the reply, and aborts the script at any other.
-    Need(ObjOp, ObjReply),
-}
-
-/// How a script ends.
-#[derive(Clone, Copy, Debug, PartialEq, Eq)]
-pub enum Ending {
-    /// Its changes are kept.
-    Commit,
-    /// Its changes are taken back.
-    Abort,
-}
-
-/// A script: a client's number below 1000, statements that ask at most 256 operations, and an ending.
+/// A script: a client's number below 1000, statements that ask at most 256 operations on each path and stand in at
+/// most 16 ifs, and an ending. A contract sees the statements as a tree.
 #[derive(Debug, Drop)]
 pub struct Script {
     client: u16,
-    statements: Vec<Statement>,
+    lines: Vec<Line>,
     ending: Ending,
 }
 
 impl Model for Script {
-    ghost use Rattle.std.specs.Prelude.{◌<◌, ◌≤◌, length};
-    ghost use Rattle.mlt_script.specs.Scripts.{ScriptForm};
+    ghost use Rattle.std.specs.Prelude.{◌≡◌, ◌<◌, ◌≤◌};
+    ghost use Rattle.mlt_script.specs.Blocks.{longest, nesting, lines_of};
+    ghost use Rattle.mlt_script.specs.Scripts.{ScriptForm, tree_of};
+    ghost use Rattle.mlt_script.specs.TreeLaws.{coded_script};
 
     ghost Value = { ScriptForm };
 
-    ghost view = { λ s. record { client = s.client; statements = s.statements.items; ending = s.ending } };
+    ghost coded = { coded_script };
 
-    ghost invariant = { λ s. (s.client < 1000) × (length s.statements.items ≤ 256) };
+    ghost view = { λ s. record { client = s.client; block = tree_of s.lines.items; ending = s.ending } };
+
+    ghost invariant = { λ s. (s.client < 1000) × (lines_of (tree_of s.lines.items) ≡ s.lines.items)
+        × (longest (tree_of s.lines.items) ≤ 256) × (nesting (tree_of s.lines.items) ≤ 16) };
 }
 
 impl Script {
-    /// A script of these parts.
-    pub fn new(client: u16, statements: Vec<Statement>, ending: Ending) -> Script
+    /// A script of these lines.
+    pub fn new(client: u16, lines: Vec<Line>, ending: Ending) -> Script
         requires client { client < 1000 }
-        requires statements { length statements.items ≤ 256 }
-        ensures { result ≡ record { client = client; statements = statements.items; ending = ending } }
+        requires lines { lines_of (tree_of lines.items) ≡ lines.items }
+        requires longest { longest (tree_of lines.items) ≤ 256 }
+        requires nesting { nesting (tree_of lines.items) ≤ 16 }
+        ensures { result ≡ record { client = client; block = tree_of lines.items; ending = ending } }
     {
         Script {
             client,
-            statements,
+            lines,
             ending,
         }
     }
@@ -64,12 +56,13 @@ impl Script {
         self.client
     }
 
-    /// The statements, at most 256.
-    pub fn statements(&self) -> &[Statement]
-        ensures statements { result.now ≡ self.now.statements }
-        ensures limit { length result.now ≤ 256 }
+    /// The lines between the `begin` and the ending, with an `else` in each `if`.
+    pub fn lines(&self) -> &[Line]
+        ensures lines { result.now ≡ lines_of self.now.block }
+        ensures longest { longest self.now.block ≤ 256 }
+        ensures nesting { nesting self.now.block ≤ 16 }
     {
-        self.statements.as_slice()
+        self.lines.as_slice()
     }
 
     /// How the script ends where no `need` fails.

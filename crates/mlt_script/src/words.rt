@@ -1,40 +1,31 @@
 //! The words of a line.
 
-ghost use Rattle.std.specs.Prelude.{◌≡◌, ◌++◌, map, IfOk, OnOk};
-ghost use Rattle.mlt_script.specs.Words.{word_of, words_of, word_if, is_blank};
+ghost use Rattle.std.specs.Prelude.{◌≡◌, option_map};
+ghost use Rattle.std.specs.List.{position};
+ghost use Rattle.mlt_script.specs.Words.{words_of, word_at, is_blank, is_black};
 
 use crate::keyword::{Word, classify};
-use std::alloc::AllocError;
 
-fn blank(byte: u8) -> bool
-    ensures { result ≡ is_blank byte }
+fn find_word(text: &[u8]) -> Option<usize>
+    ensures { result ≡ position is_black text.now }
 {
-    byte == b' ' || byte == b'\t'
+    text.iter().position(|byte| *byte != b' ' && *byte != b'\t')
 }
 
-fn push_word(words: &mut Vec<Word>, word: &[u8]) -> Result<(), AllocError>
-    ensures { OnOk result (words.new.items ≡ words.old.items ++ map word_of (word_if word.now)) }
+fn find_blank(text: &[u8]) -> Option<usize>
+    ensures { result ≡ position is_blank text.now }
 {
-    if !word.is_empty() {
-        words.push(classify(word))?;
-    }
-    Ok(())
+    text.iter().position(|byte| *byte == b' ' || *byte == b'\t')
 }
 
-/// Puts the words of a line, parted by spaces and tabs, in place of what `words` held.
-pub fn split_words(words: &mut Vec<Word>, line: &[u8]) -> Result<(), AllocError>
-    ensures { OnOk result (words.new.items ≡ words_of line.now) }
+/// The first word of a text, and the text after it. Words are parted by spaces and tabs.
+pub fn next_word(text: &[u8]) -> Option<(Word, &[u8])>
+    ensures { option_map (λ x. (x.0, words_of x.1.now)) result ≡ word_at (words_of text.now) }
 {
-    words.clear();
-    let mut start = 0;
-    let mut i = 0;
-    while i < line.len() {
-        if blank(line[i]) {
-            push_word(words, &line[start..i])?;
-            start = i + 1;
-        }
-        i += 1;
+    let start = find_word(text)?;
+    let front = &text[start..];
+    match find_blank(front) {
+        Some(end) => Some((classify(&front[..end]), &front[end..])),
+        None => Some((classify(front), &[])),
     }
-    push_word(words, &line[start..])?;
-    Ok(())
 }

@@ -1,11 +1,11 @@
 -- The scripts and the marks fix the outcomes and the base.
-use Rattle.std.proofs.Common.{map, ◌≡◌, ℕ, List, [], ◌∷◌, length, refl, sym, ap, ◌∙◌, subst, inl, inr, arith}
+use Rattle.std.proofs.Common.{map, ◌≡◌, ℕ, List, [], ◌∷◌, length, refl, sym, ap, ◌∙◌, subst, arith}
 use Rattle.mlt_kinds.specs.declared.operation.ObjOp.{ObjOp}
 use Rattle.mlt_kinds.specs.declared.operation.ObjReply.{ObjReply}
 use Rattle.mlt_kinds.specs.BaseLaws.{base_one_answer}
 use Rattle.mlt_kinds.specs.Bases.{Base, Step, Runs, Transcript}
-use Rattle.mlt_script.specs.declared.script.Ending.{Ending}
-use Rattle.mlt_script.specs.declared.script.Ending.TheVariants.{Commit, Abort}
+use Rattle.mlt_script.specs.declared.statement.Ending.{Ending}
+use Rattle.mlt_script.specs.declared.statement.Ending.TheVariants.{Commit, Abort}
 use Rattle.mlt_script.specs.Scripts.{ScriptForm}
 use Rattle.mlt_script.specs.Follows.{Plan, Reaches, Follows, plan_of_script}
 use Rattle.mlt_types.specs.declared.refusal.Refusal.{Refusal}

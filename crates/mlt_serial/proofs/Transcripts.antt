@@ -4,7 +4,7 @@ use Rattle.mlt_kinds.specs.declared.operation.ObjOp.{ObjOp}
 use Rattle.mlt_kinds.specs.declared.operation.ObjReply.{ObjReply}
 use Rattle.mlt_kinds.specs.declared.operation.ObjReply.TheVariants.{Missing}
 use Rattle.mlt_kinds.specs.Bases.{Base, Step, Runs, Transcript}
-use Rattle.mlt_script.specs.declared.script.Ending.{Ending}
+use Rattle.mlt_script.specs.declared.statement.Ending.{Ending}
 use Rattle.mlt_script.specs.declared.cursor.Next.TheVariants as next
 use Rattle.mlt_script.specs.Scripts.{ScriptForm}
 use Rattle.mlt_script.specs.Follows.{Plan, Reaches, IsNext, IsPartial, answered, plan_of_script}

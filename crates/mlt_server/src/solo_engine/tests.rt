@@ -124,13 +124,64 @@ fn aborted_open(rt: HostRuntime) -> Result<(), Fail> {
     Ok(())
 }
 
+const IF_ELSE: &[u8] =
+    b"begin\nopen 1\ndeposit 1 9\nlet v = balance 1\nif withdraw 1 v is done\nclose 1\nelse\nbalance 1\nend\ncommit\n";
+
 #[test]
-fn script_faults(rt: HostRuntime) {
+fn if_else_script(rt: HostRuntime) -> Result<(), Fail> {
+    let wanted = b"opened\ndone\nis 9\ndone\nclosed\ncommitted 1\n";
+    assert!(rt; is_solo(&rt, IF_ELSE, wanted)?);
+    let scripts = mlt_script::parse(rt.alloc(), IF_ELSE)?;
+    let text = mlt_script::print(rt.alloc(), scripts.as_slice())?;
+    assert_eq!(rt; text.as_bytes(), IF_ELSE);
+    Ok(())
+}
+
+#[test]
+fn sets_and_counters(rt: HostRuntime) -> Result<(), Fail> {
+    let text =
+        b"begin\nadd 4 9\nhas 4 9\nup 7 5\nlet c = read 7\ndown 7 c\nread 7\nadd 4 9\nremove 4 9\nremove 4 9\nhas 4 9\ncommit\n";
+    let wanted = b"added\nyes\ndone\nis 5\ndone\nis 0\npresent\nremoved\nabsent\nno\ncommitted 1\n";
+    assert!(rt; is_solo(&rt, text, wanted)?);
+    Ok(())
+}
+
+#[test]
+fn script_faults(rt: HostRuntime) -> Result<(), Fail> {
     assert_eq!(rt; fault(&rt, b"open 1\n"), Some((1, ScriptCause::Place)));
     assert_eq!(rt;
         fault(&rt, b"begin\ndeposit 1\ncommit\n"),
         Some((2, ScriptCause::Words))
     );
+    assert_eq!(rt;
+        fault(&rt, b"begin\nif has 4 9 is yes\n"),
+        Some((2, ScriptCause::Unfinished))
+    );
+    let unended = b"begin\nneed read 7 is 1\ncommit";
+    assert!(rt; is_solo(&rt, unended, b"is 0\naborted\n")?);
+    Ok(())
+}
+
+/// `begin` and so many spaces, and then an LF.
+fn spaced_begin(rt: &HostRuntime, spaces: usize) -> Result<Vec<u8>, Fail> {
+    let mut text = Vec::new(rt.alloc());
+    text.extend_from_slice(b"begin")?;
+    for _ in 0..spaces {
+        text.push(b' ')?;
+    }
+    text.push(b'\n')?;
+    Ok(text)
+}
+
+#[test]
+fn line_limits(rt: HostRuntime) -> Result<(), Fail> {
+    let longest = spaced_begin(&rt, 195)?;
+    assert_eq!(rt; fault(&rt, &longest), Some((1, ScriptCause::Unfinished)));
+    let longer = spaced_begin(&rt, 196)?;
+    assert_eq!(rt; fault(&rt, &longer), Some((1, ScriptCause::Line)));
+    assert!(rt; is_solo(&rt, b"#\xFF\n", b"")?);
+    assert_eq!(rt; fault(&rt, b"open \xFF\n"), Some((1, ScriptCause::Line)));
+    Ok(())
 }
 
 #[test]

@@ -1,6 +1,6 @@
 use Rattle.std.proofs.Common.{[], refl, subst}
 use Rattle.mlt_kinds.specs.Bases.{Base, Runs}
-use Rattle.mlt_script.specs.declared.script.Ending.{Ending}
+use Rattle.mlt_script.specs.declared.statement.Ending.{Ending}
 use Rattle.mlt_script.specs.Follows.{Follows, plan_of_script}
 use Rattle.mlt_serial.proofs.Transcripts.{is_partial, on_err}
 use Rattle.mlt_serial.proofs.run.attempt.Goals as goal

@@ -20,6 +20,6 @@ loop-op-preserved c =
     let op = c.in-Op.op in
     let reply = c.in_ok-reply.reply in
     rw (c.in_ok-push.ensures.ok, c.new.ensures, c.tell.ensures.plan) record {
-      asked = reaches_more (plan_of_script c.args.script.now) l.done (plan_of l.cursor) op reply l.invariant.asked c.in-Op.ensures;
+      asked = reaches_more (plan_of_script c.args.script.now) l.done (plan_of l.cursor) op reply l.invariant.asked c.in-Op.ensures.next;
       runs = runs_more c.args.base.now l.done l.base c.apply.new.self (op, reply) l.invariant.runs c.in_ok-reply.ensures.step;
     }

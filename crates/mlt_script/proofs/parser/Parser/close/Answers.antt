@@ -1,0 +1,44 @@
+use Rattle.std.proofs.Common.{◌≡◌, length, reverse, List, [], ap, sym, refl, ◌∙◌, ◌∷◌, ◌++◌, Ok, rules, arith}
+use Rattle.mlt_script.specs.declared.frame.Frame.{Frame}
+use Rattle.mlt_script.specs.Blocks.{Open}
+use Rattle.mlt_script.specs.Scan.{ended}
+use Rattle.mlt_script.specs.Scan.State.{Outside}
+use Rattle.mlt_script.specs.Scripts.{ScriptForm, open_of, tree_of, whole}
+use Rattle.mlt_script.proofs.Placing.{at_top}
+use Rattle.mlt_script.proofs.parser.Parser.close.Goals as goal
+
+is_none : (fs : List Frame) → length fs ≡ 0 → reverse fs ≡ []
+is_none [] h = refl
+is_none (f ∷ fs) h = absurd (omega (arith, h))
+
+pub new-requires-clause-lines : goal.new-requires-clause-lines
+unfolding tree_of
+new-requires-clause-lines c =
+    let s = c.args.script in
+    let z : length s.ifs.items ≡ 0 = search rules in
+    (at_top (open_of s.lines.items) s.lines.items s.count (s.kept, s.counted, s.framed ∙ is_none s.ifs.items z, s.wide, s.deep)).1
+
+pub new-requires-clause-longest : goal.new-requires-clause-longest
+unfolding tree_of
+new-requires-clause-longest c =
+    let s = c.args.script in
+    let z : length s.ifs.items ≡ 0 = search rules in
+    (at_top (open_of s.lines.items) s.lines.items s.count (s.kept, s.counted, s.framed ∙ is_none s.ifs.items z, s.wide, s.deep)).2
+
+pub new-requires-clause-nesting : goal.new-requires-clause-nesting
+unfolding tree_of
+new-requires-clause-nesting c =
+    let s = c.args.script in
+    let z : length s.ifs.items ≡ 0 = search rules in
+    (at_top (open_of s.lines.items) s.lines.items s.count (s.kept, s.counted, s.framed ∙ is_none s.ifs.items z, s.wide, s.deep)).3
+
+pub returns : goal.returns
+unfolding tree_of
+returns c =
+    let s = c.args.script in
+    let z : length s.ifs.items ≡ 0 = search rules in
+    let top = at_top (open_of s.lines.items) s.lines.items s.count (s.kept, s.counted, s.framed ∙ is_none s.ifs.items z, s.wide, s.deep) in
+    let scripts = c.args.self.now.scripts.items in
+    let more : c.push.new.self.items ≡ scripts ++ record { client = s.client; block = whole (open_of s.lines.items); ending = c.args.ending } ∷ [] =
+    c.in_ok-push.ensures.items ∙ ap (λ (x : ScriptForm). scripts ++ x ∷ []) c.new.ensures in
+    ap (λ (o : Open). ended scripts s.client o c.args.ending) top.0 ∙ ap (λ (xs : List ScriptForm). Ok (Outside xs)) (sym more)
