@@ -64,7 +64,7 @@ module _ (bits : ℕ → ℕ) (opens : fin.FinSet nat_cmp) (undoing : ℕ → Bo
   others_none : (owner : ℕ) → fin.contains opens owner ≡ true → (standing owner key ≡ [] → ⊥) → (t : ℕ) → fin.contains opens t ≡ true → (t ≡ owner → ⊥) → last_of (standing t key) ≡ None
   others_none owner owner_open some t is_open differs =
       let stands : (p : Presence) → last_of (standing t key) ≡ Some p → ⊥ = λ p e.
-          differs (matches.alone t owner key is_open owner_open (λ empty. let f : None ≡ Some p = sym (ap last_of empty) ∙ e in cc) some) in
+      differs (matches.alone t owner key is_open owner_open (λ empty. let f : None ≡ Some p = sym (ap last_of empty) ∙ e in cc) some) in
       elim (last_cases (last_of (standing t key))) [
         | inl e ↦ e
         | inr e ↦ elim e [ inl f ↦ absurd (stands Added f) | inr f ↦ absurd (stands Removed f) ]
@@ -96,11 +96,11 @@ module _ (bits : ℕ → ℕ) (opens : fin.FinSet nat_cmp) (undoing : ℕ → Bo
     step_beside : (t k : ℕ) → fin.contains opens t ≡ true → (t ≡ owner → k ≡ key → ⊥) → IsInStep bits (undoing t) (last_of (standing' t k)) pages' root t k
     step_beside t k is_open pair =
         rw (others t k pair) (frame bits pages pages' root n i s home.form change.form change.sets within (undoing t) (last_of (standing t k)) t k
-          (λ v q. let g = new_ghost k v t q in pair g.1 g.0)
-          (λ v q. let g = was_ghost k v t is_open q in pair g.1 g.0)
-          (λ e v q. idle t k Removed is_open pair (new_live k v q) e)
-          (λ e v q. absurd (idle t k Added is_open pair (was_live k v q) e))
-          (matches.step t k is_open))
+        (λ v q. let g = new_ghost k v t q in pair g.1 g.0)
+        (λ v q. let g = was_ghost k v t is_open q in pair g.1 g.0)
+        (λ e v q. idle t k Removed is_open pair (new_live k v q) e)
+        (λ e v q. absurd (idle t k Added is_open pair (was_live k v q) e))
+        (matches.step t k is_open))
 
     step_each : (t k : ℕ) → fin.contains opens t ≡ true → IsInStep bits (undoing t) (last_of (standing' t k)) pages' root t k
     step_each t k is_open =
@@ -177,12 +177,12 @@ module _ (bits : ℕ → ℕ) (opens : fin.FinSet nat_cmp) (undoing : ℕ → Bo
         → PagesMatchOperations bits opens undoing begun standing' pages' root
     ghost_made w live change others alone turns none removed forward =
         assembled standing' owner None (Ghost key 0 owner) change owner_open others alone
-          (λ k v t e. (let f : k ≡ key = cc in f, let f : t ≡ owner = cc in f))
-          (λ k v e. cc)
-          (λ k v t _ e. let f : Live key w ≡ Ghost k v t = sym live ∙ e in cc)
-          (λ k v e. let f : Live key w ≡ Live k v = sym live ∙ e in cc)
-          turns
-          (made bits pages pages' root n i (Ghost key 0 owner) home.form change.form change.sets within (undoing owner) (last_of (standing' owner key)) owner key w refl live none removed forward)
+        (λ k v t e. (let f : k ≡ key = cc in f, let f : t ≡ owner = cc in f))
+        (λ k v e. cc)
+        (λ k v t _ e. let f : Live key w ≡ Ghost k v t = sym live ∙ e in cc)
+        (λ k v e. let f : Live key w ≡ Live k v = sym live ∙ e in cc)
+        turns
+        (made bits pages pages' root n i (Ghost key 0 owner) home.form change.form change.sets within (undoing owner) (last_of (standing' owner key)) owner key w refl live none removed forward)
 
     record_made : (value : ℕ) → ChangesRecord bits pages pages' root key (Some value) n i (Live key value)
         → ((t k : ℕ) → (t ≡ owner → k ≡ key → ⊥) → standing' t k ≡ standing t k)
@@ -195,10 +195,10 @@ module _ (bits : ℕ → ℕ) (opens : fin.FinSet nat_cmp) (undoing : ℕ → Bo
         → PagesMatchOperations bits opens undoing begun standing' pages' root
     record_made value change others alone was_ghost was_live turns only added =
         assembled standing' owner (Some value) (Live key value) change owner_open others alone
-          (λ k v t e. cc)
-          (λ k v e. cc)
-          was_ghost was_live turns
-          (gone bits pages pages' root n i (Live key value) home.form change.form change.sets within (undoing owner) (last_of (standing' owner key)) owner key value refl only added)
+        (λ k v t e. cc)
+        (λ k v e. cc)
+        was_ghost was_live turns
+        (gone bits pages pages' root n i (Live key value) home.form change.form change.sets within (undoing owner) (last_of (standing' owner key)) owner key value refl only added)
 
     -- the slot has a ghost of the transaction and key: the only one
     only_here : (v : ℕ) → slot_at (buckets_of pages) n i ≡ Ghost key v owner → (m j : ℕ) → IsGhostAt pages owner key m j → (m ≡ n) × (j ≡ i)
@@ -217,11 +217,11 @@ module _ (bits : ℕ → ℕ) (opens : fin.FinSet nat_cmp) (undoing : ℕ → Bo
         let live = old_live test in
         let last = appended_last Removed more in
         ghost_made live.0 live.1 change (appended_others Removed more)
-          (λ t is_open differs. none_of_both t (unopposed t is_open differs) (not_removed live.0 live.1 t is_open))
-          (appended_turns Removed more (not_removed live.0 live.1 owner owner_open))
-          (λ m j g. not_removed live.0 live.1 owner owner_open ((matches.step owner key owner_open).forward forward m j g))
-          (λ e. let f : Some Removed ≡ Some Added = sym last ∙ e in cc)
-          (λ _. last)
+        (λ t is_open differs. none_of_both t (unopposed t is_open differs) (not_removed live.0 live.1 t is_open))
+        (appended_turns Removed more (not_removed live.0 live.1 owner owner_open))
+        (λ m j g. not_removed live.0 live.1 owner owner_open ((matches.step owner key owner_open).forward forward m j g))
+        (λ e. let f : Some Removed ≡ Some Added = sym last ∙ e in cc)
+        (λ _. last)
 
     pub undone_addition : undoing owner ≡ true → is_live_of key (get_or bucket.slots i Free) ≡ true
         → ChangesRecord bits pages pages' root key None n i (Ghost key 0 owner) → Appends standing' standing owner key Added
@@ -230,9 +230,9 @@ module _ (bits : ℕ → ℕ) (opens : fin.FinSet nat_cmp) (undoing : ℕ → Bo
         let live = old_live test in
         let turns = taken_turns Added less in
         ghost_made live.0 live.1 change (taken_others Added less) (taken_alone Added less) turns.0
-          ((matches.step owner key owner_open).revived (taken_last Added less))
-          turns.1
-          (λ forward. absurd (both_ways _ forward back))
+        ((matches.step owner key owner_open).revived (taken_last Added less))
+        turns.1
+        (λ forward. absurd (both_ways _ forward back))
 
     pub addition_by_ghost : (value : ℕ) → NoOtherLast opens standing owner key Removed → value_in key bucket.slots ≡ None → is_ghost_of key owner (get_or bucket.slots i Free) ≡ true
         → ChangesRecord bits pages pages' root key (Some value) n i (Live key value) → Appends standing standing' owner key Added
@@ -241,11 +241,11 @@ module _ (bits : ℕ → ℕ) (opens : fin.FinSet nat_cmp) (undoing : ℕ → Bo
         let ghost = old_ghost owner test in
         let last = appended_last Added more in
         record_made value change (appended_others Added more)
-          (λ t is_open differs. none_of_both t (not_added none t is_open) (unopposed t is_open differs))
-          (same_ghost ghost.0 ghost.1) (no_record ghost.0 ghost.1)
-          (appended_turns Added more (not_added none owner owner_open))
-          (only_here ghost.0 ghost.1)
-          (λ e. let f : Some Added ≡ Some Removed = sym last ∙ e in cc)
+        (λ t is_open differs. none_of_both t (not_added none t is_open) (unopposed t is_open differs))
+        (same_ghost ghost.0 ghost.1) (no_record ghost.0 ghost.1)
+        (appended_turns Added more (not_added none owner owner_open))
+        (only_here ghost.0 ghost.1)
+        (λ e. let f : Some Added ≡ Some Removed = sym last ∙ e in cc)
 
     pub addition_by_put : (value : ℕ) → NoOtherLast opens standing owner key Removed → value_in key bucket.slots ≡ None → position (is_ghost_of key owner) bucket.slots ≡ None → is_kept opens (get_or bucket.slots i Free) ≡ false
         → ChangesRecord bits pages pages' root key (Some value) n i (Live key value) → Appends standing standing' owner key Added
@@ -253,11 +253,11 @@ module _ (bits : ℕ → ℕ) (opens : fin.FinSet nat_cmp) (undoing : ℕ → Bo
     addition_by_put value unopposed none no_own free change more =
         let last = appended_last Added more in
         record_made value change (appended_others Added more)
-          (λ t is_open differs. none_of_both t (not_added none t is_open) (unopposed t is_open differs))
-          (λ k v t is_open e. absurd (old_not_kept (Ghost k v t) free e is_open)) (λ k v e. absurd (old_not_kept (Live k v) free e refl))
-          (appended_turns Added more (not_added none owner owner_open))
-          (λ m j g. absurd (ghostless owner no_own m j g))
-          (λ e. let f : Some Added ≡ Some Removed = sym last ∙ e in cc)
+        (λ t is_open differs. none_of_both t (not_added none t is_open) (unopposed t is_open differs))
+        (λ k v t is_open e. absurd (old_not_kept (Ghost k v t) free e is_open)) (λ k v e. absurd (old_not_kept (Live k v) free e refl))
+        (appended_turns Added more (not_added none owner owner_open))
+        (λ m j g. absurd (ghostless owner no_own m j g))
+        (λ e. let f : Some Added ≡ Some Removed = sym last ∙ e in cc)
 
     pub undone_removal : (value : ℕ) → is_ghost_of key owner (get_or bucket.slots i Free) ≡ true
         → ChangesRecord bits pages pages' root key (Some value) n i (Live key value) → Appends standing' standing owner key Removed
@@ -266,10 +266,10 @@ module _ (bits : ℕ → ℕ) (opens : fin.FinSet nat_cmp) (undoing : ℕ → Bo
         let ghost = old_ghost owner test in
         let turns = taken_turns Removed less in
         record_made value change (taken_others Removed less) (taken_alone Removed less)
-          (same_ghost ghost.0 ghost.1) (no_record ghost.0 ghost.1)
-          turns.0
-          (only_here ghost.0 ghost.1)
-          turns.1
+        (same_ghost ghost.0 ghost.1) (no_record ghost.0 ghost.1)
+        turns.0
+        (only_here ghost.0 ghost.1)
+        turns.1
 
   -- a slot that becomes a record, or gets another value, for no operation on the key's presence
   module _ (value : ℕ) (change : ChangesRecord bits pages pages' root key (Some value) n i (Live key value))
@@ -282,11 +282,11 @@ module _ (bits : ℕ → ℕ) (opens : fin.FinSet nat_cmp) (undoing : ℕ → Bo
     plain_step : (t k : ℕ) → fin.contains opens t ≡ true → IsInStep bits (undoing t) (last_of (standing t k)) pages' root t k
     plain_step t k is_open =
         frame bits pages pages' root n i (Live key value) home.form change.form change.sets within (undoing t) (last_of (standing t k)) t k
-          (λ v e. cc)
-          (λ v e. was_ghost k v t is_open e)
-          (λ e v q. let same : k ≡ key = cc in unopposed t is_open (rw same at e))
-          (λ e v q. let same = was_live k v q in (value, (n, i, rw same now_live)))
-          (matches.step t k is_open)
+        (λ v e. cc)
+        (λ v e. was_ghost k v t is_open e)
+        (λ e v q. let same : k ≡ key = cc in unopposed t is_open (rw same at e))
+        (λ e v q. let same = was_live k v q in (value, (n, i, rw same now_live)))
+        (matches.step t k is_open)
 
     plain_left : (t k m j : ℕ) → IsGhostAt pages' t k m j → t ≤ begun
     plain_left t k m j g =
@@ -305,13 +305,13 @@ module _ (bits : ℕ → ℕ) (opens : fin.FinSet nat_cmp) (undoing : ℕ → Bo
   plain_update value test change =
       let live = old_live test in
       plain value change
-        (λ k v t _ e. let f : Live key live.0 ≡ Ghost k v t = sym live.1 ∙ e in cc)
-        (λ k v e. let f : Live key live.0 ≡ Live k v = sym live.1 ∙ e in cc)
-        (not_removed live.0 live.1)
+      (λ k v t _ e. let f : Live key live.0 ≡ Ghost k v t = sym live.1 ∙ e in cc)
+      (λ k v e. let f : Live key live.0 ≡ Live k v = sym live.1 ∙ e in cc)
+      (not_removed live.0 live.1)
 
   pub plain_put : (value : ℕ) → ((t : ℕ) → fin.contains opens t ≡ true → last_of (standing t key) ≡ Some Removed → ⊥) → is_kept opens (get_or bucket.slots i Free) ≡ false → ChangesRecord bits pages pages' root key (Some value) n i (Live key value) → PagesMatchOperations bits opens undoing begun standing pages' root
   plain_put value unopposed free change =
       plain value change
-        (λ k v t is_open e. old_not_kept (Ghost k v t) free e is_open)
-        (λ k v e. absurd (old_not_kept (Live k v) free e refl))
-        unopposed
+      (λ k v t is_open e. old_not_kept (Ghost k v t) free e is_open)
+      (λ k v e. absurd (old_not_kept (Live k v) free e refl))
+      unopposed

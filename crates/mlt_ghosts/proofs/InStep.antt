@@ -56,7 +56,7 @@ module _ (bits : ℕ → ℕ) (pages pages' : ℕ → Option Page) (root n i : �
   made undoing last owner key value is live none removed forward =
       let there : slot_at (buckets_of pages') n i ≡ Ghost key 0 owner = here ∙ is in
       let only : (m j : ℕ) → IsGhostAt pages' owner key m j → (m ≡ n) × (j ≡ i) = λ m j g.
-          elim (cases m j) [ inl h ↦ h | inr h ↦ absurd (none m j (g.0, sym h.1 ∙ g.1)) ] in
+      elim (cases m j) [ inl h ↦ h | inr h ↦ absurd (none m j (g.0, sym h.1 ∙ g.1)) ] in
       record {
         ghost = λ e. (i, rw (ghost_home bits pages' root form' n i key 0 owner there) there);
         absent = λ e v r.
@@ -76,9 +76,9 @@ module _ (bits : ℕ → ℕ) (pages pages' : ℕ → Option Page) (root n i : �
       → IsInStep bits undoing last pages' root owner key
   gone undoing last owner key value is only added =
       let none : (m j : ℕ) → IsGhostAt pages' owner key m j → ⊥ = λ m j g.
-          let old = was m j (Ghost key g.0 owner) g.1 (λ q. let f : Live key value ≡ Ghost key g.0 owner = sym is ∙ q in cc) in
-          let at = only m j (g.0, old.1) in
-          old.0 at.0 at.1 in
+      let old = was m j (Ghost key g.0 owner) g.1 (λ q. let f : Live key value ≡ Ghost key g.0 owner = sym is ∙ q in cc) in
+      let at = only m j (g.0, old.1) in
+      old.0 at.0 at.1 in
       record {
         ghost = λ e. absurd (added e);
         absent = λ e. absurd (added e);

@@ -49,10 +49,13 @@ map_none f None e = refl
 map_none f (Some x) e = cc
 
 -- a bucket without a value of the key has no record of it, and one where no ghost is found has none
-pub no_live : (k : ℕ) (slots : List Slot) (j v : ℕ) → value_in k slots ≡ None → get_or slots j Free ≡ Live k v → ⊥
-no_live k slots j v e is =
+pub no_live_test : (k : ℕ) (slots : List Slot) (j v : ℕ) → position (is_live_of k) slots ≡ None → get_or slots j Free ≡ Live k v → ⊥
+no_live_test k slots j v e is =
     let within = used_within slots j (λ free. let f : Free ≡ Live k v = sym free ∙ is in cc) in
-    both_ways _ (position_none (is_live_of k) slots j (map_none _ _ e) within) (live_passes k v _ is)
+    both_ways _ (position_none (is_live_of k) slots j e within) (live_passes k v _ is)
+
+pub no_live : (k : ℕ) (slots : List Slot) (j v : ℕ) → value_in k slots ≡ None → get_or slots j Free ≡ Live k v → ⊥
+no_live k slots j v e = no_live_test k slots j v (map_none _ _ e)
 
 pub no_ghost : (k t : ℕ) (slots : List Slot) (j v : ℕ) → position (is_ghost_of k t) slots ≡ None → get_or slots j Free ≡ Ghost k v t → ⊥
 no_ghost k t slots j v e is =

@@ -1,12 +1,16 @@
 //! Where the ghost of a key is found.
 
-ghost use Rattle.std.specs.Prelude.{◌≡◌, ℕ, ◌<◌, IfSome, MatchOption, None, Option, Some, option_map, position};
-ghost use Rattle.mlt_page.specs.Slots.{is_ghost_of};
+ghost use Rattle.std.specs.Prelude.{◌≡◌, ℕ, ◌<◌, Bool, true, IfSome, MatchOption, None, Option, Some, option_map, position};
+ghost use Rattle.std.specs.Ordering.{nat_cmp};
+ghost use Rattle.std.specs.FinSet as set;
+ghost use Rattle.mlt_page.specs.Slots.{is_ghost_of, is_live_of};
 ghost use Rattle.mlt_page.specs.Values.{BucketFields};
+ghost use Rattle.mlt_hash_form.specs.Form.{value_in};
 ghost use Rattle.mlt_hash_form.specs.File.{HasForm, buckets_of, lead_of};
 ghost use Rattle.mlt_store.specs.Stores.{page_at};
 ghost use Rattle.mlt_page.specs.declared.page.Page.{Page};
-ghost use Rattle.mlt_ghosts.specs.Ghosts.{IsGhostAt};
+ghost use Rattle.mlt_ghosts.specs.Ghosts.{IsGhostAt, PagesMatchOperations};
+ghost use Rattle.mlt_ghosts.specs.Operations.{Added, Removed, Standing, last_of};
 ghost use Rattle.mlt_ghosts.specs.Paths.{LeadsTo, NamesBucket};
 
 use crate::root::Root;
@@ -68,5 +72,16 @@ pub fn look_up_finds_the_ghost()
     ensures { (bits : ℕ → ℕ) (pages : ℕ → Option Page) (root key owner : ℕ) → HasForm bits pages root
         → let n = lead_of pages root (bits key) in let found = position (is_ghost_of key owner) (buckets_of pages n).slots in
         ((i : ℕ) → found ≡ Some i → IsGhostAt pages owner key n i)
-            × (found ≡ None → (m i : ℕ) → IsGhostAt pages owner key m i → ⊥) }
+        × (found ≡ None → (m i : ℕ) → IsGhostAt pages owner key m i → ⊥) }
+{}
+
+/// What an open transaction takes back is there, in the bucket that the key leads to: of an addition the record, and of
+/// a removal its ghost, and no record.
+pub fn what_is_undone_is_found()
+    ensures { (bits : ℕ → ℕ) (opens : set.FinSet nat_cmp) (undoing : ℕ → Bool) (begun : ℕ) (standing : Standing) (pages : ℕ → Option Page) (root key owner : ℕ)
+        → PagesMatchOperations bits opens undoing begun standing pages root
+        → HasForm bits pages root → set.contains opens owner ≡ true
+        → let slots = (buckets_of pages (lead_of pages root (bits key))).slots in
+        (last_of (standing owner key) ≡ Some Added → (i : ℕ) × (position (is_live_of key) slots ≡ Some i))
+        × (last_of (standing owner key) ≡ Some Removed → ((i : ℕ) × (position (is_ghost_of key owner) slots ≡ Some i)) × (value_in key slots ≡ None)) }
 {}

@@ -10,12 +10,19 @@ mod room;
 mod root;
 mod transaction_laws;
 
-pub use change_laws::{addition_puts_a_record, addition_revives_the_ghost, plain_put_keeps_ghosts, plain_update_keeps_ghosts, removal_makes_the_ghost, undone_addition_leaves_a_ghost, undone_removal_revives_the_ghost};
-pub use finding::{ghost_of, look_up_finds_the_ghost};
+pub use change_laws::{
+    addition_puts_a_record, addition_revives_the_ghost, plain_put_keeps_ghosts,
+    plain_update_keeps_ghosts, removal_makes_the_ghost, undone_addition_leaves_a_ghost,
+    undone_removal_revives_the_ghost,
+};
+pub use finding::{ghost_of, look_up_finds_the_ghost, what_is_undone_is_found};
 pub use move_laws::{ghosts_move_with_their_keys, moves_join, split_moves_slots};
 pub use room::{kept_room, reclaimable};
 pub use root::Root;
-pub use transaction_laws::{abort_keeps_ghosts, begin_keeps_ghosts, close_frees_the_room, file_without_ghosts, operations_keep_ghosts};
+pub use transaction_laws::{
+    abort_keeps_ghosts, begin_keeps_ghosts, close_frees_the_room, file_without_ghosts,
+    operations_keep_ghosts,
+};
 
 #[cfg(test)]
 mod tests;

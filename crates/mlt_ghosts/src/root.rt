@@ -4,7 +4,7 @@ use mlt_types::PageNo;
 
 /// What a look-up in a hash file has to know of the file: where its header is, how deep its directory may get, and
 /// the function from keys to pseudokeys.
-#[derive(Clone, Debug, Drop)]
+#[derive(Debug, Drop)]
 pub struct Root<P> {
     /// The page of the header.
     pub page: PageNo,

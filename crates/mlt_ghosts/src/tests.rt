@@ -66,8 +66,14 @@ fn ghosts_by_the_first_bit(rt: HostRuntime) -> Result<(), Fail> {
     second.slots[0] = Slot::Ghost(account(0), 0, TxId(6));
     let (head, one, two) = file(&mut store, 1, 1, first, second)?;
     let root = root(head, Low);
-    assert_eq!(rt; ghost_of(&store, &root, account(0), TxId(5)), Some((one, 3)));
-    assert_eq!(rt; ghost_of(&store, &root, account(32_768), TxId(5)), Some((two, 7)));
+    assert_eq!(rt;
+        ghost_of(&store, &root, account(0), TxId(5)),
+        Some((one, 3))
+    );
+    assert_eq!(rt;
+        ghost_of(&store, &root, account(32_768), TxId(5)),
+        Some((two, 7))
+    );
     assert_eq!(rt; ghost_of(&store, &root, account(0), TxId(6)), None);
     assert_eq!(rt; ghost_of(&store, &root, account(32_768), TxId(6)), None);
     assert_eq!(rt; ghost_of(&store, &root, account(65_536), TxId(5)), None);
@@ -82,8 +88,14 @@ fn ghosts_by_four_bits(rt: HostRuntime) -> Result<(), Fail> {
     let second = bucket_with(1, Slot::Ghost(account(0), 0, TxId(2)));
     let (head, one, two) = file(&mut store, 4, 7, first, second)?;
     let root = root(head, Mult);
-    assert_eq!(rt; ghost_of(&store, &root, account(0), TxId(2)), Some((two, 1)));
-    assert_eq!(rt; ghost_of(&store, &root, account(1), TxId(2)), Some((one, 0)));
+    assert_eq!(rt;
+        ghost_of(&store, &root, account(0), TxId(2)),
+        Some((two, 1))
+    );
+    assert_eq!(rt;
+        ghost_of(&store, &root, account(1), TxId(2)),
+        Some((one, 0))
+    );
     Ok(())
 }
 
@@ -102,8 +114,14 @@ fn ghosts_on_the_second_directory_page(rt: HostRuntime) -> Result<(), Fail> {
     let deep = store.grow(Page::Head(head))?;
     head.depth = 8;
     let flat = store.grow(Page::Head(head))?;
-    assert_eq!(rt; ghost_of(&store, &root(deep, Low), account(32_768), TxId(1)), Some((two, 2)));
-    assert_eq!(rt; ghost_of(&store, &root(flat, Low), account(32_768), TxId(1)), None);
+    assert_eq!(rt;
+        ghost_of(&store, &root(deep, Low), account(32_768), TxId(1)),
+        Some((two, 2))
+    );
+    assert_eq!(rt;
+        ghost_of(&store, &root(flat, Low), account(32_768), TxId(1)),
+        None
+    );
     Ok(())
 }
 
@@ -111,37 +129,77 @@ fn ghosts_on_the_second_directory_page(rt: HostRuntime) -> Result<(), Fail> {
 fn no_path_to_a_bucket(rt: HostRuntime) -> Result<(), Fail> {
     let mut store = new_store(&rt);
     let none = PageNo(1_000);
-    assert_eq!(rt; ghost_of(&store, &root(none, Low), account(0), TxId(1)), None);
+    assert_eq!(rt;
+        ghost_of(&store, &root(none, Low), account(0), TxId(1)),
+        None
+    );
     let holder = bucket_with(0, Slot::Ghost(account(0), 0, TxId(1)));
     let (head, bucket, _) = file(&mut store, 0, 1, holder, holder)?;
-    assert_eq!(rt; ghost_of(&store, &root(head, Low), account(0), TxId(1)), Some((bucket, 0)));
-    assert_eq!(rt; ghost_of(&store, &root(bucket, Low), account(0), TxId(1)), None);
+    assert_eq!(rt;
+        ghost_of(&store, &root(head, Low), account(0), TxId(1)),
+        Some((bucket, 0))
+    );
+    assert_eq!(rt;
+        ghost_of(&store, &root(bucket, Low), account(0), TxId(1)),
+        None
+    );
     let (deep, _, _) = file(&mut store, 17, 1, holder, holder)?;
-    assert_eq!(rt; ghost_of(&store, &root(deep, Low), account(0), TxId(1)), None);
+    assert_eq!(rt;
+        ghost_of(&store, &root(deep, Low), account(0), TxId(1)),
+        None
+    );
     let no_dir = store.grow(Page::Head(header(0, none)))?;
-    assert_eq!(rt; ghost_of(&store, &root(no_dir, Low), account(0), TxId(1)), None);
+    assert_eq!(rt;
+        ghost_of(&store, &root(no_dir, Low), account(0), TxId(1)),
+        None
+    );
     let dir = store.grow(Page::Dir(DirPage::new(none)))?;
     let no_bucket = store.grow(Page::Head(header(0, dir)))?;
-    assert_eq!(rt; ghost_of(&store, &root(no_bucket, Low), account(0), TxId(1)), None);
+    assert_eq!(rt;
+        ghost_of(&store, &root(no_bucket, Low), account(0), TxId(1)),
+        None
+    );
     Ok(())
 }
 
-#[test]
-fn ghosts_of_closed_owners_give_room(rt: HostRuntime) {
+fn only_open(id: u64) -> OpenSet {
     let mut opens = OpenSet::new();
-    opens.insert(TxId(5));
-    let kept = Slot::Ghost(account(1), 0, TxId(5));
-    let left = Slot::Ghost(account(1), 0, TxId(6));
+    if !opens.is_full() {
+        opens.insert(TxId(id));
+    }
+    opens
+}
+
+fn left_by(owner: u64) -> Slot {
+    Slot::Ghost(account(1), 0, TxId(owner))
+}
+
+#[test]
+fn ghosts_of_closed_owners_are_reclaimable(rt: HostRuntime) {
+    let opens = only_open(5);
     assert!(rt; !reclaimable(&Slot::Free, &opens));
     assert!(rt; !reclaimable(&Slot::Live(account(1), 0), &opens));
-    assert!(rt; !reclaimable(&kept, &opens));
-    assert!(rt; reclaimable(&left, &opens));
+    assert!(rt; !reclaimable(&left_by(5), &opens));
+    assert!(rt; reclaimable(&left_by(6), &opens));
+}
+
+#[test]
+fn room_of_records_and_open_owners_is_kept(rt: HostRuntime) {
+    let mut opens = only_open(5);
     let mut bucket = Bucket::empty(0);
     assert_eq!(rt; kept_room(&bucket, &opens), 0);
-    bucket.slots = [kept, left, Slot::Free, Slot::Live(account(0), 9), left, kept, kept, Slot::Free];
+    bucket.slots[0] = left_by(5);
+    bucket.slots[1] = left_by(6);
+    bucket.slots[3] = Slot::Live(account(0), 9);
+    bucket.slots[4] = left_by(6);
+    bucket.slots[6] = left_by(5);
+    bucket.slots[7] = left_by(5);
     assert_eq!(rt; kept_room(&bucket, &opens), 4);
     opens.remove(TxId(5));
     assert_eq!(rt; kept_room(&bucket, &opens), 1);
-    bucket.slots = [Slot::Live(account(0), 9); 8];
-    assert_eq!(rt; kept_room(&bucket, &opens), 8);
+    let full = Bucket {
+        depth: 0,
+        slots: [Slot::Live(account(0), 9); 8],
+    };
+    assert_eq!(rt; kept_room(&full, &opens), 8);
 }

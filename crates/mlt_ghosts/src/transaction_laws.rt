@@ -50,6 +50,6 @@ pub fn close_frees_the_room()
         → PagesMatchOperations bits opens undoing begun standing pages root
         → ((t key : ℕ) → (t ≡ owner → ⊥) → standing' t key ≡ standing t key)
         → PagesMatchOperations bits (set.remove opens owner) undoing begun standing' pages root
-            × ((key value : ℕ) → is_kept (set.remove opens owner) (Ghost key value owner) ≡ false)
-            × ((s : Slot) → ((key value : ℕ) → s ≡ Ghost key value owner → ⊥) → is_kept (set.remove opens owner) s ≡ is_kept opens s) }
+        × ((key value : ℕ) → is_kept (set.remove opens owner) (Ghost key value owner) ≡ false)
+        × ((s : Slot) → ((key value : ℕ) → s ≡ Ghost key value owner → ⊥) → is_kept (set.remove opens owner) s ≡ is_kept opens s) }
 {}

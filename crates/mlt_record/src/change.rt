@@ -12,7 +12,13 @@ use mlt_types::{Key, OpenSet, PageNo, TxId, Value};
 
 /// Puts the record of a key that has none into the lowest slot with room: one that is free, or has a ghost whose
 /// owner is not open. There is no plan exactly where no slot has room. `number` is the bucket's page.
-pub fn insert(number: PageNo, bucket: &Bucket, key: Key, value: Value, opens: &OpenSet) -> Option<PageWrite>
+pub fn insert(
+    number: PageNo,
+    bucket: &Bucket,
+    key: Key,
+    value: Value,
+    opens: &OpenSet,
+) -> Option<PageWrite>
     requires { position (is_live_of key) bucket.now.slots ≡ None }
     ensures plan { MatchOption result (IsNowhere (has_room opens.now) bucket.now.slots) (SetsFirst number bucket.now (has_room opens.now) (Live key value)) }
     ensures pairs { IfSome result (λ write. SetsPair bucket.now.slots (slots_written write) key (Some value)) }
@@ -58,7 +64,13 @@ pub fn remove(number: PageNo, bucket: &Bucket, key: Key, owner: TxId) -> Option<
 
 /// Makes the first ghost that `owner` left of a key its record again, where the key has none. There is no plan
 /// exactly where `owner` has no ghost of the key here. `number` is the bucket's page.
-pub fn revive(number: PageNo, bucket: &Bucket, key: Key, owner: TxId, value: Value) -> Option<PageWrite>
+pub fn revive(
+    number: PageNo,
+    bucket: &Bucket,
+    key: Key,
+    owner: TxId,
+    value: Value,
+) -> Option<PageWrite>
     requires { position (is_live_of key) bucket.now.slots ≡ None }
     ensures plan { MatchOption result (IsNowhere (is_ghost_of key owner) bucket.now.slots) (SetsFirst number bucket.now (is_ghost_of key owner) (Live key value)) }
     ensures pairs { IfSome result (λ write. SetsPair bucket.now.slots (slots_written write) key (Some value)) }

@@ -1,5 +1,4 @@
-use Rattle.std.proofs.Common.{◌≡◌, ◌+◌, ◌∙◌, arith}
-use Rattle.mlt_page_locks.specs.LockTables.{HasAtMost}
+use Rattle.std.proofs.Common.{◌∙◌, arith}
 use Rattle.mlt_page_locks.specs.LockLaws.{room_for_few, few_answered}
 use Rattle.mlt_page_locks.proofs.tests.Desk.ask.Goals as goal
 
