@@ -71,15 +71,6 @@ impl Accounts {
         Ok(())
     }
 
-    pub(crate) fn copy(&self) -> Result<Accounts, Refusal>
-        ensures copy { IfOk result (λ copy. copy ≡ self.now) }
-        ensures refusal { IfErr result (λ refusal. refusal ≡ Refusal.OutOfMemory) }
-    {
-        Ok(Accounts {
-            balances: self.balances.clone()?,
-        })
-    }
-
     // Appends a line `account A b` for each account, by rising number.
     pub(crate) fn push_text(&self, text: &mut String) -> Result<(), Refusal>
         ensures text { OnOk result (string_bytes text.new ≡ string_bytes text.old ++ account_lines self.now) }

@@ -133,22 +133,6 @@ impl Base {
         Ok(reply)
     }
 
-    /// The same base once more.
-    ///
-    /// # Errors
-    /// `OutOfMemory`, where a growth was refused.
-    pub fn copy(&self) -> Result<Base, Refusal>
-        ensures copy { IfOk result (λ copy. copy ≡ self.now) }
-        ensures refusal { IfErr result (λ refusal. refusal ≡ Refusal.OutOfMemory) }
-    {
-        Ok(Base {
-            alloc: self.alloc,
-            accounts: self.accounts.copy()?,
-            elements: self.elements.copy()?,
-            counters: self.counters.copy()?,
-        })
-    }
-
     /// The text of the base, as `write_base` writes it.
     ///
     /// # Errors

@@ -65,15 +65,6 @@ impl Counters {
         Ok(())
     }
 
-    pub(crate) fn copy(&self) -> Result<Counters, Refusal>
-        ensures copy { IfOk result (λ copy. copy ≡ self.now) }
-        ensures refusal { IfErr result (λ refusal. refusal ≡ Refusal.OutOfMemory) }
-    {
-        Ok(Counters {
-            values: self.values.clone()?,
-        })
-    }
-
     // Appends a line `counter C v` for each counter that is not 0, by rising number.
     pub(crate) fn push_text(&self, text: &mut String) -> Result<(), Refusal>
         ensures text { OnOk result (string_bytes text.new ≡ string_bytes text.old ++ counter_lines self.now) }

@@ -65,15 +65,6 @@ impl Elements {
         Ok(())
     }
 
-    pub(crate) fn copy(&self) -> Result<Elements, Refusal>
-        ensures copy { IfOk result (λ copy. copy ≡ self.now) }
-        ensures refusal { IfErr result (λ refusal. refusal ≡ Refusal.OutOfMemory) }
-    {
-        Ok(Elements {
-            keys: self.keys.clone()?,
-        })
-    }
-
     // Appends a line `element S e` for each element, by rising set and then by rising number.
     pub(crate) fn push_text(&self, text: &mut String) -> Result<(), Refusal>
         ensures text { OnOk result (string_bytes text.new ≡ string_bytes text.old ++ element_lines self.now) }

@@ -122,22 +122,6 @@ fn text_of_a_base(rt: HostRuntime) -> Result<(), Fail> {
     Ok(())
 }
 
-#[test]
-fn copy_is_apart(rt: HostRuntime) -> Result<(), Fail> {
-    let base = some_base(&rt)?;
-    let mut copy = base.copy()?;
-    copy.apply(&ObjOp::Account(2, AccountOp::Close))?;
-    copy.apply(&ObjOp::Account(10, AccountOp::Withdraw(1)))?;
-    copy.apply(&ObjOp::Element(3, 7, ElementOp::Remove))?;
-    copy.apply(&ObjOp::Counter(1, CounterOp::Up(3)))?;
-    assert_eq!(rt; (base.balance(2), copy.balance(2)), (Some(0), None));
-    assert_eq!(rt; (base.balance(10), copy.balance(10)), (Some(35), Some(34)));
-    assert_eq!(rt; copy.balance(u32::MAX), Some(MOST));
-    assert_eq!(rt; (base.has(3, 7), copy.has(3, 7)), (true, false));
-    assert_eq!(rt; (base.value(1), copy.value(1)), (2, 5));
-    Ok(())
-}
-
 // A writer that takes at most seven bytes at a time, and fails once it is full.
 #[derive(Drop)]
 struct Full {

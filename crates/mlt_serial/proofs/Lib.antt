@@ -1,3 +1,4 @@
 pub mod Transcripts
 pub mod OneRun
 pub mod Appends
+pub mod TakingBack

@@ -1,2 +1,3 @@
 pub mod Serial
+pub mod TakingBack
 pub mod Texts

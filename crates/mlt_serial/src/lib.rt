@@ -4,6 +4,7 @@
 mod outcome;
 mod report;
 mod run;
+mod take_back;
 
 pub use outcome::{End, Outcome, Outcomes, Transcript};
 pub use report::{Form, Report, write_report};

@@ -27,22 +27,11 @@ impl Model for Transcript {
 }
 
 impl Transcript {
-    /// The empty transcript.
-    pub fn new(alloc: Global) -> Transcript
-        ensures { result ≡ [] }
+    /// The transcript of what was done, in order.
+    pub fn new(done: Vec<Done>) -> Transcript
+        ensures { result ≡ done.items }
     {
-        Transcript {
-            done: Vec::new(alloc),
-        }
-    }
-
-    /// Adds what was done at the end. An `Err` changes nothing.
-    pub fn push(&mut self, done: Done) -> Result<(), AllocError>
-        ensures ok { OnOk result (self.new ≡ self.old ++ done ∷ []) }
-        ensures err { OnErr result (self.new ≡ self.old) }
-    {
-        self.done.push(done)?;
-        Ok(())
+        Transcript { done }
     }
 
     /// What was done, in order.

@@ -10,23 +10,26 @@ ghost use Rattle.mlt_serial.specs.declared.outcome.Outcome.{Outcome as OutcomeFo
 
 use crate::outcome::{End, Outcome, Outcomes, Transcript};
 use crate::report::Report;
+use crate::take_back::take_back;
 use mlt_base::Base;
 use mlt_kinds::Done;
 use mlt_script::{Cursor, Ending, Next, Script};
 use mlt_types::Refusal;
 use std::alloc::Global;
 
-/// Runs the script on the base to its end, and adds what was done to the transcript.
-fn play(script: &Script, base: &mut Base, done: &mut Transcript) -> Result<Ending, Refusal>
-    requires { done.old ≡ [] }
-    ensures ok { IfOk result (λ ending. Follows script.now done.new ending × Runs base.old done.new base.new) }
-    ensures err { OnErr result (IsPartial script.now done.new × ((reached : ObjectBase) × Runs base.old done.new reached)) }
+/// Runs the script on the base to its end, and adds what was done to the list.
+fn play(script: &Script, base: &mut Base, done: &mut Vec<Done>) -> Result<Ending, Refusal>
+    requires { done.old.items ≡ [] }
+    ensures runs { Runs base.old done.new.items base.new }
+    ensures ok { IfOk result (λ ending. Follows script.now done.new.items ending) }
+    ensures err { OnErr result (IsPartial script.now done.new.items) }
     ensures refusal { IfErr result (λ refusal. refusal ≡ Refusal.OutOfMemory) }
 {
     let mut cursor = Cursor::new(script);
     while let Next::Op(op) = cursor.next() {
+        done.reserve(1)?;
         let reply = base.apply(&op)?;
-        done.push(Done::new(op, reply))?;
+        done.push_reserved(Done::new(op, reply));
         cursor.tell(reply);
     }
     match cursor.next() {
@@ -35,47 +38,59 @@ fn play(script: &Script, base: &mut Base, done: &mut Transcript) -> Result<Endin
     }
 }
 
-/// Runs the script on a copy of the base, which takes its place where the script commits.
-fn attempt(script: &Script, base: &mut Base, done: &mut Transcript) -> Result<Ending, Refusal>
-    requires { done.old ≡ [] }
-    ensures commit { result ≡ Ok Ending.Commit → Follows script.now done.new Ending.Commit × Runs base.old done.new base.new }
-    ensures abort { result ≡ Ok Ending.Abort → Follows script.now done.new Ending.Abort × ((reached : ObjectBase) × Runs base.old done.new reached) × (base.new ≡ base.old) }
-    ensures err { OnErr result (IsPartial script.now done.new × ((reached : ObjectBase) × Runs base.old done.new reached) × (base.new ≡ base.old)) }
+/// Runs the script on the base, and takes back what it did where it does not commit.
+///
+/// # Errors
+/// `OutOfMemory`, where a growth was refused while something was taken back.
+fn attempt(
+    script: &Script,
+    base: &mut Base,
+    commits: u64,
+    done: &mut Vec<Done>,
+) -> Result<End, Refusal>
+    requires empty { done.old.items ≡ [] }
+    requires commits { commits < 2 ^ 63 }
+    ensures run { IfOk result (λ end. IsRun script.now base.old commits done.new.items end base.new (commits_after commits end)) }
+    ensures mark { (refusal : RefusalForm) → result ≡ Ok (End.Refused refusal) → refusal ≡ Refusal.OutOfMemory }
     ensures refusal { IfErr result (λ refusal. refusal ≡ Refusal.OutOfMemory) }
 {
-    let mut trial = base.copy()?;
-    let ending = play(script, &mut trial, done)?;
-    match ending {
-        Ending::Commit => {
-            *base = trial;
-            Ok(Ending::Commit)
-        }
-        Ending::Abort => Ok(Ending::Abort),
-    }
-}
-
-/// Runs the script alone on the base, `commits` scripts having committed before it.
-fn run_alone(alloc: Global, script: &Script, number: u64, commits: u64, base: &mut Base) -> Outcome
-    requires { commits < 2 ^ 63 }
-    ensures run { IsRun script.now base.old commits result.done result.end base.new (commits_after commits result.end) }
-    ensures client { result.client ≡ script.now.client }
-    ensures number { result.number ≡ number }
-    ensures tx { result.tx ≡ 0 }
-    ensures refusal { (refusal : RefusalForm) → result.end ≡ End.Refused refusal → refusal ≡ Refusal.OutOfMemory }
-{
-    let mut done = Transcript::new(alloc);
-    let end = match attempt(script, base, &mut done) {
-        Ok(Ending::Commit) => End::Committed(commits + 1),
+    let end = match play(script, base, done) {
+        Ok(Ending::Commit) => return Ok(End::Committed(commits + 1)),
         Ok(Ending::Abort) => End::Aborted,
         Err(refusal) => End::Refused(refusal),
     };
-    Outcome {
+    take_back(base, done.as_slice())?;
+    Ok(end)
+}
+
+/// Runs the script alone on the base, `commits` scripts having committed before it.
+///
+/// # Errors
+/// `OutOfMemory`, where a growth was refused while something was taken back.
+fn run_alone(
+    alloc: Global,
+    script: &Script,
+    number: u64,
+    commits: u64,
+    base: &mut Base,
+) -> Result<Outcome, Refusal>
+    requires { commits < 2 ^ 63 }
+    ensures run { IfOk result (λ outcome. IsRun script.now base.old commits outcome.done outcome.end base.new (commits_after commits outcome.end)) }
+    ensures client { IfOk result (λ outcome. outcome.client ≡ script.now.client) }
+    ensures number { IfOk result (λ outcome. outcome.number ≡ number) }
+    ensures tx { IfOk result (λ outcome. outcome.tx ≡ 0) }
+    ensures mark { IfOk result (λ outcome. (refusal : RefusalForm) → outcome.end ≡ End.Refused refusal → refusal ≡ Refusal.OutOfMemory) }
+    ensures refusal { IfErr result (λ refusal. refusal ≡ Refusal.OutOfMemory) }
+{
+    let mut done = Vec::new(alloc);
+    let end = attempt(script, base, commits, &mut done)?;
+    Ok(Outcome {
         client: script.client(),
         number,
         tx: 0,
-        done,
+        done: Transcript::new(done),
         end,
-    }
+    })
 }
 
 /// The last commit number once a script ended, `commits` being the one before.
@@ -99,7 +114,7 @@ fn no_scripts() -> [u64; 1_000]
 /// refused a growth leaves the base as it was, and the others run all the same.
 ///
 /// # Errors
-/// `OutOfMemory`, where a growth of the report's own was refused.
+/// `OutOfMemory`, where a growth of the report's own was refused, or one while a script was taken back.
 pub fn serial_with_marks(alloc: Global, scripts: &[Script]) -> Result<Report, Refusal>
     ensures run { IfOk result (λ report. IsSerialRun scripts.now (map mark_of report.outcomes) report.outcomes report.base) }
     ensures marks { IfOk result (λ report. AreMarksOf Refusal.OutOfMemory (map mark_of report.outcomes)) }
@@ -114,7 +129,7 @@ pub fn serial_with_marks(alloc: Global, scripts: &[Script]) -> Result<Report, Re
     for script in scripts {
         let client = script.client() as usize;
         numbers[client] += 1;
-        let outcome = run_alone(alloc, script, numbers[client], commits, &mut base);
+        let outcome = run_alone(alloc, script, numbers[client], commits, &mut base)?;
         let end = outcome.end;
         outcomes.push(outcome)?;
         commits = last_commit(commits, end);

@@ -49,7 +49,7 @@ fn aborted_scripts_leave_nothing(rt: HostRuntime) -> Result<(), Fail> {
 #[test]
 fn refused_scripts_are_told_so(rt: HostRuntime) -> Result<(), Fail> {
     let mut outcomes = Outcomes::new(rt.alloc());
-    let done = Transcript::new(rt.alloc());
+    let done = Transcript::new(Vec::new(rt.alloc()));
     let end = End::Refused(mlt_types::Refusal::TooManyOpen);
     outcomes.push(Outcome {
         client: 0,

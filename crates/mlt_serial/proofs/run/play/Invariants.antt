@@ -5,8 +5,8 @@ use Rattle.mlt_serial.proofs.run.play.Given as goal
 
 abbrev pub invariant-loop-op : goal.invariant-loop-op
 invariant-loop-op l = record {
-  asked : Reaches (plan_of_script l.script) l.done (plan_of l.cursor);
-  runs : Runs l.fn.base l.done l.base;
+  asked : Reaches (plan_of_script l.script) l.done.items (plan_of l.cursor);
+  runs : Runs l.fn.base l.done.items l.base;
 }
 
 abbrev pub decreases-loop-op : goal.decreases-loop-op

@@ -25,7 +25,7 @@ loop-script-preserved c =
     let scripts = c.args.scripts.now in
     let script = c.script-item.result in
     let before = take l.script-index scripts in
-    let o = c.run_alone-outcome.result in
+    let o = c.in_ok-outcome.outcome in
     let more : take (l.script-index + 1) scripts ≡ before ++ script ∷ [] =
     take_more scripts l.script-index script c.loop-script-test.true ∙ ap (λ (s : ScriptForm). before ++ s ∷ []) (sym c.script-item.is) in
     let long : length l.numbers ≡ 1000 = l.invariant.long in
@@ -34,12 +34,12 @@ loop-script-preserved c =
     next_number l.numbers before script long small l.invariant.counted in
     rw (more, c.in_ok-push.ensures.ok) record {
       runs = rw c.last_commit-commits.ensures
-          (runs_push before empty_base l.base c.run_alone-outcome.new.base 0 l.commits (commits_after l.commits o.end) l.outcomes script o l.invariant.runs c.run_alone-outcome.ensures.run);
-      few = let few : commits_after l.commits o.end ≤ l.commits + 1 = commits_after-le script l.base c.run_alone-outcome.new.base l.commits (commits_after l.commits o.end) o c.run_alone-outcome.ensures.run in
+          (runs_push before empty_base l.base c.run_alone.new.base 0 l.commits (commits_after l.commits o.end) l.outcomes script o l.invariant.runs c.in_ok-outcome.ensures.run);
+      few = let few : commits_after l.commits o.end ≤ l.commits + 1 = commits_after-le script l.base c.run_alone.new.base l.commits (commits_after l.commits o.end) o c.in_ok-outcome.ensures.run in
           omega (arith, c.last_commit-commits.ensures, l.invariant.few);
-      marks = outcome_marks_push OutOfMemory l.outcomes o l.invariant.marks c.run_alone-outcome.ensures.refusal;
-      numbered = numbered_push [] before l.outcomes script o l.invariant.numbered c.run_alone-outcome.ensures.client (c.run_alone-outcome.ensures.number ∙ rw c.client-client.ensures.client counted);
-      without_tx = without_tx_push l.outcomes o l.invariant.without_tx c.run_alone-outcome.ensures.tx;
+      marks = outcome_marks_push OutOfMemory l.outcomes o l.invariant.marks c.in_ok-outcome.ensures.mark;
+      numbered = numbered_push [] before l.outcomes script o l.invariant.numbered c.in_ok-outcome.ensures.client (c.in_ok-outcome.ensures.number ∙ rw c.client-client.ensures.client counted);
+      without_tx = without_tx_push l.outcomes o l.invariant.without_tx c.in_ok-outcome.ensures.tx;
       long = length-set l.numbers c.client-client.result (get_or l.numbers c.client-client.result 0 + 1) ∙ long;
       counted = rw c.client-client.ensures.client (counted_push l.numbers before script long small l.invariant.counted);
     }
