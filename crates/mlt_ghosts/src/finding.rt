@@ -13,8 +13,7 @@ ghost use Rattle.mlt_ghosts.specs.Ghosts.{IsGhostAt, PagesMatchOperations};
 ghost use Rattle.mlt_ghosts.specs.Operations.{Added, Removed, Standing, last_of};
 ghost use Rattle.mlt_ghosts.specs.Paths.{LeadsTo, NamesBucket};
 
-use crate::root::Root;
-use mlt_hash_form::Place;
+use mlt_hash_form::{Place, Root};
 use mlt_page::Page;
 use mlt_store::Store;
 use mlt_types::{Key, PageNo, Pseudo, TxId};

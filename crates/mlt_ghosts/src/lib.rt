@@ -7,7 +7,6 @@ mod change_laws;
 mod finding;
 mod move_laws;
 mod room;
-mod root;
 mod transaction_laws;
 
 pub use change_laws::{
@@ -16,9 +15,11 @@ pub use change_laws::{
     undone_removal_revives_the_ghost,
 };
 pub use finding::{ghost_of, look_up_finds_the_ghost, what_is_undone_is_found};
-pub use move_laws::{ghosts_move_with_their_keys, moves_join, split_moves_slots};
+pub use mlt_hash_form::Root;
+pub use move_laws::{
+    ghosts_move_with_their_keys, moves_join, rearranged_slots_are_moved, split_moves_slots,
+};
 pub use room::{kept_room, reclaimable};
-pub use root::Root;
 pub use transaction_laws::{
     abort_keeps_ghosts, begin_keeps_ghosts, close_frees_the_room, file_without_ghosts,
     operations_keep_ghosts,

@@ -9,6 +9,7 @@ ghost use Rattle.mlt_page.specs.declared.slot.Slot.{Slot};
 ghost use Rattle.mlt_hash_form.specs.Form.{is_used, slot_at};
 ghost use Rattle.mlt_hash_form.specs.File.{buckets_of};
 ghost use Rattle.mlt_hash_form.specs.Changes.{IsSplit};
+ghost use Rattle.mlt_hash_form.specs.Held.{RearrangesSlots};
 ghost use Rattle.mlt_ghosts.specs.Ghosts.{PagesMatchOperations};
 ghost use Rattle.mlt_ghosts.specs.Moves.{MovesSlots};
 ghost use Rattle.mlt_ghosts.specs.Operations.{Standing};
@@ -28,6 +29,13 @@ pub fn moves_join()
     ensures { (bits : ℕ → ℕ) (stays : Slot → Bool) (one two three : ℕ → Option Page) (root : ℕ)
         → MovesSlots bits stays one two root → MovesSlots bits stays two three root
         → MovesSlots bits stays one three root }
+{}
+
+/// What a walk rearranged is moved: records and ghosts of open owners stay.
+pub fn rearranged_slots_are_moved()
+    ensures { (bits : ℕ → ℕ) (opens : set.FinSet nat_cmp) (seen : ℕ → Option (Option Page)) (before after : ℕ → Option Page) (root : ℕ)
+        → RearrangesSlots bits opens seen before after root
+        → MovesSlots bits (is_kept opens) before after root }
 {}
 
 /// A ghost goes where its key goes: to move slots keeps the ghosts, where records and ghosts of open owners stay.

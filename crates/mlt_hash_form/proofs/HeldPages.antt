@@ -1,52 +1,140 @@
 -- Walks side by side
-use Rattle.std.proofs.Common.{ℕ, ◌≡◌, Bool, true, Option, Some, None, sym, ◌∙◌, ap, inl, inr}
-use Rattle.std.specs.Prelude.{◌⊎◌, ◌↔◌}
-use Rattle.mlt_page.specs.declared.slot.Slot.{Slot}
-use Rattle.mlt_page.specs.declared.page.Page.{Page}
+use Rattle.std.proofs.Common.{ℕ, ◌≡◌, Option, Some, None, refl, sym, ◌∙◌, ap, inl, inr}
+use Rattle.std.specs.Prelude.{◌⊎◌, true, false, is_some, slice_index_or}
 use Rattle.std.specs.Ordering.{nat_cmp, eq_by_cmp}
 use Rattle.std.specs.FinMap as map
-use Rattle.std.proofs.lemmas.Cmp.{nat_cmp_total}
-use Rattle.mlt_hash_form.proofs.RecordMap.{tied, tied_itself}
 use Rattle.std.specs.FinSet as set
 use Rattle.std.proofs.lemmas.Bool.{both_ways, cases_Bool, cond-true, cond-false}
+use Rattle.std.proofs.lemmas.Cmp.{nat_cmp_total}
 use Rattle.mlt_page.specs.Slots.{is_kept}
-use Rattle.mlt_page.specs.declared.slot.Slot.TheVariants.{Live}
+use Rattle.mlt_page.specs.declared.slot.Slot.{Slot}
+use Rattle.mlt_page.specs.declared.slot.Slot.TheVariants.{Free, Live}
+use Rattle.mlt_page.specs.declared.page.Page.{Page}
 use Rattle.mlt_hash_form.specs.Changes.{ChangesRecord, IsSplit}
 use Rattle.mlt_hash_form.specs.Form.{HasSlot, is_used, slot_at}
-use Rattle.mlt_hash_form.specs.File.{buckets_of, lead_of, look_up, HasForm, Writes}
+use Rattle.mlt_hash_form.specs.File.{bucket_of, buckets_of, lead_of, look_up, HasForm, Writes}
+use Rattle.mlt_hash_form.specs.Held.{own_or, over, Agrees, StoodOnHeld, RearrangesSlots, KeepsFile, ChangesFile}
 use Rattle.mlt_hash_form.proofs.InPages.{same_option}
 use Rattle.mlt_hash_form.proofs.Lookup.{found}
-use Rattle.mlt_hash_form.specs.Held.{own_or, over, Agrees, KeepsFile, ChangesFile}
+use Rattle.mlt_hash_form.proofs.RecordMap.{tied, tied_itself}
+
+-- what the walk saw of a page that it holds
+seen_as : (o : Option (Option Page)) → is_some o ≡ true → (p : Option Page) × (o ≡ Some p)
+seen_as None h = absurd (both_ways _ refl h)
+seen_as (Some p) h = (p, refl)
+
+-- a slot whose room is kept is not lost
+not_lost : (opens : set.FinSet nat_cmp) (t : Slot) (L S : Type 0) → is_kept opens t ≡ true → L ⊎ ((is_kept opens t ≡ false) × S) → L
+not_lost opens t L S k (inl there) = there
+not_lost opens t L S k (inr gone) = absurd (both_ways _ gone.0 k)
 
 -- a walk that wrote nothing
-pub keeps_none : (bits : ℕ → ℕ) (stays : Slot → Bool) (root : ℕ) (seen : ℕ → Option (Option Page)) → KeepsFile bits stays root seen (λ _. None)
-keeps_none bits stays root seen = record { form = λ clean a f. f; slots = λ clean a f t k. (λ h. h, λ h. h) }
+pub keeps_none : (bits : ℕ → ℕ) (opens : set.FinSet nat_cmp) (root : ℕ) (seen : ℕ → Option (Option Page)) → KeepsFile bits opens root seen (λ _. None)
+keeps_none bits opens root seen clean a f = record { form = f; lost = λ t k h. inl h; stood = λ m i k. (m, refl, inl refl) }
 
--- one more page held: what it saw before it still saw
-pub keeps_more : (bits : ℕ → ℕ) (stays : Slot → Bool) (root : ℕ) (seen seen' : ℕ → Option (Option Page)) (own : ℕ → Option Page) → ((n : ℕ) (p : Option Page) → seen n ≡ Some p → seen' n ≡ Some p) → KeepsFile bits stays root seen own → KeepsFile bits stays root seen' own
-keeps_more bits stays root seen seen' own more keeps = record {
-  form = λ clean a f. keeps.form clean (λ n p e. a n p (more n p e)) f;
-  slots = λ clean a f. keeps.slots clean (λ n p e. a n p (more n p e)) f;
-}
+module _ (bits : ℕ → ℕ) (opens : set.FinSet nat_cmp) (root : ℕ) (seen : ℕ → Option (Option Page)) where
+  -- one more page held: what it saw before it still saw
+  pub keeps_more : (more : ℕ → Option (Option Page)) (own : ℕ → Option Page) → ((n : ℕ) (p : Option Page) → seen n ≡ Some p → more n ≡ Some p) → KeepsFile bits opens root seen own → KeepsFile bits opens root more own
+  keeps_more more own grows keeps clean a f =
+      let r = keeps clean (λ n p e. a n p (grows n p e)) f in
+      let still = λ (n : ℕ) (h : is_some (seen n) ≡ true). let p = seen_as (seen n) h in ap is_some (grows n p.0 p.1) in
+      record {
+        form = r.form;
+        lost = λ t k h. elim (r.lost t k h) [
+          | inl there ↦ inl there
+          | inr gone ↦ inr (gone.0, (gone.1.0, gone.1.1, still gone.1.0 gone.1.2, gone.1.3))
+        ];
+        stood = λ m i k. let b = r.stood m i k in (b.0, b.1, elim b.2 [ inl e ↦ inl e | inr h ↦ inr (still b.0 h) ]);
+      }
 
--- fewer slots that are to stay
-pub keeps_fewer : (bits : ℕ → ℕ) (stays stays' : Slot → Bool) (root : ℕ) (seen : ℕ → Option (Option Page)) (own : ℕ → Option Page) → ((t : Slot) → stays' t ≡ true → stays t ≡ true) → KeepsFile bits stays root seen own → KeepsFile bits stays' root seen own
-keeps_fewer bits stays stays' root seen own fewer keeps = record {
-  form = keeps.form;
-  slots = λ clean a f t k. keeps.slots clean a f t (fewer t k);
-}
+  -- other owners are open: what was lost on a held page is not kept for them either
+  pub keeps_fewer : (fewer : set.FinSet nat_cmp) (own : ℕ → Option Page)
+      → ((n : ℕ) (p : Option Page) → seen n ≡ Some p → (i : ℕ) → is_kept fewer (slice_index_or (bucket_of p).slots i Free) ≡ true → is_kept opens (slice_index_or (bucket_of p).slots i Free) ≡ true)
+      → KeepsFile bits opens root seen own → KeepsFile bits fewer root seen own
+  keeps_fewer fewer own kept keeps clean a f =
+      let r = keeps clean a f in
+      record {
+        form = r.form;
+        lost = λ t k h. elim (r.lost t k h) [
+          | inl there ↦ inl there
+          | inr gone ↦ elim (cases_Bool (is_kept fewer t)) [
+            | inl e ↦
+                let p = seen_as (seen gone.1.0) gone.1.2 in
+                let here : slot_at (buckets_of clean) gone.1.0 gone.1.1 ≡ slice_index_or (bucket_of p.0).slots gone.1.1 Free = ap (λ q. slice_index_or (bucket_of q).slots gone.1.1 Free) (a gone.1.0 p.0 p.1) in
+                let same = sym here ∙ gone.1.3 in
+                absurd (both_ways _ gone.0 (ap (is_kept opens) (sym same) ∙ kept gone.1.0 p.0 p.1 gone.1.1 (ap (is_kept fewer) same ∙ e)))
+            | inr e ↦ inr (e, gone.1)
+          ]
+        ];
+        stood = r.stood;
+      }
 
--- from one moment of rest to the next, as a fact about any clean pages that agree
-pub keeps_on : (bits : ℕ → ℕ) (stays : Slot → Bool) (root : ℕ) (seen : ℕ → Option (Option Page)) (own own' : ℕ → Option Page) → KeepsFile bits stays root seen own
-    → ((clean : ℕ → Option Page) → Agrees seen clean → HasForm bits (over clean own) root → HasForm bits (over clean own') root × ((t : Slot) → stays t ≡ true → HasSlot (buckets_of (over clean own')) t ↔ HasSlot (buckets_of (over clean own)) t))
-    → KeepsFile bits stays root seen own'
-keeps_on bits stays root seen own own' keeps step = record {
-  form = λ clean a f. (step clean a (keeps.form clean a f)).0;
-  slots = λ clean a f t k.
-      let here = (step clean a (keeps.form clean a f)).1 t k in
-      let before = keeps.slots clean a f t k in
-      (λ h. before.0 (here.0 h), λ h. here.1 (before.1 h));
-}
+  module _ (own : ℕ → Option Page) (keeps : KeepsFile bits opens root seen own) where
+    -- a file that is kept has the values that it had
+    pub kept_values : (clean : ℕ → Option Page) → Agrees seen clean → HasForm bits clean root → (key : ℕ) → look_up bits (over clean own) root key ≡ look_up bits clean root key
+    kept_values clean a file key =
+        let r = keeps clean a file in
+        let now_found = λ (v : ℕ). found bits _ (lead_of (over clean own) root) (buckets_of (over clean own)) r.form.form key v in
+        let was_found = λ (v : ℕ). found bits _ (lead_of clean root) (buckets_of clean) file.form key v in
+        let back = λ (v : ℕ) (h : HasSlot (buckets_of (over clean own)) (Live key v)). let b = r.stood h.0 h.1 (rw h.2 refl) in
+        let was : HasSlot (buckets_of clean) (Live key v) = (b.0, h.1, b.1 ∙ h.2) in was in
+        let on = λ (v : ℕ) (h : HasSlot (buckets_of clean) (Live key v)). not_lost opens (Live key v) _ _ refl (r.lost (Live key v) refl h) in
+        same_option _ _ (λ v e. (was_found v).0 (back v ((now_found v).1 e))) (λ v e. (now_found v).0 (on v ((was_found v).1 e)))
+
+    -- a change of what is written, at a moment of rest, changes the file
+    pub change_of_kept : (own' : ℕ → Option Page) (key n i : ℕ) (value : Option ℕ) (after : Slot)
+        → ((clean : ℕ → Option Page) → Agrees seen clean → HasForm bits clean root → HasForm bits (over clean own) root → ChangesRecord bits (over clean own) (over clean own') root key value n i after)
+        → ChangesFile bits opens root seen own own' key value n i after
+    change_of_kept own' key n i value after step = record { keeps = keeps; changes = λ clean a f. step clean a f (keeps clean a f).form }
+
+    -- what stands on a held page of what is written stood on a held page
+    stood_on_held : (clean : ℕ → Option Page) → Agrees seen clean → HasForm bits clean root → (n i : ℕ) (t : Slot) → is_some (seen n) ≡ true → is_used t ≡ true → slot_at (buckets_of (over clean own)) n i ≡ t → StoodOnHeld seen clean t
+    stood_on_held clean a f n i t held used e =
+        let b = (keeps clean a f).stood n i (ap is_used e ∙ used) in
+        (b.0, i, elim b.2 [ inl same ↦ ap (λ m. is_some (seen m)) same ∙ held | inr h ↦ h ], b.1 ∙ e)
+
+    -- a split of what is written, of a bucket on a held page, keeps the file
+    pub split_keeps : (own' : ℕ → Option Page) (splitters : set.FinSet nat_cmp) (n new : ℕ)
+        → is_some (seen n) ≡ true
+        → ((clean : ℕ → Option Page) → Agrees seen clean → HasForm bits clean root → HasForm bits (over clean own) root
+        → IsSplit bits splitters (over clean own) (over clean own') root n new
+        × ((i : ℕ) → is_kept opens (slot_at (buckets_of (over clean own)) n i) ≡ true → is_kept splitters (slot_at (buckets_of (over clean own)) n i) ≡ true))
+        → KeepsFile bits opens root seen own'
+    split_keeps own' splitters n new held step clean a f =
+        let r = keeps clean a f in
+        let s = step clean a f r.form in
+        let split = s.0 in
+        record {
+          form = split.form;
+          lost = λ t k h. elim (r.lost t k h) [
+            | inl there ↦ elim (split.lost t k there) [
+              | inl here ↦ inl here
+              | inr gone ↦ elim (cases_Bool (is_kept opens t)) [
+                | inl e ↦ absurd (both_ways _ gone.0 (ap (is_kept splitters) (sym gone.2) ∙ s.1 gone.1 (ap (is_kept opens) gone.2 ∙ e)))
+                | inr e ↦ inr (e, stood_on_held clean a f n gone.1 t held k gone.2)
+              ]
+            ]
+            | inr gone ↦ inr gone
+          ];
+          stood = λ m i k.
+              let b = split.before m i k in
+              let c = r.stood b.0 i (ap is_used b.1 ∙ k) in (
+                c.0,
+                c.1 ∙ b.1,
+                elim c.2 [
+                  | inl same ↦ elim b.2 [ inl e ↦ inl (same ∙ e) | inr e ↦ inr (ap (λ o. is_some (seen o)) (same ∙ e) ∙ held) ]
+                  | inr h ↦ inr h
+                ],
+              );
+        }
+
+-- a file that is changed has its form, the new value, and the other values that it had
+pub changed_values : (bits : ℕ → ℕ) (opens : set.FinSet nat_cmp) (root key n i : ℕ) (value : Option ℕ) (after : Slot) (seen : ℕ → Option (Option Page)) (rest own clean : ℕ → Option Page)
+    → ChangesFile bits opens root seen rest own key value n i after → Agrees seen clean → HasForm bits clean root
+    → HasForm bits (over clean own) root × (look_up bits (over clean own) root key ≡ value) × ((k : ℕ) → (k ≡ key → ⊥) → look_up bits (over clean own) root k ≡ look_up bits clean root k)
+changed_values bits opens root key n i value after seen rest own clean changes a f =
+    let c = changes.changes clean a f in
+    (c.form, c.here, λ k ne. c.others k ne ∙ kept_values bits opens root seen rest changes.keeps clean a f k)
 
 -- the end of one walk makes its writes clean; a walk that holds none of those pages still agrees
 pub agrees_after : (clean own : ℕ → Option Page) (seen : ℕ → Option (Option Page)) → ((n : ℕ) → (seen n ≡ None) ⊎ (own n ≡ None)) → Agrees seen clean → Agrees seen (over clean own)
@@ -65,61 +153,6 @@ pub writes_over : (clean own own' : ℕ → Option Page) (n : ℕ) (p : Page) �
 writes_over clean own own' n p here others = record {
   here = ap (λ o. own_or o (clean n)) here;
   others = λ m ne. ap (λ o. own_or o (clean m)) (others m ne);
-}
-
--- a file that is kept has the values that it had
-pub kept_values : (bits : ℕ → ℕ) (stays : Slot → Bool) (root : ℕ) (seen : ℕ → Option (Option Page)) (own clean : ℕ → Option Page) → ((k v : ℕ) → stays (Live k v) ≡ true) → KeepsFile bits stays root seen own
-    → Agrees seen clean → HasForm bits clean root → (key : ℕ) → look_up bits (over clean own) root key ≡ look_up bits clean root key
-kept_values bits stays root seen own clean live keeps a file key =
-    let now_found = λ (v : ℕ). found bits _ (lead_of (over clean own) root) (buckets_of (over clean own)) (keeps.form clean a file).form key v in
-    let was_found = λ (v : ℕ). found bits _ (lead_of clean root) (buckets_of clean) file.form key v in
-    let kept = λ (v : ℕ). keeps.slots clean a file (Live key v) (live key v) in
-    same_option _ _ (λ v e. (was_found v).0 ((kept v).0 ((now_found v).1 e))) (λ v e. (now_found v).0 ((kept v).1 ((was_found v).1 e)))
-
--- a split of what is written keeps the file
-pub split_keeps : (bits : ℕ → ℕ) (opens : set.FinSet nat_cmp) (stays : Slot → Bool) (root n new : ℕ) (seen : ℕ → Option (Option Page)) (own own' : ℕ → Option Page)
-    → KeepsFile bits stays root seen own
-    → ((clean : ℕ → Option Page) → Agrees seen clean → HasForm bits (over clean own) root
-    → IsSplit bits opens (over clean own) (over clean own') root n new
-    × ((i : ℕ) → stays (slot_at (buckets_of (over clean own)) n i) ≡ true → is_kept opens (slot_at (buckets_of (over clean own)) n i) ≡ true))
-    → ((t : Slot) → stays t ≡ true → is_used t ≡ true)
-    → KeepsFile bits stays root seen own'
-split_keeps bits opens stays root n new seen own own' keeps step used =
-    keeps_on bits stays root seen own own' keeps
-    (λ clean a f.
-    let r = step clean a f in
-    let split = r.0 in (
-      split.form,
-      λ t k. (
-        (λ (h : HasSlot (buckets_of (over clean own')) t).
-            let b = split.before h.0 h.1 (rw h.2 (used t k)) in
-            (b.0, h.1, b.1 ∙ h.2)),
-        (λ (h : HasSlot (buckets_of (over clean own)) t). elim (split.lost t (used t k) h) [
-          | inl there ↦ there
-          | inr gone ↦
-              let here = gone.2 in
-              let kept = r.1 gone.1 (ap stays here ∙ k) in
-              absurd (both_ways _ gone.0 (ap (is_kept opens) (sym here) ∙ kept))
-        ]),
-      ),
-    ))
-
--- a change of what is written, at a moment of rest, is that change of the clean pages
-pub change_of_kept : (bits : ℕ → ℕ) (stays : Slot → Bool) (root key n i : ℕ) (value : Option ℕ) (before after : Slot) (seen : ℕ → Option (Option Page)) (own own' : ℕ → Option Page)
-    → ((k v : ℕ) → stays (Live k v) ≡ true) → KeepsFile bits stays root seen own
-    → ((clean : ℕ → Option Page) → Agrees seen clean → HasForm bits (over clean own) root
-    → (slot_at (buckets_of (over clean own)) n i ≡ before) × ChangesRecord bits (over clean own) (over clean own') root key value n i after)
-    → ChangesFile bits stays root seen own' key value before after
-change_of_kept bits stays root key n i value before after seen own own' live keeps step = record {
-  form = λ clean a f. (step clean a (keeps.form clean a f)).1.form;
-  here = λ clean a f. (step clean a (keeps.form clean a f)).1.here;
-  others = λ clean a f k ne. (step clean a (keeps.form clean a f)).1.others k ne ∙ kept_values bits stays root seen own clean live keeps a f k;
-  gained = λ clean a f. (step clean a (keeps.form clean a f)).1.gained;
-  slots = λ clean a f t k new old.
-      let r = step clean a (keeps.form clean a f) in
-      let here = r.1.kept t new (λ e. old (e ∙ r.0)) in
-      let was = keeps.slots clean a f t k in
-      (λ h. was.0 (here.0 h), λ h. here.1 (was.1 h));
 }
 
 -- an insertion into a map of pages writes a page

@@ -324,12 +324,12 @@ module _ (bits : ℕ → ℕ) (opens : set.FinSet nat_cmp) (g : ℕ) (lead lead'
         ]
       ]
 
-  -- a used slot stood in some bucket at the same place
-  pub split_before : (m i : ℕ) → is_used (slot_at buckets' m i) ≡ true → (o : ℕ) × (slot_at buckets o i ≡ slot_at buckets' m i)
+  -- a used slot stood before at the same place, on the same page or in the bucket that is split
+  pub split_before : (m i : ℕ) → is_used (slot_at buckets' m i) ≡ true → (o : ℕ) × (slot_at buckets o i ≡ slot_at buckets' m i) × ((o ≡ m) ⊎ (o ≡ b))
   split_before m i k =
       elim (from_kept m i (slot_at buckets' m i) refl k) [
-        | inl p ↦ (b, p.1)
-        | inr q ↦ elim q [ inl p ↦ (b, p.1) | inr p ↦ (m, p.2) ]
+        | inl p ↦ (b, p.1, inr refl)
+        | inr q ↦ elim q [ inl p ↦ (b, p.1, inr refl) | inr p ↦ (m, p.2, inl refl) ]
       ]
 
   half_kept : (bit : ℕ) (s t : Slot) → t ≡ half bits opens (buckets b).depth bit s → is_used t ≡ true → is_kept opens t ≡ true

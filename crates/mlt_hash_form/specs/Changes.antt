@@ -38,13 +38,14 @@ pub record MaySplit (bits : ℕ → ℕ) (base : ℕ → Option Page) (root x n 
   pub fresh : base new ≡ None
 
 -- What a split of the bucket on page n leaves, with page new made: the form, each record and each ghost of an
--- open owner. What is lost stood in the bucket and was not kept, and what is there stood there before.
+-- open owner. What is lost stood in the bucket and was not kept, and what is there stood before at the same place
+-- of the same page, or of the bucket.
 pub record IsSplit (bits : ℕ → ℕ) (opens : set.FinSet nat_cmp) (base pages : ℕ → Option Page) (root n new : ℕ) : Type 0 where
   pub form : HasForm bits pages root
   pub values : (key : ℕ) → look_up bits pages root key ≡ look_up bits base root key
   pub kept : (t : Slot) → is_kept opens t ≡ true → HasSlot (buckets_of pages) t ↔ HasSlot (buckets_of base) t
   pub lost : (t : Slot) → is_used t ≡ true → HasSlot (buckets_of base) t → HasSlot (buckets_of pages) t ⊎ ((is_kept opens t ≡ false) × (i : ℕ) × (slot_at (buckets_of base) n i ≡ t))
-  pub before : (m i : ℕ) → is_used (slot_at (buckets_of pages) m i) ≡ true → (o : ℕ) × (slot_at (buckets_of base) o i ≡ slot_at (buckets_of pages) m i)
+  pub before : (m i : ℕ) → is_used (slot_at (buckets_of pages) m i) ≡ true → (o : ℕ) × (slot_at (buckets_of base) o i ≡ slot_at (buckets_of pages) m i) × ((o ≡ m) ⊎ (o ≡ n))
   -- both halves have no ghost of a closed owner
   pub dropped : (m i : ℕ) → (m ≡ n) ⊎ (m ≡ new) → is_used (slot_at (buckets_of pages) m i) ≡ true → is_kept opens (slot_at (buckets_of pages) m i) ≡ true
 

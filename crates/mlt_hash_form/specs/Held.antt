@@ -1,9 +1,13 @@
 -- What a running walk knows of the pages that it holds, so that what other walks do on other pages can't touch it
-use Rattle.std.specs.Prelude.{ℕ, ◌≡◌, Bool, true, Option, Some, None, ◌↔◌}
+use Rattle.std.specs.Prelude.{ℕ, ◌≡◌, ◌⊎◌, true, false, Option, Some, None, is_some}
+use Rattle.std.specs.Ordering.{nat_cmp}
+use Rattle.std.specs.FinSet as set
+use Rattle.mlt_page.specs.Slots.{is_kept}
 use Rattle.mlt_page.specs.declared.slot.Slot.{Slot}
 use Rattle.mlt_page.specs.declared.page.Page.{Page}
-use Rattle.mlt_hash_form.specs.Form.{HasSlot}
-use Rattle.mlt_hash_form.specs.File.{buckets_of, look_up, HasForm}
+use Rattle.mlt_hash_form.specs.Form.{HasSlot, is_used, slot_at}
+use Rattle.mlt_hash_form.specs.File.{buckets_of, HasForm}
+use Rattle.mlt_hash_form.specs.Changes.{ChangesRecord}
 
 -- the walk's own page, where it wrote one, and else the clean page
 abbrev pub own_or : Option Page → Option Page → Option Page
@@ -19,17 +23,25 @@ over clean own n = own_or (own n) (clean n)
 abbrev pub Agrees : (ℕ → Option (Option Page)) → (ℕ → Option Page) → Type 0
 Agrees seen clean = (n : ℕ) (p : Option Page) → seen n ≡ Some p → clean n ≡ p
 
--- Whatever the clean pages are elsewhere, the walk's writes leave a file of the form, and the slots that are to
--- stay. This remains true whatever other walks do, since it names no state of theirs.
-pub record KeepsFile (bits : ℕ → ℕ) (stays : Slot → Bool) (root : ℕ) (seen : ℕ → Option (Option Page)) (own : ℕ → Option Page) : Type 0 where
-  pub form : (clean : ℕ → Option Page) → Agrees seen clean → HasForm bits clean root → HasForm bits (over clean own) root
-  pub slots : (clean : ℕ → Option Page) → Agrees seen clean → HasForm bits clean root → (t : Slot) → stays t ≡ true → HasSlot (buckets_of (over clean own)) t ↔ HasSlot (buckets_of clean) t
+-- the slot stood on a page that the walk holds
+abbrev pub StoodOnHeld : (ℕ → Option (Option Page)) → (ℕ → Option Page) → Slot → Type 0
+StoodOnHeld seen before t = (n : ℕ) × (i : ℕ) × (is_some (seen n) ≡ true) × (slot_at (buckets_of before) n i ≡ t)
 
--- Whatever the clean pages are elsewhere, the walk's writes give the key this value, or none, and change no other
--- key's. The file keeps its form, gains the slot `after`, and of those that are to stay loses `before` at most.
-pub record ChangesFile (bits : ℕ → ℕ) (stays : Slot → Bool) (root : ℕ) (seen : ℕ → Option (Option Page)) (own : ℕ → Option Page) (key : ℕ) (value : Option ℕ) (before after : Slot) : Type 0 where
-  pub form : (clean : ℕ → Option Page) → Agrees seen clean → HasForm bits clean root → HasForm bits (over clean own) root
-  pub here : (clean : ℕ → Option Page) → Agrees seen clean → HasForm bits clean root → look_up bits (over clean own) root key ≡ value
-  pub others : (clean : ℕ → Option Page) → Agrees seen clean → HasForm bits clean root → (k : ℕ) → (k ≡ key → ⊥) → look_up bits (over clean own) root k ≡ look_up bits clean root k
-  pub gained : (clean : ℕ → Option Page) → Agrees seen clean → HasForm bits clean root → HasSlot (buckets_of (over clean own)) after
-  pub slots : (clean : ℕ → Option Page) → Agrees seen clean → HasForm bits clean root → (t : Slot) → stays t ≡ true → (t ≡ after → ⊥) → (t ≡ before → ⊥) → HasSlot (buckets_of (over clean own)) t ↔ HasSlot (buckets_of clean) t
+-- Slots were moved, or lost, on pages that a walk holds, and the file has its form: each record or ghost that stood
+-- in some bucket stands in some bucket, or its room was not kept and it stood on a held page; and each that is there
+-- stood before at the same place of the same page, or of a held one.
+pub record RearrangesSlots (bits : ℕ → ℕ) (opens : set.FinSet nat_cmp) (seen : ℕ → Option (Option Page)) (before after : ℕ → Option Page) (root : ℕ) : Type 0 where
+  pub form : HasForm bits after root
+  pub lost : (t : Slot) → is_used t ≡ true → HasSlot (buckets_of before) t → HasSlot (buckets_of after) t ⊎ ((is_kept opens t ≡ false) × StoodOnHeld seen before t)
+  pub stood : (m i : ℕ) → is_used (slot_at (buckets_of after) m i) ≡ true → (o : ℕ) × (slot_at (buckets_of before) o i ≡ slot_at (buckets_of after) m i) × ((o ≡ m) ⊎ (is_some (seen o) ≡ true))
+
+-- Whatever the clean pages are elsewhere, the walk's writes only rearrange slots. This remains true whatever other
+-- walks do, since it names no state of theirs.
+abbrev pub KeepsFile : (ℕ → ℕ) → set.FinSet nat_cmp → ℕ → (ℕ → Option (Option Page)) → (ℕ → Option Page) → Type 0
+KeepsFile bits opens root seen own = (clean : ℕ → Option Page) → Agrees seen clean → HasForm bits clean root → RearrangesSlots bits opens seen clean (over clean own) root
+
+-- Whatever the clean pages are elsewhere, the walk's writes rearrange slots (those up to `rest`), and then change one
+-- record: slot i of page n becomes `after`, and the key has this value, or none.
+pub record ChangesFile (bits : ℕ → ℕ) (opens : set.FinSet nat_cmp) (root : ℕ) (seen : ℕ → Option (Option Page)) (rest own : ℕ → Option Page) (key : ℕ) (value : Option ℕ) (n i : ℕ) (after : Slot) : Type 0 where
+  pub keeps : KeepsFile bits opens root seen rest
+  pub changes : (clean : ℕ → Option Page) → Agrees seen clean → HasForm bits clean root → ChangesRecord bits (over clean rest) (over clean own) root key value n i after

@@ -1,65 +1,78 @@
 //! Walks side by side: facts of a walk that are about the pages that it holds alone, so that they stay true
 //! whatever other walks do to other pages.
 
-ghost use Rattle.std.specs.Prelude.{ℕ, ◌≡◌, ◌⊎◌, Bool, true, Option, None, Some};
+ghost use Rattle.std.specs.Prelude.{ℕ, ◌≡◌, ◌⊎◌, true, Option, None, Some, is_some, slice_index_or};
 ghost use Rattle.std.specs.Ordering.{nat_cmp};
 ghost use Rattle.std.specs.FinMap as map;
 ghost use Rattle.std.specs.FinSet as set;
 ghost use Rattle.mlt_page.specs.Slots.{is_kept};
 ghost use Rattle.mlt_page.specs.declared.page.Page.{Page};
 ghost use Rattle.mlt_page.specs.declared.slot.Slot.{Slot};
-ghost use Rattle.mlt_page.specs.declared.slot.Slot.TheVariants.{Live};
+ghost use Rattle.mlt_page.specs.declared.slot.Slot.TheVariants.{Free};
 ghost use Rattle.mlt_hash_form.specs.Changes.{ChangesRecord, IsSplit};
-ghost use Rattle.mlt_hash_form.specs.File.{HasForm, Writes, buckets_of, look_up};
+ghost use Rattle.mlt_hash_form.specs.File.{HasForm, Writes, bucket_of, buckets_of, look_up};
 ghost use Rattle.mlt_hash_form.specs.Form.{is_used, slot_at};
 ghost use Rattle.mlt_hash_form.specs.Held.{Agrees, ChangesFile, KeepsFile, over};
 
 /// A walk that wrote nothing keeps the file.
 pub fn walk_without_writes_keeps_the_file()
-    ensures { (bits : ℕ → ℕ) (stays : Slot → Bool) (root : ℕ) (seen : ℕ → Option (Option Page))
-        → KeepsFile bits stays root seen (λ _. None) }
+    ensures { (bits : ℕ → ℕ) (opens : set.FinSet nat_cmp) (root : ℕ) (seen : ℕ → Option (Option Page))
+        → KeepsFile bits opens root seen (λ _. None) }
 {}
 
 /// A walk that holds a further page still keeps the file.
 pub fn further_page_keeps_the_file()
-    ensures { (bits : ℕ → ℕ) (stays : Slot → Bool) (root : ℕ) (seen more : ℕ → Option (Option Page)) (own : ℕ → Option Page)
+    ensures { (bits : ℕ → ℕ) (opens : set.FinSet nat_cmp) (root : ℕ) (seen more : ℕ → Option (Option Page)) (own : ℕ → Option Page)
         → ((n : ℕ) (p : Option Page) → seen n ≡ Some p → more n ≡ Some p)
-        → KeepsFile bits stays root seen own → KeepsFile bits stays root more own }
+        → KeepsFile bits opens root seen own → KeepsFile bits opens root more own }
 {}
 
-/// Fewer slots may be asked to stay: as where a transaction closes, whose ghosts then need not.
-pub fn fewer_slots_keep_the_file()
-    ensures { (bits : ℕ → ℕ) (stays fewer : Slot → Bool) (root : ℕ) (seen : ℕ → Option (Option Page)) (own : ℕ → Option Page)
-        → ((t : Slot) → fewer t ≡ true → stays t ≡ true)
-        → KeepsFile bits stays root seen own → KeepsFile bits fewer root seen own }
+/// Owners may close, and others begin, while the walk runs: it keeps the file for those who are open now, if each
+/// slot of a held page whose room they keep had its room kept for those who were open before.
+pub fn fewer_open_owners_keep_the_file()
+    ensures { (bits : ℕ → ℕ) (opens fewer : set.FinSet nat_cmp) (root : ℕ) (seen : ℕ → Option (Option Page)) (own : ℕ → Option Page)
+        → ((n : ℕ) (p : Option Page) → seen n ≡ Some p → (i : ℕ)
+        → is_kept fewer (slice_index_or (bucket_of p).slots i Free) ≡ true → is_kept opens (slice_index_or (bucket_of p).slots i Free) ≡ true)
+        → KeepsFile bits opens root seen own → KeepsFile bits fewer root seen own }
 {}
 
-/// A split of what is written keeps the file, if it keeps each slot of its bucket that is to stay.
+/// A split of what is written keeps the file, if the walk holds the bucket's page, and the split keeps each slot of
+/// the bucket whose room is kept. The walk may have made the page itself, in an earlier split.
 pub fn split_keeps_the_file()
-    ensures { (bits : ℕ → ℕ) (opens : set.FinSet nat_cmp) (stays : Slot → Bool) (root n new : ℕ) (seen : ℕ → Option (Option Page)) (own own' : ℕ → Option Page)
-        → KeepsFile bits stays root seen own
-        → ((clean : ℕ → Option Page) → Agrees seen clean → HasForm bits (over clean own) root
-        → IsSplit bits opens (over clean own) (over clean own') root n new
-        × ((i : ℕ) → stays (slot_at (buckets_of (over clean own)) n i) ≡ true → is_kept opens (slot_at (buckets_of (over clean own)) n i) ≡ true))
-        → ((t : Slot) → stays t ≡ true → is_used t ≡ true)
-        → KeepsFile bits stays root seen own' }
+    ensures { (bits : ℕ → ℕ) (opens splitters : set.FinSet nat_cmp) (root n new : ℕ) (seen : ℕ → Option (Option Page)) (own own' : ℕ → Option Page)
+        → KeepsFile bits opens root seen own
+        → is_some (seen n) ≡ true
+        → ((clean : ℕ → Option Page) → Agrees seen clean → HasForm bits clean root → HasForm bits (over clean own) root
+        → IsSplit bits splitters (over clean own) (over clean own') root n new
+        × ((i : ℕ) → is_kept opens (slot_at (buckets_of (over clean own)) n i) ≡ true → is_kept splitters (slot_at (buckets_of (over clean own)) n i) ≡ true))
+        → KeepsFile bits opens root seen own' }
 {}
 
-/// A file that is kept has the values that it had, if records are to stay.
+/// A file that is kept has the values that it had.
 pub fn kept_file_has_its_values()
-    ensures { (bits : ℕ → ℕ) (stays : Slot → Bool) (root : ℕ) (seen : ℕ → Option (Option Page)) (own clean : ℕ → Option Page)
-        → ((key value : ℕ) → stays (Live key value) ≡ true) → KeepsFile bits stays root seen own
+    ensures { (bits : ℕ → ℕ) (opens : set.FinSet nat_cmp) (root : ℕ) (seen : ℕ → Option (Option Page)) (own clean : ℕ → Option Page)
+        → KeepsFile bits opens root seen own
         → Agrees seen clean → HasForm bits clean root
         → (key : ℕ) → look_up bits (over clean own) root key ≡ look_up bits clean root key }
 {}
 
-/// A change of one record in what is written is that change of the clean pages, whatever they are elsewhere.
+/// A change of one record in what is written, at the end of a walk that kept the file, changes the file.
 pub fn change_of_a_kept_file()
-    ensures { (bits : ℕ → ℕ) (stays : Slot → Bool) (root key n i : ℕ) (value : Option ℕ) (before after : Slot) (seen : ℕ → Option (Option Page)) (own own' : ℕ → Option Page)
-        → ((k v : ℕ) → stays (Live k v) ≡ true) → KeepsFile bits stays root seen own
-        → ((clean : ℕ → Option Page) → Agrees seen clean → HasForm bits (over clean own) root
-        → (slot_at (buckets_of (over clean own)) n i ≡ before) × ChangesRecord bits (over clean own) (over clean own') root key value n i after)
-        → ChangesFile bits stays root seen own' key value before after }
+    ensures { (bits : ℕ → ℕ) (opens : set.FinSet nat_cmp) (root key n i : ℕ) (value : Option ℕ) (after : Slot) (seen : ℕ → Option (Option Page)) (rest own : ℕ → Option Page)
+        → KeepsFile bits opens root seen rest
+        → ((clean : ℕ → Option Page) → Agrees seen clean → HasForm bits clean root → HasForm bits (over clean rest) root
+        → ChangesRecord bits (over clean rest) (over clean own) root key value n i after)
+        → ChangesFile bits opens root seen rest own key value n i after }
+{}
+
+/// A file that is changed has its form, the new value at the key, and at each other key the value that it had.
+pub fn changed_file_has_its_values()
+    ensures { (bits : ℕ → ℕ) (opens : set.FinSet nat_cmp) (root key n i : ℕ) (value : Option ℕ) (after : Slot) (seen : ℕ → Option (Option Page)) (rest own clean : ℕ → Option Page)
+        → ChangesFile bits opens root seen rest own key value n i after
+        → Agrees seen clean → HasForm bits clean root
+        → HasForm bits (over clean own) root
+        × (look_up bits (over clean own) root key ≡ value)
+        × ((k : ℕ) → (k ≡ key → ⊥) → look_up bits (over clean own) root k ≡ look_up bits clean root k) }
 {}
 
 /// Where another walk ends, its writes become clean: a walk that holds none of these pages saw what is there.

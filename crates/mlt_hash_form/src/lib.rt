@@ -9,6 +9,7 @@ mod held_laws;
 mod place;
 mod record_laws;
 mod room;
+mod root;
 mod split_laws;
 
 pub use change_laws::{
@@ -25,9 +26,9 @@ pub use form_laws::{
     records_are_defined, slots_of_a_key_are_in_its_bucket,
 };
 pub use held_laws::{
-    change_of_a_kept_file, end_of_another_walk, fewer_slots_keep_the_file,
-    further_page_keeps_the_file, held_page_reads_the_same, insertion_is_a_write,
-    kept_file_has_its_values, own_write_is_a_write, split_keeps_the_file,
+    change_of_a_kept_file, changed_file_has_its_values, end_of_another_walk,
+    fewer_open_owners_keep_the_file, further_page_keeps_the_file, held_page_reads_the_same,
+    insertion_is_a_write, kept_file_has_its_values, own_write_is_a_write, split_keeps_the_file,
     walk_without_writes_keeps_the_file,
 };
 pub use place::{NewPlaces, Place, first_bits};
@@ -39,6 +40,7 @@ pub use room::{
     crowding_at_own_depth, crowding_in_fewer_bits, crowding_is_local, depth_with_room,
     fewer_kept_slots_are_no_more_crowded, half_is_no_more_crowded, is_crowded,
 };
+pub use root::Root;
 pub use split_laws::{
     directory_page_has_its_entries, named_page_makes_the_list_longer, pages_of_a_doubled_directory,
     split_begins_in_place, split_begins_to_double, split_closes_by_header, split_closes_in_place,
