@@ -13,7 +13,7 @@ use Rattle.mlt_page.specs.declared.page.Page.{Page}
 use Rattle.mlt_hash_form.specs.Changes.{ChangesRecord, IsSplit}
 use Rattle.mlt_hash_form.specs.Form.{HasSlot, is_used, slot_at}
 use Rattle.mlt_hash_form.specs.File.{bucket_of, buckets_of, lead_of, look_up, HasForm, Writes}
-use Rattle.mlt_hash_form.specs.Held.{own_or, over, Agrees, StoodOnHeld, RearrangesSlots, KeepsFile, ChangesFile}
+use Rattle.mlt_hash_form.specs.Held.{own_or, over, Agrees, StoodOnHeld, KeepsFile, ChangesFile}
 use Rattle.mlt_hash_form.proofs.InPages.{same_option}
 use Rattle.mlt_hash_form.proofs.Lookup.{found}
 use Rattle.mlt_hash_form.proofs.RecordMap.{tied, tied_itself}

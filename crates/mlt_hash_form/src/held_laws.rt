@@ -11,7 +11,7 @@ ghost use Rattle.mlt_page.specs.declared.slot.Slot.{Slot};
 ghost use Rattle.mlt_page.specs.declared.slot.Slot.TheVariants.{Free};
 ghost use Rattle.mlt_hash_form.specs.Changes.{ChangesRecord, IsSplit};
 ghost use Rattle.mlt_hash_form.specs.File.{HasForm, Writes, bucket_of, buckets_of, look_up};
-ghost use Rattle.mlt_hash_form.specs.Form.{is_used, slot_at};
+ghost use Rattle.mlt_hash_form.specs.Form.{slot_at};
 ghost use Rattle.mlt_hash_form.specs.Held.{Agrees, ChangesFile, KeepsFile, over};
 
 /// A walk that wrote nothing keeps the file.
