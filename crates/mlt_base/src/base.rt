@@ -133,11 +133,8 @@ impl Base {
         Ok(reply)
     }
 
-    /// The text of the base, as `write_base` writes it.
-    ///
-    /// # Errors
-    /// `OutOfMemory`, where a growth was refused.
-    pub fn text(&self) -> Result<String, Refusal>
+    // The text of the base, as `write_base` writes it. `OutOfMemory` is a growth that was refused.
+    pub(crate) fn text(&self) -> Result<String, Refusal>
         ensures text { IfOk result (λ text. string_bytes text ≡ base_text self.now) }
         ensures refusal { IfErr result (λ refusal. refusal ≡ Refusal.OutOfMemory) }
     {

@@ -1,5 +1,6 @@
 //! The base of all objects kept in memory, without pages: operations in order, and its text. And records
-//! read as objects: what an operation finds, is told and changes, and how it is undone.
+//! read as objects: what an operation finds, is told and changes, and how it is undone. Only `Base::apply` and
+//! `write_base` take memory.
 #![tactic(auto)]
 
 mod accounts;

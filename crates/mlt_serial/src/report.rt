@@ -8,7 +8,7 @@ ghost use Rattle.mlt_text.specs.Texts.{AppendsFront};
 ghost use Rattle.mlt_serial.specs.Texts.{end_text, outcome_text, report_text, script_line};
 
 use crate::outcome::{End, Outcome, Outcomes};
-use mlt_base::Base;
+use mlt_base::{Base, write_base};
 use mlt_text::write_text;
 use mlt_types::Refusal;
 use std::alloc::{AllocError, Global};
@@ -88,17 +88,17 @@ fn run_text(alloc: Global, outcomes: &[Outcome]) -> Result<String, AllocError>
     Ok(text)
 }
 
-fn text_of(alloc: Global, report: &Report, form: Form) -> Result<String, Refusal>
-    ensures text { IfOk result (λ text. string_bytes text ≡ report_text form report.now.outcomes report.now.base) }
+fn text_of(alloc: Global, report: &Report, form: Form) -> Result<Vec<u8>, Refusal>
+    ensures text { IfOk result (λ text. text.items ≡ report_text form report.now.outcomes report.now.base) }
     ensures refusal { IfErr result (λ refusal. refusal ≡ Refusal.OutOfMemory) }
 {
     let outcomes = report.outcomes.as_slice();
     match form {
-        Form::Solo => Ok(solo_text(alloc, outcomes)?),
+        Form::Solo => Ok(solo_text(alloc, outcomes)?.into_bytes()),
         Form::Run => {
-            let mut text = run_text(alloc, outcomes)?;
-            let base = report.base.text()?;
-            text.push_str(base.as_str())?;
+            let mut text = run_text(alloc, outcomes)?.into_bytes();
+            // A vector fails to take bytes only where a growth was refused.
+            write_base(&report.base, &mut text).map_err(|_| Refusal::OutOfMemory)?;
             Ok(text)
         }
     }
@@ -121,5 +121,5 @@ pub fn write_report<W: Write>(
     ensures refusal { IfErr result (λ refusal. (refusal ≡ Refusal.OutOfMemory) ⊎ (refusal ≡ Refusal.Io)) }
 {
     let text = text_of(alloc, report, form)?;
-    write_text(writer, text.as_bytes())
+    write_text(writer, text.as_slice())
 }
