@@ -1,4 +1,5 @@
 use super::*;
+use mlt_kinds::ObjReply;
 use mlt_script::parse;
 use std::test::Fail;
 
@@ -16,6 +17,30 @@ fn scripts_run_in_order(rt: HostRuntime) -> Result<(), Fail> {
         "begin\nopen 1\nneed deposit 1 5 is done\ncommit\nbegin\nneed withdraw 1 9 is done\nclose 1\ncommit\nbegin\nbalance 1\nabort\n";
     let wanted = "opened\ndone\ncommitted 1\nshort\naborted\nis 5\naborted\n";
     assert_eq!(rt; report(&rt, text, Form::Solo)?.as_str(), wanted);
+    Ok(())
+}
+
+#[test]
+fn if_else_script(rt: HostRuntime) -> Result<(), Fail> {
+    let text =
+        b"begin\nopen 1\ndeposit 1 9\nlet v = balance 1\nif withdraw 1 v is done\nclose 1\nelse\nbalance 1\nend\ncommit\n";
+    let scripts = parse(rt.alloc(), text)?;
+    let report = serial(rt.alloc(), scripts.as_slice())?;
+    let outcomes = report.outcomes.as_slice();
+    assert_eq!(rt; outcomes.len(), 1);
+    let wanted = [
+        ObjReply::Opened,
+        ObjReply::Done,
+        ObjReply::Is(9),
+        ObjReply::Done,
+        ObjReply::Closed,
+    ];
+    let told = outcomes[0].done.as_slice();
+    assert_eq!(rt; told.len(), wanted.len());
+    for (done, reply) in told.iter().zip(wanted) {
+        assert_eq!(rt; done.reply(), reply);
+    }
+    assert!(rt; outcomes[0].end == End::Committed(1));
     Ok(())
 }
 
