@@ -56,6 +56,13 @@ impl Subtx {
         }
     }
 
+    /// The transaction that the subtransaction is part of.
+    pub fn tx(&self) -> TxId
+        ensures { result ≡ self.now.tx }
+    {
+        self.tx
+    }
+
     /// Reads a page.
     pub fn read<'a>(&self, store: &'a Store, number: PageNo) -> Option<&'a Page>
         ensures { option_copied result ≡ page_at store.now.pages number }

@@ -1,0 +1,59 @@
+-- What a walk holds, seen apart from all that it doesn't hold: facts about a view can't be touched by what others do
+use Rattle.std.specs.Prelude.{ℕ, ◌≡◌, cond, Option, None, Some}
+use Rattle.mlt_types.specs.declared.mode.Mode.{Mode}
+use Rattle.mlt_types.specs.declared.mode.Mode.TheVariants.{Exclusive}
+use Rattle.mlt_page.specs.declared.page.Page.{Page}
+use Rattle.mlt_store.specs.Stores.{page_at}
+use Rattle.mlt_page_locks.specs.LockTables.{Modes, can_read, pages_of}
+use Rattle.mlt_page_locks.specs.Requests.{with_page}
+use Rattle.mlt_subtx.specs.Images.{image_of}
+use Rattle.mlt_hash_form.specs.Held.{own_or}
+use Rattle.mlt_held.specs.Moments.{Moment, page_before}
+
+pub record View : Type 0 where
+  -- the pages that the transaction holds, each with its mode
+  pub modes : Modes
+  -- what the clean pages have of a page: `None` of one that is not held, and `Some None` of one that was made
+  pub seen : ℕ → Option (Option Page)
+  -- what the transaction has written there, if it has
+  pub own : ℕ → Option Page
+
+abbrev pub page_written : Option (Option Page) → Option Page → Option Page
+page_written None page = None
+page_written (Some first) page = page
+
+abbrev pub seen_at : Moment → ℕ → Option (Option Page)
+seen_at m q = cond (can_read m.locks m.running.tx q) (Some (page_before m.running.images m.store.pages q)) None
+
+abbrev pub own_at : Moment → ℕ → Option Page
+own_at m q = cond (can_read m.locks m.running.tx q) (page_written (image_of m.running.images q) (page_at m.store.pages q)) None
+
+abbrev pub view_of : Moment → View
+view_of m = record { modes = pages_of m.locks m.running.tx; seen = seen_at m; own = own_at m }
+
+-- page q is locked in this mode and reads as this, on whatever clean pages agree with the view
+pub record ReadsPage (old new : View) (q : ℕ) (mode : Mode) (page : Option Page) : Type 0 where
+  pub modes : new.modes ≡ with_page old.modes q mode
+  pub own : (p : ℕ) → new.own p ≡ old.own p
+  pub before : (p : ℕ) (first : Option Page) → old.seen p ≡ Some first → new.seen p ≡ Some first
+  pub others : (p : ℕ) → (p ≡ q → ⊥) → new.seen p ≡ old.seen p
+  pub first : Option Page
+  pub here : new.seen q ≡ Some first
+  pub reads : own_or (old.own q) first ≡ page
+
+-- page q, which was held, is written
+pub record WritesPage (old new : View) (q : ℕ) (page : Page) : Type 0 where
+  pub modes : new.modes ≡ old.modes
+  pub seen : (p : ℕ) → new.seen p ≡ old.seen p
+  pub here : new.own q ≡ Some page
+  pub others : (p : ℕ) → (p ≡ q → ⊥) → new.own p ≡ old.own p
+
+-- page q, which was not there, is made and held
+pub record MakesPage (old new : View) (q : ℕ) (page : Page) : Type 0 where
+  pub fresh : old.seen q ≡ None
+  pub modes : new.modes ≡ with_page old.modes q Exclusive
+  pub seen_here : new.seen q ≡ Some None
+  pub seen_others : (p : ℕ) → (p ≡ q → ⊥) → new.seen p ≡ old.seen p
+  pub own_before : old.own q ≡ None
+  pub own_here : new.own q ≡ Some page
+  pub own_others : (p : ℕ) → (p ≡ q → ⊥) → new.own p ≡ old.own p

@@ -1,0 +1,14 @@
+//! The pages that a running walk holds: how it locks, reads, writes and makes them, one at a time, and what it knows
+//! of them whatever others do.
+#![tactic(auto)]
+
+mod pages;
+mod view_laws;
+
+pub use pages::{lock_and_read, make_page, read_held, write_held};
+pub use view_laws::{
+    others_leave_the_view, others_leave_what_was_written, view_agrees_with_clean_pages,
+};
+
+#[cfg(test)]
+mod tests;
