@@ -1,9 +1,9 @@
 -- What one step of a walk works on, and what a transaction may rely on between its steps
-use Rattle.std.specs.Prelude.{ℕ, ◌≡◌, ◌≢◌, ◌<◌, ◌^◌, true, false, is_some, Option}
+use Rattle.std.specs.Prelude.{ℕ, ◌≡◌, ◌≢◌, ◌<◌, true, false, is_some, Option}
 use Rattle.mlt_types.specs.declared.mode.Mode.{Mode}
 use Rattle.mlt_page.specs.declared.page.Page.{Page}
 use Rattle.mlt_store.specs.Stores.{Pages, PageStore, page_at}
-use Rattle.mlt_page_locks.specs.LockTables.{AreCompatible, HasRoom, LockTable, can_read, can_write, page_count}
+use Rattle.mlt_page_locks.specs.LockTables.{AreCompatible, HasRoom, LockTable, can_write, page_count}
 use Rattle.mlt_page_locks.specs.Requests.{granted}
 use Rattle.mlt_subtx.specs.Images.{AreThere, Images, Running, image_of, or_image}
 use Rattle.mlt_subtx.specs.Locking.{LocksPagesThere}

@@ -1,5 +1,5 @@
 -- One step on pages: it asks for at most one lock, and touches at most one page
-use Rattle.std.specs.Prelude.{ℕ, ◌≡◌, ◌⊎◌, true, is_some, Option, None}
+use Rattle.std.specs.Prelude.{ℕ, ◌≡◌, ◌⊎◌, true, is_some, None}
 use Rattle.std.specs.FinMap as map
 use Rattle.mlt_types.specs.declared.mode.Mode.{Mode}
 use Rattle.mlt_types.specs.declared.mode.Mode.TheVariants.{Exclusive}

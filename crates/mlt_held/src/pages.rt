@@ -8,7 +8,7 @@ ghost use Rattle.mlt_page_locks.specs.LockTables.{can_read, can_write, page_coun
 ghost use Rattle.mlt_page_locks.specs.Requests.{IsLowest, conflicts};
 ghost use Rattle.mlt_subtx.specs.Images.{image_of};
 ghost use Rattle.mlt_hash_form.specs.Held.{own_or};
-ghost use Rattle.mlt_held.specs.Moments.{IsCleanFor, MayStep, Moment};
+ghost use Rattle.mlt_held.specs.Moments.{IsCleanFor, MayStep};
 ghost use Rattle.mlt_held.specs.PageSteps.{LocksPage, MakesLockedPage, WritesHeldPage};
 ghost use Rattle.mlt_held.specs.Views.{MakesPage, ReadsPage, WritesPage, view_of};
 

@@ -1,0 +1,4 @@
+pub mod Moments
+pub mod Views
+pub mod Others
+pub mod Results

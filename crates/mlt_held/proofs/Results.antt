@@ -1,0 +1,82 @@
+-- What the calls on a page tell, as steps
+use Rattle.std.proofs.Common.{◌≡◌, ℕ, true, Option, None, Some, is_some, Result, Ok, Err, IfOk, OnErr, OnOk, refl, sym, ap, subst, ◌∙◌}
+use Rattle.std.specs.Result.{MatchResult}
+use Rattle.std.specs.FinMap as map
+use Rattle.mlt_types.specs.declared.mode.Mode.{Mode}
+use Rattle.mlt_types.specs.declared.mode.Mode.TheVariants.{Exclusive}
+use Rattle.mlt_page.specs.declared.page.Page.{Page}
+use Rattle.mlt_store.specs.Stores.{PageStore, page_at}
+use Rattle.mlt_page_locks.specs.LockTables.{LockTable, can_read, can_write}
+use Rattle.mlt_page_locks.specs.Requests.{IsNobody, conflicts, granted}
+use Rattle.mlt_subtx.specs.Images.{Running, with_image}
+use Rattle.mlt_hash_form.specs.Held.{own_or}
+use Rattle.mlt_held.specs.Moments.{IsCleanFor, MayStep, Moment, page_before}
+use Rattle.mlt_held.specs.PageSteps.{LocksPage, MakesLockedPage, WritesHeldPage}
+use Rattle.mlt_held.specs.Views.{MakesPage, WritesPage, own_at, seen_at, view_of}
+use Rattle.mlt_held.proofs.Moments.{clean_after_make, clean_after_write, may_after_make, may_after_write}
+use Rattle.mlt_held.proofs.Views.{make_makes, reads_what_is_there, seen_held, write_writes}
+
+-- a lock of the transaction of this number, which was granted
+pub lock_granted : (m : Moment) (locks : LockTable) (tx q : ℕ) (mode : Mode) → tx ≡ m.running.tx → is_some (page_at m.store.pages q) ≡ true → IsNobody (conflicts m.locks tx q mode) × (locks ≡ granted m.locks tx q mode)
+    → LocksPage m (record { running = m.running; locks = locks; store = m.store }) q mode
+lock_granted m locks tx q mode own there answer = record {
+  free = subst (λ tx. IsNobody (conflicts m.locks tx q mode)) own answer.0;
+  there = there;
+  locks = answer.1 ∙ ap (λ tx. granted m.locks tx q mode) own;
+  running = refl;
+  store = refl;
+}
+
+-- what a held page has is read in the view
+pub read_in_view : (m : Moment) (q : ℕ) (page : Page) → MayStep m → can_read m.locks m.running.tx q ≡ true → page_at m.store.pages q ≡ Some page → (first : Option Page) × (seen_at m q ≡ Some first) × (own_or (own_at m q) first ≡ Some page)
+read_in_view m q page may held is = (page_before m.running.images m.store.pages q, seen_held m q held, reads_what_is_there m q page may is)
+
+-- a write that was done, or refused
+abbrev pub WriteTold : {A E : Type 0} → Moment → Moment → ℕ → Page → Result A E → Type 0
+WriteTold m new q page result = MatchResult result (λ _. WritesHeldPage m new q page) (λ _. new ≡ m)
+
+pub write_told : {A E : Type 0} (m : Moment) (running : Running) (store : PageStore) (q : ℕ) (page : Page) (result : Result A E) → can_write m.locks m.running.tx q ≡ true
+    → OnOk result (store ≡ record m.store { pages = map.insert m.store.pages q page })
+    → OnOk result (running ≡ record m.running { images = with_image m.running.images q (page_at m.store.pages q) })
+    → OnErr result ((running ≡ m.running) × (store ≡ m.store))
+    → WriteTold m (record { running = running; locks = m.locks; store = store }) q page result
+write_told m running store q page (Ok done) held pages images same = record { held = held; locks = refl; running = images; store = pages }
+write_told m running store q page (Err refusal) held pages images same = λ i. record { running = same.0 i; locks = m.locks; store = same.1 i }
+
+pub may_after_write_told : {A E : Type 0} (m new : Moment) (q : ℕ) (page : Page) (result : Result A E) → MayStep m → WriteTold m new q page result → MayStep new
+may_after_write_told m new q page (Ok done) may told = may_after_write m new q page may told
+may_after_write_told m new q page (Err refusal) may told = subst MayStep (sym told) may
+
+pub clean_after_write_told : {A E : Type 0} (m new : Moment) (q : ℕ) (page : Page) (result : Result A E) → WriteTold m new q page result → (clean : ℕ → Option Page) → IsCleanFor m clean → IsCleanFor new clean
+clean_after_write_told m new q page (Ok done) told clean is = clean_after_write m new q page clean told is
+clean_after_write_told m new q page (Err refusal) told clean is = subst (λ (m : Moment). IsCleanFor m clean) (sym told) is
+
+pub view_after_write_told : {A E : Type 0} (m new : Moment) (q : ℕ) (page : Page) (result : Result A E) → WriteTold m new q page result → OnOk result (WritesPage (view_of m) (view_of new) q page)
+view_after_write_told m new q page (Ok done) told = write_writes m new q page told
+view_after_write_told m new q page (Err refusal) told = tt
+
+-- a page that was made, or refused
+abbrev pub MakeTold : {E : Type 0} → Moment → Moment → Page → Result ℕ E → Type 0
+MakeTold m new page result = MatchResult result (λ q. MakesLockedPage m new q page) (λ _. new ≡ m)
+
+pub make_told : {E : Type 0} (m new : Moment) (page : Page) (result : Result ℕ E)
+    → IfOk result (λ q. page_at m.store.pages q ≡ None)
+    → IfOk result (λ q. new.store ≡ record m.store { pages = map.insert m.store.pages q page })
+    → IfOk result (λ q. new.running ≡ record m.running { images = map.insert m.running.images q None })
+    → IfOk result (λ q. new.locks ≡ granted m.locks m.running.tx q Exclusive)
+    → OnErr result ((new.running ≡ m.running) × (new.store ≡ m.store) × (new.locks ≡ m.locks))
+    → MakeTold m new page result
+make_told m new page (Ok q) fresh pages images locks same = record { fresh = fresh; locks = locks; running = images; store = pages }
+make_told m new page (Err refusal) fresh pages images locks same = λ i. record { running = same.0 i; locks = same.2 i; store = same.1 i }
+
+pub may_after_make_told : {E : Type 0} (m new : Moment) (page : Page) (result : Result ℕ E) → MayStep m → MakeTold m new page result → MayStep new
+may_after_make_told m new page (Ok q) may told = may_after_make m new q page may told
+may_after_make_told m new page (Err refusal) may told = subst MayStep (sym told) may
+
+pub clean_after_make_told : {E : Type 0} (m new : Moment) (page : Page) (result : Result ℕ E) → MayStep m → MakeTold m new page result → (clean : ℕ → Option Page) → IsCleanFor m clean → IsCleanFor new clean
+clean_after_make_told m new page (Ok q) may told clean is = clean_after_make m new q page clean may told is
+clean_after_make_told m new page (Err refusal) may told clean is = subst (λ (m : Moment). IsCleanFor m clean) (sym told) is
+
+pub view_after_make_told : {E : Type 0} (m new : Moment) (page : Page) (result : Result ℕ E) → MayStep m → MakeTold m new page result → IfOk result (λ q. MakesPage (view_of m) (view_of new) q page)
+view_after_make_told m new page (Ok q) may told = make_makes m new q page may told
+view_after_make_told m new page (Err refusal) may told = tt
