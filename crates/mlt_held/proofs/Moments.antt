@@ -1,19 +1,20 @@
 -- The moment after each step on a page, and what every step keeps: that its transaction may step, and which pages are clean
 use Rattle.std.proofs.Common.{◌≡◌, ◌≢◌, ℕ, ◌<◌, ◌≤◌, false, true, Option, None, is_some, sym, ap, subst, ◌∙◌, inl, inr, arith}
 use Rattle.std.specs.Cmp.{nat_cmp_total}
+use Rattle.std.specs.Ordering.{nat_cmp}
 use Rattle.std.specs.FinMap as map
 use Rattle.std.proofs.lemmas.Bool.{cases_eq, false≢true}
 use Rattle.std.proofs.lemmas.Bool.Decides.{nat_tests}
 use Rattle.mlt_types.specs.declared.mode.Mode.{Mode}
 use Rattle.mlt_types.specs.declared.mode.Mode.TheVariants.{Exclusive}
 use Rattle.mlt_page.specs.declared.page.Page.{Page}
-use Rattle.mlt_store.specs.Stores.{Pages, page_at}
+use Rattle.mlt_store.specs.Stores.{PageStore, Pages, page_at}
 use Rattle.mlt_page_locks.specs.Maps.{get_inserted}
-use Rattle.mlt_page_locks.specs.LockTables.{HasRoom, LockTable, can_read, can_write, page_count, pages_of}
+use Rattle.mlt_page_locks.specs.LockTables.{AreCompatible, HasRoom, LockTable, can_read, can_write, page_count, pages_of}
 use Rattle.mlt_page_locks.specs.Requests.{IsNobody, conflicts, granted, stronger, with_page}
 use Rattle.mlt_page_locks.specs.LockLaws.{can_write-granted, compatible_granted, conflicts-exclusive, page_count-granted, pages_of-granted}
-use Rattle.mlt_subtx.specs.Images.{Images, image_of, with_image}
-use Rattle.mlt_subtx.specs.ImageLaws.{fresh_has_no_image, image_of-with_image, there_made, there_written}
+use Rattle.mlt_subtx.specs.Images.{Images, image_of, started, with_image}
+use Rattle.mlt_subtx.specs.ImageLaws.{fresh_has_no_image, image_of-with_image, there_made, there_none, there_written}
 use Rattle.mlt_subtx.specs.CleanLaws.{not_true}
 use Rattle.mlt_subtx.specs.Locking.{LocksPagesThere}
 use Rattle.mlt_subtx.specs.RunningLaws.{locks_there-granted, locks_there-written}
@@ -156,6 +157,16 @@ may_after_step old new may step =
       | inl both ↦ may_after_write_at_most both.0 new step.0 (may_after_lock_at_most old both.0 step.0 may both.1) both.2
       | inr makes ↦ may_after_make old new step.0 makes.0 may makes.1
     ]
+
+-- **A transaction that has done nothing yet may step, where there is room for a lock of it.**
+pub may_start : (locks : LockTable) (store : PageStore) (tx : ℕ) → AreCompatible locks → LocksPagesThere locks store.pages → ((q : ℕ) (mode : Mode) → HasRoom (granted locks tx q mode)) → MayStep (record { running = started tx; locks = locks; store = store })
+may_start locks store tx compatible there room = record {
+  compatible = compatible;
+  locks_there = there;
+  images_locked = λ q some. absurd (false≢true (sym (ap is_some (map.get-empty {X = Option Page} nat_cmp q)) ∙ some));
+  images_there = there_none store.pages;
+  room = λ q mode few. room q mode;
+}
 
 -- a page with its first image put back is the same after a write,
 pub page_before-written : (images : Images) (pages : Pages) (q : ℕ) (page : Page) (p : ℕ) → page_before (with_image images q (page_at pages q)) (map.insert pages q page) p ≡ page_before images pages p

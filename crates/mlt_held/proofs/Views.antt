@@ -1,6 +1,7 @@
 -- What the view of a moment has, what each step changes of it, and what follows for the clean pages
-use Rattle.std.proofs.Common.{◌≡◌, ◌≢◌, ℕ, Bool, false, true, cond, Option, None, Some, is_some, refl, sym, ap, subst, ◌∙◌, inl, inr, arith}
+use Rattle.std.proofs.Common.{◌≡◌, ◌≢◌, ℕ, ◌≤◌, ◌+◌, Bool, false, true, cond, Option, None, Some, is_some, refl, sym, ap, subst, ◌∙◌, inl, inr, arith}
 use Rattle.std.specs.Prelude.{◌↔◌}
+use Rattle.std.specs.Cmp.{nat_cmp_total}
 use Rattle.std.specs.FinMap as map
 use Rattle.std.proofs.lemmas.Bool.{cases_eq, false≢true}
 use Rattle.std.proofs.lemmas.Bool.Decides.{nat_tests}
@@ -9,8 +10,8 @@ use Rattle.mlt_types.specs.declared.mode.Mode.TheVariants.{Exclusive, Shared}
 use Rattle.mlt_page.specs.declared.page.Page.{Page}
 use Rattle.mlt_store.specs.Stores.{Pages, page_at}
 use Rattle.mlt_page_locks.specs.Maps.{get_inserted}
-use Rattle.mlt_page_locks.specs.LockTables.{LockTable, allows_write, can_read, can_write, page_count, pages_of}
-use Rattle.mlt_page_locks.specs.Requests.{granted, with_page}
+use Rattle.mlt_page_locks.specs.LockTables.{LockTable, Modes, allows_write, can_read, can_write, page_count, pages_of}
+use Rattle.mlt_page_locks.specs.Requests.{granted, stronger, with_page}
 use Rattle.mlt_page_locks.specs.LockLaws.{can_read-granted, pages_of-granted, writer_reads}
 use Rattle.mlt_subtx.specs.Images.{Images, image_of, or_image, with_image}
 use Rattle.mlt_subtx.specs.ImageLaws.{fresh_has_no_image, image_of-with_image}
@@ -109,6 +110,19 @@ may_read m q mode held = ap is_some held
 
 pub page_count_of_view : (m : Moment) → page_count m.locks m.running.tx ≡ map.len (view_of m).modes
 page_count_of_view m = refl
+
+one_page_more : (old new : Modes) (q : ℕ) (mode : Mode) → new ≡ with_page old q mode → map.len new ≤ map.len old + 1
+one_page_more old new q mode is = grind (arith, is, map.len-insert nat_cmp_total old q (stronger (map.get old q) mode))
+
+-- a page that is read or made is one more at most, and a write of a held page adds none
+pub count_after_read : (old new : View) (q : ℕ) (mode : Mode) (page : Option Page) → ReadsPage old new q mode page → map.len new.modes ≤ map.len old.modes + 1
+count_after_read old new q mode page reads = one_page_more old.modes new.modes q mode reads.modes
+
+pub count_after_make : (old new : View) (q : ℕ) (page : Page) → MakesPage old new q page → map.len new.modes ≤ map.len old.modes + 1
+count_after_make old new q page makes = one_page_more old.modes new.modes q Exclusive makes.modes
+
+pub count_after_write : (old new : View) (q : ℕ) (page : Page) → WritesPage old new q page → map.len new.modes ≡ map.len old.modes
+count_after_write old new q page writes = ap map.len writes.modes
 
 -- a page with an image is held
 image_is_held : (m : Moment) (q : ℕ) → MayStep m → is_some (image_of m.running.images q) ≡ true → can_read m.locks m.running.tx q ≡ true
