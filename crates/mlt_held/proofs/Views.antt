@@ -182,6 +182,17 @@ reads_locked m q mode page may is = record {
 pub lock_reads : (old new : Moment) (q : ℕ) (mode : Mode) (page : Page) → MayStep old → LocksPage old new q mode → page_at old.store.pages q ≡ Some page → ReadsPage (view_of old) (view_of new) q mode (Some page)
 lock_reads old new q mode page may step is = subst (λ (m : Moment). ReadsPage (view_of old) (view_of m) q mode (Some page)) (sym (is_locked old new q mode step)) (reads_locked old q mode page may is)
 
+-- who locked a page may read it
+pub reads_after_lock : (old new : Moment) (q : ℕ) (mode : Mode) → LocksPage old new q mode → can_read new.locks old.running.tx q ≡ true
+reads_after_lock old new q mode step = subst (λ (locks : LockTable). can_read locks old.running.tx q ≡ true) (sym step.locks) (reads_granted old.locks old.running.tx q mode)
+
+-- the mode of a page that is locked, and those of all others
+pub mode_of_page : (modes : Modes) (q : ℕ) (mode : Mode) → map.get (with_page modes q mode) q ≡ Some (stronger (map.get modes q) mode)
+mode_of_page modes q mode = grind (arith, nat_tests, get_inserted modes q (stronger (map.get modes q) mode) q)
+
+pub mode_of_others : (modes : Modes) (q : ℕ) (mode : Mode) (p : ℕ) → p ≢ q → map.get (with_page modes q mode) p ≡ map.get modes p
+mode_of_others modes q mode p ne = grind (arith, nat_tests, get_inserted modes q (stronger (map.get modes q) mode) p)
+
 has_image : (images : Images) (q : ℕ) (first page : Option Page) → page_written (image_of (with_image images q first) q) page ≡ page
 has_image images q first page = grind (arith, nat_tests, image_of-with_image images q first q)
 

@@ -41,10 +41,7 @@ pub fn lock_and_read<'a>(
     if let Grant::Waiting(by) = locks.ask(subtx.tx(), number, mode) {
         return Err(by);
     }
-    match subtx.read(store, number) {
-        Some(page) => Ok(page),
-        None => unreachable!(),
-    }
+    Ok(read_held(subtx, store, locks, number))
 }
 
 /// Reads a page that is held. `locks` is handed in for this condition alone.

@@ -16,15 +16,16 @@ pub fn view_agrees_with_clean_pages()
 
 /// A step of another transaction changes nothing of what a walk holds.
 pub fn others_leave_the_view()
-    ensures { (old new : Moment) (running : Running) → MayStep old → TouchesOnePage old new → (running.tx ≢ old.running.tx)
-        → let before = view_of (record { running = running; locks = old.locks; store = old.store }) in
+    ensures { (old new : Moment) (running : Running) → MayStep old → TouchesOnePage old new
+        → (running.tx ≢ old.running.tx) → let before = view_of (record { running = running; locks = old.locks; store = old.store }) in
         let after = view_of (record { running = running; locks = new.locks; store = new.store }) in
         (after.modes ≡ before.modes) × ((q : ℕ) → after.seen q ≡ before.seen q) × ((q : ℕ) → after.own q ≡ before.own q) }
 {}
 
 /// And what a walk wrote stays there, and locked.
 pub fn others_leave_what_was_written()
-    ensures { (old new : Moment) (running : Running) → MayStep old → TouchesOnePage old new → (running.tx ≢ old.running.tx)
-        → AreThere running.images old.store.pages → ((q : ℕ) → is_some (image_of running.images q) ≡ true → can_write old.locks running.tx q ≡ true)
+    ensures { (old new : Moment) (running : Running) → MayStep old → TouchesOnePage old new
+        → (running.tx ≢ old.running.tx) → AreThere running.images old.store.pages
+        → ((q : ℕ) → is_some (image_of running.images q) ≡ true → can_write old.locks running.tx q ≡ true)
         → AreThere running.images new.store.pages × ((q : ℕ) → is_some (image_of running.images q) ≡ true → can_write new.locks running.tx q ≡ true) }
 {}

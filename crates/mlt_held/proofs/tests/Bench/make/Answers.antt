@@ -1,5 +1,4 @@
-use Rattle.std.proofs.Common.{◌≡◌, ℕ, ap, arith}
-use Rattle.mlt_subtx.specs.Images.{Running}
+use Rattle.std.proofs.Common.{arith}
 use Rattle.mlt_held.specs.Moments.{Moment}
 use Rattle.mlt_held.specs.Views.{view_of}
 use Rattle.mlt_held.proofs.Views.{count_after_make}
