@@ -18,16 +18,20 @@ pub record View : Type 0 where
   -- what the transaction has written there, if it has
   pub own : ℕ → Option Page
 
+-- the page, if it has a first image
 abbrev pub page_written : Option (Option Page) → Option Page → Option Page
 page_written None page = None
 page_written (Some first) page = page
 
+-- what the clean pages have of page q, if it is held: what it is with its image put back
 abbrev pub seen_at : Moment → ℕ → Option (Option Page)
 seen_at m q = cond (can_read m.locks m.running.tx q) (Some (page_before m.running.images m.store.pages q)) None
 
+-- what the transaction has written on page q, if it is held
 abbrev pub own_at : Moment → ℕ → Option Page
 own_at m q = cond (can_read m.locks m.running.tx q) (page_written (image_of m.running.images q) (page_at m.store.pages q)) None
 
+-- the view of the transaction that runs
 abbrev pub view_of : Moment → View
 view_of m = record { modes = pages_of m.locks m.running.tx; seen = seen_at m; own = own_at m }
 
