@@ -1,0 +1,38 @@
+use Rattle.std.proofs.Common.{◌≡◌, ℕ, true, sym, ap, subst, refl, arith}
+use Rattle.mlt_page.specs.Values.{HeadFields}
+use Rattle.mlt_page.specs.declared.page.Page.TheVariants as page
+use Rattle.mlt_page_locks.specs.LockTables.{can_write}
+use Rattle.mlt_split.specs.Splits.{SplitFields}
+use Rattle.mlt_held.specs.Views.{WritesPage, view_of}
+use Rattle.mlt_held.specs.Moments.{moment}
+use Rattle.mlt_split.proofs.Header.{depth_of_header, header_may_be_written, rests_at_header}
+use Rattle.mlt_split.proofs.Later.{same_moment, touches_by_writing, touches_nothing}
+use Rattle.mlt_split.proofs.double.write_header.Goals as goal
+
+pub write_held-requires-clause-held : goal.write_held-requires-clause-held
+write_held-requires-clause-held g c =
+    let old = moment c.args.subtx.now c.args.locks.now c.args.store.now in
+    subst (λ (q : ℕ). can_write c.args.locks.now c.args.subtx.now.tx q ≡ true) (sym c.requires.1.0) (header_may_be_written g.aim old c.args.split.now c.requires.0 c.requires.1.1.0 c.requires.1.1.1.0 c.requires.1.1.1.1)
+
+pub key_bucket-requires : goal.key_bucket-requires
+key_bucket-requires g c =
+    let old = moment c.args.subtx.now c.args.locks.now c.args.store.now in
+    let depth = depth_of_header g.aim old c.args.split.now c.requires.0 c.requires.1.1.0 c.requires.1.1.1.0 c.requires.1.1.1.1 in
+    omega (arith, depth.0)
+
+pub returns-in-Ok-clause-touches : goal.returns-in-Ok-clause-touches
+returns-in-Ok-clause-touches g c =
+    touches_by_writing (moment c.args.subtx.now c.args.locks.now c.args.store.now) (moment c.write_held.new.subtx c.args.locks.now c.write_held.new.store) c.args.root _ c.in-Ok.ensures.writes
+
+pub returns-in-Ok-clause-tells : goal.returns-in-Ok-clause-tells
+returns-in-Ok-clause-tells g c =
+    let old = moment c.args.subtx.now c.args.locks.now c.args.store.now in
+    let new = moment c.write_held.new.subtx c.args.locks.now c.write_held.new.store in
+    let writes : WritesPage (view_of old) (view_of new) g.aim.root (page.Head c.args.split.now.made) =
+    subst (λ (p : ℕ × HeadFields). WritesPage (view_of old) (view_of new) p.0 (page.Head p.1)) (λ i. (c.requires.1.0 i, ap (λ (s : SplitFields). s.made) c.split.view_is i)) c.in-Ok.ensures.view in
+    rests_at_header g.aim old new c.args.split.now c.key_bucket.result c.requires.0 c.requires.1.1.0 c.requires.1.1.1.0 c.requires.1.1.1.1 writes c.key_bucket.ensures
+
+pub returns-in-Err-clause-touches : goal.returns-in-Err-clause-touches
+returns-in-Err-clause-touches g c =
+    let old = moment c.args.subtx.now c.args.locks.now c.args.store.now in
+    touches_nothing old (moment c.write_held.new.subtx c.args.locks.now c.write_held.new.store) (same_moment old c.write_held.new.subtx c.args.locks.now c.write_held.new.store (c.in-Err.ensures.err.0, refl, c.in-Err.ensures.err.1))

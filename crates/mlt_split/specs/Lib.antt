@@ -1,0 +1,4 @@
+pub mod FirstPhases
+pub mod Rests
+pub mod Splits
+pub mod Tells

@@ -1,0 +1,111 @@
+//! A split under way.
+
+ghost use Rattle.std.specs.Prelude.{◌≡◌, ◌<◌, ◌==◌, ℕ, Option, if◌then◌else◌};
+ghost use Rattle.mlt_page.specs.Bits.{bit_at};
+ghost use Rattle.mlt_page.specs.declared.page.Page.{Page};
+ghost use Rattle.mlt_held.specs.Moments.{HasCleanFile, IsCleanFor, MayStep, moment};
+ghost use Rattle.mlt_held.specs.PageSteps.{TouchesOnePage};
+ghost use Rattle.mlt_held.specs.Views.{view_of};
+ghost use Rattle.mlt_split.specs.Rests.{Aim};
+ghost use Rattle.mlt_split.specs.Splits.{IsUnderWay};
+ghost use Rattle.mlt_split.specs.Tells.{Tells};
+
+use crate::double::{double_page, make_second_half, write_header};
+use crate::in_place::write_in_place;
+use crate::old_bucket::write_old_bucket;
+use crate::phase::SplitPhase;
+use mlt_hash_form::first_bits;
+use mlt_page::{Bucket, DirPage, HeadPage};
+use mlt_page_locks::PageLocks;
+use mlt_store::Store;
+use mlt_subtx::Subtx;
+use mlt_types::{PageNo, Refusal, TxId};
+use std::marker::Model;
+
+/// The answer to a step of a split.
+#[derive(Clone, Copy, Debug, PartialEq, Eq)]
+pub enum SplitAnswer {
+    /// The split goes on.
+    Going,
+    /// The split is done, and the key that asked for room leads to this bucket.
+    Closed(PageNo),
+    /// The page is held by this transaction, the lowest whose lock stands against the one asked for. Nothing has
+    /// changed.
+    Waiting(PageNo, TxId),
+    /// There is no room for a page (`NoRoom`), or no memory (`OutOfMemory`). The caller rolls back.
+    Refused(Refusal),
+}
+
+/// A split of a bucket, one page per step. A contract sees its fields.
+#[derive(Clone, Copy, Debug)]
+pub struct Split {
+    /// The pseudokey that asks for room.
+    pub(crate) seed: u64,
+    pub(crate) old_page: PageNo,
+    pub(crate) new_page: PageNo,
+    /// How deep the bucket was, 0 to 15.
+    pub(crate) depth: u8,
+    /// How deep the directory was, 0 to 16.
+    pub(crate) directory_depth: u8,
+    /// What stays in the old bucket.
+    pub(crate) zeros: Bucket,
+    /// The header of the doubled directory, as far as its pages are known.
+    pub(crate) made: HeadPage,
+    /// The second half of the directory page that was rewritten last.
+    pub(crate) second: DirPage,
+    pub(crate) phase: SplitPhase,
+}
+
+impl Model for Split {
+    ghost use Rattle.mlt_split.specs.Splits.{SplitFields};
+
+    ghost Value = { SplitFields };
+
+    ghost view = { λ split. record { seed = split.seed; old_page = split.old_page; new_page = split.new_page; depth = split.depth; directory_depth = split.directory_depth; zeros = split.zeros; made = split.made; second = split.second; phase = split.phase } };
+
+    ghost inverse = { λ fields. record { seed = fields.seed; old_page = fields.old_page; new_page = fields.new_page; depth = fields.depth; directory_depth = fields.directory_depth; zeros = fields.zeros; made = fields.made; second = fields.second; phase = fields.phase } };
+}
+
+impl Split {
+    /// One step: writes the next page, or makes it. `root` is the page of the header. The ghost says what the split is
+    /// for, and who is open now.
+    pub fn advance(
+        &mut self,
+        root: PageNo,
+        subtx: &mut Subtx,
+        store: &mut Store,
+        locks: &mut PageLocks,
+    ) -> SplitAnswer
+        ghost aim: { Aim }
+        requires root { root ≡ aim.root }
+        requires may { MayStep (moment subtx.old locks.old store.old) }
+        requires file { HasCleanFile aim.bits aim.root (moment subtx.old locks.old store.old) }
+        requires under_way { IsUnderWay aim (view_of (moment subtx.old locks.old store.old)) self.old }
+        ensures touches { TouchesOnePage (moment subtx.old locks.old store.old) (moment subtx.new locks.new store.new) }
+        ensures may { MayStep (moment subtx.new locks.new store.new) }
+        ensures clean { (clean : ℕ → Option Page) → IsCleanFor (moment subtx.old locks.old store.old) clean → IsCleanFor (moment subtx.new locks.new store.new) clean }
+        ensures tells { Tells aim (moment subtx.old locks.old store.old) (moment subtx.new locks.new store.new) self.old self.new result }
+    {
+        match self.phase {
+            SplitPhase::OldBucket => write_old_bucket(self, subtx, store, locks),
+            SplitPhase::InPlace(place, end) => {
+                write_in_place(self, place, end, root, subtx, store, locks)
+            }
+            SplitPhase::Double(place) => double_page(self, place, root, subtx, store, locks),
+            SplitPhase::SecondHalf(place) => make_second_half(self, place, subtx, store, locks),
+            SplitPhase::Header => write_header(self, root, subtx, store, locks),
+        }
+    }
+
+    /// The bucket that the key leads to, once the split is done.
+    pub(crate) fn key_bucket(&self) -> PageNo
+        requires { self.now.depth < 64 }
+        ensures { result ≡ (if bit_at self.now.depth self.now.seed == 1 then self.now.new_page else self.now.old_page) }
+    {
+        if first_bits(self.seed, self.depth + 1) % 2 == 1 {
+            self.new_page
+        } else {
+            self.old_page
+        }
+    }
+}
