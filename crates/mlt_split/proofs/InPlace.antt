@@ -2,7 +2,6 @@
 use Rattle.std.proofs.Common.{ℕ, ◌≡◌, ◌<◌, ◌≤◌, ◌+◌, ◌-◌, ◌*◌, ◌^◌, is_some, true, List, length, slice_index, Option, Some, refl, sym, ◌∙◌, ap, subst, arith}
 use Rattle.std.specs.Prelude.{◌⊎◌}
 use Rattle.std.specs.Ordering.{nat_cmp}
-use Rattle.std.specs.FinMap as map
 use Rattle.std.specs.FinSet as set
 use Rattle.mlt_types.specs.declared.mode.Mode.TheVariants.{Exclusive}
 use Rattle.mlt_page.specs.Bits.{first_bits}
@@ -10,7 +9,7 @@ use Rattle.mlt_page.specs.Values.{BucketFields, HeadFields}
 use Rattle.mlt_page.specs.declared.page.Page.{Page}
 use Rattle.mlt_page.specs.declared.page.Page.TheVariants as page
 use Rattle.mlt_store.specs.Stores.{page_at}
-use Rattle.mlt_page_locks.specs.LockTables.{can_write, page_count}
+use Rattle.mlt_page_locks.specs.LockTables.{page_count}
 use Rattle.mlt_hash_form.specs.File.{HasForm, Writes, bucket_of, buckets_of, depth_of, dirs_of, entry, header_of}
 use Rattle.mlt_hash_form.specs.Held.{Agrees, over, own_or}
 use Rattle.mlt_hash_form.specs.Form.{half_of}
@@ -29,9 +28,9 @@ use Rattle.mlt_split.specs.declared.phase.SplitPhase.TheVariants as at
 use Rattle.mlt_split.proofs.Among.{among_after_lock, count_is_few, few_pages, most_is_small}
 use Rattle.mlt_split.proofs.Closing.{HasClean, HasClosed, IsClosed, closed_in_place, closes, half_page, held_page_over}
 use Rattle.mlt_split.proofs.HeldPages.{seen_where_held}
-use Rattle.mlt_split.proofs.Later.{IsLater, Rewrites, agreed_before, agrees_now, begins_now, exclusive_here, held_still, later_by_rewrite, rewrites, same_head, stands_now, stays_under_way}
+use Rattle.mlt_split.proofs.Later.{IsLater, Rewrites, agreed_before, agrees_now, begins_now, held_still, later_by_rewrite, rewrites, same_head, stands_now, stays_under_way}
 use Rattle.mlt_split.proofs.OldBucket.{depths_are_small}
-use Rattle.mlt_held.proofs.Views.{may_write, over_is_there, reads_over}
+use Rattle.mlt_held.proofs.Views.{over_is_there, reads_over}
 
 -- the places that the new bucket gets, in the words of the split
 pub record AreNewPlaces (split : SplitFields) (first count : ℕ) : Type 0 where
@@ -254,7 +253,3 @@ module _ (aim : Aim) (m : Moment) (split : SplitFields) (place end : ℕ) (may :
             },
             omega (arith, steps, at_end),
           )
-
--- a page that is locked exclusively may be written
-pub locked_is_writable : (m mid : Moment) (q : ℕ) (read : Option Page) → ReadsPage (view_of m) (view_of mid) q Exclusive read → can_write mid.locks mid.running.tx q ≡ true
-locked_is_writable m mid q read reads = may_write mid q (ap (λ modes. map.get modes q) reads.modes ∙ exclusive_here (view_of m).modes q)

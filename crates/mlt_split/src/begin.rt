@@ -11,10 +11,10 @@ ghost use Rattle.mlt_held.specs.Views.{view_of};
 ghost use Rattle.mlt_split.specs.Rests.{IsAtRest};
 ghost use Rattle.mlt_split.specs.Splits.{IsUnderWay, MayBegin, directory_steps, steps_left};
 
-use mlt_held::{make_page, read_held};
 use crate::phase::SplitPhase;
 use crate::split::Split;
 use mlt_hash_form::Root;
+use mlt_held::{make_page, read_held};
 use mlt_page::{Bucket, DirPage, HeadPage, Page};
 use mlt_page_locks::PageLocks;
 use mlt_store::Store;

@@ -9,10 +9,10 @@ ghost use Rattle.mlt_split.specs.Rests.{Aim};
 ghost use Rattle.mlt_split.specs.Splits.{IsUnderWay};
 ghost use Rattle.mlt_split.specs.Tells.{Tells};
 
-use mlt_held::{lock_and_read, make_page, read_held, write_held};
 use crate::phase::SplitPhase;
 use crate::split::{Split, SplitAnswer};
 use mlt_hash_form::{doubled_page, first_bits};
+use mlt_held::{lock_and_read, make_page, read_held, write_held};
 use mlt_page::{HeadPage, Page};
 use mlt_page_locks::PageLocks;
 use mlt_store::Store;

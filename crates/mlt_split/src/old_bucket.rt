@@ -10,10 +10,10 @@ ghost use Rattle.mlt_split.specs.Splits.{IsUnderWay};
 ghost use Rattle.mlt_split.specs.FirstPhases.{IsFirstPhase};
 ghost use Rattle.mlt_split.specs.Tells.{Tells};
 
-use mlt_held::write_held;
 use crate::phase::SplitPhase;
 use crate::split::{Split, SplitAnswer};
 use mlt_hash_form::NewPlaces;
+use mlt_held::write_held;
 use mlt_page::Page;
 use mlt_page_locks::PageLocks;
 use mlt_store::Store;

@@ -15,4 +15,3 @@ pub enum SplitPhase {
     /// It writes the header of the doubled directory.
     Header,
 }
-

@@ -11,8 +11,8 @@ use Rattle.mlt_split.specs.Tells.{GoesOn}
 use Rattle.mlt_split.specs.declared.phase.SplitPhase.TheVariants as at
 use Rattle.mlt_split.proofs.HeldPages.{reads_as}
 use Rattle.mlt_split.proofs.Closing.{HasClean}
-use Rattle.mlt_split.proofs.Later.{same_moment, touches_by_locking, touches_by_rewriting, touches_nothing}
-use Rattle.mlt_split.proofs.InPlace.{AreNewPlaces, HasNewPlaces, depths_here, end_is_small, few_are_held_here, in_place_goes_on, in_place_rests, locked_is_writable, next_is_dir, next_is_there, place_before_end, place_is_small}
+use Rattle.mlt_split.proofs.Later.{locked_may_be_written, same_moment, touches_by_locking, touches_by_rewriting, touches_nothing}
+use Rattle.mlt_split.proofs.InPlace.{AreNewPlaces, HasNewPlaces, depths_here, end_is_small, few_are_held_here, in_place_goes_on, in_place_rests, next_is_dir, next_is_there, place_before_end, place_is_small}
 use Rattle.mlt_held.proofs.Views.{agrees}
 use Rattle.mlt_split.proofs.in_place.write_in_place.Goals as goal
 
@@ -75,7 +75,7 @@ pub write_held-requires-clause-held : goal.write_held-requires-clause-held
 write_held-requires-clause-held g c =
     let m = moment c.args.subtx.now c.args.locks.now c.args.store.now in
     let mid = moment c.args.subtx.now c.lock_and_read.new.locks c.args.store.now in
-    locked_is_writable m mid c.dir-number.result _ c.in-Ok-Dir.ensures.reads
+    locked_may_be_written m mid c.dir-number.result _ c.in-Ok-Dir.ensures.reads
 
 pub returns-in-Err-write_held-clause-touches : goal.returns-in-Err-write_held-clause-touches
 returns-in-Err-write_held-clause-touches g c =
