@@ -1,0 +1,102 @@
+-- An addition in place: in the slot of the transaction's own ghost, or in one with room
+use Rattle.std.proofs.Common.{◌≡◌, ℕ, Bool, true, false, List, Option, Some, None, refl, sym, ap, subst, ◌∙◌, inl, inr}
+use Rattle.std.specs.Prelude.{position, slice_index_or}
+use Rattle.std.proofs.lemmas.Bool.{false≢true, not-false, not-true}
+use Rattle.std.proofs.lemmas.List.Elements.{All-from_get_or}
+use Rattle.std.proofs.lemmas.List.Sums.{list_all-from_AllPass}
+use Rattle.std.proofs.lemmas.List.Quantifiers.{position-Some}
+use Rattle.mlt_types.specs.declared.mode.Mode.TheVariants.{Exclusive}
+use Rattle.mlt_page.specs.Slots.{is_ghost_of, is_kept, is_live_of}
+use Rattle.mlt_page.specs.declared.slot.Slot.{Slot}
+use Rattle.mlt_page.specs.declared.slot.Slot.TheVariants.{Free, Live}
+use Rattle.mlt_page.specs.Values.{BucketFields}
+use Rattle.mlt_page_locks.specs.LockTables.{can_write}
+use Rattle.mlt_hash_form.specs.Form.{value_in}
+use Rattle.mlt_held.specs.Moments.{Moment}
+use Rattle.mlt_held.specs.Views.{View, view_of}
+use Rattle.mlt_record.specs.Plans.{IsNowhere, SetsFirst, WriteFields, has_room}
+use Rattle.mlt_hash.specs.Passes.{slot_after}
+use Rattle.mlt_hash.specs.Walks.{Basis, Stands, StoodBefore, WalkFields}
+use Rattle.mlt_hash.specs.Changes.{HasOwnGhost, IsAtAbsent, IsFull, Makes, SeesBucket, TellsOfAddition, TellsOfChange, directory_depth_of, page_of}
+use Rattle.mlt_hash.specs.declared.pass.Change.{Change}
+use Rattle.mlt_hash.specs.declared.pass.Change.TheVariants as change
+use Rattle.mlt_hash.specs.declared.answer.WalkAnswer.{WalkAnswer}
+use Rattle.mlt_hash.proofs.InPlace.{ReadsBucket, WritesPlan, absent_at, found_there, makes_change, may_write_bucket, no_live_slot, same_bucket, tells_change}
+
+-- where a search ends that finds nothing
+pub nowhere_found : (has : Slot → Bool) (slots : List Slot) (place : Option ℕ) → position has slots ≡ place → IsNowhere has slots → place ≡ None
+nowhere_found has slots None is nowhere = refl
+nowhere_found has slots (Some i) is nowhere =
+    let at = position-Some has slots i Free is in
+    absurd (false≢true (sym (nowhere i at.0) ∙ at.1))
+
+-- a walk that found no record of its key has none in its bucket
+pub absent_value : (basis : Basis) (walk : WalkFields) (view : View) (fields : BucketFields) → IsAtAbsent walk.phase → Stands walk.phase basis walk view → SeesBucket walk view fields → value_in walk.key fields.slots ≡ None
+absent_value basis walk view fields none stands sees = found_there basis walk view (page_of walk.phase) (directory_depth_of walk.phase) None fields (absent_at basis walk view walk.phase none stands) sees.at
+
+pub absent_from_bucket : (basis : Basis) (walk : WalkFields) (view : View) (key : ℕ) (fields : BucketFields) → IsAtAbsent walk.phase → Stands walk.phase basis walk view → SeesBucket walk view fields → key ≡ walk.key → position (is_live_of key) fields.slots ≡ None
+absent_from_bucket basis walk view key fields none stands sees key_is = no_live_slot key fields.slots (ap (λ k. value_in k fields.slots) key_is ∙ absent_value basis walk view fields none stands sees)
+
+-- it sees the bucket,
+pub absent_sees : (basis : Basis) (walk : WalkFields) (view : View) → IsAtAbsent walk.phase → Stands walk.phase basis walk view → (fields : BucketFields) × SeesBucket walk view fields
+absent_sees basis walk view none stands =
+    let bucket = absent_at basis walk view walk.phase none stands in
+    (bucket.fields, record { at = bucket.at })
+
+own_ghost_nowhere : (basis : Basis) (walk : WalkFields) (key owner : ℕ) (fields : BucketFields) → key ≡ walk.key → owner ≡ basis.tx → IsNowhere (is_ghost_of key owner) fields.slots → position (is_ghost_of walk.key basis.tx) fields.slots ≡ None
+own_ghost_nowhere basis walk key owner fields key_is own nowhere =
+    (λ i. position (is_ghost_of (sym key_is i) (sym own i)) fields.slots) ∙ nowhere_found (is_ghost_of key owner) fields.slots (position (is_ghost_of key owner) fields.slots) refl nowhere
+
+-- which is full where no slot has room and none has the transaction's own ghost
+pub is_full : (basis : Basis) (walk : WalkFields) (view : View) (key owner : ℕ) (fields : BucketFields) → SeesBucket walk view fields → key ≡ walk.key → owner ≡ basis.tx → IsNowhere (is_ghost_of key owner) fields.slots → IsNowhere (has_room basis.opens) fields.slots → IsFull basis walk view fields
+is_full basis walk view key owner fields sees key_is own nowhere full = record {
+  sees = sees;
+  no_ghost = own_ghost_nowhere basis walk key owner fields key_is own nowhere;
+  no_room = list_all-from_AllPass (is_kept basis.opens) fields.slots (All-from_get_or (λ s. is_kept basis.opens s ≡ true) fields.slots Free (λ i within. not-false (is_kept basis.opens (slice_index_or fields.slots i Free)) (full i within)));
+}
+
+-- a walk whose transaction left a ghost there has a plan of what to do with it,
+pub ghost_has_plan : (basis : Basis) (walk : WalkFields) (view : View) (key owner : ℕ) (fields : BucketFields) → HasOwnGhost basis walk view → SeesBucket walk view fields → key ≡ walk.key → owner ≡ basis.tx → IsNowhere (is_ghost_of key owner) fields.slots → ⊥
+ghost_has_plan basis walk view key owner fields ghost sees key_is own nowhere =
+    let same : ghost.0 ≡ fields = same_bucket (view.seen (page_of walk.phase)) ghost.0 fields ghost.2.at sees.at in
+    let here : position (is_ghost_of key owner) fields.slots ≡ Some ghost.1 = (λ i. position (is_ghost_of (key_is i) (own i)) fields.slots) ∙ ap (λ (b : BucketFields). position (is_ghost_of walk.key basis.tx) b.slots) (sym same) ∙ ghost.3 in
+    let at = position-Some (is_ghost_of key owner) fields.slots ghost.1 Free here in
+    false≢true (sym (nowhere ghost.1 at.0) ∙ at.1)
+
+-- and may write it.
+pub absent_may_write : (basis : Basis) (walk : WalkFields) (old : Moment) (number : ℕ) (fields : BucketFields) (has : Slot → Bool) (s : Slot) (write : WriteFields) → IsAtAbsent walk.phase → Stands walk.phase basis walk (view_of old) → walk.mode ≡ Exclusive
+    → number ≡ page_of walk.phase → SetsFirst number fields has s write → can_write old.locks old.running.tx write.number ≡ true
+absent_may_write basis walk old number fields has s write none stands = may_write_bucket basis walk old number (directory_depth_of walk.phase) None fields has s write (absent_at basis walk (view_of old) walk.phase none stands)
+
+module _ (basis : Basis) (walk after : WalkFields) (old new : Moment) (number key : ℕ) (fields : BucketFields) (write : WriteFields) (result : WalkAnswer) (reads : ReadsBucket basis walk old number key fields) (none : IsAtAbsent walk.phase) where
+  -- the plan of a walk whose key had no record is the change of it
+  absent_makes : (done : Change) (has : Slot → Bool) → (plan : SetsFirst number fields has (slot_after done walk.key basis.tx) write) → StoodBefore done basis walk.key fields.slots (slice_index_or fields.slots plan.slot Free)
+      → WritesPlan walk after old new write done result → Makes basis new walk after done
+  absent_makes done has plan was told =
+      makes_change basis walk after old new number (directory_depth_of walk.phase) None fields done has write reads.bounded (absent_at basis walk (view_of old) walk.phase none reads.stands) reads.sees reads.here plan was told.writes told.walk_is
+
+  no_value : value_in walk.key fields.slots ≡ None
+  no_value = absent_value basis walk (view_of old) fields none reads.stands reads.sees
+
+  revive_makes : (value owner : ℕ) → owner ≡ basis.tx → SetsFirst number fields (is_ghost_of key owner) (Live key value) write → WritesPlan walk after old new write (change.Revive value) result → Makes basis new walk after (change.Revive value)
+  revive_makes value owner own plan told =
+      let of_walk : SetsFirst number fields (is_ghost_of walk.key owner) (Live walk.key value) write = subst (λ k. SetsFirst number fields (is_ghost_of k owner) (Live k value) write) reads.key_is plan in
+      let own_plan : SetsFirst number fields (is_ghost_of walk.key basis.tx) (Live walk.key value) write = subst (λ tx. SetsFirst number fields (is_ghost_of walk.key tx) (Live walk.key value) write) own of_walk in
+      absent_makes (change.Revive value) (is_ghost_of walk.key basis.tx) own_plan (no_value, own_plan.was) told
+
+  -- **A revival,**
+  pub revive_tells : (value owner : ℕ) → owner ≡ basis.tx → SetsFirst number fields (is_ghost_of key owner) (Live key value) write → WritesPlan walk after old new write (change.Revive value) result → TellsOfChange basis new walk after (change.Revive value) result
+  revive_tells value owner own plan told = tells_change basis new walk after (change.Revive value) result told.answer_is (revive_makes value owner own plan told)
+
+  -- **an addition in the place of the transaction's own ghost,**
+  pub revival_tells : (value owner : ℕ) → owner ≡ basis.tx → SetsFirst number fields (is_ghost_of key owner) (Live key value) write → WritesPlan walk after old new write (change.Revive value) result → TellsOfAddition basis new walk after value result
+  revival_tells value owner own plan told = subst (λ r. TellsOfAddition basis new walk after value r) (sym told.answer_is) (inl (revive_makes value owner own plan told))
+
+  -- **and one in a slot with room.**
+  pub put_tells : (value owner : ℕ) → owner ≡ basis.tx → IsNowhere (is_ghost_of key owner) fields.slots → SetsFirst number fields (has_room basis.opens) (Live key value) write → WritesPlan walk after old new write (change.Put value) result → TellsOfAddition basis new walk after value result
+  put_tells value owner own nowhere plan told =
+      let of_walk : SetsFirst number fields (has_room basis.opens) (Live walk.key value) write = subst (λ k. SetsFirst number fields (has_room basis.opens) (Live k value) write) reads.key_is plan in
+      let no_ghost : position (is_ghost_of walk.key basis.tx) fields.slots ≡ None = own_ghost_nowhere basis walk key owner fields reads.key_is own nowhere in
+      let free : is_kept basis.opens (slice_index_or fields.slots of_walk.slot Free) ≡ false = not-true (is_kept basis.opens (slice_index_or fields.slots of_walk.slot Free)) of_walk.was in
+      let makes : Makes basis new walk after (change.Put value) = absent_makes (change.Put value) (has_room basis.opens) of_walk (no_value, no_ghost, free) told in
+      subst (λ r. TellsOfAddition basis new walk after value r) (sym told.answer_is) (inr makes)

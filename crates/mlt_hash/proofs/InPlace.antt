@@ -1,0 +1,268 @@
+-- What a change in place makes of the file
+use Rattle.std.proofs.Common.{◌≡◌, ℕ, ◌<◌, ◌≤◌, ◌^◌, Bool, true, List, Option, Some, None, is_some, refl, sym, ap, subst, ◌∙◌, arith}
+use Rattle.std.specs.Prelude.{IsSome, position, slice_index_or, slice_set}
+use Rattle.std.specs.Ordering.{nat_cmp}
+use Rattle.std.specs.FinMap as map
+use Rattle.std.specs.Option.{option_map}
+use Rattle.std.proofs.lemmas.Bool.{false≢true}
+use Rattle.mlt_types.specs.declared.mode.Mode.{Mode}
+use Rattle.mlt_types.specs.declared.mode.Mode.TheVariants.{Exclusive, Shared}
+use Rattle.mlt_page.specs.Slots.{is_live_of}
+use Rattle.mlt_page.specs.declared.slot.Slot.{Slot}
+use Rattle.mlt_page.specs.declared.slot.Slot.TheVariants.{Free, Ghost, Live}
+use Rattle.mlt_page.specs.declared.page.Page.{Page}
+use Rattle.mlt_page.specs.declared.page.Page.TheVariants as page
+use Rattle.mlt_page.specs.Values.{BucketFields}
+use Rattle.mlt_store.specs.Stores.{page_at}
+use Rattle.mlt_page_locks.specs.LockTables.{Modes, can_read, can_write}
+use Rattle.mlt_page_locks.specs.LockLaws.{writer_reads}
+use Rattle.mlt_page_locks.specs.Maps.{same_entries}
+use Rattle.mlt_page_locks.specs.Requests.{stronger, with_page}
+use Rattle.mlt_subtx.specs.Images.{Images, image_of}
+use Rattle.mlt_hash_form.specs.Changes.{ChangesRecord, IsHome}
+use Rattle.mlt_hash_form.specs.File.{HasForm, IsPath, Writes}
+use Rattle.mlt_hash_form.specs.Form.{value_in, value_of}
+use Rattle.mlt_hash_form.specs.Held.{Agrees, ChangesFile, over}
+use Rattle.mlt_hash_form.proofs.HeldPages.{keeps_none, writes_over}
+use Rattle.mlt_hash_form.proofs.Lookup.{live_from_value, live_passes, within_from_live}
+use Rattle.mlt_hash_form.proofs.Paths.{path_home}
+use Rattle.mlt_hash_form.proofs.SingleChanges.{put_changes, revive_changes, set_value_changes, to_ghost_changes}
+use Rattle.mlt_held.specs.Moments.{MayStep, Moment}
+use Rattle.mlt_held.specs.Views.{View, WritesPage, own_at, page_written, view_of}
+use Rattle.mlt_held.proofs.Views.{may_write, mode_of_page, own_held}
+use Rattle.mlt_record.specs.Plans.{IsNowhere, SetsFirst, WriteFields}
+use Rattle.mlt_hash.specs.Passes.{bucket_mode, directory_held, slot_after, value_after}
+use Rattle.mlt_hash.specs.Walks.{Basis, IsAtBucket, IsChanged, IsUnwritten, Stands, StoodBefore, WalkFields, dir_of}
+use Rattle.mlt_hash.specs.Changes.{IsAtAbsent, IsAtRecord, Makes, SeesBucket, TellsOfChange, directory_depth_of, page_of}
+use Rattle.mlt_hash.specs.declared.pass.Pass.{Pass}
+use Rattle.mlt_hash.specs.declared.pass.Pass.TheVariants as pass
+use Rattle.mlt_hash.specs.declared.pass.Phase.{Phase}
+use Rattle.mlt_hash.specs.declared.pass.Phase.TheVariants as at
+use Rattle.mlt_hash.specs.declared.pass.Change.{Change}
+use Rattle.mlt_hash.specs.declared.pass.Change.TheVariants as change
+use Rattle.mlt_hash.specs.declared.answer.WalkAnswer.{WalkAnswer}
+use Rattle.mlt_hash.specs.declared.answer.WalkAnswer.TheVariants as answer
+
+-- a page with a first image is there, and was written
+written_is_there : (image : Option (Option Page)) (page : Option Page) → (is_some image ≡ true → is_some page ≡ true) → page_written image page ≡ None → image ≡ None
+written_is_there None page there none = refl
+written_is_there (Some first) page there none = absurd (false≢true (sym (ap is_some none) ∙ there refl))
+
+unwritten_image : (m : Moment) (q : ℕ) (image : Option (Option Page)) → image_of m.running.images q ≡ image → MayStep m → own_at m q ≡ None → image ≡ None
+unwritten_image m q None is may none = refl
+unwritten_image m q (Some first) is may none =
+    let has : is_some (image_of m.running.images q) ≡ true = ap is_some is in
+    let held : can_read m.locks m.running.tx q ≡ true = writer_reads m.locks m.running.tx q (may.images_locked q has) in
+    let page : page_written (image_of m.running.images q) (page_at m.store.pages q) ≡ None = sym (own_held m q held) ∙ none in
+    sym is ∙ written_is_there (image_of m.running.images q) (page_at m.store.pages q) (may.images_there q) page
+
+-- **A transaction whose view has no writes has kept no images.**
+pub unwritten_has_no_images : (m : Moment) → MayStep m → IsUnwritten (view_of m) → m.running.images ≡ map.empty
+unwritten_has_no_images m may none = same_entries m.running.images map.empty (λ q. unwritten_image m q (image_of m.running.images q) refl may (none q) ∙ sym (map.get-empty {X = Option Page} nat_cmp q))
+
+-- So its next write is not its third.
+pub first_write_is_not_third : (m : Moment) → MayStep m → IsUnwritten (view_of m) → 2 ≤ map.len m.running.images → ⊥
+first_write_is_not_third m may none third =
+    let few : map.len m.running.images ≡ 0 = ap (λ (images : Images). map.len images) (unwritten_has_no_images m may none) ∙ map.len-empty nat_cmp (Option Page) in
+    omega (arith, few, third)
+
+-- a walk that found a record stands at its bucket,
+pub record_at : (basis : Basis) (walk : WalkFields) (view : View) (phase : Phase) → IsAtRecord phase → Stands phase basis walk view → (found : Option ℕ) × IsAtBucket basis walk view (page_of phase) (directory_depth_of phase) found × IsSome found
+record_at basis walk view (at.AtBucket bucket depth found) has stands = (found, stands, has)
+record_at basis walk view at.Start has stands = absurd has
+record_at basis walk view (at.Headed dir row depth) has stands = absurd has
+record_at basis walk view (at.Placed bucket depth) has stands = absurd has
+record_at basis walk view (at.Full next) has stands = absurd has
+record_at basis walk view (at.Adding value bucket room_depth unsplit) has stands = absurd has
+record_at basis walk view (at.Splitting value room_depth) has stands = absurd has
+record_at basis walk view (at.Changed bucket done) has stands = absurd has
+
+-- and so does one that found none
+pub absent_at : (basis : Basis) (walk : WalkFields) (view : View) (phase : Phase) → IsAtAbsent phase → Stands phase basis walk view → IsAtBucket basis walk view (page_of phase) (directory_depth_of phase) None
+absent_at basis walk view (at.AtBucket bucket depth found) none stands = subst (λ found. IsAtBucket basis walk view bucket depth found) none stands
+absent_at basis walk view at.Start none stands = absurd none
+absent_at basis walk view (at.Headed dir row depth) none stands = absurd none
+absent_at basis walk view (at.Placed bucket depth) none stands = absurd none
+absent_at basis walk view (at.Full next) none stands = absurd none
+absent_at basis walk view (at.Adding value bucket room_depth unsplit) none stands = absurd none
+absent_at basis walk view (at.Splitting value room_depth) none stands = absurd none
+absent_at basis walk view (at.Changed bucket done) none stands = absurd none
+
+-- a bucket is seen in one way
+pub same_bucket : (seen : Option (Option Page)) (a b : BucketFields) → seen ≡ Some (Some (page.Bucket a)) → seen ≡ Some (Some (page.Bucket b)) → a ≡ b
+same_bucket seen a b first second =
+    let both : Some (Some (page.Bucket a)) ≡ Some (Some (page.Bucket b)) = sym first ∙ second in
+    cc
+
+bucket_mode_exclusive : (pass : Pass) → bucket_mode pass Exclusive ≡ Exclusive
+bucket_mode_exclusive pass.First = refl
+bucket_mode_exclusive pass.Narrow = refl
+bucket_mode_exclusive pass.Wide = refl
+
+stronger_exclusive : (held : Option Mode) → stronger held Exclusive ≡ Exclusive
+stronger_exclusive None = refl
+stronger_exclusive (Some Shared) = refl
+stronger_exclusive (Some Exclusive) = refl
+
+-- **A walk whose own mode is exclusive holds its bucket so.**
+pub bucket_is_exclusive : (basis : Basis) (walk : WalkFields) (view : View) (bucket depth : ℕ) (found : Option ℕ) → IsAtBucket basis walk view bucket depth found → walk.mode ≡ Exclusive → map.get view.modes bucket ≡ Some Exclusive
+bucket_is_exclusive basis walk view bucket depth found stands exclusive =
+    let dirs : Modes = directory_held walk.pass basis.root (dir_of basis stands.header walk.key) in
+    let mode : bucket_mode walk.pass walk.mode ≡ Exclusive = ap (bucket_mode walk.pass) exclusive ∙ bucket_mode_exclusive walk.pass in
+    ap (λ (modes : Modes). map.get modes bucket) (stands.held ∙ ap (with_page dirs bucket) mode)
+    ∙ mode_of_page dirs bucket Exclusive
+    ∙ ap Some (stronger_exclusive (map.get dirs bucket))
+
+-- the page of a bucket with one slot changed
+abbrev pub changed_page : BucketFields → ℕ → Slot → Page
+changed_page fields i s = page.Bucket (record fields { slots = slice_set fields.slots i s })
+
+-- what a change of one slot of the key's bucket does to clean pages, by what stood in the slot
+pub changes_by : (basis : Basis) (pages pages' : ℕ → Option Page) (key n i : ℕ) (fields : BucketFields) (done : Change) → IsHome basis.bits pages basis.root key n fields → i < 8 → StoodBefore done basis key fields.slots (slice_index_or fields.slots i Free)
+    → Writes pages pages' n (changed_page fields i (slot_after done key basis.tx)) → ChangesRecord basis.bits pages pages' basis.root key (value_after done) n i (slot_after done key basis.tx)
+changes_by basis pages pages' key n i fields (change.Put value) home within was writes = put_changes basis.bits basis.opens pages pages' basis.root key value n i fields home was.0 within was.2 writes
+changes_by basis pages pages' key n i fields (change.Revive value) home within was writes = revive_changes basis.bits pages pages' basis.root key basis.tx value n i fields home was.0 within was.1 writes
+changes_by basis pages pages' key n i fields (change.Set value) home within was writes = set_value_changes basis.bits pages pages' basis.root key value n i fields home within was writes
+changes_by basis pages pages' key n i fields change.Remove home within was writes = to_ghost_changes basis.bits pages pages' basis.root key basis.tx n i fields home within was writes
+
+-- what was found of the key stands in the bucket
+pub found_there : (basis : Basis) (walk : WalkFields) (view : View) (n depth : ℕ) (found : Option ℕ) (fields : BucketFields) → IsAtBucket basis walk view n depth found → view.seen n ≡ Some (Some (page.Bucket fields)) → value_in walk.key fields.slots ≡ found
+found_there basis walk view n depth found fields stands sees = ap (λ (b : BucketFields). value_in walk.key b.slots) (same_bucket (view.seen n) fields stands.fields sees stands.at) ∙ sym stands.found_is
+
+module _ (basis : Basis) (walk : WalkFields) (view : View) (n depth : ℕ) (found : Option ℕ) (fields : BucketFields) (bounded : (k : ℕ) → basis.bits k < 2 ^ 64) (stands : IsAtBucket basis walk view n depth found) (sees : view.seen n ≡ Some (Some (page.Bucket fields))) where
+  -- the way of the key on all clean pages that agree with what is seen
+  pub seen_path : (clean : ℕ → Option Page) → Agrees view.seen clean → IsPath clean basis.root (basis.bits walk.key) stands.header stands.dir n fields
+  seen_path clean agree = record {
+    head = agree basis.root (Some (page.Head stands.header)) stands.head;
+    listed = agree (dir_of basis stands.header walk.key) (Some (page.Dir stands.dir)) stands.listed;
+    at = sym stands.bucket_is;
+    found = agree n (Some (page.Bucket fields)) sees;
+  }
+
+  pub seen_home : (clean : ℕ → Option Page) → Agrees view.seen clean → HasForm basis.bits clean basis.root → IsHome basis.bits clean basis.root walk.key n fields
+  seen_home clean agree form = path_home basis.bits clean basis.root walk.key stands.header stands.dir n fields bounded form (seen_path clean agree)
+
+  -- one write of the bucket, with one slot changed, is a change of the file
+  module _ (new : View) (done : Change) (i : ℕ) (within : i < 8) (was : StoodBefore done basis walk.key fields.slots (slice_index_or fields.slots i Free)) (writes : WritesPage view new n (changed_page fields i (slot_after done walk.key basis.tx))) where
+    agreed_before : (clean : ℕ → Option Page) → Agrees new.seen clean → Agrees view.seen clean
+    agreed_before clean agree q first is = agree q first (writes.seen q ∙ is)
+
+    changes_file : ChangesFile basis.bits basis.opens basis.root new.seen (λ _. None) new.own walk.key (value_after done) n i (slot_after done walk.key basis.tx)
+    changes_file = record {
+      keeps = keeps_none basis.bits basis.opens basis.root new.seen;
+      changes = λ clean agree form.
+          changes_by basis clean (over clean new.own) walk.key n i fields done (seen_home clean (agreed_before clean agree) form) within was
+          (writes_over clean (λ _. None) new.own n (changed_page fields i (slot_after done walk.key basis.tx)) writes.here (λ q ne. writes.others q ne ∙ stands.unwritten q));
+    }
+
+    pub is_changed : IsChanged basis (record walk { phase = at.Changed n done }) new n done
+    is_changed = record {
+      rest = λ _. None;
+      slot = i;
+      within = within;
+      held = ap is_some (writes.seen n ∙ sees);
+      fields = fields;
+      home = λ clean agree form. seen_home clean (agreed_before clean agree) form;
+      was = was;
+      changes = changes_file;
+    }
+
+-- **The planned write of a held bucket makes the change.**
+pub makes_change : (basis : Basis) (walk after : WalkFields) (old new : Moment) (number depth : ℕ) (found : Option ℕ) (fields : BucketFields) (done : Change) (has : Slot → Bool) (write : WriteFields)
+    → ((k : ℕ) → basis.bits k < 2 ^ 64) → IsAtBucket basis walk (view_of old) (page_of walk.phase) depth found → SeesBucket walk (view_of old) fields
+    → number ≡ page_of walk.phase → (plan : SetsFirst number fields has (slot_after done walk.key basis.tx) write)
+    → StoodBefore done basis walk.key fields.slots (slice_index_or fields.slots plan.slot Free)
+    → WritesPage (view_of old) (view_of new) write.number write.page
+    → after ≡ record walk { phase = at.Changed write.number done }
+    → Makes basis new walk after done
+makes_change basis walk after old new number depth found fields done has write bounded stands sees here plan was writes is =
+    let n = page_of walk.phase in
+    let page = changed_page fields plan.slot (slot_after done walk.key basis.tx) in
+    let on : write.number ≡ n = ap (λ (w : WriteFields). w.number) plan.written ∙ here in
+    let what : write.page ≡ page = ap (λ (w : WriteFields). w.page) plan.written in
+    let now : after ≡ record walk { phase = at.Changed n done } = is ∙ ap (λ q. record walk { phase = at.Changed q done }) on in
+    let writes_here : WritesPage (view_of old) (view_of new) n page = subst (λ q. WritesPage (view_of old) (view_of new) q page) on (subst (λ p. WritesPage (view_of old) (view_of new) write.number p) what writes) in
+    let changed = is_changed basis walk (view_of old) n depth found fields bounded stands sees.at (view_of new) done plan.slot plan.within was writes_here in
+    record {
+      same = record { key = ap (λ (w : WalkFields). w.key) now; mode = ap (λ (w : WalkFields). w.mode) now; pass = ap (λ (w : WalkFields). w.pass) now };
+      phase = ap (λ (w : WalkFields). w.phase) now;
+      stands = subst (λ (w : WalkFields). Stands w.phase basis w (view_of new)) (sym now) changed;
+    }
+
+pub tells_change : (basis : Basis) (new : Moment) (walk after : WalkFields) (done : Change) (result : WalkAnswer) → result ≡ answer.Changed → Makes basis new walk after done → TellsOfChange basis new walk after done result
+tells_change basis new walk after done result is makes = subst (λ r. TellsOfChange basis new walk after done r) (sym is) makes
+
+some_value : (found : Option ℕ) → IsSome found → (value : ℕ) × (found ≡ Some value)
+some_value None has = absurd (false≢true has)
+some_value (Some value) has = (value, refl)
+
+-- a record that was found stands somewhere
+pub record_stands : (key : ℕ) (slots : List Slot) (found : Option ℕ) → value_in key slots ≡ found → IsSome found → IsNowhere (is_live_of key) slots → ⊥
+record_stands key slots found is has nowhere =
+    let value = some_value found has in
+    let live = live_from_value key value.0 slots (is ∙ value.1) in
+    let stands = nowhere live.0 (within_from_live slots live.0 key value.0 live.1) in
+    false≢true (sym stands ∙ live_passes key value.0 (slice_index_or slots live.0 Free) live.1)
+
+nowhere_mapped : (f : ℕ → ℕ) (place : Option ℕ) → option_map f place ≡ None → place ≡ None
+nowhere_mapped f None none = refl
+nowhere_mapped f (Some i) none = let both : Some (f i) ≡ None = none in cc
+
+-- a key without a value has no live slot
+pub no_live_slot : (key : ℕ) (slots : List Slot) → value_in key slots ≡ None → position (is_live_of key) slots ≡ None
+no_live_slot key slots none = nowhere_mapped (λ i. value_of (slice_index_or slots i Free)) (position (is_live_of key) slots) none
+
+-- a walk whose key has a record has a plan of what to do with it,
+pub record_has_plan : (basis : Basis) (walk : WalkFields) (view : View) (key : ℕ) (fields : BucketFields) → IsAtRecord walk.phase → Stands walk.phase basis walk view → SeesBucket walk view fields → key ≡ walk.key → IsNowhere (is_live_of key) fields.slots → ⊥
+record_has_plan basis walk view key fields has stands sees key_is nowhere =
+    let bucket = record_at basis walk view walk.phase has stands in
+    let found = found_there basis walk view (page_of walk.phase) (directory_depth_of walk.phase) bucket.0 fields bucket.1 sees.at in
+    record_stands walk.key fields.slots bucket.0 found bucket.2 (subst (λ k. IsNowhere (is_live_of k) fields.slots) key_is nowhere)
+
+pub may_write_bucket : (basis : Basis) (walk : WalkFields) (old : Moment) (number depth : ℕ) (found : Option ℕ) (fields : BucketFields) (has : Slot → Bool) (s : Slot) (write : WriteFields) → IsAtBucket basis walk (view_of old) (page_of walk.phase) depth found → walk.mode ≡ Exclusive
+    → number ≡ page_of walk.phase → SetsFirst number fields has s write → can_write old.locks old.running.tx write.number ≡ true
+may_write_bucket basis walk old number depth found fields has s write stands exclusive here plan =
+    let on : write.number ≡ page_of walk.phase = ap (λ (w : WriteFields). w.number) plan.written ∙ here in
+    may_write old write.number (ap (map.get (view_of old).modes) on ∙ bucket_is_exclusive basis walk (view_of old) (page_of walk.phase) depth found stands exclusive)
+
+-- and may write it.
+pub record_may_write : (basis : Basis) (walk : WalkFields) (old : Moment) (number : ℕ) (fields : BucketFields) (has : Slot → Bool) (s : Slot) (write : WriteFields) → IsAtRecord walk.phase → Stands walk.phase basis walk (view_of old) → walk.mode ≡ Exclusive
+    → number ≡ page_of walk.phase → SetsFirst number fields has s write → can_write old.locks old.running.tx write.number ≡ true
+record_may_write basis walk old number fields has s write record_is stands =
+    let bucket = record_at basis walk (view_of old) walk.phase record_is stands in
+    may_write_bucket basis walk old number (directory_depth_of walk.phase) bucket.0 fields has s write bucket.1
+
+-- what a walk at its bucket has read: the bucket, on this page, and which key it goes by
+pub record ReadsBucket (basis : Basis) (walk : WalkFields) (old : Moment) (number key : ℕ) (fields : BucketFields) : Type 0 where
+  pub bounded : (k : ℕ) → basis.bits k < 2 ^ 64
+  pub stands : Stands walk.phase basis walk (view_of old)
+  pub sees : SeesBucket walk (view_of old) fields
+  pub here : number ≡ page_of walk.phase
+  pub key_is : key ≡ walk.key
+
+-- and that it has written its plan
+pub record WritesPlan (walk after : WalkFields) (old new : Moment) (write : WriteFields) (done : Change) (result : WalkAnswer) : Type 0 where
+  pub writes : WritesPage (view_of old) (view_of new) write.number write.page
+  pub walk_is : after ≡ record walk { phase = at.Changed write.number done }
+  pub answer_is : result ≡ answer.Changed
+
+module _ (basis : Basis) (walk after : WalkFields) (old new : Moment) (number key : ℕ) (fields : BucketFields) (write : WriteFields) (result : WalkAnswer) (reads : ReadsBucket basis walk old number key fields) where
+  -- the plan of a walk whose key had a record is the change of it
+  record_changes : (done : Change) → IsAtRecord walk.phase → (plan : SetsFirst number fields (is_live_of walk.key) (slot_after done walk.key basis.tx) write)
+      → (is_live_of walk.key (slice_index_or fields.slots plan.slot Free) ≡ true → StoodBefore done basis walk.key fields.slots (slice_index_or fields.slots plan.slot Free))
+      → WritesPlan walk after old new write done result → TellsOfChange basis new walk after done result
+  record_changes done has plan was told =
+      let stands = record_at basis walk (view_of old) walk.phase has reads.stands in
+      let makes : Makes basis new walk after done = makes_change basis walk after old new number (directory_depth_of walk.phase) stands.0 fields done (is_live_of walk.key) write reads.bounded stands.1 reads.sees reads.here plan (was plan.was) told.writes told.walk_is in
+      tells_change basis new walk after done result told.answer_is makes
+
+  -- **An update,**
+  pub update_tells : (value : ℕ) → IsAtRecord walk.phase → SetsFirst number fields (is_live_of key) (Live key value) write → WritesPlan walk after old new write (change.Set value) result → TellsOfChange basis new walk after (change.Set value) result
+  update_tells value has plan told =
+      record_changes (change.Set value) has (subst (λ k. SetsFirst number fields (is_live_of k) (Live k value) write) reads.key_is plan) (λ live. live) told
+
+  -- **a removal,**
+  pub remove_tells : (owner : ℕ) → owner ≡ basis.tx → IsAtRecord walk.phase → SetsFirst number fields (is_live_of key) (Ghost key 0 owner) write → WritesPlan walk after old new write change.Remove result → TellsOfChange basis new walk after change.Remove result
+  remove_tells owner own has plan told =
+      let of_walk : SetsFirst number fields (is_live_of walk.key) (Ghost walk.key 0 owner) write = subst (λ k. SetsFirst number fields (is_live_of k) (Ghost k 0 owner) write) reads.key_is plan in
+      record_changes change.Remove has (subst (λ tx. SetsFirst number fields (is_live_of walk.key) (Ghost walk.key 0 tx) write) own of_walk) (λ live. live) told

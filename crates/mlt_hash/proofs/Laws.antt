@@ -1,0 +1,48 @@
+-- What a walk knows by its view alone
+use Rattle.std.proofs.Common.{◌≡◌, ℕ, false, Option, Some, is_some, sym, ap, ◌∙◌}
+use Rattle.std.specs.Ordering.{nat_cmp}
+use Rattle.std.specs.FinMap as map
+use Rattle.mlt_types.specs.declared.mode.Mode.{Mode}
+use Rattle.mlt_page.specs.declared.page.Page.{Page}
+use Rattle.mlt_page.specs.declared.page.Page.TheVariants as page
+use Rattle.mlt_page.specs.Values.{BucketFields}
+use Rattle.mlt_page_locks.specs.LockTables.{Modes, can_read, pages_of}
+use Rattle.mlt_hash_form.specs.File.{IsPath, buckets_of, look_up}
+use Rattle.mlt_hash_form.specs.Form.{value_in}
+use Rattle.mlt_hash_form.specs.Held.{Agrees}
+use Rattle.mlt_hash_form.proofs.InPages.{led_at}
+use Rattle.mlt_held.specs.Moments.{Moment}
+use Rattle.mlt_held.specs.Views.{View, view_of}
+use Rattle.mlt_held.proofs.Views.{own_free, seen_free}
+use Rattle.mlt_hash.specs.Walks.{Basis, IsAtBucket, IsAtStart, WalkFields, dir_of}
+
+-- who holds no page reads none
+reads_none : (m : Moment) (q : ℕ) → pages_of m.locks m.running.tx ≡ map.empty → can_read m.locks m.running.tx q ≡ false
+reads_none m q none = ap (λ (modes : Modes). is_some (map.get modes q)) none ∙ ap is_some (map.get-empty {X = Mode} nat_cmp q)
+
+pub at_start : (m : Moment) → pages_of m.locks m.running.tx ≡ map.empty → IsAtStart (view_of m)
+at_start m none = record {
+  unwritten = λ q. own_free m q (reads_none m q none);
+  unheld = none;
+  unseen = λ q. seen_free m q (reads_none m q none);
+}
+
+-- the path of a walk at its bucket
+pub path_taken : (basis : Basis) (walk : WalkFields) (view : View) (bucket depth : ℕ) (found : Option ℕ) (clean : ℕ → Option Page) (here : IsAtBucket basis walk view bucket depth found) → Agrees view.seen clean
+    → IsPath clean basis.root (basis.bits walk.key) here.header here.dir bucket here.fields
+path_taken basis walk view bucket depth found clean here agree = record {
+  head = agree basis.root (Some (page.Head here.header)) here.head;
+  listed = agree (dir_of basis here.header walk.key) (Some (page.Dir here.dir)) here.listed;
+  at = sym here.bucket_is;
+  found = agree bucket (Some (page.Bucket here.fields)) here.at;
+}
+
+pub found_there : (basis : Basis) (walk : WalkFields) (view : View) (bucket depth : ℕ) (found : Option ℕ) (clean : ℕ → Option Page) → IsAtBucket basis walk view bucket depth found → Agrees view.seen clean
+    → look_up basis.bits clean basis.root walk.key ≡ found
+found_there basis walk view bucket depth found clean here agree =
+    let led = led_at clean basis.root (basis.bits walk.key) here.header here.dir bucket here.fields (path_taken basis walk view bucket depth found clean here agree) in
+    ap (λ n. value_in walk.key (buckets_of clean n).slots) led.0 ∙ ap (λ (b : BucketFields). value_in walk.key b.slots) led.1 ∙ sym here.found_is
+
+-- views that read alike are one
+pub same_view : (before after : View) → after.modes ≡ before.modes → ((q : ℕ) → after.seen q ≡ before.seen q) → ((q : ℕ) → after.own q ≡ before.own q) → before ≡ after
+same_view before after modes seen own = sym (λ i. record { modes = modes i; seen = λ q. seen q i; own = λ q. own q i })

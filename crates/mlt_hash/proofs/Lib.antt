@@ -1,0 +1,11 @@
+pub mod Additions
+pub mod InPlace
+pub mod Laws
+pub mod Owners
+pub mod Paths
+pub mod Puts
+pub mod Readings
+pub mod Resting
+pub mod Slots
+pub mod Splittings
+pub mod Standing

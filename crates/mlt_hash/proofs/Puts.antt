@@ -1,0 +1,200 @@
+-- Additions whose bucket had no room: what a walk at rest knows of its file, and the record that it puts at last
+use Rattle.std.proofs.Common.{ℕ, suc, ◌≡◌, ◌<◌, ◌+◌, Bool, true, false, not, List, [], ◌∷◌, length, Option, Some, None, is_some, refl, sym, ◌∙◌, ap, subst, inl, inr, arith}
+use Rattle.std.specs.Prelude.{slice_index_or, position}
+use Rattle.std.specs.List.{list_all}
+use Rattle.std.specs.Ordering.{nat_cmp}
+use Rattle.std.specs.FinMap as map
+use Rattle.std.specs.FinSet as set
+use Rattle.std.proofs.lemmas.Bool.{cases_lt, false≢true}
+use Rattle.mlt_types.specs.declared.mode.Mode.TheVariants.{Exclusive}
+use Rattle.mlt_page.specs.Slots.{is_ghost_of, is_kept, is_live_of}
+use Rattle.mlt_page.specs.declared.slot.Slot.{Slot}
+use Rattle.mlt_page.specs.declared.slot.Slot.TheVariants.{Free, Live}
+use Rattle.mlt_page.specs.Values.{BucketFields, HeadFields}
+use Rattle.mlt_page.specs.declared.page.Page.{Page}
+use Rattle.mlt_hash_form.specs.Changes.{IsHome}
+use Rattle.mlt_hash_form.specs.File.{HasForm, bucket_of, buckets_of, header_of, lead_of}
+use Rattle.mlt_hash_form.specs.Form.{value_in}
+use Rattle.mlt_hash_form.specs.Held.{Agrees, over}
+use Rattle.mlt_hash_form.specs.Room.{agrees, is_crowded}
+use Rattle.mlt_hash_form.proofs.Crowd.{crowded_at_own_depth, crowded_in_fewer}
+use Rattle.mlt_hash_form.proofs.HeldPages.{keeps_more}
+use Rattle.mlt_held.specs.Moments.{HasCleanFile, MayStep, Moment}
+use Rattle.mlt_held.specs.PageSteps.{MakesLockedPage, TouchesOnePage, WritesHeldPage}
+use Rattle.mlt_held.specs.Views.{View, WritesPage, view_of}
+use Rattle.mlt_page_locks.specs.LockTables.{can_write}
+use Rattle.mlt_held.proofs.Views.{may_write, write_writes, writes_over_clean}
+use Rattle.mlt_record.specs.Plans.{IsNowhere, SetsFirst, WriteFields, has_room}
+use Rattle.mlt_split.specs.Rests.{Aim, IsAtRest, seed_of}
+use Rattle.mlt_split.specs.Splits.{IsUnderWay, MayBegin, SplitFields, directory_steps, steps_left}
+use Rattle.mlt_split.proofs.Beginning.{rest_bucket, rest_is_shallow, rest_is_small}
+use Rattle.mlt_split.proofs.Closing.{HasClean}
+use Rattle.mlt_hash.specs.Walks.{Basis, IsAdding, IsChanged, IsSplitting, IsStanding, Stands, WalkFields, aim_of}
+use Rattle.mlt_hash.specs.Changes.{Makes, page_of}
+use Rattle.mlt_hash.specs.Splitting.{BeginsSplit, TellsOfAdding, TellsOfPut}
+use Rattle.mlt_hash.specs.declared.answer.WalkAnswer.{WalkAnswer}
+use Rattle.mlt_hash.specs.declared.answer.WalkAnswer.TheVariants as answer
+use Rattle.mlt_hash.specs.declared.pass.Pass.{Pass}
+use Rattle.mlt_hash.specs.declared.pass.Pass.TheVariants as pass
+use Rattle.mlt_hash.specs.declared.pass.Phase.TheVariants as at
+use Rattle.mlt_hash.specs.declared.pass.Change.TheVariants as change
+use Rattle.mlt_hash.proofs.Additions.{nowhere_found}
+use Rattle.mlt_hash.proofs.InPlace.{changed_page, changes_by}
+use Rattle.mlt_hash.proofs.Splittings.{stays_exclusive_in_step}
+
+-- what no slot has stands nowhere
+pub nowhere : (has : Slot → Bool) (slots : List Slot) → ((i : ℕ) → has (slice_index_or slots i Free) ≡ false) → position has slots ≡ None
+nowhere has slots none = nowhere_found has slots (position has slots) refl (λ i within. none i)
+
+-- over all clean pages that agree, the bucket of a walk at rest is where its key leads
+pub rest_home : (aim : Aim) (view : View) (n : ℕ) (header : HeadFields) (bucket : BucketFields) → IsAtRest aim view n header bucket → (clean : ℕ → Option Page) → Agrees view.seen clean → HasForm aim.bits clean aim.root
+    → IsHome aim.bits (over clean view.own) aim.root aim.key n bucket
+rest_home aim view n header bucket rest clean agree form = record {
+  bounded = rest.bounded;
+  form = (rest.keeps clean agree form).form;
+  leads = rest.leads clean agree form;
+  found = rest_bucket aim view n header bucket rest clean agree;
+}
+
+-- **The record that is put into a bucket at rest changes the file at its key alone.**
+pub put_is_changed : (basis : Basis) (walk : WalkFields) (old new : View) (room_depth n : ℕ) (header : HeadFields) (fields : BucketFields) (value i : ℕ) → IsAtRest (aim_of basis walk room_depth) old n header fields → i < 8
+    → is_kept basis.opens (slice_index_or fields.slots i Free) ≡ false → WritesPage old new n (changed_page fields i (Live walk.key value)) → IsChanged basis (record walk { phase = at.Changed n (change.Put value) }) new n (change.Put value)
+put_is_changed basis walk old new room_depth n header fields value i rest within room writes =
+    let aim = aim_of basis walk room_depth in
+    let absent = nowhere (is_live_of walk.key) fields.slots rest.absent in
+    let none : value_in walk.key fields.slots ≡ None = rw absent refl in
+    let no_ghost = nowhere (is_ghost_of walk.key basis.tx) fields.slots rest.no_ghost in
+    let before : (clean : ℕ → Option Page) → Agrees new.seen clean → Agrees old.seen clean = λ clean agree q first is. agree q first (writes.seen q ∙ is) in
+    record {
+      rest = old.own;
+      slot = i;
+      within = within;
+      held = ap is_some (writes.seen n) ∙ rest.bucket_held;
+      fields = fields;
+      home = λ clean agree form. rest_home aim old n header fields rest clean (before clean agree) form;
+      was = (none, no_ghost, room);
+      changes = record {
+        keeps = keeps_more basis.bits basis.opens basis.root old.seen new.seen old.own (λ q first is. writes.seen q ∙ is) rest.keeps;
+        changes = λ clean agree form. changes_by basis (over clean old.own) (over clean new.own) walk.key n i fields (change.Put value) (rest_home aim old n header fields rest clean (before clean agree) form) within (none, no_ghost, room) (writes_over_clean old new n (changed_page fields i (Live walk.key value)) clean writes);
+      };
+    }
+
+-- where a walk that adds stands
+pub adding_at : (basis : Basis) (walk : WalkFields) (old : Moment) (value n room_depth : ℕ) (unsplit : Bool) → walk.phase ≡ at.Adding value n room_depth unsplit → IsStanding basis walk (view_of old) → IsAdding basis walk (view_of old) n room_depth unsplit
+adding_at basis walk old value n room_depth unsplit phase stands = subst (λ p. Stands p basis walk (view_of old)) phase stands
+
+-- a bucket at rest without room is less deep than is needed
+kept_everywhere : (opens : set.FinSet nat_cmp) (slots : List Slot) → ((i : ℕ) → i < length slots → not (is_kept opens (slice_index_or slots i Free)) ≡ false) → list_all (is_kept opens) slots ≡ true
+kept_everywhere opens [] full = refl
+kept_everywhere opens (s ∷ slots) full =
+    let here : is_kept opens s ≡ true = grind (arith, full 0 (omega arith)) in
+    rw here (kept_everywhere opens slots (λ i lt. full (suc i) (omega (arith, lt))))
+
+module _ (aim : Aim) (view : View) (n : ℕ) (header : HeadFields) (bucket : BucketFields) (rest : IsAtRest aim view n header bucket) (clean : HasClean aim view) where
+  crowded_here : list_all (is_kept aim.opens) bucket.slots ≡ true → is_crowded aim.bits aim.opens bucket.depth (seed_of aim) bucket.slots ≡ true
+  crowded_here kept =
+      let pages : ℕ → Option Page = over clean.clean view.own in
+      let form = (rest.keeps clean.clean clean.agrees clean.form).form in
+      let home = rest_home aim view n header bucket rest clean.clean clean.agrees clean.form in
+      let same : buckets_of pages (lead_of pages aim.root (seed_of aim)) ≡ bucket = ap (buckets_of pages) home.leads ∙ ap bucket_of home.found in
+      let law = crowded_at_own_depth aim.bits aim.opens (header_of (pages aim.root)).depth (lead_of pages aim.root) (buckets_of pages) (seed_of aim) (rest.bounded aim.key) rest.bounded form.form in
+      subst (λ (b : BucketFields). list_all (agrees aim.bits aim.opens b.depth (seed_of aim)) b.slots ≡ true) same (law.1 (subst (λ (b : BucketFields). list_all (is_kept aim.opens) b.slots ≡ true) (sym same) kept))
+
+  pub full_is_shallow : IsNowhere (has_room aim.opens) bucket.slots → bucket.depth < aim.room_depth
+  full_is_shallow nowhere_free =
+      elim (cases_lt bucket.depth aim.room_depth) [
+        | inl lt ↦ lt
+        | inr ge ↦
+            let shallow = rest_is_shallow aim view n header bucket rest clean in
+            let small = rest_is_small aim view n header bucket rest clean in
+            absurd (false≢true (sym rest.room ∙ crowded_in_fewer aim.bits aim.opens aim.room_depth bucket.depth (seed_of aim) bucket.slots ge (omega (arith, shallow, small)) (crowded_here (kept_everywhere aim.opens bucket.slots nowhere_free))))
+      ]
+
+-- **A walk that adds may begin to split.**
+pub may_begin : (basis : Basis) (walk : WalkFields) (old : Moment) (n room_depth : ℕ) (unsplit : Bool) → MayStep old → HasCleanFile basis.bits basis.root old → (adds : IsAdding basis walk (view_of old) n room_depth unsplit)
+    → adds.fields.depth < room_depth → MayBegin (aim_of basis walk room_depth) (view_of old) n
+may_begin basis walk old n room_depth unsplit may file adds shallow = record {
+  header = adds.header;
+  bucket = adds.fields;
+  rest = adds.rest;
+  shallow = shallow;
+  doubles = λ deep. exclusive_header walk.pass refl deep;
+}
+  where
+    exclusive_header : (p : Pass) → walk.pass ≡ p → adds.fields.depth ≡ adds.header.depth → map.get (view_of old).modes basis.root ≡ Some Exclusive
+    exclusive_header pass.First is deep = absurd (adds.later is)
+    exclusive_header pass.Narrow is deep = (let fits = adds.narrow is in absurd (omega (arith, fits, shallow, deep)))
+    exclusive_header pass.Wide is deep = adds.wide is
+
+pub put_touches : (old new : Moment) (before after : WalkFields) (write : WriteFields) (value : ℕ) (told : WalkAnswer) → TellsOfPut old new before after write value told → TouchesOnePage old new
+put_touches old new before after write value answer.Changed tells = (write.number, inl (old, inl refl, inr (write.page, tells.0)))
+put_touches old new before after write value (answer.Refused reason) tells = (write.number, inl (old, inl refl, inl tells.1))
+put_touches old new before after write value answer.Going tells = absurd tells
+put_touches old new before after write value (answer.Waiting page by) tells = absurd tells
+put_touches old new before after write value (answer.Found found) tells = absurd tells
+put_touches old new before after write value answer.NeedSplit tells = absurd tells
+put_touches old new before after write value answer.Widen tells = absurd tells
+
+module _ (basis : Basis) (walk after : WalkFields) (old new : Moment) (value n room_depth : ℕ) (phase : walk.phase ≡ at.Adding value n room_depth false) (adds : IsAdding basis walk (view_of old) n room_depth false) (write : WriteFields) (plan : SetsFirst n adds.fields (has_room basis.opens) (Live walk.key value) write) where
+  put_makes : WritesHeldPage old new write.number write.page → after ≡ record walk { phase = at.Changed write.number (change.Put value) } → Makes basis new walk after (change.Put value)
+  put_makes writes after_is =
+      let on : write.number ≡ n = ap (λ (w : WriteFields). w.number) plan.written in
+      let what : write.page ≡ changed_page adds.fields plan.slot (Live walk.key value) = ap (λ (w : WriteFields). w.page) plan.written in
+      let here : WritesPage (view_of old) (view_of new) n (changed_page adds.fields plan.slot (Live walk.key value)) =
+      subst (λ q. WritesPage (view_of old) (view_of new) q (changed_page adds.fields plan.slot (Live walk.key value))) on (subst (λ p. WritesPage (view_of old) (view_of new) write.number p) what (write_writes old new write.number write.page writes)) in
+      let free : is_kept basis.opens (slice_index_or adds.fields.slots plan.slot Free) ≡ false = grind (arith, plan.was) in
+      let changed = put_is_changed basis walk (view_of old) (view_of new) room_depth n adds.header adds.fields value plan.slot adds.rest plan.within free here in
+      let now : after ≡ record walk { phase = at.Changed n (change.Put value) } = after_is ∙ ap (λ q. record walk { phase = at.Changed q (change.Put value) }) on in
+      record {
+        same = record { key = ap (λ (w : WalkFields). w.key) now; mode = ap (λ (w : WalkFields). w.mode) now; pass = ap (λ (w : WalkFields). w.pass) now };
+        phase = ap (λ (w : WalkFields). w.phase) now ∙ ap (λ p. at.Changed (page_of p) (change.Put value)) (sym phase);
+        stands = subst (λ (w : WalkFields). Stands w.phase basis w (view_of new)) (sym now) changed;
+      }
+
+  -- **What the record that is put tells.**
+  pub put_tells : (told : WalkAnswer) → TellsOfPut old new walk after write value told → TellsOfAdding basis old new walk after value n room_depth told
+  put_tells answer.Changed tells = (phase, put_makes tells.0 tells.1)
+  put_tells (answer.Refused reason) tells = subst (λ r. TellsOfAdding basis old new walk after value n room_depth (answer.Refused r)) (sym tells.0) refl
+  put_tells answer.Going tells = absurd tells
+  put_tells (answer.Waiting page by) tells = absurd tells
+  put_tells (answer.Found found) tells = absurd tells
+  put_tells answer.NeedSplit tells = absurd tells
+  put_tells answer.Widen tells = absurd tells
+
+-- **A split that has begun.**
+pub begins_split : (basis : Basis) (walk after : WalkFields) (old new : Moment) (value n room_depth : ℕ) (unsplit : Bool) (split : SplitFields) → MayStep old → TouchesOnePage old new → (adds : IsAdding basis walk (view_of old) n room_depth unsplit)
+    → IsUnderWay (aim_of basis walk room_depth) (view_of new) split → steps_left split ≡ 1 + directory_steps split.depth split.directory_depth → split.directory_depth ≡ adds.header.depth
+    → after ≡ record walk { phase = at.Splitting value room_depth; split = Some split } → BeginsSplit basis new walk after value room_depth
+begins_split basis walk after old new value n room_depth unsplit split may touches adds under_way steps depth after_is =
+    let here : IsSplitting basis (record walk { phase = at.Splitting value room_depth; split = Some split }) (view_of new) room_depth = record {
+      split = split;
+      split_is = refl;
+      under_way = under_way;
+      most = adds.most;
+      later = adds.later;
+      narrow = λ narrow. let fits = adds.narrow narrow in omega (arith, fits, depth);
+      wide = λ wide. stays_exclusive_in_step old new basis.root may touches (adds.wide wide);
+    } in
+    record {
+      on = record {
+        same = record { key = ap (λ (w : WalkFields). w.key) after_is; mode = ap (λ (w : WalkFields). w.mode) after_is; pass = ap (λ (w : WalkFields). w.pass) after_is };
+        stands = subst (λ (w : WalkFields). Stands w.phase basis w (view_of new)) (sym after_is) here;
+      };
+      phase = ap (λ (w : WalkFields). w.phase) after_is;
+      split = split;
+      split_is = ap (λ (w : WalkFields). w.split) after_is;
+      steps = steps;
+    }
+
+-- a bucket at rest may be written
+pub may_put : (basis : Basis) (walk : WalkFields) (old : Moment) (n room_depth : ℕ) (unsplit : Bool) (adds : IsAdding basis walk (view_of old) n room_depth unsplit) (has : Slot → Bool) (s : Slot) (write : WriteFields) → SetsFirst n adds.fields has s write → can_write old.locks old.running.tx write.number ≡ true
+may_put basis walk old n room_depth unsplit adds has s write plan =
+    let on : write.number ≡ n = ap (λ (w : WriteFields). w.number) plan.written in
+    ap (λ q. can_write old.locks old.running.tx q) on ∙ may_write old n adds.rest.exclusive
+
+-- the depths of a split that has begun are those of its bucket and its directory
+pub nothing_touched : (old new : Moment) → new ≡ old → TouchesOnePage old new
+nothing_touched old new same = (0, inl (old, inl refl, inl same))
+
+pub made_touches : (old new : Moment) (q : ℕ) (p : Page) → MakesLockedPage old new q p → TouchesOnePage old new
+made_touches old new q p makes = (q, inr (p, makes))

@@ -1,0 +1,57 @@
+-- What a walk that has written nothing reads of the clean pages, and how many it holds
+use Rattle.std.proofs.Common.{◌≡◌, ℕ, ◌<◌, ◌≤◌, ◌+◌, true, Option, Some, is_some, refl, sym, ap, ◌∙◌, inl, arith}
+use Rattle.std.specs.Cmp.{nat_cmp_total}
+use Rattle.std.specs.Ordering.{nat_cmp}
+use Rattle.std.specs.FinMap as map
+use Rattle.mlt_types.specs.declared.mode.Mode.{Mode}
+use Rattle.mlt_page.specs.declared.page.Page.{Page}
+use Rattle.mlt_store.specs.Stores.{page_at}
+use Rattle.mlt_page_locks.specs.LockTables.{Modes, page_count}
+use Rattle.mlt_page_locks.specs.Requests.{stronger, with_page}
+use Rattle.mlt_hash_form.specs.Held.{own_or}
+use Rattle.mlt_held.specs.Moments.{IsCleanFor, MayStep, Moment}
+use Rattle.mlt_held.specs.PageSteps.{LocksAtMost, TouchesOnePage}
+use Rattle.mlt_held.specs.Views.{ReadsPage, View, view_of}
+use Rattle.mlt_held.proofs.Views.{agrees, page_count_of_view}
+use Rattle.mlt_hash.specs.Passes.{directory_held, directory_mode, header_held, header_mode}
+use Rattle.mlt_hash.specs.declared.pass.Pass.{Pass}
+use Rattle.mlt_hash.specs.Walks.{IsUnwritten}
+
+-- what is read is what the clean page has, where nothing is written,
+pub sees_page : (old new : View) (q : ℕ) (mode : Mode) (page : Option Page) → IsUnwritten old → ReadsPage old new q mode page → new.seen q ≡ Some page
+sees_page old new q mode page none reads = reads.here ∙ ap Some (sym (ap (λ own. own_or own reads.first) (none q)) ∙ reads.reads)
+
+-- and nothing is written still
+pub unwritten_still : (old new : View) (q : ℕ) (mode : Mode) (page : Option Page) → IsUnwritten old → ReadsPage old new q mode page → IsUnwritten new
+unwritten_still old new q mode page none reads p = reads.own p ∙ none p
+
+-- so the clean page is what was read
+pub reads_clean : (old new : Moment) (q : ℕ) (mode : Mode) (page : Option Page) (clean : ℕ → Option Page) → MayStep new → IsCleanFor new clean → IsUnwritten (view_of old) → ReadsPage (view_of old) (view_of new) q mode page → clean q ≡ page
+reads_clean old new q mode page clean may is none reads = agrees new clean may is q page (sees_page (view_of old) (view_of new) q mode page none reads)
+
+-- one page more, at most, is held with it
+pub one_page_more : (n : ℕ) (old new : Modes) (q : ℕ) (mode : Mode) → map.len old ≤ n → new ≡ with_page old q mode → map.len new ≤ n + 1
+one_page_more n old new q mode few is = grind (arith, is, few, map.len-insert nat_cmp_total old q (stronger (map.get old q) mode))
+
+-- a walk at its start holds none,
+pub none_held : (modes : Modes) → modes ≡ map.empty → map.len modes ≤ 0
+none_held modes is = omega (arith, ap map.len is, map.len-empty nat_cmp Mode)
+
+-- then one, then two
+pub one_held : (modes : Modes) (pass : Pass) (root : ℕ) → modes ≡ header_held pass root → map.len modes ≤ 1
+one_held modes pass root is = one_page_more 0 map.empty modes root (header_mode pass) (none_held map.empty refl) is
+
+pub two_held : (modes : Modes) (pass : Pass) (root dir : ℕ) → modes ≡ directory_held pass root dir → map.len modes ≤ 2
+two_held modes pass root dir is = one_page_more 1 (header_held pass root) modes dir (directory_mode pass) (one_held (header_held pass root) pass root refl) is
+
+-- so it may lock one more
+pub few_held : (m : Moment) (n : ℕ) → map.len (view_of m).modes ≤ n → n < 300 → page_count m.locks m.running.tx < 300
+few_held m n few small = omega (arith, page_count_of_view m, few, small)
+
+-- a clean page is in the store
+pub is_there : (m : Moment) (clean : ℕ → Option Page) (q p : ℕ) → IsCleanFor m clean → q ≡ p → is_some (clean p) ≡ true → is_some (page_at m.store.pages q) ≡ true
+is_there m clean q p is same some = is.there q (ap (λ p. is_some (clean p)) same ∙ some)
+
+-- a step that locks one page at most touches no other
+pub touches_it : (old new : Moment) (q : ℕ) → LocksAtMost old new q → TouchesOnePage old new
+touches_it old new q step = (q, inl (new, step, inl refl))

@@ -1,0 +1,124 @@
+-- Steps of a split, as steps of the walk whose bucket is split
+use Rattle.std.proofs.Common.{ℕ, ◌≡◌, ◌≤◌, true, false, Option, Some, refl, sym, ◌∙◌, ap, subst, inl, inr, arith}
+use Rattle.std.specs.FinMap as map
+use Rattle.std.proofs.lemmas.Bool.{cases_eq, false≢true}
+use Rattle.mlt_types.specs.declared.mode.Mode.{Mode}
+use Rattle.mlt_types.specs.declared.mode.Mode.TheVariants.{Exclusive}
+use Rattle.mlt_page_locks.specs.LockTables.{LockTable, can_write}
+use Rattle.mlt_page_locks.specs.LockLaws.{can_write-granted}
+use Rattle.mlt_page_locks.specs.Requests.{granted}
+use Rattle.mlt_held.specs.Moments.{MayStep, Moment}
+use Rattle.mlt_held.specs.PageSteps.{LocksAtMost, TouchesOnePage, WritesAtMost}
+use Rattle.mlt_held.specs.Views.{view_of}
+use Rattle.mlt_held.proofs.Others.{step_keeps_tx}
+use Rattle.mlt_held.proofs.Views.{holds_exclusively, may_write}
+use Rattle.mlt_split.specs.Splits.{SplitFields, steps_left}
+use Rattle.mlt_split.specs.Tells.{GoesOn, Rests}
+use Rattle.mlt_hash.specs.Walks.{Basis, IsAdding, IsSplitting, IsStanding, Stands, WalkFields, aim_of}
+use Rattle.mlt_hash.specs.Splitting.{SplitCloses, SplitGoesOn}
+use Rattle.mlt_hash.specs.declared.pass.Pass.TheVariants as pass
+use Rattle.mlt_hash.specs.declared.pass.Phase.TheVariants as at
+
+-- a lock more takes no right away
+granted_keeps : (locks new : LockTable) (tx q root : ℕ) (mode : Mode) → new ≡ granted locks tx q mode → can_write locks tx root ≡ true → can_write new tx root ≡ true
+granted_keeps locks new tx q root mode is held = ap (λ (t : LockTable). can_write t tx root) is ∙ grind (arith, can_write-granted locks tx q mode tx root, held)
+
+locks_keep : (old mid : Moment) (q root : ℕ) → LocksAtMost old mid q → can_write old.locks old.running.tx root ≡ true → can_write mid.locks old.running.tx root ≡ true
+locks_keep old mid q root (inl same) held = ap (λ (m : Moment). can_write m.locks old.running.tx root) same ∙ held
+locks_keep old mid q root (inr lock) held = granted_keeps old.locks mid.locks old.running.tx q root lock.0 lock.1.locks held
+
+writes_keep : (mid new : Moment) (q tx root : ℕ) → WritesAtMost mid new q → can_write mid.locks tx root ≡ true → can_write new.locks tx root ≡ true
+writes_keep mid new q tx root (inl same) held = ap (λ (m : Moment). can_write m.locks tx root) same ∙ held
+writes_keep mid new q tx root (inr write) held = ap (λ (t : LockTable). can_write t tx root) write.1.locks ∙ held
+
+-- what the transaction may write before a step it may write afterwards
+step_keeps_right : (old new : Moment) (root : ℕ) → TouchesOnePage old new → can_write old.locks old.running.tx root ≡ true → can_write new.locks old.running.tx root ≡ true
+step_keeps_right old new root (q, inl step) held = writes_keep step.0 new q old.running.tx root step.2 (locks_keep old step.0 q root step.1 held)
+step_keeps_right old new root (q, inr make) held = granted_keeps old.locks new.locks old.running.tx q root Exclusive make.1.locks held
+
+-- **A page that is held exclusively stays so through a step.**
+pub stays_exclusive_in_step : (old new : Moment) (root : ℕ) → MayStep old → TouchesOnePage old new → map.get (view_of old).modes root ≡ Some Exclusive → map.get (view_of new).modes root ≡ Some Exclusive
+stays_exclusive_in_step old new root may touches held =
+    let right : can_write new.locks old.running.tx root ≡ true = step_keeps_right old new root touches (may_write old root held) in
+    holds_exclusively new root (ap (λ tx. can_write new.locks tx root) (step_keeps_tx old new may touches) ∙ right)
+
+-- where a walk that splits stands
+splitting_at : (basis : Basis) (walk : WalkFields) (old : Moment) (value room_depth : ℕ) → walk.phase ≡ at.Splitting value room_depth → IsStanding basis walk (view_of old) → IsSplitting basis walk (view_of old) room_depth
+splitting_at basis walk old value room_depth phase stands = subst (λ p. Stands p basis walk (view_of old)) phase stands
+
+some_is_one : {X : Type 0} (x y : X) (o : Option X) → o ≡ Some x → o ≡ Some y → x ≡ y
+some_is_one x y o is_x is_y = let e : Some x ≡ Some y = sym is_x ∙ is_y in cc
+
+module _ (basis : Basis) (walk after : WalkFields) (old new : Moment) (value room_depth : ℕ) (was : SplitFields) (phase : walk.phase ≡ at.Splitting value room_depth) (stands : IsStanding basis walk (view_of old)) (was_is : walk.split ≡ Some was) (may : MayStep old) (touches : TouchesOnePage old new) where
+  splits : IsSplitting basis walk (view_of old) room_depth
+  splits = splitting_at basis walk old value room_depth phase stands
+
+  same_split : splits.split ≡ was
+  same_split = some_is_one splits.split was walk.split splits.split_is was_is
+
+  narrow_before : walk.pass ≡ pass.Narrow → room_depth ≤ was.directory_depth
+  narrow_before narrow = subst (λ (s : SplitFields). room_depth ≤ s.directory_depth) same_split (splits.narrow narrow)
+
+  wide_now : walk.pass ≡ pass.Wide → map.get (view_of new).modes basis.root ≡ Some Exclusive
+  wide_now wide = stays_exclusive_in_step old new basis.root may touches (splits.wide wide)
+
+  -- **The split goes on.**
+  pub split_goes_on : (is : SplitFields) → after ≡ record walk { split = Some is } → GoesOn (aim_of basis walk room_depth) new was is → SplitGoesOn basis new walk after value room_depth
+  split_goes_on is after_is goes =
+      let here : IsSplitting basis (record walk { split = Some is }) (view_of new) room_depth = record {
+        split = is;
+        split_is = refl;
+        under_way = goes.under_way;
+        most = splits.most;
+        later = splits.later;
+        narrow = λ narrow. let before = narrow_before narrow in let same = goes.directory_depth in omega (arith, before, same);
+        wide = wide_now;
+      } in
+      record {
+        on = record {
+          same = record { key = ap (λ (w : WalkFields). w.key) after_is; mode = ap (λ (w : WalkFields). w.mode) after_is; pass = ap (λ (w : WalkFields). w.pass) after_is };
+          stands = subst (λ (w : WalkFields). Stands w.phase basis w (view_of new)) (sym after_is) (subst (λ p. Stands p basis (record walk { split = Some is }) (view_of new)) (sym phase) here);
+        };
+        phase = ap (λ (w : WalkFields). w.phase) after_is ∙ phase;
+        was = was;
+        is = is;
+        was_is = was_is;
+        is_is = ap (λ (w : WalkFields). w.split) after_is;
+        fewer = goes.fewer;
+        depth = goes.depth;
+        directory_depth = goes.directory_depth;
+      }
+
+  -- the directory is as deep as it was, or one deeper
+  deep_enough : (n : ℕ) (rests : Rests (aim_of basis walk room_depth) new was n) → was.directory_depth ≤ rests.header.depth
+  deep_enough n rests =
+      elim (cases_eq was.depth was.directory_depth) [
+        | inl deep ↦ let is = rests.doubled deep in omega (arith, is)
+        | inr shallow ↦ let is = rests.in_place shallow in omega (arith, is)
+      ]
+
+  -- **The split closes.**
+  pub split_closes_walk : (n : ℕ) (split : Option SplitFields) → after ≡ record walk { phase = at.Adding value n room_depth false; split = split } → Rests (aim_of basis walk room_depth) new was n → steps_left was ≡ 1 → SplitCloses basis new walk after value room_depth
+  split_closes_walk n split after_is rests last =
+      let here : IsAdding basis (record walk { phase = at.Adding value n room_depth false; split = split }) (view_of new) n room_depth false = record {
+        header = rests.header;
+        fields = rests.bucket;
+        rest = rests.rest;
+        most = splits.most;
+        unsplit_is = λ first. absurd (false≢true first);
+        later = splits.later;
+        narrow = λ narrow. let before = narrow_before narrow in let deep = deep_enough n rests in omega (arith, before, deep);
+        wide = wide_now;
+      } in
+      record {
+        on = record {
+          same = record { key = ap (λ (w : WalkFields). w.key) after_is; mode = ap (λ (w : WalkFields). w.mode) after_is; pass = ap (λ (w : WalkFields). w.pass) after_is };
+          stands = subst (λ (w : WalkFields). Stands w.phase basis w (view_of new)) (sym after_is) here;
+        };
+        bucket = n;
+        phase = ap (λ (w : WalkFields). w.phase) after_is;
+        was = was;
+        was_is = was_is;
+        last = last;
+        rests = rests;
+      }

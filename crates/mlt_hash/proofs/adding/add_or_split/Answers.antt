@@ -1,0 +1,97 @@
+use Rattle.std.proofs.Common.{◌≡◌, ◌<◌, false, refl, ap, sym, subst, ◌∙◌, inl, inr}
+use Rattle.mlt_page.specs.Slots.{is_live_of}
+use Rattle.mlt_page.specs.declared.slot.Slot.TheVariants.{Live}
+use Rattle.mlt_held.specs.Moments.{Moment, moment}
+use Rattle.mlt_held.specs.Views.{view_of}
+use Rattle.mlt_record.specs.Plans.{has_room}
+use Rattle.mlt_split.specs.Splits.{IsUnderWay, MayBegin}
+use Rattle.mlt_split.specs.Rests.{Aim, IsAtRest}
+use Rattle.mlt_split.proofs.HeldPages.{clean_now}
+use Rattle.mlt_hash.specs.Walks.{Basis, WalkFields, aim_of}
+use Rattle.mlt_hash.specs.Splitting.{TellsOfAdding}
+use Rattle.mlt_hash.specs.declared.pass.Phase.TheVariants as at
+use Rattle.mlt_hash.proofs.Puts.{adding_at, begins_split, full_is_shallow, made_touches, may_begin, may_put, nothing_touched, nowhere, put_tells, put_touches}
+use Rattle.mlt_hash.proofs.adding.add_or_split.Goals as goal
+
+pub plan_to_put-requires-clause-found : goal.plan_to_put-requires-clause-found
+plan_to_put-requires-clause-found g c =
+    let basis : Basis = record { bits = g.P.Pseudo.bits_of c.args.root.now.pseudo; opens = c.args.opens.now; root = c.args.root.now.page; max_depth = c.args.root.now.max_depth; tx = c.args.subtx.now.tx } in
+    let walk : WalkFields = c.args.walk.now in
+    let old : Moment = moment c.args.subtx.now c.args.locks.now c.args.store.now in
+    let adds = adding_at basis walk old c.args.value c.args.number c.args.room_depth c.args.unsplit c.requires.1.1.0 c.requires.1.1.1.1.1.1 in
+    (adds.fields, adds.rest.found, nowhere (is_live_of walk.key) adds.fields.slots adds.rest.absent)
+
+pub put-requires-clause-held : goal.put-requires-clause-held
+put-requires-clause-held g c =
+    let basis : Basis = record { bits = g.P.Pseudo.bits_of c.args.root.now.pseudo; opens = c.args.opens.now; root = c.args.root.now.page; max_depth = c.args.root.now.max_depth; tx = c.args.subtx.now.tx } in
+    let walk : WalkFields = c.args.walk.now in
+    let old : Moment = moment c.args.subtx.now c.args.locks.now c.args.store.now in
+    let adds = adding_at basis walk old c.args.value c.args.number c.args.room_depth c.args.unsplit c.requires.1.1.0 c.requires.1.1.1.1.1.1 in
+    let planned = c.in-Some.ensures adds.fields adds.rest.found in
+    may_put basis walk old c.args.number c.args.room_depth c.args.unsplit adds (has_room c.args.opens.now) (Live walk.key c.args.value) c.in-Some.write planned.1
+
+pub returns-in-Some-clause-touches : goal.returns-in-Some-clause-touches
+returns-in-Some-clause-touches g c =
+    let old : Moment = moment c.args.subtx.now c.args.locks.now c.args.store.now in
+    put_touches old (moment c.put.new.subtx c.args.locks.now c.put.new.store) c.args.walk.now c.put.new.walk c.in-Some.write c.args.value c.put.result c.put.ensures.tells
+
+pub returns-in-Some-clause-tells : goal.returns-in-Some-clause-tells
+returns-in-Some-clause-tells g c =
+    let basis : Basis = record { bits = g.P.Pseudo.bits_of c.args.root.now.pseudo; opens = c.args.opens.now; root = c.args.root.now.page; max_depth = c.args.root.now.max_depth; tx = c.args.subtx.now.tx } in
+    let walk : WalkFields = c.args.walk.now in
+    let old : Moment = moment c.args.subtx.now c.args.locks.now c.args.store.now in
+    let adds = adding_at basis walk old c.args.value c.args.number c.args.room_depth c.args.unsplit c.requires.1.1.0 c.requires.1.1.1.1.1.1 in
+    let planned = c.in-Some.ensures adds.fields adds.rest.found in
+    let phase = c.requires.1.1.0 ∙ ap (at.Adding c.args.value c.args.number c.args.room_depth) planned.0 in
+    let split = adding_at basis walk old c.args.value c.args.number c.args.room_depth false phase c.requires.1.1.1.1.1.1 in
+    let again = c.in-Some.ensures split.fields split.rest.found in
+    put_tells basis walk c.put.new.walk old (moment c.put.new.subtx c.args.locks.now c.put.new.store) c.args.value c.args.number c.args.room_depth phase split c.in-Some.write again.1 c.put.result c.put.ensures.tells
+
+pub begin-requires : goal.begin-requires
+begin-requires g c κs within =
+    let basis : Basis = record { bits = g.P.Pseudo.bits_of c.args.root.now.pseudo; opens = c.args.opens.now; root = c.args.root.now.page; max_depth = c.args.root.now.max_depth; tx = c.args.subtx.now.tx } in
+    let walk : WalkFields = c.args.walk.now in
+    let old : Moment = moment c.args.subtx.now c.args.locks.now c.args.store.now in
+    let adds = adding_at basis walk old c.args.value c.args.number c.args.room_depth c.args.unsplit c.requires.1.1.0 c.requires.1.1.1.1.1.1 in
+    let aim : Aim = aim_of basis walk c.args.room_depth in
+    let clean = clean_now aim old c.requires.1.1.1.1.0 c.requires.1.1.1.1.1.0 in
+    let shallow : adds.fields.depth < c.args.room_depth = elim (c.in_default.ensures adds.fields adds.rest.found) [
+      | inl unsplit ↦ adds.unsplit_is unsplit
+      | inr full ↦ full_is_shallow aim (view_of old) c.args.number adds.header adds.fields adds.rest clean full
+    ] in
+    let begins : MayBegin aim (view_of old) c.args.number = may_begin basis walk old c.args.number c.args.room_depth c.args.unsplit c.requires.1.1.1.1.0 c.requires.1.1.1.1.1.0 adds shallow in
+    let key : c.walk.inside.key ≡ walk.key = ap (λ (w : WalkFields). w.key) c.walk.view_is in
+    let here : MayBegin (record aim { key = c.walk.inside.key; room_depth = g.needed }) (view_of old) c.args.number = rw (key, c.requires.1.0) begins in
+    (within, (c.requires.1.1.1.1.0, (c.requires.1.1.1.1.1.0, here)))
+
+pub returns-in-Ok-clause-touches : goal.returns-in-Ok-clause-touches
+returns-in-Ok-clause-touches g c =
+    let old : Moment = moment c.args.subtx.now c.args.locks.now c.args.store.now in
+    made_touches old (moment c.begin.new.subtx c.begin.new.locks c.begin.new.store) c.in-Ok.split.new_page c.in-Ok.ensures.makes.0 c.in-Ok.ensures.makes.1
+
+pub returns-in-Ok-clause-tells : goal.returns-in-Ok-clause-tells
+returns-in-Ok-clause-tells g c =
+    let basis : Basis = record { bits = g.P.Pseudo.bits_of c.args.root.now.pseudo; opens = c.args.opens.now; root = c.args.root.now.page; max_depth = c.args.root.now.max_depth; tx = c.args.subtx.now.tx } in
+    let walk : WalkFields = c.args.walk.now in
+    let old : Moment = moment c.args.subtx.now c.args.locks.now c.args.store.now in
+    let adds = adding_at basis walk old c.args.value c.args.number c.args.room_depth c.args.unsplit c.requires.1.1.0 c.requires.1.1.1.1.1.1 in
+    let new : Moment = moment c.begin.new.subtx c.begin.new.locks c.begin.new.store in
+    let touches = made_touches old new c.in-Ok.split.new_page c.in-Ok.ensures.makes.0 c.in-Ok.ensures.makes.1 in
+    let key : c.walk.inside.key ≡ walk.key = ap (λ (w : WalkFields). w.key) c.walk.view_is in
+    let aim : Aim = record (aim_of basis walk c.args.room_depth) { key = c.walk.inside.key; room_depth = g.needed } in
+    let same : aim ≡ aim_of basis walk c.args.room_depth = rw (key, c.requires.1.0) refl in
+    let under_way = subst (λ (a : Aim). IsUnderWay a (view_of new) c.in-Ok.split) same c.in-Ok.ensures.under_way in
+    let rest : IsAtRest aim (view_of old) c.args.number adds.header adds.fields = subst (λ (a : Aim). IsAtRest a (view_of old) c.args.number adds.header adds.fields) (sym same) adds.rest in
+    let depths = c.in-Ok.ensures.depths adds.header adds.fields rest in
+    elim c.keep_split.ensures.told [
+      | inl going ↦
+          let begun = begins_split basis walk c.keep_split.new.walk old new c.args.value c.args.number c.args.room_depth c.args.unsplit c.in-Ok.split c.requires.1.1.1.1.0 touches adds under_way c.in-Ok.ensures.steps depths.1 (c.keep_split.ensures.kept going) in
+          subst (λ r. TellsOfAdding basis old new walk c.keep_split.new.walk c.args.value c.args.number c.args.room_depth r) (sym going) begun
+      | inr refused ↦ subst (λ r. TellsOfAdding basis old new walk c.keep_split.new.walk c.args.value c.args.number c.args.room_depth r) (sym refused) refl
+    ]
+
+pub returns-in-Err-clause-touches : goal.returns-in-Err-clause-touches
+returns-in-Err-clause-touches g c =
+    let old : Moment = moment c.args.subtx.now c.args.locks.now c.args.store.now in
+    let err = c.in-Err.ensures.err in
+    nothing_touched old (moment c.begin.new.subtx c.begin.new.locks c.begin.new.store) (λ i. moment (err.0 i) (err.1 i) (err.2 i))

@@ -1,0 +1,11 @@
+use Rattle.std.proofs.Common.{sym, ap, ◌∙◌}
+use Rattle.std.specs.List.{position}
+use Rattle.mlt_page.specs.Slots.{is_live_of}
+use Rattle.mlt_page.specs.Values.{BucketFields}
+use Rattle.mlt_hash.proofs.Slots.{finds_record}
+use Rattle.mlt_hash.proofs.path.value_in.Goals as goal
+
+pub unreachable-requires : goal.unreachable-requires
+unreachable-requires c =
+    let found = ap (λ (bucket : BucketFields). position (is_live_of c.args.key) bucket.slots) c.bucket.view_is ∙ sym c.in_ok-at.ensures.place in
+    finds_record c.args.key c.bucket.inside.slots c.in_ok-at.at _ found c.in_default.not-Live

@@ -1,0 +1,50 @@
+use Rattle.std.proofs.Common.{ap, sym, subst, ◌∙◌}
+use Rattle.mlt_held.specs.Moments.{Moment, moment}
+use Rattle.mlt_hash.specs.Walks.{Basis, WalkFields}
+use Rattle.mlt_hash.specs.Splitting.{TellsAt}
+use Rattle.mlt_hash.proofs.Readings.{touches_it}
+use Rattle.mlt_hash.proofs.walk.Walk.advance.Goals as goal
+
+pub returns-in-Start-clause-touches : goal.returns-in-Start-clause-touches
+returns-in-Start-clause-touches g c = touches_it _ _ _ c.read_header.ensures.locks
+
+pub returns-in-Start-clause-tells : goal.returns-in-Start-clause-tells
+returns-in-Start-clause-tells g c =
+    let basis : Basis = record { bits = g.P.Pseudo.bits_of c.args.root.now.pseudo; opens = c.args.opens.now; root = c.args.root.now.page; max_depth = c.args.root.now.max_depth; tx = c.args.subtx.now.tx } in
+    let old : Moment = moment c.args.subtx.now c.args.locks.now c.args.store.now in
+    let phase = sym (ap (λ (w : WalkFields). w.phase) c.self.view_is) ∙ c.in-Start.is in
+    subst (λ p. TellsAt p basis old (moment c.args.subtx.now c.read_header.new.locks c.args.store.now) c.args.self.now c.read_header.new.walk c.read_header.result) (sym phase) (c.read_header.ensures.tells c.args.opens.now)
+
+pub returns-in-Headed-clause-touches : goal.returns-in-Headed-clause-touches
+returns-in-Headed-clause-touches g c = touches_it _ _ _ c.read_directory.ensures.locks
+
+pub returns-in-Headed-clause-tells : goal.returns-in-Headed-clause-tells
+returns-in-Headed-clause-tells g c =
+    let basis : Basis = record { bits = g.P.Pseudo.bits_of c.args.root.now.pseudo; opens = c.args.opens.now; root = c.args.root.now.page; max_depth = c.args.root.now.max_depth; tx = c.args.subtx.now.tx } in
+    let old : Moment = moment c.args.subtx.now c.args.locks.now c.args.store.now in
+    let phase = sym (ap (λ (w : WalkFields). w.phase) c.self.view_is) ∙ c.in-Headed.is in
+    subst (λ p. TellsAt p basis old (moment c.args.subtx.now c.read_directory.new.locks c.args.store.now) c.args.self.now c.read_directory.new.walk c.read_directory.result) (sym phase) (c.read_directory.ensures.tells c.args.opens.now)
+
+pub returns-in-Placed-clause-touches : goal.returns-in-Placed-clause-touches
+returns-in-Placed-clause-touches g c = touches_it _ _ _ c.read_bucket.ensures.locks
+
+pub returns-in-Placed-clause-tells : goal.returns-in-Placed-clause-tells
+returns-in-Placed-clause-tells g c =
+    let basis : Basis = record { bits = g.P.Pseudo.bits_of c.args.root.now.pseudo; opens = c.args.opens.now; root = c.args.root.now.page; max_depth = c.args.root.now.max_depth; tx = c.args.subtx.now.tx } in
+    let old : Moment = moment c.args.subtx.now c.args.locks.now c.args.store.now in
+    let phase = sym (ap (λ (w : WalkFields). w.phase) c.self.view_is) ∙ c.in-Placed.is in
+    subst (λ p. TellsAt p basis old (moment c.args.subtx.now c.read_bucket.new.locks c.args.store.now) c.args.self.now c.read_bucket.new.walk c.read_bucket.result) (sym phase) (c.read_bucket.ensures.tells c.args.opens.now)
+
+pub returns-in-Adding-clause-tells : goal.returns-in-Adding-clause-tells
+returns-in-Adding-clause-tells g c =
+    let basis : Basis = record { bits = g.P.Pseudo.bits_of c.args.root.now.pseudo; opens = c.args.opens.now; root = c.args.root.now.page; max_depth = c.args.root.now.max_depth; tx = c.args.subtx.now.tx } in
+    let old : Moment = moment c.args.subtx.now c.args.locks.now c.args.store.now in
+    let phase = sym (ap (λ (w : WalkFields). w.phase) c.self.view_is) ∙ c.in-Adding.is in
+    subst (λ p. TellsAt p basis old (moment c.add_or_split.new.subtx c.add_or_split.new.locks c.add_or_split.new.store) c.args.self.now c.add_or_split.new.walk c.add_or_split.result) (sym phase) c.add_or_split.ensures.tells
+
+pub returns-in-Splitting-clause-tells : goal.returns-in-Splitting-clause-tells
+returns-in-Splitting-clause-tells g c =
+    let basis : Basis = record { bits = g.P.Pseudo.bits_of c.args.root.now.pseudo; opens = c.args.opens.now; root = c.args.root.now.page; max_depth = c.args.root.now.max_depth; tx = c.args.subtx.now.tx } in
+    let old : Moment = moment c.args.subtx.now c.args.locks.now c.args.store.now in
+    let phase = sym (ap (λ (w : WalkFields). w.phase) c.self.view_is) ∙ c.in-Splitting.is in
+    subst (λ p. TellsAt p basis old (moment c.go_on_splitting.new.subtx c.go_on_splitting.new.locks c.go_on_splitting.new.store) c.args.self.now c.go_on_splitting.new.walk c.go_on_splitting.result) (sym phase) c.go_on_splitting.ensures.tells

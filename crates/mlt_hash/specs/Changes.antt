@@ -1,0 +1,117 @@
+-- What the changes of a walk tell
+use Rattle.std.specs.Prelude.{ℕ, ◌≡◌, ◌⊎◌, true, IsSome, Bool, Some, None, position}
+use Rattle.std.specs.List.{list_all}
+use Rattle.mlt_types.specs.declared.refusal.Refusal.TheVariants as refusal
+use Rattle.mlt_page.specs.Slots.{is_ghost_of, is_kept}
+use Rattle.mlt_page.specs.declared.page.Page.TheVariants as page
+use Rattle.mlt_page.specs.Values.{BucketFields}
+use Rattle.mlt_hash_form.specs.Room.{is_crowded}
+use Rattle.mlt_held.specs.Moments.{Moment}
+use Rattle.mlt_held.specs.Views.{View, view_of}
+use Rattle.mlt_hash.specs.Passes.{HasRoomFrom, IsNextPass, NeverHasRoom}
+use Rattle.mlt_hash.specs.Walks.{Basis, IsStanding, WalkFields}
+use Rattle.mlt_hash.specs.Steps.{IsSameWalk}
+use Rattle.mlt_hash.specs.declared.pass.Pass.{Pass}
+use Rattle.mlt_hash.specs.declared.pass.Pass.TheVariants as pass
+use Rattle.mlt_hash.specs.declared.pass.Phase.{Phase}
+use Rattle.mlt_hash.specs.declared.pass.Phase.TheVariants as at
+use Rattle.mlt_hash.specs.declared.pass.Change.{Change}
+use Rattle.mlt_hash.specs.declared.pass.Change.TheVariants as change
+use Rattle.mlt_hash.specs.declared.answer.WalkAnswer.{WalkAnswer}
+use Rattle.mlt_hash.specs.declared.answer.WalkAnswer.TheVariants as answer
+
+-- the walk is at its bucket
+abbrev pub IsAtBucketPhase : Phase → Type 0
+IsAtBucketPhase (at.AtBucket bucket depth found) = Unit {0}
+IsAtBucketPhase other = ⊥
+
+-- the walk is at its bucket, and found a record of its key there, or none
+abbrev pub IsAtRecord : Phase → Type 0
+IsAtRecord (at.AtBucket bucket depth found) = IsSome found
+IsAtRecord other = ⊥
+
+abbrev pub IsAtAbsent : Phase → Type 0
+IsAtAbsent (at.AtBucket bucket depth found) = found ≡ None
+IsAtAbsent other = ⊥
+
+-- the page of the bucket that a walk is at
+abbrev pub page_of : Phase → ℕ
+page_of at.Start = 0
+page_of (at.Headed dir row depth) = dir
+page_of (at.Placed bucket depth) = bucket
+page_of (at.AtBucket bucket depth found) = bucket
+page_of (at.Full next) = 0
+page_of (at.Adding value bucket room_depth unsplit) = bucket
+page_of (at.Splitting value room_depth) = 0
+page_of (at.Changed bucket done) = bucket
+
+-- the bucket as the walk sees it
+pub record SeesBucket (walk : WalkFields) (view : View) (fields : BucketFields) : Type 0 where
+  pub at : view.seen (page_of walk.phase) ≡ Some (Some (page.Bucket fields))
+
+-- the transaction's own ghost of the key stands in the bucket
+abbrev pub HasOwnGhost : Basis → WalkFields → View → Type 0
+HasOwnGhost basis walk view = (fields : BucketFields) × (i : ℕ) × SeesBucket walk view fields × (position (is_ghost_of walk.key basis.tx) fields.slots ≡ Some i)
+
+-- the change is made
+pub record Makes (basis : Basis) (new : Moment) (before after : WalkFields) (done : Change) : Type 0 where
+  pub same : IsSameWalk before after
+  pub phase : after.phase ≡ at.Changed (page_of before.phase) done
+  pub stands : IsStanding basis after (view_of new)
+
+abbrev pub TellsOfChange : Basis → Moment → WalkFields → WalkFields → Change → WalkAnswer → Type 0
+TellsOfChange basis new before after done answer.Changed = Makes basis new before after done
+TellsOfChange basis new before after done other = ⊥
+
+-- The bucket has neither a ghost of the transaction to revive nor a slot with room.
+pub record IsFull (basis : Basis) (walk : WalkFields) (view : View) (fields : BucketFields) : Type 0 where
+  pub sees : SeesBucket walk view fields
+  pub no_ghost : position (is_ghost_of walk.key basis.tx) fields.slots ≡ None
+  pub no_room : list_all (is_kept basis.opens) fields.slots ≡ true
+
+-- at which depths the bucket would have no room for the walk's key
+abbrev pub crowded_at : Basis → WalkFields → BucketFields → ℕ → Bool
+crowded_at basis walk fields d = is_crowded basis.bits basis.opens d (basis.bits walk.key) fields.slots
+
+-- the depth of the directory that a walk at its bucket has read
+abbrev pub directory_depth_of : Phase → ℕ
+directory_depth_of (at.AtBucket bucket depth found) = depth
+directory_depth_of other = 0
+
+-- this pass is the one that splits the bucket
+abbrev pub IsNext : Basis → WalkFields → BucketFields → Pass → Type 0
+IsNext basis walk fields next = IsNextPass (crowded_at basis walk fields) fields.depth basis.max_depth (directory_depth_of walk.phase) next
+
+-- A split is needed: in a first pass this says which one follows, and a later pass is to go on, and may.
+pub record NeedsSplit (basis : Basis) (new : Moment) (before after : WalkFields) (value : ℕ) : Type 0 where
+  pub fields : BucketFields
+  pub full : IsFull basis before (view_of new) fields
+  pub same : IsSameWalk before after
+  pub stands : IsStanding basis after (view_of new)
+  pub first : before.pass ≡ pass.First → (next : Pass) × (after.phase ≡ at.Full next) × IsNext basis before fields next
+  pub later : (before.pass ≡ pass.First → ⊥) → (d : ℕ) × (after.phase ≡ at.Adding value (page_of before.phase) d true) × HasRoomFrom (crowded_at basis before fields) fields.depth basis.max_depth d
+
+-- A narrow pass has to be wide.
+pub record MustWiden (basis : Basis) (new : Moment) (before after : WalkFields) : Type 0 where
+  pub fields : BucketFields
+  pub full : IsFull basis before (view_of new) fields
+  pub same : IsSameWalk before after
+  pub narrow : before.pass ≡ pass.Narrow
+  pub wide : IsNext basis before fields pass.Wide
+  pub phase : after.phase ≡ at.Full pass.Wide
+
+-- There is no room at any depth that the directory may get, and the pass is the one that would split.
+pub record HasNoRoom (basis : Basis) (new : Moment) (before : WalkFields) : Type 0 where
+  pub fields : BucketFields
+  pub full : IsFull basis before (view_of new) fields
+  pub never : NeverHasRoom (crowded_at basis before fields) fields.depth basis.max_depth
+  pub later : before.pass ≡ pass.First → ⊥
+  pub narrow : before.pass ≡ pass.Narrow → IsNext basis before fields pass.Narrow
+
+-- A record of this value is added: in the place of the transaction's own ghost, or in a slot with room.
+abbrev pub TellsOfAddition : Basis → Moment → WalkFields → WalkFields → ℕ → WalkAnswer → Type 0
+TellsOfAddition basis new before after value answer.Changed = Makes basis new before after (change.Revive value) ⊎ Makes basis new before after (change.Put value)
+TellsOfAddition basis new before after value answer.NeedSplit = NeedsSplit basis new before after value
+TellsOfAddition basis new before after value answer.Widen = MustWiden basis new before after
+TellsOfAddition basis new before after value (answer.Refused refusal.NoRoom) = HasNoRoom basis new before
+TellsOfAddition basis new before after value other = ⊥

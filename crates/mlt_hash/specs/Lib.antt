@@ -1,0 +1,5 @@
+pub mod Changes
+pub mod Passes
+pub mod Splitting
+pub mod Steps
+pub mod Walks

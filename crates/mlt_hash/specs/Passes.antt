@@ -1,0 +1,72 @@
+-- Passes: in which modes they lock, and which one follows where a bucket has no room
+use Rattle.std.specs.Prelude.{ℕ, ◌≡◌, ◌<◌, ◌≤◌, ◌+◌, ◌⊎◌, true, false, Bool, Option, Some, None}
+use Rattle.std.specs.FinMap as map
+use Rattle.mlt_types.specs.declared.mode.Mode.{Mode}
+use Rattle.mlt_types.specs.declared.mode.Mode.TheVariants.{Shared, Exclusive}
+use Rattle.mlt_page.specs.declared.slot.Slot.{Slot}
+use Rattle.mlt_page.specs.declared.slot.Slot.TheVariants.{Live, Ghost}
+use Rattle.mlt_page_locks.specs.LockTables.{Modes}
+use Rattle.mlt_page_locks.specs.Requests.{with_page}
+use Rattle.mlt_hash.specs.declared.pass.Pass.{Pass}
+use Rattle.mlt_hash.specs.declared.pass.Pass.TheVariants.{First, Narrow, Wide}
+use Rattle.mlt_hash.specs.declared.pass.Change.{Change}
+use Rattle.mlt_hash.specs.declared.pass.Change.TheVariants.{Put, Revive, Set, Remove}
+
+-- the modes of the header, of the directory page and of the bucket, which a first pass locks in the walk's own mode
+abbrev pub header_mode : Pass → Mode
+header_mode First = Shared
+header_mode Narrow = Shared
+header_mode Wide = Exclusive
+
+abbrev pub directory_mode : Pass → Mode
+directory_mode First = Shared
+directory_mode Narrow = Exclusive
+directory_mode Wide = Exclusive
+
+abbrev pub bucket_mode : Pass → Mode → Mode
+bucket_mode First mode = mode
+bucket_mode Narrow mode = Exclusive
+bucket_mode Wide mode = Exclusive
+
+-- the pages that a pass holds up to its bucket, one more at a time, and nothing else
+abbrev pub header_held : Pass → ℕ → Modes
+header_held pass root = with_page map.empty root (header_mode pass)
+
+abbrev pub directory_held : Pass → ℕ → ℕ → Modes
+directory_held pass root dir = with_page (header_held pass root) dir (directory_mode pass)
+
+abbrev pub bucket_held : Pass → Mode → ℕ → ℕ → ℕ → Modes
+bucket_held pass mode root dir bucket = with_page (directory_held pass root dir) bucket (bucket_mode pass mode)
+
+-- of a bucket of depth l: the least depth up to `most` at which it has room, where `crowded` says at which depths it has
+-- none; and l where it has none at all
+abbrev pub HasRoomFrom : (ℕ → Bool) → ℕ → ℕ → ℕ → Type 0
+HasRoomFrom crowded l most d = (l ≤ d) × (d ≤ most) × (crowded d ≡ false) × ((e : ℕ) → l ≤ e → e < d → crowded e ≡ true)
+
+abbrev pub NeverHasRoom : (ℕ → Bool) → ℕ → ℕ → Type 0
+NeverHasRoom crowded l most = (e : ℕ) → l ≤ e → e ≤ most → crowded e ≡ true
+
+abbrev pub NeedsDepth : (ℕ → Bool) → ℕ → ℕ → ℕ → Type 0
+NeedsDepth crowded l most d = HasRoomFrom crowded l most d ⊎ (NeverHasRoom crowded l most × (d ≡ l))
+
+-- the pass may be narrow: the directory of depth g needn't be doubled, and one page of it has all entries of the bucket
+abbrev pub MayBeNarrow : (ℕ → Bool) → ℕ → ℕ → ℕ → Type 0
+MayBeNarrow crowded l most g = (d : ℕ) × NeedsDepth crowded l most d × (d ≤ g) × (g ≤ l + 8)
+
+abbrev pub IsNextPass : (ℕ → Bool) → ℕ → ℕ → ℕ → Pass → Type 0
+IsNextPass crowded l most g First = ⊥
+IsNextPass crowded l most g Narrow = MayBeNarrow crowded l most g
+IsNextPass crowded l most g Wide = MayBeNarrow crowded l most g → ⊥
+
+-- the value that the key has once a change is made, and what stands in its slot
+abbrev pub value_after : Change → Option ℕ
+value_after (Put value) = Some value
+value_after (Revive value) = Some value
+value_after (Set value) = Some value
+value_after Remove = None
+
+abbrev pub slot_after : Change → ℕ → ℕ → Slot
+slot_after (Put value) key tx = Live key value
+slot_after (Revive value) key tx = Live key value
+slot_after (Set value) key tx = Live key value
+slot_after Remove key tx = Ghost key 0 tx

@@ -1,0 +1,95 @@
+-- What the steps of a walk tell that splits its bucket and then adds its record
+use Rattle.std.specs.Prelude.{ℕ, ◌≡◌, ◌+◌, ◌⊎◌, false, Some}
+use Rattle.std.specs.FinMap as map
+use Rattle.mlt_types.specs.declared.mode.Mode.TheVariants.{Exclusive}
+use Rattle.mlt_types.specs.declared.refusal.Refusal.TheVariants as refusal
+use Rattle.mlt_page_locks.specs.Requests.{IsLowest, conflicts}
+use Rattle.mlt_held.specs.Moments.{Moment}
+use Rattle.mlt_held.specs.PageSteps.{WritesHeldPage}
+use Rattle.mlt_held.specs.Views.{view_of}
+use Rattle.mlt_record.specs.Plans.{WriteFields}
+use Rattle.mlt_split.specs.Splits.{SplitFields, directory_steps, steps_left}
+use Rattle.mlt_split.specs.Tells.{Rests}
+use Rattle.mlt_hash.specs.Walks.{Basis, IsStanding, WalkFields, aim_of}
+use Rattle.mlt_hash.specs.Steps.{IsSameWalk, TellsOfPath}
+use Rattle.mlt_hash.specs.Changes.{Makes}
+use Rattle.mlt_hash.specs.declared.pass.Phase.{Phase}
+use Rattle.mlt_hash.specs.declared.pass.Phase.TheVariants as at
+use Rattle.mlt_hash.specs.declared.pass.Change.TheVariants as change
+use Rattle.mlt_hash.specs.declared.answer.WalkAnswer.{WalkAnswer}
+use Rattle.mlt_hash.specs.declared.answer.WalkAnswer.TheVariants as answer
+
+-- the walk is the same and stands somewhere
+pub record StandsOn (basis : Basis) (new : Moment) (before after : WalkFields) : Type 0 where
+  pub same : IsSameWalk before after
+  pub stands : IsStanding basis after (view_of new)
+
+-- A split of a bucket begins: with the new bucket made, it takes so many steps more as the depths of the bucket and of
+-- the directory say.
+pub record BeginsSplit (basis : Basis) (new : Moment) (before after : WalkFields) (value room_depth : ℕ) : Type 0 where
+  pub on : StandsOn basis new before after
+  pub phase : after.phase ≡ at.Splitting value room_depth
+  pub split : SplitFields
+  pub split_is : after.split ≡ Some split
+  pub steps : steps_left split ≡ 1 + directory_steps split.depth split.directory_depth
+
+-- The split goes on, one step fewer is left.
+pub record SplitGoesOn (basis : Basis) (new : Moment) (before after : WalkFields) (value room_depth : ℕ) : Type 0 where
+  pub on : StandsOn basis new before after
+  pub phase : after.phase ≡ at.Splitting value room_depth
+  pub was : SplitFields
+  pub is : SplitFields
+  pub was_is : before.split ≡ Some was
+  pub is_is : after.split ≡ Some is
+  pub fewer : steps_left is + 1 ≡ steps_left was
+  pub depth : is.depth ≡ was.depth
+  pub directory_depth : is.directory_depth ≡ was.directory_depth
+
+-- That was its last step: the key's bucket is one deeper, and so is the directory, where it was doubled.
+pub record SplitCloses (basis : Basis) (new : Moment) (before after : WalkFields) (value room_depth : ℕ) : Type 0 where
+  pub on : StandsOn basis new before after
+  pub bucket : ℕ
+  pub phase : after.phase ≡ at.Adding value bucket room_depth false
+  pub was : SplitFields
+  pub was_is : before.split ≡ Some was
+  pub last : steps_left was ≡ 1
+  pub rests : Rests (aim_of basis before room_depth) new was bucket
+
+-- the bucket is written with the record put, or memory was refused and nothing has changed
+abbrev pub TellsOfPut : Moment → Moment → WalkFields → WalkFields → WriteFields → ℕ → WalkAnswer → Type 0
+TellsOfPut old new before after write value answer.Changed = WritesHeldPage old new write.number write.page × (after ≡ record before { phase = at.Changed write.number (change.Put value) })
+TellsOfPut old new before after write value (answer.Refused reason) = (reason ≡ refusal.OutOfMemory) × (new ≡ old) × (after ≡ before)
+TellsOfPut old new before after write value other = ⊥
+
+-- a step of a walk whose bucket had no room: it puts the record where there is room now, but splits once at least; or it
+-- goes on with the split
+abbrev pub TellsOfAdding : Basis → Moment → Moment → WalkFields → WalkFields → ℕ → ℕ → ℕ → WalkAnswer → Type 0
+TellsOfAdding basis old new before after value bucket room_depth answer.Going = BeginsSplit basis new before after value room_depth
+TellsOfAdding basis old new before after value bucket room_depth answer.Changed = (before.phase ≡ at.Adding value bucket room_depth false) × Makes basis new before after (change.Put value)
+TellsOfAdding basis old new before after value bucket room_depth (answer.Refused refusal.NoRoom) = map.len old.store.pages ≡ old.store.max_pages
+TellsOfAdding basis old new before after value bucket room_depth (answer.Refused reason) = reason ≡ refusal.OutOfMemory
+TellsOfAdding basis old new before after value bucket room_depth other = ⊥
+
+abbrev pub TellsOfSplitting : Basis → Moment → Moment → WalkFields → WalkFields → ℕ → ℕ → WalkAnswer → Type 0
+TellsOfSplitting basis old new before after value room_depth answer.Going = SplitGoesOn basis new before after value room_depth ⊎ SplitCloses basis new before after value room_depth
+TellsOfSplitting basis old new before after value room_depth (answer.Waiting page by) = IsLowest (conflicts old.locks old.running.tx page Exclusive) by × (new ≡ old) × (after ≡ before)
+TellsOfSplitting basis old new before after value room_depth (answer.Refused refusal.NoRoom) = map.len old.store.pages ≡ old.store.max_pages
+TellsOfSplitting basis old new before after value room_depth (answer.Refused reason) = reason ≡ refusal.OutOfMemory
+TellsOfSplitting basis old new before after value room_depth other = ⊥
+
+-- what a step tells, by where the walk stood
+abbrev pub TellsAt : Phase → Basis → Moment → Moment → WalkFields → WalkFields → WalkAnswer → Type 0
+TellsAt (at.Adding value bucket room_depth unsplit) basis old new before after told = TellsOfAdding basis old new before after value bucket room_depth told
+TellsAt (at.Splitting value room_depth) basis old new before after told = TellsOfSplitting basis old new before after value room_depth told
+TellsAt other basis old new before after told = TellsOfPath basis old new before after told
+
+-- the walk has a next step: it is on its way to its bucket, or splits it
+abbrev pub IsUnderWay : Phase → Type 0
+IsUnderWay at.Start = Unit {0}
+IsUnderWay (at.Headed dir row depth) = Unit {0}
+IsUnderWay (at.Placed bucket depth) = Unit {0}
+IsUnderWay (at.AtBucket bucket depth found) = ⊥
+IsUnderWay (at.Full next) = ⊥
+IsUnderWay (at.Adding value bucket room_depth unsplit) = Unit {0}
+IsUnderWay (at.Splitting value room_depth) = Unit {0}
+IsUnderWay (at.Changed bucket done) = ⊥

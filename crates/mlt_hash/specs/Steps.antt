@@ -1,0 +1,70 @@
+-- What the steps and the changes of a walk tell
+use Rattle.std.specs.Prelude.{ℕ, ◌≡◌, ◌+◌, Option}
+use Rattle.mlt_types.specs.declared.mode.Mode.{Mode}
+use Rattle.mlt_types.specs.declared.mode.Mode.TheVariants.{Exclusive}
+use Rattle.mlt_page_locks.specs.Requests.{IsLowest, conflicts}
+use Rattle.mlt_held.specs.Moments.{Moment}
+use Rattle.mlt_held.specs.Views.{view_of}
+use Rattle.mlt_hash.specs.Passes.{bucket_mode, directory_mode, header_mode}
+use Rattle.mlt_hash.specs.Walks.{Basis, IsStanding, WalkFields}
+use Rattle.mlt_hash.specs.declared.pass.Phase.{Phase}
+use Rattle.mlt_hash.specs.declared.pass.Phase.TheVariants as at
+use Rattle.mlt_hash.specs.declared.answer.WalkAnswer.{WalkAnswer}
+use Rattle.mlt_hash.specs.declared.answer.WalkAnswer.TheVariants as answer
+
+-- how many steps a pass still takes until it has found its key, those that wait aside
+abbrev pub steps_to_bucket : Phase → ℕ
+steps_to_bucket at.Start = 3
+steps_to_bucket (at.Headed dir row depth) = 2
+steps_to_bucket (at.Placed bucket depth) = 1
+steps_to_bucket (at.AtBucket bucket depth found) = 0
+steps_to_bucket (at.Full next) = 0
+steps_to_bucket (at.Adding value bucket room_depth unsplit) = 0
+steps_to_bucket (at.Splitting value room_depth) = 0
+steps_to_bucket (at.Changed bucket done) = 0
+
+-- the page that the next step to the bucket locks, and its mode
+abbrev pub next_page : ℕ → Phase → ℕ
+next_page root at.Start = root
+next_page root (at.Headed dir row depth) = dir
+next_page root (at.Placed bucket depth) = bucket
+next_page root (at.AtBucket bucket depth found) = bucket
+next_page root (at.Full next) = root
+next_page root (at.Adding value bucket room_depth unsplit) = bucket
+next_page root (at.Splitting value room_depth) = root
+next_page root (at.Changed bucket done) = bucket
+
+abbrev pub next_mode : WalkFields → Phase → Mode
+next_mode walk at.Start = header_mode walk.pass
+next_mode walk (at.Headed dir row depth) = directory_mode walk.pass
+next_mode walk (at.Placed bucket depth) = bucket_mode walk.pass walk.mode
+next_mode walk (at.AtBucket bucket depth found) = Exclusive
+next_mode walk (at.Full next) = Exclusive
+next_mode walk (at.Adding value bucket room_depth unsplit) = Exclusive
+next_mode walk (at.Splitting value room_depth) = Exclusive
+next_mode walk (at.Changed bucket done) = Exclusive
+
+-- the walk is the same but for its phase
+pub record IsSameWalk (before after : WalkFields) : Type 0 where
+  pub key : after.key ≡ before.key
+  pub mode : after.mode ≡ before.mode
+  pub pass : after.pass ≡ before.pass
+
+-- the walk is at its bucket, and has found this
+abbrev pub HasFound : Phase → Option ℕ → Type 0
+HasFound (at.AtBucket bucket depth found) value = found ≡ value
+HasFound other value = ⊥
+
+-- one step fewer is left to the bucket
+pub record GoesOn (basis : Basis) (new : Moment) (before after : WalkFields) : Type 0 where
+  pub same : IsSameWalk before after
+  pub stands : IsStanding basis after (view_of new)
+  pub fewer : steps_to_bucket after.phase + 1 ≡ steps_to_bucket before.phase
+
+-- A step to the bucket: it goes on, or has found the key's value, or waits for the next page, told the lowest transaction
+-- whose lock stands against its own, and nothing has changed.
+abbrev pub TellsOfPath : Basis → Moment → Moment → WalkFields → WalkFields → WalkAnswer → Type 0
+TellsOfPath basis old new before after answer.Going = GoesOn basis new before after
+TellsOfPath basis old new before after (answer.Waiting page by) = (page ≡ next_page basis.root before.phase) × IsLowest (conflicts old.locks old.running.tx page (next_mode before before.phase)) by × (new ≡ old) × (after ≡ before)
+TellsOfPath basis old new before after (answer.Found value) = GoesOn basis new before after × HasFound after.phase value
+TellsOfPath basis old new before after other = ⊥

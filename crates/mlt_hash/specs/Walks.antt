@@ -1,0 +1,156 @@
+-- Where a walk stands, by its phase: which pages it holds, and what it has read of them. Each fact is about these pages
+-- alone, so that what other transactions do can't touch it.
+use Rattle.std.specs.Prelude.{ℕ, ◌≡◌, ◌<◌, ◌≤◌, ◌/◌, ◌%◌, Bool, true, false, List, slice_index, slice_index_or, Option, Some, None, is_some, position}
+use Rattle.std.specs.Ordering.{nat_cmp}
+use Rattle.std.specs.FinMap as map
+use Rattle.std.specs.FinSet as set
+use Rattle.mlt_types.specs.declared.mode.Mode.{Mode}
+use Rattle.mlt_types.specs.declared.mode.Mode.TheVariants.{Exclusive}
+use Rattle.mlt_page.specs.Bits.{first_bits}
+use Rattle.mlt_page.specs.Slots.{is_ghost_of, is_kept, is_live_of}
+use Rattle.mlt_page.specs.declared.slot.Slot.{Slot}
+use Rattle.mlt_page.specs.declared.slot.Slot.TheVariants.{Free}
+use Rattle.mlt_page.specs.declared.page.Page.{Page}
+use Rattle.mlt_page.specs.declared.page.Page.TheVariants as page
+use Rattle.mlt_page.specs.Values.{BucketFields, HeadFields}
+use Rattle.mlt_hash_form.specs.Form.{value_in}
+use Rattle.mlt_hash_form.specs.File.{HasForm}
+use Rattle.mlt_hash_form.specs.Changes.{IsHome}
+use Rattle.mlt_hash_form.specs.Held.{Agrees, ChangesFile, over}
+use Rattle.mlt_held.specs.Views.{View}
+use Rattle.mlt_split.specs.Rests.{Aim, IsAtRest}
+use Rattle.mlt_split.specs.Splits.{IsUnderWay, SplitFields}
+use Rattle.mlt_hash.specs.Passes.{bucket_held, directory_held, header_held, slot_after, value_after}
+use Rattle.mlt_hash.specs.declared.pass.Pass.{Pass}
+use Rattle.mlt_hash.specs.declared.pass.Pass.TheVariants as pass
+use Rattle.mlt_hash.specs.declared.pass.Phase.{Phase}
+use Rattle.mlt_hash.specs.declared.pass.Phase.TheVariants as at
+use Rattle.mlt_hash.specs.declared.pass.Change.{Change}
+use Rattle.mlt_hash.specs.declared.pass.Change.TheVariants as change
+
+-- what a contract sees of a walk
+pub record WalkFields : Type 0 where
+  pub key : ℕ
+  pub mode : Mode
+  pub pass : Pass
+  pub phase : Phase
+  pub split : Option SplitFields
+
+-- what a walk goes by: the function of keys, who is open, the header's page, how deep the directory may get, and whose
+-- walk it is
+pub record Basis : Type 0 where
+  pub bits : ℕ → ℕ
+  pub opens : set.FinSet nat_cmp
+  pub root : ℕ
+  pub max_depth : ℕ
+  pub tx : ℕ
+
+-- the key's directory page, by the header, and its entry there
+abbrev pub dir_of : Basis → HeadFields → ℕ → ℕ
+dir_of basis header key = slice_index header.dirs (first_bits header.depth (basis.bits key) / 256)
+
+abbrev pub row_of : Basis → HeadFields → ℕ → ℕ
+row_of basis header key = first_bits header.depth (basis.bits key) % 256
+
+-- nothing is written
+abbrev pub IsUnwritten : View → Type 0
+IsUnwritten view = (q : ℕ) → view.own q ≡ None
+
+-- nothing is held or written
+pub record IsAtStart (view : View) : Type 0 where
+  pub unwritten : IsUnwritten view
+  pub unheld : view.modes ≡ map.empty
+  pub unseen : (q : ℕ) → view.seen q ≡ None
+
+-- the header is held and read
+pub record IsHeaded (basis : Basis) (walk : WalkFields) (view : View) (dir row depth : ℕ) : Type 0 where
+  pub unwritten : IsUnwritten view
+  pub header : HeadFields
+  pub held : view.modes ≡ header_held walk.pass basis.root
+  pub head : view.seen basis.root ≡ Some (Some (page.Head header))
+  pub dir_is : dir ≡ dir_of basis header walk.key
+  pub row_is : row ≡ row_of basis header walk.key
+  pub depth_is : depth ≡ header.depth
+
+-- so is the directory page of the key's place
+pub record IsPlaced (basis : Basis) (walk : WalkFields) (view : View) (bucket depth : ℕ) : Type 0 where
+  pub unwritten : IsUnwritten view
+  pub header : HeadFields
+  pub held : view.modes ≡ directory_held walk.pass basis.root (dir_of basis header walk.key)
+  pub head : view.seen basis.root ≡ Some (Some (page.Head header))
+  pub dir : List ℕ
+  pub listed : view.seen (dir_of basis header walk.key) ≡ Some (Some (page.Dir dir))
+  pub bucket_is : bucket ≡ slice_index dir (row_of basis header walk.key)
+  pub depth_is : depth ≡ header.depth
+
+-- so is the bucket that the key leads to, and what it has of the key is known
+pub record IsAtBucket (basis : Basis) (walk : WalkFields) (view : View) (bucket depth : ℕ) (found : Option ℕ) : Type 0 where
+  pub unwritten : IsUnwritten view
+  pub header : HeadFields
+  pub held : view.modes ≡ bucket_held walk.pass walk.mode basis.root (dir_of basis header walk.key) bucket
+  pub head : view.seen basis.root ≡ Some (Some (page.Head header))
+  pub dir : List ℕ
+  pub listed : view.seen (dir_of basis header walk.key) ≡ Some (Some (page.Dir dir))
+  pub bucket_is : bucket ≡ slice_index dir (row_of basis header walk.key)
+  pub depth_is : depth ≡ header.depth
+  pub fields : BucketFields
+  pub at : view.seen bucket ≡ Some (Some (page.Bucket fields))
+  pub found_is : found ≡ value_in walk.key fields.slots
+
+-- what a walk's splits are for
+abbrev pub aim_of : Basis → WalkFields → ℕ → Aim
+aim_of basis walk room_depth = record { bits = basis.bits; opens = basis.opens; root = basis.root; key = walk.key; owner = basis.tx; room_depth = room_depth }
+
+-- the bucket has no room yet, but has it once it is split down to this depth
+pub record IsAdding (basis : Basis) (walk : WalkFields) (view : View) (bucket room_depth : ℕ) (unsplit : Bool) : Type 0 where
+  pub header : HeadFields
+  pub fields : BucketFields
+  pub rest : IsAtRest (aim_of basis walk room_depth) view bucket header fields
+  pub most : room_depth ≤ basis.max_depth
+  pub unsplit_is : unsplit ≡ true → fields.depth < room_depth
+  pub later : walk.pass ≡ pass.First → ⊥
+  pub narrow : walk.pass ≡ pass.Narrow → room_depth ≤ header.depth
+  pub wide : walk.pass ≡ pass.Wide → map.get view.modes basis.root ≡ Some Exclusive
+
+-- a split of the bucket is under way, down to this depth, at which there is room
+pub record IsSplitting (basis : Basis) (walk : WalkFields) (view : View) (room_depth : ℕ) : Type 0 where
+  pub split : SplitFields
+  pub split_is : walk.split ≡ Some split
+  pub under_way : IsUnderWay (aim_of basis walk room_depth) view split
+  pub most : room_depth ≤ basis.max_depth
+  pub later : walk.pass ≡ pass.First → ⊥
+  pub narrow : walk.pass ≡ pass.Narrow → room_depth ≤ split.directory_depth
+  pub wide : walk.pass ≡ pass.Wide → map.get view.modes basis.root ≡ Some Exclusive
+
+-- what stood in the slot that a change writes
+abbrev pub StoodBefore : Change → Basis → ℕ → List Slot → Slot → Type 0
+StoodBefore (change.Put value) basis key slots slot = (value_in key slots ≡ None) × (position (is_ghost_of key basis.tx) slots ≡ None) × (is_kept basis.opens slot ≡ false)
+StoodBefore (change.Revive value) basis key slots slot = (value_in key slots ≡ None) × (is_ghost_of key basis.tx slot ≡ true)
+StoodBefore (change.Set value) basis key slots slot = is_live_of key slot ≡ true
+StoodBefore change.Remove basis key slots slot = is_live_of key slot ≡ true
+
+-- A change is written in the bucket: whatever the clean pages are elsewhere, what the walk has written are the same
+-- slots, rearranged up to `rest`, and then one slot changed, where the walk's key leads.
+pub record IsChanged (basis : Basis) (walk : WalkFields) (view : View) (bucket : ℕ) (done : Change) : Type 0 where
+  pub rest : ℕ → Option Page
+  pub slot : ℕ
+  pub within : slot < 8
+  pub fields : BucketFields
+  pub held : is_some (view.seen bucket) ≡ true
+  pub home : (clean : ℕ → Option Page) → Agrees view.seen clean → HasForm basis.bits clean basis.root → IsHome basis.bits (over clean rest) basis.root walk.key bucket fields
+  pub was : StoodBefore done basis walk.key fields.slots (slice_index_or fields.slots slot Free)
+  pub changes : ChangesFile basis.bits basis.opens basis.root view.seen rest view.own walk.key (value_after done) bucket slot (slot_after done walk.key basis.tx)
+
+abbrev pub Stands : Phase → Basis → WalkFields → View → Type 0
+Stands at.Start basis walk view = IsAtStart view
+Stands (at.Headed dir row depth) basis walk view = IsHeaded basis walk view dir row depth
+Stands (at.Placed bucket depth) basis walk view = IsPlaced basis walk view bucket depth
+Stands (at.AtBucket bucket depth found) basis walk view = IsAtBucket basis walk view bucket depth found
+Stands (at.Full next) basis walk view = Unit {0}
+Stands (at.Adding value bucket room_depth unsplit) basis walk view = IsAdding basis walk view bucket room_depth unsplit
+Stands (at.Splitting value room_depth) basis walk view = IsSplitting basis walk view room_depth
+Stands (at.Changed bucket done) basis walk view = IsChanged basis walk view bucket done
+
+-- where a walk stands
+abbrev pub IsStanding : Basis → WalkFields → View → Type 0
+IsStanding basis walk view = Stands walk.phase basis walk view

@@ -1,0 +1,116 @@
+//! Walks.
+
+ghost use Rattle.std.specs.Prelude.{◌≡◌, ◌≤◌, ℕ, Option, None};
+ghost use Rattle.mlt_page.specs.declared.page.Page.{Page};
+ghost use Rattle.mlt_held.specs.Moments.{HasCleanFile, IsCleanFor, MayStep, moment};
+ghost use Rattle.mlt_held.specs.PageSteps.{TouchesOnePage};
+ghost use Rattle.mlt_held.specs.Views.{view_of};
+ghost use Rattle.mlt_hash.specs.Walks.{IsStanding};
+ghost use Rattle.mlt_hash.specs.Splitting.{IsUnderWay, TellsAt};
+
+use crate::adding::{add_or_split, go_on_splitting};
+use crate::answer::WalkAnswer;
+use crate::pass::{Pass, Phase};
+use crate::path::{read_bucket, read_directory, read_header};
+use mlt_hash_form::Root;
+use mlt_page_locks::PageLocks;
+use mlt_split::Split;
+use mlt_store::Store;
+use mlt_subtx::Subtx;
+use mlt_types::{Key, Mode, OpenSet, Pseudo};
+use std::alloc::Global;
+use std::marker::Model;
+
+/// A walk of a transaction to the bucket of a key, where it may make one change.
+#[derive(Drop)]
+pub struct Walk {
+    pub(crate) alloc: Global,
+    pub(crate) key: Key,
+    pub(crate) mode: Mode,
+    pub(crate) pass: Pass,
+    pub(crate) phase: Phase,
+    /// The split that is under way: a few pages, which no walk needs that splits nothing.
+    pub(crate) split: Option<Box<Split>>,
+}
+
+impl Model for Walk {
+    ghost use Rattle.std.specs.Prelude.{option_map};
+    ghost use Rattle.mlt_hash.specs.Walks.{WalkFields};
+
+    ghost Value = { WalkFields };
+
+    ghost view = { λ walk. record { key = walk.key; mode = walk.mode; pass = walk.pass; phase = walk.phase; split = option_map (λ split. split.value) walk.split } };
+}
+
+impl Walk {
+    /// A first pass to a key, whose bucket is then locked in this mode. Only a split takes memory.
+    pub fn find(alloc: Global, key: Key, mode: Mode) -> Walk
+        ensures { result ≡ record { key = key; mode = mode; pass = Pass.First; phase = Phase.Start; split = None } }
+    {
+        Walk {
+            alloc,
+            key,
+            mode,
+            pass: Pass::First,
+            phase: Phase::Start,
+            split: None,
+        }
+    }
+
+    /// Starts the pass that follows one whose bucket had no room, once that one was rolled back.
+    pub fn again(&mut self)
+        ghost next: { Pass }
+        requires { self.old.phase ≡ Phase.Full next }
+        ensures { self.new ≡ record self.old { pass = next; phase = Phase.Start; split = None } }
+    {
+        match self.phase {
+            Phase::Full(next) => {
+                self.pass = next;
+                self.phase = Phase::Start;
+                self.split = None;
+            }
+            _ => unreachable!(),
+        }
+    }
+
+    /// One step: on the way to the bucket it locks a page and reads it; where the bucket had no room it splits the bucket,
+    /// one page written or made, until there is room, and puts the record. `opens` are the open transactions.
+    pub fn advance<P: Pseudo>(
+        &mut self,
+        root: &Root<P>,
+        subtx: &mut Subtx,
+        store: &mut Store,
+        locks: &mut PageLocks,
+        opens: &OpenSet,
+    ) -> WalkAnswer
+        requires under_way { IsUnderWay self.old.phase }
+        requires max_depth { root.now.max_depth ≤ 16 }
+        requires may { MayStep (moment subtx.old locks.old store.old) }
+        requires file { HasCleanFile (P.bits_of root.now.pseudo) root.now.page (moment subtx.old locks.old store.old) }
+        requires stands { IsStanding (record { bits = P.bits_of root.now.pseudo; opens = opens.now; root = root.now.page; max_depth = root.now.max_depth; tx = subtx.old.tx }) self.old (view_of (moment subtx.old locks.old store.old)) }
+        ensures touches { TouchesOnePage (moment subtx.old locks.old store.old) (moment subtx.new locks.new store.new) }
+        ensures may { MayStep (moment subtx.new locks.new store.new) }
+        ensures clean { (clean : ℕ → Option Page) → IsCleanFor (moment subtx.old locks.old store.old) clean → IsCleanFor (moment subtx.new locks.new store.new) clean }
+        ensures tells { TellsAt self.old.phase (record { bits = P.bits_of root.now.pseudo; opens = opens.now; root = root.now.page; max_depth = root.now.max_depth; tx = subtx.old.tx }) (moment subtx.old locks.old store.old) (moment subtx.new locks.new store.new) self.old self.new result }
+    {
+        let phase = self.phase;
+        match phase {
+            Phase::Start => read_header(self, root, subtx, store, locks),
+            Phase::Headed(dir, row, depth) => {
+                read_directory(self, dir, row, depth, root, subtx, store, locks)
+            }
+            Phase::Placed(bucket, depth) => {
+                read_bucket(self, bucket, depth, root, subtx, store, locks)
+            }
+            Phase::Adding(value, bucket, depth, unsplit) => {
+                add_or_split(
+                    self, value, bucket, depth, unsplit, root, subtx, store, locks, opens,
+                )
+            }
+            Phase::Splitting(value, depth) => {
+                go_on_splitting(self, value, depth, root, subtx, store, locks, opens)
+            }
+            Phase::AtBucket(_, _, _) | Phase::Full(_) | Phase::Changed(_, _) => unreachable!(),
+        }
+    }
+}
