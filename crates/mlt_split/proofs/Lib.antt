@@ -2,10 +2,12 @@ pub mod Among
 pub mod Beginning
 pub mod Closing
 pub mod Doubling
+pub mod FirstLocks
 pub mod Header
 pub mod HeldPages
 pub mod InPlace
 pub mod Later
 pub mod Laws
 pub mod OldBucket
+pub mod OneBucket
 pub mod SecondHalf

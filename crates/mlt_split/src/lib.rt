@@ -13,3 +13,6 @@ mod split_laws;
 pub use phase::SplitPhase;
 pub use split::{Split, SplitAnswer};
 pub use split_laws::{closed_owners_keep_the_rest, closed_owners_keep_the_split};
+
+#[cfg(test)]
+mod tests;
