@@ -14,6 +14,3 @@ mod walk_laws;
 pub use answer::WalkAnswer;
 pub use pass::{Change, Pass, Phase};
 pub use walk::Walk;
-
-#[cfg(test)]
-mod tests;
