@@ -153,7 +153,7 @@ module _ (basis : Basis) (walk after : WalkFields) (old new : Moment) (value n r
 
   -- **What the record that is put tells.**
   pub put_tells : (told : WalkAnswer) → TellsOfPut old new walk after write value told → TellsOfAdding basis old new walk after value n room_depth told
-  put_tells answer.Changed tells = (phase, put_makes tells.0 tells.1)
+  put_tells answer.Changed tells = (phase, put_makes tells.0 tells.1, inr (write.page, subst (λ q. WritesHeldPage old new q write.page) (ap (λ (w : WriteFields). w.number) plan.written) tells.0))
   put_tells (answer.Refused reason) tells = subst (λ r. TellsOfAdding basis old new walk after value n room_depth (answer.Refused r)) (sym tells.0) refl
   put_tells answer.Going tells = absurd tells
   put_tells (answer.Waiting page by) tells = absurd tells
@@ -163,9 +163,9 @@ module _ (basis : Basis) (walk after : WalkFields) (old new : Moment) (value n r
 
 -- **A split that has begun.**
 pub begins_split : (basis : Basis) (walk after : WalkFields) (old new : Moment) (value n room_depth : ℕ) (unsplit : Bool) (split : SplitFields) → MayStep old → TouchesOnePage old new → (adds : IsAdding basis walk (view_of old) n room_depth unsplit)
-    → IsUnderWay (aim_of basis walk room_depth) (view_of new) split → steps_left split ≡ 1 + directory_steps split.depth split.directory_depth → split.directory_depth ≡ adds.header.depth
-    → after ≡ record walk { phase = at.Splitting value room_depth; split = Some split } → BeginsSplit basis new walk after value room_depth
-begins_split basis walk after old new value n room_depth unsplit split may touches adds under_way steps depth after_is =
+    → IsUnderWay (aim_of basis walk room_depth) (view_of new) split → steps_left split ≡ 1 + directory_steps split.depth split.directory_depth → split.depth ≡ adds.fields.depth → split.directory_depth ≡ adds.header.depth
+    → after ≡ record walk { phase = at.Splitting value room_depth; split = Some split } → BeginsSplit basis old new walk after value n room_depth
+begins_split basis walk after old new value n room_depth unsplit split may touches adds under_way steps bucket_depth depth after_is =
     let here : IsSplitting basis (record walk { phase = at.Splitting value room_depth; split = Some split }) (view_of new) room_depth = record {
       split = split;
       split_is = refl;
@@ -183,6 +183,12 @@ begins_split basis walk after old new value n room_depth unsplit split may touch
       phase = ap (λ (w : WalkFields). w.phase) after_is;
       split = split;
       split_is = ap (λ (w : WalkFields). w.split) after_is;
+      header = adds.header;
+      head = adds.rest.head;
+      bucket = adds.fields;
+      found = adds.rest.found;
+      depth = bucket_depth;
+      directory_depth = depth;
       steps = steps;
     }
 

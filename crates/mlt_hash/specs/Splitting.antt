@@ -3,11 +3,14 @@ use Rattle.std.specs.Prelude.{ℕ, ◌≡◌, ◌+◌, ◌⊎◌, false, Some}
 use Rattle.std.specs.FinMap as map
 use Rattle.mlt_types.specs.declared.mode.Mode.TheVariants.{Exclusive}
 use Rattle.mlt_types.specs.declared.refusal.Refusal.TheVariants as refusal
+use Rattle.mlt_page.specs.Values.{BucketFields, HeadFields}
+use Rattle.mlt_page.specs.declared.page.Page.TheVariants as page
 use Rattle.mlt_page_locks.specs.Requests.{IsLowest, conflicts}
 use Rattle.mlt_held.specs.Moments.{Moment}
-use Rattle.mlt_held.specs.PageSteps.{WritesHeldPage}
+use Rattle.mlt_held.specs.PageSteps.{WritesAtMost, WritesHeldPage}
 use Rattle.mlt_held.specs.Views.{view_of}
 use Rattle.mlt_record.specs.Plans.{WriteFields}
+use Rattle.mlt_split.specs.Rests.{held_page}
 use Rattle.mlt_split.specs.Splits.{SplitFields, directory_steps, steps_left}
 use Rattle.mlt_split.specs.Tells.{Rests}
 use Rattle.mlt_hash.specs.Walks.{Basis, IsStanding, WalkFields, aim_of}
@@ -24,13 +27,19 @@ pub record StandsOn (basis : Basis) (new : Moment) (before after : WalkFields) :
   pub same : IsSameWalk before after
   pub stands : IsStanding basis after (view_of new)
 
--- A split of a bucket begins: with the new bucket made, it takes so many steps more as the depths of the bucket and of
+-- A split of the bucket on page n begins: with the new bucket made, it takes so many steps more as the depths of the bucket and of
 -- the directory say.
-pub record BeginsSplit (basis : Basis) (new : Moment) (before after : WalkFields) (value room_depth : ℕ) : Type 0 where
+pub record BeginsSplit (basis : Basis) (old new : Moment) (before after : WalkFields) (value n room_depth : ℕ) : Type 0 where
   pub on : StandsOn basis new before after
   pub phase : after.phase ≡ at.Splitting value room_depth
   pub split : SplitFields
   pub split_is : after.split ≡ Some split
+  pub header : HeadFields
+  pub head : held_page (view_of old) basis.root ≡ Some (page.Head header)
+  pub bucket : BucketFields
+  pub found : held_page (view_of old) n ≡ Some (page.Bucket bucket)
+  pub depth : split.depth ≡ bucket.depth
+  pub directory_depth : split.directory_depth ≡ header.depth
   pub steps : steps_left split ≡ 1 + directory_steps split.depth split.directory_depth
 
 -- The split goes on, one step fewer is left.
@@ -64,8 +73,8 @@ TellsOfPut old new before after write value other = ⊥
 -- a step of a walk whose bucket had no room: it puts the record where there is room now, but splits once at least; or it
 -- goes on with the split
 abbrev pub TellsOfAdding : Basis → Moment → Moment → WalkFields → WalkFields → ℕ → ℕ → ℕ → WalkAnswer → Type 0
-TellsOfAdding basis old new before after value bucket room_depth answer.Going = BeginsSplit basis new before after value room_depth
-TellsOfAdding basis old new before after value bucket room_depth answer.Changed = (before.phase ≡ at.Adding value bucket room_depth false) × Makes basis new before after (change.Put value)
+TellsOfAdding basis old new before after value bucket room_depth answer.Going = BeginsSplit basis old new before after value bucket room_depth
+TellsOfAdding basis old new before after value bucket room_depth answer.Changed = (before.phase ≡ at.Adding value bucket room_depth false) × Makes basis new before after (change.Put value) × WritesAtMost old new bucket
 TellsOfAdding basis old new before after value bucket room_depth (answer.Refused refusal.NoRoom) = map.len old.store.pages ≡ old.store.max_pages
 TellsOfAdding basis old new before after value bucket room_depth (answer.Refused reason) = reason ≡ refusal.OutOfMemory
 TellsOfAdding basis old new before after value bucket room_depth other = ⊥

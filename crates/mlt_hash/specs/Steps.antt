@@ -1,5 +1,5 @@
 -- What the steps and the changes of a walk tell
-use Rattle.std.specs.Prelude.{ℕ, ◌≡◌, ◌+◌, Option}
+use Rattle.std.specs.Prelude.{ℕ, ◌≡◌, ◌<◌, ◌+◌, Option}
 use Rattle.mlt_types.specs.declared.mode.Mode.{Mode}
 use Rattle.mlt_types.specs.declared.mode.Mode.TheVariants.{Exclusive}
 use Rattle.mlt_page_locks.specs.Requests.{IsLowest, conflicts}
@@ -61,10 +61,10 @@ pub record GoesOn (basis : Basis) (new : Moment) (before after : WalkFields) : T
   pub stands : IsStanding basis after (view_of new)
   pub fewer : steps_to_bucket after.phase + 1 ≡ steps_to_bucket before.phase
 
--- A step to the bucket: it goes on, or has found the key's value, or waits for the next page, told the lowest transaction
--- whose lock stands against its own, and nothing has changed.
+-- A step to the bucket: it goes on, with more to come, or has found the key's value, or waits for the next page, told the
+-- lowest transaction whose lock stands against its own, and nothing has changed.
 abbrev pub TellsOfPath : Basis → Moment → Moment → WalkFields → WalkFields → WalkAnswer → Type 0
-TellsOfPath basis old new before after answer.Going = GoesOn basis new before after
+TellsOfPath basis old new before after answer.Going = GoesOn basis new before after × (0 < steps_to_bucket after.phase)
 TellsOfPath basis old new before after (answer.Waiting page by) = (page ≡ next_page basis.root before.phase) × IsLowest (conflicts old.locks old.running.tx page (next_mode before before.phase)) by × (new ≡ old) × (after ≡ before)
 TellsOfPath basis old new before after (answer.Found value) = GoesOn basis new before after × HasFound after.phase value
 TellsOfPath basis old new before after other = ⊥

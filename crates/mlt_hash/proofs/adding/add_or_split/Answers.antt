@@ -85,7 +85,7 @@ returns-in-Ok-clause-tells g c =
     let depths = c.in-Ok.ensures.depths adds.header adds.fields rest in
     elim c.keep_split.ensures.told [
       | inl going ↦
-          let begun = begins_split basis walk c.keep_split.new.walk old new c.args.value c.args.number c.args.room_depth c.args.unsplit c.in-Ok.split c.requires.1.1.1.1.0 touches adds under_way c.in-Ok.ensures.steps depths.1 (c.keep_split.ensures.kept going) in
+          let begun = begins_split basis walk c.keep_split.new.walk old new c.args.value c.args.number c.args.room_depth c.args.unsplit c.in-Ok.split c.requires.1.1.1.1.0 touches adds under_way c.in-Ok.ensures.steps depths.0 depths.1 (c.keep_split.ensures.kept going) in
           subst (λ r. TellsOfAdding basis old new walk c.keep_split.new.walk c.args.value c.args.number c.args.room_depth r) (sym going) begun
       | inr refused ↦ subst (λ r. TellsOfAdding basis old new walk c.keep_split.new.walk c.args.value c.args.number c.args.room_depth r) (sym refused) refl
     ]
