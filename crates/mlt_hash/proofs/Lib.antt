@@ -1,4 +1,12 @@
 pub mod Additions
+pub mod Alone
+pub mod AloneChanges
+pub mod AloneEnds
+pub mod AlonePages
+pub mod AlonePasses
+pub mod AloneSplits
+pub mod AloneSteps
+pub mod AloneWalks
 pub mod InPlace
 pub mod Laws
 pub mod Owners

@@ -1,3 +1,5 @@
+pub mod Alone
+pub mod AloneWalks
 pub mod Changes
 pub mod Passes
 pub mod Splitting

@@ -8,6 +8,7 @@ mod change;
 mod pass;
 mod path;
 mod room;
+mod runner;
 mod walk;
 mod walk_laws;
 

@@ -1,0 +1,9 @@
+use Rattle.mlt_held.specs.Moments.{moment}
+use Rattle.mlt_hash.proofs.AloneEnds.{alone_after, idle_after}
+use Rattle.mlt_hash.proofs.runner.Runner.end.Goals as goal
+
+pub invariant_of-self : goal.invariant_of-self
+invariant_of-self c = alone_after (moment c.self.inside.subtx c.self.inside.locks c.self.inside.store) (moment c.end.new.self c.end.new.locks c.self.inside.store) c.self.invariant c.end.ensures.images c.end.ensures.locks
+
+pub returns-clause-idle : goal.returns-clause-idle
+returns-clause-idle c = idle_after (moment c.self.inside.subtx c.self.inside.locks c.self.inside.store) (moment c.end.new.self c.end.new.locks c.self.inside.store) c.self.invariant c.end.ensures.images c.end.ensures.locks
