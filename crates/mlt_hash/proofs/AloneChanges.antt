@@ -1,32 +1,31 @@
 -- A change that a walk makes alone: what is in the store then
-use Rattle.std.proofs.Common.{◌≡◌, ℕ, ◌≤◌, ◌<◌, ◌^◌, Option, None, Some, IsSome, refl, sym, ap, subst, ◌∙◌, inl, inr, arith}
+use Rattle.std.proofs.Common.{◌≡◌, ℕ, ◌≤◌, Option, Some, refl, sym, ap, subst, ◌∙◌, inl, inr, arith}
 use Rattle.std.specs.FinSet as set
 use Rattle.std.specs.Ordering.{nat_cmp}
-use Rattle.std.specs.FinMap as map
 use Rattle.std.proofs.lemmas.Bool.Decides.{nat_tests}
 use Rattle.mlt_page.specs.Values.{BucketFields, HeadFields}
 use Rattle.mlt_page.specs.declared.page.Page.{Page}
 use Rattle.mlt_page.specs.declared.page.Page.TheVariants as page
-use Rattle.mlt_store.specs.Stores.{PageStore, Pages, page_at}
+use Rattle.mlt_store.specs.Stores.{PageStore, page_at}
 use Rattle.mlt_page_locks.specs.Maps.{get_inserted}
 use Rattle.mlt_hash_form.specs.File.{HasForm, depth_of, header_of, look_up}
 use Rattle.mlt_hash_form.specs.Held.{over, own_or}
 use Rattle.mlt_hash_form.proofs.HeldPages.{changed_values}
 use Rattle.mlt_held.specs.Moments.{IsCleanFor, MayStep, Moment}
-use Rattle.mlt_held.specs.PageSteps.{WritesAtMost, WritesHeldPage}
+use Rattle.mlt_held.specs.PageSteps.{WritesAtMost}
 use Rattle.mlt_held.specs.Views.{View, view_of}
-use Rattle.mlt_hash.specs.Alone.{IsAlone, KeepsBefore, basis_of, pages_before}
-use Rattle.mlt_hash.specs.AloneWalks.{ChangesValue, HasChanged, IsHashFile}
+use Rattle.mlt_hash.specs.Alone.{IsAlone, basis_of, pages_before}
+use Rattle.mlt_hash.specs.AloneWalks.{HasChanged, IsHashFile}
 use Rattle.mlt_hash.specs.Changes.{IsAtRecord, Makes, TellsOfChange, page_of}
 use Rattle.mlt_hash.specs.Passes.{value_after}
-use Rattle.mlt_hash.specs.Walks.{Basis, IsAtBucket, IsChanged, IsStanding, IsUnwritten, Stands, WalkFields, dir_of}
+use Rattle.mlt_hash.specs.Walks.{Basis, IsAtBucket, IsChanged, IsStanding, IsUnwritten, Stands, WalkFields}
 use Rattle.mlt_hash.specs.declared.answer.WalkAnswer.{WalkAnswer}
 use Rattle.mlt_hash.specs.declared.answer.WalkAnswer.TheVariants as answer
 use Rattle.mlt_hash.specs.declared.pass.Change.{Change}
 use Rattle.mlt_hash.specs.declared.pass.Phase.{Phase}
 use Rattle.mlt_hash.specs.declared.pass.Phase.TheVariants as at
 use Rattle.mlt_hash.proofs.Alone.{alone_after_write, sees_before, store_is_over, write_keeps_before, written_over_before}
-use Rattle.mlt_hash.proofs.AloneWalks.{file_kept, same_before}
+use Rattle.mlt_hash.proofs.AloneWalks.{file_kept}
 
 -- **Where a walk has changed its bucket, the store has a file with the new value.**
 pub changed_alone : (basis : Basis) (m : Moment) (walk : WalkFields) (bucket : ℕ) (done : Change) → IsAlone m → IsHashFile basis.bits (pages_before m) basis.root basis.max_depth → IsChanged basis walk (view_of m) bucket done

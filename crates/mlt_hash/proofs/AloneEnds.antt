@@ -1,20 +1,20 @@
 -- A transaction alone that holds nothing: where it begins, ends or is rolled back
-use Rattle.std.proofs.Common.{◌≡◌, ◌≢◌, ℕ, ◌≤◌, ◌<◌, false, true, cond, eqb, Option, None, Some, is_some, unwrap_or, refl, sym, ap, subst, ◌∙◌, inl, inr, arith}
+use Rattle.std.proofs.Common.{◌≡◌, ℕ, ◌≤◌, false, cond, Option, None, Some, is_some, unwrap_or, sym, ap, subst, ◌∙◌, inl, inr, arith}
 use Rattle.std.specs.Ordering.{nat_cmp}
 use Rattle.std.specs.FinMap as map
 use Rattle.std.proofs.lemmas.Bool.{cases_eq, false≢true}
 use Rattle.std.proofs.lemmas.Bool.Decides.{nat_tests}
 use Rattle.mlt_types.specs.declared.mode.Mode.{Mode}
 use Rattle.mlt_page.specs.declared.page.Page.{Page}
-use Rattle.mlt_store.specs.Stores.{PageStore, Pages, page_at}
+use Rattle.mlt_store.specs.Stores.{PageStore, page_at}
 use Rattle.mlt_page_locks.specs.Maps.{get_removed, same_entries}
-use Rattle.mlt_page_locks.specs.LockTables.{AreCompatible, LockTable, Modes, can_write, is_holder, no_locks}
+use Rattle.mlt_page_locks.specs.LockTables.{LockTable, Modes, can_write, no_locks}
 use Rattle.mlt_page_locks.specs.LockLaws.{few_none, room_for_few}
-use Rattle.mlt_page_locks.specs.Requests.{granted, released}
+use Rattle.mlt_page_locks.specs.Requests.{released}
 use Rattle.mlt_subtx.specs.Images.{Images, Running, image_of, or_image, put_back, started}
 use Rattle.mlt_subtx.specs.ImageLaws.{page_at-put_back}
 use Rattle.mlt_subtx.specs.RunningLaws.{locks_there-none}
-use Rattle.mlt_held.specs.Moments.{MayStep, Moment, moment}
+use Rattle.mlt_held.specs.Moments.{Moment}
 use Rattle.mlt_held.specs.Views.{page_written, view_of}
 use Rattle.mlt_held.proofs.Moments.{may_start}
 use Rattle.mlt_hash.specs.Alone.{IsAlone, IsIdle, KeepsBefore, pages_before}
@@ -47,10 +47,17 @@ is_resting m idle i = record {
 pub idle_is_alone : (m : Moment) → IsIdle m → 1 ≤ m.locks.max_open → IsAlone m
 idle_is_alone m idle places = subst IsAlone (sym (is_resting m idle)) (alone_at_rest m.running.tx m.locks.max_open m.store places)
 
+-- so is one that starts beside an empty table of locks,
+pub idle_at_start : (m : Moment) (tx n : ℕ) → m.running ≡ started tx → m.locks ≡ no_locks n → IsIdle m
+idle_at_start m tx n running locks = record { unwritten = ap (λ (r : Running). r.images) running; unheld = ap (λ (t : LockTable). t.held) locks }
+
+pub alone_at_start : (m : Moment) (tx n : ℕ) → m.running ≡ started tx → m.locks ≡ no_locks n → 1 ≤ n → IsAlone m
+alone_at_start m tx n running locks places = idle_is_alone m (idle_at_start m tx n running locks) (subst (λ (k : ℕ). 1 ≤ k) (sym (ap (λ (t : LockTable). t.max_open) locks)) places)
+
 no_image : (images : Images) (q : ℕ) → images ≡ map.empty → image_of images q ≡ None
 no_image images q none = ap (λ (images : Images). image_of images q) none ∙ map.get-empty {X = Option Page} nat_cmp q
 
--- finds the store as it was before,
+-- it finds the store as it was before,
 pub idle_before : (m : Moment) (q : ℕ) → IsIdle m → pages_before m q ≡ page_at m.store.pages q
 idle_before m q idle = ap (λ o. or_image o (page_at m.store.pages q)) (no_image m.running.images q idle.unwritten)
 

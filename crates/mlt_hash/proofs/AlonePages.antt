@@ -8,15 +8,15 @@ use Rattle.std.specs.FinMap.Entries.{find}
 use Rattle.std.proofs.lemmas.Bool.{false≢true}
 use Rattle.std.proofs.lemmas.Bool.Decides.{nat_tests}
 use Rattle.mlt_page.specs.declared.page.Page.{Page}
-use Rattle.mlt_store.specs.Stores.{Pages, page_at}
+use Rattle.mlt_store.specs.Stores.{page_at}
 use Rattle.mlt_page_locks.specs.Maps.{get_removed, same_entries}
-use Rattle.mlt_page_locks.specs.LockTables.{can_read, page_count, pages_of}
+use Rattle.mlt_page_locks.specs.LockTables.{page_count, pages_of}
 use Rattle.mlt_page_locks.specs.LockLaws.{writer_reads}
-use Rattle.mlt_subtx.specs.Images.{Images, image_of, or_image, put_back}
+use Rattle.mlt_subtx.specs.Images.{image_of, or_image, put_back}
 use Rattle.mlt_subtx.specs.ImageLaws.{not_there, page_at-put_back, same_pages}
 use Rattle.mlt_subtx.specs.CleanLaws.{not_true}
 use Rattle.mlt_held.specs.Moments.{MayStep, Moment}
-use Rattle.mlt_hash.specs.Alone.{KeepsBefore, pages_before}
+use Rattle.mlt_hash.specs.Alone.{KeepsBefore}
 use Rattle.mlt_hash.specs.AloneWalks.{HasFewPagesLeft}
 
 -- the keys of a list of entries

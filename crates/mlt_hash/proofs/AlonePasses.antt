@@ -1,5 +1,5 @@
 -- What a pass finds that runs alone, and what it tells of its addition
-use Rattle.std.proofs.Common.{◌≡◌, ℕ, ◌≤◌, ◌<◌, ◌^◌, true, Bool, List, Option, None, Some, refl, sym, ap, subst, ◌∙◌, inl, inr, arith}
+use Rattle.std.proofs.Common.{◌≡◌, ℕ, ◌≤◌, ◌<◌, ◌^◌, true, Bool, Option, None, Some, IsSome, refl, sym, ap, subst, ◌∙◌, inl, inr, arith}
 use Rattle.std.specs.List.{list_all}
 use Rattle.std.specs.Ordering.{nat_cmp}
 use Rattle.std.specs.FinSet as set
@@ -8,18 +8,17 @@ use Rattle.mlt_page.specs.Slots.{is_kept}
 use Rattle.mlt_page.specs.Values.{BucketFields}
 use Rattle.mlt_page.specs.declared.page.Page.{Page}
 use Rattle.mlt_page.specs.declared.page.Page.TheVariants as page
-use Rattle.mlt_page.specs.declared.slot.Slot.{Slot}
 use Rattle.mlt_store.specs.Stores.{page_at}
-use Rattle.mlt_hash_form.specs.File.{IsPath, bucket_of, buckets_of, depth_of, lead_of, look_up}
-use Rattle.mlt_hash_form.specs.Room.{IsCrowded, is_crowded}
+use Rattle.mlt_hash_form.specs.File.{bucket_of, buckets_of, depth_of, lead_of, look_up}
+use Rattle.mlt_hash_form.specs.Room.{is_crowded}
 use Rattle.mlt_hash_form.proofs.Crowd.{crowded_test}
 use Rattle.mlt_hash_form.proofs.InPages.{led_at}
 use Rattle.mlt_held.specs.Moments.{IsCleanFor, MayStep, Moment}
 use Rattle.mlt_held.specs.PageSteps.{WritesAtMost}
 use Rattle.mlt_held.specs.Views.{View, view_of}
 use Rattle.mlt_hash.specs.Alone.{IsAlone, KeepsBefore, basis_of, pages_before}
-use Rattle.mlt_hash.specs.AloneWalks.{HasArrived, HasChanged, IsAddingAt, IsFullFor, IsHashFile, MayAdd, NeedsRoom, NeedsWidth, NeverHasRoomFor, TellsOfPass, added_value, next_of}
-use Rattle.mlt_hash.specs.Changes.{HasNoRoom, IsAtAbsent, IsFull, Makes, MustWiden, NeedsSplit, TellsOfAddition, crowded_at, page_of}
+use Rattle.mlt_hash.specs.AloneWalks.{HasArrived, HasChanged, IsAddingAt, IsFullFor, IsHashFile, MayAdd, NeedsRoom, NeverHasRoomFor, TellsOfPass, added_value, next_of}
+use Rattle.mlt_hash.specs.Changes.{HasNoRoom, IsAtAbsent, IsAtRecord, IsFull, Makes, NeedsSplit, TellsOfAddition, page_of}
 use Rattle.mlt_hash.specs.Passes.{IsNextPass, value_after}
 use Rattle.mlt_hash.specs.Steps.{HasFound, IsSameWalk}
 use Rattle.mlt_hash.specs.Walks.{Basis, IsAtBucket, IsStanding, Stands, WalkFields}
@@ -32,7 +31,7 @@ use Rattle.mlt_hash.specs.declared.pass.Pass.TheVariants as pass
 use Rattle.mlt_hash.specs.declared.pass.Phase.{Phase}
 use Rattle.mlt_hash.specs.declared.pass.Phase.TheVariants as at
 use Rattle.mlt_hash.proofs.Alone.{alone_after_write, keeps_both, sees_before, write_keeps_before}
-use Rattle.mlt_hash.proofs.AloneChanges.{made_alone, shallow_after_write}
+use Rattle.mlt_hash.proofs.AloneChanges.{made_alone, shallow_after_write, unwritten_store}
 use Rattle.mlt_hash.proofs.AloneWalks.{file_kept, same_before, same_walks}
 use Rattle.mlt_hash.proofs.Laws.{found_there, path_taken}
 
@@ -56,6 +55,23 @@ found_absent (at.Full next) value is none = absurd is
 found_absent (at.Adding own bucket room_depth unsplit) value is none = absurd is
 found_absent (at.Splitting own room_depth) value is none = absurd is
 found_absent (at.Changed bucket done) value is none = absurd is
+
+-- a walk that has found a value is at a record
+pub found_record : (phase : Phase) (value : Option ℕ) → HasFound phase value → IsSome value → IsAtRecord phase
+found_record (at.AtBucket bucket depth found) value is there = subst IsSome (sym is) there
+found_record at.Start value is there = absurd is
+found_record (at.Headed dir row depth) value is there = absurd is
+found_record (at.Placed bucket depth) value is there = absurd is
+found_record (at.Full next) value is there = absurd is
+found_record (at.Adding own bucket room_depth unsplit) value is there = absurd is
+found_record (at.Splitting own room_depth) value is there = absurd is
+found_record (at.Changed bucket done) value is there = absurd is
+
+-- a walk that has arrived has written nothing
+pub arrived_store : (basis : Basis) (m : Moment) (before walk : WalkFields) (value : Option ℕ) (q : ℕ) → IsAlone m → HasArrived basis m before walk value → page_at m.store.pages q ≡ pages_before m q
+arrived_store basis m before walk value q alone arrived =
+    let here = arrived_at basis walk (view_of m) walk.phase value arrived.found arrived.stands in
+    unwritten_store m q alone.may here.1.unwritten
 
 -- **What a walk alone has found is the value of its key.**
 pub found_is_value : (basis : Basis) (m : Moment) (before walk : WalkFields) (value : Option ℕ) → IsAlone m → HasArrived basis m before walk value → look_up basis.bits (pages_before m) basis.root before.key ≡ value

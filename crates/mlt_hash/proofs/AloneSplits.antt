@@ -1,12 +1,9 @@
 -- The splits of a walk alone: they come to an end, and leave the directory as shallow as it has to be
-use Rattle.std.proofs.Common.{◌≡◌, ℕ, ◌<◌, ◌≤◌, ◌+◌, ◌*◌, ◌-◌, ◌^◌, ◌⊎◌, Bool, true, false, cond, Option, None, Some, is_some, unwrap_or, nat_eq, nat_lt, if◌then◌else◌, refl, sym, ap, subst, ◌∙◌, inl, inr, arith}
-use Rattle.std.specs.FinSet as set
+use Rattle.std.proofs.Common.{◌≡◌, ℕ, ◌<◌, ◌≤◌, ◌+◌, ◌*◌, ◌-◌, ◌^◌, Bool, true, false, cond, Option, None, Some, is_some, unwrap_or, nat_eq, nat_lt, if◌then◌else◌, refl, sym, ap, subst, ◌∙◌, inl, inr, arith}
 use Rattle.std.specs.FinMap as map
-use Rattle.std.proofs.lemmas.Bool.{cases_eq, false≢true}
+use Rattle.std.proofs.lemmas.Bool.{cases_eq}
 use Rattle.std.proofs.Math.Nat.{pow-le-pow_right}
-use Rattle.mlt_types.specs.declared.refusal.Refusal.{Refusal}
 use Rattle.mlt_types.specs.declared.refusal.Refusal.TheVariants as refusal
-use Rattle.mlt_page.specs.Values.{BucketFields, HeadFields}
 use Rattle.mlt_page.specs.declared.page.Page.{Page}
 use Rattle.mlt_page.specs.declared.page.Page.TheVariants as page
 use Rattle.mlt_store.specs.Stores.{page_at}
@@ -18,16 +15,16 @@ use Rattle.mlt_hash_form.specs.Held.{own_or}
 use Rattle.mlt_held.specs.Moments.{HasCleanFile, MayStep, Moment}
 use Rattle.mlt_held.specs.PageSteps.{WritesAtMost}
 use Rattle.mlt_held.specs.Views.{page_written, view_of}
-use Rattle.mlt_split.specs.Rests.{Aim, IsAtRest, held_page, most_held}
+use Rattle.mlt_split.specs.Rests.{Aim, held_page, most_held}
 use Rattle.mlt_split.specs.Splits.{HoldsAmongAt, IsUnderWay, SplitFields, directory_steps, steps_left}
 use Rattle.mlt_split.specs.declared.phase.SplitPhase.{SplitPhase}
 use Rattle.mlt_split.specs.declared.phase.SplitPhase.TheVariants as split_at
-use Rattle.mlt_split.proofs.Among.{count_is_few, few_pages, most_is_small}
+use Rattle.mlt_split.proofs.Among.{count_is_few, most_is_small}
 use Rattle.mlt_split.proofs.Beginning.{few_at_rest}
 use Rattle.mlt_split.proofs.Doubling.{few_at_double}
 use Rattle.mlt_split.proofs.Header.{depth_of_header}
 use Rattle.mlt_split.proofs.HeldPages.{clean_now}
-use Rattle.mlt_split.proofs.Later.{begins_now, stands_now}
+use Rattle.mlt_split.proofs.Later.{begins_now}
 use Rattle.mlt_split.proofs.OldBucket.{depths_are_small}
 use Rattle.mlt_split.proofs.SecondHalf.{few_at_second_half}
 use Rattle.mlt_hash.specs.Alone.{HasNotWaited, IsAlone, KeepsBefore, basis_of, pages_before}
@@ -35,7 +32,6 @@ use Rattle.mlt_hash.specs.AloneWalks.{HasChanged, HasFewPagesLeft, IsAddingAt, I
 use Rattle.mlt_hash.specs.Changes.{Makes}
 use Rattle.mlt_hash.specs.Splitting.{BeginsSplit, SplitCloses, SplitGoesOn, TellsAt, TellsOfAdding, TellsOfSplitting}
 use Rattle.mlt_hash.specs.Splitting.{IsUnderWay as HasNextStep}
-use Rattle.mlt_hash.specs.Steps.{IsSameWalk}
 use Rattle.mlt_hash.specs.Walks.{Basis, IsAdding, IsSplitting, IsStanding, Stands, WalkFields, aim_of}
 use Rattle.mlt_hash.specs.declared.answer.WalkAnswer.{WalkAnswer}
 use Rattle.mlt_hash.specs.declared.answer.WalkAnswer.TheVariants as answer
@@ -45,7 +41,7 @@ use Rattle.mlt_hash.specs.declared.pass.Phase.TheVariants as at
 use Rattle.mlt_hash.proofs.Alone.{before_is_clean, keeps_both, keeps_same, reads_image_back}
 use Rattle.mlt_hash.proofs.AloneChanges.{made_alone, other_page_stays}
 use Rattle.mlt_hash.proofs.AlonePages.{few_left, few_left_later}
-use Rattle.mlt_hash.proofs.AloneWalks.{file_kept, same_basis, same_walks}
+use Rattle.mlt_hash.proofs.AloneWalks.{file_kept, same_basis}
 
 reads_held : (b : Bool) (image : Option (Option Page)) (stored : Option Page) (read : Page) → (is_some image ≡ true → b ≡ true) → (is_some image ≡ true → is_some stored ≡ true)
     → own_or (cond b (page_written image stored) None) (unwrap_or (cond b (Some (or_image image stored)) None) None) ≡ Some read → stored ≡ Some read

@@ -1,5 +1,5 @@
 -- The way of a walk that runs alone
-use Rattle.std.proofs.Common.{◌≡◌, ℕ, ◌<◌, ◌≤◌, ◌+◌, ◌^◌, Option, Some, None, refl, sym, ap, subst, ◌∙◌, arith}
+use Rattle.std.proofs.Common.{◌≡◌, ℕ, ◌<◌, Option, refl, sym, subst, ◌∙◌, arith}
 use Rattle.std.specs.FinSet as set
 use Rattle.mlt_page.specs.declared.page.Page.{Page}
 use Rattle.mlt_held.specs.Moments.{Moment}
@@ -7,7 +7,7 @@ use Rattle.mlt_held.specs.Views.{view_of}
 use Rattle.mlt_hash.specs.Alone.{KeepsBefore, basis_of, pages_before}
 use Rattle.mlt_hash.specs.AloneWalks.{HasArrived, IsHashFile}
 use Rattle.mlt_hash.specs.Splitting.{IsUnderWay, TellsAt}
-use Rattle.mlt_hash.specs.Steps.{GoesOn, IsSameWalk, TellsOfPath, steps_to_bucket}
+use Rattle.mlt_hash.specs.Steps.{IsSameWalk, TellsOfPath, steps_to_bucket}
 use Rattle.mlt_hash.specs.Walks.{Basis, IsAtStart, IsStanding, Stands, WalkFields}
 use Rattle.mlt_hash.specs.declared.answer.WalkAnswer.{WalkAnswer}
 use Rattle.mlt_hash.specs.declared.answer.WalkAnswer.TheVariants as answer

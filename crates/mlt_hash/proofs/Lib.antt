@@ -2,13 +2,16 @@ pub mod Additions
 pub mod Alone
 pub mod AloneChanges
 pub mod AloneEnds
+pub mod AloneInsertions
 pub mod AlonePages
 pub mod AlonePasses
 pub mod AloneSplits
 pub mod AloneSteps
 pub mod AloneWalks
+pub mod HashFiles
 pub mod InPlace
 pub mod Laws
+pub mod OpenedFiles
 pub mod Owners
 pub mod Paths
 pub mod Puts

@@ -1,5 +1,5 @@
 -- What walks do that run alone
-use Rattle.std.specs.Prelude.{ℕ, ◌≡◌, ◌<◌, ◌≤◌, ◌+◌, ◌^◌, true, Option, Some, None}
+use Rattle.std.specs.Prelude.{ℕ, ◌≡◌, ◌<◌, ◌≤◌, ◌+◌, ◌^◌, ◌⊎◌, true, Option, Some}
 use Rattle.std.specs.List.{list_all}
 use Rattle.std.specs.FinMap as map
 use Rattle.std.specs.FinSet as set
@@ -107,3 +107,22 @@ TellsOfSplits basis new key value answer.Changed = HasChanged basis new key (Som
 TellsOfSplits basis new key value (answer.Refused refusal.NoRoom) = HasFewPagesLeft (put_back new.running.images new.store.pages) new.store.max_pages
 TellsOfSplits basis new key value (answer.Refused reason) = reason ≡ refusal.OutOfMemory
 TellsOfSplits basis new key value other = ⊥
+
+-- Why an addition finds no room: no split makes any, or a split is needed and there are few pages left.
+abbrev pub FindsNoRoom : (ℕ → ℕ) → (ℕ → Option Page) → Pages → ℕ → ℕ → ℕ → ℕ → Type 0
+FindsNoRoom bits before pages root max_depth max_pages key = NeverHasRoomFor bits before max_depth key ⊎ (IsFullFor bits before root key × HasFewPagesLeft pages max_pages)
+
+-- what a later pass tells, with its splits
+abbrev pub TellsOfLater : Basis → Moment → WalkFields → WalkFields → ℕ → WalkAnswer → Type 0
+TellsOfLater basis new before after value answer.Changed = HasChanged basis new before.key (Some value)
+TellsOfLater basis new before after value answer.Widen = NeedsWidth before after
+TellsOfLater basis new before after value (answer.Refused refusal.NoRoom) = FindsNoRoom basis.bits (pages_before new) (put_back new.running.images new.store.pages) basis.root basis.max_depth new.store.max_pages before.key
+TellsOfLater basis new before after value (answer.Refused reason) = reason ≡ refusal.OutOfMemory
+TellsOfLater basis new before after value other = ⊥
+
+-- what an addition tells with all its passes
+abbrev pub TellsOfInsertion : Basis → Moment → ℕ → ℕ → WalkAnswer → Type 0
+TellsOfInsertion basis new key value answer.Changed = HasChanged basis new key (Some value)
+TellsOfInsertion basis new key value (answer.Refused refusal.NoRoom) = FindsNoRoom basis.bits (pages_before new) (put_back new.running.images new.store.pages) basis.root basis.max_depth new.store.max_pages key
+TellsOfInsertion basis new key value (answer.Refused reason) = reason ≡ refusal.OutOfMemory
+TellsOfInsertion basis new key value other = ⊥

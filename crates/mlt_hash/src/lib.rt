@@ -5,6 +5,8 @@
 mod adding;
 mod answer;
 mod change;
+mod hash_file;
+mod opening;
 mod pass;
 mod path;
 mod room;
@@ -13,5 +15,7 @@ mod walk;
 mod walk_laws;
 
 pub use answer::WalkAnswer;
+pub use hash_file::HashFile;
+pub use opening::open_file;
 pub use pass::{Change, Pass, Phase};
 pub use walk::Walk;

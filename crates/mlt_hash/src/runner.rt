@@ -9,7 +9,8 @@ ghost use Rattle.mlt_hash.specs.Walks.{IsAtStart, IsStanding};
 ghost use Rattle.mlt_hash.specs.Splitting.{IsUnderWay, TellsAt};
 ghost use Rattle.mlt_hash.specs.Changes.{IsAtRecord};
 ghost use Rattle.mlt_hash.specs.Alone.{HasNotWaited, IsAlone, IsIdle, KeepsBefore, basis_of, pages_before};
-ghost use Rattle.mlt_hash.specs.AloneWalks.{HasArrived, HasChanged, IsHashFile, MayAdd, TellsOfPass, TellsOfSplits, added_value, next_of};
+ghost use Rattle.mlt_hash.specs.AloneWalks.{HasArrived, HasChanged, IsHashFile, MayAdd, TellsOfInsertion, TellsOfLater, TellsOfPass, TellsOfSplits, added_value, next_of};
+ghost use Rattle.mlt_hash.specs.declared.pass.Pass.{Pass};
 ghost use Rattle.mlt_hash.specs.declared.pass.Phase.{Phase};
 
 use crate::answer::WalkAnswer;
@@ -138,6 +139,69 @@ impl Runner {
                 WalkAnswer::Going => {}
                 answer => return answer,
             }
+        }
+    }
+
+    /// A later pass, with its splits.
+    pub(crate) fn add_with_splits<P: Pseudo>(
+        &mut self,
+        walk: &mut Walk,
+        value: Value,
+        root: &Root<P>,
+    ) -> WalkAnswer
+        requires full { walk.old.phase ≡ Phase.Full (next_of walk.old.phase) }
+        requires later { next_of walk.old.phase ≢ Pass.First }
+        requires mode { walk.old.mode ≡ Mode.Exclusive }
+        requires file { IsHashFile (P.bits_of root.now.pseudo) (pages_before self.old) root.now.page root.now.max_depth }
+        requires absent { look_up (P.bits_of root.now.pseudo) (pages_before self.old) root.now.page walk.old.key ≡ None }
+        ensures keeps { KeepsBefore self.old self.new }
+        ensures tells { TellsOfLater (basis_of (P.bits_of root.now.pseudo) root.now.page root.now.max_depth self.old) self.new (record walk.old { pass = next_of walk.old.phase; phase = Phase.Start }) walk.new value result }
+    {
+        match self.add_again(walk, value, root) {
+            WalkAnswer::NeedSplit => self.split(walk, root),
+            answer => answer,
+        }
+    }
+
+    /// The pass that follows a first one, and a wide one where a narrow one has to be wide.
+    pub(crate) fn add_in_later_passes<P: Pseudo>(
+        &mut self,
+        walk: &mut Walk,
+        value: Value,
+        root: &Root<P>,
+    ) -> WalkAnswer
+        requires full { walk.old.phase ≡ Phase.Full (next_of walk.old.phase) }
+        requires later { next_of walk.old.phase ≢ Pass.First }
+        requires mode { walk.old.mode ≡ Mode.Exclusive }
+        requires file { IsHashFile (P.bits_of root.now.pseudo) (pages_before self.old) root.now.page root.now.max_depth }
+        requires absent { look_up (P.bits_of root.now.pseudo) (pages_before self.old) root.now.page walk.old.key ≡ None }
+        ensures keeps { KeepsBefore self.old self.new }
+        ensures tells { TellsOfInsertion (basis_of (P.bits_of root.now.pseudo) root.now.page root.now.max_depth self.old) self.new walk.old.key value result }
+    {
+        match self.add_with_splits(walk, value, root) {
+            WalkAnswer::Widen => self.add_with_splits(walk, value, root),
+            answer => answer,
+        }
+    }
+
+    /// Adds a record of the walk's key, which has none, in as many passes as that takes.
+    pub(crate) fn insert<P: Pseudo>(
+        &mut self,
+        walk: &mut Walk,
+        value: Value,
+        root: &Root<P>,
+    ) -> WalkAnswer
+        requires start { (walk.old.phase ≡ Phase.Start) × (walk.old.pass ≡ Pass.First) }
+        requires mode { walk.old.mode ≡ Mode.Exclusive }
+        requires nothing { IsAtStart (view_of self.old) }
+        requires file { IsHashFile (P.bits_of root.now.pseudo) (pages_before self.old) root.now.page root.now.max_depth }
+        requires absent { look_up (P.bits_of root.now.pseudo) (pages_before self.old) root.now.page walk.old.key ≡ None }
+        ensures keeps { KeepsBefore self.old self.new }
+        ensures tells { TellsOfInsertion (basis_of (P.bits_of root.now.pseudo) root.now.page root.now.max_depth self.old) self.new walk.old.key value result }
+    {
+        match self.add(walk, value, root) {
+            WalkAnswer::NeedSplit => self.add_in_later_passes(walk, value, root),
+            answer => answer,
         }
     }
 

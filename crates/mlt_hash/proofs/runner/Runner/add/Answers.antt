@@ -1,8 +1,4 @@
-use Rattle.std.proofs.Common.{◌≡◌, ℕ, None, Option, sym, subst, ◌∙◌}
-use Rattle.mlt_hash_form.specs.File.{look_up}
-use Rattle.mlt_held.specs.Moments.{Moment, moment}
-use Rattle.mlt_hash.specs.Alone.{IsAlone, basis_of, pages_before}
-use Rattle.mlt_hash.specs.AloneWalks.{HasArrived}
+use Rattle.mlt_held.specs.Moments.{moment}
 use Rattle.mlt_hash.specs.Changes.{page_of}
 use Rattle.mlt_hash.proofs.AlonePasses.{addition_keeps, addition_tells, absent_here}
 use Rattle.mlt_hash.proofs.runner.Runner.add.Goals as goal

@@ -1,4 +1,3 @@
-use Rattle.mlt_hash.specs.Alone.{basis_of}
 use Rattle.mlt_hash.proofs.Alone.{keeps_both}
 use Rattle.mlt_hash.proofs.AloneSplits.{has_next_step, less_effort, splits_end, splits_on, splits_start, stands_to_split}
 use Rattle.mlt_hash.proofs.AloneWalks.{file_kept}

@@ -1,4 +1,4 @@
-use Rattle.mlt_held.specs.Moments.{Moment, moment}
+use Rattle.mlt_held.specs.Moments.{moment}
 use Rattle.std.proofs.Common.{subst}
 use Rattle.mlt_hash.specs.Alone.{IsAlone}
 use Rattle.mlt_hash.proofs.Alone.{alone_after_step, step_keeps_before}

@@ -1,9 +1,8 @@
-use Rattle.mlt_held.specs.Moments.{Moment, moment}
+use Rattle.mlt_held.specs.Moments.{moment}
 use Rattle.mlt_hash.specs.Changes.{page_of}
 use Rattle.mlt_hash.specs.declared.pass.Change.TheVariants as change
 use Rattle.mlt_hash.proofs.Alone.{alone_after_write, write_keeps_before}
 use Rattle.mlt_hash.proofs.AloneChanges.{change_alone}
-use Rattle.mlt_hash.proofs.runner.Runner.update.Given.{Over}
 use Rattle.mlt_hash.proofs.runner.Runner.update.Goals as goal
 
 pub invariant_of-self : goal.invariant_of-self

@@ -1,0 +1,33 @@
+-- What an addition alone tells with all its passes
+use Rattle.std.proofs.Common.{◌≡◌, ℕ, Option, Some, refl, sym, subst, inl, inr}
+use Rattle.mlt_types.specs.declared.refusal.Refusal.TheVariants as refusal
+use Rattle.mlt_page.specs.declared.page.Page.{Page}
+use Rattle.mlt_held.specs.Moments.{Moment}
+use Rattle.mlt_hash.specs.Alone.{KeepsBefore, basis_of}
+use Rattle.mlt_hash.specs.AloneWalks.{HasChanged, IsFullFor, MayAdd, NeedsRoom, TellsOfLater, TellsOfPass, TellsOfSplits, added_value}
+use Rattle.mlt_hash.specs.Walks.{Basis, WalkFields}
+use Rattle.mlt_hash.specs.declared.answer.WalkAnswer.{WalkAnswer}
+use Rattle.mlt_hash.specs.declared.answer.WalkAnswer.TheVariants as answer
+use Rattle.mlt_hash.proofs.AloneWalks.{same_basis, same_before}
+
+-- a pass that needs no split tells what it told
+pub pass_is_later : (basis : Basis) (new : Moment) (before after : WalkFields) (value : ℕ) (told : WalkAnswer) → (told ≡ answer.NeedSplit → ⊥) → TellsOfPass basis new before after value told → TellsOfLater basis new before after value told
+pass_is_later basis new before after value answer.NeedSplit not tells = absurd (not refl)
+pass_is_later basis new before after value answer.Changed not tells = tells
+pass_is_later basis new before after value answer.Widen not tells = tells
+pass_is_later basis new before after value (answer.Refused refusal.NoRoom) not tells = inl tells.1
+pass_is_later basis new before after value other not tells = absurd tells
+
+-- the splits of a pass tell for the pass
+pub splits_are_later : (basis : Basis) (mid new : Moment) (before at after : WalkFields) (value : ℕ) (told : WalkAnswer) → KeepsBefore mid new → NeedsRoom basis mid before at value → added_value at.phase ≡ value → TellsOfSplits basis new at.key (added_value at.phase) told → TellsOfLater basis new before after value told
+splits_are_later basis mid new before at after value answer.Changed keeps needs is tells = subst (λ (key : ℕ). HasChanged basis new key (Some value)) needs.same.key (subst (λ (value : ℕ). HasChanged basis new at.key (Some value)) is tells)
+splits_are_later basis mid new before at after value (answer.Refused refusal.NoRoom) keeps needs is tells = inr (subst (λ (pages : ℕ → Option Page). IsFullFor basis.bits pages basis.root before.key) (sym (same_before mid new keeps)) needs.full, tells)
+splits_are_later basis mid new before at after value (answer.Refused reason) keeps needs is tells = tells
+splits_are_later basis mid new before at after value other keeps needs is tells = absurd tells
+
+-- what a walk goes by is the same at this moment too
+pub may_add_now : (bits : ℕ → ℕ) (root max_depth : ℕ) (first now : Moment) (walk : WalkFields) → KeepsBefore first now → MayAdd (basis_of bits root max_depth first) now walk → MayAdd (basis_of bits root max_depth now) now walk
+may_add_now bits root max_depth first now walk keeps may = subst (λ (basis : Basis). MayAdd basis now walk) (sym (same_basis bits root max_depth first now keeps)) may
+
+pub splits_before : (bits : ℕ → ℕ) (root max_depth : ℕ) (first now new : Moment) (key value : ℕ) (told : WalkAnswer) → KeepsBefore first now → TellsOfSplits (basis_of bits root max_depth now) new key value told → TellsOfSplits (basis_of bits root max_depth first) new key value told
+splits_before bits root max_depth first now new key value told keeps tells = subst (λ (basis : Basis). TellsOfSplits basis new key value told) (same_basis bits root max_depth first now keeps) tells
