@@ -21,6 +21,7 @@ use Rattle.mlt_held.specs.Views.{MakesPage, ReadsPage, View, WritesPage, view_of
 use Rattle.mlt_split.specs.Rests.{Aim, HoldsAmong, IsIn, held_page}
 use Rattle.mlt_held.specs.PageSteps.{LocksPage, MakesLockedPage, TouchesOnePage, WritesHeldPage}
 use Rattle.mlt_split.specs.Splits.{Begins, HoldsAmongAt, IsUnderWay, SplitFields, StandsAt}
+use Rattle.mlt_split.specs.Steps.{IsMaking}
 use Rattle.mlt_split.specs.Tells.{Tells}
 use Rattle.mlt_split.specs.declared.phase.SplitPhase.{SplitPhase}
 use Rattle.mlt_split.specs.declared.split.SplitAnswer.TheVariants as answer
@@ -237,10 +238,10 @@ abbrev err : {A : Type 0} → Refusal → Result A Refusal
 err why = Err why
 
 -- why a page was not made, or not written
-pub refused_to_make : {A : Type 0} (aim : Aim) (old new : Moment) (before after : SplitFields) (result : Result A Refusal) (why : Refusal) → result ≡ Err why → (result ≡ Err refusal.NoRoom) ↔ (map.len old.store.pages ≡ old.store.max_pages) → (why ≡ refusal.NoRoom) ⊎ (why ≡ refusal.OutOfMemory) → Tells aim old new before after (answer.Refused why)
-refused_to_make {A} aim old new before after result why is full either =
+pub refused_to_make : {A : Type 0} (aim : Aim) (old new : Moment) (before after : SplitFields) (result : Result A Refusal) (why : Refusal) → IsMaking before.phase → result ≡ Err why → (result ≡ Err refusal.NoRoom) ↔ (map.len old.store.pages ≡ old.store.max_pages) → (why ≡ refusal.NoRoom) ⊎ (why ≡ refusal.OutOfMemory) → Tells aim old new before after (answer.Refused why)
+refused_to_make {A} aim old new before after result why making is full either =
     elim either [
-      | inl room ↦ subst (λ (w : Refusal). Tells aim old new before after (answer.Refused w)) (sym room) (full.0 (is ∙ ap (err {A = A}) room))
+      | inl room ↦ subst (λ (w : Refusal). Tells aim old new before after (answer.Refused w)) (sym room) (making, full.0 (is ∙ ap (err {A = A}) room))
       | inr memory ↦ subst (λ (w : Refusal). Tells aim old new before after (answer.Refused w)) (sym memory) refl
     ]
 

@@ -11,3 +11,4 @@ pub mod Laws
 pub mod OldBucket
 pub mod OneBucket
 pub mod SecondHalf
+pub mod Steps

@@ -1,4 +1,5 @@
 pub mod FirstPhases
 pub mod Rests
 pub mod Splits
+pub mod Steps
 pub mod Tells

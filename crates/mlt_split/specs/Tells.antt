@@ -11,6 +11,7 @@ use Rattle.mlt_split.specs.declared.split.SplitAnswer.{SplitAnswer}
 use Rattle.mlt_split.specs.declared.split.SplitAnswer.TheVariants as answer
 use Rattle.mlt_split.specs.Rests.{Aim, IsAtRest}
 use Rattle.mlt_split.specs.Splits.{IsUnderWay, SplitFields, steps_left}
+use Rattle.mlt_split.specs.Steps.{IsMaking, IsNextPage}
 
 -- the walk's file is at rest again, with a bucket one deeper, and a directory one deeper where it was doubled
 pub record Rests (aim : Aim) (new : Moment) (split : SplitFields) (n : ℕ) : Type 0 where
@@ -28,11 +29,11 @@ pub record GoesOn (aim : Aim) (new : Moment) (before after : SplitFields) : Type
   pub depth : after.depth ≡ before.depth
   pub directory_depth : after.directory_depth ≡ before.directory_depth
 
--- Going: the split goes on. Closed: this was its last step. Waiting: nothing changed. Refused: NoRoom exactly where a page
--- was to be made and there are as many as there may be.
+-- Going: the split goes on. Closed: this was its last step. Waiting: a lock stands against the one asked for on the next
+-- page, and nothing changed. Refused: NoRoom where a page was to be made and there are as many as there may be.
 abbrev pub Tells : Aim → Moment → Moment → SplitFields → SplitFields → SplitAnswer → Type 0
 Tells aim old new before after answer.Going = GoesOn aim new before after
 Tells aim old new before after (answer.Closed n) = Rests aim new before n × (steps_left before ≡ 1)
-Tells aim old new before after (answer.Waiting page by) = IsLowest (conflicts old.locks old.running.tx page Exclusive) by × (new ≡ old) × (after ≡ before)
-Tells aim old new before after (answer.Refused refusal.NoRoom) = map.len old.store.pages ≡ old.store.max_pages
+Tells aim old new before after (answer.Waiting page by) = IsNextPage before.phase aim (view_of old) page × IsLowest (conflicts old.locks old.running.tx page Exclusive) by × (new ≡ old) × (after ≡ before)
+Tells aim old new before after (answer.Refused refusal.NoRoom) = IsMaking before.phase × (map.len old.store.pages ≡ old.store.max_pages)
 Tells aim old new before after (answer.Refused reason) = reason ≡ refusal.OutOfMemory

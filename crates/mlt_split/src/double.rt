@@ -1,12 +1,14 @@
 //! Splits that double the directory.
 
-ghost use Rattle.std.specs.Prelude.{◌≡◌, ℕ, ◌<◌, Option, length, slice_set};
+ghost use Rattle.std.specs.Prelude.{◌≡◌, ◌≢◌, ◌↔◌, ℕ, ◌<◌, Option, length, slice_set};
+ghost use Rattle.std.specs.FinMap as map;
 ghost use Rattle.mlt_page.specs.declared.page.Page.{Page};
 ghost use Rattle.mlt_held.specs.Moments.{HasCleanFile, IsCleanFor, MayStep, moment};
 ghost use Rattle.mlt_held.specs.PageSteps.{TouchesOnePage};
 ghost use Rattle.mlt_held.specs.Views.{view_of};
 ghost use Rattle.mlt_split.specs.Rests.{Aim};
 ghost use Rattle.mlt_split.specs.Splits.{IsUnderWay};
+ghost use Rattle.mlt_split.specs.Steps.{Touches};
 ghost use Rattle.mlt_split.specs.Tells.{Tells};
 
 use crate::phase::SplitPhase;
@@ -17,7 +19,7 @@ use mlt_page::{HeadPage, Page};
 use mlt_page_locks::PageLocks;
 use mlt_store::Store;
 use mlt_subtx::Subtx;
-use mlt_types::{Mode, PageNo};
+use mlt_types::{Mode, PageNo, Refusal};
 
 /// Rewrites a page of the old directory as its first half doubled, and keeps its second half. `root` is the header's
 /// page.
@@ -36,6 +38,8 @@ pub(crate) fn double_page(
     requires file { HasCleanFile aim.bits aim.root (moment subtx.old locks.old store.old) }
     requires under_way { IsUnderWay aim (view_of (moment subtx.old locks.old store.old)) split.old }
     ensures touches { TouchesOnePage (moment subtx.old locks.old store.old) (moment subtx.new locks.new store.new) }
+    ensures steps { Touches result aim (moment subtx.old locks.old store.old) (moment subtx.new locks.new store.new) split.old }
+    ensures no_room { result ≢ SplitAnswer.Refused Refusal.NoRoom }
     ensures may { MayStep (moment subtx.new locks.new store.new) }
     ensures clean { (clean : ℕ → Option Page) → IsCleanFor (moment subtx.old locks.old store.old) clean → IsCleanFor (moment subtx.new locks.new store.new) clean }
     ensures tells { Tells aim (moment subtx.old locks.old store.old) (moment subtx.new locks.new store.new) split.old split.new result }
@@ -79,6 +83,8 @@ pub(crate) fn make_second_half(
     requires file { HasCleanFile aim.bits aim.root (moment subtx.old locks.old store.old) }
     requires under_way { IsUnderWay aim (view_of (moment subtx.old locks.old store.old)) split.old }
     ensures touches { TouchesOnePage (moment subtx.old locks.old store.old) (moment subtx.new locks.new store.new) }
+    ensures steps { Touches result aim (moment subtx.old locks.old store.old) (moment subtx.new locks.new store.new) split.old }
+    ensures no_room { (result ≡ SplitAnswer.Refused Refusal.NoRoom) ↔ (map.len store.old.pages ≡ store.old.max_pages) }
     ensures may { MayStep (moment subtx.new locks.new store.new) }
     ensures clean { (clean : ℕ → Option Page) → IsCleanFor (moment subtx.old locks.old store.old) clean → IsCleanFor (moment subtx.new locks.new store.new) clean }
     ensures tells { Tells aim (moment subtx.old locks.old store.old) (moment subtx.new locks.new store.new) split.old split.new result }
@@ -111,6 +117,8 @@ pub(crate) fn write_header(
     requires file { HasCleanFile aim.bits aim.root (moment subtx.old locks.now store.old) }
     requires under_way { IsUnderWay aim (view_of (moment subtx.old locks.now store.old)) split.now }
     ensures touches { TouchesOnePage (moment subtx.old locks.now store.old) (moment subtx.new locks.now store.new) }
+    ensures steps { Touches result aim (moment subtx.old locks.now store.old) (moment subtx.new locks.now store.new) split.now }
+    ensures no_room { result ≢ SplitAnswer.Refused Refusal.NoRoom }
     ensures may { MayStep (moment subtx.new locks.now store.new) }
     ensures clean { (clean : ℕ → Option Page) → IsCleanFor (moment subtx.old locks.now store.old) clean → IsCleanFor (moment subtx.new locks.now store.new) clean }
     ensures tells { Tells aim (moment subtx.old locks.now store.old) (moment subtx.new locks.now store.new) split.now split.now result }

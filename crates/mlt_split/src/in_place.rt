@@ -1,12 +1,13 @@
 //! Splits that leave the directory as deep as it is.
 
-ghost use Rattle.std.specs.Prelude.{◌≡◌, ℕ, Option};
+ghost use Rattle.std.specs.Prelude.{◌≡◌, ◌≢◌, ℕ, Option};
 ghost use Rattle.mlt_page.specs.declared.page.Page.{Page};
 ghost use Rattle.mlt_held.specs.Moments.{HasCleanFile, IsCleanFor, MayStep, moment};
 ghost use Rattle.mlt_held.specs.PageSteps.{TouchesOnePage};
 ghost use Rattle.mlt_held.specs.Views.{view_of};
 ghost use Rattle.mlt_split.specs.Rests.{Aim};
 ghost use Rattle.mlt_split.specs.Splits.{IsUnderWay};
+ghost use Rattle.mlt_split.specs.Steps.{Touches};
 ghost use Rattle.mlt_split.specs.Tells.{Tells};
 
 use crate::phase::SplitPhase;
@@ -17,7 +18,7 @@ use mlt_page::Page;
 use mlt_page_locks::PageLocks;
 use mlt_store::Store;
 use mlt_subtx::Subtx;
-use mlt_types::{Mode, PageNo};
+use mlt_types::{Mode, PageNo, Refusal};
 
 /// Writes the new bucket's entries on one page of the directory. `root` is the header's page.
 pub(crate) fn write_in_place(
@@ -36,6 +37,8 @@ pub(crate) fn write_in_place(
     requires file { HasCleanFile aim.bits aim.root (moment subtx.old locks.old store.old) }
     requires under_way { IsUnderWay aim (view_of (moment subtx.old locks.old store.old)) split.old }
     ensures touches { TouchesOnePage (moment subtx.old locks.old store.old) (moment subtx.new locks.new store.new) }
+    ensures steps { Touches result aim (moment subtx.old locks.old store.old) (moment subtx.new locks.new store.new) split.old }
+    ensures no_room { result ≢ SplitAnswer.Refused Refusal.NoRoom }
     ensures may { MayStep (moment subtx.new locks.new store.new) }
     ensures clean { (clean : ℕ → Option Page) → IsCleanFor (moment subtx.old locks.old store.old) clean → IsCleanFor (moment subtx.new locks.new store.new) clean }
     ensures tells { Tells aim (moment subtx.old locks.old store.old) (moment subtx.new locks.new store.new) split.old split.new result }

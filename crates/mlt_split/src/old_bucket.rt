@@ -1,12 +1,13 @@
 //! The second step of a split.
 
-ghost use Rattle.std.specs.Prelude.{◌≡◌, ◌≤◌, ℕ, Option};
+ghost use Rattle.std.specs.Prelude.{◌≡◌, ◌≢◌, ◌≤◌, ℕ, Option};
 ghost use Rattle.mlt_page.specs.declared.page.Page.{Page};
 ghost use Rattle.mlt_held.specs.Moments.{HasCleanFile, IsCleanFor, MayStep, moment};
 ghost use Rattle.mlt_held.specs.PageSteps.{TouchesOnePage};
 ghost use Rattle.mlt_held.specs.Views.{view_of};
 ghost use Rattle.mlt_split.specs.Rests.{Aim};
 ghost use Rattle.mlt_split.specs.Splits.{IsUnderWay};
+ghost use Rattle.mlt_split.specs.Steps.{Touches};
 ghost use Rattle.mlt_split.specs.FirstPhases.{IsFirstPhase};
 ghost use Rattle.mlt_split.specs.Tells.{Tells};
 
@@ -18,6 +19,7 @@ use mlt_page::Page;
 use mlt_page_locks::PageLocks;
 use mlt_store::Store;
 use mlt_subtx::Subtx;
+use mlt_types::Refusal;
 
 /// Writes the old bucket.
 pub(crate) fn write_old_bucket(
@@ -32,6 +34,8 @@ pub(crate) fn write_old_bucket(
     requires file { HasCleanFile aim.bits aim.root (moment subtx.old locks.now store.old) }
     requires under_way { IsUnderWay aim (view_of (moment subtx.old locks.now store.old)) split.old }
     ensures touches { TouchesOnePage (moment subtx.old locks.now store.old) (moment subtx.new locks.now store.new) }
+    ensures steps { Touches result aim (moment subtx.old locks.now store.old) (moment subtx.new locks.now store.new) split.old }
+    ensures no_room { result ≢ SplitAnswer.Refused Refusal.NoRoom }
     ensures may { MayStep (moment subtx.new locks.now store.new) }
     ensures clean { (clean : ℕ → Option Page) → IsCleanFor (moment subtx.old locks.now store.old) clean → IsCleanFor (moment subtx.new locks.now store.new) clean }
     ensures tells { Tells aim (moment subtx.old locks.now store.old) (moment subtx.new locks.now store.new) split.old split.new result }

@@ -1,6 +1,7 @@
 //! A split under way.
 
-ghost use Rattle.std.specs.Prelude.{◌≡◌, ◌<◌, ◌==◌, ℕ, Option, if◌then◌else◌};
+ghost use Rattle.std.specs.Prelude.{◌≡◌, ◌↔◌, ◌<◌, ◌==◌, ℕ, Option, if◌then◌else◌};
+ghost use Rattle.std.specs.FinMap as map;
 ghost use Rattle.mlt_page.specs.Bits.{bit_at};
 ghost use Rattle.mlt_page.specs.declared.page.Page.{Page};
 ghost use Rattle.mlt_held.specs.Moments.{HasCleanFile, IsCleanFor, MayStep, moment};
@@ -8,6 +9,7 @@ ghost use Rattle.mlt_held.specs.PageSteps.{TouchesOnePage};
 ghost use Rattle.mlt_held.specs.Views.{view_of};
 ghost use Rattle.mlt_split.specs.Rests.{Aim};
 ghost use Rattle.mlt_split.specs.Splits.{IsUnderWay};
+ghost use Rattle.mlt_split.specs.Steps.{IsMaking, Touches};
 ghost use Rattle.mlt_split.specs.Tells.{Tells};
 
 use crate::double::{double_page, make_second_half, write_header};
@@ -82,6 +84,8 @@ impl Split {
         requires file { HasCleanFile aim.bits aim.root (moment subtx.old locks.old store.old) }
         requires under_way { IsUnderWay aim (view_of (moment subtx.old locks.old store.old)) self.old }
         ensures touches { TouchesOnePage (moment subtx.old locks.old store.old) (moment subtx.new locks.new store.new) }
+        ensures steps { Touches result aim (moment subtx.old locks.old store.old) (moment subtx.new locks.new store.new) self.old }
+        ensures no_room { (result ≡ SplitAnswer.Refused Refusal.NoRoom) ↔ (IsMaking self.old.phase × (map.len store.old.pages ≡ store.old.max_pages)) }
         ensures may { MayStep (moment subtx.new locks.new store.new) }
         ensures clean { (clean : ℕ → Option Page) → IsCleanFor (moment subtx.old locks.old store.old) clean → IsCleanFor (moment subtx.new locks.new store.new) clean }
         ensures tells { Tells aim (moment subtx.old locks.old store.old) (moment subtx.new locks.new store.new) self.old self.new result }

@@ -3,7 +3,10 @@ use Rattle.mlt_types.specs.declared.mode.Mode.TheVariants.{Exclusive}
 use Rattle.std.proofs.Common.{rules, is_some, true, ◌≡◌, ℕ, ◌+◌, ◌*◌, ◌≤◌, ◌^◌, Some, ap, sym, ◌∙◌, subst, refl, arith}
 use Rattle.mlt_page.specs.declared.page.Page.{Page}
 use Rattle.mlt_page.specs.declared.page.Page.TheVariants as page
-use Rattle.mlt_held.specs.Moments.{moment}
+use Rattle.mlt_held.specs.Moments.{Moment, moment}
+use Rattle.mlt_held.specs.PageSteps.{LocksPage}
+use Rattle.mlt_split.specs.declared.phase.SplitPhase.TheVariants as at
+use Rattle.mlt_split.proofs.Steps.{done_at, left_at, next_page_at}
 use Rattle.mlt_split.specs.Splits.{SplitFields}
 use Rattle.mlt_held.specs.Views.{ReadsPage, view_of}
 use Rattle.mlt_page.specs.Bits.{first_bits}
@@ -47,6 +50,17 @@ pub returns-in-Err-clause-touches : goal.returns-in-Err-clause-touches
 returns-in-Err-clause-touches g c =
     let old = moment c.args.subtx.now c.args.locks.now c.args.store.now in
     touches_nothing old (moment c.args.subtx.now c.lock_and_read.new.locks c.args.store.now) (same_moment old c.args.subtx.now c.lock_and_read.new.locks c.args.store.now (refl, c.in-Err.ensures.waits.1, refl))
+
+pub returns-in-Err-clause-steps : goal.returns-in-Err-clause-steps
+returns-in-Err-clause-steps g c =
+    let old = moment c.args.subtx.now c.args.locks.now c.args.store.now in
+    same_moment old c.args.subtx.now c.lock_and_read.new.locks c.args.store.now (refl, c.in-Err.ensures.waits.1, refl)
+
+pub returns-in-Err-clause-tells : goal.returns-in-Err-clause-tells
+returns-in-Err-clause-tells g c =
+    let old = moment c.args.subtx.now c.args.locks.now c.args.store.now in
+    let read = header_as_read (view_of old) c.args.root g.aim.root c.read_held.result.now c.in-Head.header c.requires.1.0 c.in-Head.is c.read_held.ensures.reads in
+    (next_page_at g.aim old old c.args.split.now (at.Double c.args.place) c.requires.0 c.dir-number.result (c.in-Head.header, read, c.dir-number.ensures), c.in-Err.ensures.waits.0, same_moment old c.args.subtx.now c.lock_and_read.new.locks c.args.store.now (refl, c.in-Err.ensures.waits.1, refl), refl)
 
 pub first_bits-requires : goal.first_bits-requires
 first_bits-requires g c =
@@ -123,6 +137,23 @@ returns-in-Err-write_held-clause-touches g c =
     let old = moment c.args.subtx.now c.args.locks.now c.args.store.now in
     let mid = moment c.args.subtx.now c.lock_and_read.new.locks c.args.store.now in
     touches_by_locking old mid (moment c.write_held.new.subtx c.lock_and_read.new.locks c.write_held.new.store) c.dir-number.result Exclusive c.in-Ok-Dir.ensures.locks (same_moment mid c.write_held.new.subtx c.lock_and_read.new.locks c.write_held.new.store (c.in-Err-write_held.ensures.err.0, refl, c.in-Err-write_held.ensures.err.1))
+
+pub returns-in-Err-write_held-clause-steps : goal.returns-in-Err-write_held-clause-steps
+returns-in-Err-write_held-clause-steps g c =
+    let old = moment c.args.subtx.now c.args.locks.now c.args.store.now in
+    let mid = moment c.args.subtx.now c.lock_and_read.new.locks c.args.store.now in
+    let new = moment c.write_held.new.subtx c.lock_and_read.new.locks c.write_held.new.store in
+    let read = header_as_read (view_of old) c.args.root g.aim.root c.read_held.result.now c.in-Head.header c.requires.1.0 c.in-Head.is c.read_held.ensures.reads in
+    let same : new ≡ mid = same_moment mid c.write_held.new.subtx c.lock_and_read.new.locks c.write_held.new.store (c.in-Err-write_held.ensures.err.0, refl, c.in-Err-write_held.ensures.err.1) in
+    left_at g.aim old new c.args.split.now (at.Double c.args.place) c.requires.0 (c.dir-number.result, (c.in-Head.header, read, c.dir-number.ensures), subst (λ (n : Moment). LocksPage old n c.dir-number.result Exclusive) (sym same) c.in-Ok-Dir.ensures.locks)
+
+pub returns-clause-steps : goal.returns-clause-steps
+returns-clause-steps g c =
+    let old = moment c.args.subtx.now c.args.locks.now c.args.store.now in
+    let mid = moment c.args.subtx.now c.lock_and_read.new.locks c.args.store.now in
+    let new = moment c.write_held.new.subtx c.lock_and_read.new.locks c.write_held.new.store in
+    let read = header_as_read (view_of old) c.args.root g.aim.root c.read_held.result.now c.in-Head.header c.requires.1.0 c.in-Head.is c.read_held.ensures.reads in
+    done_at g.aim old new c.args.split.now (at.Double c.args.place) c.requires.0 (c.dir-number.result, (c.in-Head.header, read, c.dir-number.ensures), (mid, c.in-Ok-Dir.ensures.locks, (_, c.in_default-write_held.ensures.writes)))
 
 pub returns-clause-touches : goal.returns-clause-touches
 returns-clause-touches g c =

@@ -2,6 +2,8 @@ use Rattle.std.proofs.Common.{◌≡◌, ◌-◌, ◌*◌, ◌%◌, ◌^◌, ap,
 use Rattle.std.proofs.lemmas.Nat.{one_shl}
 use Rattle.mlt_held.specs.Moments.{moment}
 use Rattle.mlt_split.specs.Splits.{SplitFields}
+use Rattle.mlt_split.specs.declared.phase.SplitPhase.TheVariants as at
+use Rattle.mlt_split.proofs.Steps.{done_at, left_at, makes_second_half}
 use Rattle.mlt_split.specs.contracts.split.Split.{the_view}
 use Rattle.mlt_split.proofs.Later.{touches_nothing, touches_by_making, same_moment, refused_to_make}
 use Rattle.mlt_split.proofs.SecondHalf.{depth_of_second_half, few_at_second_half, place_of_second_half, goes_on_to_another_page, goes_on_to_the_header}
@@ -20,11 +22,17 @@ returns-in-Err-clause-touches g c =
     touches_nothing old (moment c.make_page.new.subtx c.make_page.new.locks c.make_page.new.store)
     (same_moment old c.make_page.new.subtx c.make_page.new.locks c.make_page.new.store err)
 
+pub returns-in-Err-clause-steps : goal.returns-in-Err-clause-steps
+returns-in-Err-clause-steps g c =
+    let old = moment c.args.subtx.now c.args.locks.now c.args.store.now in
+    let new = moment c.make_page.new.subtx c.make_page.new.locks c.make_page.new.store in
+    left_at g.aim old new c.args.split.now (at.SecondHalf c.args.place) c.requires.0 (same_moment old c.make_page.new.subtx c.make_page.new.locks c.make_page.new.store c.in-Err.ensures.err)
+
 pub returns-in-Err-clause-tells : goal.returns-in-Err-clause-tells
 returns-in-Err-clause-tells g c =
     let old = moment c.args.subtx.now c.args.locks.now c.args.store.now in
     let new = moment c.make_page.new.subtx c.make_page.new.locks c.make_page.new.store in
-    refused_to_make g.aim old new c.args.split.now c.args.split.now c.make_page.result c.in-Err.refusal c.in-Err.is c.make_page.ensures.no_room c.in-Err.ensures.refusal
+    refused_to_make g.aim old new c.args.split.now c.args.split.now c.make_page.result c.in-Err.refusal (makes_second_half c.args.split.now.phase c.args.place c.requires.0) c.in-Err.is c.make_page.ensures.no_room c.in-Err.ensures.refusal
 
 pub name_page-requires : goal.name_page-requires
 name_page-requires g c =
@@ -68,6 +76,12 @@ pub returns-clause-touches : goal.returns-clause-touches
 returns-clause-touches g c =
     let old = moment c.args.subtx.now c.args.locks.now c.args.store.now in
     touches_by_making old (moment c.make_page.new.subtx c.make_page.new.locks c.make_page.new.store) c.in-Ok.number _ c.in-Ok.ensures.makes
+
+pub returns-clause-steps : goal.returns-clause-steps
+returns-clause-steps g c =
+    let old = moment c.args.subtx.now c.args.locks.now c.args.store.now in
+    let new = moment c.make_page.new.subtx c.make_page.new.locks c.make_page.new.store in
+    done_at g.aim old new c.args.split.now (at.SecondHalf c.args.place) c.requires.0 (c.in-Ok.number, _, c.in-Ok.ensures.makes)
 
 pub returns-clause-tells : goal.returns-clause-tells
 returns-clause-tells g c =

@@ -5,6 +5,8 @@ use Rattle.mlt_page_locks.specs.LockTables.{can_write}
 use Rattle.mlt_split.specs.Splits.{SplitFields}
 use Rattle.mlt_held.specs.Views.{WritesPage, view_of}
 use Rattle.mlt_held.specs.Moments.{moment}
+use Rattle.mlt_split.specs.declared.phase.SplitPhase.TheVariants as at
+use Rattle.mlt_split.proofs.Steps.{done_at, header_is_written, left_at}
 use Rattle.mlt_split.proofs.Header.{depth_of_header, header_may_be_written, rests_at_header}
 use Rattle.mlt_split.proofs.Later.{same_moment, touches_by_writing, touches_nothing}
 use Rattle.mlt_split.proofs.double.write_header.Goals as goal
@@ -24,6 +26,12 @@ pub returns-in-Ok-clause-touches : goal.returns-in-Ok-clause-touches
 returns-in-Ok-clause-touches g c =
     touches_by_writing (moment c.args.subtx.now c.args.locks.now c.args.store.now) (moment c.write_held.new.subtx c.args.locks.now c.write_held.new.store) c.args.root _ c.in-Ok.ensures.writes
 
+pub returns-in-Ok-clause-steps : goal.returns-in-Ok-clause-steps
+returns-in-Ok-clause-steps g c =
+    let old = moment c.args.subtx.now c.args.locks.now c.args.store.now in
+    let new = moment c.write_held.new.subtx c.args.locks.now c.write_held.new.store in
+    done_at g.aim old new c.args.split.now at.Header c.requires.0 (header_is_written old new c.args.root g.aim.root _ c.requires.1.0 c.in-Ok.ensures.writes)
+
 pub returns-in-Ok-clause-tells : goal.returns-in-Ok-clause-tells
 returns-in-Ok-clause-tells g c =
     let old = moment c.args.subtx.now c.args.locks.now c.args.store.now in
@@ -36,3 +44,9 @@ pub returns-in-Err-clause-touches : goal.returns-in-Err-clause-touches
 returns-in-Err-clause-touches g c =
     let old = moment c.args.subtx.now c.args.locks.now c.args.store.now in
     touches_nothing old (moment c.write_held.new.subtx c.args.locks.now c.write_held.new.store) (same_moment old c.write_held.new.subtx c.args.locks.now c.write_held.new.store (c.in-Err.ensures.err.0, refl, c.in-Err.ensures.err.1))
+
+pub returns-in-Err-clause-steps : goal.returns-in-Err-clause-steps
+returns-in-Err-clause-steps g c =
+    let old = moment c.args.subtx.now c.args.locks.now c.args.store.now in
+    let new = moment c.write_held.new.subtx c.args.locks.now c.write_held.new.store in
+    left_at g.aim old new c.args.split.now at.Header c.requires.0 (same_moment old c.write_held.new.subtx c.args.locks.now c.write_held.new.store (c.in-Err.ensures.err.0, refl, c.in-Err.ensures.err.1))

@@ -3,7 +3,8 @@ use Rattle.std.proofs.Math.Nat.{pow-le-pow_right}
 use Rattle.mlt_types.specs.declared.mode.Mode.TheVariants.{Exclusive}
 use Rattle.mlt_page.specs.declared.page.Page.{Page}
 use Rattle.mlt_page.specs.declared.page.Page.TheVariants as page
-use Rattle.mlt_held.specs.Moments.{moment}
+use Rattle.mlt_held.specs.Moments.{Moment, moment}
+use Rattle.mlt_held.specs.PageSteps.{LocksPage}
 use Rattle.mlt_held.specs.Views.{ReadsPage, view_of}
 use Rattle.mlt_split.specs.Rests.{held_page}
 use Rattle.mlt_split.specs.Splits.{SplitFields}
@@ -13,6 +14,7 @@ use Rattle.mlt_split.proofs.HeldPages.{reads_as}
 use Rattle.mlt_split.proofs.Closing.{HasClean}
 use Rattle.mlt_split.proofs.Later.{locked_may_be_written, same_moment, touches_by_locking, touches_by_rewriting, touches_nothing}
 use Rattle.mlt_split.proofs.InPlace.{AreNewPlaces, HasNewPlaces, depths_here, end_is_small, few_are_held_here, in_place_goes_on, in_place_rests, next_is_dir, next_is_there, place_before_end, place_is_small}
+use Rattle.mlt_split.proofs.Steps.{done_at, left_at, next_page_at}
 use Rattle.mlt_held.proofs.Views.{agrees}
 use Rattle.mlt_split.proofs.in_place.write_in_place.Goals as goal
 
@@ -47,6 +49,16 @@ pub returns-in-Err-clause-touches : goal.returns-in-Err-clause-touches
 returns-in-Err-clause-touches g c =
     let m = moment c.args.subtx.now c.args.locks.now c.args.store.now in
     touches_nothing m _ (same_moment m _ _ _ (refl, c.in-Err.ensures.waits.1, refl))
+
+pub returns-in-Err-clause-steps : goal.returns-in-Err-clause-steps
+returns-in-Err-clause-steps g c =
+    same_moment (moment c.args.subtx.now c.args.locks.now c.args.store.now) _ _ _ (refl, c.in-Err.ensures.waits.1, refl)
+
+pub returns-in-Err-clause-tells : goal.returns-in-Err-clause-tells
+returns-in-Err-clause-tells g c =
+    let m = moment c.args.subtx.now c.args.locks.now c.args.store.now in
+    let head : held_page (view_of m) g.aim.root ≡ Some (page.Head c.in-Head.header) = subst (λ q. held_page (view_of m) q ≡ Some (page.Head c.in-Head.header)) c.requires.1.0 (reads_as (view_of m) c.args.root (Some c.read_held.result.now) c.read_held.ensures.reads ∙ ap Some c.in-Head.is) in
+    (next_page_at g.aim m m c.args.split.now (at.InPlace c.args.place c.args.end) c.requires.0 c.dir-number.result (c.in-Head.header, head, c.dir-number.ensures), c.in-Err.ensures.waits.0, same_moment m _ _ _ (refl, c.in-Err.ensures.waits.1, refl), refl)
 
 pub of-places-requires : goal.of-places-requires
 of-places-requires g c =
@@ -83,6 +95,15 @@ returns-in-Err-write_held-clause-touches g c =
     let mid = moment c.args.subtx.now c.lock_and_read.new.locks c.args.store.now in
     touches_by_locking m mid _ c.dir-number.result Exclusive c.in-Ok-Dir.ensures.locks (same_moment mid _ _ _ (c.in-Err-write_held.ensures.err.0, refl, c.in-Err-write_held.ensures.err.1))
 
+pub returns-in-Err-write_held-clause-steps : goal.returns-in-Err-write_held-clause-steps
+returns-in-Err-write_held-clause-steps g c =
+    let m = moment c.args.subtx.now c.args.locks.now c.args.store.now in
+    let mid = moment c.args.subtx.now c.lock_and_read.new.locks c.args.store.now in
+    let new = moment c.write_held.new.subtx c.lock_and_read.new.locks c.write_held.new.store in
+    let head : held_page (view_of m) g.aim.root ≡ Some (page.Head c.in-Head.header) = subst (λ q. held_page (view_of m) q ≡ Some (page.Head c.in-Head.header)) c.requires.1.0 (reads_as (view_of m) c.args.root (Some c.read_held.result.now) c.read_held.ensures.reads ∙ ap Some c.in-Head.is) in
+    let same : new ≡ mid = same_moment mid _ _ _ (c.in-Err-write_held.ensures.err.0, refl, c.in-Err-write_held.ensures.err.1) in
+    left_at g.aim m new c.args.split.now (at.InPlace c.args.place c.args.end) c.requires.0 (c.dir-number.result, (c.in-Head.header, head, c.dir-number.ensures), subst (λ (n : Moment). LocksPage m n c.dir-number.result Exclusive) (sym same) c.in-Ok-Dir.ensures.locks)
+
 pub overflow_add-place : goal.overflow_add-place
 overflow_add-place g c =
     let m = moment c.args.subtx.now c.args.locks.now c.args.store.now in
@@ -105,6 +126,14 @@ returns-then-place-end-clause-touches g c =
 pub returns-then-place-end-clause-clean : goal.returns-then-place-end-clause-clean
 returns-then-place-end-clause-clean g c =
     λ clean is. c.write_held.ensures.clean clean (c.lock_and_read.ensures.clean clean is)
+
+pub returns-then-place-end-clause-steps : goal.returns-then-place-end-clause-steps
+returns-then-place-end-clause-steps g c =
+    let m = moment c.args.subtx.now c.args.locks.now c.args.store.now in
+    let mid = moment c.args.subtx.now c.lock_and_read.new.locks c.args.store.now in
+    let new = moment c.write_held.new.subtx c.lock_and_read.new.locks c.write_held.new.store in
+    let head : held_page (view_of m) g.aim.root ≡ Some (page.Head c.in-Head.header) = subst (λ q. held_page (view_of m) q ≡ Some (page.Head c.in-Head.header)) c.requires.1.0 (reads_as (view_of m) c.args.root (Some c.read_held.result.now) c.read_held.ensures.reads ∙ ap Some c.in-Head.is) in
+    done_at g.aim m new c.args.split.now (at.InPlace c.args.place c.args.end) c.requires.0 (c.dir-number.result, (c.in-Head.header, head, c.dir-number.ensures), (mid, c.in-Ok-Dir.ensures.locks, (_, c.in_default-write_held.ensures.writes)))
 
 pub returns-then-place-end-clause-tells : goal.returns-then-place-end-clause-tells
 returns-then-place-end-clause-tells g c =
@@ -131,6 +160,14 @@ returns-clause-touches g c =
     let m = moment c.args.subtx.now c.args.locks.now c.args.store.now in
     let mid = moment c.args.subtx.now c.lock_and_read.new.locks c.args.store.now in
     touches_by_rewriting m mid _ c.dir-number.result Exclusive _ c.in-Ok-Dir.ensures.locks c.in_default-write_held.ensures.writes
+
+pub returns-clause-steps : goal.returns-clause-steps
+returns-clause-steps g c =
+    let m = moment c.args.subtx.now c.args.locks.now c.args.store.now in
+    let mid = moment c.args.subtx.now c.lock_and_read.new.locks c.args.store.now in
+    let new = moment c.write_held.new.subtx c.lock_and_read.new.locks c.write_held.new.store in
+    let head : held_page (view_of m) g.aim.root ≡ Some (page.Head c.in-Head.header) = subst (λ q. held_page (view_of m) q ≡ Some (page.Head c.in-Head.header)) c.requires.1.0 (reads_as (view_of m) c.args.root (Some c.read_held.result.now) c.read_held.ensures.reads ∙ ap Some c.in-Head.is) in
+    done_at g.aim m new c.args.split.now (at.InPlace c.args.place c.args.end) c.requires.0 (c.dir-number.result, (c.in-Head.header, head, c.dir-number.ensures), (mid, c.in-Ok-Dir.ensures.locks, (_, c.in_default-write_held.ensures.writes)))
 
 pub returns-clause-tells : goal.returns-clause-tells
 returns-clause-tells g c =

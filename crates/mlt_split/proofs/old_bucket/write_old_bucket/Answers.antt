@@ -2,11 +2,13 @@ use Rattle.std.proofs.Common.{◌≡◌, refl, sym, ◌∙◌, ap, subst}
 use Rattle.mlt_page.specs.declared.page.Page.TheVariants as page
 use Rattle.mlt_split.specs.FirstPhases.{IsFirstPhase}
 use Rattle.mlt_held.specs.Moments.{moment}
+use Rattle.mlt_held.specs.PageSteps.{WritesHeldPage}
 use Rattle.mlt_held.specs.Views.{view_of}
 use Rattle.mlt_split.specs.Splits.{IsUnderWay, SplitFields}
 use Rattle.mlt_split.specs.Tells.{GoesOn}
 use Rattle.mlt_split.specs.declared.phase.SplitPhase.TheVariants as at
 use Rattle.mlt_split.proofs.Later.{begins_now, same_moment, touches_by_writing, touches_nothing}
+use Rattle.mlt_split.proofs.Steps.{done_at, left_at}
 use Rattle.mlt_split.proofs.OldBucket.{depths_are_small, old_bucket_step}
 use Rattle.mlt_split.proofs.old_bucket.write_old_bucket.Goals as goal
 
@@ -19,6 +21,18 @@ pub returns-in-Err-clause-touches : goal.returns-in-Err-clause-touches
 returns-in-Err-clause-touches g c =
     let m = moment c.args.subtx.now c.args.locks.now c.args.store.now in
     touches_nothing m _ (same_moment m _ _ _ (c.in-Err.ensures.err.0, refl, c.in-Err.ensures.err.1))
+
+pub returns-in-Err-clause-steps : goal.returns-in-Err-clause-steps
+returns-in-Err-clause-steps g c =
+    let m = moment c.args.subtx.now c.args.locks.now c.args.store.now in
+    let new = moment c.write_held.new.subtx c.args.locks.now c.write_held.new.store in
+    left_at g.aim m new c.args.split.now at.OldBucket c.requires.0 (same_moment m _ _ _ (c.in-Err.ensures.err.0, refl, c.in-Err.ensures.err.1))
+
+pub returns-clause-steps : goal.returns-clause-steps
+returns-clause-steps g c =
+    let m = moment c.args.subtx.now c.args.locks.now c.args.store.now in
+    let new = moment c.write_held.new.subtx c.args.locks.now c.write_held.new.store in
+    done_at g.aim m new c.args.split.now at.OldBucket c.requires.0 (page.Bucket c.split.inside.zeros, subst (λ (s : SplitFields). WritesHeldPage m new s.old_page (page.Bucket c.split.inside.zeros)) c.split.view_is c.in_default.ensures.writes)
 
 pub returns-clause-touches : goal.returns-clause-touches
 returns-clause-touches g c = touches_by_writing _ _ c.split.inside.old_page (page.Bucket c.split.inside.zeros) c.in_default.ensures.writes
