@@ -189,7 +189,7 @@ module _ (bits : ℕ → ℕ) (root max_depth : ℕ) (first now new : Moment) (w
     adding_ends : (told : WalkAnswer) → (told ≡ answer.Going → ⊥) → TellsOfAdding ours now new walk after value n room_depth told → TellsOfSplits ours new walk.key value told
     adding_ends answer.Going not tells = absurd (not refl)
     adding_ends answer.Changed not tells = puts tells.1 tells.2
-    adding_ends (answer.Refused refusal.NoRoom) not tells = full_at_rest tells
+    adding_ends (answer.Refused refusal.NoRoom) not tells = full_at_rest tells.1
     adding_ends (answer.Refused refusal.OutOfMemory) not tells = refl
     adding_ends (answer.Refused reason) not tells = tells
     adding_ends other not tells = absurd tells
@@ -240,7 +240,7 @@ module _ (bits : ℕ → ℕ) (root max_depth : ℕ) (first now new : Moment) (w
         }
 
     splitting_goes : TellsOfSplitting ours now new walk after value room_depth answer.Going → Advances ours now new walk after
-    splitting_goes tells = elim tells [ inl goes ↦ split_goes_on goes | inr closes ↦ split_closes closes ]
+    splitting_goes tells = elim tells.1 [ inl goes ↦ split_goes_on goes | inr closes ↦ split_closes closes ]
 
     full_in_split : map.len now.store.pages ≡ now.store.max_pages → HasFewPagesLeft (put_back new.running.images new.store.pages) new.store.max_pages
     full_in_split full = few_left_later now new keeps (few_left now alone.may (few_in_split (aim_of ours walk room_depth) now splitting.split alone.may clean_now_is splitting.under_way) full)
@@ -248,9 +248,9 @@ module _ (bits : ℕ → ℕ) (root max_depth : ℕ) (first now new : Moment) (w
     splitting_ends : (told : WalkAnswer) → (told ≡ answer.Going → ⊥) → HasNotWaited told → TellsOfSplitting ours now new walk after value room_depth told → TellsOfSplits ours new walk.key value told
     splitting_ends answer.Going not went tells = absurd (not refl)
     splitting_ends (answer.Waiting page by) not went tells = absurd went
-    splitting_ends (answer.Refused refusal.NoRoom) not went tells = full_in_split tells
+    splitting_ends (answer.Refused refusal.NoRoom) not went tells = full_in_split tells.2
     splitting_ends (answer.Refused refusal.OutOfMemory) not went tells = refl
-    splitting_ends (answer.Refused reason) not went tells = tells
+    splitting_ends (answer.Refused reason) not went tells = tells.0
     splitting_ends other not went tells = absurd tells
 
   -- **A step of a walk that splits goes on, with less work left,**

@@ -35,7 +35,7 @@ adding_goes basis old new before after value bucket room_depth (answer.Refused r
 -- or where it splits
 splitting_goes : (basis : Basis) (old new : Moment) (before after : WalkFields) (value room_depth : ℕ) (told : WalkAnswer) → IsAlone old → TellsOfSplitting basis old new before after value room_depth told → HasNotWaited told
 splitting_goes basis old new before after value room_depth answer.Going alone tells = tt
-splitting_goes basis old new before after value room_depth (answer.Waiting page by) alone tells = nobody_to_wait_for old page by Exclusive alone tells.0
+splitting_goes basis old new before after value room_depth (answer.Waiting page by) alone tells = nobody_to_wait_for old page by Exclusive alone tells.1
 splitting_goes basis old new before after value room_depth (answer.Found found) alone tells = tt
 splitting_goes basis old new before after value room_depth answer.Changed alone tells = tt
 splitting_goes basis old new before after value room_depth answer.NeedSplit alone tells = tt

@@ -1,17 +1,21 @@
 -- Additions whose bucket had no room: what a walk at rest knows of its file, and the record that it puts at last
-use Rattle.std.proofs.Common.{ℕ, suc, ◌≡◌, ◌<◌, ◌+◌, Bool, true, false, not, List, [], ◌∷◌, length, Option, Some, None, is_some, refl, sym, ◌∙◌, ap, subst, inl, inr, arith}
-use Rattle.std.specs.Prelude.{slice_index_or, position}
+use Rattle.std.proofs.Common.{ℕ, suc, ◌≡◌, ◌<◌, ◌+◌, Bool, true, false, not, List, [], ◌∷◌, length, Option, Some, None, is_some, refl, sym, ◌∙◌, ap, subst, inl, inr, ◌⊎◌, arith}
+use Rattle.std.specs.Prelude.{◌↔◌, slice_index_or, position, Err, Result}
 use Rattle.std.specs.List.{list_all}
 use Rattle.std.specs.Ordering.{nat_cmp}
 use Rattle.std.specs.FinMap as map
 use Rattle.std.specs.FinSet as set
 use Rattle.std.proofs.lemmas.Bool.{cases_lt, false≢true}
+use Rattle.std.proofs.lemmas.List.Folds.{list_all_at}
 use Rattle.mlt_types.specs.declared.mode.Mode.TheVariants.{Exclusive}
+use Rattle.mlt_types.specs.declared.refusal.Refusal.{Refusal}
+use Rattle.mlt_types.specs.declared.refusal.Refusal.TheVariants as refusal
 use Rattle.mlt_page.specs.Slots.{is_ghost_of, is_kept, is_live_of}
 use Rattle.mlt_page.specs.declared.slot.Slot.{Slot}
 use Rattle.mlt_page.specs.declared.slot.Slot.TheVariants.{Free, Live}
 use Rattle.mlt_page.specs.Values.{BucketFields, HeadFields}
 use Rattle.mlt_page.specs.declared.page.Page.{Page}
+use Rattle.mlt_page.specs.declared.page.Page.TheVariants as page
 use Rattle.mlt_hash_form.specs.Changes.{IsHome}
 use Rattle.mlt_hash_form.specs.File.{HasForm, bucket_of, buckets_of, header_of, lead_of}
 use Rattle.mlt_hash_form.specs.Form.{value_in}
@@ -25,17 +29,18 @@ use Rattle.mlt_held.specs.Views.{View, WritesPage, view_of}
 use Rattle.mlt_page_locks.specs.LockTables.{can_write}
 use Rattle.mlt_held.proofs.Views.{may_write, write_writes, writes_over_clean}
 use Rattle.mlt_record.specs.Plans.{IsNowhere, SetsFirst, WriteFields, has_room}
-use Rattle.mlt_split.specs.Rests.{Aim, IsAtRest, seed_of}
+use Rattle.mlt_split.specs.Rests.{Aim, IsAtRest, held_page, seed_of}
 use Rattle.mlt_split.specs.Splits.{IsUnderWay, MayBegin, SplitFields, directory_steps, steps_left}
 use Rattle.mlt_split.proofs.Beginning.{rest_bucket, rest_is_shallow, rest_is_small}
 use Rattle.mlt_split.proofs.Closing.{HasClean}
 use Rattle.mlt_hash.specs.Walks.{Basis, IsAdding, IsChanged, IsSplitting, IsStanding, Stands, WalkFields, aim_of}
 use Rattle.mlt_hash.specs.Changes.{Makes, page_of}
-use Rattle.mlt_hash.specs.Splitting.{BeginsSplit, TellsOfAdding, TellsOfPut}
+use Rattle.mlt_hash.specs.Splitting.{BeginsSplit, HasToSplit, TellsOfAdding, TellsOfPut}
 use Rattle.mlt_hash.specs.declared.answer.WalkAnswer.{WalkAnswer}
 use Rattle.mlt_hash.specs.declared.answer.WalkAnswer.TheVariants as answer
 use Rattle.mlt_hash.specs.declared.pass.Pass.{Pass}
 use Rattle.mlt_hash.specs.declared.pass.Pass.TheVariants as pass
+use Rattle.mlt_hash.specs.declared.pass.Phase.{Phase}
 use Rattle.mlt_hash.specs.declared.pass.Phase.TheVariants as at
 use Rattle.mlt_hash.specs.declared.pass.Change.TheVariants as change
 use Rattle.mlt_hash.proofs.Additions.{nowhere_found}
@@ -110,6 +115,39 @@ module _ (aim : Aim) (view : View) (n : ℕ) (header : HeadFields) (bucket : Buc
             absurd (false≢true (sym rest.room ∙ crowded_in_fewer aim.bits aim.opens aim.room_depth bucket.depth (seed_of aim) bucket.slots ge (omega (arith, shallow, small)) (crowded_here (kept_everywhere aim.opens bucket.slots nowhere_free))))
       ]
 
+  -- a slot with room is one of the eight
+  eight_slots : length bucket.slots ≡ 8
+  eight_slots =
+      let pages : ℕ → Option Page = over clean.clean view.own in
+      let form = (rest.keeps clean.clean clean.agrees clean.form).form in
+      let home = rest_home aim view n header bucket rest clean.clean clean.agrees clean.form in
+      let same : buckets_of pages (lead_of pages aim.root (seed_of aim)) ≡ bucket = ap (buckets_of pages) home.leads ∙ ap bucket_of home.found in
+      subst (λ (b : BucketFields). length b.slots ≡ 8) same (form.form.whole (seed_of aim) (rest.bounded aim.key))
+
+  pub room_is_seen : (i : ℕ) → i < 8 → has_room aim.opens (slice_index_or bucket.slots i Free) ≡ true → list_all (is_kept aim.opens) bucket.slots ≡ true → ⊥
+  room_is_seen i within room full =
+      let free : is_kept aim.opens (slice_index_or bucket.slots i Free) ≡ false = grind (arith, room) in
+      false≢true (sym (list_all_at (is_kept aim.opens) bucket.slots i Free (omega (arith, within, eight_slots)) free) ∙ full)
+
+same_bucket : (p : Option Page) (one other : BucketFields) → p ≡ Some (page.Bucket one) → p ≡ Some (page.Bucket other) → one ≡ other
+same_bucket p one other is_one is_other = ap bucket_of (sym is_one ∙ is_other)
+
+true_unless : (p : Phase) (value n room_depth : ℕ) → p ≡ at.Adding value n room_depth true → p ≡ at.Adding value n room_depth false → ⊥
+true_unless p value n room_depth one other = let both : at.Adding value n room_depth true ≡ at.Adding value n room_depth false = sym one ∙ other in cc
+
+module _ (basis : Basis) (walk : WalkFields) (old : Moment) (value n room_depth : ℕ) (unsplit : Bool) (phase : walk.phase ≡ at.Adding value n room_depth unsplit) (adds : IsAdding basis walk (view_of old) n room_depth unsplit) where
+  -- a walk that finds no room has to split,
+  pub has_to_split : (unsplit ≡ true) ⊎ IsNowhere (has_room basis.opens) adds.fields.slots → HasToSplit basis old walk value n room_depth
+  has_to_split (inl first) = inl (phase ∙ ap (at.Adding value n room_depth) first)
+  has_to_split (inr full) = inr (adds.fields, adds.rest.found, kept_everywhere basis.opens adds.fields.slots full)
+
+  -- and one that finds room has not
+  pub need_not_split : (s : Slot) (write : WriteFields) → HasClean (aim_of basis walk room_depth) (view_of old) → unsplit ≡ false → SetsFirst n adds.fields (has_room basis.opens) s write → HasToSplit basis old walk value n room_depth → ⊥
+  need_not_split s write clean split plan (inl first) = true_unless walk.phase value n room_depth first (phase ∙ ap (at.Adding value n room_depth) split)
+  need_not_split s write clean split plan (inr (bucket, found, full)) =
+      let same : bucket ≡ adds.fields = same_bucket (held_page (view_of old) n) bucket adds.fields found adds.rest.found in
+      room_is_seen (aim_of basis walk room_depth) (view_of old) n adds.header adds.fields adds.rest clean plan.slot plan.within plan.was (subst (λ (b : BucketFields). list_all (is_kept basis.opens) b.slots ≡ true) same full)
+
 -- **A walk that adds may begin to split.**
 pub may_begin : (basis : Basis) (walk : WalkFields) (old : Moment) (n room_depth : ℕ) (unsplit : Bool) → MayStep old → HasCleanFile basis.bits basis.root old → (adds : IsAdding basis walk (view_of old) n room_depth unsplit)
     → adds.fields.depth < room_depth → MayBegin (aim_of basis walk room_depth) (view_of old) n
@@ -161,11 +199,42 @@ module _ (basis : Basis) (walk after : WalkFields) (old new : Moment) (value n r
   put_tells answer.NeedSplit tells = absurd tells
   put_tells answer.Widen tells = absurd tells
 
+-- a put is never refused for want of room
+pub put_has_room : (old new : Moment) (before after : WalkFields) (write : WriteFields) (value : ℕ) (told : WalkAnswer) → TellsOfPut old new before after write value told → told ≡ answer.Refused refusal.NoRoom → ⊥
+put_has_room old new before after write value told tells is =
+    let memory : refusal.NoRoom ≡ refusal.OutOfMemory = (subst (λ (r : WalkAnswer). TellsOfPut old new before after write value r) is tells).0 in
+    cc
+
+-- **A split that could not begin.**
+pub begin_is_refused : (basis : Basis) (walk after : WalkFields) (old new : Moment) (value n room_depth : ℕ) (why : Refusal) → after ≡ walk → HasToSplit basis old walk value n room_depth → (why ≡ refusal.NoRoom → map.len old.store.pages ≡ old.store.max_pages)
+    → (why ≡ refusal.NoRoom) ⊎ (why ≡ refusal.OutOfMemory) → TellsOfAdding basis old new walk after value n room_depth (answer.Refused why)
+begin_is_refused basis walk after old new value n room_depth why same needed full either =
+    elim either [
+      | inl room ↦ subst (λ w. TellsOfAdding basis old new walk after value n room_depth (answer.Refused w)) (sym room) (needed, full room)
+      | inr memory ↦ subst (λ w. TellsOfAdding basis old new walk after value n room_depth (answer.Refused w)) (sym memory) refl
+    ]
+
+-- a walk is refused for the reason for which its split was not begun
+pub begun_alike : {A : Type 0} (result : Result A Refusal) (why : Refusal) → result ≡ Err why → (result ≡ Err refusal.NoRoom) ↔ (answer.Refused why ≡ answer.Refused refusal.NoRoom)
+begun_alike {A} result why is = (
+  λ room. ap answer.Refused (reason_of why refusal.NoRoom (sym is ∙ room)),
+  λ room. is ∙ ap err (told_reason why refusal.NoRoom room),
+)
+  where
+    err : Refusal → Result A Refusal
+    err why = Err why
+
+    reason_of : (one other : Refusal) → err one ≡ err other → one ≡ other
+    reason_of one other same = cc
+
+    told_reason : (one other : Refusal) → answer.Refused one ≡ answer.Refused other → one ≡ other
+    told_reason one other same = cc
+
 -- **A split that has begun.**
-pub begins_split : (basis : Basis) (walk after : WalkFields) (old new : Moment) (value n room_depth : ℕ) (unsplit : Bool) (split : SplitFields) → MayStep old → TouchesOnePage old new → (adds : IsAdding basis walk (view_of old) n room_depth unsplit)
+pub begins_split : (basis : Basis) (walk after : WalkFields) (old new : Moment) (value n room_depth : ℕ) (unsplit : Bool) (split : SplitFields) (made : Page) → MayStep old → MakesLockedPage old new split.new_page made → (adds : IsAdding basis walk (view_of old) n room_depth unsplit) → HasToSplit basis old walk value n room_depth
     → IsUnderWay (aim_of basis walk room_depth) (view_of new) split → steps_left split ≡ 1 + directory_steps split.depth split.directory_depth → split.depth ≡ adds.fields.depth → split.directory_depth ≡ adds.header.depth
     → after ≡ record walk { phase = at.Splitting value room_depth; split = Some split } → BeginsSplit basis old new walk after value n room_depth
-begins_split basis walk after old new value n room_depth unsplit split may touches adds under_way steps bucket_depth depth after_is =
+begins_split basis walk after old new value n room_depth unsplit split made may makes adds needed under_way steps bucket_depth depth after_is =
     let here : IsSplitting basis (record walk { phase = at.Splitting value room_depth; split = Some split }) (view_of new) room_depth = record {
       split = split;
       split_is = refl;
@@ -173,9 +242,10 @@ begins_split basis walk after old new value n room_depth unsplit split may touch
       most = adds.most;
       later = adds.later;
       narrow = λ narrow. let fits = adds.narrow narrow in omega (arith, fits, depth);
-      wide = λ wide. stays_exclusive_in_step old new basis.root may touches (adds.wide wide);
+      wide = λ wide. stays_exclusive_in_step old new basis.root may (split.new_page, inr (made, makes)) (adds.wide wide);
     } in
     record {
+      needed = needed;
       on = record {
         same = record { key = ap (λ (w : WalkFields). w.key) after_is; mode = ap (λ (w : WalkFields). w.mode) after_is; pass = ap (λ (w : WalkFields). w.pass) after_is };
         stands = subst (λ (w : WalkFields). Stands w.phase basis w (view_of new)) (sym after_is) here;
@@ -190,6 +260,7 @@ begins_split basis walk after old new value n room_depth unsplit split may touch
       depth = bucket_depth;
       directory_depth = depth;
       steps = steps;
+      made = (made, makes);
     }
 
 -- a bucket at rest may be written

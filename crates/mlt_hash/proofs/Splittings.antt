@@ -1,9 +1,12 @@
 -- Steps of a split, as steps of the walk whose bucket is split
 use Rattle.std.proofs.Common.{ℕ, ◌≡◌, ◌≤◌, true, false, Option, Some, refl, sym, ◌∙◌, ap, subst, inl, inr, arith}
+use Rattle.std.specs.Prelude.{◌↔◌}
 use Rattle.std.specs.FinMap as map
 use Rattle.std.proofs.lemmas.Bool.{cases_eq, false≢true}
 use Rattle.mlt_types.specs.declared.mode.Mode.{Mode}
 use Rattle.mlt_types.specs.declared.mode.Mode.TheVariants.{Exclusive}
+use Rattle.mlt_types.specs.declared.refusal.Refusal.{Refusal}
+use Rattle.mlt_types.specs.declared.refusal.Refusal.TheVariants as refusal
 use Rattle.mlt_page_locks.specs.LockTables.{LockTable, can_write}
 use Rattle.mlt_page_locks.specs.LockLaws.{can_write-granted}
 use Rattle.mlt_page_locks.specs.Requests.{granted}
@@ -13,9 +16,18 @@ use Rattle.mlt_held.specs.Views.{view_of}
 use Rattle.mlt_held.proofs.Others.{step_keeps_tx}
 use Rattle.mlt_held.proofs.Views.{holds_exclusively, may_write}
 use Rattle.mlt_split.specs.Splits.{SplitFields, steps_left}
-use Rattle.mlt_split.specs.Tells.{GoesOn, Rests}
+use Rattle.mlt_split.specs.Rests.{Aim}
+use Rattle.mlt_split.specs.Steps.{IsLeft, IsMaking, Touches}
+use Rattle.mlt_split.specs.Tells.{GoesOn, Rests, Tells}
+use Rattle.mlt_split.specs.declared.phase.SplitPhase.{SplitPhase}
+use Rattle.mlt_split.specs.declared.phase.SplitPhase.TheVariants as split_at
+use Rattle.mlt_split.specs.declared.split.SplitAnswer.{SplitAnswer}
+use Rattle.mlt_split.specs.declared.split.SplitAnswer.TheVariants as split_answer
 use Rattle.mlt_hash.specs.Walks.{Basis, IsAdding, IsSplitting, IsStanding, Stands, WalkFields, aim_of}
-use Rattle.mlt_hash.specs.Splitting.{SplitCloses, SplitGoesOn}
+use Rattle.mlt_hash.specs.Splitting.{OfSplit, SplitCloses, SplitGoesOn, TellsOfSplitting}
+use Rattle.mlt_hash.specs.Steps.{TellsOfPath}
+use Rattle.mlt_hash.specs.declared.answer.WalkAnswer.{WalkAnswer}
+use Rattle.mlt_hash.specs.declared.answer.WalkAnswer.TheVariants as answer
 use Rattle.mlt_hash.specs.declared.pass.Pass.TheVariants as pass
 use Rattle.mlt_hash.specs.declared.pass.Phase.TheVariants as at
 
@@ -122,3 +134,40 @@ module _ (basis : Basis) (walk after : WalkFields) (old new : Moment) (value roo
         last = last;
         rests = rests;
       }
+
+-- the page of a second half is not made, and nothing has changed
+making_leaves : (phase : SplitPhase) (aim : Aim) (old new : Moment) → IsMaking phase → IsLeft phase aim old new → new ≡ old
+making_leaves (split_at.SecondHalf place) aim old new making left = left
+making_leaves other aim old new making left = absurd making
+
+module _ (basis : Basis) (walk after : WalkFields) (old new : Moment) (value room_depth : ℕ) (was : SplitFields) (was_is : walk.split ≡ Some was) where
+  -- **A step of the split is refused.**
+  pub split_is_refused : (aim : Aim) (is : SplitFields) (why : Refusal) → aim ≡ aim_of basis walk room_depth → after ≡ record walk { split = Some is } → Tells aim old new was is (split_answer.Refused why) → Touches (split_answer.Refused why) aim old new was
+      → TellsOfSplitting basis old new walk after value room_depth (answer.Refused why)
+  split_is_refused aim is refusal.NoRoom same after_is tells left = ((was, was_is, tells.0), making_leaves was.phase aim old new tells.0 left, tells.1)
+  split_is_refused aim is refusal.OutOfMemory same after_is tells left = (refl, (was, was_is, subst (λ (a : Aim). IsLeft was.phase a old new) same left))
+  split_is_refused aim is why same after_is tells left = (tells, (was, was_is, subst (λ (a : Aim). IsLeft was.phase a old new) same left))
+
+-- there is no room for a page just where the split's step makes one
+pub no_room_in_split : {Full : Type 0} (walk : WalkFields) (was : SplitFields) (was_is : walk.split ≡ Some was) (told : SplitAnswer) → (told ≡ split_answer.Refused refusal.NoRoom) ↔ (IsMaking was.phase × Full) → (told ≡ split_answer.Refused refusal.NoRoom) ↔ (OfSplit walk (λ split. IsMaking split.phase) × Full)
+no_room_in_split walk was was_is told exact = (
+  λ refused. let both = exact.0 refused in ((was, was_is, both.0), both.1),
+  λ both. exact.1 (subst (λ (s : SplitFields). IsMaking s.phase) (some_is_one both.0.0 was walk.split both.0.1 was_is) both.0.2, both.1),
+)
+
+-- a split and its walk tell the same refusal
+pub refused_alike : (told : SplitAnswer) (why : Refusal) → told ≡ split_answer.Refused why → (told ≡ split_answer.Refused refusal.NoRoom) ↔ (answer.Refused why ≡ answer.Refused refusal.NoRoom)
+refused_alike told why is = (
+  λ room. ap answer.Refused (reason_of why refusal.NoRoom (sym is ∙ room)),
+  λ room. is ∙ ap split_answer.Refused (told_reason why refusal.NoRoom room),
+)
+  where
+    reason_of : (one other : Refusal) → split_answer.Refused one ≡ split_answer.Refused other → one ≡ other
+    reason_of one other same = cc
+
+    told_reason : (one other : Refusal) → answer.Refused one ≡ answer.Refused other → one ≡ other
+    told_reason one other same = cc
+
+-- a step to the bucket makes no page, and is refused none
+pub path_has_room : (basis : Basis) (old new : Moment) (before after : WalkFields) (told : WalkAnswer) → TellsOfPath basis old new before after told → told ≡ answer.Refused refusal.NoRoom → ⊥
+path_has_room basis old new before after told tells is = subst (λ (r : WalkAnswer). TellsOfPath basis old new before after r) is tells

@@ -1,17 +1,21 @@
 -- What the steps of a walk tell that splits its bucket and then adds its record
-use Rattle.std.specs.Prelude.{ℕ, ◌≡◌, ◌+◌, ◌⊎◌, false, Some}
+use Rattle.std.specs.Prelude.{ℕ, ◌≡◌, ◌+◌, ◌⊎◌, true, false, Some}
+use Rattle.std.specs.List.{list_all}
 use Rattle.std.specs.FinMap as map
 use Rattle.mlt_types.specs.declared.mode.Mode.TheVariants.{Exclusive}
 use Rattle.mlt_types.specs.declared.refusal.Refusal.TheVariants as refusal
+use Rattle.mlt_page.specs.Slots.{is_kept}
 use Rattle.mlt_page.specs.Values.{BucketFields, HeadFields}
+use Rattle.mlt_page.specs.declared.page.Page.{Page}
 use Rattle.mlt_page.specs.declared.page.Page.TheVariants as page
 use Rattle.mlt_page_locks.specs.Requests.{IsLowest, conflicts}
 use Rattle.mlt_held.specs.Moments.{Moment}
-use Rattle.mlt_held.specs.PageSteps.{WritesAtMost, WritesHeldPage}
+use Rattle.mlt_held.specs.PageSteps.{MakesLockedPage, WritesAtMost, WritesHeldPage}
 use Rattle.mlt_held.specs.Views.{view_of}
 use Rattle.mlt_record.specs.Plans.{WriteFields}
 use Rattle.mlt_split.specs.Rests.{held_page}
 use Rattle.mlt_split.specs.Splits.{SplitFields, directory_steps, steps_left}
+use Rattle.mlt_split.specs.Steps.{IsDone, IsLeft, IsMaking, IsNextPage}
 use Rattle.mlt_split.specs.Tells.{Rests}
 use Rattle.mlt_hash.specs.Walks.{Basis, IsStanding, WalkFields, aim_of}
 use Rattle.mlt_hash.specs.Steps.{IsSameWalk, TellsOfPath}
@@ -27,9 +31,18 @@ pub record StandsOn (basis : Basis) (new : Moment) (before after : WalkFields) :
   pub same : IsSameWalk before after
   pub stands : IsStanding basis after (view_of new)
 
+-- the walk has to split its bucket: it has not yet, or there is still no room
+abbrev pub HasToSplit : Basis → Moment → WalkFields → ℕ → ℕ → ℕ → Type 0
+HasToSplit basis old before value n room_depth = (before.phase ≡ at.Adding value n room_depth true) ⊎ ((bucket : BucketFields) × (held_page (view_of old) n ≡ Some (page.Bucket bucket)) × (list_all (is_kept basis.opens) bucket.slots ≡ true))
+
+-- this is so of the walk's split
+abbrev pub OfSplit : WalkFields → (SplitFields → Type 0) → Type 0
+OfSplit walk Is = (split : SplitFields) × (walk.split ≡ Some split) × Is split
+
 -- A split of the bucket on page n begins: with the new bucket made, it takes so many steps more as the depths of the bucket and of
 -- the directory say.
 pub record BeginsSplit (basis : Basis) (old new : Moment) (before after : WalkFields) (value n room_depth : ℕ) : Type 0 where
+  pub needed : HasToSplit basis old before value n room_depth
   pub on : StandsOn basis new before after
   pub phase : after.phase ≡ at.Splitting value room_depth
   pub split : SplitFields
@@ -41,6 +54,7 @@ pub record BeginsSplit (basis : Basis) (old new : Moment) (before after : WalkFi
   pub depth : split.depth ≡ bucket.depth
   pub directory_depth : split.directory_depth ≡ header.depth
   pub steps : steps_left split ≡ 1 + directory_steps split.depth split.directory_depth
+  pub made : (page : Page) × MakesLockedPage old new split.new_page page
 
 -- The split goes on, one step fewer is left.
 pub record SplitGoesOn (basis : Basis) (new : Moment) (before after : WalkFields) (value room_depth : ℕ) : Type 0 where
@@ -70,20 +84,20 @@ TellsOfPut old new before after write value answer.Changed = WritesHeldPage old 
 TellsOfPut old new before after write value (answer.Refused reason) = (reason ≡ refusal.OutOfMemory) × (new ≡ old) × (after ≡ before)
 TellsOfPut old new before after write value other = ⊥
 
--- a step of a walk whose bucket had no room: it puts the record where there is room now, but splits once at least; or it
--- goes on with the split
+-- a step of a walk whose bucket had no room: it puts the record where there is room now, but splits once at least
 abbrev pub TellsOfAdding : Basis → Moment → Moment → WalkFields → WalkFields → ℕ → ℕ → ℕ → WalkAnswer → Type 0
 TellsOfAdding basis old new before after value bucket room_depth answer.Going = BeginsSplit basis old new before after value bucket room_depth
 TellsOfAdding basis old new before after value bucket room_depth answer.Changed = (before.phase ≡ at.Adding value bucket room_depth false) × Makes basis new before after (change.Put value) × WritesAtMost old new bucket
-TellsOfAdding basis old new before after value bucket room_depth (answer.Refused refusal.NoRoom) = map.len old.store.pages ≡ old.store.max_pages
+TellsOfAdding basis old new before after value bucket room_depth (answer.Refused refusal.NoRoom) = HasToSplit basis old before value bucket room_depth × (map.len old.store.pages ≡ old.store.max_pages)
 TellsOfAdding basis old new before after value bucket room_depth (answer.Refused reason) = reason ≡ refusal.OutOfMemory
 TellsOfAdding basis old new before after value bucket room_depth other = ⊥
 
+-- a step of a walk that splits its bucket tells what the step of the split tells, and which page that one locked or made
 abbrev pub TellsOfSplitting : Basis → Moment → Moment → WalkFields → WalkFields → ℕ → ℕ → WalkAnswer → Type 0
-TellsOfSplitting basis old new before after value room_depth answer.Going = SplitGoesOn basis new before after value room_depth ⊎ SplitCloses basis new before after value room_depth
-TellsOfSplitting basis old new before after value room_depth (answer.Waiting page by) = IsLowest (conflicts old.locks old.running.tx page Exclusive) by × (new ≡ old) × (after ≡ before)
-TellsOfSplitting basis old new before after value room_depth (answer.Refused refusal.NoRoom) = map.len old.store.pages ≡ old.store.max_pages
-TellsOfSplitting basis old new before after value room_depth (answer.Refused reason) = reason ≡ refusal.OutOfMemory
+TellsOfSplitting basis old new before after value room_depth answer.Going = OfSplit before (λ split. IsDone split.phase (aim_of basis before room_depth) old new split) × (SplitGoesOn basis new before after value room_depth ⊎ SplitCloses basis new before after value room_depth)
+TellsOfSplitting basis old new before after value room_depth (answer.Waiting page by) = OfSplit before (λ split. IsNextPage split.phase (aim_of basis before room_depth) (view_of old) page) × IsLowest (conflicts old.locks old.running.tx page Exclusive) by × (new ≡ old) × (after ≡ before)
+TellsOfSplitting basis old new before after value room_depth (answer.Refused refusal.NoRoom) = OfSplit before (λ split. IsMaking split.phase) × (new ≡ old) × (map.len old.store.pages ≡ old.store.max_pages)
+TellsOfSplitting basis old new before after value room_depth (answer.Refused reason) = (reason ≡ refusal.OutOfMemory) × OfSplit before (λ split. IsLeft split.phase (aim_of basis before room_depth) old new)
 TellsOfSplitting basis old new before after value room_depth other = ⊥
 
 -- what a step tells, by where the walk stood
@@ -91,6 +105,12 @@ abbrev pub TellsAt : Phase → Basis → Moment → Moment → WalkFields → Wa
 TellsAt (at.Adding value bucket room_depth unsplit) basis old new before after told = TellsOfAdding basis old new before after value bucket room_depth told
 TellsAt (at.Splitting value room_depth) basis old new before after told = TellsOfSplitting basis old new before after value room_depth told
 TellsAt other basis old new before after told = TellsOfPath basis old new before after told
+
+-- the next step makes a page: it begins a split, or makes a page of the one under way
+abbrev pub HasToMake : Phase → Basis → Moment → WalkFields → Type 0
+HasToMake (at.Adding value bucket room_depth unsplit) basis old before = HasToSplit basis old before value bucket room_depth
+HasToMake (at.Splitting value room_depth) basis old before = OfSplit before (λ split. IsMaking split.phase)
+HasToMake other basis old before = ⊥
 
 -- the walk has a next step: it is on its way to its bucket, or splits it
 abbrev pub IsUnderWay : Phase → Type 0

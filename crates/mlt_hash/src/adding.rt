@@ -1,6 +1,7 @@
 //! Additions whose bucket had no room: splits, and then the record.
 
-ghost use Rattle.std.specs.Prelude.{◌≡◌, ◌≤◌, ◌⊎◌, ℕ, MatchOption, None, Option, Some, false, position, true};
+ghost use Rattle.std.specs.Prelude.{◌≡◌, ◌≤◌, ◌⊎◌, ◌↔◌, ℕ, MatchOption, None, Option, Some, false, position, true};
+ghost use Rattle.std.specs.FinMap as map;
 ghost use Rattle.mlt_page.specs.Slots.{is_live_of};
 ghost use Rattle.mlt_page.specs.Values.{BucketFields};
 ghost use Rattle.mlt_page.specs.declared.page.Page.TheVariants as page;
@@ -13,7 +14,8 @@ ghost use Rattle.mlt_held.specs.PageSteps.{TouchesOnePage};
 ghost use Rattle.mlt_held.specs.Views.{view_of};
 ghost use Rattle.mlt_hash.specs.Walks.{IsStanding, aim_of};
 ghost use Rattle.mlt_split.specs.Rests.{Aim, held_page};
-ghost use Rattle.mlt_hash.specs.Splitting.{TellsOfAdding, TellsOfPut, TellsOfSplitting};
+ghost use Rattle.mlt_split.specs.Steps.{IsMaking};
+ghost use Rattle.mlt_hash.specs.Splitting.{HasToSplit, OfSplit, TellsOfAdding, TellsOfPut, TellsOfSplitting};
 
 use crate::answer::WalkAnswer;
 use crate::pass::{Change, Phase};
@@ -51,6 +53,7 @@ pub(crate) fn add_or_split<P: Pseudo>(
     ensures touches { TouchesOnePage (moment subtx.old locks.old store.old) (moment subtx.new locks.new store.new) }
     ensures may { MayStep (moment subtx.new locks.new store.new) }
     ensures clean { (clean : ℕ → Option Page) → IsCleanFor (moment subtx.old locks.old store.old) clean → IsCleanFor (moment subtx.new locks.new store.new) clean }
+    ensures no_room { (result ≡ WalkAnswer.Refused Refusal.NoRoom) ↔ (HasToSplit (record { bits = P.bits_of root.now.pseudo; opens = opens.now; root = root.now.page; max_depth = root.now.max_depth; tx = subtx.old.tx }) (moment subtx.old locks.old store.old) walk.old value number room_depth × (map.len store.old.pages ≡ store.old.max_pages)) }
     ensures tells { TellsOfAdding (record { bits = P.bits_of root.now.pseudo; opens = opens.now; root = root.now.page; max_depth = root.now.max_depth; tx = subtx.old.tx }) (moment subtx.old locks.old store.old) (moment subtx.new locks.new store.new) walk.old walk.new value number room_depth result }
 {
     if let Some(write) = plan_to_put(walk, value, number, unsplit, subtx, store, locks, opens) {
@@ -145,6 +148,7 @@ pub(crate) fn go_on_splitting<P: Pseudo>(
     ensures touches { TouchesOnePage (moment subtx.old locks.old store.old) (moment subtx.new locks.new store.new) }
     ensures may { MayStep (moment subtx.new locks.new store.new) }
     ensures clean { (clean : ℕ → Option Page) → IsCleanFor (moment subtx.old locks.old store.old) clean → IsCleanFor (moment subtx.new locks.new store.new) clean }
+    ensures no_room { (result ≡ WalkAnswer.Refused Refusal.NoRoom) ↔ (OfSplit walk.old (λ split. IsMaking split.phase) × (map.len store.old.pages ≡ store.old.max_pages)) }
     ensures tells { TellsOfSplitting (record { bits = P.bits_of root.now.pseudo; opens = opens.now; root = root.now.page; max_depth = root.now.max_depth; tx = subtx.old.tx }) (moment subtx.old locks.old store.old) (moment subtx.new locks.new store.new) walk.old walk.new value room_depth result }
 {
     let Some(split) = &mut walk.split else {

@@ -1,12 +1,13 @@
 //! Walks.
 
-ghost use Rattle.std.specs.Prelude.{◌≡◌, ◌≤◌, ℕ, Option, None};
+ghost use Rattle.std.specs.Prelude.{◌≡◌, ◌≤◌, ◌↔◌, ℕ, Option, None};
+ghost use Rattle.std.specs.FinMap as map;
 ghost use Rattle.mlt_page.specs.declared.page.Page.{Page};
 ghost use Rattle.mlt_held.specs.Moments.{HasCleanFile, IsCleanFor, MayStep, moment};
 ghost use Rattle.mlt_held.specs.PageSteps.{TouchesOnePage};
 ghost use Rattle.mlt_held.specs.Views.{view_of};
 ghost use Rattle.mlt_hash.specs.Walks.{IsStanding};
-ghost use Rattle.mlt_hash.specs.Splitting.{IsUnderWay, TellsAt};
+ghost use Rattle.mlt_hash.specs.Splitting.{HasToMake, IsUnderWay, TellsAt};
 
 use crate::adding::{add_or_split, go_on_splitting};
 use crate::answer::WalkAnswer;
@@ -17,7 +18,7 @@ use mlt_page_locks::PageLocks;
 use mlt_split::Split;
 use mlt_store::Store;
 use mlt_subtx::Subtx;
-use mlt_types::{Key, Mode, OpenSet, Pseudo};
+use mlt_types::{Key, Mode, OpenSet, Pseudo, Refusal};
 use std::alloc::Global;
 use std::marker::Model;
 
@@ -91,6 +92,7 @@ impl Walk {
         ensures touches { TouchesOnePage (moment subtx.old locks.old store.old) (moment subtx.new locks.new store.new) }
         ensures may { MayStep (moment subtx.new locks.new store.new) }
         ensures clean { (clean : ℕ → Option Page) → IsCleanFor (moment subtx.old locks.old store.old) clean → IsCleanFor (moment subtx.new locks.new store.new) clean }
+        ensures no_room { (result ≡ WalkAnswer.Refused Refusal.NoRoom) ↔ (HasToMake self.old.phase (record { bits = P.bits_of root.now.pseudo; opens = opens.now; root = root.now.page; max_depth = root.now.max_depth; tx = subtx.old.tx }) (moment subtx.old locks.old store.old) self.old × (map.len store.old.pages ≡ store.old.max_pages)) }
         ensures tells { TellsAt self.old.phase (record { bits = P.bits_of root.now.pseudo; opens = opens.now; root = root.now.page; max_depth = root.now.max_depth; tx = subtx.old.tx }) (moment subtx.old locks.old store.old) (moment subtx.new locks.new store.new) self.old self.new result }
     {
         let phase = self.phase;

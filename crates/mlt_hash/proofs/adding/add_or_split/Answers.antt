@@ -1,4 +1,6 @@
 use Rattle.std.proofs.Common.{◌≡◌, ◌<◌, false, refl, ap, sym, subst, ◌∙◌, inl, inr}
+use Rattle.std.specs.Prelude.{Err}
+use Rattle.mlt_types.specs.declared.refusal.Refusal.TheVariants as refusal
 use Rattle.mlt_page.specs.Slots.{is_live_of}
 use Rattle.mlt_page.specs.declared.slot.Slot.TheVariants.{Live}
 use Rattle.mlt_held.specs.Moments.{Moment, moment}
@@ -10,7 +12,8 @@ use Rattle.mlt_split.proofs.HeldPages.{clean_now}
 use Rattle.mlt_hash.specs.Walks.{Basis, WalkFields, aim_of}
 use Rattle.mlt_hash.specs.Splitting.{TellsOfAdding}
 use Rattle.mlt_hash.specs.declared.pass.Phase.TheVariants as at
-use Rattle.mlt_hash.proofs.Puts.{adding_at, begins_split, full_is_shallow, made_touches, may_begin, may_put, nothing_touched, nowhere, put_tells, put_touches}
+use Rattle.mlt_hash.specs.declared.answer.WalkAnswer.TheVariants as answer
+use Rattle.mlt_hash.proofs.Puts.{adding_at, begin_is_refused, begins_split, begun_alike, full_is_shallow, has_to_split, made_touches, may_begin, may_put, need_not_split, nothing_touched, nowhere, put_has_room, put_tells, put_touches}
 use Rattle.mlt_hash.proofs.adding.add_or_split.Goals as goal
 
 pub plan_to_put-requires-clause-found : goal.plan_to_put-requires-clause-found
@@ -76,7 +79,7 @@ returns-in-Ok-clause-tells g c =
     let old : Moment = moment c.args.subtx.now c.args.locks.now c.args.store.now in
     let adds = adding_at basis walk old c.args.value c.args.number c.args.room_depth c.args.unsplit c.requires.1.1.0 c.requires.1.1.1.1.1.1 in
     let new : Moment = moment c.begin.new.subtx c.begin.new.locks c.begin.new.store in
-    let touches = made_touches old new c.in-Ok.split.new_page c.in-Ok.ensures.makes.0 c.in-Ok.ensures.makes.1 in
+    let needed = has_to_split basis walk old c.args.value c.args.number c.args.room_depth c.args.unsplit c.requires.1.1.0 adds (c.in_default.ensures adds.fields adds.rest.found) in
     let key : c.walk.inside.key ≡ walk.key = ap (λ (w : WalkFields). w.key) c.walk.view_is in
     let aim : Aim = record (aim_of basis walk c.args.room_depth) { key = c.walk.inside.key; room_depth = g.needed } in
     let same : aim ≡ aim_of basis walk c.args.room_depth = rw (key, c.requires.1.0) refl in
@@ -85,7 +88,7 @@ returns-in-Ok-clause-tells g c =
     let depths = c.in-Ok.ensures.depths adds.header adds.fields rest in
     elim c.keep_split.ensures.told [
       | inl going ↦
-          let begun = begins_split basis walk c.keep_split.new.walk old new c.args.value c.args.number c.args.room_depth c.args.unsplit c.in-Ok.split c.requires.1.1.1.1.0 touches adds under_way c.in-Ok.ensures.steps depths.0 depths.1 (c.keep_split.ensures.kept going) in
+          let begun = begins_split basis walk c.keep_split.new.walk old new c.args.value c.args.number c.args.room_depth c.args.unsplit c.in-Ok.split c.in-Ok.ensures.makes.0 c.requires.1.1.1.1.0 c.in-Ok.ensures.makes.1 adds needed under_way c.in-Ok.ensures.steps depths.0 depths.1 (c.keep_split.ensures.kept going) in
           subst (λ r. TellsOfAdding basis old new walk c.keep_split.new.walk c.args.value c.args.number c.args.room_depth r) (sym going) begun
       | inr refused ↦ subst (λ r. TellsOfAdding basis old new walk c.keep_split.new.walk c.args.value c.args.number c.args.room_depth r) (sym refused) refl
     ]
@@ -95,3 +98,44 @@ returns-in-Err-clause-touches g c =
     let old : Moment = moment c.args.subtx.now c.args.locks.now c.args.store.now in
     let err = c.in-Err.ensures.err in
     nothing_touched old (moment c.begin.new.subtx c.begin.new.locks c.begin.new.store) (λ i. moment (err.0 i) (err.1 i) (err.2 i))
+
+pub returns-in-Some-clause-no_room : goal.returns-in-Some-clause-no_room
+returns-in-Some-clause-no_room g c =
+    let basis : Basis = record { bits = g.P.Pseudo.bits_of c.args.root.now.pseudo; opens = c.args.opens.now; root = c.args.root.now.page; max_depth = c.args.root.now.max_depth; tx = c.args.subtx.now.tx } in
+    let walk : WalkFields = c.args.walk.now in
+    let old : Moment = moment c.args.subtx.now c.args.locks.now c.args.store.now in
+    let adds = adding_at basis walk old c.args.value c.args.number c.args.room_depth c.args.unsplit c.requires.1.1.0 c.requires.1.1.1.1.1.1 in
+    let planned = c.in-Some.ensures adds.fields adds.rest.found in
+    let clean = clean_now (aim_of basis walk c.args.room_depth) old c.requires.1.1.1.1.0 c.requires.1.1.1.1.1.0 in (
+      λ is. absurd (put_has_room old (moment c.put.new.subtx c.args.locks.now c.put.new.store) walk c.put.new.walk c.in-Some.write c.args.value c.put.result c.put.ensures.tells is),
+      λ both. absurd (need_not_split basis walk old c.args.value c.args.number c.args.room_depth c.args.unsplit c.requires.1.1.0 adds (Live walk.key c.args.value) c.in-Some.write clean planned.0 planned.1 both.0),
+    )
+
+pub returns-in-Ok-clause-no_room : goal.returns-in-Ok-clause-no_room
+returns-in-Ok-clause-no_room g c = (
+  λ is. elim c.keep_split.ensures.told [
+    | inl going ↦ let both : answer.Refused refusal.NoRoom ≡ answer.Going = sym is ∙ going in cc
+    | inr memory ↦ let both : answer.Refused refusal.NoRoom ≡ answer.Refused refusal.OutOfMemory = sym is ∙ memory in cc
+  ],
+  λ both. let none = sym c.in-Ok.is ∙ c.begin.ensures.no_room.1 both.1 in cc,
+)
+
+pub returns-in-Err-clause-no_room : goal.returns-in-Err-clause-no_room
+returns-in-Err-clause-no_room g c =
+    let basis : Basis = record { bits = g.P.Pseudo.bits_of c.args.root.now.pseudo; opens = c.args.opens.now; root = c.args.root.now.page; max_depth = c.args.root.now.max_depth; tx = c.args.subtx.now.tx } in
+    let walk : WalkFields = c.args.walk.now in
+    let old : Moment = moment c.args.subtx.now c.args.locks.now c.args.store.now in
+    let adds = adding_at basis walk old c.args.value c.args.number c.args.room_depth c.args.unsplit c.requires.1.1.0 c.requires.1.1.1.1.1.1 in
+    let needed = has_to_split basis walk old c.args.value c.args.number c.args.room_depth c.args.unsplit c.requires.1.1.0 adds (c.in_default.ensures adds.fields adds.rest.found) in
+    let alike = begun_alike c.begin.result c.in-Err.refusal c.in-Err.is in
+    (λ is. (needed, c.begin.ensures.no_room.0 (alike.1 is)), λ both. alike.0 (c.begin.ensures.no_room.1 both.1))
+
+pub returns-in-Err-clause-tells : goal.returns-in-Err-clause-tells
+returns-in-Err-clause-tells g c =
+    let basis : Basis = record { bits = g.P.Pseudo.bits_of c.args.root.now.pseudo; opens = c.args.opens.now; root = c.args.root.now.page; max_depth = c.args.root.now.max_depth; tx = c.args.subtx.now.tx } in
+    let walk : WalkFields = c.args.walk.now in
+    let old : Moment = moment c.args.subtx.now c.args.locks.now c.args.store.now in
+    let adds = adding_at basis walk old c.args.value c.args.number c.args.room_depth c.args.unsplit c.requires.1.1.0 c.requires.1.1.1.1.1.1 in
+    let needed = has_to_split basis walk old c.args.value c.args.number c.args.room_depth c.args.unsplit c.requires.1.1.0 adds (c.in_default.ensures adds.fields adds.rest.found) in
+    begin_is_refused basis walk _ old (moment c.begin.new.subtx c.begin.new.locks c.begin.new.store) c.args.value c.args.number c.args.room_depth c.in-Err.refusal c.walk.view_is needed
+    (λ room. c.begin.ensures.no_room.0 (c.in-Err.is ∙ ap Err room)) c.in-Err.ensures.refusal
