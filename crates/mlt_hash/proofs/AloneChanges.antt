@@ -14,9 +14,9 @@ use Rattle.mlt_hash_form.proofs.HeldPages.{changed_values}
 use Rattle.mlt_held.specs.Moments.{IsCleanFor, MayStep, Moment}
 use Rattle.mlt_held.specs.PageSteps.{WritesAtMost}
 use Rattle.mlt_held.specs.Views.{View, view_of}
-use Rattle.mlt_hash.specs.Alone.{IsAlone, basis_of, pages_before}
-use Rattle.mlt_hash.specs.AloneWalks.{HasChanged, IsHashFile}
-use Rattle.mlt_hash.specs.Changes.{IsAtRecord, Makes, TellsOfChange, page_of}
+use Rattle.mlt_hash.specs.Alone.{IsAlone, KeepsBefore, basis_of, pages_before}
+use Rattle.mlt_hash.specs.AloneWalks.{ChangesValue, HasChanged, IsHashFile}
+use Rattle.mlt_hash.specs.Changes.{IsAtRecord, Makes, TellsOfChange, WritesIfChanged, page_of}
 use Rattle.mlt_hash.specs.Passes.{value_after}
 use Rattle.mlt_hash.specs.Walks.{Basis, IsAtBucket, IsChanged, IsStanding, IsUnwritten, Stands, WalkFields}
 use Rattle.mlt_hash.specs.declared.answer.WalkAnswer.{WalkAnswer}
@@ -48,6 +48,11 @@ changed_alone basis m walk bucket done alone file changed shallow =
 -- who has written nothing finds the store as it was before
 pub unwritten_store : (m : Moment) (q : ℕ) → MayStep m → IsUnwritten (view_of m) → page_at m.store.pages q ≡ pages_before m q
 unwritten_store m q may none = sym (written_over_before m q may) ∙ ap (λ own. own_or own (pages_before m q)) (none q)
+
+-- who writes only what is changed writes one page at most
+pub writes_at_most : (old new : Moment) (q : ℕ) (told : WalkAnswer) → WritesIfChanged old new q told → WritesAtMost old new q
+writes_at_most old new q answer.Changed writes = inr writes
+writes_at_most old new q other same = inl same
 
 -- a write leaves the other pages
 pub other_page_stays : (old new : Moment) (q p : ℕ) → WritesAtMost old new q → (p ≡ q → ⊥) → page_at new.store.pages p ≡ page_at old.store.pages p

@@ -145,7 +145,7 @@ module _ (bits : ℕ → ℕ) (root max_depth : ℕ) (first mid new : Moment) (w
     is_full : (fields : BucketFields) → IsFull ours walk (view_of new) fields → IsFullFor bits (pages_before new) root walk.key
     is_full fields full = ap (λ (b : BucketFields). list_all (is_kept set.empty) b.slots) (key_bucket fields full.sees.at) ∙ full.no_room
 
-    never : HasNoRoom ours new walk → NeverHasRoomFor bits (pages_before new) max_depth walk.key
+    never : HasNoRoom ours new walk after → NeverHasRoomFor bits (pages_before new) max_depth walk.key
     never has =
         let same : buckets_of (pages_before new) (lead_of (pages_before new) root (bits walk.key)) ≡ has.fields = key_bucket has.fields has.full.sees.at in
         let x : ℕ = bits walk.key in

@@ -28,12 +28,13 @@ use Rattle.mlt_hash_form.proofs.Lookup.{live_from_value, live_passes, within_fro
 use Rattle.mlt_hash_form.proofs.Paths.{path_home}
 use Rattle.mlt_hash_form.proofs.SingleChanges.{put_changes, revive_changes, set_value_changes, to_ghost_changes}
 use Rattle.mlt_held.specs.Moments.{MayStep, Moment}
+use Rattle.mlt_held.specs.PageSteps.{WritesHeldPage}
 use Rattle.mlt_held.specs.Views.{View, WritesPage, own_at, page_written, view_of}
 use Rattle.mlt_held.proofs.Views.{may_write, mode_of_page, own_held}
 use Rattle.mlt_record.specs.Plans.{IsNowhere, SetsFirst, WriteFields}
 use Rattle.mlt_hash.specs.Passes.{bucket_mode, directory_held, slot_after, value_after}
 use Rattle.mlt_hash.specs.Walks.{Basis, IsAtBucket, IsChanged, IsUnwritten, Stands, StoodBefore, WalkFields, dir_of}
-use Rattle.mlt_hash.specs.Changes.{IsAtAbsent, IsAtRecord, Makes, SeesBucket, TellsOfChange, directory_depth_of, page_of}
+use Rattle.mlt_hash.specs.Changes.{IsAtAbsent, IsAtRecord, Makes, SeesBucket, TellsOfChange, WritesIfChanged, directory_depth_of, page_of}
 use Rattle.mlt_hash.specs.declared.pass.Pass.{Pass}
 use Rattle.mlt_hash.specs.declared.pass.Pass.TheVariants as pass
 use Rattle.mlt_hash.specs.declared.pass.Phase.{Phase}
@@ -245,6 +246,13 @@ pub record WritesPlan (walk after : WalkFields) (old new : Moment) (write : Writ
   pub writes : WritesPage (view_of old) (view_of new) write.number write.page
   pub walk_is : after ≡ record walk { phase = at.Changed write.number done }
   pub answer_is : result ≡ answer.Changed
+
+-- a plan that was written is a write of its bucket
+pub plan_is_written : (old new : Moment) (q number : ℕ) (fields : BucketFields) (has : Slot → Bool) (s : Slot) (write : WriteFields) (told : WalkAnswer) → number ≡ q → SetsFirst number fields has s write → told ≡ answer.Changed
+    → WritesHeldPage old new write.number write.page → WritesIfChanged old new q told
+plan_is_written old new q number fields has s write told here plan changed writes =
+    let on : write.number ≡ q = ap (λ (w : WriteFields). w.number) plan.written ∙ here in
+    subst (λ (told : WalkAnswer). WritesIfChanged old new q told) (sym changed) (write.page, subst (λ (n : ℕ). WritesHeldPage old new n write.page) on writes)
 
 module _ (basis : Basis) (walk after : WalkFields) (old new : Moment) (number key : ℕ) (fields : BucketFields) (write : WriteFields) (result : WalkAnswer) (reads : ReadsBucket basis walk old number key fields) where
   -- the plan of a walk whose key had a record is the change of it

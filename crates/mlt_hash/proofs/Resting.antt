@@ -280,13 +280,14 @@ module _ (basis : Basis) (walk after : WalkFields) (m : Moment) (fields : Bucket
     next_is_narrow narrow = stays_narrow (crowded_at basis walk fields) fields.depth basis.max_depth (directory_depth_of walk.phase) next told.follows (fits narrow)
 
     -- **and else that there is no room at any depth,**
-    pub no_room_tells : is_some least ≡ false → HasNoRoom basis m walk
-    no_room_tells none = record {
+    pub no_room_tells : is_some least ≡ false → after ≡ walk → HasNoRoom basis m walk after
+    no_room_tells none stays = record {
       fields = fields;
       full = full;
       never = subst (λ o. MatchOption o (NeverHasRoom (crowded_at basis walk fields) fields.depth basis.max_depth) (λ d. HasRoomFrom (crowded_at basis walk fields) fields.depth basis.max_depth d)) (none_is least none) told.room;
       later = later;
       narrow = λ narrow. subst (λ p. IsNext basis walk fields p) (next_is_narrow narrow) told.follows;
+      stays = stays;
     }
 
     -- **or that the bucket is to be split.**

@@ -3,10 +3,12 @@ use Rattle.std.specs.Prelude.{ℕ, ◌≡◌, ◌⊎◌, true, IsSome, Bool, Som
 use Rattle.std.specs.List.{list_all}
 use Rattle.mlt_types.specs.declared.refusal.Refusal.TheVariants as refusal
 use Rattle.mlt_page.specs.Slots.{is_ghost_of, is_kept}
+use Rattle.mlt_page.specs.declared.page.Page.{Page}
 use Rattle.mlt_page.specs.declared.page.Page.TheVariants as page
 use Rattle.mlt_page.specs.Values.{BucketFields}
 use Rattle.mlt_hash_form.specs.Room.{is_crowded}
 use Rattle.mlt_held.specs.Moments.{Moment}
+use Rattle.mlt_held.specs.PageSteps.{WritesHeldPage}
 use Rattle.mlt_held.specs.Views.{View, view_of}
 use Rattle.mlt_hash.specs.Passes.{HasRoomFrom, IsNextPass, NeverHasRoom}
 use Rattle.mlt_hash.specs.Walks.{Basis, IsStanding, WalkFields}
@@ -52,6 +54,11 @@ pub record SeesBucket (walk : WalkFields) (view : View) (fields : BucketFields) 
 -- the transaction's own ghost of the key stands in the bucket
 abbrev pub HasOwnGhost : Basis → WalkFields → View → Type 0
 HasOwnGhost basis walk view = (fields : BucketFields) × (i : ℕ) × SeesBucket walk view fields × (position (is_ghost_of walk.key basis.tx) fields.slots ≡ Some i)
+
+-- page q was written if the answer is that the change is made, and else nothing has changed
+abbrev pub WritesIfChanged : Moment → Moment → ℕ → WalkAnswer → Type 0
+WritesIfChanged old new q answer.Changed = (page : Page) × WritesHeldPage old new q page
+WritesIfChanged old new q other = new ≡ old
 
 -- the change is made
 pub record Makes (basis : Basis) (new : Moment) (before after : WalkFields) (done : Change) : Type 0 where
@@ -100,18 +107,19 @@ pub record MustWiden (basis : Basis) (new : Moment) (before after : WalkFields) 
   pub wide : IsNext basis before fields pass.Wide
   pub phase : after.phase ≡ at.Full pass.Wide
 
--- There is no room at any depth that the directory may get, and the pass is the one that would split.
-pub record HasNoRoom (basis : Basis) (new : Moment) (before : WalkFields) : Type 0 where
+-- There is no room at any depth that the directory may get, and the pass is the one that would split. The walk is as it was.
+pub record HasNoRoom (basis : Basis) (new : Moment) (before after : WalkFields) : Type 0 where
   pub fields : BucketFields
   pub full : IsFull basis before (view_of new) fields
   pub never : NeverHasRoom (crowded_at basis before fields) fields.depth basis.max_depth
   pub later : before.pass ≡ pass.First → ⊥
   pub narrow : before.pass ≡ pass.Narrow → IsNext basis before fields pass.Narrow
+  pub stays : after ≡ before
 
 -- A record of this value is added: in the place of the transaction's own ghost, or in a slot with room.
 abbrev pub TellsOfAddition : Basis → Moment → WalkFields → WalkFields → ℕ → WalkAnswer → Type 0
 TellsOfAddition basis new before after value answer.Changed = Makes basis new before after (change.Revive value) ⊎ Makes basis new before after (change.Put value)
 TellsOfAddition basis new before after value answer.NeedSplit = NeedsSplit basis new before after value
 TellsOfAddition basis new before after value answer.Widen = MustWiden basis new before after
-TellsOfAddition basis new before after value (answer.Refused refusal.NoRoom) = HasNoRoom basis new before
+TellsOfAddition basis new before after value (answer.Refused refusal.NoRoom) = HasNoRoom basis new before after
 TellsOfAddition basis new before after value other = ⊥

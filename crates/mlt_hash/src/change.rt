@@ -1,16 +1,16 @@
 //! The changes that a walk makes in its bucket.
 
-ghost use Rattle.std.specs.Prelude.{◌≡◌, ◌≤◌, ◌↔◌, ℕ, IsTrue, Option, true};
+ghost use Rattle.std.specs.Prelude.{◌≡◌, ◌≢◌, ◌≤◌, ◌↔◌, ℕ, IsTrue, Option, true};
 ghost use Rattle.mlt_types.specs.declared.mode.Mode.{Mode};
 ghost use Rattle.mlt_page.specs.declared.page.Page.{Page};
 ghost use Rattle.mlt_held.specs.Moments.{HasCleanFile, IsCleanFor, MayStep, moment};
 ghost use Rattle.mlt_page.specs.Values.{BucketFields};
 ghost use Rattle.mlt_page_locks.specs.LockTables.{can_write};
-ghost use Rattle.mlt_held.specs.PageSteps.{WritesAtMost, WritesHeldPage};
+ghost use Rattle.mlt_held.specs.PageSteps.{WritesHeldPage};
 ghost use Rattle.mlt_held.specs.Views.{WritesPage, view_of};
 ghost use Rattle.mlt_hash.specs.Walks.{IsStanding, IsUnwritten};
 ghost use Rattle.mlt_hash.specs.declared.pass.Change.TheVariants as change;
-ghost use Rattle.mlt_hash.specs.Changes.{HasOwnGhost, IsAtAbsent, IsAtBucketPhase, IsAtRecord, IsFull, SeesBucket, TellsOfAddition, TellsOfChange, page_of};
+ghost use Rattle.mlt_hash.specs.Changes.{HasOwnGhost, IsAtAbsent, IsAtBucketPhase, IsAtRecord, IsFull, SeesBucket, TellsOfAddition, TellsOfChange, WritesIfChanged, page_of};
 
 use crate::answer::WalkAnswer;
 use crate::pass::{Change, Pass, Phase};
@@ -44,7 +44,7 @@ impl Walk {
         requires mode { self.old.mode ≡ Mode.Exclusive }
         requires found { IsAtAbsent self.old.phase }
         requires max_depth { root.now.max_depth ≤ 16 }
-        ensures writes { WritesAtMost (moment subtx.old locks.now store.old) (moment subtx.new locks.now store.new) (page_of self.old.phase) }
+        ensures writes { WritesIfChanged (moment subtx.old locks.now store.old) (moment subtx.new locks.now store.new) (page_of self.old.phase) result }
         ensures may { MayStep (moment subtx.new locks.now store.new) }
         ensures clean { (clean : ℕ → Option Page) → IsCleanFor (moment subtx.old locks.now store.old) clean → IsCleanFor (moment subtx.new locks.now store.new) clean }
         ensures tells { TellsOfAddition (record { bits = P.bits_of root.now.pseudo; opens = opens.now; root = root.now.page; max_depth = root.now.max_depth; tx = subtx.old.tx }) (moment subtx.new locks.now store.new) self.old self.new value result }
@@ -74,7 +74,7 @@ impl Walk {
         requires stands { IsStanding (record { bits = P.bits_of root.now.pseudo; opens = opens.now; root = root.now.page; max_depth = root.now.max_depth; tx = subtx.old.tx }) self.old (view_of (moment subtx.old locks.now store.old)) }
         requires mode { self.old.mode ≡ Mode.Exclusive }
         requires found { IsAtRecord self.old.phase }
-        ensures writes { WritesAtMost (moment subtx.old locks.now store.old) (moment subtx.new locks.now store.new) (page_of self.old.phase) }
+        ensures writes { WritesIfChanged (moment subtx.old locks.now store.old) (moment subtx.new locks.now store.new) (page_of self.old.phase) result }
         ensures may { MayStep (moment subtx.new locks.now store.new) }
         ensures clean { (clean : ℕ → Option Page) → IsCleanFor (moment subtx.old locks.now store.old) clean → IsCleanFor (moment subtx.new locks.now store.new) clean }
         ensures tells { TellsOfChange (record { bits = P.bits_of root.now.pseudo; opens = opens.now; root = root.now.page; max_depth = root.now.max_depth; tx = subtx.old.tx }) (moment subtx.new locks.now store.new) self.old self.new (change.Set value) result }
@@ -100,7 +100,7 @@ impl Walk {
         requires stands { IsStanding (record { bits = P.bits_of root.now.pseudo; opens = opens.now; root = root.now.page; max_depth = root.now.max_depth; tx = subtx.old.tx }) self.old (view_of (moment subtx.old locks.now store.old)) }
         requires mode { self.old.mode ≡ Mode.Exclusive }
         requires found { IsAtRecord self.old.phase }
-        ensures writes { WritesAtMost (moment subtx.old locks.now store.old) (moment subtx.new locks.now store.new) (page_of self.old.phase) }
+        ensures writes { WritesIfChanged (moment subtx.old locks.now store.old) (moment subtx.new locks.now store.new) (page_of self.old.phase) result }
         ensures may { MayStep (moment subtx.new locks.now store.new) }
         ensures clean { (clean : ℕ → Option Page) → IsCleanFor (moment subtx.old locks.now store.old) clean → IsCleanFor (moment subtx.new locks.now store.new) clean }
         ensures tells { TellsOfChange (record { bits = P.bits_of root.now.pseudo; opens = opens.now; root = root.now.page; max_depth = root.now.max_depth; tx = subtx.old.tx }) (moment subtx.new locks.now store.new) self.old self.new change.Remove result }
@@ -128,7 +128,7 @@ impl Walk {
         requires mode { self.old.mode ≡ Mode.Exclusive }
         requires found { IsAtAbsent self.old.phase }
         requires ghost_found { HasOwnGhost (record { bits = P.bits_of root.now.pseudo; opens = opens.now; root = root.now.page; max_depth = root.now.max_depth; tx = subtx.old.tx }) self.old (view_of (moment subtx.old locks.now store.old)) }
-        ensures writes { WritesAtMost (moment subtx.old locks.now store.old) (moment subtx.new locks.now store.new) (page_of self.old.phase) }
+        ensures writes { WritesIfChanged (moment subtx.old locks.now store.old) (moment subtx.new locks.now store.new) (page_of self.old.phase) result }
         ensures may { MayStep (moment subtx.new locks.now store.new) }
         ensures clean { (clean : ℕ → Option Page) → IsCleanFor (moment subtx.old locks.now store.old) clean → IsCleanFor (moment subtx.new locks.now store.new) clean }
         ensures tells { TellsOfChange (record { bits = P.bits_of root.now.pseudo; opens = opens.now; root = root.now.page; max_depth = root.now.max_depth; tx = subtx.old.tx }) (moment subtx.new locks.now store.new) self.old self.new (change.Revive value) result }
@@ -210,7 +210,8 @@ fn without_room<P: Pseudo>(
     requires found { IsAtAbsent walk.old.phase }
     requires max_depth { root.now.max_depth ≤ 16 }
     requires full { (fields : BucketFields) × IsFull (record { bits = P.bits_of root.now.pseudo; opens = opens.now; root = root.now.page; max_depth = root.now.max_depth; tx = subtx.now.tx }) walk.old (view_of (moment subtx.now locks.now store.now)) fields }
-    ensures { TellsOfAddition (record { bits = P.bits_of root.now.pseudo; opens = opens.now; root = root.now.page; max_depth = root.now.max_depth; tx = subtx.now.tx }) (moment subtx.now locks.now store.now) walk.old walk.new value result }
+    ensures tells { TellsOfAddition (record { bits = P.bits_of root.now.pseudo; opens = opens.now; root = root.now.page; max_depth = root.now.max_depth; tx = subtx.now.tx }) (moment subtx.now locks.now store.now) walk.old walk.new value result }
+    ensures unchanged { result ≢ WalkAnswer.Changed }
 {
     let phase = walk.phase;
     let Phase::AtBucket(_, directory_depth, _) = phase else {

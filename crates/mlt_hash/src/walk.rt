@@ -6,6 +6,7 @@ ghost use Rattle.mlt_page.specs.declared.page.Page.{Page};
 ghost use Rattle.mlt_held.specs.Moments.{HasCleanFile, IsCleanFor, MayStep, moment};
 ghost use Rattle.mlt_held.specs.PageSteps.{TouchesOnePage};
 ghost use Rattle.mlt_held.specs.Views.{view_of};
+ghost use Rattle.mlt_hash.specs.AloneWalks.{next_of};
 ghost use Rattle.mlt_hash.specs.Walks.{IsStanding};
 ghost use Rattle.mlt_hash.specs.Splitting.{HasToMake, IsUnderWay, TellsAt};
 
@@ -60,9 +61,8 @@ impl Walk {
 
     /// Starts the pass that follows one whose bucket had no room, once that one was rolled back.
     pub fn again(&mut self)
-        ghost next: { Pass }
-        requires { self.old.phase ≡ Phase.Full next }
-        ensures { self.new ≡ record self.old { pass = next; phase = Phase.Start; split = None } }
+        requires { self.old.phase ≡ Phase.Full (next_of self.old.phase) }
+        ensures { self.new ≡ record self.old { pass = next_of self.old.phase; phase = Phase.Start; split = None } }
     {
         match self.phase {
             Phase::Full(next) => {

@@ -21,8 +21,8 @@ next_pass-next-requires-clause-bucket g c =
     let full : IsFull basis walk (view_of m) fields = full_bucket basis walk (view_of m) fields c.requires.full c.held_bucket-number.ensures.bucket in
     shallow basis walk m fields (g.met.P.Pseudo.has_64_bits c.args.root.now.pseudo) c.requires.may c.requires.file (absent_at basis walk (view_of m) walk.phase c.requires.found c.requires.stands) full
 
-pub returns-in-First : goal.returns-in-First
-returns-in-First g c =
+pub returns-in-First-clause-tells : goal.returns-in-First-clause-tells
+returns-in-First-clause-tells g c =
     let basis : Basis = record { bits = g.P.Pseudo.bits_of c.args.root.now.pseudo; opens = c.args.opens.now; root = c.args.root.now.page; max_depth = c.args.root.now.max_depth; tx = c.args.subtx.now.tx } in
     let walk : WalkFields = c.args.walk.now in
     let m : Moment = moment c.args.subtx.now c.args.locks.now c.args.store.now in
@@ -37,8 +37,8 @@ returns-in-First g c =
     let own : c.walk.inside.pass ≡ walk.pass = ap (λ (w : WalkFields). w.pass) c.walk.view_is in
     first_tells basis walk _ m fields next.0 next.1 c.args.value full told (sym own ∙ c.in-First.is) (ap (λ (w : WalkFields). record w { phase = at.Full next.0 }) c.walk.view_is)
 
-pub returns-then-must_widen : goal.returns-then-must_widen
-returns-then-must_widen g c =
+pub returns-then-must_widen-clause-tells : goal.returns-then-must_widen-clause-tells
+returns-then-must_widen-clause-tells g c =
     let basis : Basis = record { bits = g.P.Pseudo.bits_of c.args.root.now.pseudo; opens = c.args.opens.now; root = c.args.root.now.page; max_depth = c.args.root.now.max_depth; tx = c.args.subtx.now.tx } in
     let walk : WalkFields = c.args.walk.now in
     let m : Moment = moment c.args.subtx.now c.args.locks.now c.args.store.now in
@@ -54,8 +54,8 @@ returns-then-must_widen g c =
     let both = c.if-must_widen.ensures.0 refl in
     widen_tells basis walk _ m fields next.0 next.1 c.args.value full told (sym own ∙ both.0) both.1 (ap (λ (w : WalkFields). record w { phase = at.Full pass.Wide }) c.walk.view_is)
 
-pub returns-in_default-least : goal.returns-in_default-least
-returns-in_default-least g c =
+pub returns-in_default-least-clause-tells : goal.returns-in_default-least-clause-tells
+returns-in_default-least-clause-tells g c =
     let basis : Basis = record { bits = g.P.Pseudo.bits_of c.args.root.now.pseudo; opens = c.args.opens.now; root = c.args.root.now.page; max_depth = c.args.root.now.max_depth; tx = c.args.subtx.now.tx } in
     let walk : WalkFields = c.args.walk.now in
     let m : Moment = moment c.args.subtx.now c.args.locks.now c.args.store.now in
@@ -68,11 +68,11 @@ returns-in_default-least g c =
     tells_next basis fields c.walk.inside.key walk.key c.in-AtBucket.directory_depth (directory_depth_of walk.phase) next.0 next.1 (ap (λ (w : WalkFields). w.key) c.walk.view_is) depth
     (record { follows = c.next_pass-next.ensures.pass; room = c.next_pass-next.ensures.depth; narrow = c.next_pass-next.ensures.narrow }) in
     let own : c.walk.inside.pass ≡ walk.pass = ap (λ (w : WalkFields). w.pass) c.walk.view_is in
-    no_room_tells basis walk walk m fields next.0 next.1 c.args.value full told
-    (λ first. c.in_default-pass.not-First (own ∙ first)) (λ narrow wide. let both = c.must_widen.ensures.1 (own ∙ narrow, wide) in false≢true (sym c.if-must_widen.false ∙ both)) (ap is_some c.in_default-least.is)
+    no_room_tells basis walk _ m fields next.0 next.1 c.args.value full told
+    (λ first. c.in_default-pass.not-First (own ∙ first)) (λ narrow wide. let both = c.must_widen.ensures.1 (own ∙ narrow, wide) in false≢true (sym c.if-must_widen.false ∙ both)) (ap is_some c.in_default-least.is) refl
 
-pub returns : goal.returns
-returns g c =
+pub returns-clause-tells : goal.returns-clause-tells
+returns-clause-tells g c =
     let basis : Basis = record { bits = g.P.Pseudo.bits_of c.args.root.now.pseudo; opens = c.args.opens.now; root = c.args.root.now.page; max_depth = c.args.root.now.max_depth; tx = c.args.subtx.now.tx } in
     let walk : WalkFields = c.args.walk.now in
     let m : Moment = moment c.args.subtx.now c.args.locks.now c.args.store.now in

@@ -4,7 +4,8 @@ use Rattle.mlt_page.specs.declared.slot.Slot.TheVariants.{Live}
 use Rattle.mlt_held.specs.Moments.{Moment, moment}
 use Rattle.mlt_held.specs.Views.{view_of}
 use Rattle.mlt_hash.specs.Walks.{Basis, WalkFields}
-use Rattle.mlt_hash.proofs.InPlace.{ReadsBucket, record_has_plan, record_may_write, update_tells}
+use Rattle.mlt_hash.specs.Changes.{page_of}
+use Rattle.mlt_hash.proofs.InPlace.{ReadsBucket, plan_is_written, record_has_plan, record_may_write, update_tells}
 use Rattle.mlt_hash.proofs.walk.Walk.update.Given.{Over}
 use Rattle.mlt_hash.proofs.walk.Walk.update.Goals as goal
 
@@ -31,6 +32,11 @@ reads g c = record {
   here = c.held_bucket-number.ensures.number;
   key_is = ap (λ (w : WalkFields). w.key) c.self.view_is;
 }
+
+pub returns-clause-writes : goal.returns-clause-writes
+returns-clause-writes g c =
+    let after : Moment = moment c.write_change.new.subtx c.args.locks.now c.write_change.new.store in
+    plan_is_written (before g c.before) after (page_of c.args.self.now.phase) c.held_bucket-number.result.0 c.held_bucket-number.result.1.now (is_live_of c.self.inside.key) (Live c.self.inside.key c.args.value) c.in-Some.write c.write_change.result c.held_bucket-number.ensures.number c.in-Some.ensures.plan c.write_change.ensures.answer c.write_change.ensures.writes
 
 pub returns-clause-tells : goal.returns-clause-tells
 returns-clause-tells g c =
