@@ -14,8 +14,8 @@ use Rattle.mlt_hash_form.proofs.HeldPages.{changed_values}
 use Rattle.mlt_held.specs.Moments.{IsCleanFor, MayStep, Moment}
 use Rattle.mlt_held.specs.PageSteps.{WritesAtMost}
 use Rattle.mlt_held.specs.Views.{View, view_of}
-use Rattle.mlt_hash.specs.Alone.{IsAlone, KeepsBefore, basis_of, pages_before}
-use Rattle.mlt_hash.specs.AloneWalks.{ChangesValue, HasChanged, IsHashFile}
+use Rattle.mlt_hash.specs.Alone.{IsAlone, basis_of, pages_before}
+use Rattle.mlt_hash.specs.AloneWalks.{HasChanged, IsHashFile}
 use Rattle.mlt_hash.specs.Changes.{IsAtRecord, Makes, TellsOfChange, WritesIfChanged, page_of}
 use Rattle.mlt_hash.specs.Passes.{value_after}
 use Rattle.mlt_hash.specs.Walks.{Basis, IsAtBucket, IsChanged, IsStanding, IsUnwritten, Stands, WalkFields}
