@@ -3,11 +3,12 @@ use Rattle.std.proofs.Common.{◌≡◌, ℕ, Option, Some, refl, sym, subst, in
 use Rattle.mlt_types.specs.declared.refusal.Refusal.TheVariants as refusal
 use Rattle.mlt_page.specs.declared.page.Page.{Page}
 use Rattle.mlt_held.specs.Moments.{Moment}
-use Rattle.mlt_hash.specs.Alone.{KeepsBefore, basis_of}
-use Rattle.mlt_hash.specs.AloneWalks.{HasChanged, IsFullFor, MayAdd, NeedsRoom, TellsOfLater, TellsOfPass, TellsOfSplits, added_value}
+use Rattle.mlt_hash.specs.Alone.{KeepsBefore, basis_of, pages_before}
+use Rattle.mlt_hash.specs.AloneWalks.{HasChanged, IsFullFor, MayAdd, NeedsRoom, NeverHasRoomFor, TellsOfLater, TellsOfPass, TellsOfSplits, added_value}
 use Rattle.mlt_hash.specs.Walks.{Basis, WalkFields}
 use Rattle.mlt_hash.specs.declared.answer.WalkAnswer.{WalkAnswer}
 use Rattle.mlt_hash.specs.declared.answer.WalkAnswer.TheVariants as answer
+use Rattle.mlt_hash.specs.declared.pass.Pass.TheVariants as pass
 use Rattle.mlt_hash.proofs.AloneWalks.{same_basis, same_before}
 
 -- a pass that needs no split tells what it told
@@ -15,15 +16,19 @@ pub pass_is_later : (basis : Basis) (new : Moment) (before after : WalkFields) (
 pass_is_later basis new before after value answer.NeedSplit not tells = absurd (not refl)
 pass_is_later basis new before after value answer.Changed not tells = tells
 pass_is_later basis new before after value answer.Widen not tells = tells
-pass_is_later basis new before after value (answer.Refused refusal.NoRoom) not tells = inl tells.1
+pass_is_later basis new before after value (answer.Refused refusal.NoRoom) not tells = (tells.1, inl tells.2)
 pass_is_later basis new before after value other not tells = absurd tells
 
+still_full : (basis : Basis) (mid new : Moment) (before at : WalkFields) (value : ℕ) → KeepsBefore mid new → NeedsRoom basis mid before at value → IsFullFor basis.bits (pages_before new) basis.root before.key
+still_full basis mid new before at value keeps needs = subst (λ (pages : ℕ → Option Page). IsFullFor basis.bits pages basis.root before.key) (sym (same_before mid new keeps)) needs.full
+
 -- the splits of a pass tell for the pass
-pub splits_are_later : (basis : Basis) (mid new : Moment) (before at after : WalkFields) (value : ℕ) (told : WalkAnswer) → KeepsBefore mid new → NeedsRoom basis mid before at value → added_value at.phase ≡ value → TellsOfSplits basis new at.key (added_value at.phase) told → TellsOfLater basis new before after value told
-splits_are_later basis mid new before at after value answer.Changed keeps needs is tells = subst (λ (key : ℕ). HasChanged basis new key (Some value)) needs.same.key (subst (λ (value : ℕ). HasChanged basis new at.key (Some value)) is tells)
-splits_are_later basis mid new before at after value (answer.Refused refusal.NoRoom) keeps needs is tells = inr (subst (λ (pages : ℕ → Option Page). IsFullFor basis.bits pages basis.root before.key) (sym (same_before mid new keeps)) needs.full, tells)
-splits_are_later basis mid new before at after value (answer.Refused reason) keeps needs is tells = tells
-splits_are_later basis mid new before at after value other keeps needs is tells = absurd tells
+pub splits_are_later : (basis : Basis) (mid new : Moment) (before at after : WalkFields) (value : ℕ) (told : WalkAnswer) → KeepsBefore mid new → NeedsRoom basis mid before at value → (before.pass ≡ pass.First → ⊥) → TellsOfSplits basis new at.key (added_value at.phase) told → TellsOfLater basis new before after value told
+splits_are_later basis mid new before at after value answer.Changed keeps needs later tells = subst (λ (key : ℕ). HasChanged basis new key (Some value)) needs.same.key (subst (λ (value : ℕ). HasChanged basis new at.key (Some value)) (needs.later later).0 tells)
+splits_are_later basis mid new before at after value (answer.Refused refusal.NoRoom) keeps needs later tells = (still_full basis mid new before at value keeps needs, inr tells)
+splits_are_later basis mid new before at after value (answer.Refused refusal.OutOfMemory) keeps needs later tells = (still_full basis mid new before at value keeps needs, subst (λ (pages : ℕ → Option Page). NeverHasRoomFor basis.bits pages basis.max_depth before.key → ⊥) (sym (same_before mid new keeps)) (needs.later later).2)
+splits_are_later basis mid new before at after value (answer.Refused reason) keeps needs later tells = absurd (let only : reason ≡ refusal.OutOfMemory = tells in cc)
+splits_are_later basis mid new before at after value other keeps needs later tells = absurd tells
 
 -- what a walk goes by is the same at this moment too
 pub may_add_now : (bits : ℕ → ℕ) (root max_depth : ℕ) (first now : Moment) (walk : WalkFields) → KeepsBefore first now → MayAdd (basis_of bits root max_depth first) now walk → MayAdd (basis_of bits root max_depth now) now walk

@@ -1,8 +1,9 @@
 -- What a pass finds that runs alone, and what it tells of its addition
-use Rattle.std.proofs.Common.{◌≡◌, ℕ, ◌≤◌, ◌<◌, ◌^◌, true, Bool, Option, None, Some, IsSome, refl, sym, ap, subst, ◌∙◌, inl, inr, arith}
+use Rattle.std.proofs.Common.{◌≡◌, ℕ, ◌≤◌, ◌<◌, ◌^◌, true, false, Bool, Option, None, Some, IsSome, refl, sym, ap, subst, ◌∙◌, inl, inr, arith}
 use Rattle.std.specs.List.{list_all}
 use Rattle.std.specs.Ordering.{nat_cmp}
 use Rattle.std.specs.FinSet as set
+use Rattle.std.proofs.lemmas.Bool.{false≢true}
 use Rattle.mlt_types.specs.declared.refusal.Refusal.TheVariants as refusal
 use Rattle.mlt_page.specs.Slots.{is_kept}
 use Rattle.mlt_page.specs.Values.{BucketFields}
@@ -11,14 +12,14 @@ use Rattle.mlt_page.specs.declared.page.Page.TheVariants as page
 use Rattle.mlt_store.specs.Stores.{page_at}
 use Rattle.mlt_hash_form.specs.File.{bucket_of, buckets_of, depth_of, lead_of, look_up}
 use Rattle.mlt_hash_form.specs.Room.{is_crowded}
-use Rattle.mlt_hash_form.proofs.Crowd.{crowded_test}
+use Rattle.mlt_hash_form.proofs.Crowd.{crowded_in_fewer, crowded_test}
 use Rattle.mlt_hash_form.proofs.InPages.{led_at}
 use Rattle.mlt_held.specs.Moments.{IsCleanFor, MayStep, Moment}
 use Rattle.mlt_held.specs.PageSteps.{WritesAtMost}
 use Rattle.mlt_held.specs.Views.{View, view_of}
 use Rattle.mlt_hash.specs.Alone.{IsAlone, KeepsBefore, basis_of, pages_before}
 use Rattle.mlt_hash.specs.AloneWalks.{HasArrived, HasChanged, IsAddingAt, IsFullFor, IsHashFile, MayAdd, NeedsRoom, NeverHasRoomFor, TellsOfPass, added_value, next_of}
-use Rattle.mlt_hash.specs.Changes.{HasNoRoom, IsAtAbsent, IsAtRecord, IsFull, Makes, NeedsSplit, TellsOfAddition, page_of}
+use Rattle.mlt_hash.specs.Changes.{HasNoRoom, IsAtAbsent, IsAtRecord, IsFull, Makes, NeedsSplit, TellsOfAddition, crowded_at, page_of}
 use Rattle.mlt_hash.specs.Passes.{IsNextPass, value_after}
 use Rattle.mlt_hash.specs.Steps.{HasFound, IsSameWalk}
 use Rattle.mlt_hash.specs.Walks.{Basis, IsAtBucket, IsStanding, Stands, WalkFields}
@@ -156,13 +157,24 @@ module _ (bits : ℕ → ℕ) (root max_depth : ℕ) (first mid new : Moment) (w
         let there : is_crowded bits set.empty max_depth x (buckets_of (pages_before new) (lead_of (pages_before new) root x)).slots ≡ true = ap (λ (b : BucketFields). is_crowded bits set.empty max_depth x b.slots) same ∙ crowded in
         (crowded_test bits set.empty _ (lead_of (pages_before new) root) (buckets_of (pages_before new)) max_depth x below file_new.bounded file_new.form.form fine (omega (arith, file_new.small))).1 there
 
+    -- at a depth at which the bucket has room, and at any deeper one, the file is not crowded
+    has_room : (fields : BucketFields) (d : ℕ) → (view_of new).seen (page_of walk.phase) ≡ Some (Some (page.Bucket fields)) → d ≤ max_depth → crowded_at ours walk fields d ≡ false → NeverHasRoomFor bits (pages_before new) max_depth walk.key → ⊥
+    has_room fields d sees within room never =
+        let same : buckets_of (pages_before new) (lead_of (pages_before new) root (bits walk.key)) ≡ fields = key_bucket fields sees in
+        let x : ℕ = bits walk.key in
+        let below : x < 2 ^ 64 = file_new.bounded walk.key in
+        let fine : (buckets_of (pages_before new) (lead_of (pages_before new) root x)).depth ≤ max_depth = omega (arith, file_new.form.form.fine x below, file_new.shallow) in
+        let there : is_crowded bits set.empty max_depth x (buckets_of (pages_before new) (lead_of (pages_before new) root x)).slots ≡ true = (crowded_test bits set.empty _ (lead_of (pages_before new) root) (buckets_of (pages_before new)) max_depth x below file_new.bounded file_new.form.form fine (omega (arith, file_new.small))).0 never in
+        let crowded : is_crowded bits set.empty max_depth x fields.slots ≡ true = ap (λ (b : BucketFields). is_crowded bits set.empty max_depth x b.slots) (sym same) ∙ there in
+        false≢true (sym room ∙ crowded_in_fewer bits set.empty d max_depth x fields.slots within (omega (arith, file_new.small)) crowded)
+
     changed : (done : Change) → value_after done ≡ Some value → Makes ours new walk after done → HasChanged ours new walk.key (Some value)
     changed done is makes = subst (λ (value : Option ℕ). HasChanged ours new walk.key value) is (made_alone ours new walk after done alone_new file_new shallow makes)
 
-    may_add : NeedsSplit ours new walk after value → (walk.pass ≡ pass.First → ⊥) → (added_value after.phase ≡ value) × MayAdd ours new after
+    may_add : NeedsSplit ours new walk after value → (walk.pass ≡ pass.First → ⊥) → (added_value after.phase ≡ value) × MayAdd ours new after × (NeverHasRoomFor bits (pages_before new) max_depth walk.key → ⊥)
     may_add needs later =
         let next = needs.later later in
-        (ap added_value next.1, record { stands = needs.stands; adds = subst (λ (phase : Phase). IsAddingAt phase ours new after) (sym next.1) shallow })
+        (ap added_value next.1, record { stands = needs.stands; adds = subst (λ (phase : Phase). IsAddingAt phase ours new after) (sym next.1) shallow }, has_room needs.fields next.0 needs.full.sees.at next.2.1 next.2.2)
 
     needs_room : NeedsSplit ours new walk after value → NeedsRoom ours new walk after value
     needs_room needs = record {
@@ -181,7 +193,7 @@ module _ (bits : ℕ → ℕ) (root max_depth : ℕ) (first mid new : Moment) (w
         ]
     pass_tells answer.NeedSplit tells = needs_room tells
     pass_tells answer.Widen tells = record { same = tells.same; narrow = tells.narrow; phase = tells.phase }
-    pass_tells (answer.Refused refusal.NoRoom) tells = (tells.later, never tells)
+    pass_tells (answer.Refused refusal.NoRoom) tells = (tells.later, is_full tells.fields tells.full, never tells)
     pass_tells other tells = absurd tells
 
 -- a pass tells the same of the walk as it was before it went to its bucket
@@ -191,10 +203,10 @@ retell basis new before walk after value answer.NeedSplit same tells = record {
   full = subst (λ (key : ℕ). IsFullFor basis.bits (pages_before new) basis.root key) same.key tells.full;
   same = same_walks before walk after same tells.same;
   first = λ is. tells.first (same.pass ∙ is);
-  later = λ later. tells.later (λ is. later (sym same.pass ∙ is));
+  later = λ later. subst (λ (key : ℕ). (added_value after.phase ≡ value) × MayAdd basis new after × (NeverHasRoomFor basis.bits (pages_before new) basis.max_depth key → ⊥)) same.key (tells.later (λ is. later (sym same.pass ∙ is)));
 }
 retell basis new before walk after value answer.Widen same tells = record { same = same_walks before walk after same tells.same; narrow = sym same.pass ∙ tells.narrow; phase = tells.phase }
-retell basis new before walk after value (answer.Refused refusal.NoRoom) same tells = (λ is. tells.0 (same.pass ∙ is), subst (λ (key : ℕ). NeverHasRoomFor basis.bits (pages_before new) basis.max_depth key) same.key tells.1)
+retell basis new before walk after value (answer.Refused refusal.NoRoom) same tells = (λ is. tells.0 (same.pass ∙ is), subst (λ (key : ℕ). IsFullFor basis.bits (pages_before new) basis.root key) same.key tells.1, subst (λ (key : ℕ). NeverHasRoomFor basis.bits (pages_before new) basis.max_depth key) same.key tells.2)
 retell basis new before walk after value other same tells = absurd tells
 
 -- **A pass alone tells what its addition told at the bucket that it went to.**

@@ -1,10 +1,10 @@
 -- A hash file alone: its records as one finite map
 use Rattle.std.proofs.Common.{◌≡◌, ℕ, Option, None, Some, IsSome, sym, ap, subst, ◌∙◌, inl, inr, arith}
+use Rattle.std.proofs.Math.Path.{transport}
 use Rattle.std.specs.FinMap as map
 use Rattle.std.proofs.lemmas.Bool.{cases_eq}
 use Rattle.std.proofs.lemmas.Bool.Decides.{nat_tests}
 use Rattle.mlt_types.specs.declared.refusal.Refusal.{Refusal}
-use Rattle.mlt_types.specs.declared.refusal.Refusal.TheVariants as refusal
 use Rattle.mlt_page.specs.declared.page.Page.{Page}
 use Rattle.mlt_store.specs.Stores.{Pages, page_at}
 use Rattle.mlt_page_locks.specs.Maps.{get_inserted, get_removed, same_entries}
@@ -15,11 +15,9 @@ use Rattle.mlt_hash_form.specs.Records.{live_records}
 use Rattle.mlt_hash_form.proofs.MapChanges.{map_is_look_up}
 use Rattle.mlt_held.specs.Moments.{Moment}
 use Rattle.mlt_hash.specs.Alone.{IsAlone, IsIdle, KeepsBefore, basis_of, pages_before}
-use Rattle.mlt_hash.specs.AloneWalks.{ChangesValue, FindsNoRoom, HasArrived, HasChanged, IsHashFile, TellsOfInsertion}
+use Rattle.mlt_hash.specs.AloneWalks.{ChangesValue, HasArrived, HasChanged, IsHashFile, RefusesFor, TellsRefusal}
 use Rattle.mlt_hash.specs.Changes.{IsAtRecord}
-use Rattle.mlt_hash.specs.HashFiles.{RefusesFor}
 use Rattle.mlt_hash.specs.Walks.{Basis, WalkFields}
-use Rattle.mlt_hash.specs.declared.answer.WalkAnswer.TheVariants as answer
 use Rattle.mlt_hash.proofs.Alone.{keeps_both}
 use Rattle.mlt_hash.proofs.AloneEnds.{idle_before, idle_store}
 use Rattle.mlt_hash.proofs.AlonePasses.{arrived_store, found_is_value, found_record}
@@ -99,12 +97,8 @@ put_back_first old mid idle keeps =
     same_pages (put_back mid.running.images mid.store.pages) old.store.pages (λ q. page_at-put_back mid.running.images mid.store.pages q ∙ keeps.pages q ∙ idle_before old q idle)
 
 -- **An addition that is refused says of the file as it was why.**
-pub refuses : (bits : ℕ → ℕ) (root max_depth : ℕ) (old mid : Moment) (key value : ℕ) (reason : Refusal) → IsIdle old → KeepsBefore old mid → TellsOfInsertion (basis_of bits root max_depth old) mid key value (answer.Refused reason) → RefusesFor bits old.store.pages root max_depth old.store.max_pages key reason
-refuses bits root max_depth old mid key value refusal.OutOfMemory idle keeps tells = tt
-refuses bits root max_depth old mid key value refusal.NoRoom idle keeps tells =
+pub refuses : (bits : ℕ → ℕ) (root max_depth : ℕ) (old mid : Moment) (key : ℕ) (reason : Refusal) → IsIdle old → KeepsBefore old mid → TellsRefusal (basis_of bits root max_depth old) mid key reason → RefusesFor bits (page_at old.store.pages) old.store.pages root max_depth old.store.max_pages key reason
+refuses bits root max_depth old mid key reason idle keeps tells =
     let before : pages_before mid ≡ page_at old.store.pages = same_before old mid keeps ∙ idle_store old idle in
     let pages : put_back mid.running.images mid.store.pages ≡ old.store.pages = put_back_first old mid idle keeps in
-    let first : FindsNoRoom bits (page_at old.store.pages) (put_back mid.running.images mid.store.pages) root max_depth mid.store.max_pages key = subst (λ (b : ℕ → Option Page). FindsNoRoom bits b (put_back mid.running.images mid.store.pages) root max_depth mid.store.max_pages key) before tells in
-    let second : FindsNoRoom bits (page_at old.store.pages) old.store.pages root max_depth mid.store.max_pages key = subst (λ (p : Pages). FindsNoRoom bits (page_at old.store.pages) p root max_depth mid.store.max_pages key) pages first in
-    subst (λ (n : ℕ). FindsNoRoom bits (page_at old.store.pages) old.store.pages root max_depth n key) keeps.max_pages second
-refuses bits root max_depth old mid key value reason idle keeps tells = absurd (let only : reason ≡ refusal.OutOfMemory = tells in cc)
+    transport (λ i. RefusesFor bits (before i) (pages i) root max_depth (keeps.max_pages i) key reason) tells

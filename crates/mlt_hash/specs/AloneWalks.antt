@@ -3,6 +3,7 @@ use Rattle.std.specs.Prelude.{ℕ, ◌≡◌, ◌<◌, ◌≤◌, ◌+◌, ◌^�
 use Rattle.std.specs.List.{list_all}
 use Rattle.std.specs.FinMap as map
 use Rattle.std.specs.FinSet as set
+use Rattle.mlt_types.specs.declared.refusal.Refusal.{Refusal}
 use Rattle.mlt_types.specs.declared.refusal.Refusal.TheVariants as refusal
 use Rattle.mlt_page.specs.Slots.{is_kept}
 use Rattle.mlt_page.specs.declared.page.Page.{Page}
@@ -81,7 +82,7 @@ pub record NeedsRoom (basis : Basis) (new : Moment) (before after : WalkFields) 
   pub full : IsFullFor basis.bits (pages_before new) basis.root before.key
   pub same : IsSameWalk before after
   pub first : before.pass ≡ pass.First → (after.phase ≡ at.Full (next_of after.phase)) × (next_of after.phase ≡ pass.First → ⊥)
-  pub later : (before.pass ≡ pass.First → ⊥) → (added_value after.phase ≡ value) × MayAdd basis new after
+  pub later : (before.pass ≡ pass.First → ⊥) → (added_value after.phase ≡ value) × MayAdd basis new after × (NeverHasRoomFor basis.bits (pages_before new) basis.max_depth before.key → ⊥)
 
 -- A narrow pass has to be wide.
 pub record NeedsWidth (before after : WalkFields) : Type 0 where
@@ -94,7 +95,7 @@ abbrev pub TellsOfPass : Basis → Moment → WalkFields → WalkFields → ℕ 
 TellsOfPass basis new before after value answer.Changed = HasChanged basis new before.key (Some value)
 TellsOfPass basis new before after value answer.NeedSplit = NeedsRoom basis new before after value
 TellsOfPass basis new before after value answer.Widen = NeedsWidth before after
-TellsOfPass basis new before after value (answer.Refused refusal.NoRoom) = (before.pass ≡ pass.First → ⊥) × NeverHasRoomFor basis.bits (pages_before new) basis.max_depth before.key
+TellsOfPass basis new before after value (answer.Refused refusal.NoRoom) = (before.pass ≡ pass.First → ⊥) × IsFullFor basis.bits (pages_before new) basis.root before.key × NeverHasRoomFor basis.bits (pages_before new) basis.max_depth before.key
 TellsOfPass basis new before after value other = ⊥
 
 -- There may be fewer than 300 pages more than before: a walk never holds as many as 300, and holds each page that it made.
@@ -108,21 +109,26 @@ TellsOfSplits basis new key value (answer.Refused refusal.NoRoom) = HasFewPagesL
 TellsOfSplits basis new key value (answer.Refused reason) = reason ≡ refusal.OutOfMemory
 TellsOfSplits basis new key value other = ⊥
 
--- Why an addition finds no room: no split makes any, or a split is needed and there are few pages left.
-abbrev pub FindsNoRoom : (ℕ → ℕ) → (ℕ → Option Page) → Pages → ℕ → ℕ → ℕ → ℕ → Type 0
-FindsNoRoom bits before pages root max_depth max_pages key = NeverHasRoomFor bits before max_depth key ⊎ (IsFullFor bits before root key × HasFewPagesLeft pages max_pages)
+-- Why an addition is refused. The bucket of the key is full; and no split makes room, or there are few pages left for the
+-- splits that do, or a growth was refused to them.
+abbrev pub RefusesFor : (ℕ → ℕ) → (ℕ → Option Page) → Pages → ℕ → ℕ → ℕ → ℕ → Refusal → Type 0
+RefusesFor bits before pages root max_depth max_pages key refusal.NoRoom = IsFullFor bits before root key × (NeverHasRoomFor bits before max_depth key ⊎ HasFewPagesLeft pages max_pages)
+RefusesFor bits before pages root max_depth max_pages key refusal.OutOfMemory = IsFullFor bits before root key × (NeverHasRoomFor bits before max_depth key → ⊥)
+RefusesFor bits before pages root max_depth max_pages key other = ⊥
+
+-- the same of an addition under way: the pages as they were before it
+abbrev pub TellsRefusal : Basis → Moment → ℕ → Refusal → Type 0
+TellsRefusal basis new key reason = RefusesFor basis.bits (pages_before new) (put_back new.running.images new.store.pages) basis.root basis.max_depth new.store.max_pages key reason
 
 -- what a later pass tells, with its splits
 abbrev pub TellsOfLater : Basis → Moment → WalkFields → WalkFields → ℕ → WalkAnswer → Type 0
 TellsOfLater basis new before after value answer.Changed = HasChanged basis new before.key (Some value)
 TellsOfLater basis new before after value answer.Widen = NeedsWidth before after
-TellsOfLater basis new before after value (answer.Refused refusal.NoRoom) = FindsNoRoom basis.bits (pages_before new) (put_back new.running.images new.store.pages) basis.root basis.max_depth new.store.max_pages before.key
-TellsOfLater basis new before after value (answer.Refused reason) = reason ≡ refusal.OutOfMemory
+TellsOfLater basis new before after value (answer.Refused reason) = TellsRefusal basis new before.key reason
 TellsOfLater basis new before after value other = ⊥
 
 -- what an addition tells with all its passes
 abbrev pub TellsOfInsertion : Basis → Moment → ℕ → ℕ → WalkAnswer → Type 0
 TellsOfInsertion basis new key value answer.Changed = HasChanged basis new key (Some value)
-TellsOfInsertion basis new key value (answer.Refused refusal.NoRoom) = FindsNoRoom basis.bits (pages_before new) (put_back new.running.images new.store.pages) basis.root basis.max_depth new.store.max_pages key
-TellsOfInsertion basis new key value (answer.Refused reason) = reason ≡ refusal.OutOfMemory
+TellsOfInsertion basis new key value (answer.Refused reason) = TellsRefusal basis new key reason
 TellsOfInsertion basis new key value other = ⊥

@@ -2,11 +2,8 @@
 use Rattle.std.specs.Prelude.{ℕ, refl}
 use Rattle.std.specs.Coded.{Coded, code_by, coded×, coded_ℕ}
 use Rattle.std.specs.FinMap as map
-use Rattle.mlt_types.specs.declared.refusal.Refusal.{Refusal}
-use Rattle.mlt_types.specs.declared.refusal.Refusal.TheVariants as refusal
 use Rattle.mlt_page.specs.contracts.page.Page.{the_row}
-use Rattle.mlt_store.specs.Stores.{Pages, page_at}
-use Rattle.mlt_hash.specs.AloneWalks.{FindsNoRoom}
+use Rattle.mlt_store.specs.Stores.{Pages}
 
 -- the pages of a hash file, the page of its header, how deep its directory may get and how many pages there may be, and
 -- the function from keys to pseudokeys
@@ -21,10 +18,3 @@ pub record HashFileFields (P : Type 0) : Type 0 where
 abbrev pub hash_file_code : {P : Type 0} → Coded P → Coded (HashFileFields P)
 hash_file_code {P = P} pseudo =
     code_by (Pages × (ℕ × (ℕ × (ℕ × P)))) (coded× (map.code coded_ℕ the_row.coded) (coded× coded_ℕ (coded× coded_ℕ (coded× coded_ℕ pseudo)))) (λ f. (f.pages, (f.root, (f.max_depth, (f.max_pages, f.pseudo))))) (λ p. record { pages = p.0; root = p.1.0; max_depth = p.1.1.0; max_pages = p.1.1.1.0; pseudo = p.1.1.1.1 }) (λ _. refl)
-
--- Why an insertion is refused: there is no memory; or no room, since no split makes room, or since a split is needed and
--- there may be fewer than 300 pages more.
-abbrev pub RefusesFor : (ℕ → ℕ) → Pages → ℕ → ℕ → ℕ → ℕ → Refusal → Type 0
-RefusesFor bits pages root max_depth max_pages key refusal.OutOfMemory = Unit {0}
-RefusesFor bits pages root max_depth max_pages key refusal.NoRoom = FindsNoRoom bits (page_at pages) pages root max_depth max_pages key
-RefusesFor bits pages root max_depth max_pages key other = ⊥

@@ -5,8 +5,7 @@ ghost use Rattle.std.specs.FinMap as map;
 ghost use Rattle.mlt_store.specs.Stores.{page_at};
 ghost use Rattle.mlt_hash_form.specs.File.{depth_of};
 ghost use Rattle.mlt_hash_form.specs.Records.{live_records};
-ghost use Rattle.mlt_hash.specs.AloneWalks.{IsHashFile};
-ghost use Rattle.mlt_hash.specs.HashFiles.{RefusesFor};
+ghost use Rattle.mlt_hash.specs.AloneWalks.{IsHashFile, RefusesFor};
 
 use crate::answer::WalkAnswer;
 use crate::opening::open_file;
@@ -102,7 +101,7 @@ impl<P: Pseudo> HashFile<P> {
         ensures limits { self.new ≡ record self.old { pages = self.new.pages } }
         ensures file { IsHashFile (P.bits_of self.new.pseudo) (page_at self.new.pages) self.new.root self.new.max_depth }
         ensures err { OnErr result (self.new ≡ self.old) }
-        ensures refusal { IfErr result (λ refusal. RefusesFor (P.bits_of self.old.pseudo) self.old.pages self.old.root self.old.max_depth self.old.max_pages key refusal) }
+        ensures refusal { IfErr result (λ refusal. RefusesFor (P.bits_of self.old.pseudo) (page_at self.old.pages) self.old.pages self.old.root self.old.max_depth self.old.max_pages key refusal) }
     {
         let mut walk = Walk::find(self.alloc, key, Mode::Exclusive);
         match self.runner.insert(&mut walk, value, &self.root) {
