@@ -8,7 +8,7 @@ use Rattle.std.proofs.lemmas.Bool.{cases_eq, false≢true}
 use Rattle.std.proofs.lemmas.Bool.Decides.{nat_tests}
 use Rattle.std.proofs.Math.Nat.{pow-le-pow_right}
 use Rattle.mlt_types.specs.declared.mode.Mode.{Mode}
-use Rattle.mlt_page_locks.specs.LockTables.{page_count}
+use Rattle.mlt_page_locks.specs.LockTables.{Modes, page_count}
 use Rattle.mlt_page_locks.specs.Maps.{get_removed, same_entries}
 use Rattle.mlt_page_locks.specs.Requests.{with_page}
 use Rattle.mlt_held.specs.Moments.{Moment}
@@ -44,11 +44,20 @@ few_pages g small = let le : g - 8 ≤ 8 = omega arith in pow-le-pow_right {n = 
 pub most_is_small : (l g : ℕ) → l ≤ 17 → g ≤ 16 → most_held l g < 300
 most_is_small l g shallow small = let pages = few_pages g small in omega (arith, pages)
 
-is_in_itself : (q : ℕ) (pages : List ℕ) → IsIn q (q ∷ pages)
-is_in_itself q pages = grind (arith, nat_tests)
+-- a page that stands in front of a list is in it, and so are those behind
+pub first_is_in : (q : ℕ) (pages : List ℕ) → IsIn q (q ∷ pages)
+first_is_in q pages = grind (arith, nat_tests)
 
-is_in_longer : (p q : ℕ) (pages : List ℕ) → IsIn p pages → IsIn p (q ∷ pages)
-is_in_longer p q pages at = grind (arith, nat_tests)
+pub further_is_in : (p q : ℕ) (pages : List ℕ) → IsIn p pages → IsIn p (q ∷ pages)
+further_is_in p q pages at = grind (arith, nat_tests)
+
+-- the pages that are held once page q is locked
+pub locked_is_among : (modes : Modes) (q : ℕ) (mode : Mode) (pages : List ℕ) → ((p : ℕ) → is_some (map.get modes p) ≡ true → IsIn p pages) → IsIn q pages → (p : ℕ) → is_some (map.get (with_page modes q mode) p) ≡ true → IsIn p pages
+locked_is_among modes q mode pages all here p some =
+    elim (cases_eq p q) [
+      | inl e ↦ subst (λ (p : ℕ). IsIn p pages) (sym e) here
+      | inr elsewhere ↦ all p (ap is_some (sym (mode_of_others modes q mode p elsewhere)) ∙ some)
+    ]
 
 module _ (old new : View) (dirs made : List ℕ) (k count j most : ℕ) (among : HoldsAmong old dirs made k count j most) where
   -- a page of the list is locked
@@ -56,10 +65,7 @@ module _ (old new : View) (dirs made : List ℕ) (k count j most : ℕ) (among :
   among_after_lock q mode at modes = record {
     pages = among.pages;
     few = among.few;
-    all = λ p held. elim (cases_eq p q) [
-      | inl e ↦ subst (λ p. IsIn p among.pages) (sym e) at
-      | inr ne ↦ among.all p (ap is_some (sym (mode_of_others old.modes q mode p ne) ∙ ap (λ modes. map.get modes p) (sym modes)) ∙ held)
-    ];
+    all = λ p held. locked_is_among old.modes q mode among.pages among.all at p (ap (λ modes. is_some (map.get modes p)) (sym modes) ∙ held);
     old_dirs = among.old_dirs;
     new_dirs = among.new_dirs;
   }
@@ -79,10 +85,7 @@ module _ (old new : View) (dirs made : List ℕ) (k count j most : ℕ) (among :
   among_after_make q mode modes = record {
     pages = q ∷ among.pages;
     few = omega (arith, among.few);
-    all = λ p held. elim (cases_eq p q) [
-      | inl e ↦ subst (λ p. IsIn p (q ∷ among.pages)) (sym e) (is_in_itself q among.pages)
-      | inr ne ↦ is_in_longer p q among.pages (among.all p (ap is_some (sym (mode_of_others old.modes q mode p ne) ∙ ap (λ modes. map.get modes p) (sym modes)) ∙ held))
-    ];
-    old_dirs = λ i le lt. is_in_longer _ q among.pages (among.old_dirs i le lt);
-    new_dirs = λ i lt. is_in_longer _ q among.pages (among.new_dirs i lt);
+    all = λ p held. locked_is_among old.modes q mode (q ∷ among.pages) (λ p held. further_is_in p q among.pages (among.all p held)) (first_is_in q among.pages) p (ap (λ modes. is_some (map.get modes p)) (sym modes) ∙ held);
+    old_dirs = λ i le lt. further_is_in _ q among.pages (among.old_dirs i le lt);
+    new_dirs = λ i lt. further_is_in _ q among.pages (among.new_dirs i lt);
   }

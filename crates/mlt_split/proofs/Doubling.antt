@@ -22,7 +22,8 @@ use Rattle.mlt_split.specs.Splits.{Begins, HoldsAmongAt, IsAtDouble, IsUnderWay,
 use Rattle.mlt_split.specs.Tells.{GoesOn}
 use Rattle.mlt_split.specs.declared.phase.SplitPhase.{SplitPhase}
 use Rattle.mlt_split.specs.declared.phase.SplitPhase.TheVariants as at
-use Rattle.mlt_split.proofs.Later.{IsLater, Rewrites, rewrites, agreed_before, agrees_now, begins_now, half_pages, held_are_few, held_over, later_by_rewrite, locked_is_among, stands_now, stays_under_way}
+use Rattle.mlt_split.proofs.Among.{few_are_held, locked_is_among}
+use Rattle.mlt_split.proofs.Later.{IsLater, Rewrites, rewrites, agreed_before, agrees_now, begins_now, half_pages, held_over, later_by_rewrite, stands_now, stays_under_way}
 use Rattle.mlt_split.proofs.SecondHalf.{among_all_made, named_among}
 use Rattle.mlt_held.proofs.Views.{agrees, agrees_through_write, over_is_there, reads_over}
 
@@ -115,7 +116,7 @@ pub few_at_double : (aim : Aim) (m : Moment) (split : SplitFields) (place : ℕ)
 few_at_double aim m split place phase may file under =
     let depth = depth_of_double aim m split place phase may file under in
     let among = subst (λ (p : SplitPhase). HoldsAmongAt p (view_of m) under.header.dirs split) phase under.among in
-    let few = held_are_few (view_of m) _ _ _ _ _ _ among in
+    let few = few_are_held (view_of m) _ _ _ _ _ _ among in
     omega (arith, few, depth.0, depth.1, depth.2, half_pages split.directory_depth depth.0)
 
 -- the header is held as it was read

@@ -1,16 +1,11 @@
 -- What stays of a split under way as its walk locks, writes and makes pages
-use Rattle.std.proofs.Common.{◌≡◌, ℕ, ◌-◌, ◌<◌, ◌≤◌, ◌^◌, eqb, Bool, cond, false, true, List, [], ◌∷◌, length, Option, None, Some, is_some, unwrap_or, refl, sym, ap, subst, ◌∙◌, inl, inr, arith}
-use Rattle.std.specs.List.{list_any}
-use Rattle.std.specs.Ordering.{nat_cmp}
+use Rattle.std.proofs.Common.{◌≡◌, ℕ, ◌-◌, ◌<◌, ◌≤◌, ◌^◌, Bool, cond, false, true, List, Option, None, Some, is_some, unwrap_or, refl, sym, ap, subst, ◌∙◌, inl, inr, arith}
 use Rattle.std.specs.FinMap as map
-use Rattle.std.specs.Cmp.{nat_cmp_total}
 use Rattle.std.proofs.lemmas.Bool.{cases_eq, false≢true}
-use Rattle.std.proofs.lemmas.Bool.Decides.{nat_tests}
 use Rattle.mlt_types.specs.declared.mode.Mode.{Mode}
 use Rattle.mlt_types.specs.declared.mode.Mode.TheVariants.{Exclusive, Shared}
 use Rattle.mlt_page.specs.declared.page.Page.{Page}
 use Rattle.mlt_page.specs.Values.{HeadFields}
-use Rattle.mlt_page_locks.specs.Maps.{get_removed, same_entries}
 use Rattle.mlt_page_locks.specs.LockTables.{LockTable, Modes, can_read, can_write}
 use Rattle.mlt_page_locks.specs.Requests.{stronger, with_page}
 use Rattle.mlt_hash_form.specs.File.{HasForm}
@@ -18,7 +13,7 @@ use Rattle.mlt_hash_form.specs.Held.{Agrees, over, own_or}
 use Rattle.mlt_hash_form.proofs.HeldPages.{keeps_more}
 use Rattle.mlt_held.specs.Moments.{HasCleanFile, MayStep, Moment, moment}
 use Rattle.mlt_held.specs.Views.{MakesPage, ReadsPage, View, WritesPage, view_of}
-use Rattle.mlt_split.specs.Rests.{Aim, HoldsAmong, IsIn, held_page}
+use Rattle.mlt_split.specs.Rests.{Aim, held_page}
 use Rattle.mlt_held.specs.PageSteps.{LocksPage, MakesLockedPage, TouchesOnePage, WritesHeldPage}
 use Rattle.mlt_split.specs.Splits.{Begins, HoldsAmongAt, IsUnderWay, SplitFields, StandsAt}
 use Rattle.mlt_split.specs.Steps.{IsMaking}
@@ -154,39 +149,6 @@ stays_under_way aim view view' split made second phase under later stands among 
   stands = stands;
   among = among;
 }
-
--- a map whose keys stand in a list has no more entries than the list
-not_some : {X : Type 0} (o : Option X) → ¬ (is_some o ≡ true) → o ≡ None
-not_some None h = refl
-not_some (Some x) h = absurd (h refl)
-
-keys_within : {X : Type 0} (numbers : List ℕ) (m : map.FinMap nat_cmp X) → ((k : ℕ) → is_some (map.get m k) ≡ true → list_any (λ n. eqb n k) numbers ≡ true) → map.len m ≤ length numbers
-keys_within {X = X} [] m within =
-    let none : m ≡ map.empty = same_entries m map.empty (λ q. not_some (map.get m q) (λ some. false≢true (within q some)) ∙ sym (map.get-empty {X = X} nat_cmp q)) in
-    grind (arith, ap map.len none, map.len-empty nat_cmp X)
-keys_within (n ∷ numbers) m within =
-    let fewer : map.len (map.remove m n) ≤ length numbers = keys_within numbers (map.remove m n) (λ k some. grind (arith, nat_tests, get_removed m n k, within k)) in
-    grind (arith, map.len-remove nat_cmp_total m n)
-
--- a walk holds no more pages than the list of them may have
-pub held_are_few : (view : View) (dirs made : List ℕ) (k count j most : ℕ) → HoldsAmong view dirs made k count j most → map.len view.modes ≤ most
-held_are_few view dirs made k count j most among =
-    let within : map.len view.modes ≤ length among.pages = keys_within among.pages view.modes among.all in
-    omega (arith, among.few)
-
--- the pages that are held once page q is locked
-pub locked_is_among : (modes : Modes) (q : ℕ) (mode : Mode) (pages : List ℕ) → ((p : ℕ) → is_some (map.get modes p) ≡ true → IsIn p pages) → IsIn q pages → (p : ℕ) → is_some (map.get (with_page modes q mode) p) ≡ true → IsIn p pages
-locked_is_among modes q mode pages all here p some =
-    elim (cases_eq p q) [
-      | inl e ↦ subst (λ (p : ℕ). IsIn p pages) (sym e) here
-      | inr elsewhere ↦ all p (ap is_some (sym (mode_of_others modes q mode p elsewhere)) ∙ some)
-    ]
-
-pub first_is_in : (q : ℕ) (pages : List ℕ) → IsIn q (q ∷ pages)
-first_is_in q pages = grind (arith, nat_tests)
-
-pub further_is_in : (p q : ℕ) (pages : List ℕ) → IsIn p pages → IsIn p (q ∷ pages)
-further_is_in p q pages is = grind (arith, nat_tests, is)
 
 -- what a page that is held may be
 seen_some : {X : Type 0} (b : Bool) (x : X) → is_some (cond b (Some x) None) ≡ true → b ≡ true

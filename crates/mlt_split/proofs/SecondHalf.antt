@@ -18,7 +18,8 @@ use Rattle.mlt_split.specs.Splits.{HoldsAmongAt, IsAtSecondHalf, IsUnderWay, Spl
 use Rattle.mlt_split.specs.Tells.{GoesOn}
 use Rattle.mlt_split.specs.declared.phase.SplitPhase.{SplitPhase}
 use Rattle.mlt_split.specs.declared.phase.SplitPhase.TheVariants as at
-use Rattle.mlt_split.proofs.Later.{IsLater, agreed_before, begins_now, first_is_in, further_is_in, half_pages, held_are_few, later_by_making, locked_is_among, stands_now, stays_under_way}
+use Rattle.mlt_split.proofs.Among.{few_are_held, first_is_in, further_is_in, locked_is_among}
+use Rattle.mlt_split.proofs.Later.{IsLater, agreed_before, begins_now, half_pages, later_by_making, stands_now, stays_under_way}
 use Rattle.mlt_held.proofs.Views.{made_is_not_clean, makes_over}
 
 -- a page number at the end of those that are set
@@ -69,7 +70,7 @@ pub few_at_second_half : (aim : Aim) (m : Moment) (split : SplitFields) (place :
 few_at_second_half aim m split place phase may file under =
     let depth = depth_of_second_half aim m split place phase may file under in
     let among = subst (λ (p : SplitPhase). HoldsAmongAt p (view_of m) under.header.dirs split) phase under.among in
-    let few = held_are_few (view_of m) _ _ _ _ _ _ among in
+    let few = few_are_held (view_of m) _ _ _ _ _ _ among in
     omega (arith, few, depth.1, depth.2, depth.3, half_pages split.directory_depth depth.1)
 
 module _ (aim : Aim) (view view' : View) (split : SplitFields) (place n : ℕ) (phase : split.phase ≡ at.SecondHalf place) (under : IsUnderWay aim view split) (makes : MakesPage view view' n (page.Dir split.second)) (sized : 2 * place + 1 < length split.made.dirs) where
