@@ -142,7 +142,7 @@ impl Walk {
 }
 
 /// The bucket that the walk is at, with its page.
-fn held_bucket<'a>(
+pub(crate) fn held_bucket<'a>(
     walk: &Walk,
     subtx: &Subtx,
     store: &'a Store,

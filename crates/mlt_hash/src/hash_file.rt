@@ -25,8 +25,8 @@ use std::marker::Model;
 #[derive(Drop)]
 pub struct HashFile<P: Pseudo> {
     alloc: Global,
-    root: Root<P>,
-    runner: Runner,
+    pub(crate) root: Root<P>,
+    pub(crate) runner: Runner,
 }
 
 impl<P: Pseudo> Model for HashFile<P> {
