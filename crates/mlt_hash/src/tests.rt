@@ -456,8 +456,8 @@ fn steps_of_a_narrow_pass(rt: HostRuntime) -> Result<(), Fail> {
     Ok(())
 }
 
-// Between two passes the directory gets so deep that a bucket of depth 2 has its entries on 8 pages of it. All of them are
-// written, and one is in the 3 steps of the split.
+// Between two passes the directory gets so deep that the new bucket, of depth 2, has its entries on 8 pages of it. All of
+// them are written, and one is in the 3 steps of the split.
 #[test]
 fn steps_of_a_narrow_pass_that_is_given_up(rt: HostRuntime) -> Result<(), Fail> {
     let mut file = full(&rt, rt.alloc(), 100, 16)?;

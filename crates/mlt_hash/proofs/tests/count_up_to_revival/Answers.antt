@@ -12,6 +12,7 @@ use Rattle.mlt_hash.specs.Walks.{Basis, WalkFields}
 use Rattle.mlt_hash.specs.declared.answer.WalkAnswer.{WalkAnswer}
 use Rattle.mlt_hash.specs.declared.answer.WalkAnswer.TheVariants as answer
 use Rattle.mlt_hash.specs.declared.pass.Change.TheVariants as change
+use Rattle.mlt_hash.proofs.AloneChanges.{writes_at_most}
 use Rattle.mlt_hash.proofs.AlonePasses.{absent_here, addition_keeps, addition_tells}
 use Rattle.mlt_hash.proofs.tests.count_up_to_revival.Goals as goal
 
@@ -42,7 +43,7 @@ revive-answer-requires-clause-ghost_found g c =
 
 pub returns-clause-keeps : goal.returns-clause-keeps
 returns-clause-keeps g c =
-    addition_keeps c.args.runner.now c.count_to_bucket-steps.new.runner (moment c.runner.inside.subtx c.runner.inside.locks c.runner.inside.store) (moment c.revive-answer.new.subtx c.runner.inside.locks c.revive-answer.new.store) (page_of c.count_to_bucket-steps.new.walk.phase) c.runner.view_is c.runner.invariant c.count_to_bucket-steps.ensures.keeps c.revive-answer.ensures.may c.revive-answer.ensures.clean c.revive-answer.ensures.writes
+    addition_keeps c.args.runner.now c.count_to_bucket-steps.new.runner (moment c.runner.inside.subtx c.runner.inside.locks c.runner.inside.store) (moment c.revive-answer.new.subtx c.runner.inside.locks c.revive-answer.new.store) (page_of c.count_to_bucket-steps.new.walk.phase) c.runner.view_is c.runner.invariant c.count_to_bucket-steps.ensures.keeps c.revive-answer.ensures.may c.revive-answer.ensures.clean (writes_at_most _ _ _ c.revive-answer.result c.revive-answer.ensures.writes)
 
 pub returns-clause-changed : goal.returns-clause-changed
 returns-clause-changed g c =
@@ -54,5 +55,5 @@ returns-clause-changed g c =
     addition_tells bits c.new.result c.args.root.now.page c.args.root.now.max_depth c.args.runner.now c.count_to_bucket-steps.new.runner mid new
     c.args.walk.now c.count_to_bucket-steps.new.walk c.revive-answer.new.self c.count_to_bucket-steps.result.1 c.args.value c.revive-answer.result c.new.ensures c.runner.view_is c.runner.invariant c.count_to_bucket-steps.ensures.keeps c.count_to_bucket-steps.ensures.arrives
     (absent_here bits c.args.root.now.page c.args.root.now.max_depth c.args.runner.now c.count_to_bucket-steps.new.runner mid c.args.walk.now c.count_to_bucket-steps.new.walk c.count_to_bucket-steps.result.1 c.runner.view_is c.runner.invariant c.count_to_bucket-steps.ensures.keeps c.count_to_bucket-steps.ensures.arrives c.requires.absent)
-    c.requires.file c.revive-answer.ensures.may c.revive-answer.ensures.clean c.revive-answer.ensures.writes (revival_adds basis new c.count_to_bucket-steps.new.walk c.revive-answer.new.self c.args.value c.revive-answer.result c.revive-answer.ensures.tells) in
+    c.requires.file c.revive-answer.ensures.may c.revive-answer.ensures.clean (writes_at_most _ _ _ c.revive-answer.result c.revive-answer.ensures.writes) (revival_adds basis new c.count_to_bucket-steps.new.walk c.revive-answer.new.self c.args.value c.revive-answer.result c.revive-answer.ensures.tells) in
     λ is. subst (λ (told : WalkAnswer). TellsOfPass (basis_of bits c.args.root.now.page c.args.root.now.max_depth c.args.runner.now) new c.args.walk.now c.revive-answer.new.self c.args.value told) is tells
