@@ -53,7 +53,7 @@ seen_as : (o : Option (Option Page)) → is_some o ≡ true → (p : Option Page
 seen_as None h = absurd (false≢true h)
 seen_as (Some p) h = (p, refl)
 
-stronger_exclusive : (held : Option Mode) → stronger held Exclusive ≡ Exclusive
+pub stronger_exclusive : (held : Option Mode) → stronger held Exclusive ≡ Exclusive
 stronger_exclusive None = refl
 stronger_exclusive (Some Shared) = refl
 stronger_exclusive (Some Exclusive) = refl

@@ -8,6 +8,7 @@ pub mod HeldPages
 pub mod InPlace
 pub mod Later
 pub mod Laws
+pub mod Locks
 pub mod OldBucket
 pub mod OneBucket
 pub mod SecondHalf

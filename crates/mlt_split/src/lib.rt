@@ -12,7 +12,9 @@ mod split_laws;
 
 pub use phase::SplitPhase;
 pub use split::{Split, SplitAnswer};
-pub use split_laws::{closed_owners_keep_the_rest, closed_owners_keep_the_split};
+pub use split_laws::{
+    closed_owners_keep_the_rest, closed_owners_keep_the_split, steps_lock_their_page_alone,
+};
 
 #[cfg(test)]
 mod tests;

@@ -1,17 +1,23 @@
 //! What a walk knows of its splits, whatever other transactions do.
 
-ghost use Rattle.std.specs.Prelude.{ℕ, ◌≡◌, Option, Some, slice_index_or, true};
+ghost use Rattle.std.specs.Prelude.{ℕ, ◌≡◌, ◌⊎◌, None, Option, Some, slice_index_or, true};
 ghost use Rattle.std.specs.Ordering.{nat_cmp};
 ghost use Rattle.std.specs.FinSet as set;
+ghost use Rattle.mlt_types.specs.declared.mode.Mode.TheVariants.{Exclusive};
 ghost use Rattle.mlt_page.specs.Slots.{is_kept};
 ghost use Rattle.mlt_page.specs.Values.{BucketFields, HeadFields};
 ghost use Rattle.mlt_page.specs.declared.page.Page.{Page};
 ghost use Rattle.mlt_page.specs.declared.slot.Slot.TheVariants.{Free};
+ghost use Rattle.mlt_store.specs.Stores.{page_at};
+ghost use Rattle.mlt_page_locks.specs.LockTables.{mode_held};
 ghost use Rattle.mlt_hash_form.specs.File.{HasForm, bucket_of};
 ghost use Rattle.mlt_hash_form.specs.Held.{Agrees};
-ghost use Rattle.mlt_held.specs.Views.{View};
+ghost use Rattle.mlt_held.specs.Moments.{Moment};
+ghost use Rattle.mlt_held.specs.Views.{View, view_of};
 ghost use Rattle.mlt_split.specs.Rests.{Aim, IsAtRest, KeepsNoMore};
 ghost use Rattle.mlt_split.specs.Splits.{IsUnderWay, SplitFields};
+ghost use Rattle.mlt_split.specs.Steps.{IsMaking, IsNextPage, Touches};
+ghost use Rattle.mlt_split.specs.declared.split.SplitAnswer.{SplitAnswer};
 
 /// Transactions may close, and others begin, that left no ghost on a page that is held: the walk's file is at rest still.
 /// `clean` is some clean file that agrees with what the walk saw: there always is one.
@@ -28,4 +34,12 @@ pub fn closed_owners_keep_the_split()
         → Agrees view.seen clean → HasForm aim.bits clean aim.root
         → IsUnderWay aim view split → KeepsNoMore aim.opens fewer view
         → IsUnderWay (record aim { opens = fewer }) view split }
+{}
+
+/// A step of a split locks no page but its own: each page is held as before, or exclusively, and is the next page of the
+/// split or one that it made.
+pub fn steps_lock_their_page_alone()
+    ensures { (told : SplitAnswer) (aim : Aim) (old new : Moment) (split : SplitFields) (p : ℕ)
+        → Touches told aim old new split
+        → (mode_held new.locks old.running.tx p ≡ mode_held old.locks old.running.tx p) ⊎ ((mode_held new.locks old.running.tx p ≡ Some Exclusive) × (IsNextPage split.phase aim (view_of old) p ⊎ (IsMaking split.phase × (page_at old.store.pages p ≡ None)))) }
 {}
