@@ -61,7 +61,14 @@ impl<P: Pseudo> HashFile<P> {
     {
         let mut store = Store::new(alloc, limits);
         let page = open_file(&mut store)?;
-        let locks = PageLocks::new(alloc, limits)?;
+        let one_at_a_time = Limits {
+            max_open: 1,
+            max_ids: limits.max_ids,
+            max_pages: limits.max_pages,
+            max_depth: limits.max_depth,
+            max_ops: limits.max_ops,
+        };
+        let locks = PageLocks::new(alloc, &one_at_a_time)?;
         let subtx = Subtx::start(alloc, TxId(1));
         Ok(HashFile {
             alloc,
