@@ -16,7 +16,7 @@ use mlt_page::Page;
 use mlt_page_locks::PageLocks;
 use mlt_store::Store;
 use mlt_subtx::Subtx;
-use mlt_types::{Key, Limits, Mode, Pseudo, Refusal, TxId, Value};
+use mlt_types::{Key, Limits, Mode, OpenSet, Pseudo, Refusal, TxId, Value};
 use std::alloc::Global;
 use std::marker::Model;
 
@@ -81,6 +81,7 @@ impl<P: Pseudo> HashFile<P> {
                 subtx,
                 store,
                 locks,
+                opens: OpenSet::new(),
             },
         })
     }

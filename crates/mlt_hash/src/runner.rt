@@ -29,9 +29,13 @@ pub(crate) struct Runner {
     pub(crate) subtx: Subtx,
     pub(crate) store: Store,
     pub(crate) locks: PageLocks,
+    /// Nobody: no ghost keeps its room.
+    pub(crate) opens: OpenSet,
 }
 
 impl Model for Runner {
+    ghost use Rattle.std.specs.Prelude.{◌≡◌};
+    ghost use Rattle.std.specs.FinSet as set;
     ghost use Rattle.mlt_held.specs.Moments.{Moment, moment};
     ghost use Rattle.mlt_hash.specs.Alone.{IsAlone, coded_moment};
 
@@ -41,7 +45,7 @@ impl Model for Runner {
 
     ghost view = { λ runner. moment runner.subtx runner.locks runner.store };
 
-    ghost invariant = { λ runner. IsAlone (moment runner.subtx runner.locks runner.store) };
+    ghost invariant = { λ runner. IsAlone (moment runner.subtx runner.locks runner.store) × (runner.opens ≡ set.empty) };
 }
 
 impl Runner {
@@ -60,7 +64,7 @@ impl Runner {
             &mut self.subtx,
             &mut self.store,
             &mut self.locks,
-            &OpenSet::new(),
+            &self.opens,
         )
     }
 
@@ -104,7 +108,7 @@ impl Runner {
             &mut self.subtx,
             &mut self.store,
             &self.locks,
-            &OpenSet::new(),
+            &self.opens,
         )
     }
 
@@ -220,7 +224,7 @@ impl Runner {
             &mut self.subtx,
             &mut self.store,
             &self.locks,
-            &OpenSet::new(),
+            &self.opens,
         );
     }
 
@@ -238,7 +242,7 @@ impl Runner {
             &mut self.subtx,
             &mut self.store,
             &self.locks,
-            &OpenSet::new(),
+            &self.opens,
         );
     }
 

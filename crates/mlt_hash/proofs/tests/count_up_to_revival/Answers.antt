@@ -34,7 +34,7 @@ revival_adds basis new before after value (answer.Refused reason) tells = absurd
 pub revive-answer-requires-clause-found : goal.revive-answer-requires-clause-found
 revive-answer-requires-clause-found g c =
     absent_here (g.P.Pseudo.bits_of c.args.root.now.pseudo) c.args.root.now.page c.args.root.now.max_depth c.args.runner.now c.count_to_bucket-steps.new.runner (moment c.runner.inside.subtx c.runner.inside.locks c.runner.inside.store) c.args.walk.now c.count_to_bucket-steps.new.walk c.count_to_bucket-steps.result.1
-    c.runner.view_is c.runner.invariant c.count_to_bucket-steps.ensures.keeps c.count_to_bucket-steps.ensures.arrives c.requires.absent
+    c.runner.view_is c.runner.invariant.0 c.count_to_bucket-steps.ensures.keeps c.count_to_bucket-steps.ensures.arrives c.requires.absent
 
 pub revive-answer-requires-clause-ghost_found : goal.revive-answer-requires-clause-ghost_found
 revive-answer-requires-clause-ghost_found g c =
@@ -43,7 +43,7 @@ revive-answer-requires-clause-ghost_found g c =
 
 pub returns-clause-keeps : goal.returns-clause-keeps
 returns-clause-keeps g c =
-    addition_keeps c.args.runner.now c.count_to_bucket-steps.new.runner (moment c.runner.inside.subtx c.runner.inside.locks c.runner.inside.store) (moment c.revive-answer.new.subtx c.runner.inside.locks c.revive-answer.new.store) (page_of c.count_to_bucket-steps.new.walk.phase) c.runner.view_is c.runner.invariant c.count_to_bucket-steps.ensures.keeps c.revive-answer.ensures.may c.revive-answer.ensures.clean (writes_at_most _ _ _ c.revive-answer.result c.revive-answer.ensures.writes)
+    addition_keeps c.args.runner.now c.count_to_bucket-steps.new.runner (moment c.runner.inside.subtx c.runner.inside.locks c.runner.inside.store) (moment c.revive-answer.new.subtx c.runner.inside.locks c.revive-answer.new.store) (page_of c.count_to_bucket-steps.new.walk.phase) c.runner.view_is c.runner.invariant.0 c.count_to_bucket-steps.ensures.keeps c.revive-answer.ensures.may c.revive-answer.ensures.clean (writes_at_most _ _ _ c.revive-answer.result c.revive-answer.ensures.writes)
 
 pub returns-clause-changed : goal.returns-clause-changed
 returns-clause-changed g c =
@@ -53,7 +53,7 @@ returns-clause-changed g c =
     let basis : Basis = record { bits = bits; opens = c.new.result; root = c.args.root.now.page; max_depth = c.args.root.now.max_depth; tx = c.runner.inside.subtx.tx } in
     let tells =
     addition_tells bits c.new.result c.args.root.now.page c.args.root.now.max_depth c.args.runner.now c.count_to_bucket-steps.new.runner mid new
-    c.args.walk.now c.count_to_bucket-steps.new.walk c.revive-answer.new.self c.count_to_bucket-steps.result.1 c.args.value c.revive-answer.result c.new.ensures c.runner.view_is c.runner.invariant c.count_to_bucket-steps.ensures.keeps c.count_to_bucket-steps.ensures.arrives
-    (absent_here bits c.args.root.now.page c.args.root.now.max_depth c.args.runner.now c.count_to_bucket-steps.new.runner mid c.args.walk.now c.count_to_bucket-steps.new.walk c.count_to_bucket-steps.result.1 c.runner.view_is c.runner.invariant c.count_to_bucket-steps.ensures.keeps c.count_to_bucket-steps.ensures.arrives c.requires.absent)
+    c.args.walk.now c.count_to_bucket-steps.new.walk c.revive-answer.new.self c.count_to_bucket-steps.result.1 c.args.value c.revive-answer.result c.new.ensures c.runner.view_is c.runner.invariant.0 c.count_to_bucket-steps.ensures.keeps c.count_to_bucket-steps.ensures.arrives
+    (absent_here bits c.args.root.now.page c.args.root.now.max_depth c.args.runner.now c.count_to_bucket-steps.new.runner mid c.args.walk.now c.count_to_bucket-steps.new.walk c.count_to_bucket-steps.result.1 c.runner.view_is c.runner.invariant.0 c.count_to_bucket-steps.ensures.keeps c.count_to_bucket-steps.ensures.arrives c.requires.absent)
     c.requires.file c.revive-answer.ensures.may c.revive-answer.ensures.clean (writes_at_most _ _ _ c.revive-answer.result c.revive-answer.ensures.writes) (revival_adds basis new c.count_to_bucket-steps.new.walk c.revive-answer.new.self c.args.value c.revive-answer.result c.revive-answer.ensures.tells) in
     λ is. subst (λ (told : WalkAnswer). TellsOfPass (basis_of bits c.args.root.now.page c.args.root.now.max_depth c.args.runner.now) new c.args.walk.now c.revive-answer.new.self c.args.value told) is tells

@@ -6,8 +6,10 @@ use Rattle.mlt_hash.proofs.OpenedFiles.{opened_depth, opened_file}
 use Rattle.mlt_hash.proofs.hash_file.HashFile.new.Goals as goal
 
 pub invariant_of-result : goal.invariant_of-result
-invariant_of-result g c =
-    alone_at_start (moment c.start-subtx.result c.in_ok-locks.locks c.open_file.new.store) 1 1 c.start-subtx.ensures c.in_ok-locks.ensures.empty (omega arith)
+invariant_of-result g c = (
+  alone_at_start (moment c.start-subtx.result c.in_ok-locks.locks c.open_file.new.store) 1 1 c.start-subtx.ensures c.in_ok-locks.ensures.empty (omega arith),
+  search rules,
+)
 
 pub invariant_of-result-2 : goal.invariant_of-result-2
 invariant_of-result-2 g c =

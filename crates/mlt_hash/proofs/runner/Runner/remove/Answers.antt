@@ -6,14 +6,16 @@ use Rattle.mlt_hash.proofs.AloneChanges.{change_alone, writes_at_most}
 use Rattle.mlt_hash.proofs.runner.Runner.remove.Goals as goal
 
 pub invariant_of-self : goal.invariant_of-self
-invariant_of-self g c =
-    alone_after_write (moment c.self.inside.subtx c.self.inside.locks c.self.inside.store) (moment c.remove.new.subtx c.self.inside.locks c.remove.new.store) (page_of c.args.walk.now.phase) c.self.invariant c.remove.ensures.may (writes_at_most _ _ _ c.remove.result c.remove.ensures.writes)
+invariant_of-self g c = (
+  alone_after_write (moment c.self.inside.subtx c.self.inside.locks c.self.inside.store) (moment c.remove.new.subtx c.self.inside.locks c.remove.new.store) (page_of c.args.walk.now.phase) c.self.invariant.0 c.remove.ensures.may (writes_at_most _ _ _ c.remove.result c.remove.ensures.writes),
+  c.self.invariant.1,
+)
 
 pub returns-clause-keeps : goal.returns-clause-keeps
 returns-clause-keeps g c =
-    write_keeps_before (moment c.self.inside.subtx c.self.inside.locks c.self.inside.store) c.args.self.now (moment c.remove.new.subtx c.self.inside.locks c.remove.new.store) (page_of c.args.walk.now.phase) c.self.view_is c.self.invariant c.remove.ensures.may c.remove.ensures.clean (writes_at_most _ _ _ c.remove.result c.remove.ensures.writes)
+    write_keeps_before (moment c.self.inside.subtx c.self.inside.locks c.self.inside.store) c.args.self.now (moment c.remove.new.subtx c.self.inside.locks c.remove.new.store) (page_of c.args.walk.now.phase) c.self.view_is c.self.invariant.0 c.remove.ensures.may c.remove.ensures.clean (writes_at_most _ _ _ c.remove.result c.remove.ensures.writes)
 
 pub returns-clause-changes : goal.returns-clause-changes
 returns-clause-changes g c =
-    change_alone (g.P.Pseudo.bits_of c.args.root.now.pseudo) c.new.result c.args.root.now.page c.args.root.now.max_depth (moment c.self.inside.subtx c.self.inside.locks c.self.inside.store) c.args.self.now (moment c.remove.new.subtx c.self.inside.locks c.remove.new.store)
-    c.args.walk.now c.remove.new.self change.Remove c.remove.result c.new.ensures c.self.view_is c.self.invariant c.requires.found c.requires.file c.requires.stands c.remove.ensures.may c.remove.ensures.clean (writes_at_most _ _ _ c.remove.result c.remove.ensures.writes) c.remove.ensures.tells
+    change_alone (g.P.Pseudo.bits_of c.args.root.now.pseudo) c.self.inside.opens c.args.root.now.page c.args.root.now.max_depth (moment c.self.inside.subtx c.self.inside.locks c.self.inside.store) c.args.self.now (moment c.remove.new.subtx c.self.inside.locks c.remove.new.store)
+    c.args.walk.now c.remove.new.self change.Remove c.remove.result c.self.invariant.1 c.self.view_is c.self.invariant.0 c.requires.found c.requires.file c.requires.stands c.remove.ensures.may c.remove.ensures.clean (writes_at_most _ _ _ c.remove.result c.remove.ensures.writes) c.remove.ensures.tells

@@ -6,18 +6,20 @@ use Rattle.mlt_hash.proofs.AloneSteps.{goes}
 use Rattle.mlt_hash.proofs.runner.Runner.step.Goals as goal
 
 pub invariant_of-self : goal.invariant_of-self
-invariant_of-self g c =
-    alone_after_step (moment c.self.inside.subtx c.self.inside.locks c.self.inside.store) (moment c.advance.new.subtx c.advance.new.locks c.advance.new.store) c.self.invariant c.advance.ensures.may c.advance.ensures.touches
+invariant_of-self g c = (
+  alone_after_step (moment c.self.inside.subtx c.self.inside.locks c.self.inside.store) (moment c.advance.new.subtx c.advance.new.locks c.advance.new.store) c.self.invariant.0 c.advance.ensures.may c.advance.ensures.touches,
+  c.self.invariant.1,
+)
 
 pub returns-clause-keeps : goal.returns-clause-keeps
 returns-clause-keeps g c =
-    step_keeps_before (moment c.self.inside.subtx c.self.inside.locks c.self.inside.store) c.args.self.now (moment c.advance.new.subtx c.advance.new.locks c.advance.new.store) c.self.view_is c.self.invariant c.advance.ensures.may c.advance.ensures.clean c.advance.ensures.touches
+    step_keeps_before (moment c.self.inside.subtx c.self.inside.locks c.self.inside.store) c.args.self.now (moment c.advance.new.subtx c.advance.new.locks c.advance.new.store) c.self.view_is c.self.invariant.0 c.advance.ensures.may c.advance.ensures.clean c.advance.ensures.touches
 
 pub returns-clause-goes : goal.returns-clause-goes
-returns-clause-goes g c = goes c.args.walk.now.phase _ (moment c.self.inside.subtx c.self.inside.locks c.self.inside.store) (moment c.advance.new.subtx c.advance.new.locks c.advance.new.store) c.args.walk.now c.advance.new.self c.advance.result c.self.invariant c.advance.ensures.tells
+returns-clause-goes g c = goes c.args.walk.now.phase _ (moment c.self.inside.subtx c.self.inside.locks c.self.inside.store) (moment c.advance.new.subtx c.advance.new.locks c.advance.new.store) c.args.walk.now c.advance.new.self c.advance.result c.self.invariant.0 c.advance.ensures.tells
 
 pub returns-clause-alone : goal.returns-clause-alone
 returns-clause-alone g c = (
-  subst IsAlone c.self.view_is c.self.invariant,
-  alone_after_step (moment c.self.inside.subtx c.self.inside.locks c.self.inside.store) (moment c.advance.new.subtx c.advance.new.locks c.advance.new.store) c.self.invariant c.advance.ensures.may c.advance.ensures.touches,
+  subst IsAlone c.self.view_is c.self.invariant.0,
+  alone_after_step (moment c.self.inside.subtx c.self.inside.locks c.self.inside.store) (moment c.advance.new.subtx c.advance.new.locks c.advance.new.store) c.self.invariant.0 c.advance.ensures.may c.advance.ensures.touches,
 )
