@@ -31,10 +31,10 @@ pub enum SplitAnswer {
     Going,
     /// The split is done, and the key that asked for room leads to this bucket.
     Closed(PageNo),
-    /// The page is held by this transaction, the lowest whose lock stands against the one asked for. Nothing has
+    /// The next page is held by this transaction, the lowest whose lock stands against the one asked for. Nothing has
     /// changed.
     Waiting(PageNo, TxId),
-    /// There is no room for a page (`NoRoom`), or no memory (`OutOfMemory`). The caller rolls back.
+    /// There is no room for the page that was to be made (`NoRoom`), or no memory (`OutOfMemory`). The caller rolls back.
     Refused(Refusal),
 }
 
