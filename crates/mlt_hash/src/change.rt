@@ -27,8 +27,8 @@ use mlt_types::{OpenSet, PageNo, Pseudo, Refusal, Value};
 
 impl Walk {
     /// Adds a record of the walk's key, which has none: revives the transaction's own ghost of the key, else puts the
-    /// record into the lowest slot with room, else says that a split is needed, or which pass. `opens` are the open
-    /// transactions. In a first pass it takes no memory.
+    /// record into the lowest slot with room, else says that a split is needed, or which pass, and has written nothing.
+    /// `opens` are the open transactions. In a first pass it takes no memory.
     pub fn insert<P: Pseudo>(
         &mut self,
         value: Value,
