@@ -1,7 +1,8 @@
 -- What a pass finds that runs alone, and what it tells of its addition
-use Rattle.std.proofs.Common.{◌≡◌, ℕ, ◌≤◌, ◌<◌, ◌^◌, true, false, Bool, Option, None, Some, IsSome, refl, sym, ap, subst, ◌∙◌, inl, inr, arith}
+use Rattle.std.proofs.Common.{◌≡◌, ℕ, ◌≤◌, ◌<◌, ◌+◌, ◌^◌, true, false, Bool, Option, None, Some, IsSome, refl, sym, ap, subst, ◌∙◌, inl, inr, arith}
 use Rattle.std.specs.List.{list_all}
 use Rattle.std.specs.Ordering.{nat_cmp}
+use Rattle.std.specs.FinMap as map
 use Rattle.std.specs.FinSet as set
 use Rattle.std.proofs.lemmas.Bool.{false≢true}
 use Rattle.mlt_types.specs.declared.refusal.Refusal.TheVariants as refusal
@@ -10,6 +11,8 @@ use Rattle.mlt_page.specs.Values.{BucketFields}
 use Rattle.mlt_page.specs.declared.page.Page.{Page}
 use Rattle.mlt_page.specs.declared.page.Page.TheVariants as page
 use Rattle.mlt_store.specs.Stores.{page_at}
+use Rattle.mlt_subtx.specs.Images.{put_back}
+use Rattle.mlt_subtx.specs.ImageLaws.{page_at-put_back, same_pages}
 use Rattle.mlt_hash_form.specs.File.{bucket_of, buckets_of, depth_of, lead_of, look_up}
 use Rattle.mlt_hash_form.specs.Room.{is_crowded}
 use Rattle.mlt_hash_form.proofs.Crowd.{crowded_in_fewer, crowded_test}
@@ -18,11 +21,12 @@ use Rattle.mlt_held.specs.Moments.{IsCleanFor, MayStep, Moment}
 use Rattle.mlt_held.specs.PageSteps.{WritesAtMost}
 use Rattle.mlt_held.specs.Views.{View, view_of}
 use Rattle.mlt_hash.specs.Alone.{IsAlone, KeepsBefore, basis_of, pages_before}
-use Rattle.mlt_hash.specs.AloneWalks.{HasArrived, HasChanged, IsAddingAt, IsFullFor, IsHashFile, MayAdd, NeedsRoom, NeverHasRoomFor, TellsOfPass, added_value, next_of}
-use Rattle.mlt_hash.specs.Changes.{HasNoRoom, IsAtAbsent, IsAtRecord, IsFull, Makes, NeedsSplit, TellsOfAddition, crowded_at, page_of}
-use Rattle.mlt_hash.specs.Passes.{IsNextPass, value_after}
+use Rattle.mlt_hash.specs.AloneWalks.{HasArrived, HasChanged, IsAddingAt, IsFullFor, IsHashFile, NeedsRoom, NeedsSplits, NeverHasRoomFor, TellsOfPass, added_value, next_of}
+use Rattle.mlt_hash.specs.Changes.{HasNoRoom, IsAtAbsent, IsAtRecord, IsFull, Makes, NeedsSplit, TellsOfAddition, WritesIfChanged, crowded_at, page_of}
+use Rattle.mlt_hash.specs.Passes.{HasRoomFrom, IsNextPass, value_after}
+use Rattle.mlt_hash.specs.SplitPages.{HasRoomAt, pages_for, pages_in_the_end, pages_left_at, pages_to_make}
 use Rattle.mlt_hash.specs.Steps.{HasFound, IsSameWalk}
-use Rattle.mlt_hash.specs.Walks.{Basis, IsAtBucket, IsStanding, Stands, WalkFields}
+use Rattle.mlt_hash.specs.Walks.{Basis, IsAtBucket, IsStanding, IsUnwritten, Stands, WalkFields}
 use Rattle.mlt_hash.specs.declared.answer.WalkAnswer.{WalkAnswer}
 use Rattle.mlt_hash.specs.declared.answer.WalkAnswer.TheVariants as answer
 use Rattle.mlt_hash.specs.declared.pass.Change.{Change}
@@ -32,7 +36,7 @@ use Rattle.mlt_hash.specs.declared.pass.Pass.TheVariants as pass
 use Rattle.mlt_hash.specs.declared.pass.Phase.{Phase}
 use Rattle.mlt_hash.specs.declared.pass.Phase.TheVariants as at
 use Rattle.mlt_hash.proofs.Alone.{alone_after_write, keeps_both, sees_before, write_keeps_before}
-use Rattle.mlt_hash.proofs.AloneChanges.{made_alone, shallow_after_write, unwritten_store}
+use Rattle.mlt_hash.proofs.AloneChanges.{made_alone, shallow_after_write, unwritten_store, writes_at_most}
 use Rattle.mlt_hash.proofs.AloneWalks.{file_kept, same_before, same_walks}
 use Rattle.mlt_hash.proofs.Laws.{found_there, path_taken}
 
@@ -171,30 +175,60 @@ module _ (bits : ℕ → ℕ) (root max_depth : ℕ) (first mid new : Moment) (w
     changed : (done : Change) → value_after done ≡ Some value → Makes ours new walk after done → HasChanged ours new walk.key (Some value)
     changed done is makes = subst (λ (value : Option ℕ). HasChanged ours new walk.key value) is (made_alone ours new walk after done alone_new file_new shallow makes)
 
-    may_add : NeedsSplit ours new walk after value → (walk.pass ≡ pass.First → ⊥) → (added_value after.phase ≡ value) × MayAdd ours new after × (NeverHasRoomFor bits (pages_before new) max_depth walk.key → ⊥)
-    may_add needs later =
-        let next = needs.later later in
-        (ap added_value next.1, record { stands = needs.stands; adds = subst (λ (phase : Phase). IsAddingAt phase ours new after) (sym next.1) shallow }, has_room needs.fields next.0 needs.full.sees.at next.2.1 next.2.2)
+    -- where nothing is written, the pages are those before
+    store_is : new ≡ mid → page_at new.store.pages ≡ pages_before new
+    store_is same i q = let h = here in unwritten_store new q may (subst (λ (m : Moment). IsUnwritten (view_of m)) (sym same) h.2.unwritten) i
 
-    needs_room : NeedsSplit ours new walk after value → NeedsRoom ours new walk after value
-    needs_room needs = record {
+    pages_counted : (d : ℕ) → new ≡ mid → after.phase ≡ at.Adding value (page_of walk.phase) d true → pages_in_the_end root after new ≡ map.len (put_back new.running.images new.store.pages) + pages_for bits (pages_before new) root walk.key d
+    pages_counted d same phase =
+        let stored = store_is same in
+        let back : new.store.pages ≡ put_back new.running.images new.store.pages = sym (same_pages _ _ (λ q. page_at-put_back new.running.images new.store.pages q ∙ sym (λ i. stored i q))) in
+        let leads_there : page_of walk.phase ≡ lead_of (pages_before new) root (bits walk.key) = sym leads in
+        let left : pages_left_at after.phase root after new ≡ pages_to_make (buckets_of (page_at new.store.pages) (page_of walk.phase)).depth (depth_of (page_at new.store.pages) root) d = ap (λ (phase : Phase). pages_left_at phase root after new) phase in
+        let same_left : pages_to_make (buckets_of (page_at new.store.pages) (page_of walk.phase)).depth (depth_of (page_at new.store.pages) root) d ≡ pages_for bits (pages_before new) root walk.key d = (λ i. pages_to_make (buckets_of (stored i) (leads_there i)).depth (depth_of (stored i) root) d) in
+        (λ i. map.len (back i) + (left ∙ same_left) i)
+
+    needs_splits : new ≡ mid → NeedsSplit ours new walk after value → (walk.pass ≡ pass.First → ⊥) → NeedsSplits ours new walk after value
+    needs_splits same needs later =
+        let next = needs.later later in
+        record {
+          value_is = ap added_value next.1;
+          may = record { stands = needs.stands; adds = subst (λ (phase : Phase). IsAddingAt phase ours new after) (sym next.1) shallow };
+          ever = has_room needs.fields next.0 needs.full.sees.at next.2.1 next.2.2;
+          d = next.0;
+          least = subst (λ (b : BucketFields). HasRoomFrom (λ e. is_crowded bits set.empty e (bits walk.key) b.slots) b.depth max_depth next.0) (sym (key_bucket needs.fields needs.full.sees.at)) next.2;
+          pages = pages_counted next.0 same next.1;
+        }
+
+    needs_room : new ≡ mid → NeedsSplit ours new walk after value → NeedsRoom ours new walk after value
+    needs_room same needs = record {
       full = is_full needs.fields needs.full;
       same = needs.same;
       first = λ is. let next = needs.first is in follows after.phase next.0 next.1 (not_first _ _ _ _ next.0 next.2);
-      later = may_add needs;
+      later = needs_splits same needs;
     }
 
     -- **The pass tells what its addition told.**
-    pub pass_tells : (told : WalkAnswer) → TellsOfAddition ours new walk after value told → TellsOfPass ours new walk after value told
-    pass_tells answer.Changed tells =
+    pub pass_tells : (told : WalkAnswer) → WritesIfChanged mid new (page_of walk.phase) told → TellsOfAddition ours new walk after value told → TellsOfPass ours new walk after value told
+    pass_tells answer.Changed writes tells =
         elim tells [
           | inl revives ↦ changed (change.Revive value) refl revives
           | inr puts ↦ changed (change.Put value) refl puts
         ]
-    pass_tells answer.NeedSplit tells = needs_room tells
-    pass_tells answer.Widen tells = record { same = tells.same; narrow = tells.narrow; phase = tells.phase }
-    pass_tells (answer.Refused refusal.NoRoom) tells = (tells.later, is_full tells.fields tells.full, never tells)
-    pass_tells other tells = absurd tells
+    pass_tells answer.NeedSplit writes tells = needs_room writes tells
+    pass_tells answer.Widen writes tells = record { same = tells.same; narrow = tells.narrow; phase = tells.phase }
+    pass_tells (answer.Refused refusal.NoRoom) writes tells = (tells.later, is_full tells.fields tells.full, never tells)
+    pass_tells other writes tells = absurd tells
+
+retell_splits : (basis : Basis) (new : Moment) (before walk after : WalkFields) (value : ℕ) → IsSameWalk before walk → NeedsSplits basis new walk after value → NeedsSplits basis new before after value
+retell_splits basis new before walk after value same needs = record {
+  value_is = needs.value_is;
+  may = needs.may;
+  ever = subst (λ (key : ℕ). NeverHasRoomFor basis.bits (pages_before new) basis.max_depth key → ⊥) same.key needs.ever;
+  d = needs.d;
+  least = subst (λ (key : ℕ). HasRoomAt basis.bits (pages_before new) basis.root basis.max_depth key needs.d) same.key needs.least;
+  pages = subst (λ (key : ℕ). pages_in_the_end basis.root after new ≡ map.len (put_back new.running.images new.store.pages) + pages_for basis.bits (pages_before new) basis.root key needs.d) same.key needs.pages;
+}
 
 -- a pass tells the same of the walk as it was before it went to its bucket
 pub retell : (basis : Basis) (new : Moment) (before walk after : WalkFields) (value : ℕ) (told : WalkAnswer) → IsSameWalk before walk → TellsOfPass basis new walk after value told → TellsOfPass basis new before after value told
@@ -203,7 +237,7 @@ retell basis new before walk after value answer.NeedSplit same tells = record {
   full = subst (λ (key : ℕ). IsFullFor basis.bits (pages_before new) basis.root key) same.key tells.full;
   same = same_walks before walk after same tells.same;
   first = λ is. tells.first (same.pass ∙ is);
-  later = λ later. subst (λ (key : ℕ). (added_value after.phase ≡ value) × MayAdd basis new after × (NeverHasRoomFor basis.bits (pages_before new) basis.max_depth key → ⊥)) same.key (tells.later (λ is. later (sym same.pass ∙ is)));
+  later = λ later. retell_splits basis new before walk after value same (tells.later (λ is. later (sym same.pass ∙ is)));
 }
 retell basis new before walk after value answer.Widen same tells = record { same = same_walks before walk after same tells.same; narrow = sym same.pass ∙ tells.narrow; phase = tells.phase }
 retell basis new before walk after value (answer.Refused refusal.NoRoom) same tells = (λ is. tells.0 (same.pass ∙ is), subst (λ (key : ℕ). IsFullFor basis.bits (pages_before new) basis.root key) same.key tells.1, subst (λ (key : ℕ). NeverHasRoomFor basis.bits (pages_before new) basis.max_depth key) same.key tells.2)
@@ -212,16 +246,16 @@ retell basis new before walk after value other same tells = absurd tells
 -- **A pass alone tells what its addition told at the bucket that it went to.**
 pub addition_tells : (bits : ℕ → ℕ) (opens : set.FinSet nat_cmp) (root max_depth : ℕ) (first old mid new : Moment) (before walk after : WalkFields) (found : Option ℕ) (value : ℕ) (told : WalkAnswer)
     → opens ≡ set.empty → mid ≡ old → IsAlone mid → KeepsBefore first old → HasArrived (basis_of bits root max_depth first) old before walk found → IsAtAbsent walk.phase → IsHashFile bits (pages_before first) root max_depth
-    → MayStep new → ((clean : ℕ → Option Page) → IsCleanFor mid clean → IsCleanFor new clean) → WritesAtMost mid new (page_of walk.phase)
+    → MayStep new → ((clean : ℕ → Option Page) → IsCleanFor mid clean → IsCleanFor new clean) → WritesIfChanged mid new (page_of walk.phase) told
     → TellsOfAddition (record { bits = bits; opens = opens; root = root; max_depth = max_depth; tx = mid.running.tx }) new walk after value told
     → TellsOfPass (basis_of bits root max_depth first) new before after value told
-addition_tells bits opens root max_depth first old mid new before walk after found value told none same alone keeps arrived absent was may clean step tells =
+addition_tells bits opens root max_depth first old mid new before walk after found value told none same alone keeps arrived absent was may clean writes tells =
     let basis : Basis = basis_of bits root max_depth first in
     let same_tx : mid.running.tx ≡ first.running.tx = ap (λ (m : Moment). m.running.tx) same ∙ keeps.tx in
     let same_basis : record { bits = bits; opens = opens; root = root; max_depth = max_depth; tx = mid.running.tx } ≡ basis = λ i. record { bits = bits; opens = none i; root = root; max_depth = max_depth; tx = same_tx i } in
     let stood : IsStanding basis walk (view_of mid) = subst (λ (m : Moment). IsStanding basis walk (view_of m)) (sym same) arrived.stands in
     let file : IsHashFile bits (pages_before mid) root max_depth = subst (λ (m : Moment). IsHashFile bits (pages_before m) root max_depth) (sym same) (file_kept bits root max_depth first old keeps was) in
-    let of_pass = pass_tells bits root max_depth first mid new walk after value alone file absent stood may clean step told (subst (λ (basis : Basis). TellsOfAddition basis new walk after value told) same_basis tells) in
+    let of_pass = pass_tells bits root max_depth first mid new walk after value alone file absent stood may clean (writes_at_most mid new (page_of walk.phase) told writes) told writes (subst (λ (basis : Basis). TellsOfAddition basis new walk after value told) same_basis tells) in
     retell basis new before walk after value told arrived.same of_pass
 
 pub addition_keeps : (first old mid new : Moment) (q : ℕ) → mid ≡ old → IsAlone mid → KeepsBefore first old → MayStep new → ((clean : ℕ → Option Page) → IsCleanFor mid clean → IsCleanFor new clean) → WritesAtMost mid new q → KeepsBefore first new

@@ -1,36 +1,37 @@
 -- The splits of a walk alone: they come to an end, and leave the directory as shallow as it has to be
 use Rattle.std.proofs.Common.{◌≡◌, ℕ, ◌<◌, ◌≤◌, ◌+◌, ◌*◌, ◌-◌, ◌^◌, Bool, true, false, cond, Option, None, Some, is_some, unwrap_or, nat_eq, nat_lt, if◌then◌else◌, refl, sym, ap, subst, ◌∙◌, inl, inr, arith}
+use Rattle.std.specs.List.{list_all}
 use Rattle.std.specs.FinMap as map
+use Rattle.std.specs.FinSet as set
 use Rattle.std.proofs.lemmas.Bool.{cases_eq}
 use Rattle.std.proofs.Math.Nat.{pow-le-pow_right}
 use Rattle.mlt_types.specs.declared.refusal.Refusal.TheVariants as refusal
+use Rattle.mlt_page.specs.Slots.{is_kept}
+use Rattle.mlt_page.specs.Values.{BucketFields}
 use Rattle.mlt_page.specs.declared.page.Page.{Page}
 use Rattle.mlt_page.specs.declared.page.Page.TheVariants as page
 use Rattle.mlt_store.specs.Stores.{page_at}
-use Rattle.mlt_page_locks.specs.LockTables.{can_read, page_count}
+use Rattle.mlt_page_locks.specs.LockTables.{can_read}
 use Rattle.mlt_page_locks.specs.LockLaws.{writer_reads}
-use Rattle.mlt_subtx.specs.Images.{image_of, or_image, put_back}
+use Rattle.mlt_subtx.specs.Images.{image_of, or_image}
 use Rattle.mlt_hash_form.specs.File.{bucket_of, depth_of, header_of}
 use Rattle.mlt_hash_form.specs.Held.{own_or}
 use Rattle.mlt_held.specs.Moments.{HasCleanFile, MayStep, Moment}
 use Rattle.mlt_held.specs.PageSteps.{WritesAtMost}
 use Rattle.mlt_held.specs.Views.{page_written, view_of}
-use Rattle.mlt_split.specs.Rests.{Aim, held_page, most_held}
-use Rattle.mlt_split.specs.Splits.{HoldsAmongAt, IsUnderWay, SplitFields, directory_steps, steps_left}
+use Rattle.mlt_split.specs.Rests.{Aim, held_page}
+use Rattle.mlt_split.specs.Splits.{SplitFields, directory_steps, steps_left, steps_left_at}
+use Rattle.mlt_split.specs.Steps.{IsDone, IsMaking}
 use Rattle.mlt_split.specs.declared.phase.SplitPhase.{SplitPhase}
 use Rattle.mlt_split.specs.declared.phase.SplitPhase.TheVariants as split_at
-use Rattle.mlt_split.proofs.Among.{count_is_few, most_is_small}
-use Rattle.mlt_split.proofs.Beginning.{few_at_rest}
-use Rattle.mlt_split.proofs.Doubling.{few_at_double}
-use Rattle.mlt_split.proofs.Header.{depth_of_header}
 use Rattle.mlt_split.proofs.HeldPages.{clean_now}
-use Rattle.mlt_split.proofs.Later.{begins_now}
+use Rattle.mlt_split.proofs.Later.{begins_now, stands_now}
 use Rattle.mlt_split.proofs.OldBucket.{depths_are_small}
-use Rattle.mlt_split.proofs.SecondHalf.{few_at_second_half}
 use Rattle.mlt_hash.specs.Alone.{HasNotWaited, IsAlone, KeepsBefore, basis_of, pages_before}
-use Rattle.mlt_hash.specs.AloneWalks.{HasChanged, HasFewPagesLeft, IsAddingAt, IsHashFile, MayAdd, TellsOfSplits, added_value}
+use Rattle.mlt_hash.specs.AloneWalks.{HasChanged, IsAddingAt, IsHashFile, MayAdd, TellsOfSplits, added_value}
 use Rattle.mlt_hash.specs.Changes.{Makes}
-use Rattle.mlt_hash.specs.Splitting.{BeginsSplit, SplitCloses, SplitGoesOn, TellsAt, TellsOfAdding, TellsOfSplitting}
+use Rattle.mlt_hash.specs.SplitPages.{left_from, left_from_split, pages_in_the_end, pages_left_at, pages_to_make}
+use Rattle.mlt_hash.specs.Splitting.{BeginsSplit, HasToSplit, OfSplit, SplitCloses, SplitGoesOn, TellsAt, TellsOfAdding, TellsOfSplitting}
 use Rattle.mlt_hash.specs.Splitting.{IsUnderWay as HasNextStep}
 use Rattle.mlt_hash.specs.Walks.{Basis, IsAdding, IsSplitting, IsStanding, Stands, WalkFields, aim_of}
 use Rattle.mlt_hash.specs.declared.answer.WalkAnswer.{WalkAnswer}
@@ -40,7 +41,9 @@ use Rattle.mlt_hash.specs.declared.pass.Phase.{Phase}
 use Rattle.mlt_hash.specs.declared.pass.Phase.TheVariants as at
 use Rattle.mlt_hash.proofs.Alone.{before_is_clean, keeps_both, keeps_same, reads_image_back}
 use Rattle.mlt_hash.proofs.AloneChanges.{made_alone, other_page_stays}
-use Rattle.mlt_hash.proofs.AlonePages.{few_left, few_left_later}
+use Rattle.mlt_hash.proofs.AlonePages.{made, may_stand, pages_close, pages_go_on}
+use Rattle.mlt_hash.proofs.Puts.{kept_is_shallow}
+use Rattle.mlt_hash.proofs.SplitPages.{MayStandAt, begun, one_at_least, one_is_left}
 use Rattle.mlt_hash.proofs.AloneWalks.{file_kept, same_basis}
 
 reads_held : (b : Bool) (image : Option (Option Page)) (stored : Option Page) (read : Page) → (is_some image ≡ true → b ≡ true) → (is_some image ≡ true → is_some stored ≡ true)
@@ -94,6 +97,7 @@ pub record IsSplittingOn (basis : Basis) (old now : Moment) (before walk : WalkF
   pub value : added_value walk.phase ≡ added_value before.phase
   pub may : MayAdd basis now walk
   pub keeps : KeepsBefore old now
+  pub pages : pages_in_the_end basis.root walk now ≤ pages_in_the_end basis.root before old
 
 next_step : (phase : Phase) (basis : Basis) (m : Moment) (walk : WalkFields) → IsAddingAt phase basis m walk → HasNextStep phase
 next_step (at.Adding value bucket room_depth unsplit) basis m walk adds = tt
@@ -108,29 +112,32 @@ next_step (at.Changed bucket done) basis m walk adds = absurd adds
 pub has_next_step : (basis : Basis) (m : Moment) (walk : WalkFields) → MayAdd basis m walk → HasNextStep walk.phase
 has_next_step basis m walk may = next_step walk.phase basis m walk may.adds
 
+-- sums of pages that are there and pages that are left
+one_made : (now new left left' all all' : ℕ) → new ≡ now + 1 → left' + 1 ≤ all' → left ≡ all → (left'' : ℕ) → left'' ≡ left' → all' ≡ all → new + left'' ≤ now + left
+one_made now new left left' all all' count begun left_is left'' new_is same = omega (arith, count, begun, left_is, new_is, same)
+
+as_many : (now new was is left left' : ℕ) → new + is ≤ now + was → left ≡ was → left' ≡ is → new + left' ≤ now + left
+as_many now new was is left left' goes left_is new_is = omega (arith, goes, left_is, new_is)
+
+past_the_limit : (count most most' left is : ℕ) → count ≡ most → most' ≡ most → left ≡ is → 1 ≤ is → most' < count + left
+past_the_limit count most most' left is full same left_is one = omega (arith, full, same, left_is, one)
+
+no_more : (x y z : ℕ) → x ≤ y → y ≤ z → x ≤ z
+no_more x y z first next = omega (arith, first, next)
+
+at_most : (basis : Basis) (new : Moment) (key value less most : ℕ) (told : WalkAnswer) → less ≤ most → TellsOfSplits basis new key value less told → TellsOfSplits basis new key value most told
+at_most basis new key value less most answer.Changed within tells = tells
+at_most basis new key value less most (answer.Refused refusal.NoRoom) within tells = omega (arith, within, tells)
+at_most basis new key value less most (answer.Refused reason) within tells = tells
+at_most basis new key value less most other within tells = absurd tells
+
 -- what a step leads to: the walk goes on with less work, or tells
 record Advances (basis : Basis) (now new : Moment) (walk after : WalkFields) : Type 0 where
   key : after.key ≡ walk.key
   value : added_value after.phase ≡ added_value walk.phase
   may : MayAdd basis new after
   less : effort after new < effort walk now
-
--- a walk that splits holds fewer than 300 pages
-few_at_phase : (phase : SplitPhase) (aim : Aim) (m : Moment) (split : SplitFields) → split.phase ≡ phase → MayStep m → (file : HasCleanFile aim.bits aim.root m) (under : IsUnderWay aim (view_of m) split) → HoldsAmongAt phase (view_of m) under.header.dirs split → page_count m.locks m.running.tx < 300
-few_at_phase split_at.OldBucket aim m split is may file under among =
-    let depths = depths_are_small aim _ split under.bucket (begins_now aim m split may file under) in
-    count_is_few m _ _ _ _ _ (most_held (split.depth + 1) split.directory_depth) among (most_is_small (split.depth + 1) split.directory_depth (omega (arith, depths.0, depths.1)) depths.1)
-few_at_phase (split_at.InPlace place end) aim m split is may file under among =
-    let depths = depths_are_small aim _ split under.bucket (begins_now aim m split may file under) in
-    count_is_few m _ _ _ _ _ (most_held (split.depth + 1) split.directory_depth) among (most_is_small (split.depth + 1) split.directory_depth (omega (arith, depths.0, depths.1)) depths.1)
-few_at_phase (split_at.Double place) aim m split is may file under among = few_at_double aim m split place is may file under
-few_at_phase (split_at.SecondHalf place) aim m split is may file under among = few_at_second_half aim m split place is may file under
-few_at_phase split_at.Header aim m split is may file under among =
-    let depths = depth_of_header aim m split is may file under in
-    count_is_few m _ _ _ _ _ (most_held (split.depth + 1) split.made.depth) among (most_is_small (split.depth + 1) split.made.depth (omega (arith, depths.0)) (omega (arith, depths.0, depths.1, depths.2)))
-
-few_in_split : (aim : Aim) (m : Moment) (split : SplitFields) → MayStep m → HasCleanFile aim.bits aim.root m → IsUnderWay aim (view_of m) split → page_count m.locks m.running.tx < 300
-few_in_split aim m split may file under = few_at_phase split.phase aim m split refl may file under under.among
+  pages : pages_in_the_end basis.root after new ≤ pages_in_the_end basis.root walk now
 
 module _ (bits : ℕ → ℕ) (root max_depth : ℕ) (first now new : Moment) (walk after : WalkFields) (alone : IsAlone now) (alone_new : IsAlone new) (file : IsHashFile bits (pages_before now) root max_depth) (keeps : KeepsBefore now new) where
   abbrev ours : Basis
@@ -146,6 +153,15 @@ module _ (bits : ℕ → ℕ) (root max_depth : ℕ) (first now new : Moment) (w
 
     stored_head : page_at now.store.pages root ≡ Some (page.Head adding.header)
     stored_head = held_is_stored now root (page.Head adding.header) alone.may adding.rest.head
+
+    -- a split that begins makes one of the pages that it leads to
+    begins_pages : (b : BeginsSplit ours now new walk after value n room_depth) → page_at now.store.pages root ≡ Some (page.Head b.header) → page_at now.store.pages n ≡ Some (page.Bucket b.bucket) → b.split.depth < room_depth
+        → pages_in_the_end root after new ≤ pages_in_the_end root walk now
+    begins_pages b head bucket deep =
+        let now_left : pages_left_at walk.phase root walk now ≡ pages_to_make b.bucket.depth b.header.depth room_depth = ap (λ (phase : Phase). pages_left_at phase root walk now) phase_is ∙ (λ i. pages_to_make (bucket_of (bucket i)).depth (header_of (head i)).depth room_depth) in
+        let new_left : pages_left_at after.phase root after new ≡ left_from b.split.depth b.split.directory_depth room_depth b.split.phase = ap (λ (phase : Phase). pages_left_at phase root after new) b.phase ∙ ap (λ (o : Option SplitFields). left_from_split o room_depth) b.split_is in
+        let same : pages_to_make b.split.depth b.split.directory_depth room_depth ≡ pages_to_make b.bucket.depth b.header.depth room_depth = (λ i. pages_to_make (b.depth i) (b.directory_depth i) room_depth) in
+        one_made _ _ _ _ _ _ (made now new b.split.new_page b.made.0 b.made.1) (begun b.split.depth b.split.directory_depth room_depth b.split.phase deep) now_left _ new_left same
 
     begins : BeginsSplit ours now new walk after value n room_depth → Advances ours now new walk after
     begins b =
@@ -167,6 +183,7 @@ module _ (bits : ℕ → ℕ) (root max_depth : ℕ) (first now new : Moment) (w
             adds = subst (λ (phase : Phase). IsAddingAt phase ours new after) (sym b.phase) (λ split is. let one = some_is_one split b.split after.split is b.split_is in subst (λ (s : SplitFields). s.directory_depth ≤ max_depth) (sym one) (omega (arith, fits, b.directory_depth)));
           };
           less = let small = stands.under_way.small in omega (arith, now_is, new_is, b.steps, steps, b.depth, deep, small);
+          pages = begins_pages b head bucket deep;
         }
 
     not_root : root ≡ n → ⊥
@@ -178,18 +195,26 @@ module _ (bits : ℕ → ℕ) (root max_depth : ℕ) (first now new : Moment) (w
         let fits : depth_of (page_at new.store.pages) root ≤ max_depth = subst (λ (p : Option Page). (header_of p).depth ≤ max_depth) (sym stays) shallow in
         made_alone ours new walk after (change.Put value) alone_new (file_kept bits root max_depth now new keeps file) fits makes
 
-    full_at_rest : map.len now.store.pages ≡ now.store.max_pages → HasFewPagesLeft (put_back new.running.images new.store.pages) new.store.max_pages
-    full_at_rest full =
+    has_to_be_deeper : HasToSplit ours now walk value n room_depth → adding.fields.depth < room_depth
+    has_to_be_deeper (inl unsplit_yet) = adding.unsplit_is (let both : at.Adding value n room_depth unsplit ≡ at.Adding value n room_depth true = sym phase_is ∙ unsplit_yet in cc)
+    has_to_be_deeper (inr full) =
         let aim : Aim = aim_of ours walk room_depth in
-        few_left_later now new keeps (few_left now alone.may (few_at_rest aim now n adding.header adding.fields (clean_now aim now alone.may clean_now_is) adding.rest) full)
+        let same : full.0 ≡ adding.fields = (let both : Some (page.Bucket full.0) ≡ Some (page.Bucket adding.fields) = sym full.1 ∙ adding.rest.found in cc) in
+        kept_is_shallow aim (view_of now) n adding.header adding.fields adding.rest (clean_now aim now alone.may clean_now_is) (subst (λ (b : BucketFields). list_all (is_kept set.empty) b.slots ≡ true) same full.2)
+
+    -- where the store is full and a split is to begin, the splits lead to more pages than there may be
+    full_at_rest : HasToSplit ours now walk value n room_depth → map.len now.store.pages ≡ now.store.max_pages → new.store.max_pages < pages_in_the_end root walk now
+    full_at_rest to_split full =
+        let left : pages_left_at walk.phase root walk now ≡ pages_to_make adding.fields.depth adding.header.depth room_depth = ap (λ (phase : Phase). pages_left_at phase root walk now) phase_is ∙ (λ i. pages_to_make (bucket_of (stored_bucket i)).depth (header_of (stored_head i)).depth room_depth) in
+        past_the_limit _ _ _ _ _ full keeps.max_pages left (one_at_least adding.fields.depth adding.header.depth room_depth (has_to_be_deeper to_split))
 
     adding_goes : TellsOfAdding ours now new walk after value n room_depth answer.Going → Advances ours now new walk after
     adding_goes tells = begins tells
 
-    adding_ends : (told : WalkAnswer) → (told ≡ answer.Going → ⊥) → TellsOfAdding ours now new walk after value n room_depth told → TellsOfSplits ours new walk.key value told
+    adding_ends : (told : WalkAnswer) → (told ≡ answer.Going → ⊥) → TellsOfAdding ours now new walk after value n room_depth told → TellsOfSplits ours new walk.key value (pages_in_the_end root walk now) told
     adding_ends answer.Going not tells = absurd (not refl)
     adding_ends answer.Changed not tells = puts tells.1 tells.2
-    adding_ends (answer.Refused refusal.NoRoom) not tells = full_at_rest tells.1
+    adding_ends (answer.Refused refusal.NoRoom) not tells = full_at_rest tells.0 tells.1
     adding_ends (answer.Refused refusal.OutOfMemory) not tells = refl
     adding_ends (answer.Refused reason) not tells = tells
     adding_ends other not tells = absurd tells
@@ -199,8 +224,42 @@ module _ (bits : ℕ → ℕ) (root max_depth : ℕ) (first now new : Moment) (w
     effort_now : (was : SplitFields) → walk.split ≡ Some was → effort walk now ≡ 1000 * (16 - was.depth) + steps_left was
     effort_now was is = ap (λ (phase : Phase). effort_at phase walk now) phase_is ∙ split_effort_is walk.split was is
 
-    split_goes_on : SplitGoesOn ours new walk after value room_depth → Advances ours now new walk after
-    split_goes_on s =
+    -- what is known of the split, whatever it is called
+    split_is : (was : SplitFields) → walk.split ≡ Some was → splitting.split ≡ was
+    split_is was is = some_is_one splitting.split was walk.split splitting.split_is is
+
+    stands_there : (was : SplitFields) → walk.split ≡ Some was → MayStandAt was.phase was.depth was.directory_depth
+    stands_there was is =
+        let aim : Aim = aim_of ours walk room_depth in
+        let stands = stands_now aim now splitting.split splitting.split.phase refl alone.may clean_now_is splitting.under_way in
+        subst (λ (split : SplitFields). MayStandAt split.phase split.depth split.directory_depth) (split_is was is) (may_stand splitting.split.phase aim _ _ _ splitting.split splitting.under_way.bucket stands)
+
+    within : (was : SplitFields) → walk.split ≡ Some was → was.depth ≤ was.directory_depth
+    within was is =
+        let aim : Aim = aim_of ours walk room_depth in
+        subst (λ (split : SplitFields). split.depth ≤ split.directory_depth) (split_is was is) (depths_are_small aim _ splitting.split splitting.under_way.bucket (begins_now aim now splitting.split alone.may clean_now_is splitting.under_way)).0
+
+    done_there : (was : SplitFields) → walk.split ≡ Some was → OfSplit walk (λ (split : SplitFields). IsDone split.phase (aim_of ours walk room_depth) now new split) → IsDone was.phase (aim_of ours walk room_depth) now new was
+    done_there was is done = subst (λ (split : SplitFields). IsDone split.phase (aim_of ours walk room_depth) now new split) (some_is_one done.0 was walk.split done.1 is) done.2
+
+    left_now : (was : SplitFields) → walk.split ≡ Some was → pages_left_at walk.phase root walk now ≡ left_from was.depth was.directory_depth room_depth was.phase
+    left_now was is = ap (λ (phase : Phase). pages_left_at phase root walk now) phase_is ∙ ap (λ (o : Option SplitFields). left_from_split o room_depth) is
+
+    goes_on_pages : (s : SplitGoesOn ours new walk after value room_depth) → OfSplit walk (λ (split : SplitFields). IsDone split.phase (aim_of ours walk room_depth) now new split) → pages_in_the_end root after new ≤ pages_in_the_end root walk now
+    goes_on_pages s done =
+        let steps : steps_left_at s.was.depth s.was.directory_depth s.is.phase + 1 ≡ steps_left_at s.was.depth s.was.directory_depth s.was.phase = sym (λ i. steps_left_at (s.depth i) (s.directory_depth i) s.is.phase + 1) ∙ s.fewer in
+        let new_left : pages_left_at after.phase root after new ≡ left_from s.was.depth s.was.directory_depth room_depth s.is.phase = ap (λ (phase : Phase). pages_left_at phase root after new) s.phase ∙ ap (λ (o : Option SplitFields). left_from_split o room_depth) s.is_is ∙ (λ i. left_from (s.depth i) (s.directory_depth i) room_depth s.is.phase) in
+        as_many _ _ _ _ _ _ (pages_go_on (aim_of ours walk room_depth) now new s.was s.was.depth s.was.directory_depth room_depth alone.may (within s.was s.was_is) s.was.phase s.is.phase (stands_there s.was s.was_is) steps (done_there s.was s.was_is done)) (left_now s.was s.was_is) new_left
+
+    closes_pages : (s : SplitCloses ours new walk after value room_depth) → page_at new.store.pages root ≡ Some (page.Head s.rests.header) → page_at new.store.pages s.bucket ≡ Some (page.Bucket s.rests.bucket)
+        → OfSplit walk (λ (split : SplitFields). IsDone split.phase (aim_of ours walk room_depth) now new split) → pages_in_the_end root after new ≤ pages_in_the_end root walk now
+    closes_pages s head bucket done =
+        let new_left : pages_left_at after.phase root after new ≡ pages_to_make (s.was.depth + 1) s.rests.header.depth room_depth =
+        ap (λ (phase : Phase). pages_left_at phase root after new) s.phase ∙ (λ i. pages_to_make (bucket_of (bucket i)).depth (header_of (head i)).depth room_depth) ∙ ap (λ l. pages_to_make l s.rests.header.depth room_depth) s.rests.deeper in
+        as_many _ _ _ _ _ _ (pages_close (aim_of ours walk room_depth) now new s.was s.was.depth s.was.directory_depth room_depth alone.may (within s.was s.was_is) s.was.phase s.rests.header.depth (stands_there s.was s.was_is) s.last s.rests.in_place s.rests.doubled (done_there s.was s.was_is done)) (left_now s.was s.was_is) new_left
+
+    split_goes_on : SplitGoesOn ours new walk after value room_depth → OfSplit walk (λ (split : SplitFields). IsDone split.phase (aim_of ours walk room_depth) now new split) → Advances ours now new walk after
+    split_goes_on s done =
         let fits : s.was.directory_depth ≤ max_depth = shallow s.was s.was_is in
         let now_is = effort_now s.was s.was_is in
         let new_is : effort after new ≡ 1000 * (16 - s.is.depth) + steps_left s.is = ap (λ (phase : Phase). effort_at phase after new) s.phase ∙ split_effort_is after.split s.is s.is_is in
@@ -212,10 +271,11 @@ module _ (bits : ℕ → ℕ) (root max_depth : ℕ) (first now new : Moment) (w
             adds = subst (λ (phase : Phase). IsAddingAt phase ours new after) (sym s.phase) (λ split is. let one = some_is_one split s.is after.split is s.is_is in subst (λ (s : SplitFields). s.directory_depth ≤ max_depth) (sym one) (omega (arith, fits, s.directory_depth)));
           };
           less = omega (arith, now_is, new_is, s.fewer, ap (λ d. 1000 * (16 - d)) s.depth);
+          pages = goes_on_pages s done;
         }
 
-    split_closes : SplitCloses ours new walk after value room_depth → Advances ours now new walk after
-    split_closes s =
+    split_closes : SplitCloses ours new walk after value room_depth → OfSplit walk (λ (split : SplitFields). IsDone split.phase (aim_of ours walk room_depth) now new split) → Advances ours now new walk after
+    split_closes s done =
         let head : page_at new.store.pages root ≡ Some (page.Head s.rests.header) = held_is_stored new root (page.Head s.rests.header) alone_new.may s.rests.rest.head in
         let bucket : page_at new.store.pages s.bucket ≡ Some (page.Bucket s.rests.bucket) = held_is_stored new s.bucket (page.Bucket s.rests.bucket) alone_new.may s.rests.rest.found in
         let fits : s.was.directory_depth ≤ max_depth = shallow s.was s.was_is in
@@ -237,18 +297,27 @@ module _ (bits : ℕ → ℕ) (root max_depth : ℕ) (first now new : Moment) (w
             adds = subst (λ (phase : Phase). IsAddingAt phase ours new after) (sym s.phase) (subst (λ (p : Option Page). (header_of p).depth ≤ max_depth) (sym head) fits_now);
           };
           less = omega (arith, now_is, new_is, s.last, s.rests.deeper);
+          pages = closes_pages s head bucket done;
         }
 
     splitting_goes : TellsOfSplitting ours now new walk after value room_depth answer.Going → Advances ours now new walk after
-    splitting_goes tells = elim tells.1 [ inl goes ↦ split_goes_on goes | inr closes ↦ split_closes closes ]
+    splitting_goes tells = elim tells.1 [ inl goes ↦ split_goes_on goes tells.0 | inr closes ↦ split_closes closes tells.0 ]
 
-    full_in_split : map.len now.store.pages ≡ now.store.max_pages → HasFewPagesLeft (put_back new.running.images new.store.pages) new.store.max_pages
-    full_in_split full = few_left_later now new keeps (few_left now alone.may (few_in_split (aim_of ours walk room_depth) now splitting.split alone.may clean_now_is splitting.under_way) full)
+    -- where the store is full and a page is to be made, the splits lead to more pages than there may be
+    one_left : (phase : SplitPhase) (l g : ℕ) → MayStandAt phase l g → IsMaking phase → 1 ≤ left_from l g room_depth phase
+    one_left split_at.OldBucket l g stands making = absurd making
+    one_left (split_at.InPlace place end) l g stands making = absurd making
+    one_left (split_at.Double place) l g stands making = absurd making
+    one_left (split_at.SecondHalf place) l g stands making = let one = one_is_left l g place stands in omega (arith, one)
+    one_left split_at.Header l g stands making = absurd making
 
-    splitting_ends : (told : WalkAnswer) → (told ≡ answer.Going → ⊥) → HasNotWaited told → TellsOfSplitting ours now new walk after value room_depth told → TellsOfSplits ours new walk.key value told
+    full_in_split : (split : SplitFields) → walk.split ≡ Some split → IsMaking split.phase → map.len now.store.pages ≡ now.store.max_pages → new.store.max_pages < pages_in_the_end root walk now
+    full_in_split split is making full = past_the_limit _ _ _ _ _ full keeps.max_pages (left_now split is) (one_left split.phase split.depth split.directory_depth (stands_there split is) making)
+
+    splitting_ends : (told : WalkAnswer) → (told ≡ answer.Going → ⊥) → HasNotWaited told → TellsOfSplitting ours now new walk after value room_depth told → TellsOfSplits ours new walk.key value (pages_in_the_end root walk now) told
     splitting_ends answer.Going not went tells = absurd (not refl)
     splitting_ends (answer.Waiting page by) not went tells = absurd went
-    splitting_ends (answer.Refused refusal.NoRoom) not went tells = full_in_split tells.2
+    splitting_ends (answer.Refused refusal.NoRoom) not went tells = full_in_split tells.0.0 tells.0.1 tells.0.2 tells.2
     splitting_ends (answer.Refused refusal.OutOfMemory) not went tells = refl
     splitting_ends (answer.Refused reason) not went tells = tells.0
     splitting_ends other not went tells = absurd tells
@@ -261,7 +330,7 @@ module _ (bits : ℕ → ℕ) (root max_depth : ℕ) (first now new : Moment) (w
 
   -- **or tells how it ended.**
   ends_at : (phase : Phase) → walk.phase ≡ phase → IsAddingAt phase ours now walk → Stands phase ours walk (view_of now) → (told : WalkAnswer) → (told ≡ answer.Going → ⊥) → HasNotWaited told → TellsAt phase ours now new walk after told
-      → TellsOfSplits ours new walk.key (added_value phase) told
+      → TellsOfSplits ours new walk.key (added_value phase) (pages_in_the_end root walk now) told
   ends_at (at.Adding value n room_depth unsplit) is adds stands told not went tells = adding_ends value n room_depth unsplit stands adds is told not tells
   ends_at (at.Splitting value room_depth) is adds stands told not went tells = splitting_ends value room_depth stands adds is told not went tells
   ends_at other is adds stands told not went tells = absurd adds
@@ -272,6 +341,7 @@ splitting_still basis first now new before walk after on keeps step = record {
   value = step.value ∙ on.value;
   may = step.may;
   keeps = keeps_both first now new on.keeps keeps;
+  pages = no_more _ _ _ step.pages on.pages;
 }
 
 module _ (bits : ℕ → ℕ) (root max_depth : ℕ) (first now new : Moment) (before walk after : WalkFields) (alone : IsAlone now × IsAlone new) (file : IsHashFile bits (pages_before first) root max_depth) (on : IsSplittingOn (basis_of bits root max_depth first) first now before walk) (keeps : KeepsBefore now new) where
@@ -288,13 +358,13 @@ module _ (bits : ℕ → ℕ) (root max_depth : ℕ) (first now new : Moment) (b
   pub less_effort : TellsAt walk.phase (basis_of bits root max_depth now) now new walk after answer.Going → effort after new < effort walk now
   less_effort tells = (goes_on tells).less
 
-  pub splits_end : (told : WalkAnswer) → (told ≡ answer.Going → ⊥) → HasNotWaited told → TellsAt walk.phase (basis_of bits root max_depth now) now new walk after told → TellsOfSplits (basis_of bits root max_depth first) new before.key (added_value before.phase) told
+  pub splits_end : (told : WalkAnswer) → (told ≡ answer.Going → ⊥) → HasNotWaited told → TellsAt walk.phase (basis_of bits root max_depth now) now new walk after told → TellsOfSplits (basis_of bits root max_depth first) new before.key (added_value before.phase) (pages_in_the_end root before first) told
   splits_end told not went tells =
       let ended = ends_at bits root max_depth first now new walk after alone.0 alone.1 (file_kept bits root max_depth first now on.keeps file) keeps walk.phase refl on.may.adds on.may.stands told not went (told_here told tells) in
-      subst (λ (key : ℕ). TellsOfSplits (basis_of bits root max_depth first) new key (added_value before.phase) told) on.key (subst (λ (value : ℕ). TellsOfSplits (basis_of bits root max_depth first) new walk.key value told) on.value ended)
+      at_most (basis_of bits root max_depth first) new _ _ _ _ told on.pages (subst (λ (key : ℕ). TellsOfSplits (basis_of bits root max_depth first) new key (added_value before.phase) (pages_in_the_end root walk now) told) on.key (subst (λ (value : ℕ). TellsOfSplits (basis_of bits root max_depth first) new walk.key value (pages_in_the_end root walk now) told) on.value ended))
 
 pub splits_start : (basis : Basis) (m : Moment) (walk : WalkFields) → MayAdd basis m walk → IsSplittingOn basis m m walk walk
-splits_start basis m walk may = record { key = refl; value = refl; may = may; keeps = keeps_same m }
+splits_start basis m walk may = record { key = refl; value = refl; may = may; keeps = keeps_same m; pages = omega arith }
 
 pub stands_to_split : (bits : ℕ → ℕ) (root max_depth : ℕ) (first now : Moment) (before walk : WalkFields) → IsSplittingOn (basis_of bits root max_depth first) first now before walk → IsStanding (basis_of bits root max_depth now) walk (view_of now)
 stands_to_split bits root max_depth first now before walk on = subst (λ (basis : Basis). IsStanding basis walk (view_of now)) (sym (same_basis bits root max_depth first now on.keeps)) on.may.stands

@@ -18,5 +18,6 @@ pub mod Puts
 pub mod Readings
 pub mod Resting
 pub mod Slots
+pub mod SplitPages
 pub mod Splittings
 pub mod Standing

@@ -105,15 +105,18 @@ module _ (aim : Aim) (view : View) (n : ℕ) (header : HeadFields) (bucket : Buc
       let law = crowded_at_own_depth aim.bits aim.opens (header_of (pages aim.root)).depth (lead_of pages aim.root) (buckets_of pages) (seed_of aim) (rest.bounded aim.key) rest.bounded form.form in
       subst (λ (b : BucketFields). list_all (agrees aim.bits aim.opens b.depth (seed_of aim)) b.slots ≡ true) same (law.1 (subst (λ (b : BucketFields). list_all (is_kept aim.opens) b.slots ≡ true) (sym same) kept))
 
-  pub full_is_shallow : IsNowhere (has_room aim.opens) bucket.slots → bucket.depth < aim.room_depth
-  full_is_shallow nowhere_free =
+  pub kept_is_shallow : list_all (is_kept aim.opens) bucket.slots ≡ true → bucket.depth < aim.room_depth
+  kept_is_shallow kept =
       elim (cases_lt bucket.depth aim.room_depth) [
         | inl lt ↦ lt
         | inr ge ↦
             let shallow = rest_is_shallow aim view n header bucket rest clean in
             let small = rest_is_small aim view n header bucket rest clean in
-            absurd (false≢true (sym rest.room ∙ crowded_in_fewer aim.bits aim.opens aim.room_depth bucket.depth (seed_of aim) bucket.slots ge (omega (arith, shallow, small)) (crowded_here (kept_everywhere aim.opens bucket.slots nowhere_free))))
+            absurd (false≢true (sym rest.room ∙ crowded_in_fewer aim.bits aim.opens aim.room_depth bucket.depth (seed_of aim) bucket.slots ge (omega (arith, shallow, small)) (crowded_here kept)))
       ]
+
+  pub full_is_shallow : IsNowhere (has_room aim.opens) bucket.slots → bucket.depth < aim.room_depth
+  full_is_shallow nowhere_free = kept_is_shallow (kept_everywhere aim.opens bucket.slots nowhere_free)
 
   -- a slot with room is one of the eight
   eight_slots : length bucket.slots ≡ 8

@@ -8,7 +8,7 @@ use Rattle.mlt_types.specs.declared.refusal.Refusal.TheVariants as refusal
 use Rattle.mlt_page.specs.Slots.{is_kept}
 use Rattle.mlt_page.specs.declared.page.Page.{Page}
 use Rattle.mlt_store.specs.Stores.{Pages, page_at}
-use Rattle.mlt_hash_form.specs.File.{HasForm, buckets_of, depth_of, lead_of, look_up}
+use Rattle.mlt_hash_form.specs.File.{HasForm, buckets_of, depth_of, look_up}
 use Rattle.mlt_hash_form.specs.Room.{IsCrowded}
 use Rattle.mlt_subtx.specs.Images.{put_back}
 use Rattle.mlt_held.specs.Moments.{Moment}
@@ -17,6 +17,7 @@ use Rattle.mlt_split.specs.Splits.{SplitFields}
 use Rattle.mlt_hash.specs.Walks.{Basis, IsStanding, WalkFields}
 use Rattle.mlt_hash.specs.Steps.{HasFound, IsSameWalk}
 use Rattle.mlt_hash.specs.Alone.{pages_before}
+use Rattle.mlt_hash.specs.SplitPages.{HasRoomAt, LacksPages, bucket_for, pages_for, pages_in_the_end}
 use Rattle.mlt_hash.specs.declared.pass.Pass.{Pass}
 use Rattle.mlt_hash.specs.declared.pass.Pass.TheVariants as pass
 use Rattle.mlt_hash.specs.declared.pass.Phase.{Phase}
@@ -49,7 +50,7 @@ HasChanged basis new key value = ChangesValue basis.bits (pages_before new) (pag
 
 -- the bucket of the key has no slot with room
 abbrev pub IsFullFor : (ℕ → ℕ) → (ℕ → Option Page) → ℕ → ℕ → Type 0
-IsFullFor bits pages root key = list_all (is_kept set.empty) (buckets_of pages (lead_of pages root (bits key))).slots ≡ true
+IsFullFor bits pages root key = list_all (is_kept set.empty) (bucket_for bits pages root key).slots ≡ true
 
 -- eight slots of the file agree with the key in all bits that its directory may get, so that no split makes room
 abbrev pub NeverHasRoomFor : (ℕ → ℕ) → (ℕ → Option Page) → ℕ → ℕ → Type 0
@@ -77,12 +78,21 @@ pub record MayAdd (basis : Basis) (new : Moment) (walk : WalkFields) : Type 0 wh
   pub stands : IsStanding basis walk (view_of new)
   pub adds : IsAddingAt walk.phase basis new walk
 
+-- Some depth makes room, and the walk may go on to split its bucket down to there, which takes so many pages.
+pub record NeedsSplits (basis : Basis) (new : Moment) (before after : WalkFields) (value : ℕ) : Type 0 where
+  pub value_is : added_value after.phase ≡ value
+  pub may : MayAdd basis new after
+  pub ever : NeverHasRoomFor basis.bits (pages_before new) basis.max_depth before.key → ⊥
+  pub d : ℕ
+  pub least : HasRoomAt basis.bits (pages_before new) basis.root basis.max_depth before.key d
+  pub pages : pages_in_the_end basis.root after new ≡ map.len (put_back new.running.images new.store.pages) + pages_for basis.bits (pages_before new) basis.root before.key d
+
 -- A split is needed: a first pass says which one follows, and a later one may go on.
 pub record NeedsRoom (basis : Basis) (new : Moment) (before after : WalkFields) (value : ℕ) : Type 0 where
   pub full : IsFullFor basis.bits (pages_before new) basis.root before.key
   pub same : IsSameWalk before after
   pub first : before.pass ≡ pass.First → (after.phase ≡ at.Full (next_of after.phase)) × (next_of after.phase ≡ pass.First → ⊥)
-  pub later : (before.pass ≡ pass.First → ⊥) → (added_value after.phase ≡ value) × MayAdd basis new after × (NeverHasRoomFor basis.bits (pages_before new) basis.max_depth before.key → ⊥)
+  pub later : (before.pass ≡ pass.First → ⊥) → NeedsSplits basis new before after value
 
 -- A narrow pass has to be wide.
 pub record NeedsWidth (before after : WalkFields) : Type 0 where
@@ -98,21 +108,17 @@ TellsOfPass basis new before after value answer.Widen = NeedsWidth before after
 TellsOfPass basis new before after value (answer.Refused refusal.NoRoom) = (before.pass ≡ pass.First → ⊥) × IsFullFor basis.bits (pages_before new) basis.root before.key × NeverHasRoomFor basis.bits (pages_before new) basis.max_depth before.key
 TellsOfPass basis new before after value other = ⊥
 
--- There may be fewer than 300 pages more than before: a walk never holds as many as 300, and holds each page that it made.
-abbrev pub HasFewPagesLeft : Pages → ℕ → Type 0
-HasFewPagesLeft pages max_pages = max_pages < map.len pages + 300
+-- what the splits of a pass tell that lead to this number of pages
+abbrev pub TellsOfSplits : Basis → Moment → ℕ → ℕ → ℕ → WalkAnswer → Type 0
+TellsOfSplits basis new key value most answer.Changed = HasChanged basis new key (Some value)
+TellsOfSplits basis new key value most (answer.Refused refusal.NoRoom) = new.store.max_pages < most
+TellsOfSplits basis new key value most (answer.Refused reason) = reason ≡ refusal.OutOfMemory
+TellsOfSplits basis new key value most other = ⊥
 
--- what the splits of a pass tell
-abbrev pub TellsOfSplits : Basis → Moment → ℕ → ℕ → WalkAnswer → Type 0
-TellsOfSplits basis new key value answer.Changed = HasChanged basis new key (Some value)
-TellsOfSplits basis new key value (answer.Refused refusal.NoRoom) = HasFewPagesLeft (put_back new.running.images new.store.pages) new.store.max_pages
-TellsOfSplits basis new key value (answer.Refused reason) = reason ≡ refusal.OutOfMemory
-TellsOfSplits basis new key value other = ⊥
-
--- Why an addition is refused. The bucket of the key is full; and no split makes room, or there are few pages left for the
--- splits that do, or a growth was refused to them.
+-- Why an addition is refused. The bucket of the key is full; and no split makes room, or there may not be as many pages as
+-- the splits make that do, or a growth was refused to them.
 abbrev pub RefusesFor : (ℕ → ℕ) → (ℕ → Option Page) → Pages → ℕ → ℕ → ℕ → ℕ → Refusal → Type 0
-RefusesFor bits before pages root max_depth max_pages key refusal.NoRoom = IsFullFor bits before root key × (NeverHasRoomFor bits before max_depth key ⊎ HasFewPagesLeft pages max_pages)
+RefusesFor bits before pages root max_depth max_pages key refusal.NoRoom = IsFullFor bits before root key × (NeverHasRoomFor bits before max_depth key ⊎ LacksPages bits before pages root max_depth max_pages key)
 RefusesFor bits before pages root max_depth max_pages key refusal.OutOfMemory = IsFullFor bits before root key × (NeverHasRoomFor bits before max_depth key → ⊥)
 RefusesFor bits before pages root max_depth max_pages key other = ⊥
 

@@ -3,6 +3,7 @@ pub mod AloneWalks
 pub mod Changes
 pub mod HashFiles
 pub mod Passes
+pub mod SplitPages
 pub mod Splitting
 pub mod Steps
 pub mod Walks

@@ -10,6 +10,7 @@ ghost use Rattle.mlt_hash.specs.Splitting.{IsUnderWay, TellsAt};
 ghost use Rattle.mlt_hash.specs.Changes.{IsAtRecord};
 ghost use Rattle.mlt_hash.specs.Alone.{HasNotWaited, IsAlone, IsIdle, KeepsBefore, basis_of, pages_before};
 ghost use Rattle.mlt_hash.specs.AloneWalks.{HasArrived, HasChanged, IsHashFile, MayAdd, TellsOfInsertion, TellsOfLater, TellsOfPass, TellsOfSplits, added_value, next_of};
+ghost use Rattle.mlt_hash.specs.SplitPages.{pages_in_the_end};
 ghost use Rattle.mlt_hash.specs.declared.pass.Pass.{Pass};
 ghost use Rattle.mlt_hash.specs.declared.pass.Phase.{Phase};
 
@@ -136,7 +137,7 @@ impl Runner {
         requires file { IsHashFile (P.bits_of root.now.pseudo) (pages_before self.old) root.now.page root.now.max_depth }
         requires adds { MayAdd (basis_of (P.bits_of root.now.pseudo) root.now.page root.now.max_depth self.old) self.old walk.old }
         ensures keeps { KeepsBefore self.old self.new }
-        ensures tells { TellsOfSplits (basis_of (P.bits_of root.now.pseudo) root.now.page root.now.max_depth self.old) self.new walk.old.key (added_value walk.old.phase) result }
+        ensures tells { TellsOfSplits (basis_of (P.bits_of root.now.pseudo) root.now.page root.now.max_depth self.old) self.new walk.old.key (added_value walk.old.phase) (pages_in_the_end root.now.page walk.old self.old) result }
     {
         loop {
             match self.step(walk, root) {

@@ -10,6 +10,7 @@ ghost use Rattle.mlt_held.specs.Views.{view_of};
 ghost use Rattle.mlt_hash.specs.Walks.{IsAtStart};
 ghost use Rattle.mlt_hash.specs.Alone.{IsAlone, IsIdle, KeepsBefore, basis_of, pages_before};
 ghost use Rattle.mlt_hash.specs.AloneWalks.{HasArrived, HasChanged, IsHashFile, MayAdd, TellsOfLater, TellsOfPass, TellsOfSplits, added_value};
+ghost use Rattle.mlt_hash.specs.SplitPages.{pages_in_the_end};
 
 use crate::change::held_bucket;
 use crate::hash_file::HashFile;
@@ -192,7 +193,7 @@ fn count_splits<P: Pseudo>(
     requires file { IsHashFile (P.bits_of root.now.pseudo) (pages_before runner.old) root.now.page root.now.max_depth }
     requires adds { MayAdd (basis_of (P.bits_of root.now.pseudo) root.now.page root.now.max_depth runner.old) runner.old walk.old }
     ensures keeps { KeepsBefore runner.old runner.new }
-    ensures tells { TellsOfSplits (basis_of (P.bits_of root.now.pseudo) root.now.page root.now.max_depth runner.old) runner.new walk.old.key (added_value walk.old.phase) result.1 }
+    ensures tells { TellsOfSplits (basis_of (P.bits_of root.now.pseudo) root.now.page root.now.max_depth runner.old) runner.new walk.old.key (added_value walk.old.phase) (pages_in_the_end root.now.page walk.old runner.old) result.1 }
 {
     let mut steps = 0u32;
     loop {

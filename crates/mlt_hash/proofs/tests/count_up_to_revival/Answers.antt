@@ -55,5 +55,5 @@ returns-clause-changed g c =
     addition_tells bits c.new.result c.args.root.now.page c.args.root.now.max_depth c.args.runner.now c.count_to_bucket-steps.new.runner mid new
     c.args.walk.now c.count_to_bucket-steps.new.walk c.revive-answer.new.self c.count_to_bucket-steps.result.1 c.args.value c.revive-answer.result c.new.ensures c.runner.view_is c.runner.invariant.0 c.count_to_bucket-steps.ensures.keeps c.count_to_bucket-steps.ensures.arrives
     (absent_here bits c.args.root.now.page c.args.root.now.max_depth c.args.runner.now c.count_to_bucket-steps.new.runner mid c.args.walk.now c.count_to_bucket-steps.new.walk c.count_to_bucket-steps.result.1 c.runner.view_is c.runner.invariant.0 c.count_to_bucket-steps.ensures.keeps c.count_to_bucket-steps.ensures.arrives c.requires.absent)
-    c.requires.file c.revive-answer.ensures.may c.revive-answer.ensures.clean (writes_at_most _ _ _ c.revive-answer.result c.revive-answer.ensures.writes) (revival_adds basis new c.count_to_bucket-steps.new.walk c.revive-answer.new.self c.args.value c.revive-answer.result c.revive-answer.ensures.tells) in
+    c.requires.file c.revive-answer.ensures.may c.revive-answer.ensures.clean c.revive-answer.ensures.writes (revival_adds basis new c.count_to_bucket-steps.new.walk c.revive-answer.new.self c.args.value c.revive-answer.result c.revive-answer.ensures.tells) in
     λ is. subst (λ (told : WalkAnswer). TellsOfPass (basis_of bits c.args.root.now.page c.args.root.now.max_depth c.args.runner.now) new c.args.walk.now c.revive-answer.new.self c.args.value told) is tells

@@ -18,4 +18,4 @@ returns-clause-tells g c =
     addition_tells (g.P.Pseudo.bits_of c.args.root.now.pseudo) c.self.inside.opens c.args.root.now.page c.args.root.now.max_depth c.args.self.now c.find.new.self (moment c.self.inside.subtx c.self.inside.locks c.self.inside.store) (moment c.insert.new.subtx c.self.inside.locks c.insert.new.store)
     c.args.walk.now c.find.new.walk c.insert.new.self c.find.result c.args.value c.insert.result c.self.invariant.1 c.self.view_is c.self.invariant.0 c.find.ensures.keeps c.find.ensures.arrives
     (absent_here (g.P.Pseudo.bits_of c.args.root.now.pseudo) c.args.root.now.page c.args.root.now.max_depth c.args.self.now c.find.new.self (moment c.self.inside.subtx c.self.inside.locks c.self.inside.store) c.args.walk.now c.find.new.walk c.find.result c.self.view_is c.self.invariant.0 c.find.ensures.keeps c.find.ensures.arrives c.requires.absent)
-    c.requires.file c.insert.ensures.may c.insert.ensures.clean (writes_at_most _ _ _ c.insert.result c.insert.ensures.writes) c.insert.ensures.tells
+    c.requires.file c.insert.ensures.may c.insert.ensures.clean c.insert.ensures.writes c.insert.ensures.tells

@@ -8,14 +8,14 @@ split-requires-clause-file g c = file_kept (g.P.Pseudo.bits_of c.args.root.now.p
 
 pub split-requires-clause-adds : goal.split-requires-clause-adds
 split-requires-clause-adds g c =
-    may_add_now (g.P.Pseudo.bits_of c.args.root.now.pseudo) c.args.root.now.page c.args.root.now.max_depth c.args.self.now c.add_again.new.self c.add_again.new.walk c.in-NeedSplit.ensures.keeps (c.in-NeedSplit.ensures.tells.later c.requires.later).1
+    may_add_now (g.P.Pseudo.bits_of c.args.root.now.pseudo) c.args.root.now.page c.args.root.now.max_depth c.args.self.now c.add_again.new.self c.add_again.new.walk c.in-NeedSplit.ensures.keeps (c.in-NeedSplit.ensures.tells.later c.requires.later).may
 
 pub returns-in-NeedSplit-clause-keeps : goal.returns-in-NeedSplit-clause-keeps
 returns-in-NeedSplit-clause-keeps g c = keeps_both c.args.self.now c.add_again.new.self c.split.new.self c.in-NeedSplit.ensures.keeps c.split.ensures.keeps
 
 pub returns-in-NeedSplit-clause-tells : goal.returns-in-NeedSplit-clause-tells
 returns-in-NeedSplit-clause-tells g c =
-    let tells = splits_before (g.P.Pseudo.bits_of c.args.root.now.pseudo) c.args.root.now.page c.args.root.now.max_depth c.args.self.now c.add_again.new.self c.split.new.self c.add_again.new.walk.key _ c.split.result c.in-NeedSplit.ensures.keeps c.split.ensures.tells in
+    let tells = splits_before (g.P.Pseudo.bits_of c.args.root.now.pseudo) c.args.root.now.page c.args.root.now.max_depth c.args.self.now c.add_again.new.self c.split.new.self c.add_again.new.walk.key _ _ c.split.result c.in-NeedSplit.ensures.keeps c.split.ensures.tells in
     splits_are_later _ c.add_again.new.self c.split.new.self _ c.add_again.new.walk c.split.new.walk c.args.value c.split.result c.split.ensures.keeps c.in-NeedSplit.ensures.tells c.requires.later tells
 
 pub returns-in_default : goal.returns-in_default

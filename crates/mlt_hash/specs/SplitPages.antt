@@ -1,0 +1,70 @@
+-- How many pages splits make
+use Rattle.std.specs.Prelude.{ℕ, ◌<◌, ◌+◌, ◌-◌, ◌^◌, Option, Some, None}
+use Rattle.std.specs.FinMap as map
+use Rattle.std.specs.FinSet as set
+use Rattle.mlt_page.specs.Values.{BucketFields}
+use Rattle.mlt_page.specs.declared.page.Page.{Page}
+use Rattle.mlt_store.specs.Stores.{Pages, page_at}
+use Rattle.mlt_hash_form.specs.File.{bucket_of, buckets_of, depth_of, lead_of}
+use Rattle.mlt_hash_form.specs.Room.{is_crowded}
+use Rattle.mlt_held.specs.Moments.{Moment}
+use Rattle.mlt_split.specs.Splits.{SplitFields}
+use Rattle.mlt_split.specs.declared.phase.SplitPhase.{SplitPhase}
+use Rattle.mlt_split.specs.declared.phase.SplitPhase.TheVariants as split_at
+use Rattle.mlt_hash.specs.Passes.{HasRoomFrom}
+use Rattle.mlt_hash.specs.Walks.{WalkFields}
+use Rattle.mlt_hash.specs.declared.pass.Phase.{Phase}
+use Rattle.mlt_hash.specs.declared.pass.Phase.TheVariants as at
+
+-- The pages that splits make of a bucket of depth l, in a directory of depth g, until the bucket has depth d: one for each
+-- split, and those of the directory, where it gets deeper.
+abbrev pub pages_to_make : ℕ → ℕ → ℕ → ℕ
+pages_to_make l g d = (d - l) + (2 ^ (d - 8) - 2 ^ (g - 8))
+
+-- the bucket that the key leads to
+abbrev pub bucket_for : (ℕ → ℕ) → (ℕ → Option Page) → ℕ → ℕ → BucketFields
+bucket_for bits pages root key = buckets_of pages (lead_of pages root (bits key))
+
+-- depth d is the least at which that bucket has room for the key, where nobody is open
+abbrev pub HasRoomAt : (ℕ → ℕ) → (ℕ → Option Page) → ℕ → ℕ → ℕ → ℕ → Type 0
+HasRoomAt bits pages root max_depth key d = HasRoomFrom (λ e. is_crowded bits set.empty e (bits key) (bucket_for bits pages root key).slots) (bucket_for bits pages root key).depth max_depth d
+
+-- the pages that the splits make of that bucket down to depth d
+abbrev pub pages_for : (ℕ → ℕ) → (ℕ → Option Page) → ℕ → ℕ → ℕ → ℕ
+pages_for bits pages root key d = pages_to_make (bucket_for bits pages root key).depth (depth_of pages root) d
+
+-- There may be fewer pages than the splits lead to that make room.
+pub record LacksPages (bits : ℕ → ℕ) (before : ℕ → Option Page) (pages : Pages) (root max_depth max_pages key : ℕ) : Type 0 where
+  pub d : ℕ
+  pub least : HasRoomAt bits before root max_depth key d
+  pub lacks : max_pages < map.len pages + pages_for bits before root key d
+
+-- the pages that a directory of depth g gains by the split of a bucket of depth l
+abbrev pub gained_pages : ℕ → ℕ → ℕ
+gained_pages l g = 2 ^ (l + 1 - 8) - 2 ^ (g - 8)
+
+-- how many of so many a split has yet to make
+abbrev pub gained_from : SplitPhase → ℕ → ℕ
+gained_from split_at.OldBucket gained = gained
+gained_from (split_at.InPlace place end) gained = 0
+gained_from (split_at.Double place) gained = gained - place
+gained_from (split_at.SecondHalf place) gained = gained - place
+gained_from split_at.Header gained = 0
+
+-- what a split under way has yet to make, and those after it down to depth d
+abbrev pub left_from : ℕ → ℕ → ℕ → SplitPhase → ℕ
+left_from l g d phase = (d - (l + 1)) + gained_from phase (gained_pages l g) + (2 ^ (d - 8) - (2 ^ (g - 8) + gained_pages l g))
+
+abbrev pub left_from_split : Option SplitFields → ℕ → ℕ
+left_from_split None d = 0
+left_from_split (Some split) d = left_from split.depth split.directory_depth d split.phase
+
+-- what a walk that splits has yet to make
+abbrev pub pages_left_at : Phase → ℕ → WalkFields → Moment → ℕ
+pages_left_at (at.Adding value bucket room_depth unsplit) root walk m = pages_to_make (bucket_of (page_at m.store.pages bucket)).depth (depth_of (page_at m.store.pages) root) room_depth
+pages_left_at (at.Splitting value room_depth) root walk m = left_from_split walk.split room_depth
+pages_left_at other root walk m = 0
+
+-- as many pages as there will be once it is done, at most
+abbrev pub pages_in_the_end : ℕ → WalkFields → Moment → ℕ
+pages_in_the_end root walk m = map.len m.store.pages + pages_left_at walk.phase root walk m
