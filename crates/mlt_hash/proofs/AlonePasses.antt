@@ -21,9 +21,9 @@ use Rattle.mlt_held.specs.Moments.{IsCleanFor, MayStep, Moment}
 use Rattle.mlt_held.specs.PageSteps.{WritesAtMost}
 use Rattle.mlt_held.specs.Views.{View, view_of}
 use Rattle.mlt_hash.specs.Alone.{IsAlone, KeepsBefore, basis_of, pages_before}
-use Rattle.mlt_hash.specs.AloneWalks.{HasArrived, HasChanged, IsAddingAt, IsFullFor, IsHashFile, NeedsRoom, NeedsSplits, NeverHasRoomFor, TellsOfPass, added_value, next_of}
+use Rattle.mlt_hash.specs.AloneWalks.{HasArrived, HasChanged, IsAddingAt, IsFullFor, IsHashFile, NeedsRoom, NeedsSplits, NeverHasRoomFor, TellsOfPass, added_value}
 use Rattle.mlt_hash.specs.Changes.{HasNoRoom, IsAtAbsent, IsAtRecord, IsFull, Makes, NeedsSplit, TellsOfAddition, WritesIfChanged, crowded_at, page_of}
-use Rattle.mlt_hash.specs.Passes.{HasRoomFrom, IsNextPass, value_after}
+use Rattle.mlt_hash.specs.Passes.{HasRoomFrom, IsNextPass, next_of, value_after}
 use Rattle.mlt_hash.specs.SplitPages.{HasRoomAt, pages_for, pages_in_the_end, pages_left_at, pages_to_make}
 use Rattle.mlt_hash.specs.Steps.{HasFound, IsSameWalk}
 use Rattle.mlt_hash.specs.Walks.{Basis, IsAtBucket, IsStanding, IsUnwritten, Stands, WalkFields}

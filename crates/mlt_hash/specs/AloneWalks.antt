@@ -17,8 +17,8 @@ use Rattle.mlt_split.specs.Splits.{SplitFields}
 use Rattle.mlt_hash.specs.Walks.{Basis, IsStanding, WalkFields}
 use Rattle.mlt_hash.specs.Steps.{HasFound, IsSameWalk}
 use Rattle.mlt_hash.specs.Alone.{pages_before}
+use Rattle.mlt_hash.specs.Passes.{next_of}
 use Rattle.mlt_hash.specs.SplitPages.{HasRoomAt, LacksPages, bucket_for, pages_for, pages_in_the_end}
-use Rattle.mlt_hash.specs.declared.pass.Pass.{Pass}
 use Rattle.mlt_hash.specs.declared.pass.Pass.TheVariants as pass
 use Rattle.mlt_hash.specs.declared.pass.Phase.{Phase}
 use Rattle.mlt_hash.specs.declared.pass.Phase.TheVariants as at
@@ -55,11 +55,6 @@ IsFullFor bits pages root key = list_all (is_kept set.empty) (bucket_for bits pa
 -- eight slots of the file agree with the key in all bits that its directory may get, so that no split makes room
 abbrev pub NeverHasRoomFor : (ℕ → ℕ) → (ℕ → Option Page) → ℕ → ℕ → Type 0
 NeverHasRoomFor bits pages max_depth key = IsCrowded bits set.empty (buckets_of pages) max_depth (bits key)
-
--- which pass follows one that found its bucket full
-abbrev pub next_of : Phase → Pass
-next_of (at.Full next) = next
-next_of other = pass.First
 
 -- the value of the record that a walk adds once its bucket is split
 abbrev pub added_value : Phase → ℕ

@@ -9,6 +9,8 @@ use Rattle.mlt_page_locks.specs.LockTables.{Modes}
 use Rattle.mlt_page_locks.specs.Requests.{with_page}
 use Rattle.mlt_hash.specs.declared.pass.Pass.{Pass}
 use Rattle.mlt_hash.specs.declared.pass.Pass.TheVariants.{First, Narrow, Wide}
+use Rattle.mlt_hash.specs.declared.pass.Phase.{Phase}
+use Rattle.mlt_hash.specs.declared.pass.Phase.TheVariants.{Full}
 use Rattle.mlt_hash.specs.declared.pass.Change.{Change}
 use Rattle.mlt_hash.specs.declared.pass.Change.TheVariants.{Put, Revive, Set, Remove}
 
@@ -57,6 +59,11 @@ abbrev pub IsNextPass : (ℕ → Bool) → ℕ → ℕ → ℕ → Pass → Type
 IsNextPass crowded l most g First = ⊥
 IsNextPass crowded l most g Narrow = MayBeNarrow crowded l most g
 IsNextPass crowded l most g Wide = MayBeNarrow crowded l most g → ⊥
+
+-- which pass follows one that found its bucket full
+abbrev pub next_of : Phase → Pass
+next_of (Full next) = next
+next_of other = First
 
 -- the value that the key has once a change is made, and what stands in its slot
 abbrev pub value_after : Change → Option ℕ
