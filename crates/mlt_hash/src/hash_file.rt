@@ -20,8 +20,9 @@ use mlt_types::{Key, Limits, Mode, OpenSet, Pseudo, Refusal, TxId, Value};
 use std::alloc::Global;
 use std::marker::Model;
 
-/// An extendible hash file in pages, in which one walk runs at a time, to its end. A contract sees its pages, where its
-/// header is, its limits, and the function from keys to pseudokeys.
+/// An extendible hash file (Fagin, Nievergelt, Pippenger and Strong, ACM TODS 4(3), 1979, section 2) in pages, in which
+/// one walk runs at a time, to its end. A contract sees its pages, where its header is, its limits, and the function from
+/// keys to pseudokeys.
 #[derive(Drop)]
 pub struct HashFile<P: Pseudo> {
     alloc: Global,
@@ -45,7 +46,8 @@ impl<P: Pseudo> Model for HashFile<P> {
 }
 
 impl<P: Pseudo> HashFile<P> {
-    /// A file without records, whose directory gets no deeper, and which gets no more pages, than the limits say.
+    /// A file without records: three pages, with a directory of depth 0. The limits say how deep the directory gets at
+    /// most and how many pages there may be; those of transactions say nothing here.
     ///
     /// # Errors
     /// `OutOfMemory`, where a growth was refused.
@@ -101,8 +103,9 @@ impl<P: Pseudo> HashFile<P> {
     /// Adds a record of a key that has none.
     ///
     /// # Errors
-    /// `NoRoom`, where no split that the depth allows makes room, or a split needs a page and there are as many as there
-    /// may be. `OutOfMemory`, where a growth was refused. The file is then as before.
+    /// `NoRoom`, where no split that the depth allows makes room, or the splits that make it need more pages than there
+    /// may be. `OutOfMemory`, where a growth was refused to these splits. The file is then as before. Where the key's
+    /// bucket has room there is neither.
     pub fn insert(&mut self, key: Key, value: Value) -> Result<(), Refusal>
         requires absent { map.get (live_records self.old.pages) key ≡ None }
         ensures records { OnOk result (live_records self.new.pages ≡ map.insert (live_records self.old.pages) key value) }
