@@ -27,8 +27,9 @@ same_put_back old new keeps = same_pages _ _ (λ q. page_at-put_back new.running
 same_count : (pages : Pages) (q : ℕ) (p : Page) → is_some (page_at pages q) ≡ true → map.len (map.insert pages q p) ≡ map.len pages
 same_count pages q p there = grind (arith, there, map.len-insert nat_cmp_total pages q p)
 
-one_more : (pages : Pages) (q : ℕ) (p : Page) → page_at pages q ≡ None → map.len (map.insert pages q p) ≡ map.len pages + 1
-one_more pages q p fresh = grind (arith, fresh, map.len-insert nat_cmp_total pages q p)
+-- and one that is made was not
+pub fresh_is_one_more : (pages : Pages) (q : ℕ) (p : Page) → page_at pages q ≡ None → map.len (map.insert pages q p) ≡ map.len pages + 1
+fresh_is_one_more pages q p fresh = grind (arith, fresh, map.len-insert nat_cmp_total pages q p)
 
 written : (old new : Moment) (q : ℕ) (p : Page) → is_some (page_at old.store.pages q) ≡ true → WritesHeldPage old new q p → map.len new.store.pages ≡ map.len old.store.pages
 written old new q p there writes = ap (λ (s : PageStore). map.len s.pages) writes.store ∙ same_count old.store.pages q p there
@@ -44,7 +45,7 @@ locked_written aim old new place done =
 
 -- a page that is made is one more
 pub made : (old new : Moment) (q : ℕ) (p : Page) → MakesLockedPage old new q p → map.len new.store.pages ≡ map.len old.store.pages + 1
-made old new q p makes = ap (λ (s : PageStore). map.len s.pages) makes.store ∙ one_more old.store.pages q p makes.fresh
+made old new q p makes = ap (λ (s : PageStore). map.len s.pages) makes.store ∙ fresh_is_one_more old.store.pages q p makes.fresh
 
 -- where a split stands, as far as its pages are concerned
 pub may_stand : (phase : SplitPhase) (aim : Aim) (splitters : _) (base pages : ℕ → Option Page) (split : SplitFields) (bucket : BucketFields) → StandsAt phase aim splitters base pages split bucket → MayStandAt phase split.depth split.directory_depth

@@ -1,6 +1,5 @@
 -- The pages of a file as it is opened, one made after another
 use Rattle.std.proofs.Common.{◌≡◌, ℕ, ◌<◌, ◌≤◌, ◌+◌, ◌^◌, ◌⊎◌, Option, None, Some, Result, Ok, Err, IfErr, replicate, sym, ap, subst, ◌∙◌, inl, inr, arith}
-use Rattle.std.specs.Cmp.{nat_cmp_total}
 use Rattle.std.specs.Ordering.{nat_cmp}
 use Rattle.std.specs.Result.{IsErrAnd}
 use Rattle.std.specs.FinMap as map
@@ -16,6 +15,7 @@ use Rattle.mlt_hash_form.specs.Changes.{IsOpening}
 use Rattle.mlt_hash_form.specs.File.{depth_of, header_of}
 use Rattle.mlt_hash_form.proofs.OpeningFile.{opening_has_form}
 use Rattle.mlt_hash.specs.AloneWalks.{IsHashFile}
+use Rattle.mlt_hash.proofs.AlonePages.{fresh_is_one_more}
 
 -- a page is made that was not there
 pub record IsMade (old new : PageStore) (n : ℕ) (p : Page) : Type 0 where
@@ -39,7 +39,7 @@ module _ (old new : PageStore) (n : ℕ) (p : Page) (makes : IsMade old new n p)
 
   -- and there is one more.
   pub one_more : map.len new.pages ≡ map.len old.pages + 1
-  one_more = ap map.len pages_are ∙ grind (arith, makes.fresh, map.len-insert nat_cmp_total old.pages n p)
+  one_more = ap map.len pages_are ∙ fresh_is_one_more old.pages n p makes.fresh
 
   pub same_limit : new.max_pages ≡ old.max_pages
   same_limit = ap (λ (s : PageStore). s.max_pages) makes.made
@@ -59,7 +59,7 @@ module _ (empty one two three : PageStore) (b d r : ℕ) (bucket dir head : Page
     others = nothing_else;
   }
 
--- of three pages.
+-- a store without pages has none
 pub no_pages : (empty : PageStore) → empty.pages ≡ map.empty → map.len empty.pages ≡ 0
 no_pages empty none = ap map.len none ∙ map.len-empty nat_cmp Page
 
