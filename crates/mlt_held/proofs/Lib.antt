@@ -1,4 +1,5 @@
+pub mod Leaving
 pub mod Moments
-pub mod Views
 pub mod Others
 pub mod Results
+pub mod Views

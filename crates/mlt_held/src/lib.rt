@@ -2,10 +2,12 @@
 //! of them whatever others do.
 #![tactic(auto)]
 
+mod locked_store;
 mod pages;
 mod view_laws;
 
-pub use pages::{lock_and_read, make_page, read_held, write_held};
+pub use locked_store::LockedStore;
+pub use pages::{lock, make_page, read_held, write_held};
 pub use view_laws::{
     others_leave_the_view, others_leave_what_was_written, view_agrees_with_clean_pages,
 };
