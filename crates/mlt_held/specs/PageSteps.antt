@@ -4,7 +4,7 @@ use Rattle.std.specs.FinMap as map
 use Rattle.mlt_types.specs.declared.mode.Mode.{Mode}
 use Rattle.mlt_types.specs.declared.mode.Mode.TheVariants.{Exclusive}
 use Rattle.mlt_page.specs.declared.page.Page.{Page}
-use Rattle.mlt_store.specs.Stores.{page_at}
+use Rattle.mlt_store.specs.Stores.{PageStore, page_at}
 use Rattle.mlt_page_locks.specs.LockTables.{can_write}
 use Rattle.mlt_page_locks.specs.Requests.{IsNobody, conflicts, granted}
 use Rattle.mlt_subtx.specs.Images.{with_image}
@@ -49,3 +49,7 @@ pub record Leaves (old new : Moment) : Type 0 where
   pub touches : TouchesOnePage old new
   pub may : MayStep new
   pub clean : (clean : ℕ → Option Page) → IsCleanFor old clean → IsCleanFor new clean
+
+-- there are as many pages as there may be
+abbrev pub HasNoPageLeft : PageStore → Type 0
+HasNoPageLeft store = map.len store.pages ≡ store.max_pages

@@ -7,7 +7,7 @@ ghost use Rattle.mlt_page_locks.specs.LockTables.{can_read, can_write, page_coun
 ghost use Rattle.mlt_page_locks.specs.Requests.{IsLowest, conflicts};
 ghost use Rattle.mlt_subtx.specs.Images.{image_of};
 ghost use Rattle.mlt_held.specs.Moments.{MayStep, moment};
-ghost use Rattle.mlt_held.specs.PageSteps.{Leaves, LocksPage, MakesLockedPage, WritesHeldPage};
+ghost use Rattle.mlt_held.specs.PageSteps.{HasNoPageLeft, Leaves, LocksPage, MakesLockedPage, WritesHeldPage};
 ghost use Rattle.mlt_held.specs.Views.{MakesPage, ReadsHeldPage, SeesPage, WritesPage, view_of};
 
 use crate::locked_store::LockedStore;
@@ -92,7 +92,7 @@ pub fn make_page(subtx: &mut Subtx, pages: &mut LockedStore, page: Page) -> Resu
     ensures leaves { Leaves (moment subtx.old pages.old) (moment subtx.new pages.new) }
     ensures err { OnErr result ((subtx.new ≡ subtx.old) × (pages.new ≡ pages.old)) }
     ensures no_room { (result ≡ Err Refusal.NoRoom)
-        ↔ (map.len pages.old.store.pages ≡ pages.old.store.max_pages) }
+        ↔ HasNoPageLeft pages.old.store }
     ensures refusal { IfErr result (λ refusal.
         (refusal ≡ Refusal.NoRoom) ⊎ (refusal ≡ Refusal.OutOfMemory)) }
 {
