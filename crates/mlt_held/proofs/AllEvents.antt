@@ -109,8 +109,8 @@ step_keeps all tx images locks store may opened step most = record {
     locks_there = after.locks_there;
     images_locked = images_locked;
     images_there = images_there;
-    holders = holders;
-    pages = pages;
+    holders_open = holders;
+    few_pages = pages;
     few_open = subst (λ n. n ≤ locks.max_open) (sym (len-insert_again all.images tx images opened)) (subst (λ n. map.len all.images ≤ n) (sym leaves.max_open) may.few_open);
   };
   views = λ u ne. same_view_of all (after_step all new) u (same_images all.images tx images u ne) (keeps u ne) (λ q reads. step_keeps_held_pages old new before step u q ne reads);
@@ -160,14 +160,14 @@ step_keeps all tx images locks store may opened step most = record {
     holders u holds =
         elim (cases_eq u tx) [
           | inl mine ↦ grind (arith, nat_tests, get_inserted all.images tx images u)
-          | inr differ ↦ is_open-insert all.images tx images u (may.holders u (sym (leaves.others u differ) ∙ holds))
+          | inr differ ↦ is_open-insert all.images tx images u (may.holders_open u (sym (leaves.others u differ) ∙ holds))
         ]
 
     pages : (u : ℕ) → page_count locks u ≤ 300
     pages u =
         elim (cases_eq u tx) [
           | inl mine ↦ subst (λ u. page_count locks u ≤ 300) (sym mine) most
-          | inr differ ↦ subst (λ n. n ≤ 300) (ap map.len (sym (keeps u differ))) (may.pages u)
+          | inr differ ↦ subst (λ n. n ≤ 300) (ap map.len (sym (keeps u differ))) (may.few_pages u)
         ]
 
 some_again : (o : Option Images) → is_some o ≡ true → Some (unwrap_or o map.empty) ≡ o
@@ -299,8 +299,8 @@ end_keeps all tx may opened = record {
     locks_there = locks_there-released all.locks all.store.pages tx may.locks_there;
     images_locked = images_locked-released all.images (map.insert all.images tx map.empty) all.locks tx may.images_locked (drops_cleared all.images tx);
     images_there = images_there-ended all.images (map.insert all.images tx map.empty) all.store.pages tx may.images_there (drops_cleared all.images tx);
-    holders = λ u holds. is_open-insert all.images tx map.empty u (may.holders u (holds_before all.locks tx u holds));
-    pages = λ u. pages_released all.locks tx u (may.pages u);
+    holders_open = λ u holds. is_open-insert all.images tx map.empty u (may.holders_open u (holds_before all.locks tx u holds));
+    few_pages = λ u. pages_released all.locks tx u (may.few_pages u);
     few_open = subst (λ n. n ≤ all.locks.max_open) (sym (len-insert_again all.images tx map.empty opened)) may.few_open;
   };
   views = λ u ne. same_view_of all (after_end all tx) u (same_images all.images tx map.empty u ne) (released_keeps_others all.locks tx u ne) (λ q reads. refl);
@@ -326,8 +326,8 @@ roll_back_keeps all tx may opened = record {
     locks_there = locks_there-rolled_back all.images all.locks all.store.pages tx may.compatible may.images_locked may.locks_there;
     images_locked = images_locked-released all.images (map.insert all.images tx map.empty) all.locks tx may.images_locked (drops_cleared all.images tx);
     images_there = images_there-rolled_back all.images (map.insert all.images tx map.empty) all.store.pages tx may.images_there (apart all may) (drops_cleared all.images tx);
-    holders = λ u holds. is_open-insert all.images tx map.empty u (may.holders u (holds_before all.locks tx u holds));
-    pages = λ u. pages_released all.locks tx u (may.pages u);
+    holders_open = λ u holds. is_open-insert all.images tx map.empty u (may.holders_open u (holds_before all.locks tx u holds));
+    few_pages = λ u. pages_released all.locks tx u (may.few_pages u);
     few_open = subst (λ n. n ≤ all.locks.max_open) (sym (len-insert_again all.images tx map.empty opened)) may.few_open;
   };
   views = λ u ne. same_view_of all (after_roll_back all tx) u (same_images all.images tx map.empty u ne) (released_keeps_others all.locks tx u ne) (λ q reads. put_back_elsewhere u q ne reads);
@@ -357,8 +357,8 @@ begin_keeps all tx may room = record {
     locks_there = may.locks_there;
     images_locked = λ u q some. may.images_locked u q (kept_before all.images (map.insert all.images tx map.empty) tx u q (drops_cleared all.images tx) some);
     images_there = λ u q some. may.images_there u q (kept_before all.images (map.insert all.images tx map.empty) tx u q (drops_cleared all.images tx) some);
-    holders = λ u holds. is_open-insert all.images tx map.empty u (may.holders u holds);
-    pages = may.pages;
+    holders_open = λ u holds. is_open-insert all.images tx map.empty u (may.holders_open u holds);
+    few_pages = may.few_pages;
     few_open = grind (arith, room, map.len-insert nat_cmp_total all.images tx map.empty);
   };
   views = λ u ne. same_view_of all (after_begin all tx) u (same_images all.images tx map.empty u ne) refl (λ q reads. refl);
@@ -369,7 +369,7 @@ begin_keeps all tx may room = record {
 pub idle_at_begin : (all : AllRunning) (tx : ℕ) → AllMayStep all → is_open all tx ≡ false → IsIdle (after_begin all tx) tx
 idle_at_begin all tx may closed = record {
   no_images = no_images_now all.images tx;
-  no_locks = not_true (is_holder all.locks tx) (λ holds. false≢true (sym closed ∙ may.holders tx holds));
+  no_locks = not_true (is_holder all.locks tx) (λ holds. false≢true (sym closed ∙ may.holders_open tx holds));
 }
 
 others_left : (images : RunningImages) (tx u : ℕ) → u ≢ tx → map.get (map.remove images tx) u ≡ map.get images u
@@ -388,8 +388,8 @@ close_keeps all tx may idle = record {
     locks_there = may.locks_there;
     images_locked = λ u q some. may.images_locked u q (kept_before all.images (map.remove all.images tx) tx u q (drops_removed all.images tx) some);
     images_there = λ u q some. may.images_there u q (kept_before all.images (map.remove all.images tx) tx u q (drops_removed all.images tx) some);
-    holders = λ u holds. ap is_some (others_left all.images tx u (λ same. false≢true (sym idle.no_locks ∙ ap (is_holder all.locks) (sym same) ∙ holds))) ∙ may.holders u holds;
-    pages = may.pages;
+    holders_open = λ u holds. ap is_some (others_left all.images tx u (λ same. false≢true (sym idle.no_locks ∙ ap (is_holder all.locks) (sym same) ∙ holds))) ∙ may.holders_open u holds;
+    few_pages = may.few_pages;
     few_open = grind (arith, may.few_open, map.len-remove nat_cmp_total all.images tx);
   };
   views = λ u ne. same_view_of all (after_close all tx) u (others_left all.images tx u ne) refl (λ q reads. refl);

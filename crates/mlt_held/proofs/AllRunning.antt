@@ -43,7 +43,7 @@ room_for_each : (all : AllRunning) (tx : ℕ) → AllMayStep all → is_open all
 room_for_each all tx may opened q mode few =
     let most : length (numbers_of (map.entries all.images)) ≤ all.locks.max_open =
     subst (λ n. n ≤ all.locks.max_open) (map.len-entries all.images ∙ sym (length-numbers_of (map.entries all.images))) may.few_open in
-    room_to_grant all.locks tx q mode (numbers_of (map.entries all.images)) (λ u holds. is_among all.images u (may.holders u holds)) (is_among all.images tx opened) most may.pages (inl few)
+    room_to_grant all.locks tx q mode (numbers_of (map.entries all.images)) (λ u holds. is_among all.images u (may.holders_open u holds)) (is_among all.images tx opened) most may.few_pages (inl few)
 
 -- **Each opened transaction may step.**
 pub each_may_step : (all : AllRunning) (tx : ℕ) → AllMayStep all → is_open all tx ≡ true → MayStep (moment_of all tx)
@@ -74,8 +74,8 @@ first_may_step max_open store =
       locks_there = there;
       images_locked = λ tx q some. absurd (false≢true (sym (ap is_some (image_of_nobody tx q)) ∙ some));
       images_there = λ tx q some. absurd (false≢true (sym (ap is_some (image_of_nobody tx q)) ∙ some));
-      holders = λ tx holds. absurd (false≢true (sym (ap is_some (map.get-empty {X = Modes} nat_cmp tx)) ∙ holds));
-      pages = λ tx. omega (arith, (few_none max_open).pages tx);
+      holders_open = λ tx holds. absurd (false≢true (sym (ap is_some (map.get-empty {X = Modes} nat_cmp tx)) ∙ holds));
+      few_pages = λ tx. omega (arith, (few_none max_open).pages tx);
       few_open = grind (arith, map.len-empty nat_cmp Images);
     }
 

@@ -47,8 +47,8 @@ pub record AllMayStep (all : AllRunning) : Type 0 where
   pub locks_there : LocksPagesThere all.locks all.store.pages
   pub images_locked : ImagesAreLocked all.images all.locks
   pub images_there : ImagesAreThere all.images all.store.pages
-  pub holders : (tx : ℕ) → is_holder all.locks tx ≡ true → is_open all tx ≡ true
-  pub pages : (tx : ℕ) → page_count all.locks tx ≤ 300
+  pub holders_open : (tx : ℕ) → is_holder all.locks tx ≡ true → is_open all tx ≡ true
+  pub few_pages : (tx : ℕ) → page_count all.locks tx ≤ 300
   pub few_open : map.len all.images ≤ all.locks.max_open
 
 -- the transaction is open, holds no page and keeps no image
