@@ -1,3 +1,5 @@
+pub mod AllEvents
+pub mod AllRunning
 pub mod Leaving
 pub mod Moments
 pub mod Others
