@@ -9,6 +9,7 @@ use Rattle.mlt_page.specs.declared.slot.Slot.TheVariants.{Free}
 use Rattle.mlt_page.specs.Values.{BucketFields, HeadFields}
 use Rattle.mlt_page.specs.declared.page.Page.{Page}
 use Rattle.mlt_page.specs.declared.page.Page.TheVariants as page
+use Rattle.mlt_store.specs.Stores.{Pages, page_at}
 use Rattle.mlt_hash_form.specs.Form.{half_of}
 use Rattle.mlt_hash_form.specs.File.{HasForm, Writes, depth_of, dirs_of}
 use Rattle.mlt_hash_form.specs.Changes.{MaySplit}
@@ -57,6 +58,11 @@ pub record Begins (aim : Aim) (base : ℕ → Option Page) (split : SplitFields)
   pub depth : bucket.depth ≡ split.depth
   pub directory_depth : depth_of base aim.root ≡ split.directory_depth
   pub deep : split.depth < aim.room_depth
+
+-- Of a bucket, by who is open: the split keeps one half, and the other stands on the page that was made.
+pub record HasHalves (aim : Aim) (pages : Pages) (bucket : BucketFields) (split : SplitFields) : Type 0 where
+  pub zeros : split.zeros ≡ half_of aim.bits aim.opens bucket 0
+  pub ones : page_at pages split.new_page ≡ Some (page.Bucket (half_of aim.bits aim.opens bucket 1))
 
 -- the walk's file is at rest, its bucket is less deep than is needed, and only who holds the header exclusively doubles
 -- the directory

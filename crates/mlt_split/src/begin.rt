@@ -8,8 +8,9 @@ ghost use Rattle.mlt_page.specs.declared.page.Page.{Page};
 ghost use Rattle.mlt_held.specs.Moments.{HasCleanFile, IsCleanFor, MayStep, moment};
 ghost use Rattle.mlt_held.specs.PageSteps.{MakesLockedPage};
 ghost use Rattle.mlt_held.specs.Views.{view_of};
-ghost use Rattle.mlt_split.specs.Rests.{IsAtRest};
-ghost use Rattle.mlt_split.specs.Splits.{IsUnderWay, MayBegin, directory_steps, steps_left};
+ghost use Rattle.mlt_page.specs.declared.page.Page.TheVariants as page;
+ghost use Rattle.mlt_split.specs.Rests.{IsAtRest, held_page};
+ghost use Rattle.mlt_split.specs.Splits.{HasHalves, IsUnderWay, MayBegin, directory_steps, steps_left};
 
 use crate::phase::SplitPhase;
 use crate::split::Split;
@@ -42,6 +43,9 @@ impl Split {
         requires file { HasCleanFile (P.bits_of root.now.pseudo) root.now.page (moment subtx.old locks.old store.old) }
         requires begins { MayBegin (record { bits = P.bits_of root.now.pseudo; opens = opens.now; root = root.now.page; key = key; owner = subtx.old.tx; room_depth = room_depth }) (view_of (moment subtx.old locks.old store.old)) old }
         ensures makes { IfOk result (λ split. (page : Page) × MakesLockedPage (moment subtx.old locks.old store.old) (moment subtx.new locks.new store.new) split.new_page page) }
+        ensures halves { IfOk result (λ split. (bucket : BucketFields)
+            → held_page (view_of (moment subtx.old locks.old store.old)) old ≡ Some (page.Bucket bucket)
+            → HasHalves (record { bits = P.bits_of root.now.pseudo; opens = opens.now; root = root.now.page; key = key; owner = subtx.old.tx; room_depth = room_depth }) store.new.pages bucket split) }
         ensures under_way { IfOk result (λ split. IsUnderWay (record { bits = P.bits_of root.now.pseudo; opens = opens.now; root = root.now.page; key = key; owner = subtx.old.tx; room_depth = room_depth }) (view_of (moment subtx.new locks.new store.new)) split) }
         ensures steps { IfOk result (λ split. steps_left split ≡ 1 + directory_steps split.depth split.directory_depth) }
         ensures depths { IfOk result (λ split. (header : HeadFields) (bucket : BucketFields) → IsAtRest (record { bits = P.bits_of root.now.pseudo; opens = opens.now; root = root.now.page; key = key; owner = subtx.old.tx; room_depth = room_depth }) (view_of (moment subtx.old locks.old store.old)) old header bucket → (split.depth ≡ bucket.depth) × (split.directory_depth ≡ header.depth)) }
