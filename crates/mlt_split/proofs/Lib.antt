@@ -2,6 +2,7 @@ pub mod Among
 pub mod Beginning
 pub mod Closing
 pub mod Doubling
+pub mod Few
 pub mod FirstLocks
 pub mod Header
 pub mod HeldPages
@@ -9,6 +10,7 @@ pub mod InPlace
 pub mod Later
 pub mod Laws
 pub mod Locks
+pub mod Narrow
 pub mod OldBucket
 pub mod OneBucket
 pub mod SecondHalf
