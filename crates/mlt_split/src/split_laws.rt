@@ -1,10 +1,9 @@
 //! What a walk knows of its splits, whatever other transactions do.
 
-ghost use Rattle.std.specs.Prelude.{ℕ, ◌≡◌, ◌<◌, ◌≤◌, ◌+◌, ◌/◌, ◌⊎◌, None, Option, Some, slice_index_or, true};
+ghost use Rattle.std.specs.Prelude.{ℕ, ◌≡◌, ◌<◌, ◌≤◌, ◌+◌, ◌⊎◌, None, Option, Some, slice_index_or, true};
 ghost use Rattle.std.specs.Ordering.{nat_cmp};
 ghost use Rattle.std.specs.FinSet as set;
 ghost use Rattle.mlt_types.specs.declared.mode.Mode.TheVariants.{Exclusive};
-ghost use Rattle.mlt_page.specs.Bits.{first_bits};
 ghost use Rattle.mlt_page.specs.Slots.{is_kept};
 ghost use Rattle.mlt_page.specs.Values.{BucketFields, HeadFields};
 ghost use Rattle.mlt_page.specs.declared.page.Page.{Page};
@@ -15,9 +14,9 @@ ghost use Rattle.mlt_hash_form.specs.File.{HasForm, bucket_of};
 ghost use Rattle.mlt_hash_form.specs.Held.{Agrees};
 ghost use Rattle.mlt_held.specs.Moments.{Moment};
 ghost use Rattle.mlt_held.specs.Views.{View, view_of};
-ghost use Rattle.mlt_split.specs.Rests.{Aim, IsAtRest, KeepsNoMore, seed_of};
+ghost use Rattle.mlt_split.specs.Rests.{Aim, IsAtRest, KeepsNoMore};
 ghost use Rattle.mlt_split.specs.Splits.{IsUnderWay, SplitFields};
-ghost use Rattle.mlt_split.specs.Steps.{IsDirectoryPage, IsMaking, IsNextPage, Touches};
+ghost use Rattle.mlt_split.specs.Steps.{IsKeysPage, IsMaking, IsNextPage, Touches};
 ghost use Rattle.mlt_split.specs.declared.split.SplitAnswer.{SplitAnswer};
 
 /// Transactions may close, and others begin, that left no ghost on a page that is held: the walk's file is at rest still.
@@ -52,5 +51,5 @@ pub fn narrow_splits_lock_the_keys_page()
         → Agrees view.seen clean → HasForm aim.bits clean aim.root → IsUnderWay aim view split
         → split.depth < split.directory_depth → split.directory_depth ≤ split.depth + 8
         → IsNextPage split.phase aim view n
-        → IsDirectoryPage aim view (first_bits split.directory_depth (seed_of aim) / 256) n }
+        → IsKeysPage aim view n }
 {}
