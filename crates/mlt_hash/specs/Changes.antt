@@ -107,6 +107,7 @@ pub record NeedsSplit (basis : Basis) (new : Moment) (before after : WalkFields)
   pub stands : IsStanding basis after (view_of new)
   pub first : before.pass ≡ pass.First → (next : Pass) × (after.phase ≡ at.Full next) × IsNext basis before fields next
   pub later : (before.pass ≡ pass.First → ⊥) → (d : ℕ) × (after.phase ≡ at.Adding value (page_of before.phase) d true) × HasRoomFrom (crowded_at basis before fields) fields.depth basis.max_depth d
+  pub narrow : before.pass ≡ pass.Narrow → IsNext basis before fields pass.Narrow
 
 -- A narrow pass has to be wide.
 pub record MustWiden (basis : Basis) (new : Moment) (before after : WalkFields) : Type 0 where

@@ -3,5 +3,6 @@ pub mod AllRunning
 pub mod Leaving
 pub mod Moments
 pub mod Others
+pub mod OwnSteps
 pub mod Results
 pub mod Views
