@@ -7,7 +7,7 @@ use Rattle.mlt_page.specs.Values.{BucketFields, HeadFields}
 use Rattle.mlt_page.specs.declared.page.Page.{Page}
 use Rattle.mlt_page.specs.declared.page.Page.TheVariants as page
 use Rattle.mlt_store.specs.Stores.{PageStore, page_at}
-use Rattle.mlt_page_locks.specs.Maps.{get_inserted}
+use Rattle.mlt_page_locks.proofs.Maps.{get_inserted}
 use Rattle.mlt_hash_form.specs.File.{HasForm, depth_of, header_of, look_up}
 use Rattle.mlt_hash_form.specs.Held.{over, own_or}
 use Rattle.mlt_hash_form.proofs.HeldPages.{changed_values}

@@ -12,7 +12,7 @@ use Rattle.mlt_page.specs.declared.page.Page.{Page}
 use Rattle.mlt_page.specs.declared.page.Page.TheVariants as page
 use Rattle.mlt_store.specs.Stores.{page_at}
 use Rattle.mlt_subtx.specs.Images.{put_back}
-use Rattle.mlt_subtx.specs.ImageLaws.{page_at-put_back, same_pages}
+use Rattle.mlt_subtx.proofs.ImageLaws.{page_at-put_back, same_pages}
 use Rattle.mlt_hash_form.specs.File.{bucket_of, buckets_of, depth_of, lead_of, look_up}
 use Rattle.mlt_hash_form.specs.Room.{is_crowded}
 use Rattle.mlt_hash_form.proofs.Crowd.{crowded_in_fewer, crowded_test}

@@ -9,13 +9,13 @@ use Rattle.mlt_types.specs.declared.mode.Mode.{Mode}
 use Rattle.mlt_types.specs.declared.mode.Mode.TheVariants.{Exclusive, Shared}
 use Rattle.mlt_page.specs.declared.page.Page.{Page}
 use Rattle.mlt_store.specs.Stores.{Pages, page_at}
-use Rattle.mlt_page_locks.specs.Maps.{get_inserted}
+use Rattle.mlt_page_locks.proofs.Maps.{get_inserted}
 use Rattle.mlt_page_locks.specs.LockTables.{LockTable, Modes, allows_write, can_read, can_write, page_count, pages_of}
 use Rattle.mlt_page_locks.specs.Requests.{granted, stronger, with_page}
-use Rattle.mlt_page_locks.specs.LockLaws.{can_read-granted, pages_of-granted, writer_reads}
+use Rattle.mlt_page_locks.proofs.LockLaws.{can_read-granted, pages_of-granted, writer_reads}
 use Rattle.mlt_subtx.specs.Images.{Images, image_of, or_image, with_image}
-use Rattle.mlt_subtx.specs.ImageLaws.{fresh_has_no_image, image_of-with_image}
-use Rattle.mlt_subtx.specs.CleanLaws.{not_true}
+use Rattle.mlt_subtx.proofs.ImageLaws.{fresh_has_no_image, image_of-with_image}
+use Rattle.mlt_subtx.proofs.CleanLaws.{not_true}
 use Rattle.mlt_hash_form.specs.File.{Writes}
 use Rattle.mlt_hash_form.specs.Held.{Agrees, over, own_or}
 use Rattle.mlt_hash_form.proofs.HeldPages.{writes_over}

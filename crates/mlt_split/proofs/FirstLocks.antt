@@ -7,11 +7,11 @@ use Rattle.std.proofs.lemmas.Bool.Decides.{nat_tests}
 use Rattle.mlt_types.specs.declared.mode.Mode.{Mode}
 use Rattle.mlt_types.specs.declared.mode.Mode.TheVariants.{Exclusive}
 use Rattle.mlt_store.specs.Stores.{PageStore, page_at}
-use Rattle.mlt_page_locks.specs.LockLaws.{can_read-granted, can_write-granted, few_granted, few_none, room_for_few}
+use Rattle.mlt_page_locks.proofs.LockLaws.{can_read-granted, can_write-granted, few_granted, few_none, room_for_few}
 use Rattle.mlt_page_locks.specs.LockTables.{HasAtMost, LockTable, Modes, can_read, can_write, no_locks}
 use Rattle.mlt_page_locks.specs.Requests.{granted}
 use Rattle.mlt_subtx.specs.Images.{Running, image_of, or_image, started}
-use Rattle.mlt_subtx.specs.RunningLaws.{locks_there-none}
+use Rattle.mlt_subtx.proofs.RunningLaws.{locks_there-none}
 use Rattle.mlt_held.specs.Moments.{HasCleanFile, MayStep, Moment, moment, page_before}
 use Rattle.mlt_held.specs.PageSteps.{LocksPage}
 use Rattle.mlt_held.proofs.Moments.{may_start}

@@ -19,7 +19,7 @@ use Rattle.std.specs.FinMap as map
 use Rattle.std.specs.Ordering.{nat_cmp}
 use Rattle.mlt_types.specs.Pseudokeys.{low_bits}
 use Rattle.mlt_page.specs.declared.slot.Slot.{Slot}
-use Rattle.mlt_page_locks.specs.Maps.{get_inserted}
+use Rattle.mlt_page_locks.proofs.Maps.{get_inserted}
 use Rattle.mlt_store.specs.Stores.{PageStore, Pages, page_at}
 
 module _ (bits : ℕ → ℕ) (pages : ℕ → Option Page) (root d n g : ℕ) (bucket : BucketFields) (header : pages root ≡ Some (page.Head (record { depth = g; dirs = replicate 256 d }))) (small : g ≤ 8) (dir : pages d ≡ Some (page.Dir (replicate 256 n))) where

@@ -1,4 +1,4 @@
--- Laws of lock tables: what a lock that is granted, and locks that are released, change.
+-- Laws of lock tables: what a lock that is granted, and locks that are released, change. Other crates cite them.
 use Rattle.std.proofs.Common.{subst, ◌≡◌, ℕ, ◌≤◌, ◌<◌, ◌+◌, eqb, true, false, not, cond, ◌&&◌, ◌||◌, ◌⊎◌, Option, Some, None, is_some, List, [], ◌∷◌, length, refl, sym, ap, ◌∙◌, inl, inr, arith}
 use Rattle.std.specs.List.{list_any}
 use Rattle.std.specs.Ordering.{nat_cmp}
@@ -8,7 +8,7 @@ use Rattle.std.proofs.lemmas.Bool.{false≢true}
 use Rattle.std.proofs.lemmas.Bool.Decides.{nat_tests}
 use Rattle.mlt_types.specs.declared.mode.Mode.{Mode}
 use Rattle.mlt_types.specs.declared.mode.Mode.TheVariants.{Shared, Exclusive}
-use Rattle.mlt_page_locks.specs.Maps.{get_inserted, get_removed, same_entries}
+use Rattle.mlt_page_locks.proofs.Maps.{get_inserted, get_removed, same_entries}
 use Rattle.mlt_page_locks.specs.LockTables.{no_locks, Modes, LockTable, pages_of, mode_held, page_count, can_read, can_write, allows_write, is_exclusive, AreCompatible, KeepsOthers, HasRoom, HasAtMost, is_holder, HoldersAreAmong}
 use Rattle.mlt_page_locks.specs.declared.page_locks.Grant.{Grant}
 use Rattle.mlt_page_locks.specs.declared.page_locks.Grant.TheVariants.{Held, Waiting}

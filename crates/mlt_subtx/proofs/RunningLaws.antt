@@ -1,5 +1,5 @@
 -- What stays true of all running subtransactions: their images are locked, pages with images are there, and so are
--- pages that are locked.
+-- pages that are locked. Other crates cite these laws.
 use Rattle.std.proofs.Common.{◌≡◌, ◌≢◌, ℕ, true, Option, None, Some, is_some, unwrap_or, sym, ap, subst, ◌∙◌, inl, inr, arith}
 use Rattle.std.specs.Ordering.{nat_cmp}
 use Rattle.std.specs.FinMap as map
@@ -8,15 +8,15 @@ use Rattle.std.proofs.lemmas.Bool.Decides.{nat_tests}
 use Rattle.mlt_types.specs.declared.mode.Mode.{Mode}
 use Rattle.mlt_page.specs.declared.page.Page.{Page}
 use Rattle.mlt_store.specs.Stores.{Pages, page_at}
-use Rattle.mlt_page_locks.specs.Maps.{get_inserted}
+use Rattle.mlt_page_locks.proofs.Maps.{get_inserted}
 use Rattle.mlt_page_locks.specs.LockTables.{LockTable, Modes, no_locks, can_read, can_write, AreCompatible}
 use Rattle.mlt_page_locks.specs.Requests.{granted, released}
-use Rattle.mlt_page_locks.specs.LockLaws.{can_read-granted, can_write-granted, can_read-released, can_write-released}
+use Rattle.mlt_page_locks.proofs.LockLaws.{can_read-granted, can_write-granted, can_read-released, can_write-released}
 use Rattle.mlt_subtx.specs.Images.{Images, or_image, put_back, with_image, AreThere}
-use Rattle.mlt_subtx.specs.ImageLaws.{not_there, page_at-put_back, image_of-with_image}
+use Rattle.mlt_subtx.proofs.ImageLaws.{not_there, page_at-put_back, image_of-with_image}
 use Rattle.mlt_subtx.specs.Locking.{LocksPagesThere}
 use Rattle.mlt_subtx.specs.CleanPages.{RunningImages, image_at, ImagesAreLocked, ImagesAreApart, ImagesAreThere, DropsImages}
-use Rattle.mlt_subtx.specs.CleanLaws.{not_true, image_at-insert}
+use Rattle.mlt_subtx.proofs.CleanLaws.{not_true, image_at-insert}
 
 -- images stay locked where a lock is granted
 pub images_locked-granted : (running : RunningImages) (locks : LockTable) (tx q : ℕ) (mode : Mode) → ImagesAreLocked running locks → ImagesAreLocked running (granted locks tx q mode)

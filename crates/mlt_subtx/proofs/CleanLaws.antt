@@ -1,4 +1,4 @@
--- Laws of clean pages: who may write a page, and what writes, ends and roll backs change.
+-- Laws of clean pages: who may write a page, and what writes, ends and roll backs change. Other crates cite them.
 use Rattle.std.proofs.Common.{◌≡◌, ◌≢◌, ℕ, eqb, Bool, true, false, cond, ◌&&◌, ◌⊎◌, T, Option, None, Some, is_some, unwrap_or, List, [], ◌∷◌, refl, sym, ap, subst, ◌∙◌, inl, inr, arith}
 use Rattle.std.specs.Ordering.{nat_cmp, is_lt}
 use Rattle.std.specs.Cmp.{unsigned_tied}
@@ -8,12 +8,12 @@ use Rattle.std.proofs.lemmas.Bool.{false≢true, cases_eq}
 use Rattle.std.proofs.lemmas.Bool.Decides.{nat_tests}
 use Rattle.mlt_page.specs.declared.page.Page.{Page}
 use Rattle.mlt_store.specs.Stores.{Pages, page_at}
-use Rattle.mlt_page_locks.specs.Maps.{get_inserted, get_removed}
+use Rattle.mlt_page_locks.proofs.Maps.{get_inserted, get_removed}
 use Rattle.mlt_page_locks.specs.LockTables.{LockTable, can_read, can_write, AreCompatible}
-use Rattle.mlt_page_locks.specs.LockLaws.{writer_reads}
+use Rattle.mlt_page_locks.proofs.LockLaws.{writer_reads}
 use Rattle.mlt_subtx.specs.Images.{Images, image_of, or_image, put_back, with_image}
-use Rattle.mlt_subtx.specs.ImageLaws.{not_there, page_at-put_back, image_of-with_image, same_pages}
-use Rattle.mlt_subtx.specs.CleanPages.{RunningImages, image_at, all_put_back, clean_pages, ImagesAreLocked, ImagesAreApart, DropsImages}
+use Rattle.mlt_subtx.proofs.ImageLaws.{not_there, page_at-put_back, image_of-with_image, same_pages}
+use Rattle.mlt_subtx.specs.CleanPages.{RunningImages, image_at, all_put_back, clean_pages, ImagesAreLocked, ImagesAreApart, ImagesAreThere, DropsImages}
 
 -- images of different subtransactions are of different pages
 pub images_are_apart : (running : RunningImages) (locks : LockTable) → AreCompatible locks → ImagesAreLocked running locks → ImagesAreApart running
@@ -204,6 +204,14 @@ same_clean_page running running' pages pages' q apart same is =
 pub same_clean_pages : (running running' : RunningImages) (pages : Pages) → ImagesAreApart running → ((u q : ℕ) → image_at running' u q ≡ image_at running u q) → clean_pages running' pages ≡ clean_pages running pages
 same_clean_pages running running' pages apart same = same_pages _ _ (λ q. same_clean_page running running' pages pages q apart (λ u. same u q) refl)
 
+-- a clean page is there, perhaps overwritten
+pub clean_page_there : (running : RunningImages) (pages : Pages) (q : ℕ) → ImagesAreThere running pages → is_some (page_at (clean_pages running pages) q) ≡ true → is_some (page_at pages q) ≡ true
+clean_page_there running pages q there some =
+    elim (owner_or_none (map.entries running) q (map.entries_sorted running)) [
+      | inl none ↦ sym (ap is_some (page_at-clean running pages q ∙ ap (λ o. or_image o (page_at pages q)) none)) ∙ some
+      | inr owner ↦ there owner.who q (ap is_some (by running owner.who q) ∙ owner.has)
+    ]
+
 -- the images once those of tx are these
 pub image_at-insert : (running : RunningImages) (tx : ℕ) (images : Images) (u q : ℕ) → image_at (map.insert running tx images) u q ≡ cond (eqb u tx) (image_of images q) (image_at running u q)
 image_at-insert running tx images u q = grind (arith, get_inserted running tx images u)
@@ -251,7 +259,7 @@ nobody_left running running' tx q apart drops mine u =
     ]
 
 -- and the images of a page that tx has not written stay
-others_stay : (running running' : RunningImages) (tx q : ℕ) → DropsImages tx running running' → image_at running tx q ≡ None → (u : ℕ) → image_at running' u q ≡ image_at running u q
+pub others_stay : (running running' : RunningImages) (tx q : ℕ) → DropsImages tx running running' → image_at running tx q ≡ None → (u : ℕ) → image_at running' u q ≡ image_at running u q
 others_stay running running' tx q drops none u =
     elim (cases_eq u tx) [
       | inl same ↦ grind (arith, nat_tests, drops u q, ap (λ u. image_at running u q) same)

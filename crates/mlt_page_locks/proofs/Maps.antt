@@ -1,4 +1,4 @@
--- Finite maps whose keys are numbers, with the test of numbers in what `get` answers.
+-- Finite maps whose keys are numbers, with the test of numbers in what `get` answers. Other crates cite these lemmas.
 use Rattle.std.proofs.Common.{◌≡◌, ℕ, eqb, cond, Some, None, ◌∙◌, ap}
 use Rattle.std.specs.Ordering.{nat_cmp}
 use Rattle.std.specs.Cmp.{nat_cmp_total, unsigned_tied}

@@ -1,4 +1,4 @@
--- Laws of first images: what the pages have once they are put back.
+-- Laws of first images: what the pages have once they are put back. Other crates cite them.
 use Rattle.std.proofs.Common.{◌≡◌, ℕ, eqb, Bool, true, false, cond, Option, None, Some, is_some, List, [], ◌∷◌, refl, sym, ap, subst, ◌∙◌, arith}
 use Rattle.std.specs.Ordering.{nat_cmp}
 use Rattle.std.specs.Cmp.{unsigned_tied}
@@ -8,7 +8,7 @@ use Rattle.std.proofs.lemmas.Bool.{eqb-true, false≢true}
 use Rattle.std.proofs.lemmas.Bool.Decides.{nat_tests}
 use Rattle.mlt_page.specs.declared.page.Page.{Page}
 use Rattle.mlt_store.specs.Stores.{Pages, page_at}
-use Rattle.mlt_page_locks.specs.Maps.{get_inserted, get_removed, same_entries}
+use Rattle.mlt_page_locks.proofs.Maps.{get_inserted, get_removed, same_entries}
 use Rattle.mlt_subtx.specs.Images.{Images, image_of, or_image, with_first, with_firsts, with_new, with_image, put_back, AreThere}
 
 pub page_at-with_first : (pages : Pages) (k : ℕ) (first : Option Page) (q : ℕ) → page_at (with_first pages k first) q ≡ cond (eqb q k) first (page_at pages q)
