@@ -1,6 +1,7 @@
+pub mod Leaving
 pub mod Moments
-pub mod Views
 pub mod Others
 pub mod Results
 pub mod AllRunning
 pub mod AllEvents
+pub mod Views

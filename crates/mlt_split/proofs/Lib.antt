@@ -2,7 +2,6 @@ pub mod Among
 pub mod Beginning
 pub mod Closing
 pub mod Doubling
-pub mod FirstLocks
 pub mod Header
 pub mod HeldPages
 pub mod InPlace
@@ -10,6 +9,5 @@ pub mod Later
 pub mod Laws
 pub mod Locks
 pub mod OldBucket
-pub mod OneBucket
 pub mod SecondHalf
 pub mod Steps
