@@ -20,8 +20,8 @@ abbrev pub slots_written : List Slot → WriteFields → List Slot
 slots_written slots write = slice_set slots write.at write.slot
 
 -- the page of the bucket once it is written
-abbrev pub page_written : BucketFields → WriteFields → Page
-page_written bucket write = page_with_slot bucket write.at write.slot
+abbrev pub planned_page : BucketFields → WriteFields → Page
+planned_page bucket write = page_with_slot bucket write.at write.slot
 
 -- a record may be put there: nothing stands there, or a ghost whose owner is not open
 abbrev pub has_room : set.FinSet nat_cmp → Slot → Bool
