@@ -18,7 +18,8 @@ abbrev pub is_crowded : (ℕ → ℕ) → set.FinSet nat_cmp → ℕ → ℕ →
 is_crowded bits opens d x slots = list_all (agrees bits opens d x) slots
 
 -- eight slots of the file agree with x in d bits: the i-th is slot `at i` of page `page i`
-pub record IsCrowded (bits : ℕ → ℕ) (opens : set.FinSet nat_cmp) (buckets : ℕ → BucketFields) (d x : ℕ) : Type 0 where
+pub record IsCrowded (bits : ℕ → ℕ) (opens : set.FinSet nat_cmp) (buckets : ℕ → BucketFields)
+    (d x : ℕ) : Type 0 where
   pub page : ℕ → ℕ
   pub at : ℕ → ℕ
   pub differ : (i j : ℕ) → i < 8 → j < 8 → page i ≡ page j → at i ≡ at j → i ≡ j

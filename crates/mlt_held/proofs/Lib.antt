@@ -1,7 +1,8 @@
+pub mod AllEvents
+pub mod AllRunning
 pub mod Leaving
 pub mod Moments
 pub mod Others
+pub mod OwnSteps
 pub mod Results
-pub mod AllRunning
-pub mod AllEvents
 pub mod Views

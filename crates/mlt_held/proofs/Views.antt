@@ -206,7 +206,7 @@ mode_of_others modes q mode p ne = grind (arith, nat_tests, get_inserted modes q
 has_image : (images : Images) (q : ℕ) (first page : Option Page) → page_written (image_of (with_image images q first) q) page ≡ page
 has_image images q first page = grind (arith, nat_tests, image_of-with_image images q first q)
 
-page_inserted : (pages : Pages) (q : ℕ) (page : Page) → page_at (map.insert pages q page) q ≡ Some page
+pub page_inserted : (pages : Pages) (q : ℕ) (page : Page) → page_at (map.insert pages q page) q ≡ Some page
 page_inserted pages q page = grind (arith, nat_tests, get_inserted pages q page q)
 
 other_image : (images : Images) (q : ℕ) (first : Option Page) (p : ℕ) → p ≢ q → image_of (with_image images q first) p ≡ image_of images p

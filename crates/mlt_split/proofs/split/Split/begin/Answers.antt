@@ -5,7 +5,7 @@ use Rattle.mlt_page.specs.declared.page.Page.TheVariants as page
 use Rattle.mlt_held.specs.Moments.{moment}
 use Rattle.mlt_held.specs.Views.{view_of}
 use Rattle.mlt_split.specs.Rests.{Aim, aim_by, held_page}
-use Rattle.mlt_split.proofs.Beginning.{begun, deeper_fits, few_at_rest}
+use Rattle.mlt_split.proofs.Beginning.{begun, deeper_fits, few_at_rest, halves_made}
 use Rattle.mlt_split.proofs.HeldPages.{clean_now, reads_as}
 use Rattle.mlt_split.proofs.split.Split.begin.Goals as goal
 
@@ -36,3 +36,14 @@ returns-clause-under_way g c =
     (c.part-zeros.ensures.zeros ∙ ap (λ (b : BucketFields). record { depth = bucket.depth + 1; slots = map (half aim.bits aim.opens bucket.depth 0) b.slots }) (sym c.bucket.view_is))
     (c.part-zeros.ensures.ones ∙ ap (λ (b : BucketFields). record { depth = bucket.depth + 1; slots = map (half aim.bits aim.opens bucket.depth 1) b.slots }) (sym c.bucket.view_is))
     c.in_ok-new.ensures.view
+
+pub returns-clause-halves : goal.returns-clause-halves
+returns-clause-halves g c = λ seen at.
+    let aim : Aim = aim_by g.P.Pseudo.bits_of c.args.root.now c.args.opens.now c.args.key c.args.subtx.now.tx g.room_depth in
+    let bucket : BucketFields = record { depth = c.bucket.inside.depth; slots = c.bucket.inside.slots } in
+    let m = moment c.args.subtx.now c.args.pages.now in
+    let found : held_page (view_of m) c.args.old ≡ Some (page.Bucket bucket) = reads_as (view_of m) c.args.old (Some c.read_held-2.result.now) c.read_held-2.ensures.reads ∙ ap Some (c.in-Bucket.is ∙ ap page.Bucket (sym c.bucket.view_is)) in
+    halves_made aim m _ c.args.old bucket seen c.part-zeros.result.1 _ found at
+    (c.part-zeros.ensures.zeros ∙ ap (λ (b : BucketFields). record { depth = bucket.depth + 1; slots = map (half aim.bits aim.opens bucket.depth 0) b.slots }) (sym c.bucket.view_is))
+    (c.part-zeros.ensures.ones ∙ ap (λ (b : BucketFields). record { depth = bucket.depth + 1; slots = map (half aim.bits aim.opens bucket.depth 1) b.slots }) (sym c.bucket.view_is))
+    c.in_ok-new.ensures.makes
