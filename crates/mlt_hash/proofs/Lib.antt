@@ -13,6 +13,7 @@ pub mod InPlace
 pub mod Laws
 pub mod OpenedFiles
 pub mod Owners
+pub mod Passed
 pub mod Paths
 pub mod Puts
 pub mod Readings

@@ -8,7 +8,7 @@ ghost use Rattle.mlt_hash_form.specs.Form.{value_in};
 ghost use Rattle.mlt_held.specs.Moments.{HasCleanFile, IsCleanFor, MayStep, moment};
 ghost use Rattle.mlt_held.specs.PageSteps.{LocksAtMost};
 ghost use Rattle.mlt_held.specs.Views.{view_of};
-ghost use Rattle.mlt_hash.specs.Walks.{Basis, IsStanding};
+ghost use Rattle.mlt_hash.specs.Walks.{Basis, HasShallowFile, IsStanding};
 ghost use Rattle.mlt_hash.specs.Steps.{TellsOfPath, next_page};
 
 use crate::answer::WalkAnswer;
@@ -34,7 +34,7 @@ pub(crate) fn read_header<P: Pseudo>(
     requires basis { (P.bits_of root.now.pseudo ≡ basis.bits) × (root.now.page ≡ basis.root) × (subtx.now.tx ≡ basis.tx) }
     requires phase { walk.old.phase ≡ Phase.Start }
     requires may { MayStep (moment subtx.now locks.old store.now) }
-    requires file { HasCleanFile basis.bits basis.root (moment subtx.now locks.old store.now) }
+    requires file { HasShallowFile basis.bits basis.root basis.max_depth (moment subtx.now locks.old store.now) }
     requires stands { IsStanding basis walk.old (view_of (moment subtx.now locks.old store.now)) }
     ensures locks { LocksAtMost (moment subtx.now locks.old store.now) (moment subtx.now locks.new store.now) (next_page basis.root walk.old.phase) }
     ensures may { MayStep (moment subtx.now locks.new store.now) }

@@ -3,11 +3,11 @@
 ghost use Rattle.std.specs.Prelude.{◌≡◌, ◌≤◌, ◌↔◌, ℕ, Option, None};
 ghost use Rattle.std.specs.FinMap as map;
 ghost use Rattle.mlt_page.specs.declared.page.Page.{Page};
-ghost use Rattle.mlt_held.specs.Moments.{HasCleanFile, IsCleanFor, MayStep, moment};
+ghost use Rattle.mlt_held.specs.Moments.{IsCleanFor, MayStep, moment};
 ghost use Rattle.mlt_held.specs.PageSteps.{TouchesOnePage};
 ghost use Rattle.mlt_held.specs.Views.{view_of};
 ghost use Rattle.mlt_hash.specs.Passes.{next_of};
-ghost use Rattle.mlt_hash.specs.Walks.{IsStanding};
+ghost use Rattle.mlt_hash.specs.Walks.{HasShallowFile, IsStanding};
 ghost use Rattle.mlt_hash.specs.Splitting.{HasToMake, IsUnderWay, TellsAt};
 
 use crate::adding::{add_or_split, go_on_splitting};
@@ -87,7 +87,7 @@ impl Walk {
         requires under_way { IsUnderWay self.old.phase }
         requires max_depth { root.now.max_depth ≤ 16 }
         requires may { MayStep (moment subtx.old locks.old store.old) }
-        requires file { HasCleanFile (P.bits_of root.now.pseudo) root.now.page (moment subtx.old locks.old store.old) }
+        requires file { HasShallowFile (P.bits_of root.now.pseudo) root.now.page root.now.max_depth (moment subtx.old locks.old store.old) }
         requires stands { IsStanding (record { bits = P.bits_of root.now.pseudo; opens = opens.now; root = root.now.page; max_depth = root.now.max_depth; tx = subtx.old.tx }) self.old (view_of (moment subtx.old locks.old store.old)) }
         ensures touches { TouchesOnePage (moment subtx.old locks.old store.old) (moment subtx.new locks.new store.new) }
         ensures may { MayStep (moment subtx.new locks.new store.new) }
