@@ -12,7 +12,7 @@ use Rattle.mlt_page.specs.declared.page.Page.{Page}
 use Rattle.mlt_page.specs.declared.page.Page.TheVariants as page
 use Rattle.mlt_store.specs.Stores.{page_at}
 use Rattle.mlt_page_locks.specs.LockTables.{can_read}
-use Rattle.mlt_page_locks.specs.LockLaws.{writer_reads}
+use Rattle.mlt_page_locks.proofs.LockLaws.{writer_reads}
 use Rattle.mlt_subtx.specs.Images.{image_of, or_image}
 use Rattle.mlt_hash_form.specs.File.{bucket_of, depth_of, header_of}
 use Rattle.mlt_hash_form.specs.Held.{own_or}
@@ -33,7 +33,7 @@ use Rattle.mlt_hash.specs.Changes.{Makes}
 use Rattle.mlt_hash.specs.SplitPages.{left_from, left_from_split, pages_in_the_end, pages_left_at, pages_to_make}
 use Rattle.mlt_hash.specs.Splitting.{BeginsSplit, HasToSplit, OfSplit, SplitCloses, SplitGoesOn, TellsAt, TellsOfAdding, TellsOfSplitting}
 use Rattle.mlt_hash.specs.Splitting.{IsUnderWay as HasNextStep}
-use Rattle.mlt_hash.specs.Walks.{Basis, HasShallowFile, IsAdding, IsSplitting, IsStanding, Stands, WalkFields, aim_of}
+use Rattle.mlt_hash.specs.Walks.{Basis, IsAdding, IsSplitting, IsStanding, Stands, WalkFields, aim_of}
 use Rattle.mlt_hash.specs.declared.answer.WalkAnswer.{WalkAnswer}
 use Rattle.mlt_hash.specs.declared.answer.WalkAnswer.TheVariants as answer
 use Rattle.mlt_hash.specs.declared.pass.Change.TheVariants as change
@@ -58,11 +58,6 @@ held_is_stored m q read may reads = reads_held (can_read m.locks m.running.tx q)
 -- there is a clean file
 pub clean_file : (bits : ℕ → ℕ) (root max_depth : ℕ) (m : Moment) → MayStep m → IsHashFile bits (pages_before m) root max_depth → HasCleanFile bits root m
 clean_file bits root max_depth m may file = record { clean = pages_before m; is_clean = before_is_clean m may; form = file.form }
-
--- whose directory is no deeper than it may be
-pub shallow_file : (bits : ℕ → ℕ) (root max_depth : ℕ) (m : Moment) → MayStep m → IsHashFile bits (pages_before m) root max_depth → HasShallowFile bits root max_depth m
-unfolding clean_file
-shallow_file bits root max_depth m may file = record { file = clean_file bits root max_depth m may file; shallow = file.shallow }
 
 if_few : (b : Bool) (x y n : ℕ) → x ≤ n → y ≤ n → (if b then x else y) ≤ n
 if_few true x y n few other = few

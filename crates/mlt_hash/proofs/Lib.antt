@@ -11,6 +11,7 @@ pub mod AloneWalks
 pub mod HashFiles
 pub mod InPlace
 pub mod Laws
+pub mod OnWay
 pub mod OpenedFiles
 pub mod Owners
 pub mod Passed
@@ -22,3 +23,4 @@ pub mod Slots
 pub mod SplitPages
 pub mod Splittings
 pub mod Standing
+pub mod Standings

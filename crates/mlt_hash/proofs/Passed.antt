@@ -1,5 +1,5 @@
 -- What a walk has read on its way to its bucket, and the modes of its pages, up to its end
-use Rattle.std.proofs.Common.{◌≡◌, ◌≢◌, ℕ, ◌<◌, ◌≤◌, ◌⊎◌, true, List, Option, None, Some, is_some, refl, sym, ap, subst, ◌∙◌, inl, inr, arith}
+use Rattle.std.proofs.Common.{◌≡◌, ◌≢◌, ℕ, ◌<◌, ◌≤◌, ◌⊎◌, true, List, Option, None, Some, is_some, unwrap_or, refl, sym, ap, subst, ◌∙◌, inl, inr, arith}
 use Rattle.std.specs.Ordering.{nat_cmp}
 use Rattle.std.specs.FinMap as map
 use Rattle.std.specs.FinSet as set
@@ -9,7 +9,7 @@ use Rattle.mlt_types.specs.declared.mode.Mode.TheVariants.{Exclusive}
 use Rattle.mlt_page.specs.declared.page.Page.{Page}
 use Rattle.mlt_page.specs.declared.page.Page.TheVariants as page
 use Rattle.mlt_page.specs.Values.{BucketFields, HeadFields}
-use Rattle.mlt_page_locks.specs.LockTables.{Modes}
+use Rattle.mlt_page_locks.specs.LockTables.{Modes, mode_held}
 use Rattle.mlt_page_locks.specs.Requests.{stronger, with_page}
 use Rattle.mlt_hash_form.specs.File.{HasForm}
 use Rattle.mlt_hash_form.specs.Held.{Agrees, own_or}
@@ -27,7 +27,7 @@ use Rattle.mlt_split.proofs.HeldPages.{exclusive_after_make, grows_by_make}
 use Rattle.mlt_split.proofs.Locks.{locks_its_page_alone}
 use Rattle.mlt_split.proofs.Narrow.{narrow_leaves_header, narrow_makes_none, narrow_next_page}
 use Rattle.mlt_hash.specs.Passes.{bucket_held, bucket_mode, directory_held, directory_mode, header_held, header_mode}
-use Rattle.mlt_hash.specs.Walks.{Basis, HasPassed, HoldsByPass, IsAtBucket, StaysNarrow, WalkFields, aim_of, dir_of}
+use Rattle.mlt_hash.specs.Walks.{Basis, HasPassed, HoldsByPass, IsAtBucket, IsSplitting, StaysNarrow, WalkFields, aim_of, dir_of}
 use Rattle.mlt_hash.specs.declared.pass.Pass.{Pass}
 use Rattle.mlt_hash.specs.declared.pass.Pass.TheVariants as pass
 use Rattle.mlt_hash.specs.declared.pass.Phase.{Phase}
@@ -183,38 +183,46 @@ steps_by_making walk old new q p makes = record {
 same_head : (a b : HeadFields) → Some (page.Head a) ≡ Some (page.Head b) → a ≡ b
 same_head a b same = cc
 
+-- where the splits of a narrow pass stand
+module _ (basis : Basis) (walk : WalkFields) (view : View) (room_depth : ℕ) (split : SplitFields) (clean : ℕ → Option Page) (agree : Agrees view.seen clean) (form : HasForm basis.bits clean basis.root)
+    (way : IsUnderWay (aim_of basis walk room_depth) view split) (found : Option ℕ) (passed : HasPassed basis walk view found) (narrow : StaysNarrow basis.root view room_depth split.depth split.directory_depth) where
+  -- they are in place,
+  pub in_place : split.depth < split.directory_depth
+  in_place = let deep = (way.begins clean agree form).deep in let enough = narrow.enough in omega (arith, deep, enough)
+
+  -- and their next page is the key's own, which the pass holds
+  pub next_is_dir : (n : ℕ) → IsNextPage split.phase (aim_of basis walk room_depth) view n → n ≡ dir_of basis passed.header walk.key
+  next_is_dir n next =
+      let own : IsKeysPage (aim_of basis walk room_depth) view n = narrow_next_page (aim_of basis walk room_depth) view split n clean agree form way in_place narrow.one_page next in
+      let reads : Some (page.Head passed.header) ≡ Some (page.Head own.0) = sym (ap (λ o. own_or o (Some (page.Head passed.header))) narrow.unwritten) ∙ ap (λ (o : Option (Option Page)). own_or (view.own basis.root) (unwrap_or o None)) (sym passed.head) ∙ own.1 in
+      own.2 ∙ ap (λ (h : HeadFields). dir_of basis h walk.key) (sym (same_head passed.header own.0 reads))
+
+  pub narrow_holds : walk.pass ≡ pass.Narrow → (n : ℕ) → IsNextPage split.phase (aim_of basis walk room_depth) view n → map.get view.modes n ≡ Some Exclusive
+  narrow_holds is n next = ap (map.get view.modes) (next_is_dir n next) ∙ passed.holds.on_dir ∙ ap (λ p. Some (directory_mode p)) is
+
+-- **The page that a narrow pass is to lock next it holds exclusively.**
+pub narrow_holds_next : (basis : Basis) (walk : WalkFields) (view : View) (room_depth n : ℕ) (clean : ℕ → Option Page) → (splits : IsSplitting basis walk view room_depth) → walk.pass ≡ pass.Narrow → Agrees view.seen clean → HasForm basis.bits clean basis.root
+    → IsNextPage splits.split.phase (aim_of basis walk room_depth) view n → map.get view.modes n ≡ Some Exclusive
+narrow_holds_next basis walk view room_depth n clean splits is agree form next = narrow_holds basis walk view room_depth splits.split clean agree form splits.under_way None splits.passed (splits.narrow is) is n next
+
 -- what is needed of a step of the splits of a pass
 module _ (basis : Basis) (walk : WalkFields) (old new : Moment) (room_depth : ℕ) (split : SplitFields) (may : MayStep old) (clean : ℕ → Option Page) (agree : Agrees (view_of old).seen clean) (form : HasForm basis.bits clean basis.root)
     (way : IsUnderWay (aim_of basis walk room_depth) (view_of old) split) (found : Option ℕ) (passed : HasPassed basis walk (view_of old) found) where
   abbrev aim : Aim
   aim = aim_of basis walk room_depth
 
-  -- a narrow pass is in place,
-  pub in_place : StaysNarrow basis.root (view_of old) room_depth split.depth split.directory_depth → split.depth < split.directory_depth
-  in_place narrow = let deep = (way.begins clean agree form).deep in let enough = narrow.enough in omega (arith, deep, enough)
-
-  -- and its next page is the key's own, which it holds
-  next_is_dir : StaysNarrow basis.root (view_of old) room_depth split.depth split.directory_depth → (n : ℕ) → IsNextPage split.phase aim (view_of old) n → n ≡ dir_of basis passed.header walk.key
-  next_is_dir narrow n next =
-      let own : IsKeysPage aim (view_of old) n = narrow_next_page aim (view_of old) split n clean agree form way (in_place narrow) narrow.one_page next in
-      let reads : Some (page.Head passed.header) ≡ Some (page.Head own.0) = sym (ap (λ o. own_or o (Some (page.Head passed.header))) narrow.unwritten) ∙ ap (λ (o : Option (Option Page)). own_or ((view_of old).own basis.root) (Rattle.std.specs.Prelude.unwrap_or o None)) (sym passed.head) ∙ own.1 in
-      own.2 ∙ ap (λ (h : HeadFields). dir_of basis h walk.key) (sym (same_head passed.header own.0 reads))
-
-  pub narrow_holds : walk.pass ≡ pass.Narrow → StaysNarrow basis.root (view_of old) room_depth split.depth split.directory_depth → (n : ℕ) → IsNextPage split.phase aim (view_of old) n → map.get (view_of old).modes n ≡ Some Exclusive
-  narrow_holds is narrow n next = ap (map.get (view_of old).modes) (next_is_dir narrow n next) ∙ passed.holds.on_dir ∙ ap (λ p. Some (directory_mode p)) is
-
-  -- so it leaves the header as it was
+  -- a narrow pass leaves the header as it was
   pub narrow_keeps_header : StaysNarrow basis.root (view_of old) room_depth split.depth split.directory_depth → IsDone split.phase aim old new split → (view_of new).own basis.root ≡ None
   narrow_keeps_header narrow done =
-      narrow_leaves_header aim old new split may (in_place narrow) clean agree form way
-      (λ n next same. head_is_no_dir (view_of old) basis.root (dir_of basis passed.header walk.key) passed.header passed.dir passed.head passed.listed (same ∙ next_is_dir narrow n next)) done
+      narrow_leaves_header aim old new split may (in_place basis walk (view_of old) room_depth split clean agree form way found passed narrow) clean agree form way
+      (λ n next same. head_is_no_dir (view_of old) basis.root (dir_of basis passed.header walk.key) passed.header passed.dir passed.head passed.listed (same ∙ next_is_dir basis walk (view_of old) room_depth split clean agree form way found passed narrow n next)) done
       ∙ narrow.unwritten
 
   module _ (later : walk.pass ≡ pass.First → ⊥) (narrow : walk.pass ≡ pass.Narrow → StaysNarrow basis.root (view_of old) room_depth split.depth split.directory_depth) (touches : TouchesOnePage old new) (done : IsDone split.phase aim old new split) where
     why : (p : Pass) → walk.pass ≡ p → (q : ℕ) → IsNextPage split.phase aim (view_of old) q ⊎ IsMaking split.phase → (walk.pass ≡ pass.Wide) ⊎ ((map.get (view_of old).modes q ≡ Some Exclusive) ⊎ ((view_of new).seen q ≡ Some None))
     why pass.First is q locked = absurd (later is)
-    why pass.Narrow is q (inl next) = inr (inl (narrow_holds is (narrow is) q next))
-    why pass.Narrow is q (inr making) = absurd (narrow_makes_none aim (view_of old) split clean agree form way (in_place (narrow is)) making)
+    why pass.Narrow is q (inl next) = inr (inl (narrow_holds basis walk (view_of old) room_depth split clean agree form way found passed (narrow is) is q next))
+    why pass.Narrow is q (inr making) = absurd (narrow_makes_none aim (view_of old) split clean agree form way (in_place basis walk (view_of old) room_depth split clean agree form way found passed (narrow is)) making)
     why pass.Wide is q locked = inl is
 
     -- **A step of the splits of a pass.**
@@ -223,7 +231,7 @@ module _ (basis : Basis) (walk : WalkFields) (old new : Moment) (room_depth : �
       before = λ q first sees. own_step_sees_more old new q first may touches sees;
       modes = λ q.
           let tx = step_keeps_tx old new may touches in
-          let now : map.get (view_of new).modes q ≡ Rattle.mlt_page_locks.specs.LockTables.mode_held new.locks old.running.tx q = ap (λ t. Rattle.mlt_page_locks.specs.LockTables.mode_held new.locks t q) tx in
+          let now : map.get (view_of new).modes q ≡ mode_held new.locks old.running.tx q = ap (λ t. mode_held new.locks t q) tx in
           elim (locks_its_page_alone split_answer.Going aim old new split q done) [
             | inl same ↦ inl (now ∙ same)
             | inr locked ↦ inr (now ∙ locked.0, elim locked.1 [ inl next ↦ why walk.pass refl q (inl next) | inr making ↦ why walk.pass refl q (inr making.0) ])

@@ -3,7 +3,6 @@ pub mod Beginning
 pub mod Closing
 pub mod Doubling
 pub mod Few
-pub mod FirstLocks
 pub mod Header
 pub mod HeldPages
 pub mod InPlace
@@ -12,6 +11,5 @@ pub mod Laws
 pub mod Locks
 pub mod Narrow
 pub mod OldBucket
-pub mod OneBucket
 pub mod SecondHalf
 pub mod Steps

@@ -17,7 +17,8 @@ use Rattle.mlt_hash_form.specs.Changes.{MaySplit}
 use Rattle.mlt_hash_form.specs.Held.{Agrees, KeepsFile, over}
 use Rattle.mlt_hash_form.specs.Room.{is_crowded}
 use Rattle.mlt_hash_form.specs.Splits.{IsMidway, run_length, run_start, target_of}
-use Rattle.mlt_held.specs.Views.{View}
+use Rattle.mlt_held.specs.Moments.{HasCleanFile, MayStep, Moment}
+use Rattle.mlt_held.specs.Views.{View, view_of}
 use Rattle.mlt_split.specs.Rests.{Aim, IsAtRest, HoldsAmong, held_page, most_held, seed_of}
 use Rattle.mlt_split.specs.declared.phase.SplitPhase.{SplitPhase}
 use Rattle.mlt_split.specs.declared.phase.SplitPhase.TheVariants as at
@@ -166,3 +167,9 @@ pub record IsUnderWay (aim : Aim) (view : View) (split : SplitFields) : Type 0 w
   pub begins : (clean : ℕ → Option Page) → Agrees view.seen clean → HasForm aim.bits clean aim.root → Begins aim (over clean rest) split bucket
   pub stands : (clean : ℕ → Option Page) → Agrees view.seen clean → HasForm aim.bits clean aim.root → StandsAt split.phase aim splitters (over clean rest) (over clean view.own) split bucket
   pub among : HoldsAmongAt split.phase view header.dirs split
+
+-- What a step of a split asks: the transaction may step, the clean pages are a hash file, and the split is under way.
+pub record MayAdvance (aim : Aim) (m : Moment) (split : SplitFields) : Type 0 where
+  pub may : MayStep m
+  pub file : HasCleanFile aim.bits aim.root m
+  pub under_way : IsUnderWay aim (view_of m) split
