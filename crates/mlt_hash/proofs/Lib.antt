@@ -24,3 +24,4 @@ pub mod SplitPages
 pub mod Splittings
 pub mod Standing
 pub mod Standings
+pub mod StepsLeft

@@ -1,6 +1,6 @@
 //! What a walk knows, whatever other transactions do.
 
-ghost use Rattle.std.specs.Prelude.{ℕ, ◌≡◌, ◌<◌, Option, Some};
+ghost use Rattle.std.specs.Prelude.{ℕ, ◌≡◌, ◌<◌, ◌+◌, Option, Some};
 ghost use Rattle.std.specs.Ordering.{nat_cmp};
 ghost use Rattle.std.specs.FinMap as map;
 ghost use Rattle.std.specs.FinSet as set;
@@ -14,6 +14,9 @@ ghost use Rattle.mlt_held.specs.Views.{View, view_of};
 ghost use Rattle.mlt_split.specs.Rests.{KeepsNoMore};
 ghost use Rattle.mlt_split.specs.Steps.{IsNextPage};
 ghost use Rattle.mlt_hash.specs.Walks.{Basis, HasPassed, IsAtBucket, IsAtStart, IsSplitting, IsStanding, WalkFields, aim_of};
+ghost use Rattle.mlt_hash.specs.Splitting.{TellsAt};
+ghost use Rattle.mlt_hash.specs.StepsLeft.{IsPutting, steps_to_put};
+ghost use Rattle.mlt_hash.specs.declared.answer.WalkAnswer.TheVariants as answer;
 ghost use Rattle.mlt_hash.specs.declared.pass.Pass.TheVariants as pass;
 
 /// Who holds no page and has written none is at the start of a walk.
@@ -75,4 +78,14 @@ pub fn walks_hold_fewer_than_300_pages()
         → IsStanding basis walk view
         → Agrees view.seen clean → HasForm basis.bits clean basis.root
         → map.len view.modes < 300 }
+{}
+
+/// Each step of a pass that splits, or is to, is one of those that are left.
+pub fn each_step_leaves_one_fewer()
+    ensures { (basis : Basis) (old new : Moment) (before after : WalkFields)
+        (clean : ℕ → Option Page) → Agrees (view_of new).seen clean
+        → HasForm basis.bits clean basis.root → IsPutting before.phase
+        → TellsAt before.phase basis old new before after answer.Going
+        → steps_to_put basis.root after (view_of new) + 1
+        ≡ steps_to_put basis.root before (view_of old) }
 {}
