@@ -56,7 +56,7 @@ is_full basis walk view key owner fields sees key_is own nowhere full = record {
 }
 
 -- a walk whose transaction left a ghost there has a plan of what to do with it,
-pub ghost_has_plan : (basis : Basis) (walk : WalkFields) (view : View) (key owner : ℕ) (fields : BucketFields) → HasOwnGhost basis walk view → SeesBucket walk view fields → key ≡ walk.key → owner ≡ basis.tx → IsNowhere (is_ghost_of key owner) fields.slots → ⊥
+pub ghost_has_plan : (basis : Basis) (walk : WalkFields) (view : View) (key owner : ℕ) (fields : BucketFields) → HasOwnGhost basis.tx walk view → SeesBucket walk view fields → key ≡ walk.key → owner ≡ basis.tx → IsNowhere (is_ghost_of key owner) fields.slots → ⊥
 ghost_has_plan basis walk view key owner fields ghost sees key_is own nowhere =
     let same : ghost.0 ≡ fields = same_bucket (view.seen (page_of walk.phase)) ghost.0 fields ghost.2.at sees.at in
     let here : position (is_ghost_of key owner) fields.slots ≡ Some ghost.1 = (λ i. position (is_ghost_of (key_is i) (own i)) fields.slots) ∙ ap (λ (b : BucketFields). position (is_ghost_of walk.key basis.tx) b.slots) (sym same) ∙ ghost.3 in

@@ -7,7 +7,7 @@ use Rattle.mlt_page.specs.Values.{BucketFields, HeadFields}
 use Rattle.mlt_page.specs.declared.page.Page.{Page}
 use Rattle.mlt_page.specs.declared.page.Page.TheVariants as page
 use Rattle.mlt_store.specs.Stores.{PageStore, page_at}
-use Rattle.mlt_page_locks.specs.Maps.{get_inserted}
+use Rattle.mlt_page_locks.proofs.Maps.{get_inserted}
 use Rattle.mlt_hash_form.specs.File.{HasForm, depth_of, header_of, look_up}
 use Rattle.mlt_hash_form.specs.Held.{over, own_or}
 use Rattle.mlt_hash_form.proofs.HeldPages.{changed_values}
@@ -18,13 +18,13 @@ use Rattle.mlt_hash.specs.Alone.{IsAlone, basis_of, pages_before}
 use Rattle.mlt_hash.specs.AloneWalks.{HasChanged, IsHashFile}
 use Rattle.mlt_hash.specs.Changes.{IsAtRecord, Makes, TellsOfChange, WritesIfChanged, page_of}
 use Rattle.mlt_hash.specs.Passes.{value_after}
-use Rattle.mlt_hash.specs.Walks.{Basis, IsAtBucket, IsChanged, IsStanding, IsUnwritten, Stands, WalkFields}
+use Rattle.mlt_hash.specs.Walks.{Basis, IsAtBucket, IsChanged, IsStanding, IsUnwritten, MayWalk, Stands, WalkFields}
 use Rattle.mlt_hash.specs.declared.answer.WalkAnswer.{WalkAnswer}
 use Rattle.mlt_hash.specs.declared.answer.WalkAnswer.TheVariants as answer
 use Rattle.mlt_hash.specs.declared.pass.Change.{Change}
 use Rattle.mlt_hash.specs.declared.pass.Phase.{Phase}
 use Rattle.mlt_hash.specs.declared.pass.Phase.TheVariants as at
-use Rattle.mlt_hash.proofs.Alone.{alone_after_write, sees_before, store_is_over, write_keeps_before, written_over_before}
+use Rattle.mlt_hash.proofs.Alone.{alone_after_write, before_is_clean, sees_before, store_is_over, write_keeps_before, written_over_before}
 use Rattle.mlt_hash.proofs.AloneWalks.{file_kept}
 
 -- **Where a walk has changed its bucket, the store has a file with the new value.**
@@ -99,6 +99,19 @@ pub made_alone : (basis : Basis) (new : Moment) (before after : WalkFields) (don
 made_alone basis new before after done alone file shallow makes =
     let changed : IsChanged basis after (view_of new) (page_of before.phase) done = subst (λ (phase : Phase). Stands phase basis after (view_of new)) makes.phase makes.stands in
     subst (λ (key : ℕ). HasChanged basis new key (value_after done)) makes.same.key (changed_alone basis new after (page_of before.phase) done alone file changed shallow)
+
+-- a transaction alone may go on with its walk, where the pages that it began with are a hash file,
+pub may_walk_alone : (bits : ℕ → ℕ) (opens : set.FinSet nat_cmp) (root max_depth : ℕ) (mid old : Moment) (walk : WalkFields) → opens ≡ set.empty → mid ≡ old → IsAlone mid → IsHashFile bits (pages_before old) root max_depth → IsStanding (basis_of bits root max_depth old) walk (view_of old)
+    → MayWalk (record { bits = bits; opens = opens; root = root; max_depth = max_depth; tx = mid.running.tx }) mid walk
+may_walk_alone bits opens root max_depth mid old walk none same alone file stands =
+    let was : IsHashFile bits (pages_before mid) root max_depth = subst (λ (m : Moment). IsHashFile bits (pages_before m) root max_depth) (sym same) file in
+    subst (λ opens. MayWalk (record { bits = bits; opens = opens; root = root; max_depth = max_depth; tx = mid.running.tx }) mid walk) (sym none) (record {
+      bounded = file.bounded;
+      small = file.small;
+      may = alone.may;
+      file = record { clean = pages_before mid; is_clean = before_is_clean mid alone.may; form = was.form };
+      stands = subst (λ (m : Moment). IsStanding (basis_of bits root max_depth m) walk (view_of m)) (sym same) stands;
+    })
 
 -- **A change of the record that a walk has found is in the store.**
 pub change_alone : (bits : ℕ → ℕ) (opens : set.FinSet nat_cmp) (root max_depth : ℕ) (mid old new : Moment) (before after : WalkFields) (done : Change) (told : WalkAnswer)

@@ -12,7 +12,7 @@ use Rattle.mlt_page.specs.declared.page.Page.{Page}
 use Rattle.mlt_page.specs.declared.page.Page.TheVariants as page
 use Rattle.mlt_store.specs.Stores.{page_at}
 use Rattle.mlt_subtx.specs.Images.{put_back}
-use Rattle.mlt_subtx.specs.ImageLaws.{page_at-put_back, same_pages}
+use Rattle.mlt_subtx.proofs.ImageLaws.{page_at-put_back, same_pages}
 use Rattle.mlt_hash_form.specs.File.{bucket_of, buckets_of, depth_of, lead_of, look_up}
 use Rattle.mlt_hash_form.specs.Room.{is_crowded}
 use Rattle.mlt_hash_form.proofs.Crowd.{crowded_in_fewer, crowded_test}
@@ -37,7 +37,7 @@ use Rattle.mlt_hash.specs.declared.pass.Phase.{Phase}
 use Rattle.mlt_hash.specs.declared.pass.Phase.TheVariants as at
 use Rattle.mlt_hash.proofs.Alone.{alone_after_write, keeps_both, sees_before, write_keeps_before}
 use Rattle.mlt_hash.proofs.AloneChanges.{made_alone, shallow_after_write, unwritten_store, writes_at_most}
-use Rattle.mlt_hash.proofs.AloneWalks.{file_kept, same_before, same_walks}
+use Rattle.mlt_hash.proofs.AloneWalks.{file_kept, same_basis, same_before, same_walks}
 use Rattle.mlt_hash.proofs.Laws.{found_there, path_taken}
 
 -- a walk that has arrived is at its bucket, with what it has found,
@@ -94,6 +94,10 @@ absent_here bits root max_depth first old mid before walk value same alone keeps
     let arrived_mid : HasArrived (basis_of bits root max_depth first) mid before walk value = subst (λ (m : Moment). HasArrived (basis_of bits root max_depth first) m before walk value) (sym same) arrived in
     let none_mid : look_up bits (pages_before mid) root before.key ≡ None = ap (λ (m : Moment). look_up bits (pages_before m) root before.key) same ∙ ap (λ (pages : ℕ → Option Page). look_up bits pages root before.key) (same_before first old keeps) ∙ none in
     finds_none (basis_of bits root max_depth first) mid before walk value alone arrived_mid none_mid
+
+-- a walk that has arrived stands there, by what the transaction goes by now
+pub arrived_stands : (bits : ℕ → ℕ) (root max_depth : ℕ) (first old : Moment) (before walk : WalkFields) (value : Option ℕ) → KeepsBefore first old → HasArrived (basis_of bits root max_depth first) old before walk value → IsStanding (basis_of bits root max_depth old) walk (view_of old)
+arrived_stands bits root max_depth first old before walk value keeps arrived = subst (λ basis. IsStanding basis walk (view_of old)) (sym (same_basis bits root max_depth first old keeps)) arrived.stands
 
 -- and its bucket is where its key leads
 leads_here : (basis : Basis) (m : Moment) (walk : WalkFields) (bucket depth : ℕ) (found : Option ℕ) (here : IsAtBucket basis walk (view_of m) bucket depth found) → MayStep m → lead_of (pages_before m) basis.root (basis.bits walk.key) ≡ bucket

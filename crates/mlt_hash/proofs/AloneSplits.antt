@@ -12,7 +12,7 @@ use Rattle.mlt_page.specs.declared.page.Page.{Page}
 use Rattle.mlt_page.specs.declared.page.Page.TheVariants as page
 use Rattle.mlt_store.specs.Stores.{page_at}
 use Rattle.mlt_page_locks.specs.LockTables.{can_read}
-use Rattle.mlt_page_locks.specs.LockLaws.{writer_reads}
+use Rattle.mlt_page_locks.proofs.LockLaws.{writer_reads}
 use Rattle.mlt_subtx.specs.Images.{image_of, or_image}
 use Rattle.mlt_hash_form.specs.File.{bucket_of, depth_of, header_of}
 use Rattle.mlt_hash_form.specs.Held.{own_or}

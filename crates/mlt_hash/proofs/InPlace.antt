@@ -15,8 +15,8 @@ use Rattle.mlt_page.specs.declared.page.Page.TheVariants as page
 use Rattle.mlt_page.specs.Values.{BucketFields}
 use Rattle.mlt_store.specs.Stores.{page_at}
 use Rattle.mlt_page_locks.specs.LockTables.{Modes, can_read, can_write}
-use Rattle.mlt_page_locks.specs.LockLaws.{writer_reads}
-use Rattle.mlt_page_locks.specs.Maps.{same_entries}
+use Rattle.mlt_page_locks.proofs.LockLaws.{writer_reads}
+use Rattle.mlt_page_locks.proofs.Maps.{same_entries}
 use Rattle.mlt_page_locks.specs.Requests.{stronger, with_page}
 use Rattle.mlt_subtx.specs.Images.{Images, image_of}
 use Rattle.mlt_hash_form.specs.Changes.{ChangesRecord, IsHome}

@@ -16,6 +16,9 @@ pub one_page : (found : Option Page) (read page : Page) → found ≡ Some read 
 one_page found read page is_read is = let same : Some read ≡ Some page = sym is_read ∙ is in cc
 
 -- the header is there,
+pub head_there : (bits : ℕ → ℕ) (clean : ℕ → Option Page) (root : ℕ) → HasForm bits clean root → (header : HeadFields) × (clean root ≡ Some (page.Head header))
+head_there bits clean root form = (header_of (clean root), form.head)
+
 pub header_there : (bits : ℕ → ℕ) (clean : ℕ → Option Page) (root : ℕ) → HasForm bits clean root → is_some (clean root) ≡ true
 header_there bits clean root form = ap is_some form.head
 

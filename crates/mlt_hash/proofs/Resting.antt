@@ -243,6 +243,9 @@ some_is : {X : Type 0} (o : Option X) → is_some o ≡ true → (x : X) × (o �
 some_is None h = absurd (false≢true h)
 some_is (Some x) h = (x, refl)
 
+first_is_not_narrow : pass.First ≡ pass.Narrow → ⊥
+first_is_not_narrow same = cc
+
 -- a pass that follows is narrow or wide
 stays_narrow : (crowded : ℕ → Bool) (l most g : ℕ) (next : Pass) → IsNextPass crowded l most g next → (next ≡ pass.Wide → ⊥) → next ≡ pass.Narrow
 stays_narrow crowded l most g pass.First follows narrow = absurd follows
@@ -262,6 +265,7 @@ module _ (basis : Basis) (walk after : WalkFields) (m : Moment) (fields : Bucket
     stands = subst (λ (w : WalkFields). Stands w.phase basis w (view_of m)) (sym is) tt;
     first = λ _. (next, ap (λ (w : WalkFields). w.phase) is, told.follows);
     later = λ ne. absurd (ne first);
+    narrow = λ is. absurd (first_is_not_narrow (sym first ∙ is));
   }
 
   -- **a narrow one that it has to be wide,**
@@ -305,4 +309,5 @@ module _ (basis : Basis) (walk after : WalkFields) (m : Moment) (fields : Bucket
           stands = subst (λ (w : WalkFields). Stands w.phase basis w (view_of m)) (sym now) adds;
           first = λ first. absurd (later first);
           later = λ _. (d, ap (λ (w : WalkFields). w.phase) now, has);
+          narrow = λ narrow. subst (λ p. IsNext basis walk fields p) (next_is_narrow narrow) told.follows;
         }

@@ -7,6 +7,7 @@ use Rattle.mlt_page.specs.declared.page.Page.{Page}
 use Rattle.mlt_store.specs.Stores.{PageStore, coded_store}
 use Rattle.mlt_page_locks.specs.LockTables.{LockTable, coded_table, is_holder}
 use Rattle.mlt_subtx.specs.Images.{Running, coded_running}
+use Rattle.mlt_hash_form.specs.declared.root.Root.{Root}
 use Rattle.mlt_held.specs.Moments.{MayStep, Moment, page_before}
 use Rattle.mlt_hash.specs.Walks.{Basis}
 use Rattle.mlt_hash.specs.declared.answer.WalkAnswer.{WalkAnswer}
@@ -37,6 +38,10 @@ pub record KeepsBefore (old new : Moment) : Type 0 where
 -- what a walk goes by where no transaction is open, so that no ghost keeps its room
 abbrev pub basis_of : (ℕ → ℕ) → ℕ → ℕ → Moment → Basis
 basis_of bits root max_depth m = record { bits = bits; opens = set.empty; root = root; max_depth = max_depth; tx = m.running.tx }
+
+-- the same of a transaction that has this root
+abbrev pub basis_alone : {P : Type 0} → (P → ℕ → ℕ) → Root P → Moment → Basis
+basis_alone bits_of root m = basis_of (bits_of root.pseudo) root.page root.max_depth m
 
 -- the walk was not told to wait
 abbrev pub HasNotWaited : WalkAnswer → Type 0

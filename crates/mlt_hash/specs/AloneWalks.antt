@@ -1,5 +1,5 @@
 -- What walks do that run alone
-use Rattle.std.specs.Prelude.{ℕ, ◌≡◌, ◌<◌, ◌≤◌, ◌+◌, ◌^◌, ◌⊎◌, true, Option, Some}
+use Rattle.std.specs.Prelude.{ℕ, ◌≡◌, ◌<◌, ◌≤◌, ◌+◌, ◌^◌, ◌⊎◌, true, None, Option, Some}
 use Rattle.std.specs.List.{list_all}
 use Rattle.std.specs.FinMap as map
 use Rattle.std.specs.FinSet as set
@@ -10,6 +10,7 @@ use Rattle.mlt_page.specs.declared.page.Page.{Page}
 use Rattle.mlt_store.specs.Stores.{Pages, page_at}
 use Rattle.mlt_hash_form.specs.File.{HasForm, buckets_of, depth_of, look_up}
 use Rattle.mlt_hash_form.specs.Room.{IsCrowded}
+use Rattle.mlt_hash_form.specs.declared.root.Root.{Root}
 use Rattle.mlt_subtx.specs.Images.{put_back}
 use Rattle.mlt_held.specs.Moments.{Moment}
 use Rattle.mlt_held.specs.Views.{view_of}
@@ -31,6 +32,13 @@ pub record IsHashFile (bits : ℕ → ℕ) (pages : ℕ → Option Page) (root m
   pub form : HasForm bits pages root
   pub shallow : depth_of pages root ≤ max_depth
   pub small : max_depth ≤ 16
+
+-- the pages that a transaction alone began with are a hash file with this root, and have no record of the key
+abbrev pub IsFileBefore : {P : Type 0} → (P → ℕ → ℕ) → Root P → Moment → Type 0
+IsFileBefore bits_of root m = IsHashFile (bits_of root.pseudo) (pages_before m) root.page root.max_depth
+
+abbrev pub IsAbsentBefore : {P : Type 0} → (P → ℕ → ℕ) → Root P → Moment → ℕ → Type 0
+IsAbsentBefore bits_of root m key = look_up (bits_of root.pseudo) (pages_before m) root.page key ≡ None
 
 -- another hash file, in which the key has this value, or none, and each other key what it had
 pub record ChangesValue (bits : ℕ → ℕ) (before after : ℕ → Option Page) (root max_depth key : ℕ) (value : Option ℕ) : Type 0 where

@@ -1,6 +1,7 @@
 -- What the changes of a walk tell
 use Rattle.std.specs.Prelude.{ℕ, ◌≡◌, ◌⊎◌, true, IsSome, Bool, Some, None, position}
 use Rattle.std.specs.List.{list_all}
+use Rattle.mlt_types.specs.declared.mode.Mode.TheVariants.{Exclusive}
 use Rattle.mlt_types.specs.declared.refusal.Refusal.TheVariants as refusal
 use Rattle.mlt_page.specs.Slots.{is_ghost_of, is_kept}
 use Rattle.mlt_page.specs.declared.page.Page.{Page}
@@ -11,7 +12,7 @@ use Rattle.mlt_held.specs.Moments.{Moment}
 use Rattle.mlt_held.specs.PageSteps.{WritesHeldPage}
 use Rattle.mlt_held.specs.Views.{View, view_of}
 use Rattle.mlt_hash.specs.Passes.{HasRoomFrom, IsNextPass, NeverHasRoom}
-use Rattle.mlt_hash.specs.Walks.{Basis, IsStanding, WalkFields}
+use Rattle.mlt_hash.specs.Walks.{Basis, IsStanding, MayWalk, WalkFields}
 use Rattle.mlt_hash.specs.Steps.{IsSameWalk}
 use Rattle.mlt_hash.specs.declared.pass.Pass.{Pass}
 use Rattle.mlt_hash.specs.declared.pass.Pass.TheVariants as pass
@@ -52,8 +53,17 @@ pub record SeesBucket (walk : WalkFields) (view : View) (fields : BucketFields) 
   pub at : view.seen (page_of walk.phase) ≡ Some (Some (page.Bucket fields))
 
 -- the transaction's own ghost of the key stands in the bucket
-abbrev pub HasOwnGhost : Basis → WalkFields → View → Type 0
-HasOwnGhost basis walk view = (fields : BucketFields) × (i : ℕ) × SeesBucket walk view fields × (position (is_ghost_of walk.key basis.tx) fields.slots ≡ Some i)
+abbrev pub HasOwnGhost : ℕ → WalkFields → View → Type 0
+HasOwnGhost tx walk view = (fields : BucketFields) × (i : ℕ) × SeesBucket walk view fields × (position (is_ghost_of walk.key tx) fields.slots ≡ Some i)
+
+-- What a change asks: the walk may go on, and has its bucket exclusively.
+pub record MayChange (basis : Basis) (m : Moment) (walk : WalkFields) : Type 0 where
+  pub walks : MayWalk basis m walk
+  pub exclusive : walk.mode ≡ Exclusive
+
+-- the same of a walk of transaction tx, whatever it goes by
+abbrev pub MayChangeBy : ℕ → Moment → WalkFields → Type 0
+MayChangeBy tx m walk = (basis : Basis) × (basis.tx ≡ tx) × MayChange basis m walk
 
 -- page q was written if the answer is that the change is made, and else nothing has changed
 abbrev pub WritesIfChanged : Moment → Moment → ℕ → WalkAnswer → Type 0
@@ -97,6 +107,7 @@ pub record NeedsSplit (basis : Basis) (new : Moment) (before after : WalkFields)
   pub stands : IsStanding basis after (view_of new)
   pub first : before.pass ≡ pass.First → (next : Pass) × (after.phase ≡ at.Full next) × IsNext basis before fields next
   pub later : (before.pass ≡ pass.First → ⊥) → (d : ℕ) × (after.phase ≡ at.Adding value (page_of before.phase) d true) × HasRoomFrom (crowded_at basis before fields) fields.depth basis.max_depth d
+  pub narrow : before.pass ≡ pass.Narrow → IsNext basis before fields pass.Narrow
 
 -- A narrow pass has to be wide.
 pub record MustWiden (basis : Basis) (new : Moment) (before after : WalkFields) : Type 0 where

@@ -1,6 +1,6 @@
 -- Where a walk stands, by its phase: which pages it holds, and what it has read of them. Each fact is about these pages
 -- alone, so that what other transactions do can't touch it.
-use Rattle.std.specs.Prelude.{ℕ, ◌≡◌, ◌<◌, ◌≤◌, ◌/◌, ◌%◌, Bool, true, false, List, slice_index, slice_index_or, Option, Some, None, is_some, position}
+use Rattle.std.specs.Prelude.{ℕ, ◌≡◌, ◌<◌, ◌≤◌, ◌/◌, ◌%◌, ◌^◌, Bool, true, false, List, slice_index, slice_index_or, Option, Some, None, is_some, position}
 use Rattle.std.specs.Ordering.{nat_cmp}
 use Rattle.std.specs.FinMap as map
 use Rattle.std.specs.FinSet as set
@@ -17,7 +17,9 @@ use Rattle.mlt_hash_form.specs.Form.{value_in}
 use Rattle.mlt_hash_form.specs.File.{HasForm}
 use Rattle.mlt_hash_form.specs.Changes.{IsHome}
 use Rattle.mlt_hash_form.specs.Held.{Agrees, ChangesFile, over}
-use Rattle.mlt_held.specs.Views.{View}
+use Rattle.mlt_hash_form.specs.declared.root.Root.{Root}
+use Rattle.mlt_held.specs.Moments.{HasCleanFile, MayStep, Moment}
+use Rattle.mlt_held.specs.Views.{View, view_of}
 use Rattle.mlt_split.specs.Rests.{Aim, IsAtRest}
 use Rattle.mlt_split.specs.Splits.{IsUnderWay, SplitFields}
 use Rattle.mlt_hash.specs.Passes.{bucket_held, directory_held, header_held, slot_after, value_after}
@@ -44,6 +46,10 @@ pub record Basis : Type 0 where
   pub root : ℕ
   pub max_depth : ℕ
   pub tx : ℕ
+
+-- what a walk of transaction tx goes by that has this root, with these transactions open
+abbrev pub basis_by : {P : Type 0} → (P → ℕ → ℕ) → Root P → set.FinSet nat_cmp → ℕ → Basis
+basis_by bits_of root opens tx = record { bits = bits_of root.pseudo; opens = opens; root = root.page; max_depth = root.max_depth; tx = tx }
 
 -- the key's directory page, by the header, and its entry there
 abbrev pub dir_of : Basis → HeadFields → ℕ → ℕ
@@ -154,3 +160,11 @@ Stands (at.Changed bucket done) basis walk view = IsChanged basis walk view buck
 -- where a walk stands
 abbrev pub IsStanding : Basis → WalkFields → View → Type 0
 IsStanding basis walk view = Stands walk.phase basis walk view
+
+-- What a step of a walk asks: the transaction may step, the clean pages are a hash file, and the walk stands.
+pub record MayWalk (basis : Basis) (m : Moment) (walk : WalkFields) : Type 0 where
+  pub bounded : (k : ℕ) → basis.bits k < 2 ^ 64
+  pub small : basis.max_depth ≤ 16
+  pub may : MayStep m
+  pub file : HasCleanFile basis.bits basis.root m
+  pub stands : IsStanding basis walk (view_of m)

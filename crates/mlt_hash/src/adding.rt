@@ -7,12 +7,11 @@ ghost use Rattle.mlt_page.specs.Values.{BucketFields};
 ghost use Rattle.mlt_page.specs.declared.page.Page.TheVariants as page;
 ghost use Rattle.mlt_page.specs.declared.slot.Slot.TheVariants.{Live};
 ghost use Rattle.mlt_record.specs.Plans.{IsNowhere, SetsFirst, has_room};
-ghost use Rattle.mlt_page.specs.declared.page.Page.{Page};
 ghost use Rattle.mlt_page_locks.specs.LockTables.{can_read, can_write};
-ghost use Rattle.mlt_held.specs.Moments.{HasCleanFile, IsCleanFor, MayStep, moment};
-ghost use Rattle.mlt_held.specs.PageSteps.{TouchesOnePage};
+ghost use Rattle.mlt_held.specs.Moments.{MayStep, moment};
+ghost use Rattle.mlt_held.specs.PageSteps.{HasNoPageLeft, Leaves};
 ghost use Rattle.mlt_held.specs.Views.{view_of};
-ghost use Rattle.mlt_hash.specs.Walks.{IsStanding, aim_of};
+ghost use Rattle.mlt_hash.specs.Walks.{MayWalk, aim_of, basis_by};
 ghost use Rattle.mlt_split.specs.Rests.{Aim, held_page};
 ghost use Rattle.mlt_split.specs.Steps.{IsMaking};
 ghost use Rattle.mlt_hash.specs.Splitting.{HasToSplit, OfSplit, TellsOfAdding, TellsOfPut, TellsOfSplitting};
@@ -21,12 +20,10 @@ use crate::answer::WalkAnswer;
 use crate::pass::{Change, Phase};
 use crate::walk::Walk;
 use mlt_hash_form::Root;
-use mlt_held::{read_held, write_held};
+use mlt_held::{LockedStore, read_held, write_held};
 use mlt_page::Page;
-use mlt_page_locks::PageLocks;
 use mlt_record::PageWrite;
 use mlt_split::{Split, SplitAnswer};
-use mlt_store::Store;
 use mlt_subtx::Subtx;
 use mlt_types::{OpenSet, PageNo, Pseudo, Refusal, Value};
 
@@ -39,27 +36,27 @@ pub(crate) fn add_or_split<P: Pseudo>(
     unsplit: bool,
     root: &Root<P>,
     subtx: &mut Subtx,
-    store: &mut Store,
-    locks: &mut PageLocks,
+    pages: &mut LockedStore,
     opens: &OpenSet,
 ) -> WalkAnswer
     ghost needed: { ℕ }
     requires needed { needed ≡ room_depth }
     requires phase { walk.old.phase ≡ Phase.Adding value number room_depth unsplit }
-    requires max_depth { root.now.max_depth ≤ 16 }
-    requires may { MayStep (moment subtx.old locks.old store.old) }
-    requires file { HasCleanFile (P.bits_of root.now.pseudo) root.now.page (moment subtx.old locks.old store.old) }
-    requires stands { IsStanding (record { bits = P.bits_of root.now.pseudo; opens = opens.now; root = root.now.page; max_depth = root.now.max_depth; tx = subtx.old.tx }) walk.old (view_of (moment subtx.old locks.old store.old)) }
-    ensures touches { TouchesOnePage (moment subtx.old locks.old store.old) (moment subtx.new locks.new store.new) }
-    ensures may { MayStep (moment subtx.new locks.new store.new) }
-    ensures clean { (clean : ℕ → Option Page) → IsCleanFor (moment subtx.old locks.old store.old) clean → IsCleanFor (moment subtx.new locks.new store.new) clean }
-    ensures no_room { (result ≡ WalkAnswer.Refused Refusal.NoRoom) ↔ (HasToSplit (record { bits = P.bits_of root.now.pseudo; opens = opens.now; root = root.now.page; max_depth = root.now.max_depth; tx = subtx.old.tx }) (moment subtx.old locks.old store.old) walk.old value number room_depth × (map.len store.old.pages ≡ store.old.max_pages)) }
-    ensures tells { TellsOfAdding (record { bits = P.bits_of root.now.pseudo; opens = opens.now; root = root.now.page; max_depth = root.now.max_depth; tx = subtx.old.tx }) (moment subtx.old locks.old store.old) (moment subtx.new locks.new store.new) walk.old walk.new value number room_depth result }
+    requires ready { MayWalk (basis_by P.bits_of root.now opens.now subtx.old.tx)
+        (moment subtx.old pages.old) walk.old }
+    ensures leaves { Leaves (moment subtx.old pages.old) (moment subtx.new pages.new) }
+    ensures no_room { (result ≡ WalkAnswer.Refused Refusal.NoRoom)
+        ↔ (HasToSplit (basis_by P.bits_of root.now opens.now subtx.old.tx)
+        (moment subtx.old pages.old) walk.old value number room_depth
+        × HasNoPageLeft pages.old.store) }
+    ensures tells { TellsOfAdding (basis_by P.bits_of root.now opens.now subtx.old.tx)
+        (moment subtx.old pages.old) (moment subtx.new pages.new)
+        walk.old walk.new value number room_depth result }
 {
-    if let Some(write) = plan_to_put(walk, value, number, unsplit, subtx, store, locks, opens) {
-        return put(walk, write, value, subtx, store, locks);
+    if let Some(write) = plan_to_put(walk, value, number, unsplit, subtx, pages, opens) {
+        return put(walk, write, value, subtx, pages);
     }
-    match Split::begin(root, walk.key, number, subtx, store, locks, opens) {
+    match Split::begin(root, walk.key, number, subtx, pages, opens) {
         Ok(split) => keep_split(walk, value, room_depth, split),
         Err(refusal) => WalkAnswer::Refused(refusal),
     }
@@ -72,20 +69,25 @@ fn plan_to_put(
     number: PageNo,
     unsplit: bool,
     subtx: &Subtx,
-    store: &Store,
-    locks: &PageLocks,
+    pages: &LockedStore,
     opens: &OpenSet,
 ) -> Option<PageWrite>
-    requires may { MayStep (moment subtx.now locks.now store.now) }
-    requires held { can_read locks.now subtx.now.tx number ≡ true }
-    requires found { (fields : BucketFields) × (held_page (view_of (moment subtx.now locks.now store.now)) number ≡ Some (page.Bucket fields)) × (position (is_live_of walk.now.key) fields.slots ≡ None) }
-    ensures { (fields : BucketFields) → held_page (view_of (moment subtx.now locks.now store.now)) number ≡ Some (page.Bucket fields)
-        → MatchOption result ((unsplit ≡ true) ⊎ IsNowhere (has_room opens.now) fields.slots) (λ write. (unsplit ≡ false) × SetsFirst number fields (has_room opens.now) (Live walk.now.key value) write) }
+    requires may { MayStep (moment subtx.now pages.now) }
+    requires held { can_read pages.now.locks subtx.now.tx number ≡ true }
+    requires found { (fields : BucketFields)
+        × (held_page (view_of (moment subtx.now pages.now)) number ≡ Some (page.Bucket fields))
+        × (position (is_live_of walk.now.key) fields.slots ≡ None) }
+    ensures { (fields : BucketFields)
+        → held_page (view_of (moment subtx.now pages.now)) number ≡ Some (page.Bucket fields)
+        → MatchOption result
+        ((unsplit ≡ true) ⊎ IsNowhere (has_room opens.now) fields.slots)
+        (λ write. (unsplit ≡ false)
+        × SetsFirst number fields (has_room opens.now) (Live walk.now.key value) write) }
 {
     if unsplit {
         return None;
     }
-    let Page::Bucket(bucket) = read_held(subtx, store, locks, number) else {
+    let Page::Bucket(bucket) = read_held(subtx, pages, number) else {
         unreachable!()
     };
     mlt_record::insert(number, bucket, walk.key, value, opens)
@@ -97,16 +99,15 @@ fn put(
     write: PageWrite,
     value: Value,
     subtx: &mut Subtx,
-    store: &mut Store,
-    locks: &PageLocks,
+    pages: &mut LockedStore,
 ) -> WalkAnswer
-    requires may { MayStep (moment subtx.old locks.now store.old) }
-    requires held { can_write locks.now subtx.old.tx write.number ≡ true }
-    ensures may { MayStep (moment subtx.new locks.now store.new) }
-    ensures clean { (clean : ℕ → Option Page) → IsCleanFor (moment subtx.old locks.now store.old) clean → IsCleanFor (moment subtx.new locks.now store.new) clean }
-    ensures tells { TellsOfPut (moment subtx.old locks.now store.old) (moment subtx.new locks.now store.new) walk.old walk.new write value result }
+    requires may { MayStep (moment subtx.old pages.old) }
+    requires held { can_write pages.old.locks subtx.old.tx write.number ≡ true }
+    ensures leaves { Leaves (moment subtx.old pages.old) (moment subtx.new pages.new) }
+    ensures tells { TellsOfPut (moment subtx.old pages.old) (moment subtx.new pages.new)
+        walk.old walk.new write value result }
 {
-    match write_held(subtx, store, locks, write.number, write.page) {
+    match write_held(subtx, pages, write.number, write.page) {
         Ok(()) => {
             walk.phase = Phase::Changed(write.number, Change::Put(value));
             WalkAnswer::Changed
@@ -117,7 +118,8 @@ fn put(
 
 // Notes the split that began.
 fn keep_split(walk: &mut Walk, value: Value, room_depth: u8, split: Split) -> WalkAnswer
-    ensures kept { result ≡ WalkAnswer.Going → walk.new ≡ record walk.old { phase = Phase.Splitting value room_depth; split = Some split } }
+    ensures kept { result ≡ WalkAnswer.Going
+        → walk.new ≡ record walk.old { phase = Phase.Splitting value room_depth; split = Some split } }
     ensures told { (result ≡ WalkAnswer.Going) ⊎ (result ≡ WalkAnswer.Refused Refusal.OutOfMemory) }
 {
     match Box::new(walk.alloc, split) {
@@ -135,26 +137,26 @@ pub(crate) fn go_on_splitting<P: Pseudo>(
     room_depth: u8,
     root: &Root<P>,
     subtx: &mut Subtx,
-    store: &mut Store,
-    locks: &mut PageLocks,
+    pages: &mut LockedStore,
     opens: &OpenSet,
 ) -> WalkAnswer
     ghost aim: { Aim }
-    requires aim { aim ≡ aim_of (record { bits = P.bits_of root.now.pseudo; opens = opens.now; root = root.now.page; max_depth = root.now.max_depth; tx = subtx.old.tx }) walk.old room_depth }
+    requires aim { aim
+        ≡ aim_of (basis_by P.bits_of root.now opens.now subtx.old.tx) walk.old room_depth }
     requires phase { walk.old.phase ≡ Phase.Splitting value room_depth }
-    requires may { MayStep (moment subtx.old locks.old store.old) }
-    requires file { HasCleanFile (P.bits_of root.now.pseudo) root.now.page (moment subtx.old locks.old store.old) }
-    requires stands { IsStanding (record { bits = P.bits_of root.now.pseudo; opens = opens.now; root = root.now.page; max_depth = root.now.max_depth; tx = subtx.old.tx }) walk.old (view_of (moment subtx.old locks.old store.old)) }
-    ensures touches { TouchesOnePage (moment subtx.old locks.old store.old) (moment subtx.new locks.new store.new) }
-    ensures may { MayStep (moment subtx.new locks.new store.new) }
-    ensures clean { (clean : ℕ → Option Page) → IsCleanFor (moment subtx.old locks.old store.old) clean → IsCleanFor (moment subtx.new locks.new store.new) clean }
-    ensures no_room { (result ≡ WalkAnswer.Refused Refusal.NoRoom) ↔ (OfSplit walk.old (λ split. IsMaking split.phase) × (map.len store.old.pages ≡ store.old.max_pages)) }
-    ensures tells { TellsOfSplitting (record { bits = P.bits_of root.now.pseudo; opens = opens.now; root = root.now.page; max_depth = root.now.max_depth; tx = subtx.old.tx }) (moment subtx.old locks.old store.old) (moment subtx.new locks.new store.new) walk.old walk.new value room_depth result }
+    requires ready { MayWalk (basis_by P.bits_of root.now opens.now subtx.old.tx)
+        (moment subtx.old pages.old) walk.old }
+    ensures leaves { Leaves (moment subtx.old pages.old) (moment subtx.new pages.new) }
+    ensures no_room { (result ≡ WalkAnswer.Refused Refusal.NoRoom)
+        ↔ (OfSplit walk.old (λ split. IsMaking split.phase) × HasNoPageLeft pages.old.store) }
+    ensures tells { TellsOfSplitting (basis_by P.bits_of root.now opens.now subtx.old.tx)
+        (moment subtx.old pages.old) (moment subtx.new pages.new)
+        walk.old walk.new value room_depth result }
 {
     let Some(split) = &mut walk.split else {
         unreachable!()
     };
-    match split.advance(root.page, subtx, store, locks) {
+    match split.advance(root.page, subtx, pages) {
         SplitAnswer::Going => WalkAnswer::Going,
         SplitAnswer::Closed(bucket) => {
             walk.phase = Phase::Adding(value, bucket, room_depth, false);

@@ -1,27 +1,23 @@
 //! The changes that a walk makes in its bucket.
 
 ghost use Rattle.std.specs.Prelude.{◌≡◌, ◌≢◌, ◌≤◌, ◌↔◌, ℕ, IsTrue, Option, true};
-ghost use Rattle.mlt_types.specs.declared.mode.Mode.{Mode};
-ghost use Rattle.mlt_page.specs.declared.page.Page.{Page};
-ghost use Rattle.mlt_held.specs.Moments.{HasCleanFile, IsCleanFor, MayStep, moment};
+ghost use Rattle.mlt_held.specs.Moments.{MayStep, moment};
 ghost use Rattle.mlt_page.specs.Values.{BucketFields};
 ghost use Rattle.mlt_page_locks.specs.LockTables.{can_write};
-ghost use Rattle.mlt_held.specs.PageSteps.{WritesHeldPage};
+ghost use Rattle.mlt_held.specs.PageSteps.{Leaves, WritesHeldPage};
 ghost use Rattle.mlt_held.specs.Views.{WritesPage, view_of};
-ghost use Rattle.mlt_hash.specs.Walks.{IsStanding, IsUnwritten};
+ghost use Rattle.mlt_hash.specs.Walks.{Basis, IsUnwritten, basis_by};
 ghost use Rattle.mlt_hash.specs.declared.pass.Change.TheVariants as change;
-ghost use Rattle.mlt_hash.specs.Changes.{HasOwnGhost, IsAtAbsent, IsAtBucketPhase, IsAtRecord, IsFull, SeesBucket, TellsOfAddition, TellsOfChange, WritesIfChanged, page_of};
+ghost use Rattle.mlt_hash.specs.Changes.{HasOwnGhost, IsAtAbsent, IsAtBucketPhase, IsAtRecord, IsFull, MayChange, MayChangeBy, SeesBucket, TellsOfAddition, TellsOfChange, WritesIfChanged, page_of};
 
 use crate::answer::WalkAnswer;
 use crate::pass::{Change, Pass, Phase};
 use crate::room::next_pass;
 use crate::walk::Walk;
 use mlt_hash_form::Root;
-use mlt_held::{read_held, write_held};
+use mlt_held::{LockedStore, read_held, write_held};
 use mlt_page::{Bucket, Page};
-use mlt_page_locks::PageLocks;
 use mlt_record::PageWrite;
-use mlt_store::Store;
 use mlt_subtx::Subtx;
 use mlt_types::{OpenSet, PageNo, Pseudo, Refusal, Value};
 
@@ -34,110 +30,82 @@ impl Walk {
         value: Value,
         root: &Root<P>,
         subtx: &mut Subtx,
-        store: &mut Store,
-        locks: &PageLocks,
+        pages: &mut LockedStore,
         opens: &OpenSet,
     ) -> WalkAnswer
-        requires may { MayStep (moment subtx.old locks.now store.old) }
-        requires file { HasCleanFile (P.bits_of root.now.pseudo) root.now.page (moment subtx.old locks.now store.old) }
-        requires stands { IsStanding (record { bits = P.bits_of root.now.pseudo; opens = opens.now; root = root.now.page; max_depth = root.now.max_depth; tx = subtx.old.tx }) self.old (view_of (moment subtx.old locks.now store.old)) }
-        requires mode { self.old.mode ≡ Mode.Exclusive }
+        requires ready { MayChange (basis_by P.bits_of root.now opens.now subtx.old.tx)
+            (moment subtx.old pages.old) self.old }
         requires found { IsAtAbsent self.old.phase }
-        requires max_depth { root.now.max_depth ≤ 16 }
-        ensures writes { WritesIfChanged (moment subtx.old locks.now store.old) (moment subtx.new locks.now store.new) (page_of self.old.phase) result }
-        ensures may { MayStep (moment subtx.new locks.now store.new) }
-        ensures clean { (clean : ℕ → Option Page) → IsCleanFor (moment subtx.old locks.now store.old) clean → IsCleanFor (moment subtx.new locks.now store.new) clean }
-        ensures tells { TellsOfAddition (record { bits = P.bits_of root.now.pseudo; opens = opens.now; root = root.now.page; max_depth = root.now.max_depth; tx = subtx.old.tx }) (moment subtx.new locks.now store.new) self.old self.new value result }
+        ensures writes { WritesIfChanged (moment subtx.old pages.old) (moment subtx.new pages.new)
+            (page_of self.old.phase) result }
+        ensures leaves { Leaves (moment subtx.old pages.old) (moment subtx.new pages.new) }
+        ensures tells { TellsOfAddition (basis_by P.bits_of root.now opens.now subtx.old.tx)
+            (moment subtx.new pages.new) self.old self.new value result }
     {
-        let (number, bucket) = held_bucket(self, subtx, store, locks);
+        let (number, bucket) = held_bucket(self, subtx, pages);
         if let Some(write) = mlt_record::revive(number, bucket, self.key, subtx.tx(), value) {
-            return write_change(self, write, Change::Revive(value), subtx, store, locks);
+            return write_change(self, write, Change::Revive(value), subtx, pages);
         }
         if let Some(write) = mlt_record::insert(number, bucket, self.key, value, opens) {
-            return write_change(self, write, Change::Put(value), subtx, store, locks);
+            return write_change(self, write, Change::Put(value), subtx, pages);
         }
-        without_room(self, value, root, subtx, store, locks, opens)
+        without_room(self, value, root, subtx, pages, opens)
     }
 
     /// Gives the record of the walk's key another value. It takes no memory.
-    pub fn update<P: Pseudo>(
-        &mut self,
-        value: Value,
-        root: &Root<P>,
-        subtx: &mut Subtx,
-        store: &mut Store,
-        locks: &PageLocks,
-        opens: &OpenSet,
-    ) -> WalkAnswer
-        requires may { MayStep (moment subtx.old locks.now store.old) }
-        requires file { HasCleanFile (P.bits_of root.now.pseudo) root.now.page (moment subtx.old locks.now store.old) }
-        requires stands { IsStanding (record { bits = P.bits_of root.now.pseudo; opens = opens.now; root = root.now.page; max_depth = root.now.max_depth; tx = subtx.old.tx }) self.old (view_of (moment subtx.old locks.now store.old)) }
-        requires mode { self.old.mode ≡ Mode.Exclusive }
+    pub fn update(&mut self, value: Value, subtx: &mut Subtx, pages: &mut LockedStore) -> WalkAnswer
+        requires ready { MayChangeBy subtx.old.tx (moment subtx.old pages.old) self.old }
         requires found { IsAtRecord self.old.phase }
-        ensures writes { WritesIfChanged (moment subtx.old locks.now store.old) (moment subtx.new locks.now store.new) (page_of self.old.phase) result }
-        ensures may { MayStep (moment subtx.new locks.now store.new) }
-        ensures clean { (clean : ℕ → Option Page) → IsCleanFor (moment subtx.old locks.now store.old) clean → IsCleanFor (moment subtx.new locks.now store.new) clean }
-        ensures tells { TellsOfChange (record { bits = P.bits_of root.now.pseudo; opens = opens.now; root = root.now.page; max_depth = root.now.max_depth; tx = subtx.old.tx }) (moment subtx.new locks.now store.new) self.old self.new (change.Set value) result }
+        ensures writes { WritesIfChanged (moment subtx.old pages.old) (moment subtx.new pages.new)
+            (page_of self.old.phase) result }
+        ensures leaves { Leaves (moment subtx.old pages.old) (moment subtx.new pages.new) }
+        ensures tells { (basis : Basis) → basis.tx ≡ subtx.old.tx
+            → MayChange basis (moment subtx.old pages.old) self.old
+            → TellsOfChange basis (moment subtx.new pages.new) self.old self.new (change.Set value) result }
     {
-        let (number, bucket) = held_bucket(self, subtx, store, locks);
+        let (number, bucket) = held_bucket(self, subtx, pages);
         let Some(write) = mlt_record::update(number, bucket, self.key, value) else {
             unreachable!()
         };
-        write_change(self, write, Change::Set(value), subtx, store, locks)
+        write_change(self, write, Change::Set(value), subtx, pages)
     }
 
     /// Removes the record of the walk's key, and leaves a ghost of the transaction. It takes no memory.
-    pub fn remove<P: Pseudo>(
-        &mut self,
-        root: &Root<P>,
-        subtx: &mut Subtx,
-        store: &mut Store,
-        locks: &PageLocks,
-        opens: &OpenSet,
-    ) -> WalkAnswer
-        requires may { MayStep (moment subtx.old locks.now store.old) }
-        requires file { HasCleanFile (P.bits_of root.now.pseudo) root.now.page (moment subtx.old locks.now store.old) }
-        requires stands { IsStanding (record { bits = P.bits_of root.now.pseudo; opens = opens.now; root = root.now.page; max_depth = root.now.max_depth; tx = subtx.old.tx }) self.old (view_of (moment subtx.old locks.now store.old)) }
-        requires mode { self.old.mode ≡ Mode.Exclusive }
+    pub fn remove(&mut self, subtx: &mut Subtx, pages: &mut LockedStore) -> WalkAnswer
+        requires ready { MayChangeBy subtx.old.tx (moment subtx.old pages.old) self.old }
         requires found { IsAtRecord self.old.phase }
-        ensures writes { WritesIfChanged (moment subtx.old locks.now store.old) (moment subtx.new locks.now store.new) (page_of self.old.phase) result }
-        ensures may { MayStep (moment subtx.new locks.now store.new) }
-        ensures clean { (clean : ℕ → Option Page) → IsCleanFor (moment subtx.old locks.now store.old) clean → IsCleanFor (moment subtx.new locks.now store.new) clean }
-        ensures tells { TellsOfChange (record { bits = P.bits_of root.now.pseudo; opens = opens.now; root = root.now.page; max_depth = root.now.max_depth; tx = subtx.old.tx }) (moment subtx.new locks.now store.new) self.old self.new change.Remove result }
+        ensures writes { WritesIfChanged (moment subtx.old pages.old) (moment subtx.new pages.new)
+            (page_of self.old.phase) result }
+        ensures leaves { Leaves (moment subtx.old pages.old) (moment subtx.new pages.new) }
+        ensures tells { (basis : Basis) → basis.tx ≡ subtx.old.tx
+            → MayChange basis (moment subtx.old pages.old) self.old
+            → TellsOfChange basis (moment subtx.new pages.new) self.old self.new change.Remove result }
     {
-        let (number, bucket) = held_bucket(self, subtx, store, locks);
+        let (number, bucket) = held_bucket(self, subtx, pages);
         let Some(write) = mlt_record::remove(number, bucket, self.key, subtx.tx()) else {
             unreachable!()
         };
-        write_change(self, write, Change::Remove, subtx, store, locks)
+        write_change(self, write, Change::Remove, subtx, pages)
     }
 
     /// Makes the ghost that the transaction left of the walk's key a record again. It takes no memory.
-    pub fn revive<P: Pseudo>(
-        &mut self,
-        value: Value,
-        root: &Root<P>,
-        subtx: &mut Subtx,
-        store: &mut Store,
-        locks: &PageLocks,
-        opens: &OpenSet,
-    ) -> WalkAnswer
-        requires may { MayStep (moment subtx.old locks.now store.old) }
-        requires file { HasCleanFile (P.bits_of root.now.pseudo) root.now.page (moment subtx.old locks.now store.old) }
-        requires stands { IsStanding (record { bits = P.bits_of root.now.pseudo; opens = opens.now; root = root.now.page; max_depth = root.now.max_depth; tx = subtx.old.tx }) self.old (view_of (moment subtx.old locks.now store.old)) }
-        requires mode { self.old.mode ≡ Mode.Exclusive }
+    pub fn revive(&mut self, value: Value, subtx: &mut Subtx, pages: &mut LockedStore) -> WalkAnswer
+        requires ready { MayChangeBy subtx.old.tx (moment subtx.old pages.old) self.old }
         requires found { IsAtAbsent self.old.phase }
-        requires ghost_found { HasOwnGhost (record { bits = P.bits_of root.now.pseudo; opens = opens.now; root = root.now.page; max_depth = root.now.max_depth; tx = subtx.old.tx }) self.old (view_of (moment subtx.old locks.now store.old)) }
-        ensures writes { WritesIfChanged (moment subtx.old locks.now store.old) (moment subtx.new locks.now store.new) (page_of self.old.phase) result }
-        ensures may { MayStep (moment subtx.new locks.now store.new) }
-        ensures clean { (clean : ℕ → Option Page) → IsCleanFor (moment subtx.old locks.now store.old) clean → IsCleanFor (moment subtx.new locks.now store.new) clean }
-        ensures tells { TellsOfChange (record { bits = P.bits_of root.now.pseudo; opens = opens.now; root = root.now.page; max_depth = root.now.max_depth; tx = subtx.old.tx }) (moment subtx.new locks.now store.new) self.old self.new (change.Revive value) result }
+        requires ghost_found { HasOwnGhost subtx.old.tx self.old
+            (view_of (moment subtx.old pages.old)) }
+        ensures writes { WritesIfChanged (moment subtx.old pages.old) (moment subtx.new pages.new)
+            (page_of self.old.phase) result }
+        ensures leaves { Leaves (moment subtx.old pages.old) (moment subtx.new pages.new) }
+        ensures tells { (basis : Basis) → basis.tx ≡ subtx.old.tx
+            → MayChange basis (moment subtx.old pages.old) self.old
+            → TellsOfChange basis (moment subtx.new pages.new) self.old self.new (change.Revive value) result }
     {
-        let (number, bucket) = held_bucket(self, subtx, store, locks);
+        let (number, bucket) = held_bucket(self, subtx, pages);
         let Some(write) = mlt_record::revive(number, bucket, self.key, subtx.tx(), value) else {
             unreachable!()
         };
-        write_change(self, write, Change::Revive(value), subtx, store, locks)
+        write_change(self, write, Change::Revive(value), subtx, pages)
     }
 }
 
@@ -145,21 +113,21 @@ impl Walk {
 pub(crate) fn held_bucket<'a>(
     walk: &Walk,
     subtx: &Subtx,
-    store: &'a Store,
-    locks: &PageLocks,
+    pages: &'a LockedStore,
 ) -> (PageNo, &'a Bucket)
-    requires may { MayStep (moment subtx.now locks.now store.now) }
-    requires unwritten { IsUnwritten (view_of (moment subtx.now locks.now store.now)) }
+    requires may { MayStep (moment subtx.now pages.now) }
+    requires unwritten { IsUnwritten (view_of (moment subtx.now pages.now)) }
     requires at { IsAtBucketPhase walk.now.phase }
-    requires sees { (fields : BucketFields) × SeesBucket walk.now (view_of (moment subtx.now locks.now store.now)) fields }
+    requires sees { (fields : BucketFields)
+        × SeesBucket walk.now (view_of (moment subtx.now pages.now)) fields }
     ensures number { result.0 ≡ page_of walk.now.phase }
-    ensures bucket { SeesBucket walk.now (view_of (moment subtx.now locks.now store.now)) result.1.now }
+    ensures bucket { SeesBucket walk.now (view_of (moment subtx.now pages.now)) result.1.now }
 {
     let phase = walk.phase;
     let Phase::AtBucket(number, _, _) = phase else {
         unreachable!()
     };
-    let Page::Bucket(bucket) = read_held(subtx, store, locks, number) else {
+    let Page::Bucket(bucket) = read_held(subtx, pages, number) else {
         unreachable!()
     };
     (number, bucket)
@@ -171,20 +139,20 @@ fn write_change(
     write: PageWrite,
     done: Change,
     subtx: &mut Subtx,
-    store: &mut Store,
-    locks: &PageLocks,
+    pages: &mut LockedStore,
 ) -> WalkAnswer
-    requires may { MayStep (moment subtx.old locks.now store.old) }
-    requires unwritten { IsUnwritten (view_of (moment subtx.old locks.now store.old)) }
-    requires held { can_write locks.now subtx.old.tx write.number ≡ true }
-    ensures writes { WritesHeldPage (moment subtx.old locks.now store.old) (moment subtx.new locks.now store.new) write.number write.page }
-    ensures view { WritesPage (view_of (moment subtx.old locks.now store.old)) (view_of (moment subtx.new locks.now store.new)) write.number write.page }
-    ensures may { MayStep (moment subtx.new locks.now store.new) }
-    ensures clean { (clean : ℕ → Option Page) → IsCleanFor (moment subtx.old locks.now store.old) clean → IsCleanFor (moment subtx.new locks.now store.new) clean }
+    requires may { MayStep (moment subtx.old pages.old) }
+    requires unwritten { IsUnwritten (view_of (moment subtx.old pages.old)) }
+    requires held { can_write pages.old.locks subtx.old.tx write.number ≡ true }
+    ensures writes { WritesHeldPage (moment subtx.old pages.old) (moment subtx.new pages.new)
+        write.number write.page }
+    ensures view { WritesPage (view_of (moment subtx.old pages.old)) (view_of (moment subtx.new pages.new))
+        write.number write.page }
+    ensures leaves { Leaves (moment subtx.old pages.old) (moment subtx.new pages.new) }
     ensures walk { walk.new ≡ record walk.old { phase = Phase.Changed write.number done } }
     ensures answer { result ≡ WalkAnswer.Changed }
 {
-    match write_held(subtx, store, locks, write.number, write.page) {
+    match write_held(subtx, pages, write.number, write.page) {
         Ok(()) => {
             walk.phase = Phase::Changed(write.number, done);
             WalkAnswer::Changed
@@ -199,25 +167,23 @@ fn without_room<P: Pseudo>(
     value: Value,
     root: &Root<P>,
     subtx: &Subtx,
-    store: &Store,
-    locks: &PageLocks,
+    pages: &LockedStore,
     opens: &OpenSet,
 ) -> WalkAnswer
-    requires may { MayStep (moment subtx.now locks.now store.now) }
-    requires file { HasCleanFile (P.bits_of root.now.pseudo) root.now.page (moment subtx.now locks.now store.now) }
-    requires stands { IsStanding (record { bits = P.bits_of root.now.pseudo; opens = opens.now; root = root.now.page; max_depth = root.now.max_depth; tx = subtx.now.tx }) walk.old (view_of (moment subtx.now locks.now store.now)) }
-    requires mode { walk.old.mode ≡ Mode.Exclusive }
+    requires ready { MayChange (basis_by P.bits_of root.now opens.now subtx.now.tx)
+        (moment subtx.now pages.now) walk.old }
     requires found { IsAtAbsent walk.old.phase }
-    requires max_depth { root.now.max_depth ≤ 16 }
-    requires full { (fields : BucketFields) × IsFull (record { bits = P.bits_of root.now.pseudo; opens = opens.now; root = root.now.page; max_depth = root.now.max_depth; tx = subtx.now.tx }) walk.old (view_of (moment subtx.now locks.now store.now)) fields }
-    ensures tells { TellsOfAddition (record { bits = P.bits_of root.now.pseudo; opens = opens.now; root = root.now.page; max_depth = root.now.max_depth; tx = subtx.now.tx }) (moment subtx.now locks.now store.now) walk.old walk.new value result }
+    requires full { (fields : BucketFields) × IsFull (basis_by P.bits_of root.now opens.now subtx.now.tx)
+        walk.old (view_of (moment subtx.now pages.now)) fields }
+    ensures tells { TellsOfAddition (basis_by P.bits_of root.now opens.now subtx.now.tx)
+        (moment subtx.now pages.now) walk.old walk.new value result }
     ensures unchanged { result ≢ WalkAnswer.Changed }
 {
     let phase = walk.phase;
     let Phase::AtBucket(_, directory_depth, _) = phase else {
         unreachable!()
     };
-    let (number, bucket) = held_bucket(walk, subtx, store, locks);
+    let (number, bucket) = held_bucket(walk, subtx, pages);
     let (next, least) = next_pass(bucket, directory_depth, walk.key, root, opens);
     if let Pass::First = walk.pass {
         walk.phase = Phase::Full(next);

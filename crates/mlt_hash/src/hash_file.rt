@@ -12,6 +12,7 @@ use crate::opening::open_file;
 use crate::runner::Runner;
 use crate::walk::Walk;
 use mlt_hash_form::Root;
+use mlt_held::LockedStore;
 use mlt_page::Page;
 use mlt_page_locks::PageLocks;
 use mlt_store::Store;
@@ -81,8 +82,7 @@ impl<P: Pseudo> HashFile<P> {
             },
             runner: Runner {
                 subtx,
-                store,
-                locks,
+                pages: LockedStore { store, locks },
                 opens: OpenSet::new(),
             },
         })
@@ -158,7 +158,7 @@ impl<P: Pseudo> HashFile<P> {
     pub fn depth(&self) -> u8
         ensures { result ≡ depth_of (page_at self.now.pages) self.now.root }
     {
-        match self.runner.store.read(self.root.page) {
+        match self.runner.pages.store.read(self.root.page) {
             Some(Page::Head(header)) => header.depth,
             _ => unreachable!(),
         }
@@ -168,6 +168,6 @@ impl<P: Pseudo> HashFile<P> {
     pub fn pages(&self) -> usize
         ensures { result ≡ map.len self.now.pages }
     {
-        self.runner.store.len()
+        self.runner.pages.store.len()
     }
 }

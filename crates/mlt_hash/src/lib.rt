@@ -19,6 +19,3 @@ pub use hash_file::HashFile;
 pub use opening::open_file;
 pub use pass::{Change, Pass, Phase};
 pub use walk::Walk;
-
-#[cfg(test)]
-mod tests;

@@ -3,22 +3,18 @@
 ghost use Rattle.std.specs.Prelude.{◌≡◌, ℕ, Option};
 ghost use Rattle.std.specs.Ordering.{nat_cmp};
 ghost use Rattle.std.specs.FinSet as set;
-ghost use Rattle.mlt_page.specs.declared.page.Page.{Page};
 ghost use Rattle.mlt_hash_form.specs.Form.{value_in};
-ghost use Rattle.mlt_held.specs.Moments.{HasCleanFile, IsCleanFor, MayStep, moment};
-ghost use Rattle.mlt_held.specs.PageSteps.{LocksAtMost};
-ghost use Rattle.mlt_held.specs.Views.{view_of};
-ghost use Rattle.mlt_hash.specs.Walks.{Basis, IsStanding};
+ghost use Rattle.mlt_held.specs.Moments.{moment};
+ghost use Rattle.mlt_held.specs.PageSteps.{Leaves, LocksAtMost};
+ghost use Rattle.mlt_hash.specs.Walks.{Basis, MayWalk};
 ghost use Rattle.mlt_hash.specs.Steps.{TellsOfPath, next_page};
 
 use crate::answer::WalkAnswer;
 use crate::pass::Phase;
 use crate::walk::Walk;
 use mlt_hash_form::{Place, Root};
-use mlt_held::lock_and_read;
+use mlt_held::{LockedStore, lock, read_held};
 use mlt_page::{Bucket, Page, Slot};
-use mlt_page_locks::PageLocks;
-use mlt_store::Store;
 use mlt_subtx::Subtx;
 use mlt_types::{Key, PageNo, Pseudo, Value};
 
@@ -27,25 +23,24 @@ pub(crate) fn read_header<P: Pseudo>(
     walk: &mut Walk,
     root: &Root<P>,
     subtx: &Subtx,
-    store: &Store,
-    locks: &mut PageLocks,
+    pages: &mut LockedStore,
 ) -> WalkAnswer
     ghost basis: { Basis }
-    requires basis { (P.bits_of root.now.pseudo ≡ basis.bits) × (root.now.page ≡ basis.root) × (subtx.now.tx ≡ basis.tx) }
+    requires tx { subtx.now.tx ≡ basis.tx }
+    requires root { root.now.page ≡ basis.root }
+    requires bits { P.bits_of root.now.pseudo ≡ basis.bits }
     requires phase { walk.old.phase ≡ Phase.Start }
-    requires may { MayStep (moment subtx.now locks.old store.now) }
-    requires file { HasCleanFile basis.bits basis.root (moment subtx.now locks.old store.now) }
-    requires stands { IsStanding basis walk.old (view_of (moment subtx.now locks.old store.now)) }
-    ensures locks { LocksAtMost (moment subtx.now locks.old store.now) (moment subtx.now locks.new store.now) (next_page basis.root walk.old.phase) }
-    ensures may { MayStep (moment subtx.now locks.new store.now) }
-    ensures clean { (clean : ℕ → Option Page) → IsCleanFor (moment subtx.now locks.old store.now) clean → IsCleanFor (moment subtx.now locks.new store.now) clean }
-    ensures tells { (opens : set.FinSet nat_cmp) → TellsOfPath (record basis { opens = opens }) (moment subtx.now locks.old store.now) (moment subtx.now locks.new store.now) walk.old walk.new result }
+    requires ready { MayWalk basis (moment subtx.now pages.old) walk.old }
+    ensures leaves { Leaves (moment subtx.now pages.old) (moment subtx.now pages.new) }
+    ensures locks { LocksAtMost (moment subtx.now pages.old) (moment subtx.now pages.new)
+        (next_page basis.root walk.old.phase) }
+    ensures tells { (opens : set.FinSet nat_cmp) → TellsOfPath (record basis { opens = opens })
+        (moment subtx.now pages.old) (moment subtx.now pages.new) walk.old walk.new result }
 {
-    let page = match lock_and_read(subtx, store, locks, root.page, walk.pass.header_mode()) {
-        Ok(page) => page,
-        Err(by) => return WalkAnswer::Waiting(root.page, by),
-    };
-    let Page::Head(header) = page else {
+    if let Err(by) = lock(subtx, pages, root.page, walk.pass.header_mode()) {
+        return WalkAnswer::Waiting(root.page, by);
+    }
+    let Page::Head(header) = read_held(subtx, pages, root.page) else {
         unreachable!()
     };
     let place = Place::of(root.pseudo.bits(&walk.key), header.depth);
@@ -61,25 +56,26 @@ pub(crate) fn read_directory<P: Pseudo>(
     depth: u8,
     root: &Root<P>,
     subtx: &Subtx,
-    store: &Store,
-    locks: &mut PageLocks,
+    pages: &mut LockedStore,
 ) -> WalkAnswer
     ghost basis: { Basis }
-    requires basis { (P.bits_of root.now.pseudo ≡ basis.bits) × (root.now.page ≡ basis.root) × (subtx.now.tx ≡ basis.tx) }
+    requires tx { subtx.now.tx ≡ basis.tx }
+    requires root { root.now.page ≡ basis.root }
+    requires bits { P.bits_of root.now.pseudo ≡ basis.bits }
     requires phase { walk.old.phase ≡ Phase.Headed number row depth }
-    requires may { MayStep (moment subtx.now locks.old store.now) }
-    requires file { HasCleanFile basis.bits basis.root (moment subtx.now locks.old store.now) }
-    requires stands { IsStanding basis walk.old (view_of (moment subtx.now locks.old store.now)) }
-    ensures locks { LocksAtMost (moment subtx.now locks.old store.now) (moment subtx.now locks.new store.now) (next_page basis.root walk.old.phase) }
-    ensures may { MayStep (moment subtx.now locks.new store.now) }
-    ensures clean { (clean : ℕ → Option Page) → IsCleanFor (moment subtx.now locks.old store.now) clean → IsCleanFor (moment subtx.now locks.new store.now) clean }
-    ensures tells { (opens : set.FinSet nat_cmp) → TellsOfPath (record basis { opens = opens }) (moment subtx.now locks.old store.now) (moment subtx.now locks.new store.now) walk.old walk.new result }
+    requires ready { MayWalk basis (moment subtx.now pages.old) walk.old }
+    ensures leaves { Leaves (moment subtx.now pages.old) (moment subtx.now pages.new) }
+    ensures locks { LocksAtMost (moment subtx.now pages.old) (moment subtx.now pages.new)
+        (next_page basis.root walk.old.phase) }
+    ensures tells { (opens : set.FinSet nat_cmp) → TellsOfPath (record basis { opens = opens })
+        (moment subtx.now pages.old) (moment subtx.now pages.new) walk.old walk.new result }
 {
-    let page = match lock_and_read(subtx, store, locks, number, walk.pass.directory_mode()) {
-        Ok(page) => page,
-        Err(by) => return WalkAnswer::Waiting(number, by),
+    if let Err(by) = lock(subtx, pages, number, walk.pass.directory_mode()) {
+        return WalkAnswer::Waiting(number, by);
+    }
+    let Page::Dir(dir) = read_held(subtx, pages, number) else {
+        unreachable!()
     };
-    let Page::Dir(dir) = page else { unreachable!() };
     walk.phase = Phase::Placed(dir.entry(row), depth);
     WalkAnswer::Going
 }
@@ -91,31 +87,25 @@ pub(crate) fn read_bucket<P: Pseudo>(
     depth: u8,
     root: &Root<P>,
     subtx: &Subtx,
-    store: &Store,
-    locks: &mut PageLocks,
+    pages: &mut LockedStore,
 ) -> WalkAnswer
     ghost basis: { Basis }
-    requires basis { (P.bits_of root.now.pseudo ≡ basis.bits) × (root.now.page ≡ basis.root) × (subtx.now.tx ≡ basis.tx) }
+    requires tx { subtx.now.tx ≡ basis.tx }
+    requires root { root.now.page ≡ basis.root }
+    requires bits { P.bits_of root.now.pseudo ≡ basis.bits }
     requires phase { walk.old.phase ≡ Phase.Placed number depth }
-    requires may { MayStep (moment subtx.now locks.old store.now) }
-    requires file { HasCleanFile basis.bits basis.root (moment subtx.now locks.old store.now) }
-    requires stands { IsStanding basis walk.old (view_of (moment subtx.now locks.old store.now)) }
-    ensures locks { LocksAtMost (moment subtx.now locks.old store.now) (moment subtx.now locks.new store.now) (next_page basis.root walk.old.phase) }
-    ensures may { MayStep (moment subtx.now locks.new store.now) }
-    ensures clean { (clean : ℕ → Option Page) → IsCleanFor (moment subtx.now locks.old store.now) clean → IsCleanFor (moment subtx.now locks.new store.now) clean }
-    ensures tells { (opens : set.FinSet nat_cmp) → TellsOfPath (record basis { opens = opens }) (moment subtx.now locks.old store.now) (moment subtx.now locks.new store.now) walk.old walk.new result }
+    requires ready { MayWalk basis (moment subtx.now pages.old) walk.old }
+    ensures leaves { Leaves (moment subtx.now pages.old) (moment subtx.now pages.new) }
+    ensures locks { LocksAtMost (moment subtx.now pages.old) (moment subtx.now pages.new)
+        (next_page basis.root walk.old.phase) }
+    ensures tells { (opens : set.FinSet nat_cmp) → TellsOfPath (record basis { opens = opens })
+        (moment subtx.now pages.old) (moment subtx.now pages.new) walk.old walk.new result }
 {
-    let page = match lock_and_read(
-        subtx,
-        store,
-        locks,
-        number,
-        walk.pass.bucket_mode(walk.mode),
-    ) {
-        Ok(page) => page,
-        Err(by) => return WalkAnswer::Waiting(number, by),
-    };
-    let Page::Bucket(bucket) = page else {
+    let mode = walk.pass.bucket_mode(walk.mode);
+    if let Err(by) = lock(subtx, pages, number, mode) {
+        return WalkAnswer::Waiting(number, by);
+    }
+    let Page::Bucket(bucket) = read_held(subtx, pages, number) else {
         unreachable!()
     };
     let found = value_in(bucket, walk.key);

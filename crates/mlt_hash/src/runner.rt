@@ -8,8 +8,8 @@ ghost use Rattle.mlt_held.specs.Views.{view_of};
 ghost use Rattle.mlt_hash.specs.Walks.{IsAtStart, IsStanding};
 ghost use Rattle.mlt_hash.specs.Splitting.{IsUnderWay, TellsAt};
 ghost use Rattle.mlt_hash.specs.Changes.{IsAtRecord};
-ghost use Rattle.mlt_hash.specs.Alone.{HasNotWaited, IsAlone, IsIdle, KeepsBefore, basis_of, pages_before};
-ghost use Rattle.mlt_hash.specs.AloneWalks.{HasArrived, HasChanged, IsHashFile, MayAdd, TellsOfInsertion, TellsOfLater, TellsOfPass, TellsOfSplits, added_value};
+ghost use Rattle.mlt_hash.specs.Alone.{HasNotWaited, IsAlone, IsIdle, KeepsBefore, basis_alone};
+ghost use Rattle.mlt_hash.specs.AloneWalks.{HasArrived, HasChanged, IsAbsentBefore, IsFileBefore, MayAdd, TellsOfInsertion, TellsOfLater, TellsOfPass, TellsOfSplits, added_value};
 ghost use Rattle.mlt_hash.specs.Passes.{next_of};
 ghost use Rattle.mlt_hash.specs.SplitPages.{pages_in_the_end};
 ghost use Rattle.mlt_hash.specs.declared.pass.Pass.{Pass};
@@ -18,7 +18,7 @@ ghost use Rattle.mlt_hash.specs.declared.pass.Phase.{Phase};
 use crate::answer::WalkAnswer;
 use crate::walk::Walk;
 use mlt_hash_form::Root;
-use mlt_page_locks::PageLocks;
+use mlt_held::LockedStore;
 use mlt_store::Store;
 use mlt_subtx::Subtx;
 use mlt_types::{OpenSet, Pseudo, Value};
@@ -29,8 +29,7 @@ use std::marker::Model;
 #[derive(Drop)]
 pub(crate) struct Runner {
     pub(crate) subtx: Subtx,
-    pub(crate) store: Store,
-    pub(crate) locks: PageLocks,
+    pub(crate) pages: LockedStore,
     /// Nobody: no ghost keeps its room.
     pub(crate) opens: OpenSet,
 }
@@ -45,38 +44,34 @@ impl Model for Runner {
 
     ghost coded = { coded_moment };
 
-    ghost view = { λ runner. moment runner.subtx runner.locks runner.store };
+    ghost view = { λ runner. moment runner.subtx runner.pages };
 
-    ghost invariant = { λ runner. IsAlone (moment runner.subtx runner.locks runner.store) × (runner.opens ≡ set.empty) };
+    ghost invariant = { λ runner. IsAlone (moment runner.subtx runner.pages) × (runner.opens ≡ set.empty) };
 }
 
 impl Runner {
     /// One step of a walk.
     pub(crate) fn step<P: Pseudo>(&mut self, walk: &mut Walk, root: &Root<P>) -> WalkAnswer
         requires under_way { IsUnderWay walk.old.phase }
-        requires file { IsHashFile (P.bits_of root.now.pseudo) (pages_before self.old) root.now.page root.now.max_depth }
-        requires stands { IsStanding (basis_of (P.bits_of root.now.pseudo) root.now.page root.now.max_depth self.old) walk.old (view_of self.old) }
+        requires file { IsFileBefore P.bits_of root.now self.old }
+        requires stands { IsStanding (basis_alone P.bits_of root.now self.old) walk.old (view_of self.old) }
         ensures keeps { KeepsBefore self.old self.new }
-        ensures tells { TellsAt walk.old.phase (basis_of (P.bits_of root.now.pseudo) root.now.page root.now.max_depth self.old) self.old self.new walk.old walk.new result }
+        ensures tells { TellsAt walk.old.phase (basis_alone P.bits_of root.now self.old)
+            self.old self.new walk.old walk.new result }
         ensures goes { HasNotWaited result }
         ensures alone { IsAlone self.old × IsAlone self.new }
     {
-        walk.advance(
-            root,
-            &mut self.subtx,
-            &mut self.store,
-            &mut self.locks,
-            &self.opens,
-        )
+        walk.advance(root, &mut self.subtx, &mut self.pages, &self.opens)
     }
 
     /// Goes on to the bucket of the walk's key: the value that the key has there, if it has one.
     pub(crate) fn find<P: Pseudo>(&mut self, walk: &mut Walk, root: &Root<P>) -> Option<Value>
         requires start { walk.old.phase ≡ Phase.Start }
         requires nothing { IsAtStart (view_of self.old) }
-        requires file { IsHashFile (P.bits_of root.now.pseudo) (pages_before self.old) root.now.page root.now.max_depth }
+        requires file { IsFileBefore P.bits_of root.now self.old }
         ensures keeps { KeepsBefore self.old self.new }
-        ensures arrives { HasArrived (basis_of (P.bits_of root.now.pseudo) root.now.page root.now.max_depth self.old) self.new walk.old walk.new result }
+        ensures arrives { HasArrived (basis_alone P.bits_of root.now self.old)
+            self.new walk.old walk.new result }
         ensures alone { IsAlone self.new }
     {
         loop {
@@ -98,20 +93,14 @@ impl Runner {
         requires start { walk.old.phase ≡ Phase.Start }
         requires mode { walk.old.mode ≡ Mode.Exclusive }
         requires nothing { IsAtStart (view_of self.old) }
-        requires file { IsHashFile (P.bits_of root.now.pseudo) (pages_before self.old) root.now.page root.now.max_depth }
-        requires absent { look_up (P.bits_of root.now.pseudo) (pages_before self.old) root.now.page walk.old.key ≡ None }
+        requires file { IsFileBefore P.bits_of root.now self.old }
+        requires absent { IsAbsentBefore P.bits_of root.now self.old walk.old.key }
         ensures keeps { KeepsBefore self.old self.new }
-        ensures tells { TellsOfPass (basis_of (P.bits_of root.now.pseudo) root.now.page root.now.max_depth self.old) self.new walk.old walk.new value result }
+        ensures tells { TellsOfPass (basis_alone P.bits_of root.now self.old)
+            self.new walk.old walk.new value result }
     {
         self.find(walk, root);
-        walk.insert(
-            value,
-            root,
-            &mut self.subtx,
-            &mut self.store,
-            &self.locks,
-            &self.opens,
-        )
+        walk.insert(value, root, &mut self.subtx, &mut self.pages, &self.opens)
     }
 
     /// Rolls a pass back that found no room, and runs the one that follows.
@@ -123,10 +112,11 @@ impl Runner {
     ) -> WalkAnswer
         requires full { walk.old.phase ≡ Phase.Full (next_of walk.old.phase) }
         requires mode { walk.old.mode ≡ Mode.Exclusive }
-        requires file { IsHashFile (P.bits_of root.now.pseudo) (pages_before self.old) root.now.page root.now.max_depth }
-        requires absent { look_up (P.bits_of root.now.pseudo) (pages_before self.old) root.now.page walk.old.key ≡ None }
+        requires file { IsFileBefore P.bits_of root.now self.old }
+        requires absent { IsAbsentBefore P.bits_of root.now self.old walk.old.key }
         ensures keeps { KeepsBefore self.old self.new }
-        ensures tells { TellsOfPass (basis_of (P.bits_of root.now.pseudo) root.now.page root.now.max_depth self.old) self.new (record walk.old { pass = next_of walk.old.phase; phase = Phase.Start }) walk.new value result }
+        ensures tells { TellsOfPass (basis_alone P.bits_of root.now self.old)
+            self.new (record walk.old { pass = next_of walk.old.phase; phase = Phase.Start }) walk.new value result }
     {
         self.roll_back();
         walk.again();
@@ -135,10 +125,11 @@ impl Runner {
 
     /// Splits the bucket until there is room, and adds the record.
     pub(crate) fn split<P: Pseudo>(&mut self, walk: &mut Walk, root: &Root<P>) -> WalkAnswer
-        requires file { IsHashFile (P.bits_of root.now.pseudo) (pages_before self.old) root.now.page root.now.max_depth }
-        requires adds { MayAdd (basis_of (P.bits_of root.now.pseudo) root.now.page root.now.max_depth self.old) self.old walk.old }
+        requires file { IsFileBefore P.bits_of root.now self.old }
+        requires adds { MayAdd (basis_alone P.bits_of root.now self.old) self.old walk.old }
         ensures keeps { KeepsBefore self.old self.new }
-        ensures tells { TellsOfSplits (basis_of (P.bits_of root.now.pseudo) root.now.page root.now.max_depth self.old) self.new walk.old.key (added_value walk.old.phase) (pages_in_the_end root.now.page walk.old self.old) result }
+        ensures tells { TellsOfSplits (basis_alone P.bits_of root.now self.old)
+            self.new walk.old.key (added_value walk.old.phase) (pages_in_the_end root.now.page walk.old self.old) result }
     {
         loop {
             match self.step(walk, root) {
@@ -158,10 +149,11 @@ impl Runner {
         requires full { walk.old.phase ≡ Phase.Full (next_of walk.old.phase) }
         requires later { next_of walk.old.phase ≢ Pass.First }
         requires mode { walk.old.mode ≡ Mode.Exclusive }
-        requires file { IsHashFile (P.bits_of root.now.pseudo) (pages_before self.old) root.now.page root.now.max_depth }
-        requires absent { look_up (P.bits_of root.now.pseudo) (pages_before self.old) root.now.page walk.old.key ≡ None }
+        requires file { IsFileBefore P.bits_of root.now self.old }
+        requires absent { IsAbsentBefore P.bits_of root.now self.old walk.old.key }
         ensures keeps { KeepsBefore self.old self.new }
-        ensures tells { TellsOfLater (basis_of (P.bits_of root.now.pseudo) root.now.page root.now.max_depth self.old) self.new (record walk.old { pass = next_of walk.old.phase; phase = Phase.Start }) walk.new value result }
+        ensures tells { TellsOfLater (basis_alone P.bits_of root.now self.old)
+            self.new (record walk.old { pass = next_of walk.old.phase; phase = Phase.Start }) walk.new value result }
     {
         match self.add_again(walk, value, root) {
             WalkAnswer::NeedSplit => self.split(walk, root),
@@ -179,10 +171,11 @@ impl Runner {
         requires full { walk.old.phase ≡ Phase.Full (next_of walk.old.phase) }
         requires later { next_of walk.old.phase ≢ Pass.First }
         requires mode { walk.old.mode ≡ Mode.Exclusive }
-        requires file { IsHashFile (P.bits_of root.now.pseudo) (pages_before self.old) root.now.page root.now.max_depth }
-        requires absent { look_up (P.bits_of root.now.pseudo) (pages_before self.old) root.now.page walk.old.key ≡ None }
+        requires file { IsFileBefore P.bits_of root.now self.old }
+        requires absent { IsAbsentBefore P.bits_of root.now self.old walk.old.key }
         ensures keeps { KeepsBefore self.old self.new }
-        ensures tells { TellsOfInsertion (basis_of (P.bits_of root.now.pseudo) root.now.page root.now.max_depth self.old) self.new walk.old.key value result }
+        ensures tells { TellsOfInsertion (basis_alone P.bits_of root.now self.old)
+            self.new walk.old.key value result }
     {
         match self.add_with_splits(walk, value, root) {
             WalkAnswer::Widen => self.add_with_splits(walk, value, root),
@@ -200,10 +193,11 @@ impl Runner {
         requires start { (walk.old.phase ≡ Phase.Start) × (walk.old.pass ≡ Pass.First) }
         requires mode { walk.old.mode ≡ Mode.Exclusive }
         requires nothing { IsAtStart (view_of self.old) }
-        requires file { IsHashFile (P.bits_of root.now.pseudo) (pages_before self.old) root.now.page root.now.max_depth }
-        requires absent { look_up (P.bits_of root.now.pseudo) (pages_before self.old) root.now.page walk.old.key ≡ None }
+        requires file { IsFileBefore P.bits_of root.now self.old }
+        requires absent { IsAbsentBefore P.bits_of root.now self.old walk.old.key }
         ensures keeps { KeepsBefore self.old self.new }
-        ensures tells { TellsOfInsertion (basis_of (P.bits_of root.now.pseudo) root.now.page root.now.max_depth self.old) self.new walk.old.key value result }
+        ensures tells { TellsOfInsertion (basis_alone P.bits_of root.now self.old)
+            self.new walk.old.key value result }
     {
         match self.add(walk, value, root) {
             WalkAnswer::NeedSplit => self.add_in_later_passes(walk, value, root),
@@ -215,37 +209,26 @@ impl Runner {
     pub(crate) fn update<P: Pseudo>(&mut self, walk: &mut Walk, value: Value, root: &Root<P>)
         requires mode { walk.old.mode ≡ Mode.Exclusive }
         requires found { IsAtRecord walk.old.phase }
-        requires file { IsHashFile (P.bits_of root.now.pseudo) (pages_before self.old) root.now.page root.now.max_depth }
-        requires stands { IsStanding (basis_of (P.bits_of root.now.pseudo) root.now.page root.now.max_depth self.old) walk.old (view_of self.old) }
+        requires file { IsFileBefore P.bits_of root.now self.old }
+        requires stands { IsStanding (basis_alone P.bits_of root.now self.old) walk.old (view_of self.old) }
         ensures keeps { KeepsBefore self.old self.new }
-        ensures changes { HasChanged (basis_of (P.bits_of root.now.pseudo) root.now.page root.now.max_depth self.old) self.new walk.old.key (Some value) }
+        ensures changes { HasChanged (basis_alone P.bits_of root.now self.old)
+            self.new walk.old.key (Some value) }
     {
-        walk.update(
-            value,
-            root,
-            &mut self.subtx,
-            &mut self.store,
-            &self.locks,
-            &self.opens,
-        );
+        walk.update(value, &mut self.subtx, &mut self.pages);
     }
 
     /// Removes the record of the walk's key, which the walk has found.
     pub(crate) fn remove<P: Pseudo>(&mut self, walk: &mut Walk, root: &Root<P>)
         requires mode { walk.old.mode ≡ Mode.Exclusive }
         requires found { IsAtRecord walk.old.phase }
-        requires file { IsHashFile (P.bits_of root.now.pseudo) (pages_before self.old) root.now.page root.now.max_depth }
-        requires stands { IsStanding (basis_of (P.bits_of root.now.pseudo) root.now.page root.now.max_depth self.old) walk.old (view_of self.old) }
+        requires file { IsFileBefore P.bits_of root.now self.old }
+        requires stands { IsStanding (basis_alone P.bits_of root.now self.old) walk.old (view_of self.old) }
         ensures keeps { KeepsBefore self.old self.new }
-        ensures changes { HasChanged (basis_of (P.bits_of root.now.pseudo) root.now.page root.now.max_depth self.old) self.new walk.old.key None }
+        ensures changes { HasChanged (basis_alone P.bits_of root.now self.old)
+            self.new walk.old.key None }
     {
-        walk.remove(
-            root,
-            &mut self.subtx,
-            &mut self.store,
-            &self.locks,
-            &self.opens,
-        );
+        walk.remove(&mut self.subtx, &mut self.pages);
     }
 
     /// Keeps what was written, and releases all locks.
@@ -254,7 +237,7 @@ impl Runner {
         ensures tx { self.new.running.tx ≡ self.old.running.tx }
         ensures idle { IsIdle self.new }
     {
-        self.subtx.end(&mut self.locks);
+        self.subtx.end(&mut self.pages.locks);
     }
 
     /// Leaves the pages as they were before, and releases all locks.
@@ -262,6 +245,7 @@ impl Runner {
         ensures keeps { KeepsBefore self.old self.new }
         ensures idle { IsIdle self.new }
     {
-        self.subtx.roll_back(&mut self.store, &mut self.locks);
+        self.subtx
+            .roll_back(&mut self.pages.store, &mut self.pages.locks);
     }
 }

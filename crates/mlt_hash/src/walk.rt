@@ -2,12 +2,10 @@
 
 ghost use Rattle.std.specs.Prelude.{◌≡◌, ◌≤◌, ◌↔◌, ℕ, Option, None};
 ghost use Rattle.std.specs.FinMap as map;
-ghost use Rattle.mlt_page.specs.declared.page.Page.{Page};
-ghost use Rattle.mlt_held.specs.Moments.{HasCleanFile, IsCleanFor, MayStep, moment};
-ghost use Rattle.mlt_held.specs.PageSteps.{TouchesOnePage};
-ghost use Rattle.mlt_held.specs.Views.{view_of};
+ghost use Rattle.mlt_held.specs.Moments.{moment};
+ghost use Rattle.mlt_held.specs.PageSteps.{HasNoPageLeft, Leaves};
 ghost use Rattle.mlt_hash.specs.Passes.{next_of};
-ghost use Rattle.mlt_hash.specs.Walks.{IsStanding};
+ghost use Rattle.mlt_hash.specs.Walks.{MayWalk, basis_by};
 ghost use Rattle.mlt_hash.specs.Splitting.{HasToMake, IsUnderWay, TellsAt};
 
 use crate::adding::{add_or_split, go_on_splitting};
@@ -15,9 +13,8 @@ use crate::answer::WalkAnswer;
 use crate::pass::{Pass, Phase};
 use crate::path::{read_bucket, read_directory, read_header};
 use mlt_hash_form::Root;
-use mlt_page_locks::PageLocks;
+use mlt_held::LockedStore;
 use mlt_split::Split;
-use mlt_store::Store;
 use mlt_subtx::Subtx;
 use mlt_types::{Key, Mode, OpenSet, Pseudo, Refusal};
 use std::alloc::Global;
@@ -80,37 +77,34 @@ impl Walk {
         &mut self,
         root: &Root<P>,
         subtx: &mut Subtx,
-        store: &mut Store,
-        locks: &mut PageLocks,
+        pages: &mut LockedStore,
         opens: &OpenSet,
     ) -> WalkAnswer
         requires under_way { IsUnderWay self.old.phase }
-        requires max_depth { root.now.max_depth ≤ 16 }
-        requires may { MayStep (moment subtx.old locks.old store.old) }
-        requires file { HasCleanFile (P.bits_of root.now.pseudo) root.now.page (moment subtx.old locks.old store.old) }
-        requires stands { IsStanding (record { bits = P.bits_of root.now.pseudo; opens = opens.now; root = root.now.page; max_depth = root.now.max_depth; tx = subtx.old.tx }) self.old (view_of (moment subtx.old locks.old store.old)) }
-        ensures touches { TouchesOnePage (moment subtx.old locks.old store.old) (moment subtx.new locks.new store.new) }
-        ensures may { MayStep (moment subtx.new locks.new store.new) }
-        ensures clean { (clean : ℕ → Option Page) → IsCleanFor (moment subtx.old locks.old store.old) clean → IsCleanFor (moment subtx.new locks.new store.new) clean }
-        ensures no_room { (result ≡ WalkAnswer.Refused Refusal.NoRoom) ↔ (HasToMake self.old.phase (record { bits = P.bits_of root.now.pseudo; opens = opens.now; root = root.now.page; max_depth = root.now.max_depth; tx = subtx.old.tx }) (moment subtx.old locks.old store.old) self.old × (map.len store.old.pages ≡ store.old.max_pages)) }
-        ensures tells { TellsAt self.old.phase (record { bits = P.bits_of root.now.pseudo; opens = opens.now; root = root.now.page; max_depth = root.now.max_depth; tx = subtx.old.tx }) (moment subtx.old locks.old store.old) (moment subtx.new locks.new store.new) self.old self.new result }
+        requires ready { MayWalk (basis_by P.bits_of root.now opens.now subtx.old.tx)
+            (moment subtx.old pages.old) self.old }
+        ensures leaves { Leaves (moment subtx.old pages.old) (moment subtx.new pages.new) }
+        ensures no_room { (result ≡ WalkAnswer.Refused Refusal.NoRoom)
+            ↔ (HasToMake self.old.phase (basis_by P.bits_of root.now opens.now subtx.old.tx)
+            (moment subtx.old pages.old) self.old
+            × HasNoPageLeft pages.old.store) }
+        ensures tells { TellsAt self.old.phase (basis_by P.bits_of root.now opens.now subtx.old.tx)
+            (moment subtx.old pages.old) (moment subtx.new pages.new) self.old self.new result }
     {
         let phase = self.phase;
         match phase {
-            Phase::Start => read_header(self, root, subtx, store, locks),
+            Phase::Start => read_header(self, root, subtx, pages),
             Phase::Headed(dir, row, depth) => {
-                read_directory(self, dir, row, depth, root, subtx, store, locks)
+                read_directory(self, dir, row, depth, root, subtx, pages)
             }
-            Phase::Placed(bucket, depth) => {
-                read_bucket(self, bucket, depth, root, subtx, store, locks)
-            }
+            Phase::Placed(bucket, depth) => { read_bucket(self, bucket, depth, root, subtx, pages) }
             Phase::Adding(value, bucket, depth, unsplit) => {
                 add_or_split(
-                    self, value, bucket, depth, unsplit, root, subtx, store, locks, opens,
+                    self, value, bucket, depth, unsplit, root, subtx, pages, opens,
                 )
             }
             Phase::Splitting(value, depth) => {
-                go_on_splitting(self, value, depth, root, subtx, store, locks, opens)
+                go_on_splitting(self, value, depth, root, subtx, pages, opens)
             }
             Phase::AtBucket(_, _, _) | Phase::Full(_) | Phase::Changed(_, _) => unreachable!(),
         }

@@ -1,4 +1,8 @@
+pub mod AllEvents
+pub mod AllRunning
+pub mod Leaving
 pub mod Moments
-pub mod Views
 pub mod Others
+pub mod OwnSteps
 pub mod Results
+pub mod Views

@@ -9,15 +9,15 @@ use Rattle.mlt_types.specs.declared.mode.Mode.{Mode}
 use Rattle.mlt_types.specs.declared.mode.Mode.TheVariants.{Exclusive}
 use Rattle.mlt_page.specs.declared.page.Page.{Page}
 use Rattle.mlt_store.specs.Stores.{PageStore, Pages, page_at}
-use Rattle.mlt_page_locks.specs.Maps.{get_inserted}
+use Rattle.mlt_page_locks.proofs.Maps.{get_inserted}
 use Rattle.mlt_page_locks.specs.LockTables.{AreCompatible, HasRoom, LockTable, can_read, can_write, page_count, pages_of}
 use Rattle.mlt_page_locks.specs.Requests.{IsNobody, conflicts, granted, stronger, with_page}
-use Rattle.mlt_page_locks.specs.LockLaws.{can_write-granted, compatible_granted, conflicts-exclusive, page_count-granted, pages_of-granted}
+use Rattle.mlt_page_locks.proofs.LockLaws.{can_write-granted, compatible_granted, conflicts-exclusive, page_count-granted, pages_of-granted}
 use Rattle.mlt_subtx.specs.Images.{Images, image_of, started, with_image}
-use Rattle.mlt_subtx.specs.ImageLaws.{fresh_has_no_image, image_of-with_image, there_made, there_none, there_written}
-use Rattle.mlt_subtx.specs.CleanLaws.{not_true}
+use Rattle.mlt_subtx.proofs.ImageLaws.{fresh_has_no_image, image_of-with_image, there_made, there_none, there_written}
+use Rattle.mlt_subtx.proofs.CleanLaws.{not_true}
 use Rattle.mlt_subtx.specs.Locking.{LocksPagesThere}
-use Rattle.mlt_subtx.specs.RunningLaws.{locks_there-granted, locks_there-written}
+use Rattle.mlt_subtx.proofs.RunningLaws.{locks_there-granted, locks_there-written}
 use Rattle.mlt_held.specs.Moments.{IsCleanFor, MayStep, Moment, page_before}
 use Rattle.mlt_held.specs.PageSteps.{LocksAtMost, LocksPage, MakesLockedPage, TouchesOnePage, WritesAtMost, WritesHeldPage}
 

@@ -7,9 +7,9 @@ use Rattle.mlt_types.specs.declared.mode.Mode.{Mode}
 use Rattle.mlt_types.specs.declared.mode.Mode.TheVariants.{Exclusive}
 use Rattle.mlt_page.specs.declared.page.Page.{Page}
 use Rattle.mlt_store.specs.Stores.{Pages, PageStore, page_at}
-use Rattle.mlt_page_locks.specs.Maps.{get_inserted}
+use Rattle.mlt_page_locks.proofs.Maps.{get_inserted}
 use Rattle.mlt_page_locks.specs.LockTables.{KeepsOthers, LockTable, Modes, allows_write, can_read, can_write, pages_of}
-use Rattle.mlt_page_locks.specs.LockLaws.{granted_keeps_others}
+use Rattle.mlt_page_locks.proofs.LockLaws.{granted_keeps_others}
 use Rattle.mlt_subtx.specs.Images.{AreThere, Running, image_of, or_image}
 use Rattle.mlt_held.specs.Moments.{MayStep, Moment, page_before}
 use Rattle.mlt_held.specs.PageSteps.{LocksAtMost, LocksPage, MakesLockedPage, TouchesOnePage, WritesAtMost, WritesHeldPage}
@@ -116,7 +116,7 @@ step_drops_no_page old new may step = (step_leaves old new may step).there
 pub step_keeps_tx : (old new : Moment) → MayStep old → TouchesOnePage old new → new.running.tx ≡ old.running.tx
 step_keeps_tx old new may step = (step_leaves old new may step).running
 
-same_where_held : {X : Type 0} (b c : Bool) (x y z : X) → c ≡ b → (b ≡ true → y ≡ x) → cond c y z ≡ cond b x z
+pub same_where_held : {X : Type 0} (b c : Bool) (x y z : X) → c ≡ b → (b ≡ true → y ≡ x) → cond c y z ≡ cond b x z
 same_where_held true c x y z same is = ap (λ b. cond b y z) same ∙ is refl
 same_where_held false c x y z same is = ap (λ b. cond b y z) same
 

@@ -10,10 +10,10 @@ use Rattle.mlt_page_locks.specs.LockTables.{LockTable, can_read, can_write}
 use Rattle.mlt_page_locks.specs.Requests.{IsNobody, conflicts, granted}
 use Rattle.mlt_subtx.specs.Images.{Running, with_image}
 use Rattle.mlt_hash_form.specs.Held.{own_or}
-use Rattle.mlt_held.specs.Moments.{IsCleanFor, MayStep, Moment, page_before}
-use Rattle.mlt_held.specs.PageSteps.{LocksPage, MakesLockedPage, WritesHeldPage}
+use Rattle.mlt_held.specs.Moments.{MayStep, Moment, page_before}
+use Rattle.mlt_held.specs.PageSteps.{Leaves, LocksPage, MakesLockedPage, WritesHeldPage}
 use Rattle.mlt_held.specs.Views.{MakesPage, WritesPage, own_at, seen_at, view_of}
-use Rattle.mlt_held.proofs.Moments.{clean_after_make, clean_after_write, may_after_make, may_after_write}
+use Rattle.mlt_held.proofs.Leaving.{leaves_by_making, leaves_by_writing, leaves_it}
 use Rattle.mlt_held.proofs.Views.{make_makes, reads_what_is_there, seen_held, write_writes}
 
 -- a lock of the transaction of this number, which was granted
@@ -26,6 +26,11 @@ lock_granted m locks tx q mode own there answer = record {
   running = refl;
   store = refl;
 }
+
+-- the page that is there
+pub page_there : (o : Option Page) → is_some o ≡ true → (page : Page) × (o ≡ Some page)
+page_there None is = cc
+page_there (Some page) is = (page, refl)
 
 -- what a held page has is read in the view
 pub read_in_view : (m : Moment) (q : ℕ) (page : Page) → MayStep m → can_read m.locks m.running.tx q ≡ true → page_at m.store.pages q ≡ Some page → (first : Option Page) × (seen_at m q ≡ Some first) × (own_or (own_at m q) first ≡ Some page)
@@ -43,13 +48,9 @@ pub write_told : {A E : Type 0} (m : Moment) (running : Running) (store : PageSt
 write_told m running store q page (Ok done) held pages images same = record { held = held; locks = refl; running = images; store = pages }
 write_told m running store q page (Err refusal) held pages images same = λ i. record { running = same.0 i; locks = m.locks; store = same.1 i }
 
-pub may_after_write_told : {A E : Type 0} (m new : Moment) (q : ℕ) (page : Page) (result : Result A E) → MayStep m → WriteTold m new q page result → MayStep new
-may_after_write_told m new q page (Ok done) may told = may_after_write m new q page may told
-may_after_write_told m new q page (Err refusal) may told = subst MayStep (sym told) may
-
-pub clean_after_write_told : {A E : Type 0} (m new : Moment) (q : ℕ) (page : Page) (result : Result A E) → WriteTold m new q page result → (clean : ℕ → Option Page) → IsCleanFor m clean → IsCleanFor new clean
-clean_after_write_told m new q page (Ok done) told clean is = clean_after_write m new q page clean told is
-clean_after_write_told m new q page (Err refusal) told clean is = subst (λ (m : Moment). IsCleanFor m clean) (sym told) is
+pub leaves_after_write_told : {A E : Type 0} (m new : Moment) (q : ℕ) (page : Page) (result : Result A E) → MayStep m → WriteTold m new q page result → Leaves m new
+leaves_after_write_told m new q page (Ok done) may told = leaves_by_writing m new q page may told
+leaves_after_write_told m new q page (Err refusal) may told = leaves_it m new may told
 
 pub view_after_write_told : {A E : Type 0} (m new : Moment) (q : ℕ) (page : Page) (result : Result A E) → WriteTold m new q page result → OnOk result (WritesPage (view_of m) (view_of new) q page)
 view_after_write_told m new q page (Ok done) told = write_writes m new q page told
@@ -69,13 +70,9 @@ pub make_told : {E : Type 0} (m new : Moment) (page : Page) (result : Result ℕ
 make_told m new page (Ok q) fresh pages images locks same = record { fresh = fresh; locks = locks; running = images; store = pages }
 make_told m new page (Err refusal) fresh pages images locks same = λ i. record { running = same.0 i; locks = same.2 i; store = same.1 i }
 
-pub may_after_make_told : {E : Type 0} (m new : Moment) (page : Page) (result : Result ℕ E) → MayStep m → MakeTold m new page result → MayStep new
-may_after_make_told m new page (Ok q) may told = may_after_make m new q page may told
-may_after_make_told m new page (Err refusal) may told = subst MayStep (sym told) may
-
-pub clean_after_make_told : {E : Type 0} (m new : Moment) (page : Page) (result : Result ℕ E) → MayStep m → MakeTold m new page result → (clean : ℕ → Option Page) → IsCleanFor m clean → IsCleanFor new clean
-clean_after_make_told m new page (Ok q) may told clean is = clean_after_make m new q page clean may told is
-clean_after_make_told m new page (Err refusal) may told clean is = subst (λ (m : Moment). IsCleanFor m clean) (sym told) is
+pub leaves_after_make_told : {E : Type 0} (m new : Moment) (page : Page) (result : Result ℕ E) → MayStep m → MakeTold m new page result → Leaves m new
+leaves_after_make_told m new page (Ok q) may told = leaves_by_making m new q page may told
+leaves_after_make_told m new page (Err refusal) may told = leaves_it m new may told
 
 pub view_after_make_told : {E : Type 0} (m new : Moment) (page : Page) (result : Result ℕ E) → MayStep m → MakeTold m new page result → IfOk result (λ q. MakesPage (view_of m) (view_of new) q page)
 view_after_make_told m new page (Ok q) may told = make_makes m new q page may told

@@ -9,19 +9,19 @@ use Rattle.mlt_types.specs.declared.mode.Mode.{Mode}
 use Rattle.mlt_types.specs.declared.mode.Mode.TheVariants.{Exclusive, Shared}
 use Rattle.mlt_page.specs.declared.page.Page.{Page}
 use Rattle.mlt_store.specs.Stores.{Pages, page_at}
-use Rattle.mlt_page_locks.specs.Maps.{get_inserted}
+use Rattle.mlt_page_locks.proofs.Maps.{get_inserted}
 use Rattle.mlt_page_locks.specs.LockTables.{LockTable, Modes, allows_write, can_read, can_write, page_count, pages_of}
 use Rattle.mlt_page_locks.specs.Requests.{granted, stronger, with_page}
-use Rattle.mlt_page_locks.specs.LockLaws.{can_read-granted, pages_of-granted, writer_reads}
+use Rattle.mlt_page_locks.proofs.LockLaws.{can_read-granted, pages_of-granted, writer_reads}
 use Rattle.mlt_subtx.specs.Images.{Images, image_of, or_image, with_image}
-use Rattle.mlt_subtx.specs.ImageLaws.{fresh_has_no_image, image_of-with_image}
-use Rattle.mlt_subtx.specs.CleanLaws.{not_true}
+use Rattle.mlt_subtx.proofs.ImageLaws.{fresh_has_no_image, image_of-with_image}
+use Rattle.mlt_subtx.proofs.CleanLaws.{not_true}
 use Rattle.mlt_hash_form.specs.File.{Writes}
 use Rattle.mlt_hash_form.specs.Held.{Agrees, over, own_or}
 use Rattle.mlt_hash_form.proofs.HeldPages.{writes_over}
 use Rattle.mlt_held.specs.Moments.{IsCleanFor, MayStep, Moment, page_before}
 use Rattle.mlt_held.specs.PageSteps.{LocksPage, MakesLockedPage, WritesHeldPage}
-use Rattle.mlt_held.specs.Views.{MakesPage, ReadsPage, View, WritesPage, own_at, page_written, seen_at, view_of}
+use Rattle.mlt_held.specs.Views.{MakesPage, ReadsHeldPage, ReadsPage, SeesPage, View, WritesPage, own_at, page_written, seen_at, view_of}
 use Rattle.mlt_held.proofs.Moments.{fresh_is_free, is_locked, is_made, is_written, locked, made, page_before-made, page_before-written, written}
 
 some_if : {X : Type 0} (b : Bool) (x y : X) → cond b (Some x) None ≡ Some y → (b ≡ true) × (x ≡ y)
@@ -182,6 +182,16 @@ reads_locked m q mode page may is = record {
 pub lock_reads : (old new : Moment) (q : ℕ) (mode : Mode) (page : Page) → MayStep old → LocksPage old new q mode → page_at old.store.pages q ≡ Some page → ReadsPage (view_of old) (view_of new) q mode (Some page)
 lock_reads old new q mode page may step is = subst (λ (m : Moment). ReadsPage (view_of old) (view_of m) q mode (Some page)) (sym (is_locked old new q mode step)) (reads_locked old q mode page may is)
 
+-- a page that was seen as it was locked reads as what is found there
+pub reads_seen : (old new : View) (q : ℕ) (mode : Mode) (page : Page) → SeesPage old new q mode → ReadsHeldPage new q page → ReadsPage old new q mode (Some page)
+reads_seen old new q mode page sees found = subst (λ p. ReadsPage old new q mode p) same sees.1
+  where
+    first : sees.1.first ≡ found.0
+    first = let both : Some sees.1.first ≡ Some found.0 = sym sees.1.here ∙ found.1 in cc
+
+    same : sees.0 ≡ Some page
+    same = sym sees.1.reads ∙ ap (λ f. own_or (old.own q) f) first ∙ ap (λ o. own_or o found.0) (sym (sees.1.own q)) ∙ found.2
+
 -- who locked a page may read it
 pub reads_after_lock : (old new : Moment) (q : ℕ) (mode : Mode) → LocksPage old new q mode → can_read new.locks old.running.tx q ≡ true
 reads_after_lock old new q mode step = subst (λ (locks : LockTable). can_read locks old.running.tx q ≡ true) (sym step.locks) (reads_granted old.locks old.running.tx q mode)
@@ -196,7 +206,7 @@ mode_of_others modes q mode p ne = grind (arith, nat_tests, get_inserted modes q
 has_image : (images : Images) (q : ℕ) (first page : Option Page) → page_written (image_of (with_image images q first) q) page ≡ page
 has_image images q first page = grind (arith, nat_tests, image_of-with_image images q first q)
 
-page_inserted : (pages : Pages) (q : ℕ) (page : Page) → page_at (map.insert pages q page) q ≡ Some page
+pub page_inserted : (pages : Pages) (q : ℕ) (page : Page) → page_at (map.insert pages q page) q ≡ Some page
 page_inserted pages q page = grind (arith, nat_tests, get_inserted pages q page q)
 
 other_image : (images : Images) (q : ℕ) (first : Option Page) (p : ℕ) → p ≢ q → image_of (with_image images q first) p ≡ image_of images p

@@ -8,6 +8,7 @@ use Rattle.mlt_page_locks.specs.Requests.{granted}
 use Rattle.mlt_subtx.specs.Images.{AreThere, Images, Running, image_of, or_image}
 use Rattle.mlt_subtx.specs.Locking.{LocksPagesThere}
 use Rattle.mlt_hash_form.specs.File.{HasForm}
+use Rattle.mlt_held.specs.declared.locked_store.LockedStore.{LockedStore}
 
 -- a running subtransaction, the page locks of all transactions, and the store
 pub record Moment : Type 0 where
@@ -15,8 +16,9 @@ pub record Moment : Type 0 where
   pub locks : LockTable
   pub store : PageStore
 
-abbrev pub moment : Running → LockTable → PageStore → Moment
-moment running locks store = record { running = running; locks = locks; store = store }
+-- what a transaction with this subtransaction works on
+abbrev pub moment : Running → LockedStore → Moment
+moment running pages = record { running = running; locks = pages.locks; store = pages.store }
 
 -- a page with the transaction's own first image put back
 abbrev pub page_before : Images → Pages → ℕ → Option Page

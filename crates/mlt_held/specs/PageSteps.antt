@@ -1,14 +1,14 @@
 -- One step on pages: it asks for at most one lock, and touches at most one page
-use Rattle.std.specs.Prelude.{ℕ, ◌≡◌, ◌⊎◌, true, is_some, None}
+use Rattle.std.specs.Prelude.{ℕ, ◌≡◌, ◌⊎◌, true, is_some, Option, None}
 use Rattle.std.specs.FinMap as map
 use Rattle.mlt_types.specs.declared.mode.Mode.{Mode}
 use Rattle.mlt_types.specs.declared.mode.Mode.TheVariants.{Exclusive}
 use Rattle.mlt_page.specs.declared.page.Page.{Page}
-use Rattle.mlt_store.specs.Stores.{page_at}
+use Rattle.mlt_store.specs.Stores.{PageStore, page_at}
 use Rattle.mlt_page_locks.specs.LockTables.{can_write}
 use Rattle.mlt_page_locks.specs.Requests.{IsNobody, conflicts, granted}
 use Rattle.mlt_subtx.specs.Images.{with_image}
-use Rattle.mlt_held.specs.Moments.{Moment}
+use Rattle.mlt_held.specs.Moments.{IsCleanFor, MayStep, Moment}
 
 -- page q, which is there, is locked in this mode, against which nobody else's lock stands
 pub record LocksPage (old new : Moment) (q : ℕ) (mode : Mode) : Type 0 where
@@ -43,3 +43,13 @@ WritesAtMost old new q = (new ≡ old) ⊎ ((page : Page) × WritesHeldPage old 
 -- a step locks and writes one page at most, or makes one
 abbrev pub TouchesOnePage : Moment → Moment → Type 0
 TouchesOnePage old new = (q : ℕ) × (((mid : Moment) × LocksAtMost old mid q × WritesAtMost mid new q) ⊎ ((page : Page) × MakesLockedPage old new q page))
+
+-- What each step leaves: one page was touched at most, the transaction may go on, and what was clean is.
+pub record Leaves (old new : Moment) : Type 0 where
+  pub touches : TouchesOnePage old new
+  pub may : MayStep new
+  pub clean : (clean : ℕ → Option Page) → IsCleanFor old clean → IsCleanFor new clean
+
+-- there are as many pages as there may be
+abbrev pub HasNoPageLeft : PageStore → Type 0
+HasNoPageLeft store = map.len store.pages ≡ store.max_pages

@@ -35,6 +35,10 @@ own_at m q = cond (can_read m.locks m.running.tx q) (page_written (image_of m.ru
 abbrev pub view_of : Moment → View
 view_of m = record { modes = pages_of m.locks m.running.tx; seen = seen_at m; own = own_at m }
 
+-- page q, which is held, reads as this, on whatever clean pages agree with the view
+abbrev pub ReadsHeldPage : View → ℕ → Page → Type 0
+ReadsHeldPage view q page = (first : Option Page) × (view.seen q ≡ Some first) × (own_or (view.own q) first ≡ Some page)
+
 -- page q is locked in this mode and reads as this, on whatever clean pages agree with the view
 pub record ReadsPage (old new : View) (q : ℕ) (mode : Mode) (page : Option Page) : Type 0 where
   pub modes : new.modes ≡ with_page old.modes q mode
@@ -44,6 +48,10 @@ pub record ReadsPage (old new : View) (q : ℕ) (mode : Mode) (page : Option Pag
   pub first : Option Page
   pub here : new.seen q ≡ Some first
   pub reads : own_or (old.own q) first ≡ page
+
+-- page q is locked in this mode, and is seen from now on
+abbrev pub SeesPage : View → View → ℕ → Mode → Type 0
+SeesPage old new q mode = (page : Option Page) × ReadsPage old new q mode page
 
 -- page q, which was held, is written
 pub record WritesPage (old new : View) (q : ℕ) (page : Page) : Type 0 where

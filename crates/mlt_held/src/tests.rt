@@ -2,9 +2,9 @@
 
 ghost use Rattle.std.specs.Prelude.{◌≡◌, ◌≤◌};
 ghost use Rattle.mlt_page_locks.specs.LockTables.{mode_held, page_count};
-ghost use Rattle.mlt_held.specs.Moments.{MayStep};
+ghost use Rattle.mlt_held.specs.Moments.{MayStep, moment};
 
-use crate::{lock_and_read, make_page, read_held, write_held};
+use crate::{LockedStore, lock, make_page, read_held, write_held};
 use mlt_page::{Bucket, Page};
 use mlt_page_locks::PageLocks;
 use mlt_store::Store;
@@ -17,29 +17,28 @@ use std::test::Fail;
 #[derive(Drop)]
 struct Bench {
     subtx: Subtx,
-    store: Store,
-    locks: PageLocks,
+    pages: LockedStore,
     most: u32,
-    ghost may: { MayStep (record { running = subtx; locks = locks; store = store }) },
-    ghost few: { page_count locks subtx.tx ≤ most },
+    ghost may: { MayStep (moment subtx pages) },
+    ghost few: { page_count pages.locks subtx.tx ≤ most },
 }
 
 impl Bench {
     // The page, if it is there.
     fn lock(&mut self, rt: &impl Abort, number: PageNo, mode: Mode) -> Result<Option<Page>, TxId> {
         assert!(rt; self.most < 64);
-        if self.store.read(number).is_none() {
+        if self.pages.store.read(number).is_none() {
             return Ok(None);
         }
-        let page = *lock_and_read(&self.subtx, &self.store, &mut self.locks, number, mode)?;
+        lock(&self.subtx, &mut self.pages, number, mode)?;
         self.most += 1;
-        Ok(Some(page))
+        Ok(Some(*read_held(&self.subtx, &self.pages, number)))
     }
 
     // The page, if it is held.
     fn read(&self, number: PageNo) -> Option<Page> {
         self.mode_of(number)?;
-        Some(*read_held(&self.subtx, &self.store, &self.locks, number))
+        Some(*read_held(&self.subtx, &self.pages, number))
     }
 
     // False where the page is not held exclusively.
@@ -47,21 +46,21 @@ impl Bench {
         if self.mode_of(number) != Some(Mode::Exclusive) {
             return Ok(false);
         }
-        write_held(&mut self.subtx, &mut self.store, &self.locks, number, page)?;
+        write_held(&mut self.subtx, &mut self.pages, number, page)?;
         Ok(true)
     }
 
     fn make(&mut self, rt: &impl Abort, page: Page) -> Result<PageNo, Refusal> {
         assert!(rt; self.most < 64);
-        let number = make_page(&mut self.subtx, &mut self.store, &mut self.locks, page)?;
+        let number = make_page(&mut self.subtx, &mut self.pages, page)?;
         self.most += 1;
         Ok(number)
     }
 
     fn mode_of(&self, number: PageNo) -> Option<Mode>
-        ensures { result ≡ mode_held self.now.locks self.now.subtx.tx number }
+        ensures { result ≡ mode_held self.now.pages.locks self.now.subtx.tx number }
     {
-        self.locks.mode_of(self.subtx.tx(), number)
+        self.pages.locks.mode_of(self.subtx.tx(), number)
     }
 }
 
@@ -89,8 +88,7 @@ fn at_work(rt: &HostRuntime, store: Store, read_by_another: PageNo) -> Result<Be
     let subtx = Subtx::start(rt.alloc(), TxId(7));
     Ok(Bench {
         subtx,
-        store,
-        locks,
+        pages: LockedStore { store, locks },
         most: 1,
     })
 }
@@ -137,6 +135,6 @@ fn pages_written_and_made(rt: HostRuntime) -> Result<(), Fail> {
     assert_eq!(rt; bench.read(made), Some(bucket(6)));
     assert_eq!(rt; bench.read(pages[0]), Some(bucket(5)));
     assert_eq!(rt; bench.make(&rt, bucket(7)), Err(Refusal::NoRoom));
-    assert_eq!(rt; bench.store.len(), 4);
+    assert_eq!(rt; bench.pages.store.len(), 4);
     Ok(())
 }

@@ -1,6 +1,6 @@
 //! What a walk knows of its pages, whatever other transactions do.
 
-ghost use Rattle.std.specs.Prelude.{ℕ, ◌≡◌, ◌≢◌, Option, is_some, true};
+ghost use Rattle.std.specs.Prelude.{ℕ, ◌≡◌, ◌≢◌, Option, Some, is_some, true};
 ghost use Rattle.mlt_page.specs.declared.page.Page.{Page};
 ghost use Rattle.mlt_page_locks.specs.LockTables.{can_write};
 ghost use Rattle.mlt_subtx.specs.Images.{AreThere, Running, image_of};
@@ -12,6 +12,12 @@ ghost use Rattle.mlt_held.specs.Views.{view_of};
 /// What a walk saw is on the clean pages.
 pub fn view_agrees_with_clean_pages()
     ensures { (m : Moment) (clean : ℕ → Option Page) → MayStep m → IsCleanFor m clean → Agrees (view_of m).seen clean }
+{}
+
+/// A transaction's own step lets what it sees only grow, so that what was found on its way stays on the clean pages.
+pub fn own_steps_see_more()
+    ensures { (old new : Moment) (q : ℕ) (first : Option Page) → MayStep old → TouchesOnePage old new
+        → (view_of old).seen q ≡ Some first → (view_of new).seen q ≡ Some first }
 {}
 
 /// A step of another transaction changes nothing of what a walk holds.

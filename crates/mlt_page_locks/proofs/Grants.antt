@@ -9,7 +9,7 @@ use Rattle.std.proofs.lemmas.List.Quantifiers.{position-Some}
 use Rattle.mlt_types.specs.declared.mode.Mode.{Mode}
 use Rattle.mlt_page_locks.specs.LockTables.{Modes, LockTable, pages_of, page_count, AreCompatible, HasRoom}
 use Rattle.mlt_page_locks.specs.Requests.{stronger, with_page, granted, released}
-use Rattle.mlt_page_locks.specs.LockLaws.{pages_of-granted, compatible_released}
+use Rattle.mlt_page_locks.proofs.LockLaws.{pages_of-granted, compatible_released}
 use Rattle.mlt_page_locks.specs.LockLists.{HeldPages, is_free, is_list_of, table_of, lists_in_use, lock_table, IsSound}
 use Rattle.mlt_page_locks.proofs.Tables.{Changed, own_list, new_list, freed_list, get-table_of_place, some_list_is_free}
 

@@ -1,3 +1,5 @@
+pub mod Maps
+pub mod LockLaws
 pub mod Pages
 pub mod Tables
 pub mod Conflicts

@@ -13,7 +13,7 @@ use Rattle.arrayvec.specs.ArrayVec.{ArrayVec, with_items}
 use Rattle.arrayvec.proofs.ArrayVecLemmas.{items-with_items}
 use Rattle.mlt_types.specs.declared.mode.Mode.{Mode}
 use Rattle.mlt_page_locks.specs.declared.lock_list.PageLock.{PageLock}
-use Rattle.mlt_page_locks.specs.Maps.{get_inserted, same_entries}
+use Rattle.mlt_page_locks.proofs.Maps.{get_inserted, same_entries}
 use Rattle.mlt_page_locks.specs.LockTables.{Modes}
 use Rattle.mlt_page_locks.specs.Requests.{stronger, with_page}
 use Rattle.mlt_page_locks.specs.LockLists.{modes_of}

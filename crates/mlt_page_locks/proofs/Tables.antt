@@ -11,7 +11,7 @@ use Rattle.std.proofs.lemmas.Iterator.Adapters.{position_from-zero}
 use Rattle.std.proofs.lemmas.List.{length-replicate}
 use Rattle.std.proofs.lemmas.List.Quantifiers.{position-Some}
 use Rattle.mlt_types.specs.declared.mode.Mode.{Mode}
-use Rattle.mlt_page_locks.specs.Maps.{get_inserted, get_removed, same_entries}
+use Rattle.mlt_page_locks.proofs.Maps.{get_inserted, get_removed, same_entries}
 use Rattle.mlt_page_locks.specs.LockTables.{Modes, LockTable, mode_held, no_locks, AreCompatible}
 use Rattle.mlt_page_locks.specs.Requests.{released}
 use Rattle.mlt_page_locks.specs.LockLists.{HeldPages, is_free, is_list_of, table_of, lists_in_use, lock_table, IsSound}

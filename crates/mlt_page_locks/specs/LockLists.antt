@@ -17,7 +17,9 @@ pub record HeldPages : Type 0 where
   pub modes : Modes
 
 abbrev pub coded_pages : Coded HeldPages
-coded_pages = code_by (ℕ × Modes) (coded× coded_ℕ coded_modes) (λ p. (p.tx, p.modes)) (λ p. record { tx = p.0; modes = p.1 }) (λ _. refl)
+coded_pages =
+    code_by (ℕ × Modes) (coded× coded_ℕ coded_modes)
+    (λ p. (p.tx, p.modes)) (λ p. record { tx = p.0; modes = p.1 }) (λ _. refl)
 
 -- a list with no lock is nobody's
 abbrev pub is_free : HeldPages → Bool
@@ -30,7 +32,8 @@ is_list_of tx pages = pages.tx == tx && not (is_free pages)
 -- what the transactions hold, by the first list of each
 abbrev pub table_of : List HeldPages → map.FinMap nat_cmp Modes
 table_of [] = map.empty
-table_of (pages ∷ lists) = cond (is_free pages) (table_of lists) (map.insert (table_of lists) pages.tx pages.modes)
+table_of (pages ∷ lists) =
+    cond (is_free pages) (table_of lists) (map.insert (table_of lists) pages.tx pages.modes)
 
 -- how many lists are somebody's
 abbrev pub lists_in_use : List HeldPages → ℕ

@@ -79,7 +79,8 @@ pub record HasAtMost (n : ℕ) (table : LockTable) : Type 0 where
 
 -- each transaction that holds a page is one of these
 abbrev pub HoldersAreAmong : LockTable → List ℕ → Type 0
-HoldersAreAmong table numbers = (tx : ℕ) → is_holder table tx ≡ true → list_any (λ n. n == tx) numbers ≡ true
+HoldersAreAmong table numbers =
+    (tx : ℕ) → is_holder table tx ≡ true → list_any (λ n. n == tx) numbers ≡ true
 
 abbrev pub mode_from : Bool → Mode
 mode_from false = Shared
@@ -99,4 +100,5 @@ coded_modes = map.code coded_ℕ coded_mode
 -- a table is stored as its parts
 abbrev pub coded_table : Coded LockTable
 coded_table =
-    code_by (map.FinMap nat_cmp Modes × ℕ) (coded× (map.code coded_ℕ coded_modes) coded_ℕ) (λ t. (t.held, t.max_open)) (λ p. record { held = p.0; max_open = p.1 }) (λ _. refl)
+    code_by (map.FinMap nat_cmp Modes × ℕ) (coded× (map.code coded_ℕ coded_modes) coded_ℕ)
+    (λ t. (t.held, t.max_open)) (λ p. record { held = p.0; max_open = p.1 }) (λ _. refl)

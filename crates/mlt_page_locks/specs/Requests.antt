@@ -38,7 +38,10 @@ with_page modes q mode = map.insert modes q (stronger (map.get modes q) mode)
 
 -- the table once tx has page q granted in this mode
 abbrev pub granted : LockTable → ℕ → ℕ → Mode → LockTable
-granted table tx q mode = record { held = map.insert table.held tx (with_page (pages_of table tx) q mode); max_open = table.max_open }
+granted table tx q mode = record {
+  held = map.insert table.held tx (with_page (pages_of table tx) q mode);
+  max_open = table.max_open;
+}
 
 -- the table without the locks of tx
 abbrev pub released : LockTable → ℕ → LockTable

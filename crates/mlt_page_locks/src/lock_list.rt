@@ -90,7 +90,8 @@ impl LockList {
 
     /// Whether another transaction has a lock here that does not go with one of `tx`.
     pub fn conflicts(&self, tx: TxId, page: PageNo, mode: Mode) -> bool
-        ensures { result ≡ (not (self.now.tx == tx) && is_against (map.get self.now.modes page) mode) }
+        ensures { let held = map.get self.now.modes page in
+            result ≡ (not (self.now.tx == tx) && is_against held mode) }
     {
         self.tx != tx
             && self
@@ -108,7 +109,8 @@ impl LockList {
     /// Adds a lock, or makes one that is there stronger.
     pub fn add(&mut self, page: PageNo, mode: Mode)
         requires { map.len (map.insert self.old.modes page mode) ≤ 300 }
-        ensures { self.new ≡ record { tx = self.old.tx; modes = with_page self.old.modes page mode } }
+        ensures { let modes = with_page self.old.modes page mode in
+            self.new ≡ record { tx = self.old.tx; modes = modes } }
     {
         match place_of(&self.locks, page) {
             Some(place) => {

@@ -113,7 +113,8 @@ fn add_lock(lists: &mut Vec<LockList>, tx: TxId, page: PageNo, mode: Mode)
     requires sound { IsSound lists.old.items }
     requires room { HasRoom (granted (lock_table lists.old.items) tx page mode) }
     requires compatible { AreCompatible (granted (lock_table lists.old.items) tx page mode) }
-    ensures granted { lock_table lists.new.items ≡ granted (lock_table lists.old.items) tx page mode }
+    ensures granted { lock_table lists.new.items
+        ≡ granted (lock_table lists.old.items) tx page mode }
     ensures sound { IsSound lists.new.items }
 {
     match list_of(lists, tx) {
@@ -127,7 +128,8 @@ fn start_list(lists: &mut Vec<LockList>, tx: TxId, page: PageNo, mode: Mode)
     requires none { map.get (table_of lists.old.items) tx ≡ None }
     requires room { HasRoom (granted (lock_table lists.old.items) tx page mode) }
     requires compatible { AreCompatible (granted (lock_table lists.old.items) tx page mode) }
-    ensures granted { lock_table lists.new.items ≡ granted (lock_table lists.old.items) tx page mode }
+    ensures granted { lock_table lists.new.items
+        ≡ granted (lock_table lists.old.items) tx page mode }
     ensures sound { IsSound lists.new.items }
 {
     match free_list(lists) {
@@ -143,7 +145,8 @@ fn start_list(lists: &mut Vec<LockList>, tx: TxId, page: PageNo, mode: Mode)
 // The lowest other transaction whose lock on the page does not go with one of `tx` in this mode.
 fn lowest_conflict(lists: &[LockList], tx: TxId, page: PageNo, mode: Mode) -> Option<TxId>
     requires { IsSound lists.now }
-    ensures { MatchOption result (IsNobody (conflicts (lock_table lists.now) tx page mode)) (IsLowest (conflicts (lock_table lists.now) tx page mode)) }
+    ensures { let others = conflicts (lock_table lists.now) tx page mode in
+        MatchOption result (IsNobody others) (IsLowest others) }
 {
     let mut lowest = None;
     for list in lists {

@@ -9,7 +9,7 @@ use Rattle.std.proofs.lemmas.Bool.Decides.{nat_tests}
 use Rattle.std.proofs.Math.Nat.{pow-le-pow_right}
 use Rattle.mlt_types.specs.declared.mode.Mode.{Mode}
 use Rattle.mlt_page_locks.specs.LockTables.{Modes, page_count}
-use Rattle.mlt_page_locks.specs.Maps.{get_removed, same_entries}
+use Rattle.mlt_page_locks.proofs.Maps.{get_removed, same_entries}
 use Rattle.mlt_page_locks.specs.Requests.{with_page}
 use Rattle.mlt_held.specs.Moments.{Moment}
 use Rattle.mlt_held.specs.Views.{View, view_of}

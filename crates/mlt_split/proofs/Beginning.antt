@@ -5,20 +5,22 @@ use Rattle.mlt_types.specs.declared.mode.Mode.TheVariants.{Exclusive}
 use Rattle.mlt_page.specs.Values.{BucketFields, HeadFields}
 use Rattle.mlt_page.specs.declared.page.Page.{Page}
 use Rattle.mlt_page.specs.declared.page.Page.TheVariants as page
+use Rattle.mlt_store.specs.Stores.{PageStore, Pages, page_at}
 use Rattle.mlt_hash_form.specs.File.{HasForm, Writes, bucket_of, buckets_of, depth_of, header_of, lead_of}
 use Rattle.mlt_hash_form.specs.Form.{half_of}
 use Rattle.mlt_hash_form.specs.Held.{Agrees, over, own_or}
 use Rattle.mlt_hash_form.proofs.HeldPages.{keeps_more}
 use Rattle.mlt_held.specs.Views.{MakesPage, View, view_of}
 use Rattle.mlt_held.specs.Moments.{Moment}
+use Rattle.mlt_held.specs.PageSteps.{MakesLockedPage}
 use Rattle.mlt_split.specs.Rests.{Aim, HoldsAmong, IsAtRest, held_page, most_held, seed_of}
-use Rattle.mlt_split.specs.Splits.{Begins, IsAtOldBucket, IsUnderWay, MayBegin}
+use Rattle.mlt_split.specs.Splits.{Begins, HasHalves, IsAtOldBucket, IsUnderWay, MayBegin, SplitFields}
 use Rattle.mlt_split.specs.declared.phase.SplitPhase.TheVariants as at
 use Rattle.mlt_page_locks.specs.LockTables.{page_count}
 use Rattle.mlt_split.proofs.Among.{among_after_make, count_is_few, most_is_small}
 use Rattle.mlt_split.proofs.Closing.{HasClean, held_page_over}
 use Rattle.mlt_split.proofs.HeldPages.{exclusive_after_make, grows_by_make, mode_after_make, reads_after_make, same_bucket, same_header, seen_after_make}
-use Rattle.mlt_held.proofs.Views.{agrees_before_make, made_is_not_clean, makes_over}
+use Rattle.mlt_held.proofs.Views.{agrees_before_make, made_is_not_clean, makes_over, page_inserted}
 
 module _ (aim : Aim) (view : View) (n : ℕ) (header : HeadFields) (bucket : BucketFields) (rest : IsAtRest aim view n header bucket) where
   -- over any clean pages that agree the walk's file at rest has its header and its bucket
@@ -124,6 +126,20 @@ begun aim old new n q seed header bucket zeros ones second begin head found seed
     let doubles = subst (λ (p : HeadFields × BucketFields). p.1.depth ≡ p.0.depth → map.get old.modes aim.root ≡ Some Exclusive) (λ i. (h i, b i)) begin.doubles in
     let way = begins_under_way aim old new n q ones header bucket rest shallow doubles makes ones_is second in
     subst (λ (p : ℕ × BucketFields). IsUnderWay aim new (record { seed = p.0; old_page = n; new_page = q; depth = bucket.depth; directory_depth = header.depth; zeros = p.1; made = record { depth = header.depth + 1; dirs = header.dirs }; second = second; phase = at.OldBucket })) (λ i. (sym seed_is i, sym zeros_is i)) way
+
+-- the halves that are made are those of the bucket that was found
+pub halves_made : (aim : Aim) (old new : Moment) (n : ℕ) (read seen ones : BucketFields) (split : SplitFields)
+    → held_page (view_of old) n ≡ Some (page.Bucket read) → held_page (view_of old) n ≡ Some (page.Bucket seen)
+    → split.zeros ≡ half_of aim.bits aim.opens read 0 → ones ≡ half_of aim.bits aim.opens read 1
+    → MakesLockedPage old new split.new_page (page.Bucket ones) → HasHalves aim new.store.pages seen split
+halves_made aim old new n read seen ones split found at zeros_is ones_is makes =
+    let same : read ≡ seen = same_bucket (view_of old) n read seen found at in
+    let pages : new.store.pages ≡ map.insert old.store.pages split.new_page (page.Bucket ones) = ap (λ (s : PageStore). s.pages) makes.store in
+    record {
+      zeros = zeros_is ∙ ap (λ b. half_of aim.bits aim.opens b 0) same;
+      ones = ap (λ (all : Pages). page_at all split.new_page) pages ∙ page_inserted old.store.pages split.new_page (page.Bucket ones)
+          ∙ ap (λ b. Some (page.Bucket b)) (ones_is ∙ ap (λ b. half_of aim.bits aim.opens b 1) same);
+    }
 
 -- the depth of a file's header, with one more, is small
 pub deeper_fits : (aim : Aim) (view : View) (n : ℕ) (header : HeadFields) → HasClean aim view → MayBegin aim view n → held_page view aim.root ≡ Some (page.Head header) → header.depth ≤ 16

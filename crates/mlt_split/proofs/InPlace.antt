@@ -52,7 +52,7 @@ module _ (aim : Aim) (splitters : set.FinSet nat_cmp) (base pages : ℕ → Opti
   same_depth = sym (ap (λ (h : HeadFields). h.depth) header_is) ∙ b.directory_depth
 
   listed : place < 2 ^ (depth_of base aim.root - 8)
-  listed = subst (λ g. place < 2 ^ (g - 8)) (sym b.directory_depth) (omega (arith, s.more, s.within))
+  listed = subst (λ g. place < 2 ^ (g - 8)) (sym b.directory_depth) (omega (arith, s.more, s.places.within))
 
   -- the next page of the directory is as it was
   pub next_page : (dir : List ℕ) × (pages (slice_index header.dirs place) ≡ Some (page.Dir dir)) × (length dir ≡ 256) × ((r : ℕ) → r < 256 → slice_index dir r ≡ entry base (dirs_of base aim.root) (256 * place + r))
@@ -102,8 +102,10 @@ module _ (aim : Aim) (splitters : set.FinSet nat_cmp) (base pages : ℕ → Opti
     in_place_further more = record {
       shallow = s.shallow;
       filled = subst (λ g. IsMidway aim.bits splitters base pages' aim.root split.old_page split.new_page (seed_of aim) g (dirs_of base aim.root) (place + 1) (place + 1)) b.directory_depth filled_in_base;
+      first = s.first;
+      places = s.places;
+      from = let from = s.from in omega (arith, from);
       more = more;
-      within = s.within;
       last = s.last;
     }
 
@@ -134,13 +136,13 @@ module _ (aim : Aim) (m : Moment) (split : SplitFields) (place end : ℕ) (may :
   place_is_small =
       let few = few_pages split.directory_depth depths_here.1 in
       let more = stands_here.more in
-      let within = stands_here.within in
+      let within = stands_here.places.within in
       omega (arith, few, more, within)
 
   pub end_is_small : end ≤ 256
   end_is_small =
       let few = few_pages split.directory_depth depths_here.1 in
-      let within = stands_here.within in
+      let within = stands_here.places.within in
       omega (arith, few, within)
 
   pub place_before_end : place < end
@@ -196,7 +198,7 @@ module _ (aim : Aim) (m : Moment) (split : SplitFields) (place end : ℕ) (may :
       among_after : HoldsAmong (view_of new) way.header.dirs way.header.dirs 0 (2 ^ (split.directory_depth - 8)) 0 (most_held (split.depth + 1) split.directory_depth)
       among_after =
           let more = stands_here.more in
-          let within = stands_here.within in
+          let within = stands_here.places.within in
           let a = among_here in
           let listed : IsIn (slice_index way.header.dirs place) a.pages = a.old_dirs place (omega arith) (omega (arith, more, within)) in
           among_after_lock (view_of m) (view_of new) way.header.dirs way.header.dirs 0 (2 ^ (split.directory_depth - 8)) 0 (most_held (split.depth + 1) split.directory_depth) a q Exclusive (subst (λ n. IsIn n a.pages) (sym number_is) listed) rewritten.modes

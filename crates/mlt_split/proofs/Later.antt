@@ -6,15 +6,14 @@ use Rattle.mlt_types.specs.declared.mode.Mode.{Mode}
 use Rattle.mlt_types.specs.declared.mode.Mode.TheVariants.{Exclusive, Shared}
 use Rattle.mlt_page.specs.declared.page.Page.{Page}
 use Rattle.mlt_page.specs.Values.{HeadFields}
-use Rattle.mlt_page_locks.specs.LockTables.{LockTable, Modes, can_read, can_write}
+use Rattle.mlt_page_locks.specs.LockTables.{Modes, can_read, can_write}
 use Rattle.mlt_page_locks.specs.Requests.{stronger, with_page}
 use Rattle.mlt_hash_form.specs.File.{HasForm}
 use Rattle.mlt_hash_form.specs.Held.{Agrees, over, own_or}
 use Rattle.mlt_hash_form.proofs.HeldPages.{keeps_more}
-use Rattle.mlt_held.specs.Moments.{HasCleanFile, MayStep, Moment, moment}
+use Rattle.mlt_held.specs.Moments.{HasCleanFile, MayStep, Moment}
 use Rattle.mlt_held.specs.Views.{MakesPage, ReadsPage, View, WritesPage, view_of}
 use Rattle.mlt_split.specs.Rests.{Aim, held_page}
-use Rattle.mlt_held.specs.PageSteps.{LocksPage, MakesLockedPage, TouchesOnePage, WritesHeldPage}
 use Rattle.mlt_split.specs.Splits.{Begins, HoldsAmongAt, IsUnderWay, SplitFields, StandsAt}
 use Rattle.mlt_split.specs.Steps.{IsMaking}
 use Rattle.mlt_split.specs.Tells.{Tells}
@@ -22,8 +21,6 @@ use Rattle.mlt_split.specs.declared.phase.SplitPhase.{SplitPhase}
 use Rattle.mlt_split.specs.declared.split.SplitAnswer.TheVariants as answer
 use Rattle.mlt_types.specs.declared.refusal.Refusal.{Refusal}
 use Rattle.mlt_types.specs.declared.refusal.Refusal.TheVariants as refusal
-use Rattle.mlt_store.specs.Stores.{PageStore}
-use Rattle.mlt_subtx.specs.Images.{Running}
 use Rattle.std.specs.Prelude.{◌⊎◌, ◌↔◌, Result, Err}
 use Rattle.std.proofs.Math.Nat.{pow-le-pow_right}
 use Rattle.mlt_held.proofs.Views.{agrees, may_write, mode_of_others, mode_of_page}
@@ -176,25 +173,6 @@ half_pages g h =
     let le : g - 8 ≤ 7 = omega arith in
     let top : 2 ^ (g - 8) ≤ 2 ^ 7 = pow-le-pow_right {n = 2} (omega arith) le in
     omega (arith, top)
-
-pub same_moment : (m : Moment) (running : Running) (locks : LockTable) (store : PageStore) → (running ≡ m.running) × (locks ≡ m.locks) × (store ≡ m.store) → moment running locks store ≡ m
-same_moment m running locks store same i = record { running = same.0 i; locks = same.1 i; store = same.2 i }
-
--- a step that did nothing, made a page, locked one, or locked and wrote one
-pub touches_nothing : (old new : Moment) → new ≡ old → TouchesOnePage old new
-touches_nothing old new same = (0, inl (old, inl refl, inl same))
-
-pub touches_by_making : (old new : Moment) (q : ℕ) (page : Page) → MakesLockedPage old new q page → TouchesOnePage old new
-touches_by_making old new q page makes = (q, inr (page, makes))
-
-pub touches_by_locking : (old mid new : Moment) (q : ℕ) (mode : Mode) → LocksPage old mid q mode → new ≡ mid → TouchesOnePage old new
-touches_by_locking old mid new q mode locks same = (q, inl (mid, inr (mode, locks), inl same))
-
-pub touches_by_rewriting : (old mid new : Moment) (q : ℕ) (mode : Mode) (page : Page) → LocksPage old mid q mode → WritesHeldPage mid new q page → TouchesOnePage old new
-touches_by_rewriting old mid new q mode page locks writes = (q, inl (mid, inr (mode, locks), inr (page, writes)))
-
-pub touches_by_writing : (old new : Moment) (q : ℕ) (page : Page) → WritesHeldPage old new q page → TouchesOnePage old new
-touches_by_writing old new q page writes = (q, inl (old, inl refl, inr (page, writes)))
 
 abbrev err : {A : Type 0} → Refusal → Result A Refusal
 err why = Err why

@@ -66,7 +66,7 @@ rest_with_fewer aim fewer view n header bucket clean agrees form rest no_more =
 -- where a split stands says nothing of who is open now
 stands_with_fewer : (phase : SplitPhase) (aim : Aim) (fewer splitters : set.FinSet nat_cmp) (base pages : ℕ → Option Page) (split : SplitFields) (bucket : BucketFields) → StandsAt phase aim splitters base pages split bucket → StandsAt phase (record aim { opens = fewer }) splitters base pages split bucket
 stands_with_fewer at.OldBucket aim fewer splitters base pages split bucket s = record { zeros = s.zeros; ones = s.ones; doubles = s.doubles }
-stands_with_fewer (at.InPlace place end) aim fewer splitters base pages split bucket s = record { shallow = s.shallow; filled = s.filled; more = s.more; within = s.within; last = s.last }
+stands_with_fewer (at.InPlace place end) aim fewer splitters base pages split bucket s = record { shallow = s.shallow; filled = s.filled; first = s.first; places = s.places; from = s.from; more = s.more; last = s.last }
 stands_with_fewer (at.Double place) aim fewer splitters base pages split bucket s = record { deep = s.deep; filled = s.filled; more = s.more; deeper = s.deeper }
 stands_with_fewer (at.SecondHalf place) aim fewer splitters base pages split bucket s = record { deep = s.deep; filled = s.filled; more = s.more; deeper = s.deeper; long = s.long; sized = s.sized; right = s.right }
 stands_with_fewer at.Header aim fewer splitters base pages split bucket s = record { deep = s.deep; taken = s.taken; filled = s.filled; deeper = s.deeper }

@@ -4,7 +4,7 @@ use Rattle.std.proofs.lemmas.Bool.{cases_eq}
 use Rattle.std.proofs.lemmas.Bool.Decides.{nat_tests}
 use Rattle.mlt_types.specs.declared.mode.Mode.TheVariants.{Exclusive}
 use Rattle.mlt_store.specs.Stores.{page_at}
-use Rattle.mlt_page_locks.specs.LockLaws.{mode_held-granted}
+use Rattle.mlt_page_locks.proofs.LockLaws.{mode_held-granted}
 use Rattle.mlt_page_locks.specs.LockTables.{LockTable, mode_held}
 use Rattle.mlt_page_locks.specs.Requests.{granted, stronger}
 use Rattle.mlt_held.specs.Moments.{Moment}

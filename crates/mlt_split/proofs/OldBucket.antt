@@ -18,11 +18,11 @@ use Rattle.mlt_hash_form.specs.Splits.{IsMidway}
 use Rattle.mlt_hash_form.proofs.FillEnds.{page_listed}
 use Rattle.mlt_hash_form.proofs.InPlace.{one_page, whole_pages}
 use Rattle.mlt_hash_form.proofs.SplitSteps.{begins_in_place, begins_to_double}
-use Rattle.mlt_split.specs.FirstPhases.{HaveNewPlaces, IsFirstPhase}
+use Rattle.mlt_split.specs.FirstPhases.{IsFirstPhase}
 use Rattle.mlt_held.specs.Moments.{HasCleanFile, MayStep, Moment}
 use Rattle.mlt_held.specs.Views.{View, WritesPage, view_of}
 use Rattle.mlt_split.specs.Rests.{Aim, HoldsAmong, most_held, seed_of}
-use Rattle.mlt_split.specs.Splits.{Begins, HoldsAmongAt, IsAtOldBucket, IsUnderWay, SplitFields, StandsAt, steps_left_at}
+use Rattle.mlt_split.specs.Splits.{Begins, HaveNewPlaces, HoldsAmongAt, IsAtOldBucket, IsUnderWay, SplitFields, StandsAt, steps_left_at}
 use Rattle.mlt_split.specs.Tells.{GoesOn}
 use Rattle.mlt_split.specs.declared.phase.SplitPhase.{SplitPhase}
 use Rattle.mlt_split.specs.declared.phase.SplitPhase.TheVariants as at
@@ -112,8 +112,10 @@ module _ (aim : Aim) (splitters : set.FinSet nat_cmp) (base one two : ℕ → Op
         shallow = first.0;
         filled = subst (λ g. IsMidway aim.bits splitters base two aim.root split.old_page split.new_page (seed_of aim) g (dirs_of base aim.root) place place) b.directory_depth
             (begins_in_place aim.bits splitters base aim.root (seed_of aim) split.old_page split.new_page b.may one two first_write second_write place have.first (omega (arith, more, have.within)));
+        first = place;
+        places = first.1;
+        from = omega arith;
         more = more;
-        within = first.1.within;
         last = have.last;
       }
   old_bucket_written (at.Double place) first = record {

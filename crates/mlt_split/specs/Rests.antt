@@ -13,6 +13,7 @@ use Rattle.mlt_page.specs.declared.page.Page.TheVariants as page
 use Rattle.mlt_hash_form.specs.File.{HasForm, bucket_of, lead_of}
 use Rattle.mlt_hash_form.specs.Held.{Agrees, KeepsFile, over, own_or}
 use Rattle.mlt_hash_form.specs.Room.{is_crowded}
+use Rattle.mlt_hash_form.specs.declared.root.Root.{Root}
 use Rattle.mlt_held.specs.Views.{View}
 
 -- what a walk's splits are for: the function of keys, who is open, the header's page, the key that asks for room, the
@@ -24,6 +25,11 @@ pub record Aim : Type 0 where
   pub key : ℕ
   pub owner : ℕ
   pub room_depth : ℕ
+
+-- the aim of a transaction that goes by this root, with these transactions open, and adds a record of this key
+abbrev pub aim_by : {P : Type 0} → (P → ℕ → ℕ) → Root P → set.FinSet nat_cmp → ℕ → ℕ → ℕ → Aim
+aim_by bits_of root opens key owner room_depth =
+    record { bits = bits_of root.pseudo; opens = opens; root = root.page; key = key; owner = owner; room_depth = room_depth }
 
 -- the pseudokey of the key that asks for room
 abbrev pub seed_of : Aim → ℕ

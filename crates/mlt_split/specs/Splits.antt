@@ -4,18 +4,21 @@ use Rattle.std.specs.Ordering.{nat_cmp}
 use Rattle.std.specs.FinMap as map
 use Rattle.std.specs.FinSet as set
 use Rattle.mlt_types.specs.declared.mode.Mode.TheVariants.{Exclusive}
+use Rattle.mlt_page.specs.Bits.{first_bits}
 use Rattle.mlt_page.specs.Slots.{is_ghost_of, is_kept, is_live_of}
 use Rattle.mlt_page.specs.declared.slot.Slot.TheVariants.{Free}
 use Rattle.mlt_page.specs.Values.{BucketFields, HeadFields}
 use Rattle.mlt_page.specs.declared.page.Page.{Page}
 use Rattle.mlt_page.specs.declared.page.Page.TheVariants as page
+use Rattle.mlt_store.specs.Stores.{Pages, page_at}
 use Rattle.mlt_hash_form.specs.Form.{half_of}
 use Rattle.mlt_hash_form.specs.File.{HasForm, Writes, depth_of, dirs_of}
 use Rattle.mlt_hash_form.specs.Changes.{MaySplit}
 use Rattle.mlt_hash_form.specs.Held.{Agrees, KeepsFile, over}
 use Rattle.mlt_hash_form.specs.Room.{is_crowded}
 use Rattle.mlt_hash_form.specs.Splits.{IsMidway, run_length, run_start, target_of}
-use Rattle.mlt_held.specs.Views.{View}
+use Rattle.mlt_held.specs.Moments.{HasCleanFile, MayStep, Moment}
+use Rattle.mlt_held.specs.Views.{View, view_of}
 use Rattle.mlt_split.specs.Rests.{Aim, IsAtRest, HoldsAmong, held_page, most_held, seed_of}
 use Rattle.mlt_split.specs.declared.phase.SplitPhase.{SplitPhase}
 use Rattle.mlt_split.specs.declared.phase.SplitPhase.TheVariants as at
@@ -58,6 +61,11 @@ pub record Begins (aim : Aim) (base : ℕ → Option Page) (split : SplitFields)
   pub directory_depth : depth_of base aim.root ≡ split.directory_depth
   pub deep : split.depth < aim.room_depth
 
+-- Of a bucket, by who is open: the split keeps one half, and the other stands on the page that was made.
+pub record HasHalves (aim : Aim) (pages : Pages) (bucket : BucketFields) (split : SplitFields) : Type 0 where
+  pub zeros : split.zeros ≡ half_of aim.bits aim.opens bucket 0
+  pub ones : page_at pages split.new_page ≡ Some (page.Bucket (half_of aim.bits aim.opens bucket 1))
+
 -- the walk's file is at rest, its bucket is less deep than is needed, and only who holds the header exclusively doubles
 -- the directory
 pub record MayBegin (aim : Aim) (view : View) (n : ℕ) : Type 0 where
@@ -78,12 +86,23 @@ pub record IsAtOldBucket (aim : Aim) (splitters : set.FinSet nat_cmp) (base page
   pub ones : Writes base pages split.new_page (page.Bucket (half_of aim.bits splitters bucket 1))
   pub doubles : split.depth ≡ split.directory_depth → split.made ≡ record { depth = split.directory_depth + 1; dirs = dirs_of base aim.root }
 
--- pages of the directory that keeps its depth are written, up to this place
+-- The pages from this place up to the end, excluded, have all places of the new bucket, where a bucket of depth l is
+-- split to which this pseudokey leads. The directory is of depth g.
+pub record HaveNewPlaces (seed l g place end : ℕ) : Type 0 where
+  pub first : 256 * place ≤ (2 * first_bits l seed + 1) * 2 ^ (g - (l + 1))
+  pub last : (2 * first_bits l seed + 1) * 2 ^ (g - (l + 1)) + 2 ^ (g - (l + 1)) ≤ 256 * end
+  pub count : end ≡ place + 2 ^ (g - (l + 9))
+  pub within : end ≤ 2 ^ (g - 8)
+
+-- Pages of the directory that keeps its depth are written, up to this place: those that have places of the new bucket, and
+-- no others.
 pub record IsInPlace (aim : Aim) (splitters : set.FinSet nat_cmp) (base pages : ℕ → Option Page) (split : SplitFields) (place end : ℕ) : Type 0 where
   pub shallow : split.depth < split.directory_depth
   pub filled : IsFilled aim splitters base pages split split.directory_depth (dirs_of base aim.root) place place
+  pub first : ℕ
+  pub places : HaveNewPlaces split.seed split.depth split.directory_depth first end
+  pub from : first ≤ place
   pub more : place < end
-  pub within : end ≤ 2 ^ (split.directory_depth - 8)
   pub last : run_start base aim.root split.old_page (seed_of aim) + run_length base aim.root split.old_page ≤ 256 * end
 
 -- the directory doubles: this old page is the next one
@@ -148,3 +167,9 @@ pub record IsUnderWay (aim : Aim) (view : View) (split : SplitFields) : Type 0 w
   pub begins : (clean : ℕ → Option Page) → Agrees view.seen clean → HasForm aim.bits clean aim.root → Begins aim (over clean rest) split bucket
   pub stands : (clean : ℕ → Option Page) → Agrees view.seen clean → HasForm aim.bits clean aim.root → StandsAt split.phase aim splitters (over clean rest) (over clean view.own) split bucket
   pub among : HoldsAmongAt split.phase view header.dirs split
+
+-- What a step of a split asks: the transaction may step, the clean pages are a hash file, and the split is under way.
+pub record MayAdvance (aim : Aim) (m : Moment) (split : SplitFields) : Type 0 where
+  pub may : MayStep m
+  pub file : HasCleanFile aim.bits aim.root m
+  pub under_way : IsUnderWay aim (view_of m) split

@@ -1,13 +1,14 @@
 -- Which page each step of a split locks, writes or makes
-use Rattle.std.specs.Prelude.{ℕ, ◌≡◌, slice_index, Some}
+use Rattle.std.specs.Prelude.{ℕ, ◌≡◌, ◌/◌, slice_index, Some}
 use Rattle.mlt_types.specs.declared.mode.Mode.TheVariants.{Exclusive}
+use Rattle.mlt_page.specs.Bits.{first_bits}
 use Rattle.mlt_page.specs.Values.{HeadFields}
 use Rattle.mlt_page.specs.declared.page.Page.{Page}
 use Rattle.mlt_page.specs.declared.page.Page.TheVariants as page
 use Rattle.mlt_held.specs.Moments.{Moment}
 use Rattle.mlt_held.specs.PageSteps.{LocksPage, MakesLockedPage, WritesHeldPage}
 use Rattle.mlt_held.specs.Views.{View, view_of}
-use Rattle.mlt_split.specs.Rests.{Aim, held_page}
+use Rattle.mlt_split.specs.Rests.{Aim, held_page, seed_of}
 use Rattle.mlt_split.specs.Splits.{SplitFields}
 use Rattle.mlt_split.specs.declared.phase.SplitPhase.{SplitPhase}
 use Rattle.mlt_split.specs.declared.phase.SplitPhase.TheVariants as at
@@ -17,6 +18,11 @@ use Rattle.mlt_split.specs.declared.split.SplitAnswer.TheVariants as answer
 -- page n of the directory is the one at this place of the header, which the walk holds
 abbrev pub IsDirectoryPage : Aim → View → ℕ → ℕ → Type 0
 IsDirectoryPage aim view place n = (header : HeadFields) × (held_page view aim.root ≡ Some (page.Head header)) × (n ≡ slice_index header.dirs place)
+
+-- page n of the directory is the one of the place that the key leads to, by the header that the walk holds
+abbrev pub IsKeysPage : Aim → View → ℕ → Type 0
+IsKeysPage aim view n = (header : HeadFields) × (held_page view aim.root ≡ Some (page.Head header))
+    × (n ≡ slice_index header.dirs (first_bits header.depth (seed_of aim) / 256))
 
 -- page n is the next one to be locked, and then written: only pages of the directory that was there before are locked
 abbrev pub IsNextPage : SplitPhase → Aim → View → ℕ → Type 0

@@ -15,6 +15,3 @@ pub use split::{Split, SplitAnswer};
 pub use split_laws::{
     closed_owners_keep_the_rest, closed_owners_keep_the_split, steps_lock_their_page_alone,
 };
-
-#[cfg(test)]
-mod tests;

@@ -1,12 +1,10 @@
 //! The second step of a split.
 
 ghost use Rattle.std.specs.Prelude.{◌≡◌, ◌≢◌, ◌≤◌, ℕ, Option};
-ghost use Rattle.mlt_page.specs.declared.page.Page.{Page};
-ghost use Rattle.mlt_held.specs.Moments.{HasCleanFile, IsCleanFor, MayStep, moment};
-ghost use Rattle.mlt_held.specs.PageSteps.{TouchesOnePage};
-ghost use Rattle.mlt_held.specs.Views.{view_of};
+ghost use Rattle.mlt_held.specs.Moments.{moment};
+ghost use Rattle.mlt_held.specs.PageSteps.{Leaves};
 ghost use Rattle.mlt_split.specs.Rests.{Aim};
-ghost use Rattle.mlt_split.specs.Splits.{IsUnderWay};
+ghost use Rattle.mlt_split.specs.Splits.{MayAdvance};
 ghost use Rattle.mlt_split.specs.Steps.{Touches};
 ghost use Rattle.mlt_split.specs.FirstPhases.{IsFirstPhase};
 ghost use Rattle.mlt_split.specs.Tells.{Tells};
@@ -14,10 +12,8 @@ ghost use Rattle.mlt_split.specs.Tells.{Tells};
 use crate::phase::SplitPhase;
 use crate::split::{Split, SplitAnswer};
 use mlt_hash_form::NewPlaces;
-use mlt_held::write_held;
+use mlt_held::{LockedStore, write_held};
 use mlt_page::Page;
-use mlt_page_locks::PageLocks;
-use mlt_store::Store;
 use mlt_subtx::Subtx;
 use mlt_types::Refusal;
 
@@ -25,28 +21,19 @@ use mlt_types::Refusal;
 pub(crate) fn write_old_bucket(
     split: &mut Split,
     subtx: &mut Subtx,
-    store: &mut Store,
-    locks: &PageLocks,
+    pages: &mut LockedStore,
 ) -> SplitAnswer
     ghost aim: { Aim }
     requires phase { split.old.phase ≡ SplitPhase.OldBucket }
-    requires may { MayStep (moment subtx.old locks.now store.old) }
-    requires file { HasCleanFile aim.bits aim.root (moment subtx.old locks.now store.old) }
-    requires under_way { IsUnderWay aim (view_of (moment subtx.old locks.now store.old)) split.old }
-    ensures touches { TouchesOnePage (moment subtx.old locks.now store.old) (moment subtx.new locks.now store.new) }
-    ensures steps { Touches result aim (moment subtx.old locks.now store.old) (moment subtx.new locks.now store.new) split.old }
+    requires ready { MayAdvance aim (moment subtx.old pages.old) split.old }
+    ensures leaves { Leaves (moment subtx.old pages.old) (moment subtx.new pages.new) }
+    ensures steps { Touches result aim
+        (moment subtx.old pages.old) (moment subtx.new pages.new) split.old }
     ensures no_room { result ≢ SplitAnswer.Refused Refusal.NoRoom }
-    ensures may { MayStep (moment subtx.new locks.now store.new) }
-    ensures clean { (clean : ℕ → Option Page) → IsCleanFor (moment subtx.old locks.now store.old) clean → IsCleanFor (moment subtx.new locks.now store.new) clean }
-    ensures tells { Tells aim (moment subtx.old locks.now store.old) (moment subtx.new locks.now store.new) split.old split.new result }
+    ensures tells { Tells aim
+        (moment subtx.old pages.old) (moment subtx.new pages.new) split.old split.new result }
 {
-    if let Err(refusal) = write_held(
-        subtx,
-        store,
-        locks,
-        split.old_page,
-        Page::Bucket(split.zeros),
-    ) {
+    if let Err(refusal) = write_held(subtx, pages, split.old_page, Page::Bucket(split.zeros)) {
         return SplitAnswer::Refused(refusal);
     }
     split.phase = first_directory_step(split);

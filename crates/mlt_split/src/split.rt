@@ -3,12 +3,10 @@
 ghost use Rattle.std.specs.Prelude.{◌≡◌, ◌↔◌, ◌<◌, ◌==◌, ℕ, Option, if◌then◌else◌};
 ghost use Rattle.std.specs.FinMap as map;
 ghost use Rattle.mlt_page.specs.Bits.{bit_at};
-ghost use Rattle.mlt_page.specs.declared.page.Page.{Page};
-ghost use Rattle.mlt_held.specs.Moments.{HasCleanFile, IsCleanFor, MayStep, moment};
-ghost use Rattle.mlt_held.specs.PageSteps.{TouchesOnePage};
-ghost use Rattle.mlt_held.specs.Views.{view_of};
+ghost use Rattle.mlt_held.specs.Moments.{moment};
+ghost use Rattle.mlt_held.specs.PageSteps.{HasNoPageLeft, Leaves};
 ghost use Rattle.mlt_split.specs.Rests.{Aim};
-ghost use Rattle.mlt_split.specs.Splits.{IsUnderWay};
+ghost use Rattle.mlt_split.specs.Splits.{MayAdvance};
 ghost use Rattle.mlt_split.specs.Steps.{IsMaking, Touches};
 ghost use Rattle.mlt_split.specs.Tells.{Tells};
 
@@ -17,9 +15,8 @@ use crate::in_place::write_in_place;
 use crate::old_bucket::write_old_bucket;
 use crate::phase::SplitPhase;
 use mlt_hash_form::first_bits;
+use mlt_held::LockedStore;
 use mlt_page::{Bucket, DirPage, HeadPage};
-use mlt_page_locks::PageLocks;
-use mlt_store::Store;
 use mlt_subtx::Subtx;
 use mlt_types::{PageNo, Refusal, TxId};
 use std::marker::Model;
@@ -75,29 +72,26 @@ impl Split {
         &mut self,
         root: PageNo,
         subtx: &mut Subtx,
-        store: &mut Store,
-        locks: &mut PageLocks,
+        pages: &mut LockedStore,
     ) -> SplitAnswer
         ghost aim: { Aim }
         requires root { root ≡ aim.root }
-        requires may { MayStep (moment subtx.old locks.old store.old) }
-        requires file { HasCleanFile aim.bits aim.root (moment subtx.old locks.old store.old) }
-        requires under_way { IsUnderWay aim (view_of (moment subtx.old locks.old store.old)) self.old }
-        ensures touches { TouchesOnePage (moment subtx.old locks.old store.old) (moment subtx.new locks.new store.new) }
-        ensures steps { Touches result aim (moment subtx.old locks.old store.old) (moment subtx.new locks.new store.new) self.old }
-        ensures no_room { (result ≡ SplitAnswer.Refused Refusal.NoRoom) ↔ (IsMaking self.old.phase × (map.len store.old.pages ≡ store.old.max_pages)) }
-        ensures may { MayStep (moment subtx.new locks.new store.new) }
-        ensures clean { (clean : ℕ → Option Page) → IsCleanFor (moment subtx.old locks.old store.old) clean → IsCleanFor (moment subtx.new locks.new store.new) clean }
-        ensures tells { Tells aim (moment subtx.old locks.old store.old) (moment subtx.new locks.new store.new) self.old self.new result }
+        requires ready { MayAdvance aim (moment subtx.old pages.old) self.old }
+        ensures leaves { Leaves (moment subtx.old pages.old) (moment subtx.new pages.new) }
+        ensures steps { Touches result aim
+            (moment subtx.old pages.old) (moment subtx.new pages.new) self.old }
+        ensures no_room { (result ≡ SplitAnswer.Refused Refusal.NoRoom) ↔ (IsMaking self.old.phase × HasNoPageLeft pages.old.store) }
+        ensures tells { Tells aim
+            (moment subtx.old pages.old) (moment subtx.new pages.new) self.old self.new result }
     {
         match self.phase {
-            SplitPhase::OldBucket => write_old_bucket(self, subtx, store, locks),
+            SplitPhase::OldBucket => write_old_bucket(self, subtx, pages),
             SplitPhase::InPlace(place, end) => {
-                write_in_place(self, place, end, root, subtx, store, locks)
+                write_in_place(self, place, end, root, subtx, pages)
             }
-            SplitPhase::Double(place) => double_page(self, place, root, subtx, store, locks),
-            SplitPhase::SecondHalf(place) => make_second_half(self, place, subtx, store, locks),
-            SplitPhase::Header => write_header(self, root, subtx, store, locks),
+            SplitPhase::Double(place) => double_page(self, place, root, subtx, pages),
+            SplitPhase::SecondHalf(place) => make_second_half(self, place, subtx, pages),
+            SplitPhase::Header => write_header(self, root, subtx, pages),
         }
     }
 

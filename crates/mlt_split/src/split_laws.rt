@@ -1,6 +1,6 @@
 //! What a walk knows of its splits, whatever other transactions do.
 
-ghost use Rattle.std.specs.Prelude.{ℕ, ◌≡◌, ◌⊎◌, None, Option, Some, slice_index_or, true};
+ghost use Rattle.std.specs.Prelude.{ℕ, ◌≡◌, ◌<◌, ◌≤◌, ◌+◌, ◌⊎◌, None, Option, Some, slice_index_or, true};
 ghost use Rattle.std.specs.Ordering.{nat_cmp};
 ghost use Rattle.std.specs.FinSet as set;
 ghost use Rattle.mlt_types.specs.declared.mode.Mode.TheVariants.{Exclusive};
@@ -16,7 +16,7 @@ ghost use Rattle.mlt_held.specs.Moments.{Moment};
 ghost use Rattle.mlt_held.specs.Views.{View, view_of};
 ghost use Rattle.mlt_split.specs.Rests.{Aim, IsAtRest, KeepsNoMore};
 ghost use Rattle.mlt_split.specs.Splits.{IsUnderWay, SplitFields};
-ghost use Rattle.mlt_split.specs.Steps.{IsMaking, IsNextPage, Touches};
+ghost use Rattle.mlt_split.specs.Steps.{IsKeysPage, IsMaking, IsNextPage, Touches};
 ghost use Rattle.mlt_split.specs.declared.split.SplitAnswer.{SplitAnswer};
 
 /// Transactions may close, and others begin, that left no ghost on a page that is held: the walk's file is at rest still.
@@ -42,4 +42,14 @@ pub fn steps_lock_their_page_alone()
     ensures { (told : SplitAnswer) (aim : Aim) (old new : Moment) (split : SplitFields) (p : ℕ)
         → Touches told aim old new split
         → (mode_held new.locks old.running.tx p ≡ mode_held old.locks old.running.tx p) ⊎ ((mode_held new.locks old.running.tx p ≡ Some Exclusive) × (IsNextPage split.phase aim (view_of old) p ⊎ (IsMaking split.phase × (page_at old.store.pages p ≡ None)))) }
+{}
+
+/// Where one page of the directory has all entries of the bucket, a split in place locks the key's own page, and no other.
+/// `clean` is some clean file that agrees with what the walk saw.
+pub fn narrow_splits_lock_the_keys_page()
+    ensures { (aim : Aim) (view : View) (split : SplitFields) (n : ℕ) (clean : ℕ → Option Page)
+        → Agrees view.seen clean → HasForm aim.bits clean aim.root → IsUnderWay aim view split
+        → split.depth < split.directory_depth → split.directory_depth ≤ split.depth + 8
+        → IsNextPage split.phase aim view n
+        → IsKeysPage aim view n }
 {}

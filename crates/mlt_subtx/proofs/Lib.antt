@@ -1,1 +1,4 @@
+pub mod ImageLaws
+pub mod CleanLaws
+pub mod RunningLaws
 pub mod Lists

@@ -25,15 +25,19 @@ clean_pages running pages = all_put_back (map.entries running) pages
 
 -- who keeps an image of a page has it locked exclusively
 abbrev pub ImagesAreLocked : RunningImages → LockTable → Type 0
-ImagesAreLocked running locks = (tx q : ℕ) → is_some (image_at running tx q) ≡ true → can_write locks tx q ≡ true
+ImagesAreLocked running locks =
+    (tx q : ℕ) → is_some (image_at running tx q) ≡ true → can_write locks tx q ≡ true
 
 -- no two transactions keep images of one page
 abbrev pub ImagesAreApart : RunningImages → Type 0
-ImagesAreApart running = (t u q : ℕ) → is_some (image_at running t q) ≡ true → is_some (image_at running u q) ≡ true → t ≡ u
+ImagesAreApart running =
+    (t u q : ℕ) → is_some (image_at running t q) ≡ true → is_some (image_at running u q) ≡ true
+    → t ≡ u
 
 -- each page of which somebody keeps an image is there
 abbrev pub ImagesAreThere : RunningImages → Pages → Type 0
-ImagesAreThere running pages = (tx q : ℕ) → is_some (image_at running tx q) ≡ true → is_some (page_at pages q) ≡ true
+ImagesAreThere running pages =
+    (tx q : ℕ) → is_some (image_at running tx q) ≡ true → is_some (page_at pages q) ≡ true
 
 -- tx keeps no images any more, and all others keep theirs
 abbrev pub DropsImages : ℕ → RunningImages → RunningImages → Type 0

@@ -43,7 +43,8 @@ with_image images q first = with_new images q first (image_of images q)
 
 -- each page with an image is there
 abbrev pub AreThere : Images → Pages → Type 0
-AreThere images pages = (q : ℕ) → is_some (image_of images q) ≡ true → is_some (page_at pages q) ≡ true
+AreThere images pages =
+    (q : ℕ) → is_some (image_of images q) ≡ true → is_some (page_at pages q) ≡ true
 
 -- a running subtransaction: whose it is, and the images that it keeps
 pub record Running : Type 0 where
@@ -58,4 +59,6 @@ abbrev pub coded_images : Coded Images
 coded_images = map.code coded_ℕ (coded_option the_row.coded)
 
 abbrev pub coded_running : Coded Running
-coded_running = code_by (ℕ × Images) (coded× coded_ℕ coded_images) (λ r. (r.tx, r.images)) (λ p. record { tx = p.0; images = p.1 }) (λ _. refl)
+coded_running =
+    code_by (ℕ × Images) (coded× coded_ℕ coded_images)
+    (λ r. (r.tx, r.images)) (λ p. record { tx = p.0; images = p.1 }) (λ _. refl)

@@ -7,8 +7,10 @@ use Rattle.mlt_store.specs.Stores.{Pages, page_at}
 
 -- only pages that are there are locked
 abbrev pub LocksPagesThere : LockTable → Pages → Type 0
-LocksPagesThere locks pages = (tx q : ℕ) → can_read locks tx q ≡ true → is_some (page_at pages q) ≡ true
+LocksPagesThere locks pages =
+    (tx q : ℕ) → can_read locks tx q ≡ true → is_some (page_at pages q) ≡ true
 
 -- there is room for a lock of tx on one page more
 abbrev pub HasRoomForOneMore : LockTable → ℕ → Type 0
-HasRoomForOneMore locks tx = (q : ℕ) → can_read locks tx q ≡ false → HasRoom (granted locks tx q Exclusive)
+HasRoomForOneMore locks tx =
+    (q : ℕ) → can_read locks tx q ≡ false → HasRoom (granted locks tx q Exclusive)

@@ -16,20 +16,12 @@ pub(crate) struct Image {
     pub first: Option<Page>,
 }
 
-impl Default for Image {
-    fn default() -> Image {
-        Image {
-            page: PageNo(0),
-            first: None,
-        }
-    }
-}
-
 impl Image {
     /// Gives the page what it had at first, or drops it.
     pub fn put_back(&self, store: &mut Store)
         requires { is_some (page_at store.old.pages self.now.page) ≡ true }
-        ensures { store.new ≡ record store.old { pages = with_first store.old.pages self.now.page self.now.first } }
+        ensures { let pages = with_first store.old.pages self.now.page self.now.first in
+            store.new ≡ record store.old { pages = pages } }
     {
         match self.first {
             Some(page) => store.write(self.page, page),

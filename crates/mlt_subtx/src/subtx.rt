@@ -11,7 +11,7 @@ ghost use Rattle.mlt_subtx.specs.ImageLists.{images_of, IsKept};
 ghost use Rattle.mlt_subtx.specs.Locking.{LocksPagesThere, HasRoomForOneMore};
 
 use crate::image::{Image, has_image};
-use arrayvec::ArrayVec;
+use crate::near_images::NearImages;
 use mlt_page::Page;
 use mlt_page_locks::{Grant, PageLocks};
 use mlt_store::Store;
@@ -26,7 +26,7 @@ use std::marker::Model;
 #[derive(Drop)]
 pub struct Subtx {
     tx: TxId,
-    near: ArrayVec<Image, 2>,
+    near: NearImages,
     far: Vec<Image>,
 }
 
@@ -39,9 +39,9 @@ impl Model for Subtx {
 
     ghost coded = { coded_running };
 
-    ghost view = { λ s. record { tx = s.tx; images = images_of (s.near.items ++ s.far.items) } };
+    ghost view = { λ s. record { tx = s.tx; images = images_of (s.near ++ s.far.items) } };
 
-    ghost invariant = { λ s. IsKept s.near.items s.far.items };
+    ghost invariant = { λ s. IsKept s.near s.far.items };
 }
 
 impl Subtx {
@@ -51,7 +51,7 @@ impl Subtx {
     {
         Subtx {
             tx,
-            near: ArrayVec::new(),
+            near: NearImages::new(),
             far: Vec::new(alloc),
         }
     }
@@ -76,11 +76,16 @@ impl Subtx {
     /// `OutOfMemory`, where the page is at least the third and a growth was refused. Then nothing has changed.
     pub fn write(&mut self, store: &mut Store, number: PageNo, page: Page) -> Result<(), Refusal>
         requires { is_some (page_at store.old.pages number) ≡ true }
-        ensures store { OnOk result (store.new ≡ record store.old { pages = map.insert store.old.pages number page }) }
-        ensures images { OnOk result (self.new ≡ record self.old { images = with_image self.old.images number (page_at store.old.pages number) }) }
-        ensures kept { OnOk result (put_back self.new.images store.new.pages ≡ put_back self.old.images store.old.pages) }
+        ensures store { OnOk result
+            (store.new ≡ record store.old { pages = map.insert store.old.pages number page }) }
+        ensures images { let first = page_at store.old.pages number in
+            let images = with_image self.old.images number first in
+            OnOk result (self.new ≡ record self.old { images = images }) }
+        ensures kept { OnOk result
+            (put_back self.new.images store.new.pages ≡ put_back self.old.images store.old.pages) }
         ensures err { OnErr result ((self.new ≡ self.old) × (store.new ≡ store.old)) }
-        ensures third { OnErr result ((2 ≤ map.len self.old.images) × (image_of self.old.images number ≡ None)) }
+        ensures third { OnErr result
+            ((2 ≤ map.len self.old.images) × (image_of self.old.images number ≡ None)) }
         ensures refusal { IfErr result (λ refusal. refusal ≡ Refusal.OutOfMemory) }
     {
         if !self.has_image(number) {
@@ -106,13 +111,20 @@ impl Subtx {
         requires unlocked { LocksPagesThere locks.old store.old.pages }
         requires room { HasRoomForOneMore locks.old self.old.tx }
         ensures fresh { IfOk result (λ number. page_at store.old.pages number ≡ None) }
-        ensures store { IfOk result (λ number. store.new ≡ record store.old { pages = map.insert store.old.pages number page }) }
-        ensures images { IfOk result (λ number. self.new ≡ record self.old { images = map.insert self.old.images number None }) }
-        ensures locks { IfOk result (λ number. locks.new ≡ granted locks.old self.old.tx number Exclusive) }
-        ensures kept { OnOk result (put_back self.new.images store.new.pages ≡ put_back self.old.images store.old.pages) }
-        ensures err { OnErr result ((self.new ≡ self.old) × (store.new ≡ store.old) × (locks.new ≡ locks.old)) }
-        ensures no_room { (result ≡ Err Refusal.NoRoom) ↔ (map.len store.old.pages ≡ store.old.max_pages) }
-        ensures refusal { IfErr result (λ refusal. (refusal ≡ Refusal.NoRoom) ⊎ (refusal ≡ Refusal.OutOfMemory)) }
+        ensures store { IfOk result (λ number.
+            store.new ≡ record store.old { pages = map.insert store.old.pages number page }) }
+        ensures images { IfOk result (λ number.
+            self.new ≡ record self.old { images = map.insert self.old.images number None }) }
+        ensures locks { IfOk result (λ number.
+            locks.new ≡ granted locks.old self.old.tx number Exclusive) }
+        ensures kept { OnOk result
+            (put_back self.new.images store.new.pages ≡ put_back self.old.images store.old.pages) }
+        ensures err { OnErr result
+            ((self.new ≡ self.old) × (store.new ≡ store.old) × (locks.new ≡ locks.old)) }
+        ensures no_room { (result ≡ Err Refusal.NoRoom)
+            ↔ (map.len store.old.pages ≡ store.old.max_pages) }
+        ensures refusal { IfErr result (λ refusal.
+            (refusal ≡ Refusal.NoRoom) ⊎ (refusal ≡ Refusal.OutOfMemory)) }
     {
         let number = store.grow(page)?;
         if let Err(refusal) = self.keep(number, None) {
@@ -129,7 +141,8 @@ impl Subtx {
     /// subtransaction is then as one that has just started.
     pub fn roll_back(&mut self, store: &mut Store, locks: &mut PageLocks)
         requires { AreThere self.old.images store.old.pages }
-        ensures store { store.new ≡ record store.old { pages = put_back self.old.images store.old.pages } }
+        ensures store { store.new
+            ≡ record store.old { pages = put_back self.old.images store.old.pages } }
         ensures locks { locks.new ≡ released locks.old self.old.tx }
         ensures images { self.new ≡ started self.old.tx }
     {
@@ -150,13 +163,14 @@ impl Subtx {
     fn has_image(&self, page: PageNo) -> bool
         ensures { result ≡ is_some (image_of self.now.images page) }
     {
-        has_image(&self.near, page) || has_image(&self.far, page)
+        self.near.has(page) || has_image(&self.far, page)
     }
 
     // Keeps the first image of a page that has none.
     fn keep(&mut self, page: PageNo, first: Option<Page>) -> Result<(), Refusal>
         requires { image_of self.old.images page ≡ None }
-        ensures ok { OnOk result (self.new ≡ record self.old { images = map.insert self.old.images page first }) }
+        ensures ok { OnOk result
+            (self.new ≡ record self.old { images = map.insert self.old.images page first }) }
         ensures err { OnErr result (self.new ≡ self.old) }
         ensures third { OnErr result (2 ≤ map.len self.old.images) }
         ensures refusal { IfErr result (λ refusal. refusal ≡ Refusal.OutOfMemory) }
@@ -171,12 +185,13 @@ impl Subtx {
     }
 }
 
-fn put_all_back(far: &mut Vec<Image>, near: &mut ArrayVec<Image, 2>, store: &mut Store)
-    requires kept { IsKept near.old.items far.old.items }
-    requires there { AreThere (images_of (near.old.items ++ far.old.items)) store.old.pages }
-    ensures store { store.new ≡ record store.old { pages = put_back (images_of (near.old.items ++ far.old.items)) store.old.pages } }
+fn put_all_back(far: &mut Vec<Image>, near: &mut NearImages, store: &mut Store)
+    requires kept { IsKept near.old far.old.items }
+    requires there { AreThere (images_of (near.old ++ far.old.items)) store.old.pages }
+    ensures store { let images = images_of (near.old ++ far.old.items) in
+        store.new ≡ record store.old { pages = put_back images store.old.pages } }
     ensures far { far.new.items ≡ [] }
-    ensures near { near.new.items ≡ [] }
+    ensures near { near.new ≡ [] }
 {
     while let Some(image) = far.pop() {
         image.put_back(store);

@@ -9,76 +9,66 @@ use Rattle.mlt_record.specs.Plans.{has_room}
 use Rattle.mlt_split.specs.Splits.{IsUnderWay, MayBegin}
 use Rattle.mlt_split.specs.Rests.{Aim, IsAtRest}
 use Rattle.mlt_split.proofs.HeldPages.{clean_now}
-use Rattle.mlt_hash.specs.Walks.{Basis, WalkFields, aim_of}
+use Rattle.mlt_hash.specs.Walks.{Basis, WalkFields, aim_of, basis_by}
 use Rattle.mlt_hash.specs.Splitting.{TellsOfAdding}
 use Rattle.mlt_hash.specs.declared.pass.Phase.TheVariants as at
 use Rattle.mlt_hash.specs.declared.answer.WalkAnswer.TheVariants as answer
-use Rattle.mlt_hash.proofs.Puts.{adding_at, begin_is_refused, begins_split, begun_alike, full_is_shallow, has_to_split, made_touches, may_begin, may_put, need_not_split, nothing_touched, nowhere, put_has_room, put_tells, put_touches}
+use Rattle.mlt_hash.proofs.Puts.{adding_at, begin_is_refused, begins_split, begun_alike, full_is_shallow, has_to_split, may_begin, may_put, need_not_split, nowhere, put_has_room, put_tells}
 use Rattle.mlt_hash.proofs.adding.add_or_split.Goals as goal
 
 pub plan_to_put-requires-clause-found : goal.plan_to_put-requires-clause-found
 plan_to_put-requires-clause-found g c =
-    let basis : Basis = record { bits = g.P.Pseudo.bits_of c.args.root.now.pseudo; opens = c.args.opens.now; root = c.args.root.now.page; max_depth = c.args.root.now.max_depth; tx = c.args.subtx.now.tx } in
+    let basis : Basis = basis_by g.P.Pseudo.bits_of c.args.root.now c.args.opens.now c.args.subtx.now.tx in
     let walk : WalkFields = c.args.walk.now in
-    let old : Moment = moment c.args.subtx.now c.args.locks.now c.args.store.now in
-    let adds = adding_at basis walk old c.args.value c.args.number c.args.room_depth c.args.unsplit c.requires.1.1.0 c.requires.1.1.1.1.1.1 in
+    let old : Moment = moment c.args.subtx.now c.args.pages.now in
+    let adds = adding_at basis walk old c.args.value c.args.number c.args.room_depth c.args.unsplit c.requires.1.1.0 c.requires.1.1.1.stands in
     (adds.fields, adds.rest.found, nowhere (is_live_of walk.key) adds.fields.slots adds.rest.absent)
 
 pub put-requires-clause-held : goal.put-requires-clause-held
 put-requires-clause-held g c =
-    let basis : Basis = record { bits = g.P.Pseudo.bits_of c.args.root.now.pseudo; opens = c.args.opens.now; root = c.args.root.now.page; max_depth = c.args.root.now.max_depth; tx = c.args.subtx.now.tx } in
+    let basis : Basis = basis_by g.P.Pseudo.bits_of c.args.root.now c.args.opens.now c.args.subtx.now.tx in
     let walk : WalkFields = c.args.walk.now in
-    let old : Moment = moment c.args.subtx.now c.args.locks.now c.args.store.now in
-    let adds = adding_at basis walk old c.args.value c.args.number c.args.room_depth c.args.unsplit c.requires.1.1.0 c.requires.1.1.1.1.1.1 in
+    let old : Moment = moment c.args.subtx.now c.args.pages.now in
+    let adds = adding_at basis walk old c.args.value c.args.number c.args.room_depth c.args.unsplit c.requires.1.1.0 c.requires.1.1.1.stands in
     let planned = c.in-Some.ensures adds.fields adds.rest.found in
     may_put basis walk old c.args.number c.args.room_depth c.args.unsplit adds (has_room c.args.opens.now) (Live walk.key c.args.value) c.in-Some.write planned.1
 
-pub returns-in-Some-clause-touches : goal.returns-in-Some-clause-touches
-returns-in-Some-clause-touches g c =
-    let old : Moment = moment c.args.subtx.now c.args.locks.now c.args.store.now in
-    put_touches old (moment c.put.new.subtx c.args.locks.now c.put.new.store) c.args.walk.now c.put.new.walk c.in-Some.write c.args.value c.put.result c.put.ensures.tells
-
 pub returns-in-Some-clause-tells : goal.returns-in-Some-clause-tells
 returns-in-Some-clause-tells g c =
-    let basis : Basis = record { bits = g.P.Pseudo.bits_of c.args.root.now.pseudo; opens = c.args.opens.now; root = c.args.root.now.page; max_depth = c.args.root.now.max_depth; tx = c.args.subtx.now.tx } in
+    let basis : Basis = basis_by g.P.Pseudo.bits_of c.args.root.now c.args.opens.now c.args.subtx.now.tx in
     let walk : WalkFields = c.args.walk.now in
-    let old : Moment = moment c.args.subtx.now c.args.locks.now c.args.store.now in
-    let adds = adding_at basis walk old c.args.value c.args.number c.args.room_depth c.args.unsplit c.requires.1.1.0 c.requires.1.1.1.1.1.1 in
+    let old : Moment = moment c.args.subtx.now c.args.pages.now in
+    let adds = adding_at basis walk old c.args.value c.args.number c.args.room_depth c.args.unsplit c.requires.1.1.0 c.requires.1.1.1.stands in
     let planned = c.in-Some.ensures adds.fields adds.rest.found in
     let phase = c.requires.1.1.0 ∙ ap (at.Adding c.args.value c.args.number c.args.room_depth) planned.0 in
-    let split = adding_at basis walk old c.args.value c.args.number c.args.room_depth false phase c.requires.1.1.1.1.1.1 in
+    let split = adding_at basis walk old c.args.value c.args.number c.args.room_depth false phase c.requires.1.1.1.stands in
     let again = c.in-Some.ensures split.fields split.rest.found in
-    put_tells basis walk c.put.new.walk old (moment c.put.new.subtx c.args.locks.now c.put.new.store) c.args.value c.args.number c.args.room_depth phase split c.in-Some.write again.1 c.put.result c.put.ensures.tells
+    put_tells basis walk c.put.new.walk old (moment c.put.new.subtx c.put.new.pages) c.args.value c.args.number c.args.room_depth phase split c.in-Some.write again.1 c.put.result c.put.ensures.tells
 
 pub begin-requires : goal.begin-requires
 begin-requires g c κs within =
-    let basis : Basis = record { bits = g.P.Pseudo.bits_of c.args.root.now.pseudo; opens = c.args.opens.now; root = c.args.root.now.page; max_depth = c.args.root.now.max_depth; tx = c.args.subtx.now.tx } in
+    let basis : Basis = basis_by g.P.Pseudo.bits_of c.args.root.now c.args.opens.now c.args.subtx.now.tx in
     let walk : WalkFields = c.args.walk.now in
-    let old : Moment = moment c.args.subtx.now c.args.locks.now c.args.store.now in
-    let adds = adding_at basis walk old c.args.value c.args.number c.args.room_depth c.args.unsplit c.requires.1.1.0 c.requires.1.1.1.1.1.1 in
+    let old : Moment = moment c.args.subtx.now c.args.pages.now in
+    let adds = adding_at basis walk old c.args.value c.args.number c.args.room_depth c.args.unsplit c.requires.1.1.0 c.requires.1.1.1.stands in
     let aim : Aim = aim_of basis walk c.args.room_depth in
-    let clean = clean_now aim old c.requires.1.1.1.1.0 c.requires.1.1.1.1.1.0 in
+    let clean = clean_now aim old c.requires.1.1.1.may c.requires.1.1.1.file in
     let shallow : adds.fields.depth < c.args.room_depth = elim (c.in_default.ensures adds.fields adds.rest.found) [
       | inl unsplit ↦ adds.unsplit_is unsplit
       | inr full ↦ full_is_shallow aim (view_of old) c.args.number adds.header adds.fields adds.rest clean full
     ] in
-    let begins : MayBegin aim (view_of old) c.args.number = may_begin basis walk old c.args.number c.args.room_depth c.args.unsplit c.requires.1.1.1.1.0 c.requires.1.1.1.1.1.0 adds shallow in
+    let begins : MayBegin aim (view_of old) c.args.number = may_begin basis walk old c.args.number c.args.room_depth c.args.unsplit c.requires.1.1.1.may c.requires.1.1.1.file adds shallow in
     let key : c.walk.inside.key ≡ walk.key = ap (λ (w : WalkFields). w.key) c.walk.view_is in
     let here : MayBegin (record aim { key = c.walk.inside.key; room_depth = g.needed }) (view_of old) c.args.number = rw (key, c.requires.1.0) begins in
-    (within, (c.requires.1.1.1.1.0, (c.requires.1.1.1.1.1.0, here)))
-
-pub returns-in-Ok-clause-touches : goal.returns-in-Ok-clause-touches
-returns-in-Ok-clause-touches g c =
-    let old : Moment = moment c.args.subtx.now c.args.locks.now c.args.store.now in
-    made_touches old (moment c.begin.new.subtx c.begin.new.locks c.begin.new.store) c.in-Ok.split.new_page c.in-Ok.ensures.makes.0 c.in-Ok.ensures.makes.1
+    (within, (c.requires.1.1.1.may, (c.requires.1.1.1.file, here)))
 
 pub returns-in-Ok-clause-tells : goal.returns-in-Ok-clause-tells
 returns-in-Ok-clause-tells g c =
-    let basis : Basis = record { bits = g.P.Pseudo.bits_of c.args.root.now.pseudo; opens = c.args.opens.now; root = c.args.root.now.page; max_depth = c.args.root.now.max_depth; tx = c.args.subtx.now.tx } in
+    let basis : Basis = basis_by g.P.Pseudo.bits_of c.args.root.now c.args.opens.now c.args.subtx.now.tx in
     let walk : WalkFields = c.args.walk.now in
-    let old : Moment = moment c.args.subtx.now c.args.locks.now c.args.store.now in
-    let adds = adding_at basis walk old c.args.value c.args.number c.args.room_depth c.args.unsplit c.requires.1.1.0 c.requires.1.1.1.1.1.1 in
-    let new : Moment = moment c.begin.new.subtx c.begin.new.locks c.begin.new.store in
+    let old : Moment = moment c.args.subtx.now c.args.pages.now in
+    let adds = adding_at basis walk old c.args.value c.args.number c.args.room_depth c.args.unsplit c.requires.1.1.0 c.requires.1.1.1.stands in
+    let new : Moment = moment c.begin.new.subtx c.begin.new.pages in
     let needed = has_to_split basis walk old c.args.value c.args.number c.args.room_depth c.args.unsplit c.requires.1.1.0 adds (c.in_default.ensures adds.fields adds.rest.found) in
     let key : c.walk.inside.key ≡ walk.key = ap (λ (w : WalkFields). w.key) c.walk.view_is in
     let aim : Aim = record (aim_of basis walk c.args.room_depth) { key = c.walk.inside.key; room_depth = g.needed } in
@@ -88,26 +78,20 @@ returns-in-Ok-clause-tells g c =
     let depths = c.in-Ok.ensures.depths adds.header adds.fields rest in
     elim c.keep_split.ensures.told [
       | inl going ↦
-          let begun = begins_split basis walk c.keep_split.new.walk old new c.args.value c.args.number c.args.room_depth c.args.unsplit c.in-Ok.split c.in-Ok.ensures.makes.0 c.requires.1.1.1.1.0 c.in-Ok.ensures.makes.1 adds needed under_way c.in-Ok.ensures.steps depths.0 depths.1 (c.keep_split.ensures.kept going) in
+          let begun = begins_split basis walk c.keep_split.new.walk old new c.args.value c.args.number c.args.room_depth c.args.unsplit c.in-Ok.split c.in-Ok.ensures.makes.0 c.requires.1.1.1.may c.in-Ok.ensures.makes.1 adds needed under_way c.in-Ok.ensures.steps depths.0 depths.1 (c.keep_split.ensures.kept going) in
           subst (λ r. TellsOfAdding basis old new walk c.keep_split.new.walk c.args.value c.args.number c.args.room_depth r) (sym going) begun
       | inr refused ↦ subst (λ r. TellsOfAdding basis old new walk c.keep_split.new.walk c.args.value c.args.number c.args.room_depth r) (sym refused) refl
     ]
 
-pub returns-in-Err-clause-touches : goal.returns-in-Err-clause-touches
-returns-in-Err-clause-touches g c =
-    let old : Moment = moment c.args.subtx.now c.args.locks.now c.args.store.now in
-    let err = c.in-Err.ensures.err in
-    nothing_touched old (moment c.begin.new.subtx c.begin.new.locks c.begin.new.store) (λ i. moment (err.0 i) (err.1 i) (err.2 i))
-
 pub returns-in-Some-clause-no_room : goal.returns-in-Some-clause-no_room
 returns-in-Some-clause-no_room g c =
-    let basis : Basis = record { bits = g.P.Pseudo.bits_of c.args.root.now.pseudo; opens = c.args.opens.now; root = c.args.root.now.page; max_depth = c.args.root.now.max_depth; tx = c.args.subtx.now.tx } in
+    let basis : Basis = basis_by g.P.Pseudo.bits_of c.args.root.now c.args.opens.now c.args.subtx.now.tx in
     let walk : WalkFields = c.args.walk.now in
-    let old : Moment = moment c.args.subtx.now c.args.locks.now c.args.store.now in
-    let adds = adding_at basis walk old c.args.value c.args.number c.args.room_depth c.args.unsplit c.requires.1.1.0 c.requires.1.1.1.1.1.1 in
+    let old : Moment = moment c.args.subtx.now c.args.pages.now in
+    let adds = adding_at basis walk old c.args.value c.args.number c.args.room_depth c.args.unsplit c.requires.1.1.0 c.requires.1.1.1.stands in
     let planned = c.in-Some.ensures adds.fields adds.rest.found in
-    let clean = clean_now (aim_of basis walk c.args.room_depth) old c.requires.1.1.1.1.0 c.requires.1.1.1.1.1.0 in (
-      λ is. absurd (put_has_room old (moment c.put.new.subtx c.args.locks.now c.put.new.store) walk c.put.new.walk c.in-Some.write c.args.value c.put.result c.put.ensures.tells is),
+    let clean = clean_now (aim_of basis walk c.args.room_depth) old c.requires.1.1.1.may c.requires.1.1.1.file in (
+      λ is. absurd (put_has_room old (moment c.put.new.subtx c.put.new.pages) walk c.put.new.walk c.in-Some.write c.args.value c.put.result c.put.ensures.tells is),
       λ both. absurd (need_not_split basis walk old c.args.value c.args.number c.args.room_depth c.args.unsplit c.requires.1.1.0 adds (Live walk.key c.args.value) c.in-Some.write clean planned.0 planned.1 both.0),
     )
 
@@ -122,20 +106,20 @@ returns-in-Ok-clause-no_room g c = (
 
 pub returns-in-Err-clause-no_room : goal.returns-in-Err-clause-no_room
 returns-in-Err-clause-no_room g c =
-    let basis : Basis = record { bits = g.P.Pseudo.bits_of c.args.root.now.pseudo; opens = c.args.opens.now; root = c.args.root.now.page; max_depth = c.args.root.now.max_depth; tx = c.args.subtx.now.tx } in
+    let basis : Basis = basis_by g.P.Pseudo.bits_of c.args.root.now c.args.opens.now c.args.subtx.now.tx in
     let walk : WalkFields = c.args.walk.now in
-    let old : Moment = moment c.args.subtx.now c.args.locks.now c.args.store.now in
-    let adds = adding_at basis walk old c.args.value c.args.number c.args.room_depth c.args.unsplit c.requires.1.1.0 c.requires.1.1.1.1.1.1 in
+    let old : Moment = moment c.args.subtx.now c.args.pages.now in
+    let adds = adding_at basis walk old c.args.value c.args.number c.args.room_depth c.args.unsplit c.requires.1.1.0 c.requires.1.1.1.stands in
     let needed = has_to_split basis walk old c.args.value c.args.number c.args.room_depth c.args.unsplit c.requires.1.1.0 adds (c.in_default.ensures adds.fields adds.rest.found) in
     let alike = begun_alike c.begin.result c.in-Err.refusal c.in-Err.is in
     (λ is. (needed, c.begin.ensures.no_room.0 (alike.1 is)), λ both. alike.0 (c.begin.ensures.no_room.1 both.1))
 
 pub returns-in-Err-clause-tells : goal.returns-in-Err-clause-tells
 returns-in-Err-clause-tells g c =
-    let basis : Basis = record { bits = g.P.Pseudo.bits_of c.args.root.now.pseudo; opens = c.args.opens.now; root = c.args.root.now.page; max_depth = c.args.root.now.max_depth; tx = c.args.subtx.now.tx } in
+    let basis : Basis = basis_by g.P.Pseudo.bits_of c.args.root.now c.args.opens.now c.args.subtx.now.tx in
     let walk : WalkFields = c.args.walk.now in
-    let old : Moment = moment c.args.subtx.now c.args.locks.now c.args.store.now in
-    let adds = adding_at basis walk old c.args.value c.args.number c.args.room_depth c.args.unsplit c.requires.1.1.0 c.requires.1.1.1.1.1.1 in
+    let old : Moment = moment c.args.subtx.now c.args.pages.now in
+    let adds = adding_at basis walk old c.args.value c.args.number c.args.room_depth c.args.unsplit c.requires.1.1.0 c.requires.1.1.1.stands in
     let needed = has_to_split basis walk old c.args.value c.args.number c.args.room_depth c.args.unsplit c.requires.1.1.0 adds (c.in_default.ensures adds.fields adds.rest.found) in
-    begin_is_refused basis walk _ old (moment c.begin.new.subtx c.begin.new.locks c.begin.new.store) c.args.value c.args.number c.args.room_depth c.in-Err.refusal c.walk.view_is needed
+    begin_is_refused basis walk _ old (moment c.begin.new.subtx c.begin.new.pages) c.args.value c.args.number c.args.room_depth c.in-Err.refusal c.walk.view_is needed
     (λ room. c.begin.ensures.no_room.0 (c.in-Err.is ∙ ap Err room)) c.in-Err.ensures.refusal

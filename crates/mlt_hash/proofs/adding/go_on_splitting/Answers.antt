@@ -5,38 +5,38 @@ use Rattle.mlt_split.specs.Rests.{Aim}
 use Rattle.mlt_split.specs.Splits.{SplitFields, steps_left}
 use Rattle.mlt_split.specs.Steps.{IsDone, IsNextPage}
 use Rattle.mlt_split.specs.Tells.{GoesOn, Rests}
-use Rattle.mlt_hash.specs.Walks.{Basis, WalkFields}
+use Rattle.mlt_hash.specs.Walks.{Basis, WalkFields, basis_by}
 use Rattle.mlt_hash.specs.declared.pass.Phase.TheVariants as at
 use Rattle.mlt_hash.proofs.Splittings.{no_room_in_split, refused_alike, split_closes_walk, split_goes_on, split_is_refused}
 use Rattle.mlt_hash.proofs.adding.go_on_splitting.Goals as goal
 
 pub returns-in-Going-clause-tells : goal.returns-in-Going-clause-tells
 returns-in-Going-clause-tells g c =
-    let basis : Basis = record { bits = g.P.Pseudo.bits_of c.args.root.now.pseudo; opens = c.args.opens.now; root = c.args.root.now.page; max_depth = c.args.root.now.max_depth; tx = c.args.subtx.now.tx } in
+    let basis : Basis = basis_by g.P.Pseudo.bits_of c.args.root.now c.args.opens.now c.args.subtx.now.tx in
     let walk : WalkFields = c.args.walk.now in
-    let old = moment c.args.subtx.now c.args.locks.now c.args.store.now in
-    let new = moment c.advance.new.subtx c.advance.new.locks c.advance.new.store in
+    let old = moment c.args.subtx.now c.args.pages.now in
+    let new = moment c.advance.new.subtx c.advance.new.pages in
     let was : walk.split ≡ Some c.deref_mut.result.now = sym (ap (λ (w : WalkFields). w.split) c.walk.view_is) ∙ ap (Rattle.std.specs.Option.option_map (λ b. b.value)) c.in-Some.is ∙ ap Some (sym c.deref_mut.ensures.value) in
     let tells = subst (λ (aim : Aim). GoesOn aim new c.deref_mut.result.now c.advance.new.self) c.requires.1.0 c.in-Going.ensures.tells in
-    ((c.deref_mut.result.now, was, subst (λ (aim : Aim). IsDone c.deref_mut.result.now.phase aim old new c.deref_mut.result.now) c.requires.1.0 c.in-Going.ensures.steps), inl (split_goes_on basis walk _ old new c.args.value c.args.room_depth c.deref_mut.result.now c.requires.1.1.0 c.requires.1.1.1.1.1 was c.requires.1.1.1.0 c.in-Going.ensures.touches c.advance.new.self (ap (λ (w : WalkFields). record w { split = Some c.advance.new.self }) c.walk.view_is) tells))
+    ((c.deref_mut.result.now, was, subst (λ (aim : Aim). IsDone c.deref_mut.result.now.phase aim old new c.deref_mut.result.now) c.requires.1.0 c.in-Going.ensures.steps), inl (split_goes_on basis walk _ old new c.args.value c.args.room_depth c.deref_mut.result.now c.requires.1.1.0 c.requires.1.1.1.stands was c.requires.1.1.1.may c.in-Going.ensures.leaves.touches c.advance.new.self (ap (λ (w : WalkFields). record w { split = Some c.advance.new.self }) c.walk.view_is) tells))
 
 pub returns-in-Closed-clause-tells : goal.returns-in-Closed-clause-tells
 returns-in-Closed-clause-tells g c =
-    let basis : Basis = record { bits = g.P.Pseudo.bits_of c.args.root.now.pseudo; opens = c.args.opens.now; root = c.args.root.now.page; max_depth = c.args.root.now.max_depth; tx = c.args.subtx.now.tx } in
+    let basis : Basis = basis_by g.P.Pseudo.bits_of c.args.root.now c.args.opens.now c.args.subtx.now.tx in
     let walk : WalkFields = c.args.walk.now in
-    let old = moment c.args.subtx.now c.args.locks.now c.args.store.now in
-    let new = moment c.advance.new.subtx c.advance.new.locks c.advance.new.store in
+    let old = moment c.args.subtx.now c.args.pages.now in
+    let new = moment c.advance.new.subtx c.advance.new.pages in
     let was : walk.split ≡ Some c.deref_mut.result.now = sym (ap (λ (w : WalkFields). w.split) c.walk.view_is) ∙ ap (Rattle.std.specs.Option.option_map (λ b. b.value)) c.in-Some.is ∙ ap Some (sym c.deref_mut.ensures.value) in
     let tells = subst (λ (aim : Aim). Rests aim new c.deref_mut.result.now c.in-Closed.bucket × (steps_left c.deref_mut.result.now ≡ 1)) c.requires.1.0 c.in-Closed.ensures.tells in (
       (c.deref_mut.result.now, was, subst (λ (aim : Aim). IsDone c.deref_mut.result.now.phase aim old new c.deref_mut.result.now) c.requires.1.0 c.in-Closed.ensures.steps),
-      inr (split_closes_walk basis walk _ old new c.args.value c.args.room_depth c.deref_mut.result.now c.requires.1.1.0 c.requires.1.1.1.1.1 was c.requires.1.1.1.0 c.in-Closed.ensures.touches c.in-Closed.bucket (Some c.advance.new.self)
+      inr (split_closes_walk basis walk _ old new c.args.value c.args.room_depth c.deref_mut.result.now c.requires.1.1.0 c.requires.1.1.1.stands was c.requires.1.1.1.may c.in-Closed.ensures.leaves.touches c.in-Closed.bucket (Some c.advance.new.self)
           (ap (λ (w : WalkFields). record w { phase = at.Adding c.args.value c.in-Closed.bucket c.args.room_depth false; split = Some c.advance.new.self }) c.walk.view_is) tells.0 tells.1),
     )
 
 pub returns-in-Waiting-clause-tells : goal.returns-in-Waiting-clause-tells
 returns-in-Waiting-clause-tells g c =
     let walk : WalkFields = c.args.walk.now in
-    let old = moment c.args.subtx.now c.args.locks.now c.args.store.now in
+    let old = moment c.args.subtx.now c.args.pages.now in
     let was : walk.split ≡ Some c.deref_mut.result.now = sym (ap (λ (w : WalkFields). w.split) c.walk.view_is) ∙ ap (Rattle.std.specs.Option.option_map (λ b. b.value)) c.in-Some.is ∙ ap Some (sym c.deref_mut.ensures.value) in
     let tells = c.in-Waiting.ensures.tells in
     let same : record walk { split = Some c.advance.new.self } ≡ walk = ap (λ (s : SplitFields). record walk { split = Some s }) tells.3 ∙ ap (λ (o : Option SplitFields). record walk { split = o }) (sym was) in
@@ -44,18 +44,18 @@ returns-in-Waiting-clause-tells g c =
 
 pub returns-in-Refused-clause-tells : goal.returns-in-Refused-clause-tells
 returns-in-Refused-clause-tells g c =
-    let basis : Basis = record { bits = g.P.Pseudo.bits_of c.args.root.now.pseudo; opens = c.args.opens.now; root = c.args.root.now.page; max_depth = c.args.root.now.max_depth; tx = c.args.subtx.now.tx } in
+    let basis : Basis = basis_by g.P.Pseudo.bits_of c.args.root.now c.args.opens.now c.args.subtx.now.tx in
     let walk : WalkFields = c.args.walk.now in
-    let old = moment c.args.subtx.now c.args.locks.now c.args.store.now in
-    let new = moment c.advance.new.subtx c.advance.new.locks c.advance.new.store in
+    let old = moment c.args.subtx.now c.args.pages.now in
+    let new = moment c.advance.new.subtx c.advance.new.pages in
     let was : walk.split ≡ Some c.deref_mut.result.now = sym (ap (λ (w : WalkFields). w.split) c.walk.view_is) ∙ ap (Rattle.std.specs.Option.option_map (λ b. b.value)) c.in-Some.is ∙ ap Some (sym c.deref_mut.ensures.value) in
     split_is_refused basis walk _ old new c.args.value c.args.room_depth c.deref_mut.result.now was g.aim c.advance.new.self c.in-Refused.refusal c.requires.1.0 (ap (λ (w : WalkFields). record w { split = Some c.advance.new.self }) c.walk.view_is) c.in-Refused.ensures.tells c.in-Refused.ensures.steps
 
 pub returns-in-Refused-clause-no_room : goal.returns-in-Refused-clause-no_room
 returns-in-Refused-clause-no_room g c =
     let walk : WalkFields = c.args.walk.now in
-    let old = moment c.args.subtx.now c.args.locks.now c.args.store.now in
-    let new = moment c.advance.new.subtx c.advance.new.locks c.advance.new.store in
+    let old = moment c.args.subtx.now c.args.pages.now in
+    let new = moment c.advance.new.subtx c.advance.new.pages in
     let was : walk.split ≡ Some c.deref_mut.result.now = sym (ap (λ (w : WalkFields). w.split) c.walk.view_is) ∙ ap (Rattle.std.specs.Option.option_map (λ b. b.value)) c.in-Some.is ∙ ap Some (sym c.deref_mut.ensures.value) in
     let exact = no_room_in_split walk c.deref_mut.result.now was c.advance.result c.advance.ensures.no_room in
     let alike = refused_alike c.advance.result c.in-Refused.refusal c.in-Refused.is in

@@ -3,7 +3,7 @@ use Rattle.std.proofs.lemmas.Bool.{false≢true}
 use Rattle.mlt_page.specs.Values.{BucketFields}
 use Rattle.mlt_held.specs.Moments.{Moment, moment}
 use Rattle.mlt_held.specs.Views.{view_of}
-use Rattle.mlt_hash.specs.Walks.{Basis, WalkFields}
+use Rattle.mlt_hash.specs.Walks.{Basis, WalkFields, basis_by}
 use Rattle.mlt_hash.specs.Changes.{IsFull, directory_depth_of}
 use Rattle.mlt_hash.specs.declared.pass.Pass.TheVariants as pass
 use Rattle.mlt_hash.specs.declared.pass.Phase.TheVariants as at
@@ -13,19 +13,19 @@ use Rattle.mlt_hash.proofs.change.without_room.Goals as goal
 
 pub next_pass-next-requires-clause-bucket : goal.next_pass-next-requires-clause-bucket
 next_pass-next-requires-clause-bucket g c =
-    let basis : Basis = record { bits = g.P.Pseudo.bits_of c.args.root.now.pseudo; opens = c.args.opens.now; root = c.args.root.now.page; max_depth = c.args.root.now.max_depth; tx = c.args.subtx.now.tx } in
+    let basis : Basis = basis_by g.P.Pseudo.bits_of c.args.root.now c.args.opens.now c.args.subtx.now.tx in
     let walk : WalkFields = c.args.walk.now in
-    let m : Moment = moment c.args.subtx.now c.args.locks.now c.args.store.now in
+    let m : Moment = moment c.args.subtx.now c.args.pages.now in
     let number = c.held_bucket-number.result.0 in
     let fields : BucketFields = c.held_bucket-number.result.1.now in
     let full : IsFull basis walk (view_of m) fields = full_bucket basis walk (view_of m) fields c.requires.full c.held_bucket-number.ensures.bucket in
-    shallow basis walk m fields (g.met.P.Pseudo.has_64_bits c.args.root.now.pseudo) c.requires.may c.requires.file (absent_at basis walk (view_of m) walk.phase c.requires.found c.requires.stands) full
+    shallow basis walk m fields (c.requires.ready.walks.bounded) c.requires.ready.walks.may c.requires.ready.walks.file (absent_at basis walk (view_of m) walk.phase c.requires.found c.requires.ready.walks.stands) full
 
 pub returns-in-First-clause-tells : goal.returns-in-First-clause-tells
 returns-in-First-clause-tells g c =
-    let basis : Basis = record { bits = g.P.Pseudo.bits_of c.args.root.now.pseudo; opens = c.args.opens.now; root = c.args.root.now.page; max_depth = c.args.root.now.max_depth; tx = c.args.subtx.now.tx } in
+    let basis : Basis = basis_by g.P.Pseudo.bits_of c.args.root.now c.args.opens.now c.args.subtx.now.tx in
     let walk : WalkFields = c.args.walk.now in
-    let m : Moment = moment c.args.subtx.now c.args.locks.now c.args.store.now in
+    let m : Moment = moment c.args.subtx.now c.args.pages.now in
     let number = c.held_bucket-number.result.0 in
     let fields : BucketFields = c.held_bucket-number.result.1.now in
     let full : IsFull basis walk (view_of m) fields = full_bucket basis walk (view_of m) fields c.requires.full c.held_bucket-number.ensures.bucket in
@@ -39,9 +39,9 @@ returns-in-First-clause-tells g c =
 
 pub returns-then-must_widen-clause-tells : goal.returns-then-must_widen-clause-tells
 returns-then-must_widen-clause-tells g c =
-    let basis : Basis = record { bits = g.P.Pseudo.bits_of c.args.root.now.pseudo; opens = c.args.opens.now; root = c.args.root.now.page; max_depth = c.args.root.now.max_depth; tx = c.args.subtx.now.tx } in
+    let basis : Basis = basis_by g.P.Pseudo.bits_of c.args.root.now c.args.opens.now c.args.subtx.now.tx in
     let walk : WalkFields = c.args.walk.now in
-    let m : Moment = moment c.args.subtx.now c.args.locks.now c.args.store.now in
+    let m : Moment = moment c.args.subtx.now c.args.pages.now in
     let number = c.held_bucket-number.result.0 in
     let fields : BucketFields = c.held_bucket-number.result.1.now in
     let full : IsFull basis walk (view_of m) fields = full_bucket basis walk (view_of m) fields c.requires.full c.held_bucket-number.ensures.bucket in
@@ -56,9 +56,9 @@ returns-then-must_widen-clause-tells g c =
 
 pub returns-in_default-least-clause-tells : goal.returns-in_default-least-clause-tells
 returns-in_default-least-clause-tells g c =
-    let basis : Basis = record { bits = g.P.Pseudo.bits_of c.args.root.now.pseudo; opens = c.args.opens.now; root = c.args.root.now.page; max_depth = c.args.root.now.max_depth; tx = c.args.subtx.now.tx } in
+    let basis : Basis = basis_by g.P.Pseudo.bits_of c.args.root.now c.args.opens.now c.args.subtx.now.tx in
     let walk : WalkFields = c.args.walk.now in
-    let m : Moment = moment c.args.subtx.now c.args.locks.now c.args.store.now in
+    let m : Moment = moment c.args.subtx.now c.args.pages.now in
     let number = c.held_bucket-number.result.0 in
     let fields : BucketFields = c.held_bucket-number.result.1.now in
     let full : IsFull basis walk (view_of m) fields = full_bucket basis walk (view_of m) fields c.requires.full c.held_bucket-number.ensures.bucket in
@@ -73,9 +73,9 @@ returns-in_default-least-clause-tells g c =
 
 pub returns-clause-tells : goal.returns-clause-tells
 returns-clause-tells g c =
-    let basis : Basis = record { bits = g.P.Pseudo.bits_of c.args.root.now.pseudo; opens = c.args.opens.now; root = c.args.root.now.page; max_depth = c.args.root.now.max_depth; tx = c.args.subtx.now.tx } in
+    let basis : Basis = basis_by g.P.Pseudo.bits_of c.args.root.now c.args.opens.now c.args.subtx.now.tx in
     let walk : WalkFields = c.args.walk.now in
-    let m : Moment = moment c.args.subtx.now c.args.locks.now c.args.store.now in
+    let m : Moment = moment c.args.subtx.now c.args.pages.now in
     let number = c.held_bucket-number.result.0 in
     let fields : BucketFields = c.held_bucket-number.result.1.now in
     let full : IsFull basis walk (view_of m) fields = full_bucket basis walk (view_of m) fields c.requires.full c.held_bucket-number.ensures.bucket in
@@ -87,5 +87,5 @@ returns-clause-tells g c =
     let own : c.walk.inside.pass ≡ walk.pass = ap (λ (w : WalkFields). w.pass) c.walk.view_is in
     adding_tells basis walk _ m fields next.0 next.1 c.args.value full told
     (λ first. c.in_default-pass.not-First (own ∙ first)) (λ narrow wide. let both = c.must_widen.ensures.1 (own ∙ narrow, wide) in false≢true (sym c.if-must_widen.false ∙ both))
-    number (g.met.P.Pseudo.has_64_bits c.args.root.now.pseudo) c.requires.may c.requires.file c.requires.found c.requires.stands c.requires.mode c.requires.max_depth c.held_bucket-number.ensures.number c.in-Some.room_depth c.in-Some.is
+    number (c.requires.ready.walks.bounded) c.requires.ready.walks.may c.requires.ready.walks.file c.requires.found c.requires.ready.walks.stands c.requires.ready.exclusive c.requires.ready.walks.small c.held_bucket-number.ensures.number c.in-Some.room_depth c.in-Some.is
     (ap (λ (w : WalkFields). record w { phase = at.Adding c.args.value number c.in-Some.room_depth true }) c.walk.view_is)

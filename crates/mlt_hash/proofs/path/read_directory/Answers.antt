@@ -1,7 +1,8 @@
-use Rattle.std.proofs.Common.{◌≡◌, ℕ, ◌<◌, ◌^◌, List, Some, is_some, ap, subst, arith}
+use Rattle.std.proofs.Common.{◌≡◌, ℕ, ◌<◌, ◌^◌, List, Some, is_some, ap, arith}
 use Rattle.mlt_page.specs.declared.page.Page.TheVariants as page
 use Rattle.mlt_held.specs.Moments.{HasCleanFile, Moment, moment}
 use Rattle.mlt_held.specs.Views.{view_of}
+use Rattle.mlt_held.proofs.Views.{reads_after_lock, reads_seen}
 use Rattle.mlt_hash.specs.Walks.{IsHeaded}
 use Rattle.mlt_hash.specs.declared.pass.Phase.TheVariants as at
 use Rattle.mlt_hash.proofs.Paths.{dir_there, one_page}
@@ -12,30 +13,35 @@ use Rattle.mlt_hash.proofs.path.read_directory.Goals.{Start}
 use Rattle.mlt_hash.proofs.path.read_directory.Goals as goal
 
 abbrev before : (g : Over) → Start g → Moment
-before g c = moment c.args.subtx.now c.args.locks.now c.args.store.now
+before g c = moment c.args.subtx.now c.args.pages.now
 
 file : (g : Over) (c : Start g) → HasCleanFile g.basis.bits g.basis.root (before g c)
-file g c = c.requires.1.1.1.1.0
+file g c = c.requires.1.1.1.1.1.file
 
 stands : (g : Over) (c : Start g) → IsHeaded g.basis c.args.walk.now (view_of (before g c)) c.args.number c.args.row c.args.depth
-stands g c = stands_at g.basis c.args.walk.now (view_of (before g c)) (at.Headed c.args.number c.args.row c.args.depth) c.requires.1.1.0 c.requires.1.1.1.1.1
+stands g c = stands_at g.basis c.args.walk.now (view_of (before g c)) (at.Headed c.args.number c.args.row c.args.depth) c.requires.1.1.1.1.0 c.requires.1.1.1.1.1.stands
 
 bounded : (g : Over) (c : Start g) (key : ℕ) → g.basis.bits key < 2 ^ 64
-bounded g c key = subst (λ (bits : ℕ → ℕ). bits key < 2 ^ 64) c.requires.1.0.0 (g.met.P.Pseudo.has_64_bits c.args.root.now.pseudo key)
+bounded g c key = c.requires.1.1.1.1.1.bounded key
 
-pub lock_and_read-requires-clause-few : goal.lock_and_read-requires-clause-few
-lock_and_read-requires-clause-few g c = let s = (goal.at.lock_and_read-requires-clause-few g c).Start in few_held (before g s) 1 (one_held _ c.args.walk.now.pass g.basis.root (stands g s).held) (omega arith)
+pub lock-requires-clause-few : goal.lock-requires-clause-few
+lock-requires-clause-few g c = let s = (goal.at.lock-requires-clause-few g c).Start in few_held (before g s) 1 (one_held _ c.args.walk.now.pass g.basis.root (stands g s).held) (omega arith)
 
 -- the directory page is there
 dir : (g : Over) (s : Start g) → (dir : List ℕ) × ((file g s).clean s.args.number ≡ Some (page.Dir dir))
-dir g s = dir_there g.basis s.args.walk.now (before g s) (file g s).clean s.args.number s.args.row s.args.depth (bounded g s s.args.walk.now.key) s.requires.1.1.1.0 (file g s).is_clean (file g s).form (stands g s)
+dir g s = dir_there g.basis s.args.walk.now (before g s) (file g s).clean s.args.number s.args.row s.args.depth (bounded g s s.args.walk.now.key) s.requires.1.1.1.1.1.may (file g s).is_clean (file g s).form (stands g s)
 
-pub lock_and_read-requires-clause-there : goal.lock_and_read-requires-clause-there
-lock_and_read-requires-clause-there g c = let s = (goal.at.lock_and_read-requires-clause-there g c).Start in (file g s).is_clean.there c.args.number (ap is_some (dir g s).1)
+pub lock-requires-clause-there : goal.lock-requires-clause-there
+lock-requires-clause-there g c = let s = (goal.at.lock-requires-clause-there g c).Start in (file g s).is_clean.there c.args.number (ap is_some (dir g s).1)
+
+pub read_held-requires-clause-held : goal.read_held-requires-clause-held
+read_held-requires-clause-held g c =
+    let s = (goal.at.read_held-requires-clause-held g c).Start in
+    reads_after_lock (before g s) (moment c.args.subtx.now c.lock.new.pages) c.args.number c.directory_mode.result c.in_default.ensures.locks
 
 pub unreachable-requires : goal.unreachable-requires
 unreachable-requires g c =
     let s = (goal.at.unreachable-requires g c).Start in
-    let after = moment c.args.subtx.now c.lock_and_read.new.locks c.args.store.now in
-    let read = reads_clean (before g s) after c.args.number c.directory_mode.result (Some c.in-Ok.page.now) (file g s).clean c.in-Ok.ensures.may (c.in-Ok.ensures.clean (file g s).clean (file g s).is_clean) (stands g s).unwritten c.in-Ok.ensures.reads in
-    c.in_default.not-Dir (dir g s).0 (one_page ((file g s).clean c.args.number) c.in-Ok.page.now (page.Dir (dir g s).0) read (dir g s).1)
+    let after = moment c.args.subtx.now c.lock.new.pages in
+    let read = reads_clean (before g s) after c.args.number c.directory_mode.result (Some c.read_held.result.now) (file g s).clean c.lock.ensures.leaves.may (c.lock.ensures.leaves.clean (file g s).clean (file g s).is_clean) (stands g s).unwritten (reads_seen (view_of (before g s)) (view_of after) c.args.number c.directory_mode.result c.read_held.result.now c.in_default.ensures.view c.read_held.ensures.reads) in
+    c.in_default-read_held.not-Dir (dir g s).0 (one_page ((file g s).clean c.args.number) c.read_held.result.now (page.Dir (dir g s).0) read (dir g s).1)

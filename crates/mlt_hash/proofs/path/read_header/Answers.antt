@@ -1,28 +1,43 @@
-use Rattle.std.proofs.Common.{arith}
+use Rattle.std.proofs.Common.{Some, ap, ◌∙◌, arith}
+use Rattle.mlt_page.specs.declared.page.Page.TheVariants as page
 use Rattle.mlt_held.specs.Moments.{HasCleanFile, Moment, moment}
 use Rattle.mlt_held.specs.Views.{view_of}
+use Rattle.mlt_held.proofs.Views.{reads_after_lock, reads_seen}
 use Rattle.mlt_hash.specs.Walks.{IsAtStart}
 use Rattle.mlt_hash.specs.declared.pass.Phase.TheVariants as at
-use Rattle.mlt_hash.proofs.Paths.{header_there}
-use Rattle.mlt_hash.proofs.Readings.{few_held, is_there, none_held}
+use Rattle.mlt_hash.proofs.Paths.{head_there, header_there, one_page}
+use Rattle.mlt_hash.proofs.Readings.{few_held, is_there, none_held, reads_clean}
 use Rattle.mlt_hash.proofs.Standing.{stands_at}
 use Rattle.mlt_hash.proofs.path.read_header.Given.{Over}
 use Rattle.mlt_hash.proofs.path.read_header.Goals.{Start}
 use Rattle.mlt_hash.proofs.path.read_header.Goals as goal
 
 abbrev before : (g : Over) → Start g → Moment
-before g c = moment c.args.subtx.now c.args.locks.now c.args.store.now
+before g c = moment c.args.subtx.now c.args.pages.now
 
 file : (g : Over) (c : Start g) → HasCleanFile g.basis.bits g.basis.root (before g c)
-file g c = c.requires.1.1.1.1.0
+file g c = c.requires.1.1.1.1.1.file
 
 start : (g : Over) (c : Start g) → IsAtStart (view_of (before g c))
-start g c = stands_at g.basis c.args.walk.now (view_of (before g c)) at.Start c.requires.1.1.0 c.requires.1.1.1.1.1
+start g c = stands_at g.basis c.args.walk.now (view_of (before g c)) at.Start c.requires.1.1.1.1.0 c.requires.1.1.1.1.1.stands
 
-pub lock_and_read-requires-clause-few : goal.lock_and_read-requires-clause-few
-lock_and_read-requires-clause-few g c = let s = (goal.at.lock_and_read-requires-clause-few g c).Start in few_held (before g s) 0 (none_held _ (start g s).unheld) (omega arith)
+pub lock-requires-clause-few : goal.lock-requires-clause-few
+lock-requires-clause-few g c = let s = (goal.at.lock-requires-clause-few g c).Start in few_held (before g s) 0 (none_held _ (start g s).unheld) (omega arith)
 
-pub lock_and_read-requires-clause-there : goal.lock_and_read-requires-clause-there
-lock_and_read-requires-clause-there g c =
-    let s = (goal.at.lock_and_read-requires-clause-there g c).Start in
-    is_there (before g s) (file g s).clean c.args.root.now.page g.basis.root (file g s).is_clean c.requires.1.0.1 (header_there g.basis.bits (file g s).clean g.basis.root (file g s).form)
+pub lock-requires-clause-there : goal.lock-requires-clause-there
+lock-requires-clause-there g c =
+    let s = (goal.at.lock-requires-clause-there g c).Start in
+    is_there (before g s) (file g s).clean c.args.root.now.page g.basis.root (file g s).is_clean c.requires.1.1.0 (header_there g.basis.bits (file g s).clean g.basis.root (file g s).form)
+
+pub read_held-requires-clause-held : goal.read_held-requires-clause-held
+read_held-requires-clause-held g c =
+    let s = (goal.at.read_held-requires-clause-held g c).Start in
+    reads_after_lock (before g s) (moment c.args.subtx.now c.lock.new.pages) c.args.root.now.page c.header_mode.result c.in_default.ensures.locks
+
+pub unreachable-requires : goal.unreachable-requires
+unreachable-requires g c =
+    let s = (goal.at.unreachable-requires g c).Start in
+    let after = moment c.args.subtx.now c.lock.new.pages in
+    let read = reads_clean (before g s) after c.args.root.now.page c.header_mode.result (Some c.read_held.result.now) (file g s).clean c.lock.ensures.leaves.may (c.lock.ensures.leaves.clean (file g s).clean (file g s).is_clean) (start g s).unwritten (reads_seen (view_of (before g s)) (view_of after) c.args.root.now.page c.header_mode.result c.read_held.result.now c.in_default.ensures.view c.read_held.ensures.reads) in
+    let head = head_there g.basis.bits (file g s).clean g.basis.root (file g s).form in
+    c.in_default-read_held.not-Head head.0 (one_page ((file g s).clean c.args.root.now.page) c.read_held.result.now (page.Head head.0) read (ap (file g s).clean s.requires.1.1.0 ∙ head.1))

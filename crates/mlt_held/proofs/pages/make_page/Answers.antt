@@ -1,12 +1,12 @@
-use Rattle.mlt_held.specs.Moments.{Moment}
-use Rattle.mlt_held.proofs.Results.{MakeTold, clean_after_make_told, make_told, may_after_make_told, view_after_make_told}
+use Rattle.mlt_held.specs.Moments.{Moment, moment}
+use Rattle.mlt_held.proofs.Results.{MakeTold, leaves_after_make_told, make_told, view_after_make_told}
 use Rattle.mlt_held.proofs.pages.make_page.Goals as goal
 
 abbrev before : goal.After-grow → Moment
-before c = record { running = c.args.subtx.now; locks = c.args.locks.now; store = c.args.store.now }
+before c = moment c.args.subtx.now c.args.pages.now
 
 abbrev after : goal.After-grow → Moment
-after c = record { running = c.grow.new.self; locks = c.grow.new.locks; store = c.grow.new.store }
+after c = moment c.grow.new.self (record { store = c.grow.new.store; locks = c.grow.new.locks })
 
 told : (c : goal.After-grow) → MakeTold (before c) (after c) c.args.page c.grow.result
 told c = make_told (before c) (after c) c.args.page c.grow.result c.grow.ensures.fresh c.grow.ensures.store c.grow.ensures.images c.grow.ensures.locks c.grow.ensures.err
@@ -14,8 +14,5 @@ told c = make_told (before c) (after c) c.args.page c.grow.result c.grow.ensures
 pub returns-clause-view : goal.returns-clause-view
 returns-clause-view c = view_after_make_told (before c) (after c) c.args.page c.grow.result c.requires.may (told c)
 
-pub returns-clause-may : goal.returns-clause-may
-returns-clause-may c = may_after_make_told (before c) (after c) c.args.page c.grow.result c.requires.may (told c)
-
-pub returns-clause-clean : goal.returns-clause-clean
-returns-clause-clean c = clean_after_make_told (before c) (after c) c.args.page c.grow.result c.requires.may (told c)
+pub returns-clause-leaves : goal.returns-clause-leaves
+returns-clause-leaves c = leaves_after_make_told (before c) (after c) c.args.page c.grow.result c.requires.may (told c)

@@ -5,11 +5,11 @@ use Rattle.mlt_store.specs.Stores.{Pages, page_at}
 use Rattle.mlt_page_locks.specs.declared.page_locks.Grant.{Grant}
 use Rattle.mlt_page_locks.specs.declared.page_locks.Grant.TheVariants.{Held, Waiting}
 use Rattle.mlt_page_locks.specs.LockTables.{HasAtMost, LockTable, no_locks}
-use Rattle.mlt_page_locks.specs.LockLaws.{few_answered, few_none, room_for_few}
+use Rattle.mlt_page_locks.proofs.LockLaws.{few_answered, few_none, room_for_few}
 use Rattle.mlt_page_locks.specs.Requests.{Answers}
 use Rattle.mlt_subtx.specs.Images.{Running}
 use Rattle.mlt_subtx.specs.Locking.{LocksPagesThere}
-use Rattle.mlt_subtx.specs.RunningLaws.{locks_there-granted, locks_there-none}
+use Rattle.mlt_subtx.proofs.RunningLaws.{locks_there-granted, locks_there-none}
 use Rattle.mlt_held.specs.Moments.{MayStep}
 use Rattle.mlt_held.proofs.Moments.{may_start}
 use Rattle.mlt_held.proofs.tests.at_work.Goals as goal

@@ -1,6 +1,6 @@
 use Rattle.std.proofs.Common.{ap, sym, subst, ◌∙◌}
 use Rattle.mlt_page_locks.specs.LockTables.{LockTable, HasAtMost}
-use Rattle.mlt_page_locks.specs.LockLaws.{few_none}
+use Rattle.mlt_page_locks.proofs.LockLaws.{few_none}
 use Rattle.mlt_page_locks.proofs.tests.new_desk.Goals as goal
 
 pub invariant_of-result : goal.invariant_of-result

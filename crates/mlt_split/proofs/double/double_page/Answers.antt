@@ -11,171 +11,174 @@ use Rattle.mlt_split.specs.Splits.{SplitFields}
 use Rattle.mlt_held.specs.Views.{ReadsPage, view_of}
 use Rattle.mlt_page.specs.Bits.{first_bits}
 use Rattle.mlt_split.specs.contracts.split.Split.{the_view}
-use Rattle.mlt_split.proofs.Later.{held_may_be_read, locked_may_be_written, same_moment, touches_by_locking, touches_by_rewriting, touches_nothing}
+use Rattle.mlt_held.proofs.Views.{reads_after_lock, reads_seen}
+use Rattle.mlt_held.proofs.Leaving.{leaves_by_locking, leaves_by_rewriting, leaves_it, same_moment}
+use Rattle.mlt_split.proofs.Later.{held_may_be_read, locked_may_be_written}
 use Rattle.mlt_split.proofs.Doubling.{IsRewrite, depth_of_double, few_at_double, goes_on_to_the_only_header, goes_on_to_the_second_half, header_as_read, next_is_read, next_is_there, place_of_double}
 use Rattle.mlt_split.proofs.double.double_page.Goals.{then-split-lt8, else-split-lt8}
 use Rattle.mlt_split.proofs.double.double_page.Goals as goal
 
 pub read_held-requires-clause-held : goal.read_held-requires-clause-held
 read_held-requires-clause-held g c =
-    let old = moment c.args.subtx.now c.args.locks.now c.args.store.now in
-    held_may_be_read old c.args.root (subst (λ (q : ℕ). is_some ((view_of old).seen q) ≡ true) (sym c.requires.1.0) c.requires.1.1.1.1.head_held)
+    let old = moment c.args.subtx.now c.args.pages.now in
+    held_may_be_read old c.args.root (subst (λ (q : ℕ). is_some ((view_of old).seen q) ≡ true) (sym c.requires.1.0) c.requires.1.1.under_way.head_held)
 
 pub dir-number-requires : goal.dir-number-requires
 dir-number-requires g c =
-    let old = moment c.args.subtx.now c.args.locks.now c.args.store.now in
-    let place = place_of_double g.aim old c.args.split.now c.args.place c.requires.0 c.requires.1.1.0 c.requires.1.1.1.0 c.requires.1.1.1.1 in
+    let old = moment c.args.subtx.now c.args.pages.now in
+    let place = place_of_double g.aim old c.args.split.now c.args.place c.requires.0 c.requires.1.1.may c.requires.1.1.file c.requires.1.1.under_way in
     omega (arith, place)
 
-pub lock_and_read-requires-clause-few : goal.lock_and_read-requires-clause-few
-lock_and_read-requires-clause-few g c =
-    let old = moment c.args.subtx.now c.args.locks.now c.args.store.now in
-    few_at_double g.aim old c.args.split.now c.args.place c.requires.0 c.requires.1.1.0 c.requires.1.1.1.0 c.requires.1.1.1.1
+pub lock-requires-clause-few : goal.lock-requires-clause-few
+lock-requires-clause-few g c =
+    let old = moment c.args.subtx.now c.args.pages.now in
+    few_at_double g.aim old c.args.split.now c.args.place c.requires.0 c.requires.1.1.may c.requires.1.1.file c.requires.1.1.under_way
 
-pub lock_and_read-requires-clause-there : goal.lock_and_read-requires-clause-there
-lock_and_read-requires-clause-there g c =
-    let old = moment c.args.subtx.now c.args.locks.now c.args.store.now in
+pub lock-requires-clause-there : goal.lock-requires-clause-there
+lock-requires-clause-there g c =
+    let old = moment c.args.subtx.now c.args.pages.now in
     let read = header_as_read (view_of old) c.args.root g.aim.root c.read_held.result.now c.in-Head.header c.requires.1.0 c.in-Head.is c.read_held.ensures.reads in
-    next_is_there g.aim old c.args.split.now c.args.place c.dir-number.result c.in-Head.header c.requires.0 c.requires.1.1.0 c.requires.1.1.1.0 c.requires.1.1.1.1 read c.dir-number.ensures
+    next_is_there g.aim old c.args.split.now c.args.place c.dir-number.result c.in-Head.header c.requires.0 c.requires.1.1.may c.requires.1.1.file c.requires.1.1.under_way read c.dir-number.ensures
 
-pub unreachable-requires-in-Ok : goal.unreachable-requires-in-Ok
-unreachable-requires-in-Ok g c =
-    let old = moment c.args.subtx.now c.args.locks.now c.args.store.now in
+pub read_held-requires-2-clause-held : goal.read_held-requires-2-clause-held
+read_held-requires-2-clause-held g c =
+    reads_after_lock (moment c.args.subtx.now c.args.pages.now) (moment c.args.subtx.now c.lock.new.pages) c.dir-number.result Exclusive c.in_default-lock.ensures.locks
+
+pub unreachable-requires-in_default-read_held : goal.unreachable-requires-in_default-read_held
+unreachable-requires-in_default-read_held g c =
+    let old = moment c.args.subtx.now c.args.pages.now in
     let read = header_as_read (view_of old) c.args.root g.aim.root c.read_held.result.now c.in-Head.header c.requires.1.0 c.in-Head.is c.read_held.ensures.reads in
-    let next = next_is_read g.aim old c.args.split.now c.args.place c.dir-number.result c.in-Head.header c.requires.0 c.requires.1.1.0 c.requires.1.1.1.0 c.requires.1.1.1.1 read c.dir-number.ensures (moment c.args.subtx.now c.lock_and_read.new.locks c.args.store.now) c.in-Ok.field-0.now c.lock_and_read.ensures.may (c.lock_and_read.ensures.clean c.requires.1.1.1.0.clean c.requires.1.1.1.0.is_clean) c.in-Ok.ensures.reads in
-    let is : c.in-Ok.field-0.now ≡ page.Dir next.0 = next.1 in
+    let next = next_is_read g.aim old c.args.split.now c.args.place c.dir-number.result c.in-Head.header c.requires.0 c.requires.1.1.may c.requires.1.1.file c.requires.1.1.under_way read c.dir-number.ensures (moment c.args.subtx.now c.lock.new.pages) c.read_held-2.result.now c.lock.ensures.leaves.may (c.lock.ensures.leaves.clean c.requires.1.1.file.clean c.requires.1.1.file.is_clean) (reads_seen (view_of old) (view_of (moment c.args.subtx.now c.lock.new.pages)) c.dir-number.result Exclusive c.read_held-2.result.now c.in_default-lock.ensures.view c.read_held-2.ensures.reads) in
+    let is : c.read_held-2.result.now ≡ page.Dir next.0 = next.1 in
     search rules
 
-pub returns-in-Err-clause-touches : goal.returns-in-Err-clause-touches
-returns-in-Err-clause-touches g c =
-    let old = moment c.args.subtx.now c.args.locks.now c.args.store.now in
-    touches_nothing old (moment c.args.subtx.now c.lock_and_read.new.locks c.args.store.now) (same_moment old c.args.subtx.now c.lock_and_read.new.locks c.args.store.now (refl, c.in-Err.ensures.waits.1, refl))
+pub returns-in-Err-clause-leaves : goal.returns-in-Err-clause-leaves
+returns-in-Err-clause-leaves g c =
+    let old = moment c.args.subtx.now c.args.pages.now in
+    leaves_it old (moment c.args.subtx.now c.lock.new.pages) c.requires.1.1.may (same_moment _ _ _ _ refl c.in-Err.ensures.waits.1)
 
 pub returns-in-Err-clause-steps : goal.returns-in-Err-clause-steps
 returns-in-Err-clause-steps g c =
-    let old = moment c.args.subtx.now c.args.locks.now c.args.store.now in
-    same_moment old c.args.subtx.now c.lock_and_read.new.locks c.args.store.now (refl, c.in-Err.ensures.waits.1, refl)
+    let old = moment c.args.subtx.now c.args.pages.now in
+    same_moment _ _ _ _ refl c.in-Err.ensures.waits.1
 
 pub returns-in-Err-clause-tells : goal.returns-in-Err-clause-tells
 returns-in-Err-clause-tells g c =
-    let old = moment c.args.subtx.now c.args.locks.now c.args.store.now in
+    let old = moment c.args.subtx.now c.args.pages.now in
     let read = header_as_read (view_of old) c.args.root g.aim.root c.read_held.result.now c.in-Head.header c.requires.1.0 c.in-Head.is c.read_held.ensures.reads in
-    (next_page_at g.aim old old c.args.split.now (at.Double c.args.place) c.requires.0 c.dir-number.result (c.in-Head.header, read, c.dir-number.ensures), c.in-Err.ensures.waits.0, same_moment old c.args.subtx.now c.lock_and_read.new.locks c.args.store.now (refl, c.in-Err.ensures.waits.1, refl), refl)
+    (next_page_at g.aim old old c.args.split.now (at.Double c.args.place) c.requires.0 c.dir-number.result (c.in-Head.header, read, c.dir-number.ensures), c.in-Err.ensures.waits.0, same_moment _ _ _ _ refl c.in-Err.ensures.waits.1, refl)
 
 pub first_bits-requires : goal.first_bits-requires
 first_bits-requires g c =
-    let old = moment c.args.subtx.now c.args.locks.now c.args.store.now in
-    let depth = depth_of_double g.aim old c.args.split.now c.args.place c.requires.0 c.requires.1.1.0 c.requires.1.1.1.0 c.requires.1.1.1.1 in
+    let old = moment c.args.subtx.now c.args.pages.now in
+    let depth = depth_of_double g.aim old c.args.split.now c.args.place c.requires.0 c.requires.1.1.may c.requires.1.1.file c.requires.1.1.under_way in
     let same = ap (λ (s : SplitFields). s.directory_depth) c.split.view_is in
     omega (arith, same, depth.0)
 
 pub overflow_mul-entry : goal.overflow_mul-entry
 overflow_mul-entry g c =
-    let old = moment c.args.subtx.now c.args.locks.now c.args.store.now in
-    let depth = depth_of_double g.aim old c.args.split.now c.args.place c.requires.0 c.requires.1.1.0 c.requires.1.1.1.0 c.requires.1.1.1.1 in
+    let old = moment c.args.subtx.now c.args.pages.now in
+    let depth = depth_of_double g.aim old c.args.split.now c.args.place c.requires.0 c.requires.1.1.may c.requires.1.1.file c.requires.1.1.under_way in
     let same = ap (λ (s : SplitFields). s.directory_depth) c.split.view_is in
     let few : 2 ^ c.split.inside.directory_depth ≤ 2 ^ 16 = (let deep : c.split.inside.directory_depth ≤ 16 = omega (arith, same, depth.0) in pow-le-pow_right {n = 2} (omega arith) deep) in
     omega (arith, few, c.first_bits.ensures.below)
 
 pub overflow_add-entry : goal.overflow_add-entry
 overflow_add-entry g c =
-    let old = moment c.args.subtx.now c.args.locks.now c.args.store.now in
-    let depth = depth_of_double g.aim old c.args.split.now c.args.place c.requires.0 c.requires.1.1.0 c.requires.1.1.1.0 c.requires.1.1.1.1 in
+    let old = moment c.args.subtx.now c.args.pages.now in
+    let depth = depth_of_double g.aim old c.args.split.now c.args.place c.requires.0 c.requires.1.1.may c.requires.1.1.file c.requires.1.1.under_way in
     let same = ap (λ (s : SplitFields). s.directory_depth) c.split.view_is in
     let few : 2 ^ c.split.inside.directory_depth ≤ 2 ^ 16 = (let deep : c.split.inside.directory_depth ≤ 16 = omega (arith, same, depth.0) in pow-le-pow_right {n = 2} (omega arith) deep) in
     omega (arith, few, c.first_bits.ensures.below)
 
 pub overflow_mul-place : goal.overflow_mul-place
 overflow_mul-place g c =
-    let old = moment c.args.subtx.now c.args.locks.now c.args.store.now in
-    let place = place_of_double g.aim old c.args.split.now c.args.place c.requires.0 c.requires.1.1.0 c.requires.1.1.1.0 c.requires.1.1.1.1 in
+    let old = moment c.args.subtx.now c.args.pages.now in
+    let place = place_of_double g.aim old c.args.split.now c.args.place c.requires.0 c.requires.1.1.may c.requires.1.1.file c.requires.1.1.under_way in
     omega (arith, place)
 
 pub doubled_page-first-requires : goal.doubled_page-first-requires
 doubled_page-first-requires g c =
-    let old = moment c.args.subtx.now c.args.locks.now c.args.store.now in
-    let place = place_of_double g.aim old c.args.split.now c.args.place c.requires.0 c.requires.1.1.0 c.requires.1.1.1.0 c.requires.1.1.1.1 in
+    let old = moment c.args.subtx.now c.args.pages.now in
+    let place = place_of_double g.aim old c.args.split.now c.args.place c.requires.0 c.requires.1.1.may c.requires.1.1.file c.requires.1.1.under_way in
     omega (arith, place)
 
 pub overflow_mul-place-2 : goal.overflow_mul-place-2
 overflow_mul-place-2 g c =
-    let old = moment c.args.subtx.now c.args.locks.now c.args.store.now in
-    let place = place_of_double g.aim old c.args.split.now c.args.place c.requires.0 c.requires.1.1.0 c.requires.1.1.1.0 c.requires.1.1.1.1 in
+    let old = moment c.args.subtx.now c.args.pages.now in
+    let place = place_of_double g.aim old c.args.split.now c.args.place c.requires.0 c.requires.1.1.may c.requires.1.1.file c.requires.1.1.under_way in
     omega (arith, place)
 
 pub overflow_add-place : goal.overflow_add-place
 overflow_add-place g c =
-    let old = moment c.args.subtx.now c.args.locks.now c.args.store.now in
-    let place = place_of_double g.aim old c.args.split.now c.args.place c.requires.0 c.requires.1.1.0 c.requires.1.1.1.0 c.requires.1.1.1.1 in
+    let old = moment c.args.subtx.now c.args.pages.now in
+    let place = place_of_double g.aim old c.args.split.now c.args.place c.requires.0 c.requires.1.1.may c.requires.1.1.file c.requires.1.1.under_way in
     omega (arith, place)
 
 pub doubled_page-second-requires : goal.doubled_page-second-requires
 doubled_page-second-requires g c =
-    let old = moment c.args.subtx.now c.args.locks.now c.args.store.now in
-    let place = place_of_double g.aim old c.args.split.now c.args.place c.requires.0 c.requires.1.1.0 c.requires.1.1.1.0 c.requires.1.1.1.1 in
+    let old = moment c.args.subtx.now c.args.pages.now in
+    let place = place_of_double g.aim old c.args.split.now c.args.place c.requires.0 c.requires.1.1.may c.requires.1.1.file c.requires.1.1.under_way in
     omega (arith, place)
 
 pub overflow_mul-place-3 : goal.overflow_mul-place-3
 overflow_mul-place-3 g c =
-    let old = moment c.args.subtx.now c.args.locks.now c.args.store.now in
-    let place = place_of_double g.aim old c.args.split.now c.args.place c.requires.0 c.requires.1.1.0 c.requires.1.1.1.0 c.requires.1.1.1.1 in
+    let old = moment c.args.subtx.now c.args.pages.now in
+    let place = place_of_double g.aim old c.args.split.now c.args.place c.requires.0 c.requires.1.1.may c.requires.1.1.file c.requires.1.1.under_way in
     omega (arith, place)
 
 pub name_page-requires : goal.name_page-requires
 name_page-requires g c =
-    let old = moment c.args.subtx.now c.args.locks.now c.args.store.now in
-    let place = place_of_double g.aim old c.args.split.now c.args.place c.requires.0 c.requires.1.1.0 c.requires.1.1.1.0 c.requires.1.1.1.1 in
+    let old = moment c.args.subtx.now c.args.pages.now in
+    let place = place_of_double g.aim old c.args.split.now c.args.place c.requires.0 c.requires.1.1.may c.requires.1.1.file c.requires.1.1.under_way in
     omega (arith, place)
 
 pub write_held-requires-clause-held : goal.write_held-requires-clause-held
 write_held-requires-clause-held g c =
-    let old = moment c.args.subtx.now c.args.locks.now c.args.store.now in
-    locked_may_be_written old (moment c.args.subtx.now c.lock_and_read.new.locks c.args.store.now) c.dir-number.result _ c.in-Ok-Dir.ensures.reads
+    let old = moment c.args.subtx.now c.args.pages.now in
+    locked_may_be_written old (moment c.args.subtx.now c.lock.new.pages) c.dir-number.result _ c.in_default-lock.ensures.view.1
 
-pub returns-in-Err-write_held-clause-touches : goal.returns-in-Err-write_held-clause-touches
-returns-in-Err-write_held-clause-touches g c =
-    let old = moment c.args.subtx.now c.args.locks.now c.args.store.now in
-    let mid = moment c.args.subtx.now c.lock_and_read.new.locks c.args.store.now in
-    touches_by_locking old mid (moment c.write_held.new.subtx c.lock_and_read.new.locks c.write_held.new.store) c.dir-number.result Exclusive c.in-Ok-Dir.ensures.locks (same_moment mid c.write_held.new.subtx c.lock_and_read.new.locks c.write_held.new.store (c.in-Err-write_held.ensures.err.0, refl, c.in-Err-write_held.ensures.err.1))
+pub returns-in-Err-write_held-clause-leaves : goal.returns-in-Err-write_held-clause-leaves
+returns-in-Err-write_held-clause-leaves g c =
+    let old = moment c.args.subtx.now c.args.pages.now in
+    let mid = moment c.args.subtx.now c.lock.new.pages in
+    leaves_by_locking old mid (moment c.write_held.new.subtx c.write_held.new.pages) c.dir-number.result Exclusive c.requires.1.1.may c.in_default-lock.ensures.locks (same_moment _ _ _ _ c.in-Err-write_held.ensures.err.0 c.in-Err-write_held.ensures.err.1)
 
 pub returns-in-Err-write_held-clause-steps : goal.returns-in-Err-write_held-clause-steps
 returns-in-Err-write_held-clause-steps g c =
-    let old = moment c.args.subtx.now c.args.locks.now c.args.store.now in
-    let mid = moment c.args.subtx.now c.lock_and_read.new.locks c.args.store.now in
-    let new = moment c.write_held.new.subtx c.lock_and_read.new.locks c.write_held.new.store in
+    let old = moment c.args.subtx.now c.args.pages.now in
+    let mid = moment c.args.subtx.now c.lock.new.pages in
+    let new = moment c.write_held.new.subtx c.write_held.new.pages in
     let read = header_as_read (view_of old) c.args.root g.aim.root c.read_held.result.now c.in-Head.header c.requires.1.0 c.in-Head.is c.read_held.ensures.reads in
-    let same : new ≡ mid = same_moment mid c.write_held.new.subtx c.lock_and_read.new.locks c.write_held.new.store (c.in-Err-write_held.ensures.err.0, refl, c.in-Err-write_held.ensures.err.1) in
-    left_at g.aim old new c.args.split.now (at.Double c.args.place) c.requires.0 (c.dir-number.result, (c.in-Head.header, read, c.dir-number.ensures), subst (λ (n : Moment). LocksPage old n c.dir-number.result Exclusive) (sym same) c.in-Ok-Dir.ensures.locks)
+    let same : new ≡ mid = same_moment _ _ _ _ c.in-Err-write_held.ensures.err.0 c.in-Err-write_held.ensures.err.1 in
+    left_at g.aim old new c.args.split.now (at.Double c.args.place) c.requires.0 (c.dir-number.result, (c.in-Head.header, read, c.dir-number.ensures), subst (λ (n : Moment). LocksPage old n c.dir-number.result Exclusive) (sym same) c.in_default-lock.ensures.locks)
 
 pub returns-clause-steps : goal.returns-clause-steps
 returns-clause-steps g c =
-    let old = moment c.args.subtx.now c.args.locks.now c.args.store.now in
-    let mid = moment c.args.subtx.now c.lock_and_read.new.locks c.args.store.now in
-    let new = moment c.write_held.new.subtx c.lock_and_read.new.locks c.write_held.new.store in
+    let old = moment c.args.subtx.now c.args.pages.now in
+    let mid = moment c.args.subtx.now c.lock.new.pages in
+    let new = moment c.write_held.new.subtx c.write_held.new.pages in
     let read = header_as_read (view_of old) c.args.root g.aim.root c.read_held.result.now c.in-Head.header c.requires.1.0 c.in-Head.is c.read_held.ensures.reads in
-    done_at g.aim old new c.args.split.now (at.Double c.args.place) c.requires.0 (c.dir-number.result, (c.in-Head.header, read, c.dir-number.ensures), (mid, c.in-Ok-Dir.ensures.locks, (_, c.in_default-write_held.ensures.writes)))
+    done_at g.aim old new c.args.split.now (at.Double c.args.place) c.requires.0 (c.dir-number.result, (c.in-Head.header, read, c.dir-number.ensures), (mid, c.in_default-lock.ensures.locks, (_, c.in_default-write_held.ensures.writes)))
 
-pub returns-clause-touches : goal.returns-clause-touches
-returns-clause-touches g c =
-    let old = moment c.args.subtx.now c.args.locks.now c.args.store.now in
-    touches_by_rewriting old (moment c.args.subtx.now c.lock_and_read.new.locks c.args.store.now) (moment c.write_held.new.subtx c.lock_and_read.new.locks c.write_held.new.store) c.dir-number.result Exclusive _ c.in-Ok-Dir.ensures.locks c.in_default-write_held.ensures.writes
-
-pub returns-clause-clean : goal.returns-clause-clean
-returns-clause-clean g c = λ clean is. c.write_held.ensures.clean clean (c.lock_and_read.ensures.clean clean is)
+pub returns-clause-leaves : goal.returns-clause-leaves
+returns-clause-leaves g c =
+    let old = moment c.args.subtx.now c.args.pages.now in
+    leaves_by_rewriting old (moment c.args.subtx.now c.lock.new.pages) (moment c.write_held.new.subtx c.write_held.new.pages) c.dir-number.result Exclusive _ c.requires.1.1.may c.in_default-lock.ensures.locks c.in_default-write_held.ensures.writes
 
 pub returns-clause-tells : goal.returns-clause-tells
 returns-clause-tells g c =
-    let old = moment c.args.subtx.now c.args.locks.now c.args.store.now in
-    let mid = moment c.args.subtx.now c.lock_and_read.new.locks c.args.store.now in
-    let new = moment c.write_held.new.subtx c.lock_and_read.new.locks c.write_held.new.store in
+    let old = moment c.args.subtx.now c.args.pages.now in
+    let mid = moment c.args.subtx.now c.lock.new.pages in
+    let new = moment c.write_held.new.subtx c.write_held.new.pages in
     let split = the_view c.split.inside in
     let place : 2 * c.first_bits.result + 1 ≡ 2 * first_bits split.directory_depth split.seed + 1 = ap (λ n. 2 * n + 1) c.first_bits.ensures.value in
     let one = c.doubled_page-first.ensures in
     let two = c.doubled_page-second.ensures in
-    let step : IsRewrite old mid new g.aim.root split c.args.place c.dir-number.result c.in-Head.header c.in-Ok-Dir.dir c.doubled_page-first.result c.doubled_page-second.result = record {
+    let step : IsRewrite old mid new g.aim.root split c.args.place c.dir-number.result c.in-Head.header c.in-Dir.dir c.doubled_page-first.result c.doubled_page-second.result = record {
       read = header_as_read (view_of old) c.args.root g.aim.root c.read_held.result.now c.in-Head.header c.requires.1.0 c.in-Head.is c.read_held.ensures.reads;
       listed = c.dir-number.ensures;
-      reads = subst (λ (p : Page). ReadsPage (view_of old) (view_of mid) c.dir-number.result Exclusive (Some p)) c.in-Ok-Dir.field-0-is c.in-Ok-Dir.ensures.reads;
+      reads = subst (λ (p : Page). ReadsPage (view_of old) (view_of mid) c.dir-number.result Exclusive (Some p)) c.in-Dir.is (reads_seen (view_of old) (view_of mid) c.dir-number.result Exclusive c.read_held-2.result.now c.in_default-lock.ensures.view c.read_held-2.ensures.reads);
       writes = c.in_default-write_held.ensures.view;
       one = record { size = one.size; others = λ r h ne. one.others r h (λ e. ne (e ∙ place)); here = λ r h e. one.here r h (e ∙ sym place) };
       two = record { size = two.size; others = λ r h ne. two.others r h (λ e. ne (e ∙ place)); here = λ r h e. two.here r h (e ∙ sym place) };
@@ -183,9 +186,9 @@ returns-clause-tells g c =
     } in
     elim c.if-split-lt8.branch [
       | then-split-lt8 w ↦
-          goes_on_to_the_only_header g.aim old mid new split c.args.split.now c.args.place c.dir-number.result c.in-Head.header c.name_page.new.made c.in-Ok-Dir.dir c.doubled_page-first.result c.doubled_page-second.result c.if-split-lt8.split c.split.view_is c.requires.0 c.requires.1.1.0 c.requires.1.1.1.0 c.requires.1.1.1.1
+          goes_on_to_the_only_header g.aim old mid new split c.args.split.now c.args.place c.dir-number.result c.in-Head.header c.name_page.new.made c.in-Dir.dir c.doubled_page-first.result c.doubled_page-second.result c.if-split-lt8.split c.split.view_is c.requires.0 c.requires.1.1.may c.requires.1.1.file c.requires.1.1.under_way
           step w.if-split-lt8.true c.name_page.ensures.named w.split-is
       | else-split-lt8 w ↦
-          goes_on_to_the_second_half g.aim old mid new split c.args.split.now c.args.place c.dir-number.result c.in-Head.header c.name_page.new.made c.in-Ok-Dir.dir c.doubled_page-first.result c.doubled_page-second.result c.if-split-lt8.split c.split.view_is c.requires.0 c.requires.1.1.0 c.requires.1.1.1.0 c.requires.1.1.1.1
+          goes_on_to_the_second_half g.aim old mid new split c.args.split.now c.args.place c.dir-number.result c.in-Head.header c.name_page.new.made c.in-Dir.dir c.doubled_page-first.result c.doubled_page-second.result c.if-split-lt8.split c.split.view_is c.requires.0 c.requires.1.1.may c.requires.1.1.file c.requires.1.1.under_way
           step w.if-split-lt8.false c.name_page.ensures.named w.split-is
     ]

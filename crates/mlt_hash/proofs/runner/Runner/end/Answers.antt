@@ -4,9 +4,9 @@ use Rattle.mlt_hash.proofs.runner.Runner.end.Goals as goal
 
 pub invariant_of-self : goal.invariant_of-self
 invariant_of-self c = (
-  alone_after (moment c.self.inside.subtx c.self.inside.locks c.self.inside.store) (moment c.end.new.self c.end.new.locks c.self.inside.store) c.self.invariant.0 c.end.ensures.images c.end.ensures.locks,
+  alone_after (moment c.self.inside.subtx c.self.inside.pages) (moment c.end.new.self (record { store = c.self.inside.pages.store; locks = c.end.new.locks })) c.self.invariant.0 c.end.ensures.images c.end.ensures.locks,
   c.self.invariant.1,
 )
 
 pub returns-clause-idle : goal.returns-clause-idle
-returns-clause-idle c = idle_after (moment c.self.inside.subtx c.self.inside.locks c.self.inside.store) (moment c.end.new.self c.end.new.locks c.self.inside.store) c.self.invariant.0 c.end.ensures.images c.end.ensures.locks
+returns-clause-idle c = idle_after (moment c.self.inside.subtx c.self.inside.pages) (moment c.end.new.self (record { store = c.self.inside.pages.store; locks = c.end.new.locks })) c.self.invariant.0 c.end.ensures.images c.end.ensures.locks

@@ -1,6 +1,6 @@
 use Rattle.std.proofs.Common.{subst, List}
 use Rattle.mlt_page_locks.specs.Requests.{conflicts, IsNobody}
-use Rattle.mlt_page_locks.specs.LockLaws.{compatible_granted}
+use Rattle.mlt_page_locks.proofs.LockLaws.{compatible_granted}
 use Rattle.mlt_page_locks.specs.LockLists.{HeldPages, lock_table}
 use Rattle.mlt_page_locks.proofs.page_locks.PageLocks.ask.Goals as goal
 

@@ -1,5 +1,5 @@
 use Rattle.std.proofs.Common.{◌∙◌, arith}
-use Rattle.mlt_page_locks.specs.LockLaws.{room_for_few, few_answered}
+use Rattle.mlt_page_locks.proofs.LockLaws.{room_for_few, few_answered}
 use Rattle.mlt_page_locks.proofs.tests.Desk.ask.Goals as goal
 
 pub ask-grant-requires : goal.ask-grant-requires

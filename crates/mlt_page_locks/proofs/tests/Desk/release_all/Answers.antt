@@ -1,6 +1,6 @@
 use Rattle.std.proofs.Common.{ap, sym, subst, ◌∙◌}
 use Rattle.mlt_page_locks.specs.LockTables.{LockTable, HasAtMost}
-use Rattle.mlt_page_locks.specs.LockLaws.{few_released}
+use Rattle.mlt_page_locks.proofs.LockLaws.{few_released}
 use Rattle.mlt_page_locks.proofs.tests.Desk.release_all.Goals as goal
 
 pub invariant_of-self : goal.invariant_of-self

@@ -2,7 +2,7 @@ use Rattle.std.proofs.Common.{refl, ap, ◌∙◌}
 use Rattle.std.specs.FinMap as map
 use Rattle.mlt_store.specs.Stores.{PageStore}
 use Rattle.mlt_subtx.specs.Images.{put_back}
-use Rattle.mlt_subtx.specs.ImageLaws.{fresh_has_no_image, put_back-made, dropped_again}
+use Rattle.mlt_subtx.proofs.ImageLaws.{fresh_has_no_image, put_back-made, dropped_again}
 use Rattle.mlt_subtx.proofs.subtx.Subtx.grow.Goals as goal
 
 pub returns-in-Err-clause-err : goal.returns-in-Err-clause-err

@@ -2,7 +2,7 @@ use Rattle.std.proofs.Common.{◌≡◌, ap, sym, ◌∙◌, arith}
 use Rattle.std.specs.FinMap as map
 use Rattle.mlt_store.specs.Stores.{PageStore, page_at}
 use Rattle.mlt_subtx.specs.Images.{Running, with_image, put_back}
-use Rattle.mlt_subtx.specs.ImageLaws.{not_there, put_back-write, with_image-absent, with_image-present}
+use Rattle.mlt_subtx.proofs.ImageLaws.{not_there, put_back-write, with_image-absent, with_image-present}
 use Rattle.mlt_subtx.proofs.subtx.Subtx.write.Goals as goal
 use Rattle.mlt_subtx.proofs.subtx.Subtx.write.Goals.{then-not-has_image+in_ok-keep, else-not-has_image}
 

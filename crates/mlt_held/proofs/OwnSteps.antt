@@ -1,0 +1,47 @@
+-- What a transaction's own step leaves of what it saw
+use Rattle.std.proofs.Common.{◌≡◌, ℕ, true, Option, None, Some, is_some, refl, sym, ap, subst, ◌∙◌, inl, inr}
+use Rattle.std.proofs.lemmas.Bool.{cases_eq, false≢true}
+use Rattle.mlt_types.specs.declared.mode.Mode.{Mode}
+use Rattle.mlt_page.specs.declared.page.Page.{Page}
+use Rattle.mlt_store.specs.Stores.{page_at}
+use Rattle.mlt_held.specs.Moments.{MayStep, Moment}
+use Rattle.mlt_held.specs.PageSteps.{LocksAtMost, LocksPage, TouchesOnePage, WritesAtMost}
+use Rattle.mlt_held.specs.Views.{MakesPage, ReadsPage, View, view_of}
+use Rattle.mlt_held.proofs.Views.{lock_reads, make_makes, write_writes}
+
+some_page : (p : Option Page) → is_some p ≡ true → (page : Page) × (p ≡ Some page)
+some_page None there = absurd (false≢true there)
+some_page (Some page) there = (page, refl)
+
+-- a page that is locked is there, and is read
+pub lock_reads_some : (old new : Moment) (q : ℕ) (mode : Mode) → MayStep old → LocksPage old new q mode → (page : Page) × ReadsPage (view_of old) (view_of new) q mode (Some page)
+lock_reads_some old new q mode may step =
+    let page = some_page (page_at old.store.pages q) step.there in
+    (page.0, lock_reads old new q mode page.0 may step page.1)
+
+-- what a view sees the later one sees
+abbrev SeesMore : View → View → Type 0
+SeesMore old new = (q : ℕ) (first : Option Page) → old.seen q ≡ Some first → new.seen q ≡ Some first
+
+same_sees : (old new : Moment) → new ≡ old → SeesMore (view_of old) (view_of new)
+same_sees old new same q first sees = ap (λ m. (view_of m).seen q) same ∙ sees
+
+lock_sees : (old new : Moment) (q : ℕ) → MayStep old → LocksAtMost old new q → SeesMore (view_of old) (view_of new)
+lock_sees old new q may (inl same) = same_sees old new same
+lock_sees old new q may (inr lock) = (lock_reads_some old new q lock.0 may lock.1).1.before
+
+write_sees : (old new : Moment) (q : ℕ) → WritesAtMost old new q → SeesMore (view_of old) (view_of new)
+write_sees old new q (inl same) p first sees = same_sees old new same p first sees
+write_sees old new q (inr write) p first sees = (write_writes old new q write.0 write.1).seen p ∙ sees
+
+make_sees : (old new : View) (q : ℕ) (page : Page) → MakesPage old new q page → SeesMore old new
+make_sees old new q page makes p first sees =
+    elim (cases_eq p q) [
+      | inl here ↦ let none : None ≡ Some first = sym makes.fresh ∙ sym (ap old.seen here) ∙ sees in cc
+      | inr elsewhere ↦ makes.seen_others p elsewhere ∙ sees
+    ]
+
+-- **A transaction's own step lets what it sees only grow.**
+pub own_step_sees_more : (old new : Moment) (q : ℕ) (first : Option Page) → MayStep old → TouchesOnePage old new → (view_of old).seen q ≡ Some first → (view_of new).seen q ≡ Some first
+own_step_sees_more old new q first may (p, inl step) sees = write_sees step.0 new p step.2 q first (lock_sees old step.0 p may step.1 q first sees)
+own_step_sees_more old new q first may (p, inr make) sees = make_sees (view_of old) (view_of new) p make.0 (make_makes old new p make.0 may make.1) q first sees
