@@ -21,7 +21,7 @@ use Rattle.mlt_subtx.proofs.RunningLaws.{images_locked-granted, images_locked-re
 use Rattle.mlt_hash_form.specs.Held.{Agrees, own_or, over}
 use Rattle.mlt_held.specs.Moments.{MayStep, Moment, page_before}
 use Rattle.mlt_held.specs.PageSteps.{LocksAtMost, TouchesOnePage, WritesAtMost}
-use Rattle.mlt_held.specs.Running.{AllMayStep, AllRunning, IsIdle, KeepsRunning, after_begin, after_close, after_end, after_roll_back, after_step, clean_of, images_by, is_open, moment_of}
+use Rattle.mlt_held.specs.Running.{AllMayStep, AllRunning, HoldsNothing, KeepsRunning, after_begin, after_close, after_end, after_roll_back, after_step, clean_of, images_by, is_open, moment_of}
 use Rattle.mlt_held.specs.Views.{View, own_at, page_written, seen_at, view_of}
 use Rattle.mlt_held.proofs.AllRunning.{agrees_with_each, each_may_step}
 use Rattle.mlt_held.proofs.Moments.{may_after_lock_at_most, may_after_step}
@@ -326,12 +326,12 @@ end_agrees all tx u may opened other ne =
     let after : Agrees (view_of (moment_of (after_end all tx) u)).seen (clean_of (after_end all tx)) = agrees_with_each (after_end all tx) u keeps.may (is_open-insert all.images tx map.empty u other) in
     subst (λ (view : View). Agrees view.seen (clean_of (after_end all tx))) (keeps.views u ne) after
 
--- who has ended or was rolled back is idle
-pub idle_at_end : (all : AllRunning) (tx : ℕ) → IsIdle (after_end all tx) tx
-idle_at_end all tx = record { no_images = no_images_now all.images tx; no_locks = no_holder-released all.locks tx }
+-- who has ended or was rolled back holds nothing
+pub nothing_at_end : (all : AllRunning) (tx : ℕ) → HoldsNothing (after_end all tx) tx
+nothing_at_end all tx = record { no_images = no_images_now all.images tx; no_locks = no_holder-released all.locks tx }
 
-pub idle_after_roll_back : (all : AllRunning) (tx : ℕ) → IsIdle (after_roll_back all tx) tx
-idle_after_roll_back all tx = record { no_images = no_images_now all.images tx; no_locks = no_holder-released all.locks tx }
+pub nothing_after_roll_back : (all : AllRunning) (tx : ℕ) → HoldsNothing (after_roll_back all tx) tx
+nothing_after_roll_back all tx = record { no_images = no_images_now all.images tx; no_locks = no_holder-released all.locks tx }
 
 -- **A roll back changes no clean page.**
 pub roll_back_clean : (all : AllRunning) (tx : ℕ) → AllMayStep all → clean_of (after_roll_back all tx) ≡ clean_of all
@@ -384,8 +384,8 @@ begin_keeps all tx may room = record {
   holders = λ u ne. refl;
 }
 
-pub idle_at_begin : (all : AllRunning) (tx : ℕ) → AllMayStep all → is_open all tx ≡ false → IsIdle (after_begin all tx) tx
-idle_at_begin all tx may closed = record {
+pub nothing_at_begin : (all : AllRunning) (tx : ℕ) → AllMayStep all → is_open all tx ≡ false → HoldsNothing (after_begin all tx) tx
+nothing_at_begin all tx may closed = record {
   no_images = no_images_now all.images tx;
   no_locks = not_true (is_holder all.locks tx) (λ holds. false≢true (sym closed ∙ may.holders_open tx holds));
 }
@@ -394,19 +394,19 @@ others_left : (images : RunningImages) (tx u : ℕ) → u ≢ tx → map.get (ma
 others_left images tx u ne = grind (arith, nat_tests, get_removed images tx u)
 
 -- **nor does one that closes.**
-pub close_clean : (all : AllRunning) (tx : ℕ) → AllMayStep all → IsIdle all tx → clean_of (after_close all tx) ≡ clean_of all
-close_clean all tx may idle =
-    let none : (q : ℕ) → image_at all.images tx q ≡ None = λ q. ap (λ o. image_of (unwrap_or o map.empty) q) idle.no_images ∙ map.get-empty {X = Option Page} nat_cmp q in
+pub close_clean : (all : AllRunning) (tx : ℕ) → AllMayStep all → HoldsNothing all tx → clean_of (after_close all tx) ≡ clean_of all
+close_clean all tx may nothing =
+    let none : (q : ℕ) → image_at all.images tx q ≡ None = λ q. ap (λ o. image_of (unwrap_or o map.empty) q) nothing.no_images ∙ map.get-empty {X = Option Page} nat_cmp q in
     ap page_at (same_clean_pages all.images (map.remove all.images tx) all.store.pages (apart all may) (λ u q. others_stay all.images (map.remove all.images tx) tx q (drops_removed all.images tx) (none q) u))
 
-pub close_keeps : (all : AllRunning) (tx : ℕ) → AllMayStep all → IsIdle all tx → KeepsRunning tx all (after_close all tx)
-close_keeps all tx may idle = record {
+pub close_keeps : (all : AllRunning) (tx : ℕ) → AllMayStep all → HoldsNothing all tx → KeepsRunning tx all (after_close all tx)
+close_keeps all tx may nothing = record {
   may = record {
     compatible = may.compatible;
     locks_there = may.locks_there;
     images_locked = λ u q some. may.images_locked u q (kept_before all.images (map.remove all.images tx) tx u q (drops_removed all.images tx) some);
     images_there = λ u q some. may.images_there u q (kept_before all.images (map.remove all.images tx) tx u q (drops_removed all.images tx) some);
-    holders_open = λ u holds. ap is_some (others_left all.images tx u (λ same. false≢true (sym idle.no_locks ∙ ap (is_holder all.locks) (sym same) ∙ holds))) ∙ may.holders_open u holds;
+    holders_open = λ u holds. ap is_some (others_left all.images tx u (λ same. false≢true (sym nothing.no_locks ∙ ap (is_holder all.locks) (sym same) ∙ holds))) ∙ may.holders_open u holds;
     few_pages = may.few_pages;
     few_open = grind (arith, may.few_open, map.len-remove nat_cmp_total all.images tx);
   };

@@ -7,7 +7,7 @@ ghost use Rattle.mlt_page_locks.specs.LockTables.{page_count};
 ghost use Rattle.mlt_hash_form.specs.Held.{Agrees, over};
 ghost use Rattle.mlt_held.specs.Moments.{IsCleanFor, MayStep, Moment};
 ghost use Rattle.mlt_held.specs.PageSteps.{TouchesOnePage};
-ghost use Rattle.mlt_held.specs.Running.{AllMayStep, AllRunning, IsIdle, KeepsRunning, after_begin, after_close, after_end, after_roll_back, after_step, clean_of, is_open, moment_of, nobody_running};
+ghost use Rattle.mlt_held.specs.Running.{AllMayStep, AllRunning, HoldsNothing, KeepsRunning, after_begin, after_close, after_end, after_roll_back, after_step, clean_of, is_open, moment_of, nobody_running};
 ghost use Rattle.mlt_held.specs.Views.{view_of};
 
 /// Each open transaction may step, and the pages as they were before all running subtransactions are clean for it.
@@ -47,7 +47,7 @@ pub fn step_adds_one_page_at_most()
 pub fn end_makes_written_pages_clean()
     ensures keeps { (all : AllRunning) (tx : ℕ) → AllMayStep all → is_open all tx ≡ true
         → KeepsRunning tx all (after_end all tx) }
-    ensures idle { (all : AllRunning) (tx : ℕ) → IsIdle (after_end all tx) tx }
+    ensures nothing { (all : AllRunning) (tx : ℕ) → HoldsNothing (after_end all tx) tx }
     ensures clean { (all : AllRunning) (tx : ℕ) → AllMayStep all
         → clean_of (after_end all tx) ≡ over (clean_of all) (view_of (moment_of all tx)).own }
     ensures agrees { (all : AllRunning) (tx u : ℕ) → AllMayStep all → is_open all tx ≡ true
@@ -59,7 +59,7 @@ pub fn end_makes_written_pages_clean()
 pub fn roll_back_leaves_clean_pages()
     ensures keeps { (all : AllRunning) (tx : ℕ) → AllMayStep all → is_open all tx ≡ true
         → KeepsRunning tx all (after_roll_back all tx) }
-    ensures idle { (all : AllRunning) (tx : ℕ) → IsIdle (after_roll_back all tx) tx }
+    ensures nothing { (all : AllRunning) (tx : ℕ) → HoldsNothing (after_roll_back all tx) tx }
     ensures clean { (all : AllRunning) (tx : ℕ) → AllMayStep all
         → clean_of (after_roll_back all tx) ≡ clean_of all }
 {}
@@ -68,16 +68,16 @@ pub fn roll_back_leaves_clean_pages()
 pub fn begin_leaves_clean_pages()
     ensures keeps { (all : AllRunning) (tx : ℕ) → AllMayStep all
         → map.len all.images < all.locks.max_open → KeepsRunning tx all (after_begin all tx) }
-    ensures idle { (all : AllRunning) (tx : ℕ) → AllMayStep all → is_open all tx ≡ false
-        → IsIdle (after_begin all tx) tx }
+    ensures nothing { (all : AllRunning) (tx : ℕ) → AllMayStep all → is_open all tx ≡ false
+        → HoldsNothing (after_begin all tx) tx }
     ensures clean { (all : AllRunning) (tx : ℕ) → AllMayStep all → is_open all tx ≡ false
         → clean_of (after_begin all tx) ≡ clean_of all }
 {}
 
 /// Nor does one that closes and holds no page.
 pub fn close_leaves_clean_pages()
-    ensures keeps { (all : AllRunning) (tx : ℕ) → AllMayStep all → IsIdle all tx
+    ensures keeps { (all : AllRunning) (tx : ℕ) → AllMayStep all → HoldsNothing all tx
         → KeepsRunning tx all (after_close all tx) }
-    ensures clean { (all : AllRunning) (tx : ℕ) → AllMayStep all → IsIdle all tx
+    ensures clean { (all : AllRunning) (tx : ℕ) → AllMayStep all → HoldsNothing all tx
         → clean_of (after_close all tx) ≡ clean_of all }
 {}

@@ -1,11 +1,11 @@
-use Rattle.mlt_held.proofs.AllEvents.{end_agrees, end_clean, end_keeps, idle_at_end}
+use Rattle.mlt_held.proofs.AllEvents.{end_agrees, end_clean, end_keeps, nothing_at_end}
 use Rattle.mlt_held.proofs.clean_laws.end_makes_written_pages_clean.Goals as goal
 
 pub returns-clause-keeps : goal.returns-clause-keeps
 returns-clause-keeps c = end_keeps
 
-pub returns-clause-idle : goal.returns-clause-idle
-returns-clause-idle c = idle_at_end
+pub returns-clause-nothing : goal.returns-clause-nothing
+returns-clause-nothing c = nothing_at_end
 
 pub returns-clause-clean : goal.returns-clause-clean
 returns-clause-clean c = end_clean
