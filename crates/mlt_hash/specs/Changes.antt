@@ -1,5 +1,5 @@
 -- What the changes of a walk tell
-use Rattle.std.specs.Prelude.{ℕ, ◌≡◌, ◌⊎◌, true, IsSome, Bool, Some, None, position}
+use Rattle.std.specs.Prelude.{ℕ, ◌≡◌, ◌≤◌, ◌⊎◌, true, IsSome, Bool, Some, None, position, ◌<◌}
 use Rattle.std.specs.List.{list_all}
 use Rattle.mlt_types.specs.declared.mode.Mode.TheVariants.{Exclusive}
 use Rattle.mlt_types.specs.declared.refusal.Refusal.TheVariants as refusal
@@ -10,7 +10,8 @@ use Rattle.mlt_page.specs.Values.{BucketFields}
 use Rattle.mlt_hash_form.specs.Room.{is_crowded}
 use Rattle.mlt_held.specs.Moments.{Moment}
 use Rattle.mlt_held.specs.PageSteps.{WritesHeldPage}
-use Rattle.mlt_held.specs.Views.{View, view_of}
+use Rattle.mlt_held.specs.Views.{ReadsHeldBucket, View, view_of}
+use Rattle.mlt_record.specs.Plans.{WriteFields}
 use Rattle.mlt_hash.specs.Passes.{HasRoomFrom, IsNextPass, NeverHasRoom}
 use Rattle.mlt_hash.specs.Walks.{Basis, IsStanding, MayWalk, WalkFields}
 use Rattle.mlt_hash.specs.Steps.{IsSameWalk}
@@ -65,6 +66,12 @@ pub record MayChange (basis : Basis) (m : Moment) (walk : WalkFields) : Type 0 w
 abbrev pub MayChangeBy : ℕ → Moment → WalkFields → Type 0
 MayChangeBy tx m walk = (basis : Basis) × (basis.tx ≡ tx) × MayChange basis m walk
 
+-- a plan sets a slot of the bucket that its page reads as
+pub record PlansSlot (view : View) (write : WriteFields) : Type 0 where
+  pub bucket : BucketFields
+  pub reads : ReadsHeldBucket view write.number bucket
+  pub within : write.at < 8
+
 -- page q was written if the answer is that the change is made, and else nothing has changed
 abbrev pub WritesIfChanged : Moment → Moment → ℕ → WalkAnswer → Type 0
 WritesIfChanged old new q answer.Changed = (page : Page) × WritesHeldPage old new q page
@@ -114,6 +121,7 @@ pub record MustWiden (basis : Basis) (new : Moment) (before after : WalkFields) 
   pub fields : BucketFields
   pub full : IsFull basis before (view_of new) fields
   pub same : IsSameWalk before after
+  pub stands : IsStanding basis after (view_of new)
   pub narrow : before.pass ≡ pass.Narrow
   pub wide : IsNext basis before fields pass.Wide
   pub phase : after.phase ≡ at.Full pass.Wide
@@ -122,6 +130,7 @@ pub record MustWiden (basis : Basis) (new : Moment) (before after : WalkFields) 
 pub record HasNoRoom (basis : Basis) (new : Moment) (before after : WalkFields) : Type 0 where
   pub fields : BucketFields
   pub full : IsFull basis before (view_of new) fields
+  pub shallow : fields.depth ≤ basis.max_depth
   pub never : NeverHasRoom (crowded_at basis before fields) fields.depth basis.max_depth
   pub later : before.pass ≡ pass.First → ⊥
   pub narrow : before.pass ≡ pass.Narrow → IsNext basis before fields pass.Narrow
