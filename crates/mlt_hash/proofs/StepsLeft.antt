@@ -1,9 +1,7 @@
 -- Each step of the splits of a pass is one of those that are left
 use Rattle.std.proofs.Common.{ℕ, suc, ◌≡◌, ◌<◌, ◌+◌, ◌-◌, Bool, Option, Some, refl, sym, ◌∙◌, ap, subst, inl, inr, arith}
-use Rattle.std.specs.Prelude.{◌⊎◌, if◌then◌else◌, nat_eq}
 use Rattle.std.proofs.lemmas.Bool.{cases_eq, cond-false, cond-true, eq-eqb, ne_eqb}
 use Rattle.mlt_page.specs.declared.page.Page.{Page}
-use Rattle.mlt_page.specs.declared.page.Page.TheVariants as page
 use Rattle.mlt_hash_form.specs.File.{HasForm, bucket_of, header_of}
 use Rattle.mlt_hash_form.specs.Held.{Agrees}
 use Rattle.mlt_held.specs.Moments.{Moment}
@@ -11,7 +9,7 @@ use Rattle.mlt_held.specs.Views.{view_of}
 use Rattle.mlt_split.specs.Splits.{SplitFields, directory_steps, steps_left}
 use Rattle.mlt_hash.specs.Splitting.{BeginsSplit, SplitCloses, SplitGoesOn, TellsAt}
 use Rattle.mlt_hash.specs.StepsLeft.{IsPutting, bucket_depth, depth_after, directory_depth, steps_of_splits, steps_to_put, steps_to_put_at, steps_with_split}
-use Rattle.mlt_hash.specs.Walks.{Basis, IsSplitting, Stands, WalkFields, aim_of}
+use Rattle.mlt_hash.specs.Walks.{Basis, IsSplitting, Stands, WalkFields}
 use Rattle.mlt_hash.specs.declared.answer.WalkAnswer.TheVariants as answer
 use Rattle.mlt_hash.specs.declared.pass.Phase.{Phase}
 use Rattle.mlt_hash.specs.declared.pass.Phase.TheVariants as at

@@ -1,4 +1,4 @@
-use Rattle.std.proofs.Common.{◌≡◌, ℕ, ◌<◌, ◌/◌, ◌%◌, slice_index, Some, refl, sym, ap, subst, ◌∙◌, arith}
+use Rattle.std.proofs.Common.{◌≡◌, ℕ, ◌/◌, ◌%◌, slice_index, Some, refl, sym, ap, subst, ◌∙◌, arith}
 use Rattle.mlt_page.specs.Bits.{first_bits}
 use Rattle.mlt_page.specs.Values.{HeadFields}
 use Rattle.mlt_page.specs.declared.page.Page.{Page}
