@@ -76,8 +76,8 @@ impl Base {
     /// Does an operation, and answers what it is told. No other cell changes.
     ///
     /// # Errors
-    /// `OutOfMemory`, where an account or an element was to be made, or a counter at 0 to be changed, and a
-    /// growth was refused; the base is then as before.
+    /// `OutOfMemory`, where an account or an element was to be made, or a counter at 0 to be counted by
+    /// more than 0, and a growth was refused; the base is then as before.
     pub fn apply(&mut self, op: &ObjOp) -> Result<ObjReply, Refusal>
         ensures step { IfOk result (λ reply. Step self.old (op.now, reply) self.new) }
         ensures err { OnErr result (self.new ≡ self.old) }

@@ -5,7 +5,7 @@ use Rattle.mlt_page.specs.declared.slot.Slot.{Slot}
 use Rattle.mlt_page.specs.declared.slot.Slot.TheVariants.{Live, Ghost}
 use Rattle.mlt_page.specs.declared.page.Page.{Page}
 use Rattle.mlt_hash_form.specs.Form.{SetsSlot, slot_at}
-use Rattle.mlt_hash_form.specs.File.{HasForm, IsRecord, buckets_of}
+use Rattle.mlt_hash_form.specs.File.{HasForm, HasRecord, buckets_of}
 use Rattle.mlt_ghosts.specs.Ghosts.{IsGhostAt, IsInStep}
 use Rattle.mlt_ghosts.specs.Operations.{Presence, Added, Removed}
 use Rattle.mlt_ghosts.proofs.Slots.{ghost_home, live_once, slot_cases, slot_here, slot_was, slot_stays}
@@ -26,7 +26,7 @@ module _ (bits : ℕ → ℕ) (pages pages' : ℕ → Option Page) (root n i : �
   -- a key and transaction whose ghosts stay, with what is asked of the key's record
   pub frame : (undoing : Bool) (last : Option Presence) (t k : ℕ)
       → ((v : ℕ) → s ≡ Ghost k v t → ⊥) → ((v : ℕ) → slot_at (buckets_of pages) n i ≡ Ghost k v t → ⊥)
-      → (last ≡ Some Removed → (v : ℕ) → s ≡ Live k v → ⊥) → (last ≡ Some Added → (v : ℕ) → slot_at (buckets_of pages) n i ≡ Live k v → (w : ℕ) × IsRecord pages' k w)
+      → (last ≡ Some Removed → (v : ℕ) → s ≡ Live k v → ⊥) → (last ≡ Some Added → (v : ℕ) → slot_at (buckets_of pages) n i ≡ Live k v → (w : ℕ) × HasRecord pages' k w)
       → IsInStep bits undoing last pages root t k → IsInStep bits undoing last pages' root t k
   frame undoing last t k new old absent present step =
       let ghost_was : (m j : ℕ) → IsGhostAt pages' t k m j → IsGhostAt pages t k m j = λ m j g. (g.0, (was m j _ g.1 (new g.0)).1) in

@@ -1,4 +1,6 @@
+pub mod Events
 pub mod Ghosts
+pub mod Ledgers
 pub mod Moves
 pub mod Operations
 pub mod Paths

@@ -1,8 +1,6 @@
 -- What transactions did to the presence of keys
-use Rattle.std.specs.Prelude.{ℕ, ◌≡◌, true, List, [], ◌∷◌, ◌++◌, Option, Some, None}
+use Rattle.std.specs.Prelude.{ℕ, ◌≡◌, List, [], ◌∷◌, ◌++◌, Option, Some, None}
 use Rattle.std.specs.List.{last_or}
-use Rattle.std.specs.Ordering.{nat_cmp}
-use Rattle.std.specs.FinSet as set
 
 -- an operation on a key's presence: it added the record of an absent key, or it removed that of a present one
 pub data Presence : Type 0 where
@@ -27,7 +25,3 @@ TakeTurns p (q ∷ qs) = (p ≡ Some q → ⊥) × TakeTurns (Some q) qs
 pub record Appends (before after : Standing) (owner key : ℕ) (p : Presence) : Type 0 where
   pub here : after owner key ≡ before owner key ++ p ∷ []
   pub others : (t k : ℕ) → (t ≡ owner → k ≡ key → ⊥) → after t k ≡ before t k
-
--- no other open transaction has p as the last of its standing operations on the key
-abbrev pub NoOtherLast : set.FinSet nat_cmp → Standing → ℕ → ℕ → Presence → Type 0
-NoOtherLast opens standing owner key p = (t : ℕ) → set.contains opens t ≡ true → (t ≡ owner → ⊥) → last_of (standing t key) ≡ Some p → ⊥

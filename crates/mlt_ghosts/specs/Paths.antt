@@ -1,21 +1,23 @@
 -- The path from the header to a key's bucket, in any pages
-use Rattle.std.specs.Prelude.{ℕ, ◌≡◌, ◌≤◌, ◌/◌, ◌%◌, List, slice_index, Option, Some}
+use Rattle.std.specs.Prelude.{ℕ, ◌≡◌, ◌≤◌, ◌/◌, ◌%◌, List, slice_index, Some}
 use Rattle.mlt_page.specs.Bits.{first_bits}
 use Rattle.mlt_page.specs.Values.{BucketFields, HeadFields}
-use Rattle.mlt_page.specs.declared.page.Page.{Page}
 use Rattle.mlt_page.specs.declared.page.Page.TheVariants as page
-use Rattle.mlt_hash_form.specs.File.{IsPath}
+use Rattle.mlt_hash_form.specs.File.{FilePages, IsPath}
 
 -- the header, whose depth is at most 16, and the directory page of the pseudokey's place are there, and the entry
 -- is n
-pub record NamesBucket (pages : ℕ → Option Page) (root x n : ℕ) : Type 0 where
+pub record NamesBucket (pages : FilePages) (root x n : ℕ) : Type 0 where
   pub header : HeadFields
   pub dir : List ℕ
   pub small : header.depth ≤ 16
   pub head : pages root ≡ Some (page.Head header)
-  pub listed : pages (slice_index header.dirs (first_bits header.depth x / 256)) ≡ Some (page.Dir dir)
+  pub listed : pages (slice_index header.dirs (first_bits header.depth x / 256))
+      ≡ Some (page.Dir dir)
   pub at : slice_index dir (first_bits header.depth x % 256) ≡ n
 
 -- a path leads from the header, whose depth is at most 16, to this bucket on page n
-abbrev pub LeadsTo : (ℕ → Option Page) → ℕ → ℕ → ℕ → BucketFields → Type 0
-LeadsTo pages root x n bucket = (header : HeadFields) × (dir : List ℕ) × (header.depth ≤ 16) × IsPath pages root x header dir n bucket
+abbrev pub LeadsTo : FilePages → ℕ → ℕ → ℕ → BucketFields → Type 0
+LeadsTo pages root x n bucket =
+    (header : HeadFields) × (dir : List ℕ) × (header.depth ≤ 16)
+    × IsPath pages root x header dir n bucket

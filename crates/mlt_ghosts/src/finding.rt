@@ -6,11 +6,11 @@ ghost use Rattle.std.specs.FinSet as set;
 ghost use Rattle.mlt_page.specs.Slots.{is_ghost_of, is_live_of};
 ghost use Rattle.mlt_page.specs.Values.{BucketFields};
 ghost use Rattle.mlt_hash_form.specs.Form.{value_in};
-ghost use Rattle.mlt_hash_form.specs.File.{HasForm, buckets_of, lead_of};
+ghost use Rattle.mlt_hash_form.specs.File.{FilePages, HasForm, buckets_of, lead_of};
 ghost use Rattle.mlt_store.specs.Stores.{page_at};
-ghost use Rattle.mlt_page.specs.declared.page.Page.{Page};
 ghost use Rattle.mlt_ghosts.specs.Ghosts.{IsGhostAt, PagesMatchOperations};
-ghost use Rattle.mlt_ghosts.specs.Operations.{Added, Removed, Standing, last_of};
+ghost use Rattle.mlt_ghosts.specs.Ledgers.{IsOpenIn, Ledger, home_of, last_by};
+ghost use Rattle.mlt_ghosts.specs.Operations.{Added, Removed};
 ghost use Rattle.mlt_ghosts.specs.Paths.{LeadsTo, NamesBucket};
 
 use mlt_hash_form::{Place, Root};
@@ -20,10 +20,13 @@ use mlt_types::{Key, PageNo, Pseudo, TxId};
 
 /// The page that the directory names at the key's place, if there are a header and that page of the directory.
 fn named_bucket<P: Pseudo>(store: &Store, root: &Root<P>, key: Key) -> Option<PageNo>
-    ensures named { let pages = page_at store.now.pages in let x = P.bits_of root.now.pseudo key in
-        MatchOption result ((n : ℕ) → NamesBucket pages root.now.page x n → ⊥) (λ n. NamesBucket pages root.now.page x n) }
+    ensures named { let pages = page_at store.now.pages in
+        let x = P.bits_of root.now.pseudo key in
+        MatchOption result ((n : ℕ) → NamesBucket pages root.now.page x n → ⊥)
+        (λ n. NamesBucket pages root.now.page x n) }
     ensures in_form { let pages = page_at store.now.pages in
-        HasForm (P.bits_of root.now.pseudo) pages root.now.page → result ≡ Some (lead_of pages root.now.page (P.bits_of root.now.pseudo key)) }
+        let bits = P.bits_of root.now.pseudo in
+        HasForm bits pages root.now.page → result ≡ Some (lead_of pages root.now.page (bits key)) }
 {
     let Some(Page::Head(head)) = store.read(root.page) else {
         return None;
@@ -47,14 +50,20 @@ pub fn ghost_of<P: Pseudo>(
     key: Key,
     owner: TxId,
 ) -> Option<(PageNo, usize)>
-    ensures found { let pages = page_at store.now.pages in let x = P.bits_of root.now.pseudo key in
+    ensures found { let pages = page_at store.now.pages in
+        let x = P.bits_of root.now.pseudo key in
         (n : ℕ) (bucket : BucketFields) → LeadsTo pages root.now.page x n bucket
         → result ≡ option_map (λ i. (n, i)) (position (is_ghost_of key owner) bucket.slots) }
-    ensures no_path { let pages = page_at store.now.pages in let x = P.bits_of root.now.pseudo key in
-        ((n : ℕ) (bucket : BucketFields) → LeadsTo pages root.now.page x n bucket → ⊥) → result ≡ None }
-    ensures in_form { let pages = page_at store.now.pages in let n = lead_of pages root.now.page (P.bits_of root.now.pseudo key) in
-        HasForm (P.bits_of root.now.pseudo) pages root.now.page
-        → result ≡ option_map (λ i. (n, i)) (position (is_ghost_of key owner) (buckets_of pages n).slots) }
+    ensures no_path { let pages = page_at store.now.pages in
+        let x = P.bits_of root.now.pseudo key in
+        ((n : ℕ) (bucket : BucketFields) → LeadsTo pages root.now.page x n bucket → ⊥)
+        → result ≡ None }
+    ensures in_form { let pages = page_at store.now.pages in
+        let bits = P.bits_of root.now.pseudo in
+        let n = lead_of pages root.now.page (bits key) in
+        HasForm bits pages root.now.page
+        → result ≡ option_map (λ i. (n, i))
+        (position (is_ghost_of key owner) (buckets_of pages n).slots) }
     ensures within { IfSome result (λ at. at.1 < 8) }
 {
     let number = named_bucket(store, root, key)?;
@@ -68,8 +77,9 @@ pub fn ghost_of<P: Pseudo>(
 /// In a file of the form the look-up in a key's bucket is exact: it tells a ghost that the owner left of the key, and
 /// where it tells none there is none in the whole file.
 pub fn look_up_finds_the_ghost()
-    ensures { (bits : ℕ → ℕ) (pages : ℕ → Option Page) (root key owner : ℕ) → HasForm bits pages root
-        → let n = lead_of pages root (bits key) in let found = position (is_ghost_of key owner) (buckets_of pages n).slots in
+    ensures { (bits : ℕ → ℕ) (pages : FilePages) (root key owner : ℕ) → HasForm bits pages root
+        → let n = lead_of pages root (bits key) in
+        let found = position (is_ghost_of key owner) (buckets_of pages n).slots in
         ((i : ℕ) → found ≡ Some i → IsGhostAt pages owner key n i)
         × (found ≡ None → (m i : ℕ) → IsGhostAt pages owner key m i → ⊥) }
 {}
@@ -77,10 +87,13 @@ pub fn look_up_finds_the_ghost()
 /// What an open transaction takes back is there, in the bucket that the key leads to: of an addition the record, and of
 /// a removal its ghost, and no record.
 pub fn what_is_undone_is_found()
-    ensures { (bits : ℕ → ℕ) (opens : set.FinSet nat_cmp) (undoing : ℕ → Bool) (begun : ℕ) (standing : Standing) (pages : ℕ → Option Page) (root key owner : ℕ)
-        → PagesMatchOperations bits opens undoing begun standing pages root
-        → HasForm bits pages root → set.contains opens owner ≡ true
-        → let slots = (buckets_of pages (lead_of pages root (bits key))).slots in
-        (last_of (standing owner key) ≡ Some Added → (i : ℕ) × (position (is_live_of key) slots ≡ Some i))
-        × (last_of (standing owner key) ≡ Some Removed → ((i : ℕ) × (position (is_ghost_of key owner) slots ≡ Some i)) × (value_in key slots ≡ None)) }
+    ensures { (ledger : Ledger) (owner key : ℕ)
+        → PagesMatchOperations ledger → HasForm ledger.bits ledger.pages ledger.root
+        → IsOpenIn ledger owner
+        → let slots = (buckets_of ledger.pages (home_of ledger key)).slots in
+        (last_by ledger owner key ≡ Some Added
+        → (i : ℕ) × (position (is_live_of key) slots ≡ Some i))
+        × (last_by ledger owner key ≡ Some Removed
+        → ((i : ℕ) × (position (is_ghost_of key owner) slots ≡ Some i))
+        × (value_in key slots ≡ None)) }
 {}

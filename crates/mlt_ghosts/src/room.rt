@@ -10,7 +10,8 @@ use mlt_types::OpenSet;
 
 /// Whether the slot has a ghost whose owner is not open, so that it may be overwritten.
 pub fn reclaimable(slot: &Slot, opens: &OpenSet) -> bool
-    ensures { IsTrue result ↔ ((key : ℕ) × (value : ℕ) × (owner : ℕ) × (slot.now ≡ Ghost key value owner) × (set.contains opens.now owner ≡ false)) }
+    ensures { IsTrue result ↔ ((key : ℕ) × (value : ℕ) × (owner : ℕ)
+        × (slot.now ≡ Ghost key value owner) × (set.contains opens.now owner ≡ false)) }
 {
     match slot {
         Slot::Ghost(_, _, owner) => !opens.contains(*owner),

@@ -21,7 +21,7 @@ use Rattle.mlt_page_locks.specs.Requests.{stronger, with_page}
 use Rattle.mlt_subtx.specs.Images.{Images, image_of}
 use Rattle.mlt_hash_form.specs.Changes.{ChangesRecord, IsHome}
 use Rattle.mlt_hash_form.specs.File.{HasForm, IsPath, Writes}
-use Rattle.mlt_hash_form.specs.Form.{value_in, value_of}
+use Rattle.mlt_hash_form.specs.Form.{value_in, slot_value}
 use Rattle.mlt_hash_form.specs.Held.{Agrees, ChangesFile, over, own_or}
 use Rattle.mlt_hash_form.proofs.HeldPages.{keeps_none, writes_over}
 use Rattle.mlt_hash_form.proofs.Lookup.{live_from_value, live_passes, within_from_live}
@@ -223,7 +223,7 @@ nowhere_mapped f (Some i) none = let both : Some (f i) ≡ None = none in cc
 
 -- a key without a value has no live slot
 pub no_live_slot : (key : ℕ) (slots : List Slot) → value_in key slots ≡ None → position (is_live_of key) slots ≡ None
-no_live_slot key slots none = nowhere_mapped (λ i. value_of (slice_index_or slots i Free)) (position (is_live_of key) slots) none
+no_live_slot key slots none = nowhere_mapped (λ i. slot_value (slice_index_or slots i Free)) (position (is_live_of key) slots) none
 
 -- a walk whose key has a record has a plan of what to do with it,
 pub record_has_plan : (basis : Basis) (walk : WalkFields) (view : View) (key : ℕ) (fields : BucketFields) → IsAtRecord walk.phase → Stands walk.phase basis walk view → SeesBucket walk view fields → key ≡ walk.key → IsNowhere (is_live_of key) fields.slots → ⊥

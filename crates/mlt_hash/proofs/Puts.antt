@@ -20,7 +20,7 @@ use Rattle.mlt_hash_form.specs.Changes.{IsHome}
 use Rattle.mlt_hash_form.specs.File.{HasForm, bucket_of, buckets_of, header_of, lead_of}
 use Rattle.mlt_hash_form.specs.Form.{value_in}
 use Rattle.mlt_hash_form.specs.Held.{Agrees, over, own_or}
-use Rattle.mlt_hash_form.specs.Room.{agrees, is_crowded}
+use Rattle.mlt_hash_form.specs.Room.{crowds, is_crowded}
 use Rattle.mlt_hash_form.proofs.Crowd.{crowded_at_own_depth, crowded_in_fewer}
 use Rattle.mlt_hash_form.proofs.HeldPages.{keeps_more}
 use Rattle.mlt_held.specs.Moments.{HasCleanFile, MayStep, Moment}
@@ -114,7 +114,7 @@ module _ (aim : Aim) (view : View) (n : ℕ) (header : HeadFields) (bucket : Buc
       let home = rest_home aim view n header bucket rest clean.clean clean.agrees clean.form in
       let same : buckets_of pages (lead_of pages aim.root (seed_of aim)) ≡ bucket = ap (buckets_of pages) home.leads ∙ ap bucket_of home.found in
       let law = crowded_at_own_depth aim.bits aim.opens (header_of (pages aim.root)).depth (lead_of pages aim.root) (buckets_of pages) (seed_of aim) (rest.bounded aim.key) rest.bounded form.form in
-      subst (λ (b : BucketFields). list_all (agrees aim.bits aim.opens b.depth (seed_of aim)) b.slots ≡ true) same (law.1 (subst (λ (b : BucketFields). list_all (is_kept aim.opens) b.slots ≡ true) (sym same) kept))
+      subst (λ (b : BucketFields). list_all (crowds aim.bits aim.opens b.depth (seed_of aim)) b.slots ≡ true) same (law.1 (subst (λ (b : BucketFields). list_all (is_kept aim.opens) b.slots ≡ true) (sym same) kept))
 
   pub kept_is_shallow : list_all (is_kept aim.opens) bucket.slots ≡ true → bucket.depth < aim.room_depth
   kept_is_shallow kept =

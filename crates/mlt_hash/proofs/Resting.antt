@@ -23,7 +23,7 @@ use Rattle.mlt_page_locks.specs.Requests.{stronger, with_page}
 use Rattle.mlt_hash_form.specs.Changes.{IsHome}
 use Rattle.mlt_hash_form.specs.File.{HasForm, bucket_of, buckets_of, header_of, lead_of}
 use Rattle.mlt_hash_form.specs.Held.{Agrees, KeepsFile, over, own_or}
-use Rattle.mlt_hash_form.specs.Room.{agrees, is_crowded}
+use Rattle.mlt_hash_form.specs.Room.{crowds, is_crowded}
 use Rattle.mlt_hash_form.proofs.Bits.{first_bits_below}
 use Rattle.mlt_hash_form.proofs.Crowd.{crowded_at_own_depth}
 use Rattle.mlt_hash_form.proofs.FillEnds.{page_listed}
@@ -152,7 +152,7 @@ module _ (basis : Basis) (walk : WalkFields) (m : Moment) (fields : BucketFields
       let same : buckets_of file.clean (lead_of file.clean basis.root seed) ≡ fields = ap (buckets_of file.clean) at_home.leads ∙ ap bucket_of at_home.found in
       let kept : list_all (is_kept basis.opens) (buckets_of file.clean (lead_of file.clean basis.root seed)).slots ≡ true = subst (λ (b : BucketFields). list_all (is_kept basis.opens) b.slots ≡ true) (sym same) full.no_room in
       let law = crowded_at_own_depth basis.bits basis.opens (header_of (file.clean basis.root)).depth (lead_of file.clean basis.root) (buckets_of file.clean) seed (bounded walk.key) bounded file.form.form in
-      subst (λ (b : BucketFields). list_all (agrees basis.bits basis.opens b.depth seed) b.slots ≡ true) same (law.1 kept)
+      subst (λ (b : BucketFields). list_all (crowds basis.bits basis.opens b.depth seed) b.slots ≡ true) same (law.1 kept)
 
   -- so it has room only deeper down
   deeper : (d : ℕ) → fields.depth ≤ d → crowded_at basis walk fields d ≡ false → fields.depth < d

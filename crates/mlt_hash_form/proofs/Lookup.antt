@@ -1,4 +1,4 @@
--- The look-up finds exactly the live pair
+-- The look-up finds exactly the live pair. Other crates cite this module.
 use Rattle.std.proofs.Common.{ℕ, ◌≡◌, ◌<◌, ◌≤◌, true, ltb, List, length, get_or, Some, None, refl, sym, ◌∙◌, ap, arith, inl, inr}
 use Rattle.std.specs.Prelude.{◌↔◌}
 use Rattle.std.specs.Option.{option_map}
@@ -11,10 +11,10 @@ use Rattle.mlt_page.specs.Slots.{is_live_of}
 use Rattle.mlt_page.specs.declared.slot.Slot.{Slot}
 use Rattle.mlt_page.specs.declared.slot.Slot.TheVariants.{Free, Live, Ghost}
 use Rattle.mlt_page.specs.Values.{BucketFields}
-use Rattle.mlt_hash_form.specs.Form.{slot_at, HasSlot, IsSpread, is_used, value_of, value_in, value_at}
+use Rattle.mlt_hash_form.specs.Form.{slot_at, HasSlot, IsSpread, is_used, slot_value, value_in, value_by_lead}
 
 -- a slot that passes the test is the live one of the key
-pub live_is : (k : ℕ) (s : Slot) → is_live_of k s ≡ true → s ≡ Live k (value_of s)
+pub live_is : (k : ℕ) (s : Slot) → is_live_of k s ≡ true → s ≡ Live k (slot_value s)
 live_is k Free h = cc
 live_is k (Live j v) h = let e = eqb-true j k h in cc
 live_is k (Ghost j v tx) h = cc
@@ -27,15 +27,15 @@ within_from_live slots i k v e =
     elim (cases_lt i (length slots)) [ inl h ↦ h | inr h ↦ let past = get_or_past slots i Free h in cc ]
 
 -- where the test first passes, and where it never does
-value_at_first : (k : ℕ) (slots : List Slot) → position_or_len (is_live_of k) slots < length slots → value_in k slots ≡ Some (value_of (get_or slots (position_or_len (is_live_of k) slots) Free))
+value_at_first : (k : ℕ) (slots : List Slot) → position_or_len (is_live_of k) slots < length slots → value_in k slots ≡ Some (slot_value (get_or slots (position_or_len (is_live_of k) slots) Free))
 value_at_first k slots lt =
     let n = position_or_len (is_live_of k) slots in
-    ap (option_map (λ i. value_of (get_or slots i Free))) (cond-true (ltb n (length slots)) (Some n) None (lt-ltb n (length slots) lt))
+    ap (option_map (λ i. slot_value (get_or slots i Free))) (cond-true (ltb n (length slots)) (Some n) None (lt-ltb n (length slots) lt))
 
 value_past : (k : ℕ) (slots : List Slot) → length slots ≤ position_or_len (is_live_of k) slots → value_in k slots ≡ None
 value_past k slots le =
     let n = position_or_len (is_live_of k) slots in
-    ap (option_map (λ i. value_of (get_or slots i Free))) (cond-false (ltb n (length slots)) (Some n) None (le-ltb n (length slots) le))
+    ap (option_map (λ i. slot_value (get_or slots i Free))) (cond-false (ltb n (length slots)) (Some n) None (le-ltb n (length slots) le))
 
 -- a found value stands in a live slot
 pub live_from_value : (k v : ℕ) (slots : List Slot) → value_in k slots ≡ Some v → (i : ℕ) × (get_or slots i Free ≡ Live k v)
@@ -58,7 +58,7 @@ value_from_live k v i slots once e =
       | inl lt ↦
           let is = live_is k (get_or slots n Free) (passes_at_first (is_live_of k) slots Free lt) in
           let same = once n _ is in
-          value_at_first k slots lt ∙ ap (λ s. Some (value_of s)) (ap (λ j. get_or slots j Free) (sym same) ∙ e)
+          value_at_first k slots lt ∙ ap (λ s. Some (slot_value s)) (ap (λ j. get_or slots j Free) (sym same) ∙ e)
       | inr le ↦ absurd (both_ways _ (fails_before_first (is_live_of k) slots i Free (omega arith)) (live_passes k v _ e))
     ]
 
@@ -66,7 +66,7 @@ used_live : (k v : ℕ) (s : Slot) → s ≡ Live k v → is_used s ≡ true
 used_live k v s e = rw e refl
 
 -- the records are just what the look-up finds
-pub found : (bits : ℕ → ℕ) (g : ℕ) (lead : ℕ → ℕ) (buckets : ℕ → BucketFields) → IsSpread bits g lead buckets → (k v : ℕ) → HasSlot buckets (Live k v) ↔ (value_at bits lead buckets k ≡ Some v)
+pub found : (bits : ℕ → ℕ) (g : ℕ) (lead : ℕ → ℕ) (buckets : ℕ → BucketFields) → IsSpread bits g lead buckets → (k v : ℕ) → HasSlot buckets (Live k v) ↔ (value_by_lead bits lead buckets k ≡ Some v)
 found bits g lead buckets form k v = (
   (λ (h : HasSlot buckets (Live k v)).
       let n = h.0 in
@@ -75,7 +75,7 @@ found bits g lead buckets form k v = (
       let home : lead (bits k) ≡ n = rw here at (form.home n i (used_live k v _ here)) in
       let once : (j w : ℕ) → get_or (buckets n).slots j Free ≡ Live k w → i ≡ j = λ j w e. form.once n i j k v w here e in
       rw home (value_from_live k v i (buckets n).slots once here)),
-  (λ (h : value_at bits lead buckets k ≡ Some v).
+  (λ (h : value_by_lead bits lead buckets k ≡ Some v).
       let at = live_from_value k v (buckets (lead (bits k))).slots h in
       (lead (bits k), at.0, at.1)),
 )

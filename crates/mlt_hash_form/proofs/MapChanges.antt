@@ -1,5 +1,5 @@
--- The map of the records, and what changes do to it
-use Rattle.std.proofs.Common.{ℕ, ◌≡◌, ◌<◌, ◌^◌, cond, Option, Some, None, sym, ◌∙◌, ap, inl, inr}
+-- The map of the records, and what changes do to it. Other crates cite this module.
+use Rattle.std.proofs.Common.{ℕ, ◌≡◌, ◌<◌, ◌^◌, cond, Option, Some, None, sym, ◌∙◌, ap, subst, inl, inr}
 use Rattle.std.specs.Ordering.{nat_cmp, eq_by_cmp}
 use Rattle.std.specs.FinMap as map
 use Rattle.std.specs.FinMap.{nat_cmp-IsAntisymmetric}
@@ -10,9 +10,11 @@ use Rattle.mlt_page.specs.declared.slot.Slot.{Slot}
 use Rattle.mlt_page.specs.declared.slot.Slot.TheVariants.{Free, Live}
 use Rattle.mlt_page.specs.declared.page.Page.{Page}
 use Rattle.mlt_hash_form.specs.Changes.{ChangesRecord, IsOpening, IsSplit}
-use Rattle.mlt_hash_form.specs.File.{buckets_of, lead_of, HasForm, look_up}
+use Rattle.mlt_hash_form.specs.File.{FilePages, GivesPseudokeys, buckets_of, lead_of, HasForm, look_up}
 use Rattle.mlt_hash_form.specs.Form.{slot_at}
-use Rattle.mlt_hash_form.specs.Records.{live_records}
+use Rattle.mlt_hash_form.specs.Held.{Agrees, ChangesFile, SeenPages, over}
+use Rattle.mlt_hash_form.specs.Records.{live_records, with_record}
+use Rattle.mlt_hash_form.proofs.HeldPages.{changed_values}
 use Rattle.mlt_hash_form.proofs.InPages.{same_option}
 use Rattle.mlt_hash_form.proofs.Lookup.{found}
 use Rattle.mlt_hash_form.proofs.OpeningFile.{opening_is_free}
@@ -38,15 +40,44 @@ module _ (bits : ℕ → ℕ) (pages pages' : map.FinMap nat_cmp Page) (root key
             map_is_look_up bits pages' root bounded file' q ∙ others q ne ∙ sym (map_is_look_up bits pages root bounded file q) ∙ sym (cond-false _ value _ e)
       ]
 
-pub inserted : (bits : ℕ → ℕ) (pages pages' : map.FinMap nat_cmp Page) (root key value n i : ℕ) (after : Slot) → ((k : ℕ) → bits k < 2 ^ 64) → HasForm bits (map.get pages) root
+-- a map with another value of one key, or none, looked up
+with_record_at : (records : map.FinMap nat_cmp ℕ) (key : ℕ) (value : Option ℕ) (q : ℕ)
+    → map.get (with_record records key value) q ≡ cond (eq_by_cmp nat_cmp q key) value (map.get records q)
+with_record_at records key None q = map.get-remove nat_cmp_total records key q
+with_record_at records key (Some value) q = map.get-insert nat_cmp_total records key value q
+
+-- where the look-ups of all keys but one are the same, the map changes at this key alone
+module _ (bits : ℕ → ℕ) (pages pages' : map.FinMap nat_cmp Page) (root key : ℕ) (value : Option ℕ) (bounded : GivesPseudokeys bits) (file : HasForm bits (map.get pages) root) where
+  pub changed_map : HasForm bits (map.get pages') root → look_up bits (map.get pages') root key ≡ value
+      → ((k : ℕ) → (k ≡ key → ⊥) → look_up bits (map.get pages') root k ≡ look_up bits (map.get pages) root k)
+      → live_records pages' ≡ with_record (live_records pages) key value
+  changed_map file' here others =
+      map.same_map nat_cmp_total nat_cmp-IsAntisymmetric _ _ (λ q.
+      change_at bits pages pages' root key value bounded file file' here others q ∙ sym (with_record_at (live_records pages) key value q))
+
+pub inserted : (bits : ℕ → ℕ) (pages pages' : map.FinMap nat_cmp Page) (root key value n i : ℕ) (after : Slot) → GivesPseudokeys bits → HasForm bits (map.get pages) root
     → ChangesRecord bits (map.get pages) (map.get pages') root key (Some value) n i after → live_records pages' ≡ map.insert (live_records pages) key value
 inserted bits pages pages' root key value n i after bounded file changes =
-    map.same_map nat_cmp_total nat_cmp-IsAntisymmetric _ _ (λ q. change_at bits pages pages' root key (Some value) bounded file changes.form changes.here changes.others q ∙ sym (map.get-insert nat_cmp_total (live_records pages) key value q))
+    changed_map bits pages pages' root key (Some value) bounded file changes.form changes.here changes.others
 
-pub removed : (bits : ℕ → ℕ) (pages pages' : map.FinMap nat_cmp Page) (root key n i : ℕ) (after : Slot) → ((k : ℕ) → bits k < 2 ^ 64) → HasForm bits (map.get pages) root
+pub removed : (bits : ℕ → ℕ) (pages pages' : map.FinMap nat_cmp Page) (root key n i : ℕ) (after : Slot) → GivesPseudokeys bits → HasForm bits (map.get pages) root
     → ChangesRecord bits (map.get pages) (map.get pages') root key None n i after → live_records pages' ≡ map.remove (live_records pages) key
 removed bits pages pages' root key n i after bounded file changes =
-    map.same_map nat_cmp_total nat_cmp-IsAntisymmetric _ _ (λ q. change_at bits pages pages' root key None bounded file changes.form changes.here changes.others q ∙ sym (map.get-remove nat_cmp_total (live_records pages) key q))
+    changed_map bits pages pages' root key None bounded file changes.form changes.here changes.others
+
+-- a walk's change of the file, where its pages become clean
+pub changed_file_map : (bits : ℕ → ℕ) (opens : set.FinSet nat_cmp) (root key n i : ℕ) (value : Option ℕ) (after : Slot) (seen : SeenPages) (rest own : FilePages) (pages pages' : map.FinMap nat_cmp Page)
+    → ChangesFile bits opens root seen rest own key value n i after
+    → Agrees seen (map.get pages) → GivesPseudokeys bits → HasForm bits (map.get pages) root
+    → ((q : ℕ) → map.get pages' q ≡ over (map.get pages) own q)
+    → HasForm bits (map.get pages') root × (live_records pages' ≡ with_record (live_records pages) key value)
+changed_file_map bits opens root key n i value after seen rest own pages pages' changes agrees bounded file ends =
+    let values = changed_values bits opens root key n i value after seen rest own (map.get pages) changes agrees file in
+    let same : over (map.get pages) own ≡ map.get pages' = λ j q. sym (ends q) j in
+    let file' = subst (λ (p : FilePages). HasForm bits p root) same values.0 in
+    let here = subst (λ (p : FilePages). look_up bits p root key ≡ value) same values.1 in
+    let others = subst (λ (p : FilePages). (k : ℕ) → (k ≡ key → ⊥) → look_up bits p root k ≡ look_up bits (map.get pages) root k) same values.2 in
+    (file', changed_map bits pages pages' root key value bounded file file' here others)
 
 pub left_by_split : (bits : ℕ → ℕ) (opens : set.FinSet nat_cmp) (pages pages' : map.FinMap nat_cmp Page) (root n new : ℕ) → ((k : ℕ) → bits k < 2 ^ 64) → HasForm bits (map.get pages) root
     → IsSplit bits opens (map.get pages) (map.get pages') root n new → live_records pages' ≡ live_records pages

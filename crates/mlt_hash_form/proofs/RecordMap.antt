@@ -15,9 +15,9 @@ use Rattle.mlt_page.specs.declared.slot.Slot.{Slot}
 use Rattle.mlt_page.specs.declared.slot.Slot.TheVariants.{Free, Live, Ghost}
 use Rattle.mlt_page.specs.Values.{BucketFields}
 use Rattle.mlt_page.specs.declared.page.Page.{Page}
-use Rattle.mlt_hash_form.specs.File.{bucket_of, buckets_of, IsOnceLive, IsRecord}
-use Rattle.mlt_hash_form.specs.Form.{slot_at, value_of}
-use Rattle.mlt_hash_form.specs.Records.{live_pairs, live_records, HasRecords}
+use Rattle.mlt_hash_form.specs.File.{bucket_of, buckets_of, IsOnceLive, HasRecord}
+use Rattle.mlt_hash_form.specs.Form.{slot_at, slot_value}
+use Rattle.mlt_hash_form.specs.Records.{live_pairs, live_records, IsRecordMap}
 
 is_equal : (r : Ordering) → is_eq r ≡ true → r ≡ Equal
 is_equal Less e = cc
@@ -110,7 +110,7 @@ some_page (Some p) i k v e = refl
 same_value : (buckets : ℕ → BucketFields) (n m i j k v w : ℕ) → n ≡ m → i ≡ j → slot_at buckets n i ≡ Live k v → slot_at buckets m j ≡ Live k w → v ≡ w
 same_value buckets n m i j k v w e f p q =
     let p' : slot_at buckets m j ≡ Live k v = rw (← e, ← f) p in
-    ap value_of (sym p' ∙ q)
+    ap slot_value (sym p' ∙ q)
 
 module _ (pages : map.FinMap nat_cmp Page) where
   abbrev pairs_on : ℕ → List (ℕ × ℕ)
@@ -119,16 +119,16 @@ module _ (pages : map.FinMap nat_cmp Page) where
   abbrev all_pairs : List (ℕ × ℕ)
   all_pairs = flat_map pairs_on (map.keys pages)
 
-  record_from : (k v : ℕ) → find nat_cmp k all_pairs ≡ Some v → IsRecord (map.get pages) k v
+  record_from : (k v : ℕ) → find nat_cmp k all_pairs ≡ Some v → HasRecord (map.get pages) k v
   record_from k v h =
       let p = page_found k v pairs_on (map.keys pages) h in
       let s = pair_found k v _ p.1 in
       (p.0, s.0, s.1)
 
-  pub records_are_the_map : IsOnceLive (map.get pages) → HasRecords (live_records pages) (map.get pages)
+  pub records_are_the_map : IsOnceLive (map.get pages) → IsRecordMap (live_records pages) (map.get pages)
   records_are_the_map once k v = (
     (λ (h : map.get (live_records pages) k ≡ Some v). record_from k v (sym (map.get-from_entries nat_cmp_total all_pairs k) ∙ h)),
-    (λ (h : IsRecord (map.get pages) k v).
+    (λ (h : HasRecord (map.get pages) k v).
         let there : is_some (map.get pages h.0) ≡ true = some_page (map.get pages h.0) h.1 k v h.2 in
         let listed = sym (map.contains_key-keys pages h.0) ∙ there in
         let on_page = pair_is_found k v h.1 (buckets_of (map.get pages) h.0).slots h.2 in

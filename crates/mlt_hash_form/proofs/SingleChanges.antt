@@ -1,4 +1,4 @@
--- The four changes of a record: put, set_value, to_ghost, revive
+-- The four changes of a record: put, set_value, to_ghost, revive. Other crates cite this module.
 use Rattle.std.proofs.Common.{ℕ, ◌≡◌, ◌<◌, true, false, length, get_or, set, Option, Some, None, refl, sym, ◌∙◌, ap, arith}
 use Rattle.std.specs.Prelude.{◌↔◌}
 use Rattle.std.specs.Ordering.{nat_cmp}
@@ -13,7 +13,7 @@ use Rattle.mlt_page.specs.declared.page.Page.{Page}
 use Rattle.mlt_page.specs.declared.page.Page.TheVariants as page
 use Rattle.mlt_hash_form.specs.Changes.{IsHome, ChangesRecord}
 use Rattle.mlt_hash_form.specs.File.{bucket_of, buckets_of, lead_of, look_up, Writes}
-use Rattle.mlt_hash_form.specs.Form.{MaySet, value_in, value_of, slot_at}
+use Rattle.mlt_hash_form.specs.Form.{MaySet, value_in, slot_value, slot_at}
 use Rattle.mlt_hash_form.proofs.Lookup.{live_is, value_from_live}
 use Rattle.mlt_hash_form.proofs.InPages.{file_change, file_change_holds, value_other, value_here, sets, set_here}
 
@@ -45,12 +45,12 @@ module _ (bits : ℕ → ℕ) (pages pages' : ℕ → Option Page) (root key n i
   -- a slot with the key's record may be set to what has the key
   may_change : (s : Slot) → key_of s ≡ key → is_live_of key (get_or was.slots i Free) ≡ true → MaySet bits (lead_of pages root) (buckets_of pages) n i s
   may_change s k live =
-      let here : slot_at (buckets_of pages) n i ≡ Live key (value_of (get_or was.slots i Free)) = slot_is ∙ live_is key _ live in
+      let here : slot_at (buckets_of pages) n i ≡ Live key (slot_value (get_or was.slots i Free)) = slot_is ∙ live_is key _ live in
       record {
         within = in_bucket;
         leads = rw k home.leads;
         alone = λ j w e. sym (home.form.form.once n i j key _ w here (e ∙ ap (λ q. Live q w) k));
-        own = λ q w e. let same : Live q w ≡ Live key (value_of (get_or was.slots i Free)) = sym e ∙ here in let at : q ≡ key = ap key_of same in at ∙ sym k;
+        own = λ q w e. let same : Live q w ≡ Live key (slot_value (get_or was.slots i Free)) = sym e ∙ here in let at : q ≡ key = ap key_of same in at ∙ sym k;
       }
 
   -- a slot without a record may be set to what has the key, if the key is absent

@@ -6,7 +6,15 @@ use Rattle.mlt_page.specs.declared.slot.Slot.TheVariants.{Live}
 use Rattle.mlt_page.specs.Values.{BucketFields, HeadFields}
 use Rattle.mlt_page.specs.declared.page.Page.{Page}
 use Rattle.mlt_page.specs.declared.page.Page.TheVariants as page
-use Rattle.mlt_hash_form.specs.Form.{IsSpread, HasSlot, slot_at, value_at}
+use Rattle.mlt_hash_form.specs.Form.{IsSpread, HasSlot, slot_at, value_by_lead}
+
+-- the page of each number, if there is one
+abbrev pub FilePages : Type 0
+FilePages = ℕ → Option Page
+
+-- a function from keys to pseudokeys, which have 64 bits
+abbrev pub GivesPseudokeys : (ℕ → ℕ) → Type 0
+GivesPseudokeys bits = (key : ℕ) → bits key < 2 ^ 64
 
 -- the three readings of a page, each empty for a page of another kind
 abbrev pub header_of : Option Page → HeadFields
@@ -28,55 +36,63 @@ bucket_of (Some (page.Bucket bucket)) = bucket
 bucket_of None = record { depth = 0; slots = [] }
 
 -- the depth and the pages of the directory, as the header has them
-abbrev pub depth_of : (ℕ → Option Page) → ℕ → ℕ
+abbrev pub depth_of : FilePages → ℕ → ℕ
 depth_of pages root = (header_of (pages root)).depth
 
-abbrev pub dirs_of : (ℕ → Option Page) → ℕ → List ℕ
+abbrev pub dirs_of : FilePages → ℕ → List ℕ
 dirs_of pages root = (header_of (pages root)).dirs
 
 -- the entry at a place of the directory on these pages
-abbrev pub entry : (ℕ → Option Page) → List ℕ → ℕ → ℕ
-entry pages dirs place = slice_index (entries_of (pages (slice_index dirs (place / 256)))) (place % 256)
+abbrev pub entry : FilePages → List ℕ → ℕ → ℕ
+entry pages dirs place =
+    slice_index (entries_of (pages (slice_index dirs (place / 256)))) (place % 256)
 
 -- the bucket page that a pseudokey leads to, and the bucket on each page
-abbrev pub lead_of : (ℕ → Option Page) → ℕ → ℕ → ℕ
-lead_of pages root x = entry pages (header_of (pages root)).dirs (first_bits (header_of (pages root)).depth x)
+abbrev pub lead_of : FilePages → ℕ → ℕ → ℕ
+lead_of pages root x =
+    entry pages (header_of (pages root)).dirs (first_bits (header_of (pages root)).depth x)
 
-abbrev pub buckets_of : (ℕ → Option Page) → ℕ → BucketFields
+abbrev pub buckets_of : FilePages → ℕ → BucketFields
 buckets_of pages n = bucket_of (pages n)
 
 -- the directory has as many full pages as its depth asks for, and no page stands twice
-pub record IsDirectory (pages : ℕ → Option Page) (depth : ℕ) (dirs : List ℕ) : Type 0 where
+pub record IsDirectory (pages : FilePages) (depth : ℕ) (dirs : List ℕ) : Type 0 where
   pub small : depth ≤ 16
-  pub full : (q : ℕ) → q < 2 ^ (depth - 8) → length (entries_of (pages (slice_index dirs q))) ≡ 256
-  pub once : (q r : ℕ) → q < 2 ^ (depth - 8) → r < 2 ^ (depth - 8) → slice_index dirs q ≡ slice_index dirs r → q ≡ r
+  pub full : (q : ℕ) → q < 2 ^ (depth - 8)
+      → length (entries_of (pages (slice_index dirs q))) ≡ 256
+  pub once : (q r : ℕ) → q < 2 ^ (depth - 8) → r < 2 ^ (depth - 8)
+      → slice_index dirs q ≡ slice_index dirs r → q ≡ r
 
 -- the pages have the form of an extendible hash file
-pub record HasForm (bits : ℕ → ℕ) (pages : ℕ → Option Page) (root : ℕ) : Type 0 where
+pub record HasForm (bits : ℕ → ℕ) (pages : FilePages) (root : ℕ) : Type 0 where
   pub head : pages root ≡ Some (page.Head (header_of (pages root)))
   pub listed : IsDirectory pages (header_of (pages root)).depth (header_of (pages root)).dirs
   pub form : IsSpread bits (header_of (pages root)).depth (lead_of pages root) (buckets_of pages)
 
--- a record: its key and its value stand in a live slot of some bucket page
-abbrev pub IsRecord : (ℕ → Option Page) → ℕ → ℕ → Type 0
-IsRecord pages key value = HasSlot (buckets_of pages) (Live key value)
+-- the pages have a record: its key and its value stand in a live slot of some bucket
+abbrev pub HasRecord : FilePages → ℕ → ℕ → Type 0
+HasRecord pages key value = HasSlot (buckets_of pages) (Live key value)
 
 -- the records are defined: no key stands in two live slots
-abbrev pub IsOnceLive : (ℕ → Option Page) → Type 0
-IsOnceLive pages = (n m i j key v w : ℕ) → slot_at (buckets_of pages) n i ≡ Live key v → slot_at (buckets_of pages) m j ≡ Live key w → (n ≡ m) × (i ≡ j)
+abbrev pub IsOnceLive : FilePages → Type 0
+IsOnceLive pages = (n m i j key v w : ℕ)
+    → slot_at (buckets_of pages) n i ≡ Live key v → slot_at (buckets_of pages) m j ≡ Live key w
+    → (n ≡ m) × (i ≡ j)
 
 -- the look-up of a key
-abbrev pub look_up : (ℕ → ℕ) → (ℕ → Option Page) → ℕ → ℕ → Option ℕ
-look_up bits pages root key = value_at bits (lead_of pages root) (buckets_of pages) key
+abbrev pub look_up : (ℕ → ℕ) → FilePages → ℕ → ℕ → Option ℕ
+look_up bits pages root key = value_by_lead bits (lead_of pages root) (buckets_of pages) key
 
 -- what three steps by a pseudokey read: the header, the directory page of its place, and the bucket named there
-pub record IsPath (pages : ℕ → Option Page) (root x : ℕ) (header : HeadFields) (dir : List ℕ) (n : ℕ) (bucket : BucketFields) : Type 0 where
+pub record IsPath (pages : FilePages) (root x : ℕ) (header : HeadFields) (dir : List ℕ) (n : ℕ)
+    (bucket : BucketFields) : Type 0 where
   pub head : pages root ≡ Some (page.Head header)
-  pub listed : pages (slice_index header.dirs (first_bits header.depth x / 256)) ≡ Some (page.Dir dir)
+  pub listed : pages (slice_index header.dirs (first_bits header.depth x / 256))
+      ≡ Some (page.Dir dir)
   pub at : slice_index dir (first_bits header.depth x % 256) ≡ n
   pub found : pages n ≡ Some (page.Bucket bucket)
 
 -- page n becomes p, and no other page changes
-pub record Writes (pages pages' : ℕ → Option Page) (n : ℕ) (p : Page) : Type 0 where
+pub record Writes (pages pages' : FilePages) (n : ℕ) (p : Page) : Type 0 where
   pub here : pages' n ≡ Some p
   pub others : (m : ℕ) → (m ≡ n → ⊥) → pages' m ≡ pages m

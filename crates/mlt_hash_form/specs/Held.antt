@@ -6,8 +6,13 @@ use Rattle.mlt_page.specs.Slots.{is_kept}
 use Rattle.mlt_page.specs.declared.slot.Slot.{Slot}
 use Rattle.mlt_page.specs.declared.page.Page.{Page}
 use Rattle.mlt_hash_form.specs.Form.{HasSlot, is_used, slot_at}
-use Rattle.mlt_hash_form.specs.File.{buckets_of, HasForm}
+use Rattle.mlt_hash_form.specs.File.{FilePages, buckets_of, HasForm}
 use Rattle.mlt_hash_form.specs.Changes.{ChangesRecord}
+
+-- Of each page that a walk holds, what the clean pages have of it: None of a page that it doesn't hold, and
+-- `Some None` of one that it made
+abbrev pub SeenPages : Type 0
+SeenPages = ℕ → Option (Option Page)
 
 -- the walk's own page, where it wrote one, and else the clean page
 abbrev pub own_or : Option Page → Option Page → Option Page
@@ -15,33 +20,41 @@ own_or None clean = clean
 own_or (Some own) clean = Some own
 
 -- the clean pages with the walk's writes in place
-abbrev pub over : (ℕ → Option Page) → (ℕ → Option Page) → ℕ → Option Page
+abbrev pub over : FilePages → FilePages → FilePages
 over clean own n = own_or (own n) (clean n)
 
--- the clean pages are as the walk saw each page that it holds: `seen n` is None of a page that it doesn't hold,
--- and `Some None` of one that it made
-abbrev pub Agrees : (ℕ → Option (Option Page)) → (ℕ → Option Page) → Type 0
+-- the clean pages are as the walk saw each page that it holds
+abbrev pub Agrees : SeenPages → FilePages → Type 0
 Agrees seen clean = (n : ℕ) (p : Option Page) → seen n ≡ Some p → clean n ≡ p
 
 -- the slot stood on a page that the walk holds
-abbrev pub StoodOnHeld : (ℕ → Option (Option Page)) → (ℕ → Option Page) → Slot → Type 0
-StoodOnHeld seen before t = (n : ℕ) × (i : ℕ) × (is_some (seen n) ≡ true) × (slot_at (buckets_of before) n i ≡ t)
+abbrev pub StoodOnHeld : SeenPages → FilePages → Slot → Type 0
+StoodOnHeld seen before t =
+    (n : ℕ) × (i : ℕ) × (is_some (seen n) ≡ true) × (slot_at (buckets_of before) n i ≡ t)
 
 -- Slots were moved, or lost, on pages that a walk holds, and the file has its form: each record or ghost that stood
 -- in some bucket stands in some bucket, or its room was not kept and it stood on a held page; and each that is there
 -- stood before at the same place of the same page, or of a held one.
-pub record RearrangesSlots (bits : ℕ → ℕ) (opens : set.FinSet nat_cmp) (seen : ℕ → Option (Option Page)) (before after : ℕ → Option Page) (root : ℕ) : Type 0 where
+pub record RearrangesSlots (bits : ℕ → ℕ) (opens : set.FinSet nat_cmp) (seen : SeenPages)
+    (before after : FilePages) (root : ℕ) : Type 0 where
   pub form : HasForm bits after root
-  pub lost : (t : Slot) → is_used t ≡ true → HasSlot (buckets_of before) t → HasSlot (buckets_of after) t ⊎ ((is_kept opens t ≡ false) × StoodOnHeld seen before t)
-  pub stood : (m i : ℕ) → is_used (slot_at (buckets_of after) m i) ≡ true → (o : ℕ) × (slot_at (buckets_of before) o i ≡ slot_at (buckets_of after) m i) × ((o ≡ m) ⊎ (is_some (seen o) ≡ true))
+  pub lost : (t : Slot) → is_used t ≡ true → HasSlot (buckets_of before) t
+      → HasSlot (buckets_of after) t ⊎ ((is_kept opens t ≡ false) × StoodOnHeld seen before t)
+  pub stood : (m i : ℕ) → is_used (slot_at (buckets_of after) m i) ≡ true
+      → (o : ℕ) × (slot_at (buckets_of before) o i ≡ slot_at (buckets_of after) m i)
+      × ((o ≡ m) ⊎ (is_some (seen o) ≡ true))
 
 -- Whatever the clean pages are elsewhere, the walk's writes only rearrange slots. This remains true whatever other
 -- walks do, since it names no state of theirs.
-abbrev pub KeepsFile : (ℕ → ℕ) → set.FinSet nat_cmp → ℕ → (ℕ → Option (Option Page)) → (ℕ → Option Page) → Type 0
-KeepsFile bits opens root seen own = (clean : ℕ → Option Page) → Agrees seen clean → HasForm bits clean root → RearrangesSlots bits opens seen clean (over clean own) root
+abbrev pub KeepsFile : (ℕ → ℕ) → set.FinSet nat_cmp → ℕ → SeenPages → FilePages → Type 0
+KeepsFile bits opens root seen own =
+    (clean : FilePages) → Agrees seen clean → HasForm bits clean root
+    → RearrangesSlots bits opens seen clean (over clean own) root
 
 -- Whatever the clean pages are elsewhere, the walk's writes rearrange slots (those up to `rest`), and then change one
 -- record: slot i of page n becomes `after`, and the key has this value, or none.
-pub record ChangesFile (bits : ℕ → ℕ) (opens : set.FinSet nat_cmp) (root : ℕ) (seen : ℕ → Option (Option Page)) (rest own : ℕ → Option Page) (key : ℕ) (value : Option ℕ) (n i : ℕ) (after : Slot) : Type 0 where
+pub record ChangesFile (bits : ℕ → ℕ) (opens : set.FinSet nat_cmp) (root : ℕ) (seen : SeenPages)
+    (rest own : FilePages) (key : ℕ) (value : Option ℕ) (n i : ℕ) (after : Slot) : Type 0 where
   pub keeps : KeepsFile bits opens root seen rest
-  pub changes : (clean : ℕ → Option Page) → Agrees seen clean → HasForm bits clean root → ChangesRecord bits (over clean rest) (over clean own) root key value n i after
+  pub changes : (clean : FilePages) → Agrees seen clean → HasForm bits clean root
+      → ChangesRecord bits (over clean rest) (over clean own) root key value n i after

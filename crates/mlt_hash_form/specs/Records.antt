@@ -1,12 +1,12 @@
 -- The records of a file as a finite map
-use Rattle.std.specs.Prelude.{ℕ, ◌≡◌, List, [], ◌∷◌, Option, Some, ◌↔◌}
+use Rattle.std.specs.Prelude.{ℕ, ◌≡◌, List, [], ◌∷◌, Option, None, Some, ◌↔◌}
 use Rattle.std.specs.List.{flat_map}
 use Rattle.std.specs.Ordering.{nat_cmp}
 use Rattle.std.specs.FinMap as map
 use Rattle.mlt_page.specs.declared.slot.Slot.{Slot}
 use Rattle.mlt_page.specs.declared.slot.Slot.TheVariants.{Free, Live, Ghost}
 use Rattle.mlt_page.specs.declared.page.Page.{Page}
-use Rattle.mlt_hash_form.specs.File.{IsRecord, buckets_of}
+use Rattle.mlt_hash_form.specs.File.{FilePages, HasRecord, buckets_of}
 
 -- the key and the value of a live slot
 abbrev pub live_pairs : Slot → List (ℕ × ℕ)
@@ -17,8 +17,16 @@ live_pairs (Ghost key value owner) = []
 -- The pairs of all live slots of all bucket pages, as a map from keys to values. It says the records where no key
 -- stands in two live slots.
 abbrev pub live_records : map.FinMap nat_cmp Page → map.FinMap nat_cmp ℕ
-live_records pages = map.from_entries (flat_map (λ n. flat_map live_pairs (buckets_of (map.get pages) n).slots) (map.keys pages))
+live_records pages =
+    let pairs_on = λ (n : ℕ). flat_map live_pairs (buckets_of (map.get pages) n).slots in
+    map.from_entries (flat_map pairs_on (map.keys pages))
+
+-- the records, with this value of the key, or none
+abbrev pub with_record : map.FinMap nat_cmp ℕ → ℕ → Option ℕ → map.FinMap nat_cmp ℕ
+with_record records key None = map.remove records key
+with_record records key (Some value) = map.insert records key value
 
 -- a map has just the records of these pages
-abbrev pub HasRecords : map.FinMap nat_cmp ℕ → (ℕ → Option Page) → Type 0
-HasRecords records pages = (key value : ℕ) → (map.get records key ≡ Some value) ↔ IsRecord pages key value
+abbrev pub IsRecordMap : map.FinMap nat_cmp ℕ → FilePages → Type 0
+IsRecordMap records pages =
+    (key value : ℕ) → (map.get records key ≡ Some value) ↔ HasRecord pages key value

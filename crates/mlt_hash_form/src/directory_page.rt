@@ -1,10 +1,9 @@
 //! Pages of a directory that is split: what each is to hold.
 
-ghost use Rattle.std.specs.Prelude.{◌≡◌, ℕ, List, ◌+◌, ◌-◌, ◌*◌, ◌/◌, ◌%◌, ◌^◌, ◌<◌, ◌≤◌, ◌⊎◌, Option, length, slice_index};
-ghost use Rattle.mlt_page.specs.declared.page.Page.{Page};
-ghost use Rattle.mlt_hash_form.specs.File.{buckets_of, depth_of, dirs_of, entry};
+ghost use Rattle.std.specs.Prelude.{◌≡◌, ℕ, List, ◌+◌, ◌-◌, ◌*◌, ◌/◌, ◌%◌, ◌^◌, ◌<◌, ◌≤◌, ◌⊎◌, length, slice_index};
+ghost use Rattle.mlt_hash_form.specs.File.{FilePages, buckets_of, depth_of, dirs_of, entry};
 ghost use Rattle.mlt_hash_form.specs.Changes.{MaySplit};
-ghost use Rattle.mlt_hash_form.specs.Splits.{prefix_of, run_length, run_start, target_of};
+ghost use Rattle.mlt_hash_form.specs.Splits.{HasEntries, prefix_of, run_length, run_start, target_of};
 
 use crate::place::NewPlaces;
 use mlt_page::DirPage;
@@ -15,7 +14,8 @@ use mlt_types::PageNo;
 pub fn doubled_page(old: &DirPage, at: usize, place: u64, bucket: PageNo) -> DirPage
     requires { at < 256 }
     ensures size { length result ≡ 256 }
-    ensures others { (r : ℕ) → r < 256 → (256 * at + r ≡ place → ⊥) → slice_index result r ≡ slice_index old.now (128 * (at % 2) + r / 2) }
+    ensures others { (r : ℕ) → r < 256 → (256 * at + r ≡ place → ⊥)
+        → slice_index result r ≡ slice_index old.now (128 * (at % 2) + r / 2) }
     ensures here { (r : ℕ) → r < 256 → 256 * at + r ≡ place → slice_index result r ≡ bucket }
 {
     let mut page = if at % 2 == 0 {
@@ -35,8 +35,12 @@ pub fn page_with_new_places(old: &DirPage, at: usize, places: NewPlaces, bucket:
     requires at { at < 256 }
     requires places { places.first + places.count ≤ 65536 }
     ensures size { length result ≡ 256 }
-    ensures inside { (r : ℕ) → r < 256 → places.first ≤ 256 * at + r → 256 * at + r < places.first + places.count → slice_index result r ≡ bucket }
-    ensures outside { (r : ℕ) → r < 256 → (256 * at + r < places.first) ⊎ (places.first + places.count ≤ 256 * at + r) → slice_index result r ≡ slice_index old.now r }
+    ensures inside { (r : ℕ) → r < 256
+        → places.first ≤ 256 * at + r → 256 * at + r < places.first + places.count
+        → slice_index result r ≡ bucket }
+    ensures outside { (r : ℕ) → r < 256
+        → (256 * at + r < places.first) ⊎ (places.first + places.count ≤ 256 * at + r)
+        → slice_index result r ≡ slice_index old.now r }
 {
     let start = 256 * at as u64;
     let from = places.first.clamp(start, start + 256);
@@ -48,33 +52,39 @@ pub fn page_with_new_places(old: &DirPage, at: usize, places: NewPlaces, bucket:
 
 /// A page that is made by doubling is as the split wants it, where the bucket is as deep as the directory.
 pub fn doubled_page_is_right()
-    ensures { (base : ℕ → Option Page) (root n new x j : ℕ) (old made : List ℕ)
-        → (buckets_of base n).depth ≡ depth_of base root
-        → ((r : ℕ) → r < 256 → slice_index old r ≡ entry base (dirs_of base root) (256 * (j / 2) + r))
-        → ((r : ℕ) → r < 256 → (256 * j + r ≡ prefix_of base n x → ⊥) → slice_index made r ≡ slice_index old (128 * (j % 2) + r / 2))
-        → ((r : ℕ) → r < 256 → 256 * j + r ≡ prefix_of base n x → slice_index made r ≡ new)
-        → (r : ℕ) → r < 256 → slice_index made r ≡ target_of base root n new x (depth_of base root + 1) (256 * j + r) }
+    ensures { (pages : FilePages) (root n new x j : ℕ) (old made : List ℕ)
+        → (buckets_of pages n).depth ≡ depth_of pages root
+        → HasEntries old (j / 2) (entry pages (dirs_of pages root))
+        → ((r : ℕ) → r < 256 → (256 * j + r ≡ prefix_of pages n x → ⊥)
+        → slice_index made r ≡ slice_index old (128 * (j % 2) + r / 2))
+        → ((r : ℕ) → r < 256 → 256 * j + r ≡ prefix_of pages n x → slice_index made r ≡ new)
+        → HasEntries made j (target_of pages root n new x (depth_of pages root + 1)) }
 {}
 
 /// A page with the new bucket at its places is as the split wants it, where the directory keeps its depth.
 pub fn page_with_new_places_is_right()
-    ensures { (bits : ℕ → ℕ) (base : ℕ → Option Page) (root n new x j : ℕ) (old made : List ℕ)
-        → MaySplit bits base root x n new
-        → ((r : ℕ) → r < 256 → slice_index old r ≡ entry base (dirs_of base root) (256 * j + r))
-        → ((r : ℕ) → r < 256 → run_start base root n x ≤ 256 * j + r → 256 * j + r < run_start base root n x + run_length base root n → slice_index made r ≡ new)
-        → ((r : ℕ) → r < 256 → (256 * j + r < run_start base root n x) ⊎ (run_start base root n x + run_length base root n ≤ 256 * j + r) → slice_index made r ≡ slice_index old r)
-        → (r : ℕ) → r < 256 → slice_index made r ≡ target_of base root n new x (depth_of base root) (256 * j + r) }
+    ensures { (bits : ℕ → ℕ) (pages : FilePages) (root n new x j : ℕ) (old made : List ℕ)
+        → let first = run_start pages root n x in let end = first + run_length pages root n in
+        MaySplit bits pages root x n new → HasEntries old j (entry pages (dirs_of pages root))
+        → ((r : ℕ) → r < 256 → first ≤ 256 * j + r → 256 * j + r < end → slice_index made r ≡ new)
+        → ((r : ℕ) → r < 256 → (256 * j + r < first) ⊎ (end ≤ 256 * j + r)
+        → slice_index made r ≡ slice_index old r)
+        → HasEntries made j (target_of pages root n new x (depth_of pages root)) }
 {}
 
 /// The places of a new bucket lie on one page, where the directory is at most 9 deeper than the bucket was.
 pub fn new_places_on_one_page()
-    ensures { (base : ℕ → Option Page) (root n x : ℕ) → depth_of base root ≤ (buckets_of base n).depth + 9
-        → run_start base root n x + run_length base root n ≤ 256 * (run_start base root n x / 256 + 1) }
+    ensures { (pages : FilePages) (root n x : ℕ)
+        → depth_of pages root ≤ (buckets_of pages n).depth + 9
+        → let first = run_start pages root n x in
+        first + run_length pages root n ≤ 256 * (first / 256 + 1) }
 {}
 
 /// Else they are all places of `2^(g-l-9)` whole pages.
 pub fn new_places_on_whole_pages()
-    ensures { (base : ℕ → Option Page) (root n x : ℕ) → (buckets_of base n).depth + 9 ≤ depth_of base root
-        → (run_start base root n x ≡ 256 * (prefix_of base n x * 2 ^ (depth_of base root - ((buckets_of base n).depth + 9))))
-        × (run_length base root n ≡ 256 * 2 ^ (depth_of base root - ((buckets_of base n).depth + 9))) }
+    ensures { (pages : FilePages) (root n x : ℕ)
+        → (buckets_of pages n).depth + 9 ≤ depth_of pages root
+        → let count = 2 ^ (depth_of pages root - ((buckets_of pages n).depth + 9)) in
+        (run_start pages root n x ≡ 256 * (prefix_of pages n x * count))
+        × (run_length pages root n ≡ 256 * count) }
 {}

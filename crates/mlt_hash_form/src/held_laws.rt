@@ -10,19 +10,20 @@ ghost use Rattle.mlt_page.specs.declared.page.Page.{Page};
 ghost use Rattle.mlt_page.specs.declared.slot.Slot.{Slot};
 ghost use Rattle.mlt_page.specs.declared.slot.Slot.TheVariants.{Free};
 ghost use Rattle.mlt_hash_form.specs.Changes.{ChangesRecord, IsSplit};
-ghost use Rattle.mlt_hash_form.specs.File.{HasForm, Writes, bucket_of, buckets_of, look_up};
+ghost use Rattle.mlt_hash_form.specs.File.{FilePages, HasForm, Writes, bucket_of, buckets_of, look_up};
 ghost use Rattle.mlt_hash_form.specs.Form.{slot_at};
-ghost use Rattle.mlt_hash_form.specs.Held.{Agrees, ChangesFile, KeepsFile, over};
+ghost use Rattle.mlt_hash_form.specs.Held.{Agrees, ChangesFile, KeepsFile, SeenPages, over};
 
 /// A walk that wrote nothing keeps the file.
 pub fn walk_without_writes_keeps_the_file()
-    ensures { (bits : ℕ → ℕ) (opens : set.FinSet nat_cmp) (root : ℕ) (seen : ℕ → Option (Option Page))
+    ensures { (bits : ℕ → ℕ) (opens : set.FinSet nat_cmp) (root : ℕ) (seen : SeenPages)
         → KeepsFile bits opens root seen (λ _. None) }
 {}
 
 /// A walk that holds a further page still keeps the file.
 pub fn further_page_keeps_the_file()
-    ensures { (bits : ℕ → ℕ) (opens : set.FinSet nat_cmp) (root : ℕ) (seen more : ℕ → Option (Option Page)) (own : ℕ → Option Page)
+    ensures { (bits : ℕ → ℕ) (opens : set.FinSet nat_cmp) (root : ℕ) (seen more : SeenPages)
+        (own : FilePages)
         → ((n : ℕ) (p : Option Page) → seen n ≡ Some p → more n ≡ Some p)
         → KeepsFile bits opens root seen own → KeepsFile bits opens root more own }
 {}
@@ -30,27 +31,33 @@ pub fn further_page_keeps_the_file()
 /// Owners may close, and others begin, while the walk runs: it keeps the file for those who are open now, if each
 /// slot of a held page whose room they keep had its room kept for those who were open before.
 pub fn fewer_open_owners_keep_the_file()
-    ensures { (bits : ℕ → ℕ) (opens fewer : set.FinSet nat_cmp) (root : ℕ) (seen : ℕ → Option (Option Page)) (own : ℕ → Option Page)
-        → ((n : ℕ) (p : Option Page) → seen n ≡ Some p → (i : ℕ)
-        → is_kept fewer (slice_index_or (bucket_of p).slots i Free) ≡ true → is_kept opens (slice_index_or (bucket_of p).slots i Free) ≡ true)
+    ensures { (bits : ℕ → ℕ) (opens fewer : set.FinSet nat_cmp) (root : ℕ) (seen : SeenPages)
+        (own : FilePages)
+        → ((n : ℕ) (p : Option Page) → seen n ≡ Some p
+        → (i : ℕ) → let slot = slice_index_or (bucket_of p).slots i Free in
+        is_kept fewer slot ≡ true → is_kept opens slot ≡ true)
         → KeepsFile bits opens root seen own → KeepsFile bits fewer root seen own }
 {}
 
 /// A split of what is written keeps the file, if the walk holds the bucket's page, and the split keeps each slot of
 /// the bucket whose room is kept. The walk may have made the page itself, in an earlier split.
 pub fn split_keeps_the_file()
-    ensures { (bits : ℕ → ℕ) (opens splitters : set.FinSet nat_cmp) (root n new : ℕ) (seen : ℕ → Option (Option Page)) (own own' : ℕ → Option Page)
+    ensures { (bits : ℕ → ℕ) (opens splitters : set.FinSet nat_cmp) (root n new : ℕ)
+        (seen : SeenPages) (own own' : FilePages)
         → KeepsFile bits opens root seen own
         → is_some (seen n) ≡ true
-        → ((clean : ℕ → Option Page) → Agrees seen clean → HasForm bits clean root → HasForm bits (over clean own) root
+        → ((clean : FilePages) → Agrees seen clean → HasForm bits clean root
+        → HasForm bits (over clean own) root
         → IsSplit bits splitters (over clean own) (over clean own') root n new
-        × ((i : ℕ) → is_kept opens (slot_at (buckets_of (over clean own)) n i) ≡ true → is_kept splitters (slot_at (buckets_of (over clean own)) n i) ≡ true))
+        × ((i : ℕ) → let slot = slot_at (buckets_of (over clean own)) n i in
+        is_kept opens slot ≡ true → is_kept splitters slot ≡ true))
         → KeepsFile bits opens root seen own' }
 {}
 
 /// A file that is kept has the values that it had.
 pub fn kept_file_has_its_values()
-    ensures { (bits : ℕ → ℕ) (opens : set.FinSet nat_cmp) (root : ℕ) (seen : ℕ → Option (Option Page)) (own clean : ℕ → Option Page)
+    ensures { (bits : ℕ → ℕ) (opens : set.FinSet nat_cmp) (root : ℕ) (seen : SeenPages)
+        (own clean : FilePages)
         → KeepsFile bits opens root seen own
         → Agrees seen clean → HasForm bits clean root
         → (key : ℕ) → look_up bits (over clean own) root key ≡ look_up bits clean root key }
@@ -58,42 +65,50 @@ pub fn kept_file_has_its_values()
 
 /// A change of one record in what is written, at the end of a walk that kept the file, changes the file.
 pub fn change_of_a_kept_file()
-    ensures { (bits : ℕ → ℕ) (opens : set.FinSet nat_cmp) (root key n i : ℕ) (value : Option ℕ) (after : Slot) (seen : ℕ → Option (Option Page)) (rest own : ℕ → Option Page)
+    ensures { (bits : ℕ → ℕ) (opens : set.FinSet nat_cmp) (root key n i : ℕ) (value : Option ℕ)
+        (after : Slot) (seen : SeenPages) (rest own : FilePages)
         → KeepsFile bits opens root seen rest
-        → ((clean : ℕ → Option Page) → Agrees seen clean → HasForm bits clean root → HasForm bits (over clean rest) root
+        → ((clean : FilePages) → Agrees seen clean → HasForm bits clean root
+        → HasForm bits (over clean rest) root
         → ChangesRecord bits (over clean rest) (over clean own) root key value n i after)
         → ChangesFile bits opens root seen rest own key value n i after }
 {}
 
 /// A file that is changed has its form, the new value at the key, and at each other key the value that it had.
 pub fn changed_file_has_its_values()
-    ensures { (bits : ℕ → ℕ) (opens : set.FinSet nat_cmp) (root key n i : ℕ) (value : Option ℕ) (after : Slot) (seen : ℕ → Option (Option Page)) (rest own clean : ℕ → Option Page)
+    ensures { (bits : ℕ → ℕ) (opens : set.FinSet nat_cmp) (root key n i : ℕ) (value : Option ℕ)
+        (after : Slot) (seen : SeenPages) (rest own clean : FilePages)
         → ChangesFile bits opens root seen rest own key value n i after
         → Agrees seen clean → HasForm bits clean root
         → HasForm bits (over clean own) root
         × (look_up bits (over clean own) root key ≡ value)
-        × ((k : ℕ) → (k ≡ key → ⊥) → look_up bits (over clean own) root k ≡ look_up bits clean root k) }
+        × ((k : ℕ) → (k ≡ key → ⊥)
+        → look_up bits (over clean own) root k ≡ look_up bits clean root k) }
 {}
 
 /// Where another walk ends, its writes become clean: a walk that holds none of these pages saw what is there.
 pub fn end_of_another_walk()
-    ensures { (clean own : ℕ → Option Page) (seen : ℕ → Option (Option Page))
-        → ((n : ℕ) → (seen n ≡ None) ⊎ (own n ≡ None)) → Agrees seen clean → Agrees seen (over clean own) }
+    ensures { (clean own : FilePages) (seen : SeenPages)
+        → ((n : ℕ) → (seen n ≡ None) ⊎ (own n ≡ None))
+        → Agrees seen clean → Agrees seen (over clean own) }
 {}
 
 /// What a walk reads of a page that it holds is the same over all clean pages that agree with what it saw.
 pub fn held_page_reads_the_same()
-    ensures { (clean other own : ℕ → Option Page) (seen : ℕ → Option (Option Page)) (n : ℕ) (p : Option Page)
-        → seen n ≡ Some p → Agrees seen clean → Agrees seen other → over clean own n ≡ over other own n }
+    ensures { (clean other own : FilePages) (seen : SeenPages) (n : ℕ) (p : Option Page)
+        → seen n ≡ Some p → Agrees seen clean → Agrees seen other
+        → over clean own n ≡ over other own n }
 {}
 
 /// And what it writes is the same write over any of them.
 pub fn own_write_is_a_write()
-    ensures { (clean own own' : ℕ → Option Page) (n : ℕ) (p : Page)
-        → own' n ≡ Some p → ((m : ℕ) → (m ≡ n → ⊥) → own' m ≡ own m) → Writes (over clean own) (over clean own') n p }
+    ensures { (clean own own' : FilePages) (n : ℕ) (p : Page)
+        → own' n ≡ Some p → ((m : ℕ) → (m ≡ n → ⊥) → own' m ≡ own m)
+        → Writes (over clean own) (over clean own') n p }
 {}
 
 /// An insertion into a finite map of pages is a write.
 pub fn insertion_is_a_write()
-    ensures { (pages : map.FinMap nat_cmp Page) (n : ℕ) (p : Page) → Writes (map.get pages) (map.get (map.insert pages n p)) n p }
+    ensures { (pages : map.FinMap nat_cmp Page) (n : ℕ) (p : Page)
+        → Writes (map.get pages) (map.get (map.insert pages n p)) n p }
 {}

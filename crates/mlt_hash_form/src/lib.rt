@@ -33,8 +33,8 @@ pub use held_laws::{
 };
 pub use place::{NewPlaces, Place, first_bits};
 pub use record_laws::{
-    change_to_a_value_inserts, change_to_no_value_removes, look_up_is_the_map,
-    opening_file_has_the_empty_map, records_are_a_map, split_leaves_the_map,
+    change_to_a_value_inserts, change_to_no_value_removes, changed_file_changes_the_map,
+    look_up_is_the_map, opening_file_has_the_empty_map, records_are_a_map, split_leaves_the_map,
 };
 pub use room::{
     crowding_at_own_depth, crowding_in_fewer_bits, crowding_is_local, depth_with_room,

@@ -27,7 +27,8 @@ impl Place {
         requires { depth ≤ 16 }
         ensures dir { result.dir ≡ first_bits depth bits / 256 }
         ensures entry { result.entry ≡ first_bits depth bits % 256 }
-        ensures within { (result.dir < 256) × (result.dir < 2 ^ (depth - 8)) × (result.entry < 256) }
+        ensures within { (result.dir < 256) × (result.dir < 2 ^ (depth - 8))
+            × (result.entry < 256) }
     {
         let place = first_bits(bits, depth) as usize;
         Place {
@@ -51,7 +52,8 @@ impl NewPlaces {
     /// directory's, which is at most 16.
     pub fn of(bits: u64, bucket_depth: u8, depth: u8) -> NewPlaces
         requires { (bucket_depth < depth) × (depth ≤ 16) }
-        ensures first { result.first ≡ (2 * first_bits bucket_depth bits + 1) * 2 ^ (depth - (bucket_depth + 1)) }
+        ensures first { let prefix = 2 * first_bits bucket_depth bits + 1 in
+            result.first ≡ prefix * 2 ^ (depth - (bucket_depth + 1)) }
         ensures count { result.count ≡ 2 ^ (depth - (bucket_depth + 1)) }
         ensures within { result.first + result.count ≤ 2 ^ depth }
     {

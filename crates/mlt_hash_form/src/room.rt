@@ -7,18 +7,17 @@ ghost use Rattle.std.specs.FinSet as set;
 ghost use Rattle.mlt_page.specs.Slots.{half, is_kept};
 ghost use Rattle.mlt_page.specs.declared.slot.Slot.{Slot};
 ghost use Rattle.mlt_page.specs.declared.slot.Slot.TheVariants.{Free};
-ghost use Rattle.mlt_page.specs.declared.page.Page.{Page};
-ghost use Rattle.mlt_hash_form.specs.File.{HasForm, buckets_of, lead_of};
-ghost use Rattle.mlt_hash_form.specs.Room.{IsCrowded, agrees, is_crowded};
+ghost use Rattle.mlt_hash_form.specs.File.{FilePages, GivesPseudokeys, HasForm, buckets_of, lead_of};
+ghost use Rattle.mlt_hash_form.specs.Room.{IsCrowded, crowds, is_crowded};
 
 use crate::place::first_bits;
 use mlt_page::{Bucket, Slot};
 use mlt_types::{OpenSet, Pseudo};
 
 /// Whether the slot's room is taken by a key that agrees with a pseudokey in its first `depth` bits.
-fn agrees<P: Pseudo>(slot: &Slot, depth: u8, bits: u64, pseudo: &P, opens: &OpenSet) -> bool
+fn crowds<P: Pseudo>(slot: &Slot, depth: u8, bits: u64, pseudo: &P, opens: &OpenSet) -> bool
     requires { depth ≤ 64 }
-    ensures { result ≡ agrees (P.bits_of pseudo.now) opens.now depth bits slot.now }
+    ensures { result ≡ crowds (P.bits_of pseudo.now) opens.now depth bits slot.now }
 {
     match slot {
         Slot::Free => false,
@@ -42,7 +41,7 @@ pub fn is_crowded<P: Pseudo>(
     bucket
         .slots
         .iter()
-        .all(|slot| agrees(slot, depth, bits, pseudo, opens))
+        .all(|slot| crowds(slot, depth, bits, pseudo, opens))
 }
 
 /// The least depth, from the bucket's own up to `most`, at which a key of this pseudokey finds room, if there is one.
@@ -54,7 +53,8 @@ pub fn depth_with_room<P: Pseudo>(
     opens: &OpenSet,
 ) -> Option<u8>
     requires { most ≤ 16 }
-    ensures { let crowded = λ (d : ℕ). is_crowded (P.bits_of pseudo.now) opens.now d bits bucket.now.slots in
+    ensures { let bits_of = P.bits_of pseudo.now in
+        let crowded = λ (d : ℕ). is_crowded bits_of opens.now d bits bucket.now.slots in
         MatchOption result
         ((d : ℕ) → bucket.now.depth ≤ d → d ≤ most → crowded d ≡ true)
         (λ least. (bucket.now.depth ≤ least) × (least ≤ most) × (crowded least ≡ false)
@@ -71,10 +71,12 @@ pub fn depth_with_room<P: Pseudo>(
 /// Eight slots of the file agree with a pseudokey in some bits just where those of its bucket do: it is known there
 /// that no split makes room.
 pub fn crowding_is_local()
-    ensures { (bits : ℕ → ℕ) (opens : set.FinSet nat_cmp) (pages : ℕ → Option Page) (root depth x : ℕ)
-        → ((k : ℕ) → bits k < 2 ^ 64) → x < 2 ^ 64 → HasForm bits pages root
-        → (buckets_of pages (lead_of pages root x)).depth ≤ depth → depth ≤ 64
-        → IsCrowded bits opens (buckets_of pages) depth x ↔ (is_crowded bits opens depth x (buckets_of pages (lead_of pages root x)).slots ≡ true) }
+    ensures { (bits : ℕ → ℕ) (opens : set.FinSet nat_cmp) (pages : FilePages) (root depth x : ℕ)
+        → GivesPseudokeys bits → x < 2 ^ 64 → HasForm bits pages root
+        → let bucket = buckets_of pages (lead_of pages root x) in
+        bucket.depth ≤ depth → depth ≤ 64
+        → IsCrowded bits opens (buckets_of pages) depth x
+        ↔ (is_crowded bits opens depth x bucket.slots ≡ true) }
 {}
 
 /// What is crowded in some bits is so in fewer.
@@ -86,15 +88,17 @@ pub fn crowding_in_fewer_bits()
 
 /// A key's bucket is crowded at its own depth just where each of its slots is kept.
 pub fn crowding_at_own_depth()
-    ensures { (bits : ℕ → ℕ) (opens : set.FinSet nat_cmp) (pages : ℕ → Option Page) (root x : ℕ)
-        → ((k : ℕ) → bits k < 2 ^ 64) → x < 2 ^ 64 → HasForm bits pages root
-        → (is_crowded bits opens (buckets_of pages (lead_of pages root x)).depth x (buckets_of pages (lead_of pages root x)).slots ≡ true)
-        ↔ (list_all (is_kept opens) (buckets_of pages (lead_of pages root x)).slots ≡ true) }
+    ensures { (bits : ℕ → ℕ) (opens : set.FinSet nat_cmp) (pages : FilePages) (root x : ℕ)
+        → GivesPseudokeys bits → x < 2 ^ 64 → HasForm bits pages root
+        → let bucket = buckets_of pages (lead_of pages root x) in
+        (is_crowded bits opens bucket.depth x bucket.slots ≡ true)
+        ↔ (list_all (is_kept opens) bucket.slots ≡ true) }
 {}
 
 /// A half of a split bucket is crowded only where the bucket was: a split takes no room away.
 pub fn half_is_no_more_crowded()
-    ensures { (bits : ℕ → ℕ) (opens later : set.FinSet nat_cmp) (place bit depth x : ℕ) (slots : List Slot)
+    ensures { (bits : ℕ → ℕ) (opens later : set.FinSet nat_cmp) (place bit depth x : ℕ)
+        (slots : List Slot)
         → is_crowded bits later depth x (map (half bits opens place bit) slots) ≡ true
         → is_crowded bits later depth x slots ≡ true }
 {}
@@ -102,6 +106,7 @@ pub fn half_is_no_more_crowded()
 /// Slots of which fewer are kept, since owners of ghosts have closed, are crowded only where they were.
 pub fn fewer_kept_slots_are_no_more_crowded()
     ensures { (bits : ℕ → ℕ) (opens later : set.FinSet nat_cmp) (depth x : ℕ) (slots : List Slot)
-        → ((i : ℕ) → i < length slots → is_kept later (slice_index_or slots i Free) ≡ true → is_kept opens (slice_index_or slots i Free) ≡ true)
+        → ((i : ℕ) → i < length slots → let slot = slice_index_or slots i Free in
+        is_kept later slot ≡ true → is_kept opens slot ≡ true)
         → is_crowded bits later depth x slots ≡ true → is_crowded bits opens depth x slots ≡ true }
 {}

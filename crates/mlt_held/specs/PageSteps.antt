@@ -4,11 +4,15 @@ use Rattle.std.specs.FinMap as map
 use Rattle.mlt_types.specs.declared.mode.Mode.{Mode}
 use Rattle.mlt_types.specs.declared.mode.Mode.TheVariants.{Exclusive}
 use Rattle.mlt_page.specs.declared.page.Page.{Page}
+use Rattle.mlt_page.specs.declared.slot.Slot.{Slot}
+use Rattle.mlt_page.specs.Values.{BucketFields}
+use Rattle.mlt_page.specs.Pages.{page_with_slot}
 use Rattle.mlt_store.specs.Stores.{PageStore, page_at}
 use Rattle.mlt_page_locks.specs.LockTables.{can_write}
 use Rattle.mlt_page_locks.specs.Requests.{IsNobody, conflicts, granted}
 use Rattle.mlt_subtx.specs.Images.{with_image}
 use Rattle.mlt_held.specs.Moments.{IsCleanFor, MayStep, Moment}
+use Rattle.mlt_held.specs.Views.{ReadsHeldBucket, view_of}
 
 -- page q, which is there, is locked in this mode, against which nobody else's lock stands
 pub record LocksPage (old new : Moment) (q : ℕ) (mode : Mode) : Type 0 where
@@ -24,6 +28,10 @@ pub record WritesHeldPage (old new : Moment) (q : ℕ) (page : Page) : Type 0 wh
   pub locks : new.locks ≡ old.locks
   pub running : new.running ≡ record old.running { images = with_image old.running.images q (page_at old.store.pages q) }
   pub store : new.store ≡ record old.store { pages = map.insert old.store.pages q page }
+
+-- slot i of page q, a bucket that the transaction holds exclusively, is set to s; the first time its image is kept
+abbrev pub WritesHeldSlot : Moment → Moment → ℕ → ℕ → Slot → Type 0
+WritesHeldSlot old new q i s = (bucket : BucketFields) → ReadsHeldBucket (view_of old) q bucket → WritesHeldPage old new q (page_with_slot bucket i s)
 
 -- page q, which was not there, is made and locked
 pub record MakesLockedPage (old new : Moment) (q : ℕ) (page : Page) : Type 0 where

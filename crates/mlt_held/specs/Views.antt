@@ -3,6 +3,10 @@ use Rattle.std.specs.Prelude.{ℕ, ◌≡◌, cond, Option, None, Some}
 use Rattle.mlt_types.specs.declared.mode.Mode.{Mode}
 use Rattle.mlt_types.specs.declared.mode.Mode.TheVariants.{Exclusive}
 use Rattle.mlt_page.specs.declared.page.Page.{Page}
+use Rattle.mlt_page.specs.declared.page.Page.TheVariants as page
+use Rattle.mlt_page.specs.declared.slot.Slot.{Slot}
+use Rattle.mlt_page.specs.Values.{BucketFields}
+use Rattle.mlt_page.specs.Pages.{page_with_slot}
 use Rattle.mlt_store.specs.Stores.{page_at}
 use Rattle.mlt_page_locks.specs.LockTables.{Modes, can_read, pages_of}
 use Rattle.mlt_page_locks.specs.Requests.{with_page}
@@ -39,6 +43,10 @@ view_of m = record { modes = pages_of m.locks m.running.tx; seen = seen_at m; ow
 abbrev pub ReadsHeldPage : View → ℕ → Page → Type 0
 ReadsHeldPage view q page = (first : Option Page) × (view.seen q ≡ Some first) × (own_or (view.own q) first ≡ Some page)
 
+-- and as this bucket
+abbrev pub ReadsHeldBucket : View → ℕ → BucketFields → Type 0
+ReadsHeldBucket view q bucket = ReadsHeldPage view q (page.Bucket bucket)
+
 -- page q is locked in this mode and reads as this, on whatever clean pages agree with the view
 pub record ReadsPage (old new : View) (q : ℕ) (mode : Mode) (page : Option Page) : Type 0 where
   pub modes : new.modes ≡ with_page old.modes q mode
@@ -59,6 +67,10 @@ pub record WritesPage (old new : View) (q : ℕ) (page : Page) : Type 0 where
   pub seen : (p : ℕ) → new.seen p ≡ old.seen p
   pub here : new.own q ≡ Some page
   pub others : (p : ℕ) → (p ≡ q → ⊥) → new.own p ≡ old.own p
+
+-- slot i of page q, a bucket that was held, is set to s
+abbrev pub WritesSlot : View → View → ℕ → ℕ → Slot → Type 0
+WritesSlot old new q i s = (bucket : BucketFields) → ReadsHeldBucket old q bucket → WritesPage old new q (page_with_slot bucket i s)
 
 -- page q, which was not there, is made and held
 pub record MakesPage (old new : View) (q : ℕ) (page : Page) : Type 0 where

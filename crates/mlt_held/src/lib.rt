@@ -13,7 +13,7 @@ pub use clean_laws::{
     step_adds_one_page_at_most, step_leaves_clean_pages,
 };
 pub use locked_store::LockedStore;
-pub use pages::{lock, make_page, read_held, write_held};
+pub use pages::{lock, make_page, read_held, write_held, write_slot};
 pub use view_laws::{
     others_leave_the_view, others_leave_what_was_written, own_steps_see_more,
     view_agrees_with_clean_pages,

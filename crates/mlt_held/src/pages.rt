@@ -2,16 +2,17 @@
 
 ghost use Rattle.std.specs.Prelude.{◌≡◌, ◌<◌, ◌≤◌, ◌⊎◌, ◌↔◌, Err, IfErr, IfOk, None, OnErr, OnOk, Some, is_some, true};
 ghost use Rattle.std.specs.FinMap as map;
+ghost use Rattle.mlt_page.specs.Values.{BucketFields};
 ghost use Rattle.mlt_store.specs.Stores.{page_at};
 ghost use Rattle.mlt_page_locks.specs.LockTables.{can_read, can_write, page_count};
 ghost use Rattle.mlt_page_locks.specs.Requests.{IsLowest, conflicts};
 ghost use Rattle.mlt_subtx.specs.Images.{image_of};
 ghost use Rattle.mlt_held.specs.Moments.{MayStep, moment};
-ghost use Rattle.mlt_held.specs.PageSteps.{HasNoPageLeft, Leaves, LocksPage, MakesLockedPage, WritesHeldPage};
-ghost use Rattle.mlt_held.specs.Views.{MakesPage, ReadsHeldPage, SeesPage, WritesPage, view_of};
+ghost use Rattle.mlt_held.specs.PageSteps.{HasNoPageLeft, Leaves, LocksPage, MakesLockedPage, WritesHeldPage, WritesHeldSlot};
+ghost use Rattle.mlt_held.specs.Views.{MakesPage, ReadsHeldBucket, ReadsHeldPage, SeesPage, WritesPage, WritesSlot, view_of};
 
 use crate::locked_store::LockedStore;
-use mlt_page::Page;
+use mlt_page::{Page, Slot};
 use mlt_page_locks::Grant;
 use mlt_subtx::Subtx;
 use mlt_types::{Mode, PageNo, Refusal, TxId};
@@ -75,6 +76,36 @@ pub fn write_held(
     ensures refusal { IfErr result (λ refusal. refusal ≡ Refusal.OutOfMemory) }
 {
     subtx.write(&mut pages.store, number, page)
+}
+
+/// Sets one slot of a bucket that is held exclusively.
+///
+/// # Errors
+/// `OutOfMemory`, where the page is at least the third that is written and a growth was refused. Then nothing has
+/// changed.
+pub fn write_slot(
+    subtx: &mut Subtx,
+    pages: &mut LockedStore,
+    number: PageNo,
+    at: usize,
+    slot: Slot,
+) -> Result<(), Refusal>
+    requires may { MayStep (moment subtx.old pages.old) }
+    requires held { can_write pages.old.locks subtx.old.tx number ≡ true }
+    requires bucket { (bucket : BucketFields)
+        × ReadsHeldBucket (view_of (moment subtx.old pages.old)) number bucket }
+    requires at { at < 8 }
+    ensures writes { OnOk result
+        (WritesHeldSlot (moment subtx.old pages.old) (moment subtx.new pages.new) number at slot) }
+    ensures view { let old = view_of (moment subtx.old pages.old) in
+        OnOk result (WritesSlot old (view_of (moment subtx.new pages.new)) number at slot) }
+    ensures leaves { Leaves (moment subtx.old pages.old) (moment subtx.new pages.new) }
+    ensures err { OnErr result ((subtx.new ≡ subtx.old) × (pages.new ≡ pages.old)) }
+    ensures third { OnErr result
+        ((2 ≤ map.len subtx.old.images) × (image_of subtx.old.images number ≡ None)) }
+    ensures refusal { IfErr result (λ refusal. refusal ≡ Refusal.OutOfMemory) }
+{
+    subtx.write_slot(&mut pages.store, number, at, slot)
 }
 
 /// Makes a page and locks it exclusively.

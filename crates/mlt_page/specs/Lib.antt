@@ -1,3 +1,4 @@
 pub mod Bits
+pub mod Pages
 pub mod Slots
 pub mod Values

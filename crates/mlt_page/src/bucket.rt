@@ -1,11 +1,12 @@
 //! Buckets of eight slots.
 
-ghost use Rattle.std.specs.Prelude.{◌≡◌, ◌+◌, ◌<◌, IfSome, false, true, not, map, position, replicate, slice_index_or, slice_set};
+ghost use Rattle.std.specs.Prelude.{◌≡◌, ◌+◌, ◌<◌, IfSome, not, map, position, replicate};
 ghost use Rattle.mlt_page.specs.Slots.{half, is_ghost_of, is_kept, is_live_of};
-ghost use Rattle.mlt_page.specs.declared.slot.Slot.TheVariants.{Free, Live, Ghost};
+ghost use Rattle.mlt_page.specs.Values.{with_slot};
+ghost use Rattle.mlt_page.specs.declared.slot.Slot.TheVariants.{Free};
 
 use crate::slot::Slot;
-use mlt_types::{Key, OpenSet, Pseudo, TxId, Value};
+use mlt_types::{Key, OpenSet, Pseudo, TxId};
 use std::marker::Model;
 
 /// The slots of a bucket.
@@ -71,44 +72,12 @@ impl Bucket {
         self.slots.iter().position(|slot| !slot.is_kept(opens))
     }
 
-    /// Puts a record into slot `at`, which is free or has a ghost whose owner is not open. No other slot changes.
-    pub fn put(&mut self, at: usize, key: Key, value: Value, opens: &OpenSet)
+    /// Sets slot `at`. No other slot changes.
+    pub fn set_slot(&mut self, at: usize, slot: Slot)
         requires at { at < 8 }
-        requires room { is_kept opens.now (slice_index_or self.old.slots at Free) ≡ false }
-        ensures { self.new ≡ record self.old { slots = slice_set self.old.slots at (Live key value) } }
+        ensures set { self.new ≡ with_slot self.old at slot }
     {
-        prove!(!self.slots[at].is_kept(opens));
-        self.slots[at] = Slot::Live(key, value);
-    }
-
-    /// Gives the key's record in slot `at` another value. No other slot changes.
-    pub fn set_value(&mut self, at: usize, key: Key, value: Value)
-        requires at { at < 8 }
-        requires live { is_live_of key (slice_index_or self.old.slots at Free) ≡ true }
-        ensures { self.new ≡ record self.old { slots = slice_set self.old.slots at (Live key value) } }
-    {
-        let record = Slot::Live(key, value);
-        self.slots[at] = record;
-    }
-
-    /// Removes the key's record in slot `at`, and leaves a ghost of `owner` there, with value 0. No other slot
-    /// changes.
-    pub fn to_ghost(&mut self, at: usize, key: Key, owner: TxId)
-        requires at { at < 8 }
-        requires live { is_live_of key (slice_index_or self.old.slots at Free) ≡ true }
-        ensures { self.new ≡ record self.old { slots = slice_set self.old.slots at (Ghost key 0 owner) } }
-    {
-        self.slots[at] = Slot::Ghost(key, 0, owner);
-    }
-
-    /// Makes the ghost in slot `at`, which `owner` left of the key, a record again. No other slot changes.
-    pub fn revive(&mut self, at: usize, key: Key, owner: TxId, value: Value)
-        requires at { at < 8 }
-        requires ghost_of_owner { is_ghost_of key owner (slice_index_or self.old.slots at Free) ≡ true }
-        ensures { self.new ≡ record self.old { slots = slice_set self.old.slots at (Live key value) } }
-    {
-        prove!(self.slots[at].is_ghost_of(key, owner));
-        self.slots[at] = Slot::Live(key, value);
+        self.slots[at] = slot;
     }
 
     /// The two halves of a split by the bit behind the first `place` of pseudokeys: of the keys with 0 there,
@@ -116,8 +85,10 @@ impl Bucket {
     /// other slots of both are free.
     pub fn part<P: Pseudo>(&self, place: u8, pseudo: &P, opens: &OpenSet) -> (Bucket, Bucket)
         requires { place < 64 }
-        ensures zeros { result.0 ≡ record { depth = place + 1; slots = map (half (P.bits_of pseudo.now) opens.now place 0) self.now.slots } }
-        ensures ones { result.1 ≡ record { depth = place + 1; slots = map (half (P.bits_of pseudo.now) opens.now place 1) self.now.slots } }
+        ensures zeros { let zero = half (P.bits_of pseudo.now) opens.now place 0 in
+            result.0 ≡ record { depth = place + 1; slots = map zero self.now.slots } }
+        ensures ones { let one = half (P.bits_of pseudo.now) opens.now place 1 in
+            result.1 ≡ record { depth = place + 1; slots = map one self.now.slots } }
     {
         let mut zeros = [Slot::Free; SLOTS];
         let mut ones = [Slot::Free; SLOTS];

@@ -67,18 +67,14 @@ fn room_is_free_or_of_a_closed_owner(rt: HostRuntime) {
 
 #[test]
 fn one_slot_changes(rt: HostRuntime) {
-    let opens = open_set();
     let key = account(8);
     let mut bucket = Bucket::empty(3);
-    bucket.put(7, key, 20, &opens);
+    bucket.set_slot(7, Slot::Live(key, 20));
     assert_eq!(rt; bucket.slots[7], Slot::Live(key, 20));
     assert_eq!(rt; bucket.find_live(key), Some(7));
-    bucket.set_value(7, key, 21);
-    assert_eq!(rt; bucket.slots[7], Slot::Live(key, 21));
-    bucket.to_ghost(7, key, TxId(5));
+    bucket.set_slot(7, Slot::Ghost(key, 0, TxId(5)));
     assert_eq!(rt; bucket.slots[7], Slot::Ghost(key, 0, TxId(5)));
-    bucket.revive(7, key, TxId(5), 22);
-    assert_eq!(rt; bucket.slots[7], Slot::Live(key, 22));
+    assert_eq!(rt; bucket.find_ghost(key, TxId(5)), Some(7));
     assert_eq!(rt; bucket.depth, 3);
     assert!(rt; bucket.slots[..7] == [Slot::Free; 7]);
 }
@@ -106,8 +102,8 @@ fn halves_of_a_split(rt: HostRuntime) {
 #[test]
 fn the_last_bit_parts_too(rt: HostRuntime) {
     let mut bucket = Bucket::empty(15);
-    bucket.put(0, account(6), 1, &open_set());
-    bucket.put(1, account(7), 2, &open_set());
+    bucket.set_slot(0, Slot::Live(account(6), 1));
+    bucket.set_slot(1, Slot::Live(account(7), 2));
     let (zeros, ones) = bucket.part(15, &Low, &open_set());
     assert_eq!(rt; zeros.find_live(account(6)), Some(0));
     assert_eq!(rt; zeros.find_live(account(7)), None);

@@ -1,5 +1,5 @@
 -- What setting one slot does to the pairs of a bucket
-use Rattle.std.proofs.Common.{ℕ, ◌≡◌, ◌<◌, true, false, List, length, get_or, set, Option, Some, None, refl, sym, ◌∙◌, ap, arith, inl, inr}
+use Rattle.std.proofs.Common.{ℕ, ◌≡◌, ◌<◌, true, List, length, get_or, set, Option, Some, None, refl, sym, ◌∙◌, ap, inl, inr}
 use Rattle.std.specs.Prelude.{◌↔◌}
 use Rattle.std.specs.List.{position}
 use Rattle.mlt_record.proofs.Places.{nowhere}
@@ -7,7 +7,7 @@ use Rattle.std.specs.Ordering.{nat_cmp}
 use Rattle.std.specs.FinSet as fin
 use Rattle.std.proofs.lemmas.List.{get_or_past, get_or-set_same, get_or-set_other}
 use Rattle.std.proofs.lemmas.Bool.{both_ways, cases_lt, eq-eqb, cases_eq, eqb-true}
-use Rattle.mlt_page.specs.Slots.{is_ghost_of, is_kept, is_live_of}
+use Rattle.mlt_page.specs.Slots.{is_ghost_of, is_live_of}
 use Rattle.mlt_page.specs.declared.slot.Slot.{Slot}
 use Rattle.mlt_page.specs.declared.slot.Slot.TheVariants.{Free, Live, Ghost}
 use Rattle.mlt_record.specs.Pairs.{HasOnePair, IsPair, SetsPair}
@@ -24,10 +24,6 @@ room_is_dead : (opens : fin.FinSet nat_cmp) (s : Slot) → has_room opens s ≡ 
 room_is_dead opens Free h k v e = cc
 room_is_dead opens (Live own w) h k v e = cc
 room_is_dead opens (Ghost own w owner) h k v e = cc
-
--- such a slot is not kept
-pub not_kept : (opens : fin.FinSet nat_cmp) (s : Slot) → has_room opens s ≡ true → is_kept opens s ≡ false
-not_kept opens s h = grind (arith, h)
 
 ghost_is_dead : (key owner : ℕ) (s : Slot) → is_ghost_of key owner s ≡ true → (k v : ℕ) → s ≡ Live k v → ⊥
 ghost_is_dead key owner Free h k v e = cc

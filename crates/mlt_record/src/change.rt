@@ -6,8 +6,8 @@ ghost use Rattle.mlt_page.specs.declared.slot.Slot.TheVariants.{Live, Ghost};
 ghost use Rattle.mlt_record.specs.Plans.{IsNowhere, SetsFirst, has_room, slots_written};
 ghost use Rattle.mlt_record.specs.Pairs.{HasOnePair, SetsPair};
 
-use crate::page_write::PageWrite;
-use mlt_page::{Bucket, Page};
+use crate::slot_write::SlotWrite;
+use mlt_page::{Bucket, Slot};
 use mlt_types::{Key, OpenSet, PageNo, TxId, Value};
 
 /// Puts the record of a key that has none into the lowest slot with room: one that is free, or has a ghost whose
@@ -18,47 +18,45 @@ pub fn insert(
     key: Key,
     value: Value,
     opens: &OpenSet,
-) -> Option<PageWrite>
+) -> Option<SlotWrite>
     requires { position (is_live_of key) bucket.now.slots ≡ None }
     ensures plan { MatchOption result (IsNowhere (has_room opens.now) bucket.now.slots) (SetsFirst number bucket.now (has_room opens.now) (Live key value)) }
-    ensures pairs { IfSome result (λ write. SetsPair bucket.now.slots (slots_written write) key (Some value)) }
+    ensures pairs { IfSome result (λ write. SetsPair bucket.now.slots (slots_written bucket.now.slots write) key (Some value)) }
 {
     let at = bucket.room(opens)?;
-    let mut after = *bucket;
-    after.put(at, key, value, opens);
-    Some(PageWrite {
+    Some(SlotWrite {
         number,
-        page: Page::Bucket(after),
+        at,
+        slot: Slot::Live(key, value),
     })
 }
 
 /// Gives a key's record another value. There is no plan exactly where the key has no record here. `number` is the
 /// bucket's page.
-pub fn update(number: PageNo, bucket: &Bucket, key: Key, value: Value) -> Option<PageWrite>
+pub fn update(number: PageNo, bucket: &Bucket, key: Key, value: Value) -> Option<SlotWrite>
     ensures plan { MatchOption result (IsNowhere (is_live_of key) bucket.now.slots) (SetsFirst number bucket.now (is_live_of key) (Live key value)) }
-    ensures pairs { HasOnePair bucket.now.slots key → IfSome result (λ write. SetsPair bucket.now.slots (slots_written write) key (Some value)) }
+    ensures pairs { HasOnePair bucket.now.slots key → IfSome result (λ write. SetsPair bucket.now.slots (slots_written bucket.now.slots write) key (Some value)) }
 {
     let at = bucket.find_live(key)?;
-    let mut after = *bucket;
-    after.set_value(at, key, value);
-    Some(PageWrite {
+    let record = Slot::Live(key, value);
+    Some(SlotWrite {
         number,
-        page: Page::Bucket(after),
+        at,
+        slot: record,
     })
 }
 
 /// Removes a key's record and leaves a ghost of `owner` in its slot, with value 0. There is no plan exactly where
 /// the key has no record here. `number` is the bucket's page.
-pub fn remove(number: PageNo, bucket: &Bucket, key: Key, owner: TxId) -> Option<PageWrite>
+pub fn remove(number: PageNo, bucket: &Bucket, key: Key, owner: TxId) -> Option<SlotWrite>
     ensures plan { MatchOption result (IsNowhere (is_live_of key) bucket.now.slots) (SetsFirst number bucket.now (is_live_of key) (Ghost key 0 owner)) }
-    ensures pairs { HasOnePair bucket.now.slots key → IfSome result (λ write. SetsPair bucket.now.slots (slots_written write) key None) }
+    ensures pairs { HasOnePair bucket.now.slots key → IfSome result (λ write. SetsPair bucket.now.slots (slots_written bucket.now.slots write) key None) }
 {
     let at = bucket.find_live(key)?;
-    let mut after = *bucket;
-    after.to_ghost(at, key, owner);
-    Some(PageWrite {
+    Some(SlotWrite {
         number,
-        page: Page::Bucket(after),
+        at,
+        slot: Slot::Ghost(key, 0, owner),
     })
 }
 
@@ -70,16 +68,15 @@ pub fn revive(
     key: Key,
     owner: TxId,
     value: Value,
-) -> Option<PageWrite>
+) -> Option<SlotWrite>
     requires { position (is_live_of key) bucket.now.slots ≡ None }
     ensures plan { MatchOption result (IsNowhere (is_ghost_of key owner) bucket.now.slots) (SetsFirst number bucket.now (is_ghost_of key owner) (Live key value)) }
-    ensures pairs { IfSome result (λ write. SetsPair bucket.now.slots (slots_written write) key (Some value)) }
+    ensures pairs { IfSome result (λ write. SetsPair bucket.now.slots (slots_written bucket.now.slots write) key (Some value)) }
 {
     let at = bucket.find_ghost(key, owner)?;
-    let mut after = *bucket;
-    after.revive(at, key, owner, value);
-    Some(PageWrite {
+    Some(SlotWrite {
         number,
-        page: Page::Bucket(after),
+        at,
+        slot: Slot::Live(key, value),
     })
 }

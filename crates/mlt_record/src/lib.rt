@@ -1,12 +1,12 @@
-//! Records in one bucket: each change is a plan of page writes, and says what it does to the bucket's live pairs.
+//! Records in one bucket: each change is a plan of slots to set, and says what it does to the bucket's live pairs.
 //! No call takes memory, and none writes: whoever holds the page does.
 #![tactic(auto)]
 
 mod change;
-mod page_write;
+mod slot_write;
 
 pub use change::{insert, remove, revive, update};
-pub use page_write::PageWrite;
+pub use slot_write::SlotWrite;
 
 #[cfg(test)]
 mod tests;

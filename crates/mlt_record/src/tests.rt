@@ -1,9 +1,7 @@
 //! Changes of a bucket made by hand.
 
-ghost use Rattle.std.specs.Prelude.{◌<◌};
-
-use crate::{PageWrite, insert, remove, revive, update};
-use mlt_page::{Bucket, Page, SLOTS, Slot};
+use crate::{SlotWrite, insert, remove, revive, update};
+use mlt_page::{Bucket, SLOTS, Slot};
 use mlt_types::{Cell, Key, OpenSet, PageNo, TxId};
 
 const PAGE: PageNo = PageNo(7);
@@ -47,15 +45,11 @@ fn some_bucket() -> Bucket {
     }
 }
 
-// The write of the bucket with another slot at a place.
-fn write_with(at: usize, slot: Slot) -> Option<PageWrite>
-    requires { at < 8 }
-{
-    let mut slots = some_slots();
-    slots[at] = slot;
-    Some(PageWrite {
+fn write_of(at: usize, slot: Slot) -> Option<SlotWrite> {
+    Some(SlotWrite {
         number: PAGE,
-        page: Page::Bucket(Bucket { depth: 2, slots }),
+        at,
+        slot,
     })
 }
 
@@ -66,10 +60,10 @@ fn an_insert_takes_the_lowest_room(rt: HostRuntime) {
     assert!(rt; bucket.find_live(key).is_none());
     let mut opens = open_set();
     let plan = insert(PAGE, &bucket, key, 20, &opens);
-    assert_eq!(rt; plan, write_with(3, Slot::Live(key, 20)));
+    assert_eq!(rt; plan, write_of(3, Slot::Live(key, 20)));
     add_open(&mut opens, TxId(6));
     let plan = insert(PAGE, &bucket, key, 20, &opens);
-    assert_eq!(rt; plan, write_with(4, Slot::Live(key, 20)));
+    assert_eq!(rt; plan, write_of(4, Slot::Live(key, 20)));
 }
 
 #[test]
@@ -88,7 +82,7 @@ fn a_full_bucket_has_no_room(rt: HostRuntime) {
 fn an_update_gives_another_value(rt: HostRuntime) {
     let bucket = some_bucket();
     let plan = update(PAGE, &bucket, account(4), 13);
-    assert_eq!(rt; plan, write_with(5, Slot::Live(account(4), 13)));
+    assert_eq!(rt; plan, write_of(5, Slot::Live(account(4), 13)));
     assert_eq!(rt; update(PAGE, &bucket, account(1), 13), None);
 }
 
@@ -96,7 +90,7 @@ fn an_update_gives_another_value(rt: HostRuntime) {
 fn a_removal_leaves_a_ghost(rt: HostRuntime) {
     let bucket = some_bucket();
     let plan = remove(PAGE, &bucket, account(0), TxId(5));
-    assert_eq!(rt; plan, write_with(0, Slot::Ghost(account(0), 0, TxId(5))));
+    assert_eq!(rt; plan, write_of(0, Slot::Ghost(account(0), 0, TxId(5))));
     assert_eq!(rt; remove(PAGE, &bucket, account(3), TxId(6)), None);
 }
 
@@ -106,6 +100,6 @@ fn a_ghost_of_the_owner_is_revived(rt: HostRuntime) {
     let key = account(2);
     assert!(rt; bucket.find_live(key).is_none());
     let plan = revive(PAGE, &bucket, key, TxId(5), 30);
-    assert_eq!(rt; plan, write_with(2, Slot::Live(key, 30)));
+    assert_eq!(rt; plan, write_of(2, Slot::Live(key, 30)));
     assert_eq!(rt; revive(PAGE, &bucket, key, TxId(6), 30), None);
 }

@@ -156,7 +156,8 @@ pub fn asking(keyword: Keyword, text: &[u8]) -> Option<(Asking, &[u8])>
     }
 }
 
-/// The operation at the front of a text, its amount a number, and the text behind it. Takes no memory.
+/// The operation at the front of a text, its amount a number, and a text of the words behind it. Takes no
+/// memory.
 #[tactic(auto, unfolding(crate::specs::Forms::op_at))]
 pub fn read_op(text: &[u8]) -> Option<(ObjOp, &[u8])>
     ensures { Reads result (op_at (words_of text.now)) }
@@ -192,7 +193,7 @@ fn reply(keyword: Keyword) -> Option<ObjReply>
     }
 }
 
-/// The reply at the front of a text, a word or `is v`, and the text behind it. Takes no memory.
+/// The reply at the front of a text, a word or `is v`, and a text of the words behind it. Takes no memory.
 #[tactic(auto, unfolding(crate::specs::Forms::reply_at, crate::specs::Forms::reply_after))]
 pub fn read_reply(text: &[u8]) -> Option<(ObjReply, &[u8])>
     ensures { Reads result (reply_at (words_of text.now)) }

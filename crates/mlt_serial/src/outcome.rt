@@ -57,7 +57,7 @@ pub enum End {
 #[derive(Debug, Drop)]
 pub struct Outcome {
     /// The client's number.
-    pub client: u16,
+    pub client: u32,
     /// The script's number within its client, from 1.
     pub number: u64,
     /// The transaction's number, 0 where none was begun.

@@ -85,7 +85,7 @@ fn run_alone(
     let mut done = Vec::new(alloc);
     let end = attempt(script, base, commits, &mut done)?;
     Ok(Outcome {
-        client: script.client(),
+        client: u32::from(script.client()),
         number,
         tx: 0,
         done: Transcript::new(done),

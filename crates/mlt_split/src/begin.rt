@@ -37,20 +37,30 @@ impl Split {
     ) -> Result<Split, Refusal>
         ghost room_depth: { ℕ }
         requires may { MayStep (moment subtx.old pages.old) }
-        requires file { HasCleanFile (P.bits_of root.now.pseudo) root.now.page (moment subtx.old pages.old) }
-        requires begins { MayBegin (aim_by P.bits_of root.now opens.now key subtx.old.tx room_depth) (view_of (moment subtx.old pages.old)) old }
-        ensures makes { IfOk result (λ split. (page : Page) × MakesLockedPage (moment subtx.old pages.old) (moment subtx.new pages.new) split.new_page page) }
+        requires file { HasCleanFile (P.bits_of root.now.pseudo) root.now.page
+            (moment subtx.old pages.old) }
+        requires begins { MayBegin (aim_by P.bits_of root.now opens.now key subtx.old.tx room_depth)
+            (view_of (moment subtx.old pages.old)) old }
+        ensures makes { IfOk result (λ split. (page : Page)
+            × MakesLockedPage (moment subtx.old pages.old) (moment subtx.new pages.new) split.new_page page) }
         ensures halves { IfOk result (λ split. (bucket : BucketFields)
             → held_page (view_of (moment subtx.old pages.old)) old ≡ Some (page.Bucket bucket)
             → HasHalves (aim_by P.bits_of root.now opens.now key subtx.old.tx room_depth)
-            pages.new.store.pages bucket split) }
-        ensures under_way { IfOk result (λ split. IsUnderWay (aim_by P.bits_of root.now opens.now key subtx.old.tx room_depth) (view_of (moment subtx.new pages.new)) split) }
-        ensures steps { IfOk result (λ split. steps_left split ≡ 1 + directory_steps split.depth split.directory_depth) }
-        ensures depths { IfOk result (λ split. (header : HeadFields) (bucket : BucketFields) → IsAtRest (aim_by P.bits_of root.now opens.now key subtx.old.tx room_depth) (view_of (moment subtx.old pages.old)) old header bucket → (split.depth ≡ bucket.depth) × (split.directory_depth ≡ header.depth)) }
+                pages.new.store.pages bucket split) }
+        ensures under_way { IfOk result (λ split.
+            IsUnderWay (aim_by P.bits_of root.now opens.now key subtx.old.tx room_depth)
+                (view_of (moment subtx.new pages.new)) split) }
+        ensures steps { IfOk result (λ split.
+            steps_left split ≡ 1 + directory_steps split.depth split.directory_depth) }
+        ensures depths { IfOk result (λ split. (header : HeadFields) (bucket : BucketFields)
+            → IsAtRest (aim_by P.bits_of root.now opens.now key subtx.old.tx room_depth)
+                (view_of (moment subtx.old pages.old)) old header bucket
+            → (split.depth ≡ bucket.depth) × (split.directory_depth ≡ header.depth)) }
         ensures leaves { Leaves (moment subtx.old pages.old) (moment subtx.new pages.new) }
         ensures err { OnErr result ((subtx.new ≡ subtx.old) × (pages.new ≡ pages.old)) }
         ensures no_room { (result ≡ Err Refusal.NoRoom) ↔ HasNoPageLeft pages.old.store }
-        ensures refusal { IfErr result (λ refusal. (refusal ≡ Refusal.NoRoom) ⊎ (refusal ≡ Refusal.OutOfMemory)) }
+        ensures refusal { IfErr result (λ refusal.
+            (refusal ≡ Refusal.NoRoom) ⊎ (refusal ≡ Refusal.OutOfMemory)) }
     {
         let Page::Head(header) = read_held(subtx, pages, root.page) else {
             unreachable!()

@@ -1,7 +1,7 @@
 -- The pages that the slots of a slab make: what is at a number, how many there are, and how a change of a slot
 -- changes them.
 use Prim.Native.Nat.{zero}
-use Rattle.std.proofs.Common.{◌≡◌, ℕ, suc, ◌<◌, ◌+◌, cond, List, [], ◌∷◌, Some, None, Option, get_or, length, is_some, refl, sym, ap, ◌∙◌, arith}
+use Rattle.std.proofs.Common.{◌≡◌, ℕ, suc, ◌<◌, ◌+◌, cond, List, [], ◌∷◌, Some, None, Option, get_or, length, is_some, refl, sym, ap, subst, ◌∙◌, arith}
 use Rattle.std.proofs.lemmas.Bool.{cases_eq}
 use Rattle.std.proofs.lemmas.List.Sums.{sum_by_from}
 use Rattle.std.proofs.lemmas.List.{get_or-set_same, get_or-set_other}
@@ -12,8 +12,12 @@ use Rattle.std.specs.FinMap as map
 use Rattle.std.specs.FinMap.{find}
 use Rattle.slab.specs.Slab.{Slab, Updates, entries_from, get, slab_len, with_value}
 use Rattle.mlt_page.specs.declared.page.Page.{Page}
+use Rattle.mlt_page.specs.declared.page.Page.TheVariants as page
+use Rattle.mlt_page.specs.declared.slot.Slot.{Slot}
+use Rattle.mlt_page.specs.Values.{BucketFields}
+use Rattle.mlt_page.specs.Pages.{page_with_slot}
 use Rattle.mlt_store.specs.Numbered.{pages_of}
-use Rattle.mlt_store.specs.Stores.{PageStore, Pages, page_at}
+use Rattle.mlt_store.specs.Stores.{PageStore, Pages, SetsSlot, page_at}
 
 below : (slots : List (Option Page)) (k q : ℕ) → q < k → find nat_cmp q (entries_from k slots) ≡ None
 below [] k q lt = refl
@@ -70,3 +74,20 @@ pub page_written : (slab : Slab Page) (max_pages key number : ℕ) (old page : P
 page_written slab max_pages key number old page seen is of_number there =
     let written = page_put slab (with_value slab key page) key page (write_updates slab key old page there) in
     λ i. record { pages = (written ∙ (λ j. map.insert (is j).pages (of_number j) page)) i; max_pages = (is i).max_pages }
+
+-- a page that was put at a number stands there
+pub page_inserted : (pages : Pages) (q : ℕ) (page : Page) → page_at (map.insert pages q page) q ≡ Some page
+page_inserted pages q page = grind (arith, unsigned_tied q q, map.get-insert nat_cmp_total pages q page q)
+
+same_page : {a b : Page} → ◌≡◌ {A = Option Page} (Some a) (Some b) → a ≡ b
+same_page e = cc
+
+-- and a slot that is set in a page that is there
+pub slot_set : (slab : Slab Page) (max_pages key number i : ℕ) (old now : Page) (s : Slot) (seen : PageStore)
+    → record { pages = pages_of slab; max_pages = max_pages } ≡ seen → key ≡ number → get slab key ≡ Some old
+    → ((bucket : BucketFields) → old ≡ page.Bucket bucket → now ≡ page_with_slot bucket i s)
+    → SetsSlot seen (record { pages = pages_of (with_value slab key now); max_pages = max_pages }) number i s
+slot_set slab max_pages key number i old now s seen is of_number there set bucket bucket_is =
+    let here : page_at seen.pages number ≡ Some old = subst (λ (t : PageStore). page_at t.pages number ≡ Some old) is (subst (λ n. page_at (pages_of slab) n ≡ Some old) of_number (page_in_slab slab key ∙ there)) in
+    page_written slab max_pages key number old now seen is of_number there
+    ∙ ap (λ p. record seen { pages = map.insert seen.pages number p }) (set bucket (same_page (sym here ∙ bucket_is)))

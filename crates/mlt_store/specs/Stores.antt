@@ -1,10 +1,14 @@
 -- What a contract sees of a store: its pages, by their numbers, and how many there may be.
-use Rattle.std.specs.Prelude.{ℕ, Option, refl}
+use Rattle.std.specs.Prelude.{ℕ, ◌≡◌, Option, Some, refl}
 use Rattle.std.specs.Ordering.{nat_cmp}
 use Rattle.std.specs.Coded.{Coded, code_by, coded×, coded_ℕ}
 use Rattle.std.specs.FinMap as map
 use Rattle.mlt_page.specs.declared.page.Page.{Page}
+use Rattle.mlt_page.specs.declared.page.Page.TheVariants as page
+use Rattle.mlt_page.specs.declared.slot.Slot.{Slot}
 use Rattle.mlt_page.specs.contracts.page.Page.{the_row}
+use Rattle.mlt_page.specs.Values.{BucketFields}
+use Rattle.mlt_page.specs.Pages.{page_with_slot}
 
 -- a finite map from page numbers to pages
 abbrev pub Pages : Type 0
@@ -22,3 +26,12 @@ pub record PageStore : Type 0 where
 abbrev pub coded_store : Coded PageStore
 coded_store =
     code_by (Pages × ℕ) (coded× (map.code coded_ℕ the_row.coded) coded_ℕ) (λ s. (s.pages, s.max_pages)) (λ p. record { pages = p.0; max_pages = p.1 }) (λ _. refl)
+
+-- the page of this number is a bucket
+abbrev pub HasBucketAt : Pages → ℕ → Type 0
+HasBucketAt pages number = (bucket : BucketFields) × (page_at pages number ≡ Some (page.Bucket bucket))
+
+-- the page of this number, which is a bucket, has slot i set to s, and nothing else changes
+abbrev pub SetsSlot : PageStore → PageStore → ℕ → ℕ → Slot → Type 0
+SetsSlot old new number i s = (bucket : BucketFields) → page_at old.pages number ≡ Some (page.Bucket bucket)
+    → new ≡ record old { pages = map.insert old.pages number (page_with_slot bucket i s) }

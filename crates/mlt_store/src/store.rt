@@ -1,10 +1,10 @@
 //! Pages by their numbers.
 
-ghost use Rattle.std.specs.Prelude.{◌≡◌, ◌≤◌, ◌⊎◌, ◌↔◌, Err, IfErr, IfOk, IsTrue, None, OnErr, false, option_copied, true};
+ghost use Rattle.std.specs.Prelude.{◌≡◌, ◌<◌, ◌≤◌, ◌⊎◌, ◌↔◌, Err, IfErr, IfOk, IsTrue, None, OnErr, false, option_copied, true};
 ghost use Rattle.std.specs.FinMap as map;
-ghost use Rattle.mlt_store.specs.Stores.{page_at};
+ghost use Rattle.mlt_store.specs.Stores.{HasBucketAt, SetsSlot, page_at};
 
-use mlt_page::Page;
+use mlt_page::{Page, Slot};
 use mlt_types::{Limits, PageNo, Refusal};
 use slab::Slab;
 use std::alloc::Global;
@@ -64,6 +64,18 @@ impl Store {
                 true
             }
             None => false,
+        }
+    }
+
+    /// Sets one slot of a bucket that is there. It copies no page.
+    pub fn set_slot(&mut self, number: PageNo, at: usize, slot: Slot)
+        requires bucket { HasBucketAt self.old.pages number }
+        requires at { at < 8 }
+        ensures set { SetsSlot self.old self.new number at slot }
+    {
+        match self.pages.get_mut(number.0 as usize) {
+            Some(page) => page.set_slot(at, slot),
+            None => unreachable!(),
         }
     }
 

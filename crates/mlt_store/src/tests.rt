@@ -1,8 +1,8 @@
 //! A store at its limit, and numbers of dropped pages.
 
 use crate::Store;
-use mlt_page::{Bucket, Page};
-use mlt_types::{Limits, PageNo, Refusal};
+use mlt_page::{Bucket, Page, SLOTS, Slot};
+use mlt_types::{Cell, Key, Limits, PageNo, Refusal};
 use std::test::Fail;
 
 fn empty(rt: &HostRuntime, max_pages: u32) -> Result<Store, Refusal> {
@@ -11,6 +11,17 @@ fn empty(rt: &HostRuntime, max_pages: u32) -> Result<Store, Refusal> {
 
 fn bucket(depth: u8) -> Page {
     Page::Bucket(Bucket::empty(depth))
+}
+
+fn record() -> Slot {
+    Slot::Live(Key::of(&Cell::Account(9)), 20)
+}
+
+// The bucket of depth 5 with a record in its last slot.
+fn with_record_behind() -> Page {
+    let mut slots = [Slot::Free; SLOTS];
+    slots[7] = record();
+    Page::Bucket(Bucket { depth: 5, slots })
 }
 
 #[test]
@@ -34,6 +45,15 @@ fn pages_are_read_as_written(rt: HostRuntime) -> Result<(), Fail> {
     assert!(rt; store.write(first, bucket(7)));
     assert!(rt; store.read(first).copied() == Some(bucket(7)));
     assert!(rt; store.read(second).copied() == Some(bucket(1)));
+    Ok(())
+}
+
+#[test]
+fn one_slot_is_set(rt: HostRuntime) -> Result<(), Fail> {
+    let mut store = empty(&rt, 3)?;
+    let page = store.grow(Page::Bucket(Bucket::empty(5)))?;
+    store.set_slot(page, 7, record());
+    assert!(rt; store.read(page).copied() == Some(with_record_behind()));
     Ok(())
 }
 

@@ -3,7 +3,7 @@
 ghost use Rattle.std.specs.Prelude.{◌≡◌, ◌≤◌, ◌<◌, ◌+◌, ◌==◌, ◌++◌, [], ◌∷◌, ◌⊎◌, ◌↔◌, ℕ, length, true, false, is_some, None, Some, Err, IfOk, IfErr, OnOk, OnErr, option_copied};
 ghost use Rattle.std.specs.FinMap as map;
 ghost use Rattle.mlt_types.specs.declared.mode.Mode.TheVariants.{Exclusive};
-ghost use Rattle.mlt_store.specs.Stores.{page_at};
+ghost use Rattle.mlt_store.specs.Stores.{HasBucketAt, SetsSlot, page_at};
 ghost use Rattle.mlt_page_locks.specs.LockTables.{AreCompatible};
 ghost use Rattle.mlt_page_locks.specs.Requests.{granted, released};
 ghost use Rattle.mlt_subtx.specs.Images.{image_of, with_image, put_back, AreThere, started};
@@ -12,7 +12,7 @@ ghost use Rattle.mlt_subtx.specs.Locking.{LocksPagesThere, HasRoomForOneMore};
 
 use crate::image::{Image, has_image};
 use crate::near_images::NearImages;
-use mlt_page::Page;
+use mlt_page::{Page, Slot};
 use mlt_page_locks::{Grant, PageLocks};
 use mlt_store::Store;
 use mlt_types::{Mode, PageNo, Refusal, TxId};
@@ -88,11 +88,37 @@ impl Subtx {
             ((2 ≤ map.len self.old.images) × (image_of self.old.images number ≡ None)) }
         ensures refusal { IfErr result (λ refusal. refusal ≡ Refusal.OutOfMemory) }
     {
-        if !self.has_image(number) {
-            let first = self.read(store, number).copied();
-            self.keep(number, first)?;
-        }
+        self.keep_first(store, number)?;
         store.write(number, page);
+        Ok(())
+    }
+
+    /// Sets one slot of a bucket that is there. The first time, the page is kept as it was; that is its only copy.
+    ///
+    /// # Errors
+    /// `OutOfMemory`, where the page is at least the third and a growth was refused. Then nothing has changed.
+    pub fn write_slot(
+        &mut self,
+        store: &mut Store,
+        number: PageNo,
+        at: usize,
+        slot: Slot,
+    ) -> Result<(), Refusal>
+        requires bucket { HasBucketAt store.old.pages number }
+        requires at { at < 8 }
+        ensures store { OnOk result (SetsSlot store.old store.new number at slot) }
+        ensures images { let first = page_at store.old.pages number in
+            let images = with_image self.old.images number first in
+            OnOk result (self.new ≡ record self.old { images = images }) }
+        ensures kept { OnOk result
+            (put_back self.new.images store.new.pages ≡ put_back self.old.images store.old.pages) }
+        ensures err { OnErr result ((self.new ≡ self.old) × (store.new ≡ store.old)) }
+        ensures third { OnErr result
+            ((2 ≤ map.len self.old.images) × (image_of self.old.images number ≡ None)) }
+        ensures refusal { IfErr result (λ refusal. refusal ≡ Refusal.OutOfMemory) }
+    {
+        self.keep_first(store, number)?;
+        store.set_slot(number, at, slot);
         Ok(())
     }
 
@@ -164,6 +190,23 @@ impl Subtx {
         ensures { result ≡ is_some (image_of self.now.images page) }
     {
         self.near.has(page) || has_image(&self.far, page)
+    }
+
+    // Keeps a page as it is, if it has no image yet.
+    fn keep_first(&mut self, store: &Store, number: PageNo) -> Result<(), Refusal>
+        ensures images { let first = page_at store.now.pages number in
+            let images = with_image self.old.images number first in
+            OnOk result (self.new ≡ record self.old { images = images }) }
+        ensures err { OnErr result (self.new ≡ self.old) }
+        ensures third { OnErr result
+            ((2 ≤ map.len self.old.images) × (image_of self.old.images number ≡ None)) }
+        ensures refusal { IfErr result (λ refusal. refusal ≡ Refusal.OutOfMemory) }
+    {
+        if !self.has_image(number) {
+            let first = self.read(store, number).copied();
+            self.keep(number, first)?;
+        }
+        Ok(())
     }
 
     // Keeps the first image of a page that has none.

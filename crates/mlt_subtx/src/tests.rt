@@ -6,10 +6,10 @@ ghost use Rattle.mlt_subtx.specs.Images.{AreThere};
 ghost use Rattle.mlt_subtx.specs.Locking.{LocksPagesThere};
 
 use crate::Subtx;
-use mlt_page::{Bucket, Page};
+use mlt_page::{Bucket, Page, Slot};
 use mlt_page_locks::PageLocks;
 use mlt_store::Store;
-use mlt_types::{Limits, Mode, PageNo, Refusal, TxId};
+use mlt_types::{Cell, Key, Limits, Mode, PageNo, Refusal, TxId};
 use std::process::Abort;
 use std::test::Fail;
 
@@ -105,6 +105,36 @@ fn writes_of_three_pages_rolled_back(rt: HostRuntime) -> Result<(), Fail> {
     assert_eq!(rt; store.len(), 3);
     assert!(rt; store.read(made).is_none());
     assert_eq!(rt; locks.mode_of(TxId(7), made), None);
+    Ok(())
+}
+
+fn set_last(
+    subtx: &mut Subtx,
+    store: &mut Store,
+    number: PageNo,
+    slot: Slot,
+) -> Result<(), Refusal> {
+    let Some(Page::Bucket(_)) = store.read(number) else {
+        return Err(Refusal::NoRoom);
+    };
+    subtx.write_slot(store, number, 7, slot)
+}
+
+fn last_of(store: &Store, number: PageNo) -> Slot {
+    match store.read(number) {
+        Some(Page::Bucket(bucket)) => bucket.slots[7],
+        _ => Slot::Free,
+    }
+}
+
+#[test]
+fn one_slot_is_written(rt: HostRuntime) -> Result<(), Fail> {
+    let (mut store, pages) = three_pages(&rt, 3)?;
+    let mut subtx = Subtx::start(rt.alloc(), TxId(7));
+    let key = Key::of(&Cell::Account(9));
+    set_last(&mut subtx, &mut store, pages[1], Slot::Live(key, 20))?;
+    assert!(rt; last_of(&store, pages[1]) == Slot::Live(key, 20));
+    assert!(rt; holds(&store, pages[0], 1) && holds(&store, pages[2], 3));
     Ok(())
 }
 

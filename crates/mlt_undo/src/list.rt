@@ -28,7 +28,8 @@ impl Model for UndoList {
 impl UndoList {
     /// The empty list. It takes no memory.
     pub fn new(alloc: Global) -> UndoList
-        ensures { result.entries ≡ [] }
+        ensures entries { result.entries ≡ [] }
+        ensures spare { result.spare ≡ 0 }
     {
         UndoList {
             done: Vec::new(alloc),

@@ -1,6 +1,5 @@
-use Rattle.mlt_ghosts.proofs.Changes.{addition_by_put}
+use Rattle.mlt_ghosts.proofs.Changes.{put_addition_law}
 use Rattle.mlt_ghosts.proofs.change_laws.addition_puts_a_record.Goals as goal
 
 pub returns : goal.returns
-returns c = λ bits opens undoing begun standing standing' pages pages' root key owner value n i bucket matches is_open unopposed home none no_own small.
-    addition_by_put bits opens undoing begun standing pages pages' root key n i bucket matches home small standing' owner is_open value unopposed none no_own
+returns c = put_addition_law

@@ -1,5 +1,5 @@
-use Rattle.mlt_ghosts.proofs.Transactions.{close}
+use Rattle.mlt_ghosts.proofs.Transactions.{close_law}
 use Rattle.mlt_ghosts.proofs.transaction_laws.close_frees_the_room.Goals as goal
 
 pub returns : goal.returns
-returns c = close
+returns c = close_law
