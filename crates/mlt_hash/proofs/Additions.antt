@@ -17,11 +17,11 @@ use Rattle.mlt_held.specs.Views.{View, view_of}
 use Rattle.mlt_record.specs.Plans.{IsNowhere, SetsFirst, WriteFields, has_room}
 use Rattle.mlt_hash.specs.Passes.{slot_after}
 use Rattle.mlt_hash.specs.Walks.{Basis, FoundBefore, Stands, StoodBefore, WalkFields}
-use Rattle.mlt_hash.specs.Changes.{HasOwnGhost, IsAtAbsent, IsFull, Makes, SeesBucket, TellsOfAddition, TellsOfChange, directory_depth_of, page_of}
+use Rattle.mlt_hash.specs.Changes.{HasOwnGhost, IsAtAbsent, IsFull, Makes, SeesBucket, TellsOfAddition, TellsOfChange, directory_depth_of, page_of, PlansSlot}
 use Rattle.mlt_hash.specs.declared.pass.Change.{Change}
 use Rattle.mlt_hash.specs.declared.pass.Change.TheVariants as change
 use Rattle.mlt_hash.specs.declared.answer.WalkAnswer.{WalkAnswer}
-use Rattle.mlt_hash.proofs.InPlace.{ReadsBucket, WritesPlan, absent_at, found_there, makes_change, may_write_bucket, no_live_slot, same_bucket, tells_change}
+use Rattle.mlt_hash.proofs.InPlace.{ReadsBucket, WritesPlan, absent_at, found_there, makes_change, may_write_bucket, plans_slot, no_live_slot, same_bucket, tells_change}
 
 -- where a search ends that finds nothing
 pub nowhere_found : (has : Slot → Bool) (slots : List Slot) (place : Option ℕ) → position has slots ≡ place → IsNowhere has slots → place ≡ None
@@ -67,6 +67,11 @@ ghost_has_plan basis walk view key owner fields ghost sees key_is own nowhere =
 pub absent_may_write : (basis : Basis) (walk : WalkFields) (old : Moment) (number : ℕ) (fields : BucketFields) (has : Slot → Bool) (s : Slot) (write : WriteFields) → IsAtAbsent walk.phase → Stands walk.phase basis walk (view_of old) → walk.mode ≡ Exclusive
     → number ≡ page_of walk.phase → SetsFirst number fields has s write → can_write old.locks old.running.tx write.number ≡ true
 absent_may_write basis walk old number fields has s write none stands = may_write_bucket basis walk old number (directory_depth_of walk.phase) None fields has s write (absent_at basis walk (view_of old) walk.phase none stands)
+
+-- Its plan is one of what it reads.
+pub absent_plans : (basis : Basis) (walk : WalkFields) (old : Moment) (number : ℕ) (fields : BucketFields) (has : Slot → Bool) (s : Slot) (write : WriteFields) → IsAtAbsent walk.phase → Stands walk.phase basis walk (view_of old) → SeesBucket walk (view_of old) fields
+    → number ≡ page_of walk.phase → SetsFirst number fields has s write → PlansSlot (view_of old) write
+absent_plans basis walk old number fields has s write none stands = plans_slot walk (view_of old) number fields has s write (absent_at basis walk (view_of old) walk.phase none stands).unwritten
 
 module _ (basis : Basis) (walk after : WalkFields) (old new : Moment) (number key : ℕ) (fields : BucketFields) (write : WriteFields) (result : WalkAnswer) (reads : ReadsBucket basis walk old number key fields) (none : IsAtAbsent walk.phase) where
   -- the plan of a walk whose key had no record is the change of it

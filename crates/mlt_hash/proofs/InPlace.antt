@@ -12,6 +12,7 @@ use Rattle.mlt_page.specs.declared.slot.Slot.{Slot}
 use Rattle.mlt_page.specs.declared.slot.Slot.TheVariants.{Free, Ghost, Live}
 use Rattle.mlt_page.specs.declared.page.Page.{Page}
 use Rattle.mlt_page.specs.declared.page.Page.TheVariants as page
+use Rattle.mlt_page.specs.Pages.{page_with_slot}
 use Rattle.mlt_page.specs.Values.{BucketFields}
 use Rattle.mlt_store.specs.Stores.{page_at}
 use Rattle.mlt_page_locks.specs.LockTables.{Modes, can_read, can_write}
@@ -28,13 +29,12 @@ use Rattle.mlt_hash_form.proofs.Lookup.{live_from_value, live_passes, within_fro
 use Rattle.mlt_hash_form.proofs.Paths.{path_home}
 use Rattle.mlt_hash_form.proofs.SingleChanges.{put_changes, revive_changes, set_value_changes, to_ghost_changes}
 use Rattle.mlt_held.specs.Moments.{MayStep, Moment}
-use Rattle.mlt_held.specs.PageSteps.{WritesHeldPage}
-use Rattle.mlt_held.specs.Views.{View, WritesPage, own_at, page_written, view_of}
+use Rattle.mlt_held.specs.Views.{ReadsHeldBucket, View, WritesPage, WritesSlot, own_at, page_written, view_of}
 use Rattle.mlt_held.proofs.Views.{may_write, mode_of_page, own_held}
 use Rattle.mlt_record.specs.Plans.{IsNowhere, SetsFirst, WriteFields}
 use Rattle.mlt_hash.specs.Passes.{bucket_mode, directory_held, slot_after, value_after}
 use Rattle.mlt_hash.specs.Walks.{Basis, FoundBefore, IsAtBucket, IsChanged, IsUnwritten, Stands, StoodBefore, WalkFields, dir_of}
-use Rattle.mlt_hash.specs.Changes.{IsAtAbsent, IsAtRecord, Makes, SeesBucket, TellsOfChange, WritesIfChanged, directory_depth_of, page_of}
+use Rattle.mlt_hash.specs.Changes.{IsAtAbsent, IsAtRecord, Makes, SeesBucket, TellsOfChange, WritesIfChanged, directory_depth_of, page_of, PlansSlot}
 use Rattle.mlt_hash.specs.declared.pass.Pass.{Pass}
 use Rattle.mlt_hash.specs.declared.pass.Pass.TheVariants as pass
 use Rattle.mlt_hash.specs.declared.pass.Phase.{Phase}
@@ -116,13 +116,9 @@ bucket_is_exclusive basis walk view bucket depth found stands exclusive =
     ∙ mode_of_page dirs bucket Exclusive
     ∙ ap Some (stronger_exclusive (map.get dirs bucket))
 
--- the page of a bucket with one slot changed
-abbrev pub changed_page : BucketFields → ℕ → Slot → Page
-changed_page fields i s = page.Bucket (record fields { slots = slice_set fields.slots i s })
-
 -- what a change of one slot of the key's bucket does to clean pages, by what stood in the slot
 pub changes_by : (basis : Basis) (pages pages' : ℕ → Option Page) (key n i : ℕ) (fields : BucketFields) (done : Change) → IsHome basis.bits pages basis.root key n fields → i < 8 → StoodBefore done basis key fields.slots (slice_index_or fields.slots i Free)
-    → Writes pages pages' n (changed_page fields i (slot_after done key basis.tx)) → ChangesRecord basis.bits pages pages' basis.root key (value_after done) n i (slot_after done key basis.tx)
+    → Writes pages pages' n (page_with_slot fields i (slot_after done key basis.tx)) → ChangesRecord basis.bits pages pages' basis.root key (value_after done) n i (slot_after done key basis.tx)
 changes_by basis pages pages' key n i fields (change.Put value) home within was writes = put_changes basis.bits basis.opens pages pages' basis.root key value n i fields home was.0 within was.2 writes
 changes_by basis pages pages' key n i fields (change.Revive value) home within was writes = revive_changes basis.bits pages pages' basis.root key basis.tx value n i fields home was.0 within was.1 writes
 changes_by basis pages pages' key n i fields (change.Set value) home within was writes = set_value_changes basis.bits pages pages' basis.root key value n i fields home within was writes
@@ -146,7 +142,7 @@ module _ (basis : Basis) (walk : WalkFields) (view : View) (n depth : ℕ) (foun
   seen_home clean agree form = path_home basis.bits clean basis.root walk.key stands.header stands.dir n fields bounded form (seen_path clean agree)
 
   -- one write of the bucket, with one slot changed, is a change of the file
-  module _ (new : View) (done : Change) (fits : FoundBefore done found) (i : ℕ) (within : i < 8) (was : StoodBefore done basis walk.key fields.slots (slice_index_or fields.slots i Free)) (writes : WritesPage view new n (changed_page fields i (slot_after done walk.key basis.tx))) where
+  module _ (new : View) (done : Change) (fits : FoundBefore done found) (i : ℕ) (within : i < 8) (was : StoodBefore done basis walk.key fields.slots (slice_index_or fields.slots i Free)) (writes : WritesPage view new n (page_with_slot fields i (slot_after done walk.key basis.tx))) where
     agreed_before : (clean : ℕ → Option Page) → Agrees new.seen clean → Agrees view.seen clean
     agreed_before clean agree q first is = agree q first (writes.seen q ∙ is)
 
@@ -155,7 +151,7 @@ module _ (basis : Basis) (walk : WalkFields) (view : View) (n depth : ℕ) (foun
       keeps = keeps_none basis.bits basis.opens basis.root new.seen;
       changes = λ clean agree form.
           changes_by basis clean (over clean new.own) walk.key n i fields done (seen_home clean (agreed_before clean agree) form) within was
-          (writes_over clean (λ _. None) new.own n (changed_page fields i (slot_after done walk.key basis.tx)) writes.here (λ q ne. writes.others q ne ∙ stands.unwritten q));
+          (writes_over clean (λ _. None) new.own n (page_with_slot fields i (slot_after done walk.key basis.tx)) writes.here (λ q ne. writes.others q ne ∙ stands.unwritten q));
     }
 
     not_header : basis.root ≡ n → ⊥
@@ -165,7 +161,7 @@ module _ (basis : Basis) (walk : WalkFields) (view : View) (n depth : ℕ) (foun
     is_changed = record {
       found = found;
       fits = fits;
-      passed = passed_as basis basis.opens walk (at.Changed n done) walk.split new found (passes_on basis walk view new (steps_by_write walk view new n (changed_page fields i (slot_after done walk.key basis.tx)) writes) found (passed_at_bucket basis walk view n depth found stands));
+      passed = passed_as basis basis.opens walk (at.Changed n done) walk.split new found (passes_on basis walk view new (steps_by_write walk view new n (page_with_slot fields i (slot_after done walk.key basis.tx)) writes) found (passed_at_bucket basis walk view n depth found stands));
       header = stands.header;
       head = λ k. own_or ((writes.others basis.root not_header ∙ stands.unwritten basis.root) k) (unwrap_or ((writes.seen basis.root ∙ stands.head) k) None);
       shallow = stands.shallow;
@@ -180,21 +176,38 @@ module _ (basis : Basis) (walk : WalkFields) (view : View) (n depth : ℕ) (foun
       changes = changes_file;
     }
 
+-- the plan of a walk at its bucket is one of the bucket that it reads
+plan_reads : (walk : WalkFields) (view : View) (number : ℕ) (fields : BucketFields) (has : Slot → Bool) (s : Slot) (write : WriteFields) → IsUnwritten view → SeesBucket walk view fields → number ≡ page_of walk.phase
+    → SetsFirst number fields has s write → ReadsHeldBucket view write.number fields
+plan_reads walk view number fields has s write unwritten sees here plan =
+    let on : write.number ≡ page_of walk.phase = ap (λ (w : WriteFields). w.number) plan.written ∙ here in
+    let reads : ReadsHeldBucket view (page_of walk.phase) fields = (Some (page.Bucket fields), sees.at, ap (λ own. own_or own (Some (page.Bucket fields))) (unwritten (page_of walk.phase))) in
+    subst (λ q. ReadsHeldBucket view q fields) (sym on) reads
+
+pub plans_slot : (walk : WalkFields) (view : View) (number : ℕ) (fields : BucketFields) (has : Slot → Bool) (s : Slot) (write : WriteFields) → IsUnwritten view → SeesBucket walk view fields → number ≡ page_of walk.phase
+    → SetsFirst number fields has s write → PlansSlot view write
+plans_slot walk view number fields has s write unwritten sees here plan = record {
+  bucket = fields;
+  reads = plan_reads walk view number fields has s write unwritten sees here plan;
+  within = subst (λ i. i < 8) (sym (ap (λ (w : WriteFields). w.at) plan.written)) plan.within;
+}
+
 -- **The planned write of a held bucket makes the change.**
 pub makes_change : (basis : Basis) (walk after : WalkFields) (old new : Moment) (number depth : ℕ) (found : Option ℕ) (fields : BucketFields) (done : Change) (has : Slot → Bool) (write : WriteFields)
     → ((k : ℕ) → basis.bits k < 2 ^ 64) → IsAtBucket basis walk (view_of old) (page_of walk.phase) depth found → SeesBucket walk (view_of old) fields
     → number ≡ page_of walk.phase → (plan : SetsFirst number fields has (slot_after done walk.key basis.tx) write)
     → FoundBefore done found → StoodBefore done basis walk.key fields.slots (slice_index_or fields.slots plan.slot Free)
-    → WritesPage (view_of old) (view_of new) write.number write.page
+    → WritesSlot (view_of old) (view_of new) write.number write.at write.slot
     → after ≡ record walk { phase = at.Changed write.number done }
     → Makes basis new walk after done
 makes_change basis walk after old new number depth found fields done has write bounded stands sees here plan fits was writes is =
     let n = page_of walk.phase in
-    let page = changed_page fields plan.slot (slot_after done walk.key basis.tx) in
+    let page = page_with_slot fields plan.slot (slot_after done walk.key basis.tx) in
     let on : write.number ≡ n = ap (λ (w : WriteFields). w.number) plan.written ∙ here in
-    let what : write.page ≡ page = ap (λ (w : WriteFields). w.page) plan.written in
+    let what : page_with_slot fields write.at write.slot ≡ page = ap (λ (w : WriteFields). page_with_slot fields w.at w.slot) plan.written in
+    let reads : ReadsHeldBucket (view_of old) write.number fields = plan_reads walk (view_of old) number fields has (slot_after done walk.key basis.tx) write stands.unwritten sees here plan in
     let now : after ≡ record walk { phase = at.Changed n done } = is ∙ ap (λ q. record walk { phase = at.Changed q done }) on in
-    let writes_here : WritesPage (view_of old) (view_of new) n page = subst (λ q. WritesPage (view_of old) (view_of new) q page) on (subst (λ p. WritesPage (view_of old) (view_of new) write.number p) what writes) in
+    let writes_here : WritesPage (view_of old) (view_of new) n page = subst (λ q. WritesPage (view_of old) (view_of new) q page) on (subst (λ p. WritesPage (view_of old) (view_of new) write.number p) what (writes fields reads)) in
     let changed = is_changed basis walk (view_of old) n depth found fields bounded stands sees.at (view_of new) done fits plan.slot plan.within was writes_here in
     record {
       same = record { key = ap (λ (w : WalkFields). w.key) now; mode = ap (λ (w : WalkFields). w.mode) now; pass = ap (λ (w : WalkFields). w.pass) now };
@@ -245,6 +258,13 @@ record_may_write basis walk old number fields has s write record_is stands =
     let bucket = record_at basis walk (view_of old) walk.phase record_is stands in
     may_write_bucket basis walk old number (directory_depth_of walk.phase) bucket.0 fields has s write bucket.1
 
+-- and its plan is one of what it reads.
+pub record_plans : (basis : Basis) (walk : WalkFields) (old : Moment) (number : ℕ) (fields : BucketFields) (has : Slot → Bool) (s : Slot) (write : WriteFields) → IsAtRecord walk.phase → Stands walk.phase basis walk (view_of old) → SeesBucket walk (view_of old) fields
+    → number ≡ page_of walk.phase → SetsFirst number fields has s write → PlansSlot (view_of old) write
+record_plans basis walk old number fields has s write record_is stands =
+    let bucket = record_at basis walk (view_of old) walk.phase record_is stands in
+    plans_slot walk (view_of old) number fields has s write bucket.1.unwritten
+
 -- what a walk at its bucket has read: the bucket, on this page, and which key it goes by
 pub record ReadsBucket (basis : Basis) (walk : WalkFields) (old : Moment) (number key : ℕ) (fields : BucketFields) : Type 0 where
   pub bounded : (k : ℕ) → basis.bits k < 2 ^ 64
@@ -255,16 +275,15 @@ pub record ReadsBucket (basis : Basis) (walk : WalkFields) (old : Moment) (numbe
 
 -- and that it has written its plan
 pub record WritesPlan (walk after : WalkFields) (old new : Moment) (write : WriteFields) (done : Change) (result : WalkAnswer) : Type 0 where
-  pub writes : WritesPage (view_of old) (view_of new) write.number write.page
+  pub writes : WritesSlot (view_of old) (view_of new) write.number write.at write.slot
   pub walk_is : after ≡ record walk { phase = at.Changed write.number done }
   pub answer_is : result ≡ answer.Changed
 
 -- a plan that was written is a write of its bucket
-pub plan_is_written : (old new : Moment) (q number : ℕ) (fields : BucketFields) (has : Slot → Bool) (s : Slot) (write : WriteFields) (told : WalkAnswer) → number ≡ q → SetsFirst number fields has s write → told ≡ answer.Changed
-    → WritesHeldPage old new write.number write.page → WritesIfChanged old new q told
-plan_is_written old new q number fields has s write told here plan changed writes =
-    let on : write.number ≡ q = ap (λ (w : WriteFields). w.number) plan.written ∙ here in
-    subst (λ (told : WalkAnswer). WritesIfChanged old new q told) (sym changed) (write.page, subst (λ (n : ℕ). WritesHeldPage old new n write.page) on writes)
+pub plan_is_written : (old new : Moment) (q number : ℕ) (fields : BucketFields) (has : Slot → Bool) (s : Slot) (write : WriteFields) (told : WalkAnswer) → number ≡ q → SetsFirst number fields has s write
+    → WritesIfChanged old new write.number told → WritesIfChanged old new q told
+plan_is_written old new q number fields has s write told here plan writes =
+    subst (λ (n : ℕ). WritesIfChanged old new n told) (ap (λ (w : WriteFields). w.number) plan.written ∙ here) writes
 
 module _ (basis : Basis) (walk after : WalkFields) (old new : Moment) (number key : ℕ) (fields : BucketFields) (write : WriteFields) (result : WalkAnswer) (reads : ReadsBucket basis walk old number key fields) where
   -- the plan of a walk whose key had a record is the change of it

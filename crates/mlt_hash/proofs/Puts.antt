@@ -1,5 +1,5 @@
 -- Additions whose bucket had no room: what a walk at rest knows of its file, and the record that it puts at last
-use Rattle.std.proofs.Common.{ℕ, suc, ◌≡◌, ◌<◌, ◌≤◌, ◌+◌, Bool, true, false, not, List, [], ◌∷◌, length, Option, Some, None, is_some, refl, sym, ◌∙◌, ap, subst, inl, inr, ◌⊎◌, arith}
+use Rattle.std.proofs.Common.{ℕ, suc, ◌≡◌, ◌<◌, ◌≤◌, ◌+◌, Bool, true, false, not, List, [], ◌∷◌, length, Option, Some, None, is_some, refl, sym, ◌∙◌, ap, subst, inl, inr, ◌⊎◌, arith, unwrap_or}
 use Rattle.std.specs.Prelude.{◌↔◌, slice_index_or, position, unwrap_or, Err, Result}
 use Rattle.std.specs.List.{list_all}
 use Rattle.std.specs.Ordering.{nat_cmp}
@@ -13,6 +13,7 @@ use Rattle.mlt_types.specs.declared.refusal.Refusal.TheVariants as refusal
 use Rattle.mlt_page.specs.Slots.{is_ghost_of, is_kept, is_live_of}
 use Rattle.mlt_page.specs.declared.slot.Slot.{Slot}
 use Rattle.mlt_page.specs.declared.slot.Slot.TheVariants.{Free, Live}
+use Rattle.mlt_page.specs.Pages.{page_with_slot}
 use Rattle.mlt_page.specs.Values.{BucketFields, HeadFields}
 use Rattle.mlt_page.specs.declared.page.Page.{Page}
 use Rattle.mlt_page.specs.declared.page.Page.TheVariants as page
@@ -23,11 +24,11 @@ use Rattle.mlt_hash_form.specs.Held.{Agrees, over, own_or}
 use Rattle.mlt_hash_form.specs.Room.{crowds, is_crowded}
 use Rattle.mlt_hash_form.proofs.Crowd.{crowded_at_own_depth, crowded_in_fewer}
 use Rattle.mlt_hash_form.proofs.HeldPages.{keeps_more}
-use Rattle.mlt_held.specs.Moments.{HasCleanFile, MayStep, Moment}
-use Rattle.mlt_held.specs.PageSteps.{MakesLockedPage, TouchesOnePage, WritesHeldPage}
-use Rattle.mlt_held.specs.Views.{MakesPage, View, WritesPage, view_of}
-use Rattle.mlt_page_locks.specs.LockTables.{can_write}
-use Rattle.mlt_held.proofs.Views.{make_makes, may_write, write_writes, writes_over_clean}
+use Rattle.mlt_held.specs.Moments.{HasCleanFile, MayStep, Moment, page_before}
+use Rattle.mlt_held.specs.PageSteps.{MakesLockedPage, TouchesOnePage, WritesHeldPage, WritesHeldSlot}
+use Rattle.mlt_held.specs.Views.{MakesPage, View, WritesPage, view_of, ReadsHeldBucket, ReadsHeldPage, own_at}
+use Rattle.mlt_page_locks.specs.LockTables.{can_write, can_read}
+use Rattle.mlt_held.proofs.Views.{make_makes, may_write, write_writes, writes_over_clean, may_read, seen_held}
 use Rattle.mlt_record.specs.Plans.{IsNowhere, SetsFirst, WriteFields, has_room}
 use Rattle.mlt_split.specs.Rests.{Aim, IsAtRest, held_page, seed_of}
 use Rattle.mlt_split.specs.Splits.{HasHalves, IsUnderWay, MayBegin, SplitFields, directory_steps, steps_left}
@@ -36,7 +37,7 @@ use Rattle.mlt_split.proofs.Closing.{HasClean}
 use Rattle.mlt_split.proofs.Few.{rest_holds_few}
 use Rattle.mlt_split.proofs.HeldPages.{not_made}
 use Rattle.mlt_hash.specs.Walks.{Basis, HasPassed, IsAdding, IsChanged, IsSplitting, IsStanding, Stands, WalkFields, aim_of}
-use Rattle.mlt_hash.specs.Changes.{Makes, page_of}
+use Rattle.mlt_hash.specs.Changes.{Makes, page_of, PlansSlot}
 use Rattle.mlt_hash.specs.Splitting.{BeginsSplit, HasToSplit, TellsOfAdding, TellsOfPut}
 use Rattle.mlt_hash.specs.declared.answer.WalkAnswer.{WalkAnswer}
 use Rattle.mlt_hash.specs.declared.answer.WalkAnswer.TheVariants as answer
@@ -46,7 +47,7 @@ use Rattle.mlt_hash.specs.declared.pass.Phase.{Phase}
 use Rattle.mlt_hash.specs.declared.pass.Phase.TheVariants as at
 use Rattle.mlt_hash.specs.declared.pass.Change.TheVariants as change
 use Rattle.mlt_hash.proofs.Additions.{nowhere_found}
-use Rattle.mlt_hash.proofs.InPlace.{changed_page, changes_by}
+use Rattle.mlt_hash.proofs.InPlace.{changes_by}
 use Rattle.mlt_hash.proofs.Passed.{passed_as, passes_on, steps_by_making, steps_by_write}
 use Rattle.mlt_hash.proofs.Splittings.{stays_exclusive_in_step}
 
@@ -66,7 +67,7 @@ rest_home aim view n header bucket rest clean agree form = record {
 
 -- **The record that is put into a bucket at rest changes the file at its key alone.**
 pub put_is_changed : (basis : Basis) (walk : WalkFields) (old new : View) (room_depth n : ℕ) (header : HeadFields) (fields : BucketFields) (value i : ℕ) → HasPassed basis walk old None → header.depth ≤ basis.max_depth → map.len old.modes < 300 → IsAtRest (aim_of basis walk room_depth) old n header fields → i < 8
-    → is_kept basis.opens (slice_index_or fields.slots i Free) ≡ false → WritesPage old new n (changed_page fields i (Live walk.key value)) → IsChanged basis (record walk { phase = at.Changed n (change.Put value) }) new n (change.Put value)
+    → is_kept basis.opens (slice_index_or fields.slots i Free) ≡ false → WritesPage old new n (page_with_slot fields i (Live walk.key value)) → IsChanged basis (record walk { phase = at.Changed n (change.Put value) }) new n (change.Put value)
 put_is_changed basis walk old new room_depth n header fields value i passed shallow few rest within room writes =
     let aim = aim_of basis walk room_depth in
     let absent = nowhere (is_live_of walk.key) fields.slots rest.absent in
@@ -77,7 +78,7 @@ put_is_changed basis walk old new room_depth n header fields value i passed shal
     record {
       found = None;
       fits = refl;
-      passed = passed_as basis basis.opens walk (at.Changed n (change.Put value)) walk.split new None (passes_on basis walk old new (steps_by_write walk old new n (changed_page fields i (Live walk.key value)) writes) None passed);
+      passed = passed_as basis basis.opens walk (at.Changed n (change.Put value)) walk.split new None (passes_on basis walk old new (steps_by_write walk old new n (page_with_slot fields i (Live walk.key value)) writes) None passed);
       header = header;
       head = (λ k. own_or (writes.others basis.root not_header k) (unwrap_or (writes.seen basis.root k) None)) ∙ rest.head;
       shallow = shallow;
@@ -91,7 +92,7 @@ put_is_changed basis walk old new room_depth n header fields value i passed shal
       was = (none, no_ghost, room);
       changes = record {
         keeps = keeps_more basis.bits basis.opens basis.root old.seen new.seen old.own (λ q first is. writes.seen q ∙ is) rest.keeps;
-        changes = λ clean agree form. changes_by basis (over clean old.own) (over clean new.own) walk.key n i fields (change.Put value) (rest_home aim old n header fields rest clean (before clean agree) form) within (none, no_ghost, room) (writes_over_clean old new n (changed_page fields i (Live walk.key value)) clean writes);
+        changes = λ clean agree form. changes_by basis (over clean old.own) (over clean new.own) walk.key n i fields (change.Put value) (rest_home aim old n header fields rest clean (before clean agree) form) within (none, no_ghost, room) (writes_over_clean old new n (page_with_slot fields i (Live walk.key value)) clean writes);
       };
     }
 
@@ -178,22 +179,34 @@ may_begin basis walk old n room_depth unsplit may file adds shallow = record {
     exclusive_header pass.Narrow is deep = (let fits = (adds.narrow is).enough in absurd (omega (arith, fits, shallow, deep)))
     exclusive_header pass.Wide is deep = adds.wide is
 
-pub put_touches : (old new : Moment) (before after : WalkFields) (write : WriteFields) (value : ℕ) (told : WalkAnswer) → TellsOfPut old new before after write value told → TouchesOnePage old new
-put_touches old new before after write value answer.Changed tells = (write.number, inl (old, inl refl, inr (write.page, tells.0)))
-put_touches old new before after write value (answer.Refused reason) tells = (write.number, inl (old, inl refl, inl tells.1))
-put_touches old new before after write value answer.Going tells = absurd tells
-put_touches old new before after write value (answer.Waiting page by) tells = absurd tells
-put_touches old new before after write value (answer.Found found) tells = absurd tells
-put_touches old new before after write value answer.NeedSplit tells = absurd tells
-put_touches old new before after write value answer.Widen tells = absurd tells
+-- what a page that is held has is read there
+held_reads : (m : Moment) (q : ℕ) (p : Page) → can_read m.locks m.running.tx q ≡ true → held_page (view_of m) q ≡ Some p → ReadsHeldPage (view_of m) q p
+held_reads m q p held is = (page_before m.running.images m.store.pages q, seen_held m q held, ap (λ o. own_or (own_at m q) (unwrap_or o None)) (sym (seen_held m q held)) ∙ is)
+
+-- the plan of a walk that adds is one of the bucket that it has split
+adding_reads : (basis : Basis) (walk : WalkFields) (old : Moment) (n room_depth : ℕ) (unsplit : Bool) (adds : IsAdding basis walk (view_of old) n room_depth unsplit) (has : Slot → Bool) (s : Slot) (write : WriteFields) → SetsFirst n adds.fields has s write → ReadsHeldBucket (view_of old) write.number adds.fields
+adding_reads basis walk old n room_depth unsplit adds has s write plan =
+    let held = may_read old n Exclusive adds.rest.exclusive in
+    subst (λ q. ReadsHeldBucket (view_of old) q adds.fields) (sym (ap (λ (w : WriteFields). w.number) plan.written)) (held_reads old n (page.Bucket adds.fields) held adds.rest.found)
+
+pub adding_plans : (basis : Basis) (walk : WalkFields) (old : Moment) (n room_depth : ℕ) (unsplit : Bool) (adds : IsAdding basis walk (view_of old) n room_depth unsplit) (has : Slot → Bool) (s : Slot) (write : WriteFields) → SetsFirst n adds.fields has s write → PlansSlot (view_of old) write
+adding_plans basis walk old n room_depth unsplit adds has s write plan = record {
+  bucket = adds.fields;
+  reads = adding_reads basis walk old n room_depth unsplit adds has s write plan;
+  within = subst (λ i. i < 8) (sym (ap (λ (w : WriteFields). w.at) plan.written)) plan.within;
+}
 
 module _ (basis : Basis) (walk after : WalkFields) (old new : Moment) (value n room_depth : ℕ) (phase : walk.phase ≡ at.Adding value n room_depth false) (adds : IsAdding basis walk (view_of old) n room_depth false) (write : WriteFields) (plan : SetsFirst n adds.fields (has_room basis.opens) (Live walk.key value) write) (clean : HasClean (aim_of basis walk room_depth) (view_of old)) where
-  put_makes : WritesHeldPage old new write.number write.page → after ≡ record walk { phase = at.Changed write.number (change.Put value) } → Makes basis new walk after (change.Put value)
+  reads : ReadsHeldBucket (view_of old) write.number adds.fields
+  reads = adding_reads basis walk old n room_depth false adds (has_room basis.opens) (Live walk.key value) write plan
+
+  put_makes : WritesHeldSlot old new write.number write.at write.slot → after ≡ record walk { phase = at.Changed write.number (change.Put value) } → Makes basis new walk after (change.Put value)
   put_makes writes after_is =
       let on : write.number ≡ n = ap (λ (w : WriteFields). w.number) plan.written in
-      let what : write.page ≡ changed_page adds.fields plan.slot (Live walk.key value) = ap (λ (w : WriteFields). w.page) plan.written in
-      let here : WritesPage (view_of old) (view_of new) n (changed_page adds.fields plan.slot (Live walk.key value)) =
-      subst (λ q. WritesPage (view_of old) (view_of new) q (changed_page adds.fields plan.slot (Live walk.key value))) on (subst (λ p. WritesPage (view_of old) (view_of new) write.number p) what (write_writes old new write.number write.page writes)) in
+      let page = page_with_slot adds.fields write.at write.slot in
+      let what : page ≡ page_with_slot adds.fields plan.slot (Live walk.key value) = ap (λ (w : WriteFields). page_with_slot adds.fields w.at w.slot) plan.written in
+      let here : WritesPage (view_of old) (view_of new) n (page_with_slot adds.fields plan.slot (Live walk.key value)) =
+      subst (λ q. WritesPage (view_of old) (view_of new) q (page_with_slot adds.fields plan.slot (Live walk.key value))) on (subst (λ p. WritesPage (view_of old) (view_of new) write.number p) what (write_writes old new write.number page (writes adds.fields reads))) in
       let free : is_kept basis.opens (slice_index_or adds.fields.slots plan.slot Free) ≡ false = grind (arith, plan.was) in
       let changed = put_is_changed basis walk (view_of old) (view_of new) room_depth n adds.header adds.fields value plan.slot adds.passed adds.shallow (rest_holds_few (aim_of basis walk room_depth) (view_of old) n adds.header adds.fields clean adds.rest) adds.rest plan.within free here in
       let now : after ≡ record walk { phase = at.Changed n (change.Put value) } = after_is ∙ ap (λ q. record walk { phase = at.Changed q (change.Put value) }) on in
@@ -205,7 +218,7 @@ module _ (basis : Basis) (walk after : WalkFields) (old new : Moment) (value n r
 
   -- **What the record that is put tells.**
   pub put_tells : (told : WalkAnswer) → TellsOfPut old new walk after write value told → TellsOfAdding basis old new walk after value n room_depth told
-  put_tells answer.Changed tells = (phase, put_makes tells.0 tells.1, inr (write.page, subst (λ q. WritesHeldPage old new q write.page) (ap (λ (w : WriteFields). w.number) plan.written) tells.0))
+  put_tells answer.Changed tells = (phase, put_makes tells.0 tells.1, inr (page_with_slot adds.fields write.at write.slot, subst (λ q. WritesHeldPage old new q (page_with_slot adds.fields write.at write.slot)) (ap (λ (w : WriteFields). w.number) plan.written) (tells.0 adds.fields reads)))
   put_tells (answer.Refused reason) tells = subst (λ r. TellsOfAdding basis old new walk after value n room_depth (answer.Refused r)) (sym tells.0) refl
   put_tells answer.Going tells = absurd tells
   put_tells (answer.Waiting page by) tells = absurd tells

@@ -1,5 +1,5 @@
 -- What the changes of a walk tell
-use Rattle.std.specs.Prelude.{ℕ, ◌≡◌, ◌≤◌, ◌⊎◌, true, IsSome, Bool, Some, None, position}
+use Rattle.std.specs.Prelude.{ℕ, ◌≡◌, ◌≤◌, ◌⊎◌, true, IsSome, Bool, Some, None, position, ◌<◌}
 use Rattle.std.specs.List.{list_all}
 use Rattle.mlt_types.specs.declared.mode.Mode.TheVariants.{Exclusive}
 use Rattle.mlt_types.specs.declared.refusal.Refusal.TheVariants as refusal
@@ -10,7 +10,8 @@ use Rattle.mlt_page.specs.Values.{BucketFields}
 use Rattle.mlt_hash_form.specs.Room.{is_crowded}
 use Rattle.mlt_held.specs.Moments.{Moment}
 use Rattle.mlt_held.specs.PageSteps.{WritesHeldPage}
-use Rattle.mlt_held.specs.Views.{View, view_of}
+use Rattle.mlt_held.specs.Views.{ReadsHeldBucket, View, view_of}
+use Rattle.mlt_record.specs.Plans.{WriteFields}
 use Rattle.mlt_hash.specs.Passes.{HasRoomFrom, IsNextPass, NeverHasRoom}
 use Rattle.mlt_hash.specs.Walks.{Basis, IsStanding, MayWalk, WalkFields}
 use Rattle.mlt_hash.specs.Steps.{IsSameWalk}
@@ -64,6 +65,12 @@ pub record MayChange (basis : Basis) (m : Moment) (walk : WalkFields) : Type 0 w
 -- the same of a walk of transaction tx, whatever it goes by
 abbrev pub MayChangeBy : ℕ → Moment → WalkFields → Type 0
 MayChangeBy tx m walk = (basis : Basis) × (basis.tx ≡ tx) × MayChange basis m walk
+
+-- a plan sets a slot of the bucket that its page reads as
+pub record PlansSlot (view : View) (write : WriteFields) : Type 0 where
+  pub bucket : BucketFields
+  pub reads : ReadsHeldBucket view write.number bucket
+  pub within : write.at < 8
 
 -- page q was written if the answer is that the change is made, and else nothing has changed
 abbrev pub WritesIfChanged : Moment → Moment → ℕ → WalkAnswer → Type 0

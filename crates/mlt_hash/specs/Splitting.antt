@@ -10,7 +10,7 @@ use Rattle.mlt_page.specs.declared.page.Page.{Page}
 use Rattle.mlt_page.specs.declared.page.Page.TheVariants as page
 use Rattle.mlt_page_locks.specs.Requests.{IsLowest, conflicts}
 use Rattle.mlt_held.specs.Moments.{Moment}
-use Rattle.mlt_held.specs.PageSteps.{MakesLockedPage, WritesAtMost, WritesHeldPage}
+use Rattle.mlt_held.specs.PageSteps.{MakesLockedPage, WritesAtMost, WritesHeldSlot}
 use Rattle.mlt_held.specs.Views.{view_of}
 use Rattle.mlt_record.specs.Plans.{WriteFields}
 use Rattle.mlt_split.specs.Rests.{held_page}
@@ -81,7 +81,7 @@ pub record SplitCloses (basis : Basis) (new : Moment) (before after : WalkFields
 
 -- the bucket is written with the record put, or memory was refused and nothing has changed
 abbrev pub TellsOfPut : Moment → Moment → WalkFields → WalkFields → WriteFields → ℕ → WalkAnswer → Type 0
-TellsOfPut old new before after write value answer.Changed = WritesHeldPage old new write.number write.page × (after ≡ record before { phase = at.Changed write.number (change.Put value) })
+TellsOfPut old new before after write value answer.Changed = WritesHeldSlot old new write.number write.at write.slot × (after ≡ record before { phase = at.Changed write.number (change.Put value) })
 TellsOfPut old new before after write value (answer.Refused reason) = (reason ≡ refusal.OutOfMemory) × (new ≡ old) × (after ≡ before)
 TellsOfPut old new before after write value other = ⊥
 

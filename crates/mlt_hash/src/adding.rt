@@ -14,15 +14,16 @@ ghost use Rattle.mlt_held.specs.Views.{view_of};
 ghost use Rattle.mlt_hash.specs.Walks.{MayWalk, aim_of, basis_by};
 ghost use Rattle.mlt_split.specs.Rests.{Aim, held_page};
 ghost use Rattle.mlt_split.specs.Steps.{IsMaking};
+ghost use Rattle.mlt_hash.specs.Changes.{PlansSlot};
 ghost use Rattle.mlt_hash.specs.Splitting.{HasToSplit, OfSplit, TellsOfAdding, TellsOfPut, TellsOfSplitting};
 
 use crate::answer::WalkAnswer;
 use crate::pass::{Change, Phase};
 use crate::walk::Walk;
 use mlt_hash_form::Root;
-use mlt_held::{LockedStore, read_held, write_held};
+use mlt_held::{LockedStore, read_held, write_slot};
 use mlt_page::Page;
-use mlt_record::PageWrite;
+use mlt_record::SlotWrite;
 use mlt_split::{Split, SplitAnswer};
 use mlt_subtx::Subtx;
 use mlt_types::{OpenSet, PageNo, Pseudo, Refusal, Value};
@@ -71,7 +72,7 @@ fn plan_to_put(
     subtx: &Subtx,
     pages: &LockedStore,
     opens: &OpenSet,
-) -> Option<PageWrite>
+) -> Option<SlotWrite>
     requires may { MayStep (moment subtx.now pages.now) }
     requires held { can_read pages.now.locks subtx.now.tx number ≡ true }
     requires found { (fields : BucketFields)
@@ -96,18 +97,19 @@ fn plan_to_put(
 // Writes the bucket with the record put.
 fn put(
     walk: &mut Walk,
-    write: PageWrite,
+    write: SlotWrite,
     value: Value,
     subtx: &mut Subtx,
     pages: &mut LockedStore,
 ) -> WalkAnswer
     requires may { MayStep (moment subtx.old pages.old) }
     requires held { can_write pages.old.locks subtx.old.tx write.number ≡ true }
+    requires planned { PlansSlot (view_of (moment subtx.old pages.old)) write }
     ensures leaves { Leaves (moment subtx.old pages.old) (moment subtx.new pages.new) }
     ensures tells { TellsOfPut (moment subtx.old pages.old) (moment subtx.new pages.new)
         walk.old walk.new write value result }
 {
-    match write_held(subtx, pages, write.number, write.page) {
+    match write_slot(subtx, pages, write.number, write.at, write.slot) {
         Ok(()) => {
             walk.phase = Phase::Changed(write.number, Change::Put(value));
             WalkAnswer::Changed

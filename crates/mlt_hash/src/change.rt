@@ -4,20 +4,20 @@ ghost use Rattle.std.specs.Prelude.{◌≡◌, ◌≢◌, ◌≤◌, ◌↔◌, 
 ghost use Rattle.mlt_held.specs.Moments.{MayStep, moment};
 ghost use Rattle.mlt_page.specs.Values.{BucketFields};
 ghost use Rattle.mlt_page_locks.specs.LockTables.{can_write};
-ghost use Rattle.mlt_held.specs.PageSteps.{Leaves, WritesHeldPage};
-ghost use Rattle.mlt_held.specs.Views.{WritesPage, view_of};
+ghost use Rattle.mlt_held.specs.PageSteps.{Leaves};
+ghost use Rattle.mlt_held.specs.Views.{WritesSlot, view_of};
 ghost use Rattle.mlt_hash.specs.Walks.{Basis, IsUnwritten, basis_by};
 ghost use Rattle.mlt_hash.specs.declared.pass.Change.TheVariants as change;
-ghost use Rattle.mlt_hash.specs.Changes.{HasOwnGhost, IsAtAbsent, IsAtBucketPhase, IsAtRecord, IsFull, MayChange, MayChangeBy, SeesBucket, TellsOfAddition, TellsOfChange, WritesIfChanged, page_of};
+ghost use Rattle.mlt_hash.specs.Changes.{HasOwnGhost, IsAtAbsent, IsAtBucketPhase, IsAtRecord, IsFull, MayChange, MayChangeBy, PlansSlot, SeesBucket, TellsOfAddition, TellsOfChange, WritesIfChanged, page_of};
 
 use crate::answer::WalkAnswer;
 use crate::pass::{Change, Pass, Phase};
 use crate::room::next_pass;
 use crate::walk::Walk;
 use mlt_hash_form::Root;
-use mlt_held::{LockedStore, read_held, write_held};
+use mlt_held::{LockedStore, read_held, write_slot};
 use mlt_page::{Bucket, Page};
-use mlt_record::PageWrite;
+use mlt_record::SlotWrite;
 use mlt_subtx::Subtx;
 use mlt_types::{OpenSet, PageNo, Pseudo, Refusal, Value};
 
@@ -136,7 +136,7 @@ pub(crate) fn held_bucket<'a>(
 /// Writes the bucket as the plan has it, as the first write of the walk. It takes no memory.
 fn write_change(
     walk: &mut Walk,
-    write: PageWrite,
+    write: SlotWrite,
     done: Change,
     subtx: &mut Subtx,
     pages: &mut LockedStore,
@@ -144,15 +144,16 @@ fn write_change(
     requires may { MayStep (moment subtx.old pages.old) }
     requires unwritten { IsUnwritten (view_of (moment subtx.old pages.old)) }
     requires held { can_write pages.old.locks subtx.old.tx write.number ≡ true }
-    ensures writes { WritesHeldPage (moment subtx.old pages.old) (moment subtx.new pages.new)
-        write.number write.page }
-    ensures view { WritesPage (view_of (moment subtx.old pages.old)) (view_of (moment subtx.new pages.new))
-        write.number write.page }
+    requires planned { PlansSlot (view_of (moment subtx.old pages.old)) write }
+    ensures writes { WritesIfChanged (moment subtx.old pages.old) (moment subtx.new pages.new)
+        write.number result }
+    ensures view { WritesSlot (view_of (moment subtx.old pages.old)) (view_of (moment subtx.new pages.new))
+        write.number write.at write.slot }
     ensures leaves { Leaves (moment subtx.old pages.old) (moment subtx.new pages.new) }
     ensures walk { walk.new ≡ record walk.old { phase = Phase.Changed write.number done } }
     ensures answer { result ≡ WalkAnswer.Changed }
 {
-    match write_held(subtx, pages, write.number, write.page) {
+    match write_slot(subtx, pages, write.number, write.at, write.slot) {
         Ok(()) => {
             walk.phase = Phase::Changed(write.number, done);
             WalkAnswer::Changed

@@ -13,7 +13,7 @@ use Rattle.mlt_hash.specs.Walks.{Basis, WalkFields, aim_of, basis_by}
 use Rattle.mlt_hash.specs.Splitting.{TellsOfAdding}
 use Rattle.mlt_hash.specs.declared.pass.Phase.TheVariants as at
 use Rattle.mlt_hash.specs.declared.answer.WalkAnswer.TheVariants as answer
-use Rattle.mlt_hash.proofs.Puts.{adding_at, begin_is_refused, begins_split, begun_alike, full_is_shallow, has_to_split, may_begin, may_put, need_not_split, nowhere, put_has_room, put_tells}
+use Rattle.mlt_hash.proofs.Puts.{adding_at, adding_plans, begin_is_refused, begins_split, begun_alike, full_is_shallow, has_to_split, may_begin, may_put, need_not_split, nowhere, put_has_room, put_tells}
 use Rattle.mlt_hash.proofs.adding.add_or_split.Goals as goal
 
 pub plan_to_put-requires-clause-found : goal.plan_to_put-requires-clause-found
@@ -32,6 +32,15 @@ put-requires-clause-held g c =
     let adds = adding_at basis walk old c.args.value c.args.number c.args.room_depth c.args.unsplit c.requires.1.1.0 c.requires.1.1.1.stands in
     let planned = c.in-Some.ensures adds.fields adds.rest.found in
     may_put basis walk old c.args.number c.args.room_depth c.args.unsplit adds (has_room c.args.opens.now) (Live walk.key c.args.value) c.in-Some.write planned.1
+
+pub put-requires-clause-planned : goal.put-requires-clause-planned
+put-requires-clause-planned g c =
+    let basis : Basis = basis_by g.P.Pseudo.bits_of c.args.root.now c.args.opens.now c.args.subtx.now.tx in
+    let walk : WalkFields = c.args.walk.now in
+    let old : Moment = moment c.args.subtx.now c.args.pages.now in
+    let adds = adding_at basis walk old c.args.value c.args.number c.args.room_depth c.args.unsplit c.requires.1.1.0 c.requires.1.1.1.stands in
+    let planned = c.in-Some.ensures adds.fields adds.rest.found in
+    adding_plans basis walk old c.args.number c.args.room_depth c.args.unsplit adds (has_room c.args.opens.now) (Live walk.key c.args.value) c.in-Some.write planned.1
 
 pub returns-in-Some-clause-tells : goal.returns-in-Some-clause-tells
 returns-in-Some-clause-tells g c =

@@ -7,9 +7,10 @@ use Rattle.mlt_held.proofs.Leaving.{leaves_it}
 use Rattle.mlt_held.specs.Views.{view_of}
 use Rattle.mlt_record.specs.Plans.{has_room}
 use Rattle.mlt_hash.specs.Walks.{Basis, WalkFields, basis_by}
+use Rattle.mlt_hash.specs.Changes.{page_of}
 use Rattle.mlt_hash.specs.declared.pass.Change.TheVariants as change
-use Rattle.mlt_hash.proofs.Additions.{absent_from_bucket, absent_may_write, absent_sees, is_full, put_tells, revival_tells}
-use Rattle.mlt_hash.proofs.InPlace.{ReadsBucket, WritesPlan}
+use Rattle.mlt_hash.proofs.Additions.{absent_from_bucket, absent_may_write, absent_plans, absent_sees, is_full, put_tells, revival_tells}
+use Rattle.mlt_hash.proofs.InPlace.{ReadsBucket, WritesPlan, plan_is_written}
 use Rattle.mlt_hash.proofs.walk.Walk.insert.Goals as goal
 
 pub held_bucket-number-requires-clause-sees : goal.held_bucket-number-requires-clause-sees
@@ -37,6 +38,21 @@ write_change-requires-clause-held g c =
     let number = c.held_bucket-number.result.0 in
     let fields : BucketFields = c.held_bucket-number.result.1.now in
     absent_may_write basis walk before number fields (is_ghost_of c.self.inside.key c.tx.result) (Live c.self.inside.key c.args.value) c.in-Some.write c.requires.found c.requires.ready.walks.stands c.requires.ready.exclusive c.held_bucket-number.ensures.number c.in-Some.ensures.plan
+
+pub write_change-requires-clause-planned : goal.write_change-requires-clause-planned
+write_change-requires-clause-planned g c =
+    let basis : Basis = basis_by g.P.Pseudo.bits_of c.args.root.now c.args.opens.now c.args.subtx.now.tx in
+    let walk : WalkFields = c.args.self.now in
+    let before : Moment = moment c.args.subtx.now c.args.pages.now in
+    let number = c.held_bucket-number.result.0 in
+    let fields : BucketFields = c.held_bucket-number.result.1.now in
+    absent_plans basis walk before number fields (is_ghost_of c.self.inside.key c.tx.result) (Live c.self.inside.key c.args.value) c.in-Some.write c.requires.found c.requires.ready.walks.stands c.held_bucket-number.ensures.bucket c.held_bucket-number.ensures.number c.in-Some.ensures.plan
+
+pub returns-in-Some-clause-writes : goal.returns-in-Some-clause-writes
+returns-in-Some-clause-writes g c =
+    let before : Moment = moment c.args.subtx.now c.args.pages.now in
+    let after : Moment = moment c.write_change.new.subtx c.write_change.new.pages in
+    plan_is_written before after (page_of c.args.self.now.phase) c.held_bucket-number.result.0 c.held_bucket-number.result.1.now (is_ghost_of c.self.inside.key c.tx.result) (Live c.self.inside.key c.args.value) c.in-Some.write c.write_change.result c.held_bucket-number.ensures.number c.in-Some.ensures.plan c.write_change.ensures.writes
 
 pub returns-in-Some-clause-tells : goal.returns-in-Some-clause-tells
 returns-in-Some-clause-tells g c =
@@ -69,6 +85,21 @@ write_change-requires-in-Some-insert-clause-held g c =
     let number = c.held_bucket-number.result.0 in
     let fields : BucketFields = c.held_bucket-number.result.1.now in
     absent_may_write basis walk before number fields (has_room basis.opens) (Live c.self.inside.key c.args.value) c.in-Some-insert.write c.requires.found c.requires.ready.walks.stands c.requires.ready.exclusive c.held_bucket-number.ensures.number c.in-Some-insert.ensures.plan
+
+pub write_change-requires-in-Some-insert-clause-planned : goal.write_change-requires-in-Some-insert-clause-planned
+write_change-requires-in-Some-insert-clause-planned g c =
+    let basis : Basis = basis_by g.P.Pseudo.bits_of c.args.root.now c.args.opens.now c.args.subtx.now.tx in
+    let walk : WalkFields = c.args.self.now in
+    let before : Moment = moment c.args.subtx.now c.args.pages.now in
+    let number = c.held_bucket-number.result.0 in
+    let fields : BucketFields = c.held_bucket-number.result.1.now in
+    absent_plans basis walk before number fields (has_room basis.opens) (Live c.self.inside.key c.args.value) c.in-Some-insert.write c.requires.found c.requires.ready.walks.stands c.held_bucket-number.ensures.bucket c.held_bucket-number.ensures.number c.in-Some-insert.ensures.plan
+
+pub returns-in-Some-insert-clause-writes : goal.returns-in-Some-insert-clause-writes
+returns-in-Some-insert-clause-writes g c =
+    let before : Moment = moment c.args.subtx.now c.args.pages.now in
+    let after : Moment = moment c.write_change-in-Some-insert.new.subtx c.write_change-in-Some-insert.new.pages in
+    plan_is_written before after (page_of c.args.self.now.phase) c.held_bucket-number.result.0 c.held_bucket-number.result.1.now (has_room c.args.opens.now) (Live c.self.inside.key c.args.value) c.in-Some-insert.write c.write_change-in-Some-insert.result c.held_bucket-number.ensures.number c.in-Some-insert.ensures.plan c.write_change-in-Some-insert.ensures.writes
 
 pub returns-in-Some-insert-clause-tells : goal.returns-in-Some-insert-clause-tells
 returns-in-Some-insert-clause-tells g c =

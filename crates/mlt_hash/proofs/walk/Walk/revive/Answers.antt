@@ -6,7 +6,7 @@ use Rattle.mlt_held.specs.Views.{view_of}
 use Rattle.mlt_hash.specs.Walks.{Basis, WalkFields}
 use Rattle.mlt_hash.specs.Changes.{MayChange}
 use Rattle.mlt_hash.proofs.InPlace.{ReadsBucket}
-use Rattle.mlt_hash.proofs.Additions.{absent_from_bucket, absent_may_write, ghost_has_plan, revive_tells}
+use Rattle.mlt_hash.proofs.Additions.{absent_from_bucket, absent_may_write, absent_plans, ghost_has_plan, revive_tells}
 use Rattle.mlt_hash.proofs.walk.Walk.revive.Goals as goal
 
 abbrev before : goal.After-write_change-arg-3-1 → Moment
@@ -23,6 +23,10 @@ unreachable-requires c =
 pub write_change-requires-clause-held : goal.write_change-requires-clause-held
 write_change-requires-clause-held c =
     absent_may_write c.requires.ready.0 c.args.self.now (before c) c.held_bucket-number.result.0 c.held_bucket-number.result.1.now (is_ghost_of c.self.inside.key c.tx.result) (Live c.self.inside.key c.args.value) c.in-Some.write c.requires.found c.requires.ready.2.walks.stands c.requires.ready.2.exclusive c.held_bucket-number.ensures.number c.in-Some.ensures.plan
+
+pub write_change-requires-clause-planned : goal.write_change-requires-clause-planned
+write_change-requires-clause-planned c =
+    absent_plans c.requires.ready.0 c.args.self.now (before c) c.held_bucket-number.result.0 c.held_bucket-number.result.1.now (is_ghost_of c.self.inside.key c.tx.result) (Live c.self.inside.key c.args.value) c.in-Some.write c.requires.found c.requires.ready.2.walks.stands c.held_bucket-number.ensures.bucket c.held_bucket-number.ensures.number c.in-Some.ensures.plan
 
 reads : (c : goal.After-write_change-arg-3-1) (basis : Basis) → MayChange basis (before c) c.args.self.now → ReadsBucket basis c.args.self.now (before c) c.held_bucket-number.result.0 c.self.inside.key c.held_bucket-number.result.1.now
 reads c basis may = record {

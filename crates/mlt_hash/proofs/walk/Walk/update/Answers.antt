@@ -5,7 +5,7 @@ use Rattle.mlt_held.specs.Moments.{Moment, moment}
 use Rattle.mlt_held.specs.Views.{view_of}
 use Rattle.mlt_hash.specs.Walks.{Basis, WalkFields}
 use Rattle.mlt_hash.specs.Changes.{MayChange, page_of}
-use Rattle.mlt_hash.proofs.InPlace.{ReadsBucket, plan_is_written, record_has_plan, record_may_write, update_tells}
+use Rattle.mlt_hash.proofs.InPlace.{ReadsBucket, plan_is_written, record_has_plan, record_may_write, record_plans, update_tells}
 use Rattle.mlt_hash.proofs.walk.Walk.update.Goals as goal
 
 abbrev before : goal.After-write_change-arg-3-1 → Moment
@@ -19,6 +19,10 @@ pub write_change-requires-clause-held : goal.write_change-requires-clause-held
 write_change-requires-clause-held c =
     record_may_write c.requires.ready.0 c.args.self.now (before c) c.held_bucket-number.result.0 c.held_bucket-number.result.1.now (is_live_of c.self.inside.key) (Live c.self.inside.key c.args.value) c.in-Some.write c.requires.found c.requires.ready.2.walks.stands c.requires.ready.2.exclusive c.held_bucket-number.ensures.number c.in-Some.ensures.plan
 
+pub write_change-requires-clause-planned : goal.write_change-requires-clause-planned
+write_change-requires-clause-planned c =
+    record_plans c.requires.ready.0 c.args.self.now (before c) c.held_bucket-number.result.0 c.held_bucket-number.result.1.now (is_live_of c.self.inside.key) (Live c.self.inside.key c.args.value) c.in-Some.write c.requires.found c.requires.ready.2.walks.stands c.held_bucket-number.ensures.bucket c.held_bucket-number.ensures.number c.in-Some.ensures.plan
+
 reads : (c : goal.After-write_change-arg-3-1) (basis : Basis) → MayChange basis (before c) c.args.self.now → ReadsBucket basis c.args.self.now (before c) c.held_bucket-number.result.0 c.self.inside.key c.held_bucket-number.result.1.now
 reads c basis may = record {
   bounded = may.walks.bounded;
@@ -31,7 +35,7 @@ reads c basis may = record {
 pub returns-clause-writes : goal.returns-clause-writes
 returns-clause-writes c =
     let after : Moment = moment c.write_change.new.subtx c.write_change.new.pages in
-    plan_is_written (before c.before) after (page_of c.args.self.now.phase) c.held_bucket-number.result.0 c.held_bucket-number.result.1.now (is_live_of c.self.inside.key) (Live c.self.inside.key c.args.value) c.in-Some.write c.write_change.result c.held_bucket-number.ensures.number c.in-Some.ensures.plan c.write_change.ensures.answer c.write_change.ensures.writes
+    plan_is_written (before c.before) after (page_of c.args.self.now.phase) c.held_bucket-number.result.0 c.held_bucket-number.result.1.now (is_live_of c.self.inside.key) (Live c.self.inside.key c.args.value) c.in-Some.write c.write_change.result c.held_bucket-number.ensures.number c.in-Some.ensures.plan c.write_change.ensures.writes
 
 pub returns-clause-tells : goal.returns-clause-tells
 returns-clause-tells c = λ basis own may.
