@@ -133,13 +133,16 @@ module _ (basis : Basis) (walk : WalkFields) (old new : View) (step : StepsOn wa
         | inl same ↦
             let was = holds.others q away further last (sym (ap is_some same) ∙ some) in
             (same ∙ was.0, elim was.1 [ inl wide ↦ inl wide | inr made ↦ inr (step.before q None made) ])
-        | inr locked ↦ (locked.0, elim locked.1 [
-          | inl wide ↦ inl wide
-          | inr other ↦ elim other [
-            | inl was ↦ elim (holds.others q away further last (ap is_some was)).1 [ inl wide ↦ inl wide | inr made ↦ inr (step.before q None made) ]
-            | inr made ↦ inr made
-          ]
-        ])
+        | inr locked ↦ (
+          locked.0,
+          elim locked.1 [
+            | inl wide ↦ inl wide
+            | inr other ↦ elim other [
+              | inl was ↦ elim (holds.others q away further last (ap is_some was)).1 [ inl wide ↦ inl wide | inr made ↦ inr (step.before q None made) ]
+              | inr made ↦ inr made
+            ]
+          ],
+        )
       ]
 
   -- **It stays so from step to step.**

@@ -60,7 +60,7 @@ returns-clause-tells g c = λ opens.
     subst (λ (p : Page). ReadsPage (view_of (before g s)) (view_of after) g.basis.root c.header_mode.result (Some p)) (c.in-Head.is ∙ ap page.Head (sym c.header.view_is))
     (subst (λ (q : ℕ). ReadsPage (view_of (before g s)) (view_of after) q c.header_mode.result (Some c.read_held.result.now)) c.requires.1.1.0 read) in (
       headed g.basis opens c.args.walk.now _ (before g s) after c.header_mode.result header c.dir.result c.of-place.result.entry c.header.inside.depth (file g s) c.requires.1.1.1.1.1.shallow c.lock.ensures.leaves.may c.lock.ensures.leaves.clean (start g s) (c.header_mode.ensures ∙ ap header_mode pass) reads
-      (c.dir.ensures ∙ ap (λ (h : HeadFields). slice_index h.dirs c.of-place.result.dir) (sym c.header.view_is) ∙ ap (slice_index c.header.inside.dirs) c.of-place.ensures.dir ∙ ap (λ x. slice_index c.header.inside.dirs (first_bits c.header.inside.depth x / 256)) bits)
-      (c.of-place.ensures.entry ∙ ap (λ x. first_bits c.header.inside.depth x % 256) bits) refl c.requires.1.1.1.1.0 (ap (λ (w : WalkFields). record w { phase = at.Headed c.dir.result c.of-place.result.entry c.header.inside.depth }) c.walk.view_is),
+          (c.dir.ensures ∙ ap (λ (h : HeadFields). slice_index h.dirs c.of-place.result.dir) (sym c.header.view_is) ∙ ap (slice_index c.header.inside.dirs) c.of-place.ensures.dir ∙ ap (λ x. slice_index c.header.inside.dirs (first_bits c.header.inside.depth x / 256)) bits)
+          (c.of-place.ensures.entry ∙ ap (λ x. first_bits c.header.inside.depth x % 256) bits) refl c.requires.1.1.1.1.0 (ap (λ (w : WalkFields). record w { phase = at.Headed c.dir.result c.of-place.result.entry c.header.inside.depth }) c.walk.view_is),
       omega arith,
     )
