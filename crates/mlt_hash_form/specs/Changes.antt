@@ -1,7 +1,8 @@
 -- A change of one record, and a split, as what they leave
-use Rattle.std.specs.Prelude.{ℕ, ◌≡◌, ◌<◌, ◌^◌, ◌⊎◌, true, false, Option, Some, None, replicate, slice_index_or, slice_set, ◌↔◌}
+use Rattle.std.specs.Prelude.{ℕ, ◌≡◌, ◌<◌, ◌^◌, ◌⊎◌, true, false, Option, Some, None, replicate, slice_index_or, ◌↔◌}
 use Rattle.std.specs.Ordering.{nat_cmp}
 use Rattle.std.specs.FinSet as set
+use Rattle.mlt_page.specs.Pages.{page_with_slot}
 use Rattle.mlt_page.specs.Slots.{is_kept}
 use Rattle.mlt_page.specs.declared.slot.Slot.{Slot}
 use Rattle.mlt_page.specs.declared.slot.Slot.TheVariants.{Free}
@@ -34,9 +35,9 @@ pub record IsAtHome (bits : ℕ → ℕ) (pages : FilePages) (root key : ℕ) (s
   pub within : spot.at < 8
 
 -- s is written there, and no other slot or page changes
-abbrev pub WritesSlot : FilePages → FilePages → Spot → Slot → Type 0
-WritesSlot pages pages' spot s = Writes pages pages' spot.number
-    (page.Bucket (record spot.bucket { slots = slice_set spot.bucket.slots spot.at s }))
+abbrev pub WritesSpot : FilePages → FilePages → Spot → Slot → Type 0
+WritesSpot pages pages' spot s =
+    Writes pages pages' spot.number (page_with_slot spot.bucket spot.at s)
 
 -- Slot i of page n becomes `after`, and with it the one key has this value, or none. The form stays, and so do
 -- the value of each other key and all other slots.
