@@ -8,7 +8,7 @@ use Rattle.mlt_page.specs.declared.slot.Slot.{Slot}
 use Rattle.mlt_page.specs.declared.slot.Slot.TheVariants.{Free}
 use Rattle.mlt_page.specs.Values.{BucketFields}
 use Rattle.mlt_page.specs.declared.page.Page.TheVariants as page
-use Rattle.mlt_hash_form.specs.Form.{HasSlot, SetsSlot, is_used, slot_at}
+use Rattle.mlt_hash_form.specs.Form.{HasSlot, SetsOneSlot, is_used, slot_at}
 use Rattle.mlt_hash_form.specs.File.{FilePages, GivesPseudokeys, HasForm, Writes, buckets_of, lead_of, look_up}
 
 -- a file of the form, and the bucket that a key leads to, on page n
@@ -46,7 +46,7 @@ pub record ChangesRecord (bits : ℕ → ℕ) (pages pages' : FilePages) (root k
   pub form : HasForm bits pages' root
   pub here : look_up bits pages' root key ≡ value
   pub others : (k : ℕ) → (k ≡ key → ⊥) → look_up bits pages' root k ≡ look_up bits pages root k
-  pub sets : SetsSlot (buckets_of pages) (buckets_of pages') n i after
+  pub sets : SetsOneSlot (buckets_of pages) (buckets_of pages') n i after
   pub gained : HasSlot (buckets_of pages') after
   pub kept : (t : Slot) → (t ≡ after → ⊥) → (t ≡ slot_at (buckets_of pages) n i → ⊥)
       → HasSlot (buckets_of pages') t ↔ HasSlot (buckets_of pages) t
