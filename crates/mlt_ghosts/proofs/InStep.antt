@@ -4,13 +4,13 @@ use Rattle.std.specs.Prelude.{◌⊎◌}
 use Rattle.mlt_page.specs.declared.slot.Slot.{Slot}
 use Rattle.mlt_page.specs.declared.slot.Slot.TheVariants.{Live, Ghost}
 use Rattle.mlt_page.specs.declared.page.Page.{Page}
-use Rattle.mlt_hash_form.specs.Form.{SetsSlot, slot_at}
+use Rattle.mlt_hash_form.specs.Form.{SetsOneSlot, slot_at}
 use Rattle.mlt_hash_form.specs.File.{HasForm, HasRecord, buckets_of}
 use Rattle.mlt_ghosts.specs.Ghosts.{IsGhostAt, IsInStep}
 use Rattle.mlt_ghosts.specs.Operations.{Presence, Added, Removed}
 use Rattle.mlt_ghosts.proofs.Slots.{ghost_home, live_once, slot_cases, slot_here, slot_was, slot_stays}
 
-module _ (bits : ℕ → ℕ) (pages pages' : ℕ → Option Page) (root n i : ℕ) (s : Slot) (form : HasForm bits pages root) (form' : HasForm bits pages' root) (sets : SetsSlot (buckets_of pages) (buckets_of pages') n i s) (within : i < length (buckets_of pages n).slots) where
+module _ (bits : ℕ → ℕ) (pages pages' : ℕ → Option Page) (root n i : ℕ) (s : Slot) (form : HasForm bits pages root) (form' : HasForm bits pages' root) (sets : SetsOneSlot (buckets_of pages) (buckets_of pages') n i s) (within : i < length (buckets_of pages n).slots) where
   pub here : slot_at (buckets_of pages') n i ≡ s
   here = slot_here (buckets_of pages) (buckets_of pages') n i s sets within
 

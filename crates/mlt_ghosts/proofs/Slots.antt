@@ -7,7 +7,7 @@ use Rattle.mlt_page.specs.declared.slot.Slot.{Slot}
 use Rattle.mlt_page.specs.declared.slot.Slot.TheVariants.{Free, Live, Ghost}
 use Rattle.mlt_page.specs.declared.page.Page.{Page}
 use Rattle.mlt_page.specs.Values.{BucketFields}
-use Rattle.mlt_hash_form.specs.Form.{SetsSlot, slot_at}
+use Rattle.mlt_hash_form.specs.Form.{SetsOneSlot, slot_at}
 use Rattle.mlt_hash_form.specs.File.{HasForm, buckets_of, lead_of}
 
 -- in a file of the form a ghost and a record lie where their keys lead, and a key's record stands once
@@ -24,7 +24,7 @@ module _ (bits : ℕ → ℕ) (pages : ℕ → Option Page) (root : ℕ) (form :
       let here : slot_at (buckets_of pages) l j ≡ Live k v = rw page at e in
       (page, form.form.once l j o k v w here f)
 
-module _ (buckets buckets' : ℕ → BucketFields) (n i : ℕ) (s : Slot) (sets : SetsSlot buckets buckets' n i s) (within : i < length (buckets n).slots) where
+module _ (buckets buckets' : ℕ → BucketFields) (n i : ℕ) (s : Slot) (sets : SetsOneSlot buckets buckets' n i s) (within : i < length (buckets n).slots) where
   pub slot_here : slot_at buckets' n i ≡ s
   slot_here = rw sets.slots (get_or-set_same (buckets n).slots i s Free within)
 

@@ -7,9 +7,9 @@ use Rattle.mlt_page.specs.Slots.{key_of}
 use Rattle.mlt_page.specs.declared.slot.Slot.{Slot}
 use Rattle.mlt_page.specs.declared.slot.Slot.TheVariants.{Free, Live}
 use Rattle.mlt_page.specs.Values.{BucketFields}
-use Rattle.mlt_hash_form.specs.Form.{slot_at, HasSlot, IsSpread, is_used, SetsSlot, MaySet}
+use Rattle.mlt_hash_form.specs.Form.{slot_at, HasSlot, IsSpread, is_used, SetsOneSlot, MaySet}
 
-module _ (bits : ℕ → ℕ) (g : ℕ) (lead : ℕ → ℕ) (buckets buckets' : ℕ → BucketFields) (n i : ℕ) (s : Slot) (form : IsSpread bits g lead buckets) (sets : SetsSlot buckets buckets' n i s) (fits : MaySet bits lead buckets n i s) where
+module _ (bits : ℕ → ℕ) (g : ℕ) (lead : ℕ → ℕ) (buckets buckets' : ℕ → BucketFields) (n i : ℕ) (s : Slot) (form : IsSpread bits g lead buckets) (sets : SetsOneSlot buckets buckets' n i s) (fits : MaySet bits lead buckets n i s) where
   same_length : (m : ℕ) → length (buckets' m).slots ≡ length (buckets m).slots
   same_length m =
       elim (cases_eq m n) [

@@ -9,7 +9,7 @@ use Rattle.mlt_page.specs.Values.{BucketFields, HeadFields}
 use Rattle.mlt_page.specs.declared.page.Page.{Page}
 use Rattle.mlt_page.specs.declared.page.Page.TheVariants as page
 use Rattle.mlt_hash_form.specs.File.{header_of, entries_of, bucket_of, lead_of, buckets_of, HasForm, Writes, IsPath, look_up}
-use Rattle.mlt_hash_form.specs.Form.{slot_at, HasSlot, SetsSlot, MaySet, value_in}
+use Rattle.mlt_hash_form.specs.Form.{slot_at, HasSlot, SetsOneSlot, MaySet, value_in}
 use Rattle.mlt_hash_form.proofs.Bits.{first_bits_below}
 use Rattle.mlt_hash_form.proofs.Lookup.{found}
 use Rattle.mlt_hash_form.proofs.Same.{form_same}
@@ -71,7 +71,7 @@ module _ (bits : ℕ → ℕ) (pages pages' : ℕ → Option Page) (root b i : �
       let in_list = page_listed g (first_bits g x) (first_bits_below g x (omega arith) h) in
       rw root_same (ap (λ p. slice_index (entries_of p) (first_bits g x % 256)) (writes.others _ (not_dir q in_list)))
 
-  pub sets : SetsSlot (buckets_of pages) (buckets_of pages') b i s
+  pub sets : SetsOneSlot (buckets_of pages) (buckets_of pages') b i s
   sets = record {
     depth = rw (writes.here, old) depth;
     slots = rw (writes.here, old) slots;

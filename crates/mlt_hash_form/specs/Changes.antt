@@ -1,13 +1,14 @@
 -- A change of one record, and a split, as what they leave
-use Rattle.std.specs.Prelude.{ℕ, ◌≡◌, ◌<◌, ◌^◌, ◌⊎◌, true, false, Option, Some, None, replicate, slice_index_or, slice_set, ◌↔◌}
+use Rattle.std.specs.Prelude.{ℕ, ◌≡◌, ◌<◌, ◌^◌, ◌⊎◌, true, false, Option, Some, None, replicate, slice_index_or, ◌↔◌}
 use Rattle.std.specs.Ordering.{nat_cmp}
 use Rattle.std.specs.FinSet as set
+use Rattle.mlt_page.specs.Pages.{page_with_slot}
 use Rattle.mlt_page.specs.Slots.{is_kept}
 use Rattle.mlt_page.specs.declared.slot.Slot.{Slot}
 use Rattle.mlt_page.specs.declared.slot.Slot.TheVariants.{Free}
 use Rattle.mlt_page.specs.Values.{BucketFields}
 use Rattle.mlt_page.specs.declared.page.Page.TheVariants as page
-use Rattle.mlt_hash_form.specs.Form.{HasSlot, SetsSlot, is_used, slot_at}
+use Rattle.mlt_hash_form.specs.Form.{HasSlot, SetsOneSlot, is_used, slot_at}
 use Rattle.mlt_hash_form.specs.File.{FilePages, GivesPseudokeys, HasForm, Writes, buckets_of, lead_of, look_up}
 
 -- a file of the form, and the bucket that a key leads to, on page n
@@ -34,9 +35,9 @@ pub record IsAtHome (bits : ℕ → ℕ) (pages : FilePages) (root key : ℕ) (s
   pub within : spot.at < 8
 
 -- s is written there, and no other slot or page changes
-abbrev pub WritesSlot : FilePages → FilePages → Spot → Slot → Type 0
-WritesSlot pages pages' spot s = Writes pages pages' spot.number
-    (page.Bucket (record spot.bucket { slots = slice_set spot.bucket.slots spot.at s }))
+abbrev pub WritesSpot : FilePages → FilePages → Spot → Slot → Type 0
+WritesSpot pages pages' spot s =
+    Writes pages pages' spot.number (page_with_slot spot.bucket spot.at s)
 
 -- Slot i of page n becomes `after`, and with it the one key has this value, or none. The form stays, and so do
 -- the value of each other key and all other slots.
@@ -45,7 +46,7 @@ pub record ChangesRecord (bits : ℕ → ℕ) (pages pages' : FilePages) (root k
   pub form : HasForm bits pages' root
   pub here : look_up bits pages' root key ≡ value
   pub others : (k : ℕ) → (k ≡ key → ⊥) → look_up bits pages' root k ≡ look_up bits pages root k
-  pub sets : SetsSlot (buckets_of pages) (buckets_of pages') n i after
+  pub sets : SetsOneSlot (buckets_of pages) (buckets_of pages') n i after
   pub gained : HasSlot (buckets_of pages') after
   pub kept : (t : Slot) → (t ≡ after → ⊥) → (t ≡ slot_at (buckets_of pages) n i → ⊥)
       → HasSlot (buckets_of pages') t ↔ HasSlot (buckets_of pages) t

@@ -61,7 +61,7 @@ abbrev pub value_by_lead : (ℕ → ℕ) → (ℕ → ℕ) → (ℕ → BucketFi
 value_by_lead bits lead buckets key = value_in key (buckets (lead (bits key))).slots
 
 -- slot i of page n is set to s, and nothing else changes
-pub record SetsSlot (buckets buckets' : ℕ → BucketFields) (n i : ℕ) (s : Slot) : Type 0 where
+pub record SetsOneSlot (buckets buckets' : ℕ → BucketFields) (n i : ℕ) (s : Slot) : Type 0 where
   pub depth : (buckets' n).depth ≡ (buckets n).depth
   pub slots : (buckets' n).slots ≡ slice_set (buckets n).slots i s
   pub others : (m : ℕ) → (m ≡ n → ⊥) → buckets' m ≡ buckets m

@@ -9,7 +9,8 @@ IsPair slots key value = (i : ℕ) × (slice_index_or slots i Free ≡ Live key 
 
 -- the key has one live slot at most
 abbrev pub HasOnePair : List Slot → ℕ → Type 0
-HasOnePair slots key = (i j v w : ℕ) → slice_index_or slots i Free ≡ Live key v → slice_index_or slots j Free ≡ Live key w → i ≡ j
+HasOnePair slots key = (i j v w : ℕ)
+    → slice_index_or slots i Free ≡ Live key v → slice_index_or slots j Free ≡ Live key w → i ≡ j
 
 -- afterwards the key has this value, or none; the pairs of all other keys are as before
 pub record SetsPair (before after : List Slot) (key : ℕ) (value : Option ℕ) : Type 0 where

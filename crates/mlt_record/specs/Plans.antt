@@ -32,7 +32,8 @@ abbrev pub IsNowhere : (Slot → Bool) → List Slot → Type 0
 IsNowhere has slots = (i : ℕ) → i < length slots → has (slice_index_or slots i Free) ≡ false
 
 -- the first slot of the bucket that has the property is to be set to s
-pub record SetsFirst (number : ℕ) (bucket : BucketFields) (has : Slot → Bool) (s : Slot) (write : WriteFields) : Type 0 where
+pub record SetsFirst (number : ℕ) (bucket : BucketFields) (has : Slot → Bool) (s : Slot)
+    (write : WriteFields) : Type 0 where
   pub slot : ℕ
   pub within : slot < 8
   pub was : has (slice_index_or bucket.slots slot Free) ≡ true

@@ -20,8 +20,10 @@ pub fn insert(
     opens: &OpenSet,
 ) -> Option<SlotWrite>
     requires { position (is_live_of key) bucket.now.slots ≡ None }
-    ensures plan { MatchOption result (IsNowhere (has_room opens.now) bucket.now.slots) (SetsFirst number bucket.now (has_room opens.now) (Live key value)) }
-    ensures pairs { IfSome result (λ write. SetsPair bucket.now.slots (slots_written bucket.now.slots write) key (Some value)) }
+    ensures plan { MatchOption result (IsNowhere (has_room opens.now) bucket.now.slots)
+        (SetsFirst number bucket.now (has_room opens.now) (Live key value)) }
+    ensures pairs { let slots = bucket.now.slots in
+        IfSome result (λ write. SetsPair slots (slots_written slots write) key (Some value)) }
 {
     let at = bucket.room(opens)?;
     Some(SlotWrite {
@@ -34,8 +36,10 @@ pub fn insert(
 /// Gives a key's record another value. There is no plan exactly where the key has no record here. `number` is the
 /// bucket's page.
 pub fn update(number: PageNo, bucket: &Bucket, key: Key, value: Value) -> Option<SlotWrite>
-    ensures plan { MatchOption result (IsNowhere (is_live_of key) bucket.now.slots) (SetsFirst number bucket.now (is_live_of key) (Live key value)) }
-    ensures pairs { HasOnePair bucket.now.slots key → IfSome result (λ write. SetsPair bucket.now.slots (slots_written bucket.now.slots write) key (Some value)) }
+    ensures plan { MatchOption result (IsNowhere (is_live_of key) bucket.now.slots)
+        (SetsFirst number bucket.now (is_live_of key) (Live key value)) }
+    ensures pairs { let slots = bucket.now.slots in HasOnePair slots key
+        → IfSome result (λ write. SetsPair slots (slots_written slots write) key (Some value)) }
 {
     let at = bucket.find_live(key)?;
     let record = Slot::Live(key, value);
@@ -49,8 +53,10 @@ pub fn update(number: PageNo, bucket: &Bucket, key: Key, value: Value) -> Option
 /// Removes a key's record and leaves a ghost of `owner` in its slot, with value 0. There is no plan exactly where
 /// the key has no record here. `number` is the bucket's page.
 pub fn remove(number: PageNo, bucket: &Bucket, key: Key, owner: TxId) -> Option<SlotWrite>
-    ensures plan { MatchOption result (IsNowhere (is_live_of key) bucket.now.slots) (SetsFirst number bucket.now (is_live_of key) (Ghost key 0 owner)) }
-    ensures pairs { HasOnePair bucket.now.slots key → IfSome result (λ write. SetsPair bucket.now.slots (slots_written bucket.now.slots write) key None) }
+    ensures plan { MatchOption result (IsNowhere (is_live_of key) bucket.now.slots)
+        (SetsFirst number bucket.now (is_live_of key) (Ghost key 0 owner)) }
+    ensures pairs { let slots = bucket.now.slots in HasOnePair slots key
+        → IfSome result (λ write. SetsPair slots (slots_written slots write) key None) }
 {
     let at = bucket.find_live(key)?;
     Some(SlotWrite {
@@ -70,8 +76,10 @@ pub fn revive(
     value: Value,
 ) -> Option<SlotWrite>
     requires { position (is_live_of key) bucket.now.slots ≡ None }
-    ensures plan { MatchOption result (IsNowhere (is_ghost_of key owner) bucket.now.slots) (SetsFirst number bucket.now (is_ghost_of key owner) (Live key value)) }
-    ensures pairs { IfSome result (λ write. SetsPair bucket.now.slots (slots_written bucket.now.slots write) key (Some value)) }
+    ensures plan { MatchOption result (IsNowhere (is_ghost_of key owner) bucket.now.slots)
+        (SetsFirst number bucket.now (is_ghost_of key owner) (Live key value)) }
+    ensures pairs { let slots = bucket.now.slots in
+        IfSome result (λ write. SetsPair slots (slots_written slots write) key (Some value)) }
 {
     let at = bucket.find_ghost(key, owner)?;
     Some(SlotWrite {

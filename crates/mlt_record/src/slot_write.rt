@@ -22,5 +22,6 @@ impl Model for SlotWrite {
 
     ghost view = { λ write. record { number = write.number; at = write.at; slot = write.slot } };
 
-    ghost inverse = { λ fields. record { number = fields.number; at = fields.at; slot = fields.slot } };
+    ghost inverse = { λ fields.
+        record { number = fields.number; at = fields.at; slot = fields.slot } };
 }
