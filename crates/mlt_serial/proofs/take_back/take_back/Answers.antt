@@ -1,4 +1,4 @@
-use Rattle.std.proofs.Common.{◌≡◌, ◌+◌, ◌-◌, ◌<◌, ◌≤◌, ℕ, take, length, get_or, sym, subst, ◌∙◌, arith}
+use Rattle.std.proofs.Common.{◌≡◌, ◌+◌, ◌-◌, ◌<◌, take, length, sym, subst, ◌∙◌, arith}
 use Rattle.mlt_kinds.specs.Bases.{Base, Runs, Step}
 use Rattle.mlt_serial.proofs.TakingBack.{before_last, leads_back, was_same}
 use Rattle.mlt_serial.proofs.take_back.take_back.Goals as goal
