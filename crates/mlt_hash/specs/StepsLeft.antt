@@ -22,7 +22,8 @@ steps_of_splits (suc n) l g = 2 + directory_steps l g + steps_of_splits n (l + 1
 abbrev pub steps_with_split : Option SplitFields → ℕ → ℕ
 steps_with_split None room_depth = 0
 steps_with_split (Some split) room_depth = steps_left split
-    + steps_of_splits (room_depth - (split.depth + 1)) (split.depth + 1) (depth_after split.depth split.directory_depth)
+    + steps_of_splits (room_depth - (split.depth + 1)) (split.depth + 1)
+    (depth_after split.depth split.directory_depth)
 
 -- how deep the bucket on page q is, as the walk has it, and the directory
 abbrev pub bucket_depth : View → ℕ → ℕ
@@ -34,7 +35,9 @@ directory_depth view root = (header_of (held_page view root)).depth
 -- The steps that a pass still takes that splits its bucket down to a depth at which there is room, and puts its record. It
 -- takes fewer where there is room before.
 abbrev pub steps_to_put_at : Phase → ℕ → WalkFields → View → ℕ
-steps_to_put_at (at.Adding value bucket room_depth unsplit) root walk view = steps_of_splits (room_depth - bucket_depth view bucket) (bucket_depth view bucket) (directory_depth view root)
+steps_to_put_at (at.Adding value bucket room_depth unsplit) root walk view =
+    steps_of_splits (room_depth - bucket_depth view bucket) (bucket_depth view bucket)
+    (directory_depth view root)
 steps_to_put_at (at.Splitting value room_depth) root walk view = steps_with_split walk.split room_depth
 steps_to_put_at other root walk view = 0
 

@@ -1,5 +1,5 @@
 -- How many pages a walk holds that splits
-use Rattle.std.proofs.Common.{ℕ, ◌≡◌, ◌<◌, ◌≤◌, ◌+◌, ◌-◌, ◌^◌, List, Option, ap, arith}
+use Rattle.std.proofs.Common.{ℕ, ◌<◌, ◌≤◌, ◌+◌, ◌-◌, ◌^◌, List, Option, arith}
 use Rattle.std.specs.Ordering.{nat_cmp}
 use Rattle.std.specs.FinMap as map
 use Rattle.std.specs.FinSet as set
@@ -11,7 +11,7 @@ use Rattle.mlt_split.specs.Rests.{Aim, IsAtRest, most_held}
 use Rattle.mlt_split.specs.Splits.{HoldsAmongAt, IsUnderWay, SplitFields, StandsAt}
 use Rattle.mlt_split.specs.declared.phase.SplitPhase.{SplitPhase}
 use Rattle.mlt_split.specs.declared.phase.SplitPhase.TheVariants as at
-use Rattle.mlt_split.proofs.Among.{few_are_held, few_pages, most_is_small}
+use Rattle.mlt_split.proofs.Among.{few_are_held, most_is_small}
 use Rattle.mlt_split.proofs.Beginning.{rest_is_shallow, rest_is_small}
 use Rattle.mlt_split.proofs.Closing.{HasClean}
 use Rattle.mlt_split.proofs.Later.{half_pages}
