@@ -15,6 +15,3 @@ pub use base::Base;
 pub use meaning::records_mean_bases;
 pub use record::{RecChange, inverse, plan, reply};
 pub use text::write_base;
-
-#[cfg(test)]
-mod tests;

@@ -1,4 +1,4 @@
--- The laws of changes of one slot
+-- The laws of changes of one slot. Other crates are to cite this module.
 use Rattle.std.proofs.Common.{ℕ, ◌≡◌, ◌<◌, ◌≤◌, true, false, [], ◌∷◌, ◌++◌, length, get_or, Option, Some, None, refl, sym, ◌∙◌, ap, inl, inr, arith}
 use Rattle.std.specs.Prelude.{position}
 use Rattle.std.specs.FinSet as fin

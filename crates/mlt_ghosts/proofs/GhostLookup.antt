@@ -1,4 +1,4 @@
--- The look-up of a ghost in its key's bucket
+-- The look-up of a ghost in its key's bucket. Other crates are to cite this module.
 use Rattle.std.proofs.Common.{ℕ, ◌≡◌, Bool, List, get_or, Option, Some, None, refl, sym, ap, inl, inr}
 use Rattle.std.specs.Prelude.{◌⊎◌, position}
 use Rattle.std.specs.Option.{option_map}

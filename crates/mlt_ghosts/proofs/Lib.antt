@@ -1,9 +1,9 @@
 pub mod Changes
 pub mod GhostLookup
-pub mod InStep
-pub mod Lists
+mod InStep
+mod Lists
 pub mod Moves
-pub mod PathEnds
-pub mod SlotTests
-pub mod Slots
+mod PathEnds
+mod SlotTests
+mod Slots
 pub mod Transactions

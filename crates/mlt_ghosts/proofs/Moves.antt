@@ -1,16 +1,37 @@
--- The laws of moved slots
-use Rattle.std.proofs.Common.{ℕ, ◌≡◌, ◌≤◌, true, refl, sym, ◌∙◌}
+-- The laws of moved slots. Other crates are to cite this module.
+use Rattle.std.proofs.Common.{Bool, ℕ, ◌≡◌, ◌≤◌, true, refl, sym, ◌∙◌, ap, subst, inl, inr}
+use Rattle.std.specs.Ordering.{nat_cmp}
 use Rattle.std.specs.FinSet as fin
 use Rattle.mlt_page.specs.Slots.{is_kept}
 use Rattle.mlt_page.specs.declared.slot.Slot.{Slot}
 use Rattle.mlt_page.specs.declared.slot.Slot.TheVariants.{Live, Ghost}
 use Rattle.mlt_hash_form.specs.Form.{is_used, slot_at}
-use Rattle.mlt_hash_form.specs.File.{FilePages, HasRecord, buckets_of}
+use Rattle.mlt_hash_form.specs.File.{FilePages, HasForm, HasRecord, buckets_of}
+use Rattle.mlt_hash_form.specs.Held.{Agrees, KeepsFile, RearrangesSlots, SeenPages, over}
+use Rattle.mlt_hash_form.proofs.Splitting.{used_from_kept}
+use Rattle.std.proofs.lemmas.Bool.{both_ways}
 use Rattle.mlt_ghosts.specs.Ghosts.{IsGhostAt, IsInStep, PagesMatchOperations}
 use Rattle.mlt_ghosts.specs.Moves.{MovesSlots}
 use Rattle.mlt_ghosts.specs.Ledgers.{Ledger}
 use Rattle.mlt_ghosts.specs.Operations.{last_of}
 use Rattle.mlt_ghosts.proofs.Slots.{ghost_home}
+
+-- slots that are moved twice, and those that a walk rearranged
+pub moves_joined : (bits : ℕ → ℕ) (stays : Slot → Bool) (one two three : FilePages) (root : ℕ)
+    → MovesSlots bits stays one two root → MovesSlots bits stays two three root → MovesSlots bits stays one three root
+moves_joined bits stays one two three root first second = record {
+  form = second.form;
+  kept = λ t k h. second.kept t k (first.kept t k h);
+  stood = λ m i u. let b = second.stood m i u in let a = first.stood b.0 i (ap is_used b.1 ∙ u) in (a.0, a.1 ∙ b.1);
+}
+
+pub rearranged_moved : (bits : ℕ → ℕ) (opens : fin.FinSet nat_cmp) (seen : SeenPages) (before after : FilePages) (root : ℕ)
+    → RearrangesSlots bits opens seen before after root → MovesSlots bits (is_kept opens) before after root
+rearranged_moved bits opens seen before after root rearranged = record {
+  form = rearranged.form;
+  kept = λ t k h. elim (rearranged.lost t (used_from_kept opens t k) h) [ inl there ↦ there | inr gone ↦ absurd (both_ways _ gone.0 k) ];
+  stood = λ m i u. let b = rearranged.stood m i u in (b.0, b.1);
+}
 
 module _ (ledger : Ledger) (pages' : FilePages) (matches : PagesMatchOperations ledger) (moves : MovesSlots ledger.bits (is_kept ledger.opens) ledger.pages pages' ledger.root) where
   -- what is there stood there before, on some page
@@ -48,3 +69,15 @@ module _ (ledger : Ledger) (pages' : FilePages) (matches : PagesMatchOperations 
 
   pub moved : PagesMatchOperations (record ledger { pages = pages' })
   moved = record { step = moved_step; turns = matches.turns; alone = matches.alone; opened = matches.opened; left = moved_left }
+
+-- a walk at rest, on the clean pages with its writes
+pub kept_moved : (ledger : Ledger) (seen : SeenPages) (rest : FilePages) → PagesMatchOperations ledger → HasForm ledger.bits ledger.pages ledger.root → Agrees seen ledger.pages
+    → KeepsFile ledger.bits ledger.opens ledger.root seen rest → PagesMatchOperations (record ledger { pages = over ledger.pages rest })
+kept_moved ledger seen rest matches form agrees keeps =
+    moved ledger (over ledger.pages rest) matches (rearranged_moved ledger.bits ledger.opens seen ledger.pages (over ledger.pages rest) ledger.root (keeps ledger.pages agrees form))
+
+-- pages that are the same, number by number
+pub same_matched : (ledger : Ledger) (pages' : FilePages) → PagesMatchOperations ledger → ((n : ℕ) → pages' n ≡ ledger.pages n) → PagesMatchOperations (record ledger { pages = pages' })
+same_matched ledger pages' matches same =
+    let path : ledger.pages ≡ pages' = λ i n. sym (same n) i in
+    subst (λ (p : FilePages). PagesMatchOperations (record ledger { pages = p })) path matches

@@ -17,7 +17,8 @@ pub use change_laws::{
 pub use finding::{ghost_of, look_up_finds_the_ghost, what_is_undone_is_found};
 pub use mlt_hash_form::Root;
 pub use move_laws::{
-    ghosts_move_with_their_keys, moves_join, rearranged_slots_are_moved, split_moves_slots,
+    ghosts_move_with_their_keys, kept_file_keeps_ghosts, moves_join, rearranged_slots_are_moved,
+    same_pages_keep_ghosts, split_moves_slots,
 };
 pub use room::{kept_room, reclaimable};
 pub use transaction_laws::{

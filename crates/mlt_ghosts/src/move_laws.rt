@@ -6,9 +6,9 @@ ghost use Rattle.std.specs.FinSet as set;
 ghost use Rattle.mlt_page.specs.Slots.{is_kept};
 ghost use Rattle.mlt_page.specs.declared.slot.Slot.{Slot};
 ghost use Rattle.mlt_hash_form.specs.Form.{is_used, slot_at};
-ghost use Rattle.mlt_hash_form.specs.File.{FilePages, buckets_of};
+ghost use Rattle.mlt_hash_form.specs.File.{FilePages, HasForm, buckets_of};
 ghost use Rattle.mlt_hash_form.specs.Changes.{IsSplit};
-ghost use Rattle.mlt_hash_form.specs.Held.{RearrangesSlots, SeenPages};
+ghost use Rattle.mlt_hash_form.specs.Held.{Agrees, KeepsFile, RearrangesSlots, SeenPages, over};
 ghost use Rattle.mlt_ghosts.specs.Ghosts.{PagesMatchOperations};
 ghost use Rattle.mlt_ghosts.specs.Ledgers.{Ledger};
 ghost use Rattle.mlt_ghosts.specs.Moves.{MovesSlots};
@@ -38,6 +38,21 @@ pub fn rearranged_slots_are_moved()
         (before after : FilePages) (root : ℕ)
         → RearrangesSlots bits opens seen before after root
         → MovesSlots bits (is_kept opens) before after root }
+{}
+
+/// What a walk wrote up to its change of a record, as splits, keeps the ghosts: on the clean pages with these writes.
+pub fn kept_file_keeps_ghosts()
+    ensures { (ledger : Ledger) (seen : SeenPages) (rest : FilePages)
+        → PagesMatchOperations ledger → HasForm ledger.bits ledger.pages ledger.root
+        → Agrees seen ledger.pages → KeepsFile ledger.bits ledger.opens ledger.root seen rest
+        → PagesMatchOperations (record ledger { pages = over ledger.pages rest }) }
+{}
+
+/// Pages that are the same, number by number, have the same ghosts.
+pub fn same_pages_keep_ghosts()
+    ensures { (ledger : Ledger) (pages : FilePages)
+        → PagesMatchOperations ledger → ((n : ℕ) → pages n ≡ ledger.pages n)
+        → PagesMatchOperations (record ledger { pages = pages }) }
 {}
 
 /// A ghost goes where its key goes: to move slots keeps the ghosts, where records and ghosts of open owners stay.

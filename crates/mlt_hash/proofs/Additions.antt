@@ -16,7 +16,7 @@ use Rattle.mlt_held.specs.Moments.{Moment}
 use Rattle.mlt_held.specs.Views.{View, view_of}
 use Rattle.mlt_record.specs.Plans.{IsNowhere, SetsFirst, WriteFields, has_room}
 use Rattle.mlt_hash.specs.Passes.{slot_after}
-use Rattle.mlt_hash.specs.Walks.{Basis, Stands, StoodBefore, WalkFields}
+use Rattle.mlt_hash.specs.Walks.{Basis, FoundBefore, Stands, StoodBefore, WalkFields}
 use Rattle.mlt_hash.specs.Changes.{HasOwnGhost, IsAtAbsent, IsFull, Makes, PlansSlot, SeesBucket, TellsOfAddition, TellsOfChange, directory_depth_of, page_of}
 use Rattle.mlt_hash.specs.declared.pass.Change.{Change}
 use Rattle.mlt_hash.specs.declared.pass.Change.TheVariants as change
@@ -75,10 +75,10 @@ absent_plans basis walk old number fields has s write none stands = plans_slot w
 
 module _ (basis : Basis) (walk after : WalkFields) (old new : Moment) (number key : ℕ) (fields : BucketFields) (write : WriteFields) (result : WalkAnswer) (reads : ReadsBucket basis walk old number key fields) (none : IsAtAbsent walk.phase) where
   -- the plan of a walk whose key had no record is the change of it
-  absent_makes : (done : Change) (has : Slot → Bool) → (plan : SetsFirst number fields has (slot_after done walk.key basis.tx) write) → StoodBefore done basis walk.key fields.slots (slice_index_or fields.slots plan.slot Free)
+  absent_makes : (done : Change) (has : Slot → Bool) → FoundBefore done None → (plan : SetsFirst number fields has (slot_after done walk.key basis.tx) write) → StoodBefore done basis walk.key fields.slots (slice_index_or fields.slots plan.slot Free)
       → WritesPlan walk after old new write done result → Makes basis new walk after done
-  absent_makes done has plan was told =
-      makes_change basis walk after old new number (directory_depth_of walk.phase) None fields done has write reads.bounded (absent_at basis walk (view_of old) walk.phase none reads.stands) reads.sees reads.here plan was told.writes told.walk_is
+  absent_makes done has fits plan was told =
+      makes_change basis walk after old new number (directory_depth_of walk.phase) None fields done has write reads.bounded (absent_at basis walk (view_of old) walk.phase none reads.stands) reads.sees reads.here plan fits was told.writes told.walk_is
 
   no_value : value_in walk.key fields.slots ≡ None
   no_value = absent_value basis walk (view_of old) fields none reads.stands reads.sees
@@ -87,7 +87,7 @@ module _ (basis : Basis) (walk after : WalkFields) (old new : Moment) (number ke
   revive_makes value owner own plan told =
       let of_walk : SetsFirst number fields (is_ghost_of walk.key owner) (Live walk.key value) write = subst (λ k. SetsFirst number fields (is_ghost_of k owner) (Live k value) write) reads.key_is plan in
       let own_plan : SetsFirst number fields (is_ghost_of walk.key basis.tx) (Live walk.key value) write = subst (λ tx. SetsFirst number fields (is_ghost_of walk.key tx) (Live walk.key value) write) own of_walk in
-      absent_makes (change.Revive value) (is_ghost_of walk.key basis.tx) own_plan (no_value, own_plan.was) told
+      absent_makes (change.Revive value) (is_ghost_of walk.key basis.tx) refl own_plan (no_value, own_plan.was) told
 
   -- **A revival,**
   pub revive_tells : (value owner : ℕ) → owner ≡ basis.tx → SetsFirst number fields (is_ghost_of key owner) (Live key value) write → WritesPlan walk after old new write (change.Revive value) result → TellsOfChange basis new walk after (change.Revive value) result
@@ -103,5 +103,5 @@ module _ (basis : Basis) (walk after : WalkFields) (old new : Moment) (number ke
       let of_walk : SetsFirst number fields (has_room basis.opens) (Live walk.key value) write = subst (λ k. SetsFirst number fields (has_room basis.opens) (Live k value) write) reads.key_is plan in
       let no_ghost : position (is_ghost_of walk.key basis.tx) fields.slots ≡ None = own_ghost_nowhere basis walk key owner fields reads.key_is own nowhere in
       let free : is_kept basis.opens (slice_index_or fields.slots of_walk.slot Free) ≡ false = not-true (is_kept basis.opens (slice_index_or fields.slots of_walk.slot Free)) of_walk.was in
-      let makes : Makes basis new walk after (change.Put value) = absent_makes (change.Put value) (has_room basis.opens) of_walk (no_value, no_ghost, free) told in
+      let makes : Makes basis new walk after (change.Put value) = absent_makes (change.Put value) (has_room basis.opens) refl of_walk (no_value, no_ghost, free) told in
       subst (λ r. TellsOfAddition basis new walk after value r) (sym told.answer_is) (inr makes)

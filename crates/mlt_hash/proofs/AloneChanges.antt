@@ -110,6 +110,7 @@ may_walk_alone bits opens root max_depth mid old walk none same alone file stand
       small = file.small;
       may = alone.may;
       file = record { clean = pages_before mid; is_clean = before_is_clean mid alone.may; form = was.form };
+      shallow = was.shallow;
       stands = subst (λ (m : Moment). IsStanding (basis_of bits root max_depth m) walk (view_of m)) (sym same) stands;
     })
 

@@ -1,6 +1,6 @@
 -- What a change in place makes of the file
 use Rattle.std.proofs.Common.{◌≡◌, ℕ, ◌<◌, ◌≤◌, ◌^◌, Bool, true, List, Option, Some, None, is_some, refl, sym, ap, subst, ◌∙◌, arith}
-use Rattle.std.specs.Prelude.{IsSome, position, slice_index_or}
+use Rattle.std.specs.Prelude.{IsSome, position, slice_index_or, unwrap_or}
 use Rattle.std.specs.Ordering.{nat_cmp}
 use Rattle.std.specs.FinMap as map
 use Rattle.std.specs.Option.{option_map}
@@ -33,7 +33,7 @@ use Rattle.mlt_held.specs.Views.{ReadsHeldBucket, View, WritesPage, WritesSlot, 
 use Rattle.mlt_held.proofs.Views.{may_write, mode_of_page, own_held}
 use Rattle.mlt_record.specs.Plans.{IsNowhere, SetsFirst, WriteFields}
 use Rattle.mlt_hash.specs.Passes.{bucket_mode, directory_held, slot_after, value_after}
-use Rattle.mlt_hash.specs.Walks.{Basis, IsAtBucket, IsChanged, IsUnwritten, Stands, StoodBefore, WalkFields, dir_of}
+use Rattle.mlt_hash.specs.Walks.{Basis, FoundBefore, IsAtBucket, IsChanged, IsUnwritten, Stands, StoodBefore, WalkFields, dir_of}
 use Rattle.mlt_hash.specs.Changes.{IsAtAbsent, IsAtRecord, Makes, PlansSlot, SeesBucket, TellsOfChange, WritesIfChanged, directory_depth_of, page_of}
 use Rattle.mlt_hash.specs.declared.pass.Pass.{Pass}
 use Rattle.mlt_hash.specs.declared.pass.Pass.TheVariants as pass
@@ -43,6 +43,8 @@ use Rattle.mlt_hash.specs.declared.pass.Change.{Change}
 use Rattle.mlt_hash.specs.declared.pass.Change.TheVariants as change
 use Rattle.mlt_hash.specs.declared.answer.WalkAnswer.{WalkAnswer}
 use Rattle.mlt_hash.specs.declared.answer.WalkAnswer.TheVariants as answer
+use Rattle.mlt_hash.proofs.Passed.{passed_as, passed_at_bucket, passes_on, steps_by_write}
+use Rattle.mlt_hash.proofs.Readings.{three_held}
 
 -- a page with a first image is there, and was written
 written_is_there : (image : Option (Option Page)) (page : Option Page) → (is_some image ≡ true → is_some page ≡ true) → page_written image page ≡ None → image ≡ None
@@ -140,7 +142,7 @@ module _ (basis : Basis) (walk : WalkFields) (view : View) (n depth : ℕ) (foun
   seen_home clean agree form = path_home basis.bits clean basis.root walk.key stands.header stands.dir n fields bounded form (seen_path clean agree)
 
   -- one write of the bucket, with one slot changed, is a change of the file
-  module _ (new : View) (done : Change) (i : ℕ) (within : i < 8) (was : StoodBefore done basis walk.key fields.slots (slice_index_or fields.slots i Free)) (writes : WritesPage view new n (page_with_slot fields i (slot_after done walk.key basis.tx))) where
+  module _ (new : View) (done : Change) (fits : FoundBefore done found) (i : ℕ) (within : i < 8) (was : StoodBefore done basis walk.key fields.slots (slice_index_or fields.slots i Free)) (writes : WritesPage view new n (page_with_slot fields i (slot_after done walk.key basis.tx))) where
     agreed_before : (clean : ℕ → Option Page) → Agrees new.seen clean → Agrees view.seen clean
     agreed_before clean agree q first is = agree q first (writes.seen q ∙ is)
 
@@ -152,8 +154,18 @@ module _ (basis : Basis) (walk : WalkFields) (view : View) (n depth : ℕ) (foun
           (writes_over clean (λ _. None) new.own n (page_with_slot fields i (slot_after done walk.key basis.tx)) writes.here (λ q ne. writes.others q ne ∙ stands.unwritten q));
     }
 
+    not_header : basis.root ≡ n → ⊥
+    not_header same = let both : Some (Some (page.Head stands.header)) ≡ Some (Some (page.Bucket fields)) = sym stands.head ∙ ap view.seen same ∙ sees in cc
+
     pub is_changed : IsChanged basis (record walk { phase = at.Changed n done }) new n done
     is_changed = record {
+      found = found;
+      fits = fits;
+      passed = passed_as basis basis.opens walk (at.Changed n done) walk.split new found (passes_on basis walk view new (steps_by_write walk view new n (page_with_slot fields i (slot_after done walk.key basis.tx)) writes) found (passed_at_bucket basis walk view n depth found stands));
+      header = stands.header;
+      head = λ k. own_or ((writes.others basis.root not_header ∙ stands.unwritten basis.root) k) (unwrap_or ((writes.seen basis.root ∙ stands.head) k) None);
+      shallow = stands.shallow;
+      few = let three = three_held view.modes walk.pass walk.mode basis.root (dir_of basis stands.header walk.key) n stands.held in let same : map.len new.modes ≡ map.len view.modes = ap map.len writes.modes in omega (arith, three, same);
       rest = λ _. None;
       slot = i;
       within = within;
@@ -184,11 +196,11 @@ plans_slot walk view number fields has s write unwritten sees here plan = record
 pub makes_change : (basis : Basis) (walk after : WalkFields) (old new : Moment) (number depth : ℕ) (found : Option ℕ) (fields : BucketFields) (done : Change) (has : Slot → Bool) (write : WriteFields)
     → ((k : ℕ) → basis.bits k < 2 ^ 64) → IsAtBucket basis walk (view_of old) (page_of walk.phase) depth found → SeesBucket walk (view_of old) fields
     → number ≡ page_of walk.phase → (plan : SetsFirst number fields has (slot_after done walk.key basis.tx) write)
-    → StoodBefore done basis walk.key fields.slots (slice_index_or fields.slots plan.slot Free)
+    → FoundBefore done found → StoodBefore done basis walk.key fields.slots (slice_index_or fields.slots plan.slot Free)
     → WritesSlot (view_of old) (view_of new) write.number write.at write.slot
     → after ≡ record walk { phase = at.Changed write.number done }
     → Makes basis new walk after done
-makes_change basis walk after old new number depth found fields done has write bounded stands sees here plan was writes is =
+makes_change basis walk after old new number depth found fields done has write bounded stands sees here plan fits was writes is =
     let n = page_of walk.phase in
     let page = page_with_slot fields plan.slot (slot_after done walk.key basis.tx) in
     let on : write.number ≡ n = ap (λ (w : WriteFields). w.number) plan.written ∙ here in
@@ -196,7 +208,7 @@ makes_change basis walk after old new number depth found fields done has write b
     let reads : ReadsHeldBucket (view_of old) write.number fields = plan_reads walk (view_of old) number fields has (slot_after done walk.key basis.tx) write stands.unwritten sees here plan in
     let now : after ≡ record walk { phase = at.Changed n done } = is ∙ ap (λ q. record walk { phase = at.Changed q done }) on in
     let writes_here : WritesPage (view_of old) (view_of new) n page = subst (λ q. WritesPage (view_of old) (view_of new) q page) on (subst (λ p. WritesPage (view_of old) (view_of new) write.number p) what (writes fields reads)) in
-    let changed = is_changed basis walk (view_of old) n depth found fields bounded stands sees.at (view_of new) done plan.slot plan.within was writes_here in
+    let changed = is_changed basis walk (view_of old) n depth found fields bounded stands sees.at (view_of new) done fits plan.slot plan.within was writes_here in
     record {
       same = record { key = ap (λ (w : WalkFields). w.key) now; mode = ap (λ (w : WalkFields). w.mode) now; pass = ap (λ (w : WalkFields). w.pass) now };
       phase = ap (λ (w : WalkFields). w.phase) now;
@@ -275,21 +287,21 @@ plan_is_written old new q number fields has s write told here plan writes =
 
 module _ (basis : Basis) (walk after : WalkFields) (old new : Moment) (number key : ℕ) (fields : BucketFields) (write : WriteFields) (result : WalkAnswer) (reads : ReadsBucket basis walk old number key fields) where
   -- the plan of a walk whose key had a record is the change of it
-  record_changes : (done : Change) → IsAtRecord walk.phase → (plan : SetsFirst number fields (is_live_of walk.key) (slot_after done walk.key basis.tx) write)
+  record_changes : (done : Change) → ((found : Option ℕ) → IsSome found → FoundBefore done found) → IsAtRecord walk.phase → (plan : SetsFirst number fields (is_live_of walk.key) (slot_after done walk.key basis.tx) write)
       → (is_live_of walk.key (slice_index_or fields.slots plan.slot Free) ≡ true → StoodBefore done basis walk.key fields.slots (slice_index_or fields.slots plan.slot Free))
       → WritesPlan walk after old new write done result → TellsOfChange basis new walk after done result
-  record_changes done has plan was told =
+  record_changes done fits has plan was told =
       let stands = record_at basis walk (view_of old) walk.phase has reads.stands in
-      let makes : Makes basis new walk after done = makes_change basis walk after old new number (directory_depth_of walk.phase) stands.0 fields done (is_live_of walk.key) write reads.bounded stands.1 reads.sees reads.here plan (was plan.was) told.writes told.walk_is in
+      let makes : Makes basis new walk after done = makes_change basis walk after old new number (directory_depth_of walk.phase) stands.0 fields done (is_live_of walk.key) write reads.bounded stands.1 reads.sees reads.here plan (fits stands.0 stands.2) (was plan.was) told.writes told.walk_is in
       tells_change basis new walk after done result told.answer_is makes
 
   -- **An update,**
   pub update_tells : (value : ℕ) → IsAtRecord walk.phase → SetsFirst number fields (is_live_of key) (Live key value) write → WritesPlan walk after old new write (change.Set value) result → TellsOfChange basis new walk after (change.Set value) result
   update_tells value has plan told =
-      record_changes (change.Set value) has (subst (λ k. SetsFirst number fields (is_live_of k) (Live k value) write) reads.key_is plan) (λ live. live) told
+      record_changes (change.Set value) (λ found some. some) has (subst (λ k. SetsFirst number fields (is_live_of k) (Live k value) write) reads.key_is plan) (λ live. live) told
 
   -- **a removal,**
   pub remove_tells : (owner : ℕ) → owner ≡ basis.tx → IsAtRecord walk.phase → SetsFirst number fields (is_live_of key) (Ghost key 0 owner) write → WritesPlan walk after old new write change.Remove result → TellsOfChange basis new walk after change.Remove result
   remove_tells owner own has plan told =
       let of_walk : SetsFirst number fields (is_live_of walk.key) (Ghost walk.key 0 owner) write = subst (λ k. SetsFirst number fields (is_live_of k) (Ghost k 0 owner) write) reads.key_is plan in
-      record_changes change.Remove has (subst (λ tx. SetsFirst number fields (is_live_of walk.key) (Ghost walk.key 0 tx) write) own of_walk) (λ live. live) told
+      record_changes change.Remove (λ found some. some) has (subst (λ tx. SetsFirst number fields (is_live_of walk.key) (Ghost walk.key 0 tx) write) own of_walk) (λ live. live) told

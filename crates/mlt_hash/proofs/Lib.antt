@@ -11,8 +11,10 @@ pub mod AloneWalks
 pub mod HashFiles
 pub mod InPlace
 pub mod Laws
+pub mod OnWay
 pub mod OpenedFiles
 pub mod Owners
+pub mod Passed
 pub mod Paths
 pub mod Puts
 pub mod Readings
@@ -21,3 +23,5 @@ pub mod Slots
 pub mod SplitPages
 pub mod Splittings
 pub mod Standing
+pub mod Standings
+pub mod StepsLeft

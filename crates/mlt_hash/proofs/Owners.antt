@@ -22,6 +22,7 @@ use Rattle.mlt_hash.specs.declared.pass.Change.{Change}
 use Rattle.mlt_hash.specs.declared.pass.Change.TheVariants as change
 use Rattle.mlt_hash.specs.declared.pass.Phase.{Phase}
 use Rattle.mlt_hash.specs.declared.pass.Phase.TheVariants as at
+use Rattle.mlt_hash.proofs.Passed.{passed_as}
 use Rattle.mlt_hash.proofs.Standing.{at_bucket_for, headed_for, placed_for}
 
 seen_as : (seen : Option (Option Page)) → is_some seen ≡ true → (p : Option Page) × (seen ≡ Some p)
@@ -59,6 +60,8 @@ module _ (basis : Basis) (fewer : set.FinSet nat_cmp) (walk : WalkFields) (view 
   still_adds n room_depth unsplit adds = record {
     header = adds.header;
     fields = adds.fields;
+    passed = passed_as basis fewer walk walk.phase walk.split view None adds.passed;
+    shallow = adds.shallow;
     rest = still_rests room_depth n adds.header adds.fields adds.rest;
     most = adds.most;
     unsplit_is = adds.unsplit_is;
@@ -71,6 +74,8 @@ module _ (basis : Basis) (fewer : set.FinSet nat_cmp) (walk : WalkFields) (view 
   still_splits room_depth splits = record {
     split = splits.split;
     split_is = splits.split_is;
+    passed = passed_as basis fewer walk walk.phase walk.split view None splits.passed;
+    shallow = splits.shallow;
     under_way = under_way_with_fewer (aim_of basis walk room_depth) fewer view splits.split clean agree form splits.under_way no_more;
     most = splits.most;
     later = splits.later;
@@ -86,6 +91,13 @@ module _ (basis : Basis) (fewer : set.FinSet nat_cmp) (walk : WalkFields) (view 
 
   still_changed : (n : ℕ) (done : Change) → IsChanged basis walk view n done → IsChanged (record basis { opens = fewer }) walk view n done
   still_changed n done changed = record {
+    found = changed.found;
+    fits = changed.fits;
+    passed = passed_as basis fewer walk walk.phase walk.split view changed.found changed.passed;
+    header = changed.header;
+    head = changed.head;
+    shallow = changed.shallow;
+    few = changed.few;
     rest = changed.rest;
     slot = changed.slot;
     within = changed.within;

@@ -1,6 +1,6 @@
 -- Additions whose bucket had no room: what a walk at rest knows of its file, and the record that it puts at last
-use Rattle.std.proofs.Common.{ℕ, suc, ◌≡◌, ◌<◌, ◌+◌, Bool, true, false, not, List, [], ◌∷◌, length, Option, Some, None, is_some, unwrap_or, refl, sym, ◌∙◌, ap, subst, inl, inr, ◌⊎◌, arith}
-use Rattle.std.specs.Prelude.{◌↔◌, slice_index_or, position, Err, Result}
+use Rattle.std.proofs.Common.{ℕ, suc, ◌≡◌, ◌<◌, ◌≤◌, ◌+◌, Bool, true, false, not, List, [], ◌∷◌, length, Option, Some, None, is_some, refl, sym, ◌∙◌, ap, subst, inl, inr, ◌⊎◌, arith}
+use Rattle.std.specs.Prelude.{◌↔◌, slice_index_or, position, unwrap_or, Err, Result}
 use Rattle.std.specs.List.{list_all}
 use Rattle.std.specs.Ordering.{nat_cmp}
 use Rattle.std.specs.FinMap as map
@@ -21,20 +21,22 @@ use Rattle.mlt_hash_form.specs.Changes.{IsHome}
 use Rattle.mlt_hash_form.specs.File.{HasForm, bucket_of, buckets_of, header_of, lead_of}
 use Rattle.mlt_hash_form.specs.Form.{value_in}
 use Rattle.mlt_hash_form.specs.Held.{Agrees, over, own_or}
-use Rattle.mlt_hash_form.specs.Room.{agrees, is_crowded}
+use Rattle.mlt_hash_form.specs.Room.{crowds, is_crowded}
 use Rattle.mlt_hash_form.proofs.Crowd.{crowded_at_own_depth, crowded_in_fewer}
 use Rattle.mlt_hash_form.proofs.HeldPages.{keeps_more}
 use Rattle.mlt_held.specs.Moments.{HasCleanFile, MayStep, Moment, page_before}
 use Rattle.mlt_held.specs.PageSteps.{MakesLockedPage, TouchesOnePage, WritesHeldPage, WritesHeldSlot}
-use Rattle.mlt_held.specs.Views.{ReadsHeldBucket, ReadsHeldPage, View, WritesPage, own_at, view_of}
+use Rattle.mlt_held.specs.Views.{MakesPage, ReadsHeldBucket, ReadsHeldPage, View, WritesPage, own_at, view_of}
 use Rattle.mlt_page_locks.specs.LockTables.{can_read, can_write}
-use Rattle.mlt_held.proofs.Views.{may_read, may_write, seen_held, write_writes, writes_over_clean}
+use Rattle.mlt_held.proofs.Views.{make_makes, may_read, may_write, seen_held, write_writes, writes_over_clean}
 use Rattle.mlt_record.specs.Plans.{IsNowhere, SetsFirst, WriteFields, has_room}
 use Rattle.mlt_split.specs.Rests.{Aim, IsAtRest, held_page, seed_of}
 use Rattle.mlt_split.specs.Splits.{IsUnderWay, MayBegin, SplitFields, directory_steps, steps_left}
 use Rattle.mlt_split.proofs.Beginning.{rest_bucket, rest_is_shallow, rest_is_small}
 use Rattle.mlt_split.proofs.Closing.{HasClean}
-use Rattle.mlt_hash.specs.Walks.{Basis, IsAdding, IsChanged, IsSplitting, IsStanding, Stands, WalkFields, aim_of}
+use Rattle.mlt_split.proofs.Few.{rest_holds_few}
+use Rattle.mlt_split.proofs.HeldPages.{not_made}
+use Rattle.mlt_hash.specs.Walks.{Basis, HasPassed, IsAdding, IsChanged, IsSplitting, IsStanding, Stands, WalkFields, aim_of}
 use Rattle.mlt_hash.specs.Changes.{Makes, PlansSlot, page_of}
 use Rattle.mlt_hash.specs.Splitting.{BeginsSplit, HasToSplit, TellsOfAdding, TellsOfPut}
 use Rattle.mlt_hash.specs.declared.answer.WalkAnswer.{WalkAnswer}
@@ -46,6 +48,7 @@ use Rattle.mlt_hash.specs.declared.pass.Phase.TheVariants as at
 use Rattle.mlt_hash.specs.declared.pass.Change.TheVariants as change
 use Rattle.mlt_hash.proofs.Additions.{nowhere_found}
 use Rattle.mlt_hash.proofs.InPlace.{changes_by}
+use Rattle.mlt_hash.proofs.Passed.{passed_as, passes_on, steps_by_making, steps_by_write}
 use Rattle.mlt_hash.proofs.Splittings.{stays_exclusive_in_step}
 
 -- what no slot has stands nowhere
@@ -63,15 +66,23 @@ rest_home aim view n header bucket rest clean agree form = record {
 }
 
 -- **The record that is put into a bucket at rest changes the file at its key alone.**
-pub put_is_changed : (basis : Basis) (walk : WalkFields) (old new : View) (room_depth n : ℕ) (header : HeadFields) (fields : BucketFields) (value i : ℕ) → IsAtRest (aim_of basis walk room_depth) old n header fields → i < 8
+pub put_is_changed : (basis : Basis) (walk : WalkFields) (old new : View) (room_depth n : ℕ) (header : HeadFields) (fields : BucketFields) (value i : ℕ) → HasPassed basis walk old None → header.depth ≤ basis.max_depth → map.len old.modes < 300 → IsAtRest (aim_of basis walk room_depth) old n header fields → i < 8
     → is_kept basis.opens (slice_index_or fields.slots i Free) ≡ false → WritesPage old new n (page_with_slot fields i (Live walk.key value)) → IsChanged basis (record walk { phase = at.Changed n (change.Put value) }) new n (change.Put value)
-put_is_changed basis walk old new room_depth n header fields value i rest within room writes =
+put_is_changed basis walk old new room_depth n header fields value i passed shallow few rest within room writes =
     let aim = aim_of basis walk room_depth in
     let absent = nowhere (is_live_of walk.key) fields.slots rest.absent in
     let none : value_in walk.key fields.slots ≡ None = rw absent refl in
     let no_ghost = nowhere (is_ghost_of walk.key basis.tx) fields.slots rest.no_ghost in
     let before : (clean : ℕ → Option Page) → Agrees new.seen clean → Agrees old.seen clean = λ clean agree q first is. agree q first (writes.seen q ∙ is) in
+    let not_header : basis.root ≡ n → ⊥ = λ same. (let both : Some (page.Head header) ≡ Some (page.Bucket fields) = sym rest.head ∙ ap (held_page old) same ∙ rest.found in cc) in
     record {
+      found = None;
+      fits = refl;
+      passed = passed_as basis basis.opens walk (at.Changed n (change.Put value)) walk.split new None (passes_on basis walk old new (steps_by_write walk old new n (page_with_slot fields i (Live walk.key value)) writes) None passed);
+      header = header;
+      head = (λ k. own_or (writes.others basis.root not_header k) (unwrap_or (writes.seen basis.root k) None)) ∙ rest.head;
+      shallow = shallow;
+      few = let same : map.len new.modes ≡ map.len old.modes = ap map.len writes.modes in omega (arith, few, same);
       rest = old.own;
       slot = i;
       within = within;
@@ -104,7 +115,7 @@ module _ (aim : Aim) (view : View) (n : ℕ) (header : HeadFields) (bucket : Buc
       let home = rest_home aim view n header bucket rest clean.clean clean.agrees clean.form in
       let same : buckets_of pages (lead_of pages aim.root (seed_of aim)) ≡ bucket = ap (buckets_of pages) home.leads ∙ ap bucket_of home.found in
       let law = crowded_at_own_depth aim.bits aim.opens (header_of (pages aim.root)).depth (lead_of pages aim.root) (buckets_of pages) (seed_of aim) (rest.bounded aim.key) rest.bounded form.form in
-      subst (λ (b : BucketFields). list_all (agrees aim.bits aim.opens b.depth (seed_of aim)) b.slots ≡ true) same (law.1 (subst (λ (b : BucketFields). list_all (is_kept aim.opens) b.slots ≡ true) (sym same) kept))
+      subst (λ (b : BucketFields). list_all (crowds aim.bits aim.opens b.depth (seed_of aim)) b.slots ≡ true) same (law.1 (subst (λ (b : BucketFields). list_all (is_kept aim.opens) b.slots ≡ true) (sym same) kept))
 
   pub kept_is_shallow : list_all (is_kept aim.opens) bucket.slots ≡ true → bucket.depth < aim.room_depth
   kept_is_shallow kept =
@@ -165,7 +176,7 @@ may_begin basis walk old n room_depth unsplit may file adds shallow = record {
   where
     exclusive_header : (p : Pass) → walk.pass ≡ p → adds.fields.depth ≡ adds.header.depth → map.get (view_of old).modes basis.root ≡ Some Exclusive
     exclusive_header pass.First is deep = absurd (adds.later is)
-    exclusive_header pass.Narrow is deep = (let fits = adds.narrow is in absurd (omega (arith, fits, shallow, deep)))
+    exclusive_header pass.Narrow is deep = (let fits = (adds.narrow is).enough in absurd (omega (arith, fits, shallow, deep)))
     exclusive_header pass.Wide is deep = adds.wide is
 
 -- what a page that is held has is read there
@@ -185,7 +196,7 @@ adding_plans basis walk old n room_depth unsplit adds has s write plan = record 
   within = subst (λ i. i < 8) (sym (ap (λ (w : WriteFields). w.at) plan.written)) plan.within;
 }
 
-module _ (basis : Basis) (walk after : WalkFields) (old new : Moment) (value n room_depth : ℕ) (phase : walk.phase ≡ at.Adding value n room_depth false) (adds : IsAdding basis walk (view_of old) n room_depth false) (write : WriteFields) (plan : SetsFirst n adds.fields (has_room basis.opens) (Live walk.key value) write) where
+module _ (basis : Basis) (walk after : WalkFields) (old new : Moment) (value n room_depth : ℕ) (phase : walk.phase ≡ at.Adding value n room_depth false) (adds : IsAdding basis walk (view_of old) n room_depth false) (write : WriteFields) (plan : SetsFirst n adds.fields (has_room basis.opens) (Live walk.key value) write) (clean : HasClean (aim_of basis walk room_depth) (view_of old)) where
   reads : ReadsHeldBucket (view_of old) write.number adds.fields
   reads = adding_reads basis walk old n room_depth false adds (has_room basis.opens) (Live walk.key value) write plan
 
@@ -197,7 +208,7 @@ module _ (basis : Basis) (walk after : WalkFields) (old new : Moment) (value n r
       let here : WritesPage (view_of old) (view_of new) n (page_with_slot adds.fields plan.slot (Live walk.key value)) =
       subst (λ q. WritesPage (view_of old) (view_of new) q (page_with_slot adds.fields plan.slot (Live walk.key value))) on (subst (λ p. WritesPage (view_of old) (view_of new) write.number p) what (write_writes old new write.number page (writes adds.fields reads))) in
       let free : is_kept basis.opens (slice_index_or adds.fields.slots plan.slot Free) ≡ false = grind (arith, plan.was) in
-      let changed = put_is_changed basis walk (view_of old) (view_of new) room_depth n adds.header adds.fields value plan.slot adds.rest plan.within free here in
+      let changed = put_is_changed basis walk (view_of old) (view_of new) room_depth n adds.header adds.fields value plan.slot adds.passed adds.shallow (rest_holds_few (aim_of basis walk room_depth) (view_of old) n adds.header adds.fields clean adds.rest) adds.rest plan.within free here in
       let now : after ≡ record walk { phase = at.Changed n (change.Put value) } = after_is ∙ ap (λ q. record walk { phase = at.Changed q (change.Put value) }) on in
       record {
         same = record { key = ap (λ (w : WalkFields). w.key) now; mode = ap (λ (w : WalkFields). w.mode) now; pass = ap (λ (w : WalkFields). w.pass) now };
@@ -251,13 +262,20 @@ pub begins_split : (basis : Basis) (walk after : WalkFields) (old new : Moment) 
     → IsUnderWay (aim_of basis walk room_depth) (view_of new) split → steps_left split ≡ 1 + directory_steps split.depth split.directory_depth → split.depth ≡ adds.fields.depth → split.directory_depth ≡ adds.header.depth
     → after ≡ record walk { phase = at.Splitting value room_depth; split = Some split } → BeginsSplit basis old new walk after value n room_depth
 begins_split basis walk after old new value n room_depth unsplit split made may makes adds needed under_way steps bucket_depth depth after_is =
+    let made_there : MakesPage (view_of old) (view_of new) split.new_page made = make_makes old new split.new_page made may makes in
     let here : IsSplitting basis (record walk { phase = at.Splitting value room_depth; split = Some split }) (view_of new) room_depth = record {
       split = split;
       split_is = refl;
+      passed = passed_as basis basis.opens walk (at.Splitting value room_depth) (Some split) (view_of new) None (passes_on basis walk (view_of old) (view_of new) (steps_by_making walk (view_of old) (view_of new) split.new_page made made_there) None adds.passed);
+      shallow = let most = adds.shallow in omega (arith, most, depth);
       under_way = under_way;
       most = adds.most;
       later = adds.later;
-      narrow = λ narrow. let fits = adds.narrow narrow in omega (arith, fits, depth);
+      narrow = λ narrow. let fits = adds.narrow narrow in record {
+        enough = let enough = fits.enough in omega (arith, enough, depth);
+        one_page = let one = fits.one_page in omega (arith, one, depth, bucket_depth);
+        unwritten = made_there.own_others basis.root (not_made (view_of old) (view_of new) split.new_page made made_there basis.root (ap is_some adds.passed.head)) ∙ fits.unwritten;
+      };
       wide = λ wide. stays_exclusive_in_step old new basis.root may (split.new_page, inr (made, makes)) (adds.wide wide);
     } in
     record {

@@ -13,7 +13,7 @@ use Rattle.mlt_held.specs.Moments.{IsCleanFor, MayStep, Moment}
 use Rattle.mlt_held.specs.PageSteps.{LocksAtMost, TouchesOnePage}
 use Rattle.mlt_held.specs.Views.{ReadsPage, View, view_of}
 use Rattle.mlt_held.proofs.Views.{agrees, page_count_of_view}
-use Rattle.mlt_hash.specs.Passes.{directory_held, directory_mode, header_held, header_mode}
+use Rattle.mlt_hash.specs.Passes.{bucket_held, bucket_mode, directory_held, directory_mode, header_held, header_mode}
 use Rattle.mlt_hash.specs.declared.pass.Pass.{Pass}
 use Rattle.mlt_hash.specs.Walks.{IsUnwritten}
 
@@ -43,6 +43,10 @@ one_held modes pass root is = one_page_more 0 map.empty modes root (header_mode 
 
 pub two_held : (modes : Modes) (pass : Pass) (root dir : ℕ) → modes ≡ directory_held pass root dir → map.len modes ≤ 2
 two_held modes pass root dir is = one_page_more 1 (header_held pass root) modes dir (directory_mode pass) (one_held (header_held pass root) pass root refl) is
+
+-- and three at its bucket
+pub three_held : (modes : Modes) (pass : Pass) (mode : Mode) (root dir bucket : ℕ) → modes ≡ bucket_held pass mode root dir bucket → map.len modes ≤ 3
+three_held modes pass mode root dir bucket is = one_page_more 2 (directory_held pass root dir) modes bucket (bucket_mode pass mode) (two_held (directory_held pass root dir) pass root dir refl) is
 
 -- so it may lock one more
 pub few_held : (m : Moment) (n : ℕ) → map.len (view_of m).modes ≤ n → n < 300 → page_count m.locks m.running.tx < 300

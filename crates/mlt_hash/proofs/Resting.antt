@@ -1,5 +1,5 @@
 -- Where a bucket has no room: what a walk tells of it, and that its file rests before the first split
-use Rattle.std.proofs.Common.{◌≡◌, ℕ, zero, suc, ◌<◌, ◌≤◌, ◌-◌, ◌/◌, ◌^◌, Bool, true, false, eqb, ◌||◌, List, [], ◌∷◌, length, Option, Some, None, is_some, refl, sym, ap, subst, ◌∙◌, inl, inr, arith}
+use Rattle.std.proofs.Common.{◌≡◌, ℕ, zero, suc, ◌<◌, ◌≤◌, ◌+◌, ◌-◌, ◌/◌, ◌^◌, Bool, true, false, eqb, ◌||◌, List, [], ◌∷◌, length, Option, Some, None, is_some, refl, sym, ap, subst, ◌∙◌, inl, inr, arith}
 use Rattle.std.specs.Prelude.{◌≢◌, MatchOption, position, slice_index, slice_index_or, unwrap_or}
 use Rattle.std.specs.List.{list_all, list_any, position_or_len}
 use Rattle.std.specs.Ordering.{nat_cmp}
@@ -23,7 +23,7 @@ use Rattle.mlt_page_locks.specs.Requests.{stronger, with_page}
 use Rattle.mlt_hash_form.specs.Changes.{IsHome}
 use Rattle.mlt_hash_form.specs.File.{HasForm, bucket_of, buckets_of, header_of, lead_of}
 use Rattle.mlt_hash_form.specs.Held.{Agrees, KeepsFile, over, own_or}
-use Rattle.mlt_hash_form.specs.Room.{agrees, is_crowded}
+use Rattle.mlt_hash_form.specs.Room.{crowds, is_crowded}
 use Rattle.mlt_hash_form.proofs.Bits.{first_bits_below}
 use Rattle.mlt_hash_form.proofs.Crowd.{crowded_at_own_depth}
 use Rattle.mlt_hash_form.proofs.FillEnds.{page_listed}
@@ -42,6 +42,8 @@ use Rattle.mlt_hash.specs.declared.pass.Pass.{Pass}
 use Rattle.mlt_hash.specs.declared.pass.Pass.TheVariants as pass
 use Rattle.mlt_hash.specs.declared.pass.Phase.{Phase}
 use Rattle.mlt_hash.specs.declared.pass.Phase.TheVariants as at
+use Rattle.mlt_hash.proofs.Passed.{passed_as, passed_at_bucket}
+use Rattle.mlt_hash.proofs.Readings.{three_held}
 use Rattle.mlt_hash.proofs.InPlace.{absent_at, bucket_is_exclusive, found_there, no_live_slot, same_bucket, seen_home, seen_path}
 
 -- a slot that no search finds, and a free one past the end
@@ -137,6 +139,9 @@ module _ (basis : Basis) (walk : WalkFields) (m : Moment) (fields : BucketFields
   pub shallow : fields.depth ≤ 16
   shallow = omega (arith, depths.0, depths.1)
 
+  pub within_limit : fields.depth ≤ basis.max_depth
+  within_limit = let most = bucket.shallow in omega (arith, depths.0, most)
+
   home : (clean : ℕ → Option Page) → Agrees (view_of m).seen clean → HasForm basis.bits clean basis.root → IsHome basis.bits clean basis.root walk.key n fields
   home = seen_home basis walk (view_of m) n (directory_depth_of walk.phase) None fields bounded bucket full.sees.at
 
@@ -147,7 +152,7 @@ module _ (basis : Basis) (walk : WalkFields) (m : Moment) (fields : BucketFields
       let same : buckets_of file.clean (lead_of file.clean basis.root seed) ≡ fields = ap (buckets_of file.clean) at_home.leads ∙ ap bucket_of at_home.found in
       let kept : list_all (is_kept basis.opens) (buckets_of file.clean (lead_of file.clean basis.root seed)).slots ≡ true = subst (λ (b : BucketFields). list_all (is_kept basis.opens) b.slots ≡ true) (sym same) full.no_room in
       let law = crowded_at_own_depth basis.bits basis.opens (header_of (file.clean basis.root)).depth (lead_of file.clean basis.root) (buckets_of file.clean) seed (bounded walk.key) bounded file.form.form in
-      subst (λ (b : BucketFields). list_all (agrees basis.bits basis.opens b.depth seed) b.slots ≡ true) same (law.1 kept)
+      subst (λ (b : BucketFields). list_all (crowds basis.bits basis.opens b.depth seed) b.slots ≡ true) same (law.1 kept)
 
   -- so it has room only deeper down
   deeper : (d : ℕ) → fields.depth ≤ d → crowded_at basis walk fields d ≡ false → fields.depth < d
@@ -208,18 +213,26 @@ module _ (basis : Basis) (walk : WalkFields) (m : Moment) (fields : BucketFields
   }
 
   -- and the walk may add once the bucket has room
-  adding : (d : ℕ) (phase : Phase) → walk.mode ≡ Exclusive → basis.max_depth ≤ 16 → HasRoomFrom (crowded_at basis walk fields) fields.depth basis.max_depth d → (walk.pass ≡ pass.First → ⊥) → (walk.pass ≡ pass.Narrow → d ≤ directory_depth_of walk.phase)
+  adding : (d : ℕ) (phase : Phase) → walk.mode ≡ Exclusive → basis.max_depth ≤ 16 → HasRoomFrom (crowded_at basis walk fields) fields.depth basis.max_depth d → (walk.pass ≡ pass.First → ⊥) → (walk.pass ≡ pass.Narrow → (d ≤ directory_depth_of walk.phase) × (directory_depth_of walk.phase ≤ fields.depth + 8))
       → IsAdding basis (record walk { phase = phase }) (view_of m) n d true
   adding d phase exclusive small has later narrow = record {
     header = bucket.header;
     fields = fields;
+    passed = passed_as basis basis.opens walk phase walk.split (view_of m) None (passed_at_bucket basis walk (view_of m) n (directory_depth_of walk.phase) None bucket);
+    shallow = bucket.shallow;
     rest = rests d exclusive (omega (arith, has.1, small)) has.2;
     most = has.1;
     unsplit_is = λ _. deeper d has.0 has.2;
     later = later;
-    narrow = λ is. let le = narrow is in let same = bucket.depth_is in omega (arith, le, same);
+    narrow = λ is. let fits = narrow is in let same = bucket.depth_is in record { enough = omega (arith, fits.0, same); one_page = omega (arith, fits.1, same); unwritten = bucket.unwritten basis.root };
     wide = λ is. ap (λ (modes : Modes). map.get modes basis.root) (bucket.held ∙ ap (λ p. bucket_held p walk.mode basis.root (dir_of basis bucket.header walk.key) n) is) ∙ header_is_exclusive walk.mode basis.root (dir_of basis bucket.header walk.key) n;
   }
+
+-- three pages are held there
+pub few_at_bucket : (basis : Basis) (walk : WalkFields) (view : View) → IsAtAbsent walk.phase → Stands walk.phase basis walk view → map.len view.modes ≤ 3
+few_at_bucket basis walk view none stands =
+    let here = absent_at basis walk view walk.phase none stands in
+    three_held view.modes walk.pass walk.mode basis.root (dir_of basis here.header walk.key) (page_of walk.phase) here.held
 
 -- a bucket that is full is the one that is seen
 pub full_bucket : (basis : Basis) (walk : WalkFields) (view : View) (fields : BucketFields) → (seen : BucketFields) × IsFull basis walk view seen → SeesBucket walk view fields → IsFull basis walk view fields
@@ -257,23 +270,24 @@ same_walk walk after phase is = record { key = ap (λ (w : WalkFields). w.key) i
 
 module _ (basis : Basis) (walk after : WalkFields) (m : Moment) (fields : BucketFields) (next : Pass) (least : Option ℕ) (value : ℕ) (full : IsFull basis walk (view_of m) fields) (told : TellsNext basis fields walk.key (directory_depth_of walk.phase) next least) where
   -- **A first pass tells which one follows,**
-  pub first_tells : walk.pass ≡ pass.First → after ≡ record walk { phase = at.Full next } → NeedsSplit basis m walk after value
-  first_tells first is = record {
+  pub first_tells : map.len (view_of m).modes ≤ 3 → walk.pass ≡ pass.First → after ≡ record walk { phase = at.Full next } → NeedsSplit basis m walk after value
+  first_tells few first is = record {
     fields = fields;
     full = full;
     same = same_walk walk after (at.Full next) is;
-    stands = subst (λ (w : WalkFields). Stands w.phase basis w (view_of m)) (sym is) tt;
+    stands = subst (λ (w : WalkFields). Stands w.phase basis w (view_of m)) (sym is) few;
     first = λ _. (next, ap (λ (w : WalkFields). w.phase) is, told.follows);
     later = λ ne. absurd (ne first);
     narrow = λ is. absurd (first_is_not_narrow (sym first ∙ is));
   }
 
   -- **a narrow one that it has to be wide,**
-  pub widen_tells : walk.pass ≡ pass.Narrow → next ≡ pass.Wide → after ≡ record walk { phase = at.Full pass.Wide } → MustWiden basis m walk after
-  widen_tells narrow wide is = record {
+  pub widen_tells : map.len (view_of m).modes ≤ 3 → walk.pass ≡ pass.Narrow → next ≡ pass.Wide → after ≡ record walk { phase = at.Full pass.Wide } → MustWiden basis m walk after
+  widen_tells few narrow wide is = record {
     fields = fields;
     full = full;
     same = same_walk walk after (at.Full pass.Wide) is;
+    stands = subst (λ (w : WalkFields). Stands w.phase basis w (view_of m)) (sym is) few;
     narrow = narrow;
     wide = subst (λ p. IsNext basis walk fields p) wide told.follows;
     phase = ap (λ (w : WalkFields). w.phase) is;
@@ -284,10 +298,11 @@ module _ (basis : Basis) (walk after : WalkFields) (m : Moment) (fields : Bucket
     next_is_narrow narrow = stays_narrow (crowded_at basis walk fields) fields.depth basis.max_depth (directory_depth_of walk.phase) next told.follows (fits narrow)
 
     -- **and else that there is no room at any depth,**
-    pub no_room_tells : is_some least ≡ false → after ≡ walk → HasNoRoom basis m walk after
-    no_room_tells none stays = record {
+    pub no_room_tells : fields.depth ≤ basis.max_depth → is_some least ≡ false → after ≡ walk → HasNoRoom basis m walk after
+    no_room_tells shallow none stays = record {
       fields = fields;
       full = full;
+      shallow = shallow;
       never = subst (λ o. MatchOption o (NeverHasRoom (crowded_at basis walk fields) fields.depth basis.max_depth) (λ d. HasRoomFrom (crowded_at basis walk fields) fields.depth basis.max_depth d)) (none_is least none) told.room;
       later = later;
       narrow = λ narrow. subst (λ p. IsNext basis walk fields p) (next_is_narrow narrow) told.follows;
@@ -299,7 +314,10 @@ module _ (basis : Basis) (walk after : WalkFields) (m : Moment) (fields : Bucket
         → number ≡ page_of walk.phase → (d : ℕ) → least ≡ Some d → after ≡ record walk { phase = at.Adding value number d true } → NeedsSplit basis m walk after value
     adding_tells number bounded may file none stands exclusive small here d some is =
         let has : HasRoomFrom (crowded_at basis walk fields) fields.depth basis.max_depth d = subst (λ o. MatchOption o (NeverHasRoom (crowded_at basis walk fields) fields.depth basis.max_depth) (λ d. HasRoomFrom (crowded_at basis walk fields) fields.depth basis.max_depth d)) some told.room in
-        let narrow : walk.pass ≡ pass.Narrow → d ≤ directory_depth_of walk.phase = λ narrow. subst (λ o. MatchOption o (fields.depth ≤ directory_depth_of walk.phase) (λ d. d ≤ directory_depth_of walk.phase)) some (told.narrow (next_is_narrow narrow)) in
+        let narrow : walk.pass ≡ pass.Narrow → (d ≤ directory_depth_of walk.phase) × (directory_depth_of walk.phase ≤ fields.depth + 8) = λ narrow. (
+          subst (λ o. MatchOption o (fields.depth ≤ directory_depth_of walk.phase) (λ d. d ≤ directory_depth_of walk.phase)) some (told.narrow (next_is_narrow narrow)),
+          (subst (λ p. IsNext basis walk fields p) (next_is_narrow narrow) told.follows).3,
+        ) in
         let now : after ≡ record walk { phase = at.Adding value (page_of walk.phase) d true } = is ∙ ap (λ q. record walk { phase = at.Adding value q d true }) here in
         let adds = adding basis walk m fields bounded may file (absent_at basis walk (view_of m) walk.phase none stands) full d (at.Adding value (page_of walk.phase) d true) exclusive small has later narrow in
         record {

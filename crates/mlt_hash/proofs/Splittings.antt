@@ -1,5 +1,5 @@
 -- Steps of a split, as steps of the walk whose bucket is split
-use Rattle.std.proofs.Common.{ℕ, ◌≡◌, ◌≤◌, true, false, Option, Some, refl, sym, ◌∙◌, ap, subst, inl, inr, arith}
+use Rattle.std.proofs.Common.{ℕ, ◌≡◌, ◌<◌, ◌≤◌, true, false, Option, None, Some, refl, sym, ◌∙◌, ap, subst, inl, inr, arith}
 use Rattle.std.specs.Prelude.{◌↔◌}
 use Rattle.std.specs.FinMap as map
 use Rattle.std.proofs.lemmas.Bool.{cases_eq, false≢true}
@@ -7,25 +7,27 @@ use Rattle.mlt_types.specs.declared.mode.Mode.{Mode}
 use Rattle.mlt_types.specs.declared.mode.Mode.TheVariants.{Exclusive}
 use Rattle.mlt_types.specs.declared.refusal.Refusal.{Refusal}
 use Rattle.mlt_types.specs.declared.refusal.Refusal.TheVariants as refusal
+use Rattle.mlt_hash_form.specs.Held.{Agrees}
 use Rattle.mlt_page_locks.specs.LockTables.{LockTable, can_write}
 use Rattle.mlt_page_locks.proofs.LockLaws.{can_write-granted}
 use Rattle.mlt_page_locks.specs.Requests.{granted}
-use Rattle.mlt_held.specs.Moments.{MayStep, Moment}
+use Rattle.mlt_held.specs.Moments.{HasCleanFile, MayStep, Moment}
 use Rattle.mlt_held.specs.PageSteps.{LocksAtMost, TouchesOnePage, WritesAtMost}
 use Rattle.mlt_held.specs.Views.{view_of}
 use Rattle.mlt_held.proofs.Others.{step_keeps_tx}
-use Rattle.mlt_held.proofs.Views.{holds_exclusively, may_write}
-use Rattle.mlt_split.specs.Splits.{SplitFields, steps_left}
+use Rattle.mlt_held.proofs.Views.{agrees, holds_exclusively, may_write}
+use Rattle.mlt_split.specs.Splits.{IsUnderWay, SplitFields, steps_left}
 use Rattle.mlt_split.specs.Rests.{Aim}
-use Rattle.mlt_split.specs.Steps.{IsLeft, IsMaking, Touches}
+use Rattle.mlt_split.specs.Steps.{IsDone, IsLeft, IsMaking, Touches}
 use Rattle.mlt_split.specs.Tells.{GoesOn, Rests, Tells}
 use Rattle.mlt_split.specs.declared.phase.SplitPhase.{SplitPhase}
 use Rattle.mlt_split.specs.declared.phase.SplitPhase.TheVariants as split_at
 use Rattle.mlt_split.specs.declared.split.SplitAnswer.{SplitAnswer}
 use Rattle.mlt_split.specs.declared.split.SplitAnswer.TheVariants as split_answer
-use Rattle.mlt_hash.specs.Walks.{Basis, IsAdding, IsSplitting, IsStanding, Stands, WalkFields, aim_of}
+use Rattle.mlt_hash.specs.Walks.{Basis, HasPassed, IsAdding, IsSplitting, IsStanding, Stands, StaysNarrow, WalkFields, aim_of}
 use Rattle.mlt_hash.specs.Splitting.{OfSplit, SplitCloses, SplitGoesOn, TellsOfSplitting}
 use Rattle.mlt_hash.specs.Steps.{TellsOfPath}
+use Rattle.mlt_hash.proofs.Passed.{narrow_keeps_header, passed_as, passes_on, steps_by_split}
 use Rattle.mlt_hash.specs.declared.answer.WalkAnswer.{WalkAnswer}
 use Rattle.mlt_hash.specs.declared.answer.WalkAnswer.TheVariants as answer
 use Rattle.mlt_hash.specs.declared.pass.Pass.TheVariants as pass
@@ -61,15 +63,33 @@ splitting_at basis walk old value room_depth phase stands = subst (λ p. Stands 
 some_is_one : {X : Type 0} (x y : X) (o : Option X) → o ≡ Some x → o ≡ Some y → x ≡ y
 some_is_one x y o is_x is_y = let e : Some x ≡ Some y = sym is_x ∙ is_y in cc
 
-module _ (basis : Basis) (walk after : WalkFields) (old new : Moment) (value room_depth : ℕ) (was : SplitFields) (phase : walk.phase ≡ at.Splitting value room_depth) (stands : IsStanding basis walk (view_of old)) (was_is : walk.split ≡ Some was) (may : MayStep old) (touches : TouchesOnePage old new) where
+module _ (basis : Basis) (walk after : WalkFields) (old new : Moment) (value room_depth : ℕ) (was : SplitFields) (phase : walk.phase ≡ at.Splitting value room_depth) (stands : IsStanding basis walk (view_of old)) (was_is : walk.split ≡ Some was) (may : MayStep old) (file : HasCleanFile basis.bits basis.root old) (touches : TouchesOnePage old new) (done : IsDone was.phase (aim_of basis walk room_depth) old new was) where
   splits : IsSplitting basis walk (view_of old) room_depth
   splits = splitting_at basis walk old value room_depth phase stands
 
   same_split : splits.split ≡ was
   same_split = some_is_one splits.split was walk.split splits.split_is was_is
 
-  narrow_before : walk.pass ≡ pass.Narrow → room_depth ≤ was.directory_depth
-  narrow_before narrow = subst (λ (s : SplitFields). room_depth ≤ s.directory_depth) same_split (splits.narrow narrow)
+  narrow_before : walk.pass ≡ pass.Narrow → StaysNarrow basis.root (view_of old) room_depth was.depth was.directory_depth
+  narrow_before narrow = subst (λ (s : SplitFields). StaysNarrow basis.root (view_of old) room_depth s.depth s.directory_depth) same_split (splits.narrow narrow)
+
+  way : IsUnderWay (aim_of basis walk room_depth) (view_of old) was
+  way = subst (λ (s : SplitFields). IsUnderWay (aim_of basis walk room_depth) (view_of old) s) same_split splits.under_way
+
+  shallow_before : was.directory_depth ≤ basis.max_depth
+  shallow_before = subst (λ (s : SplitFields). s.directory_depth ≤ basis.max_depth) same_split splits.shallow
+
+  agreed : Agrees (view_of old).seen file.clean
+  agreed = agrees old file.clean may file.is_clean
+
+  deep_before : was.depth < room_depth
+  deep_before = (way.begins file.clean agreed file.form).deep
+
+  passed_now : HasPassed basis walk (view_of new) None
+  passed_now = passes_on basis walk (view_of old) (view_of new) (steps_by_split basis walk old new room_depth was may file.clean agreed file.form way None splits.passed splits.later narrow_before touches done) None splits.passed
+
+  header_kept : walk.pass ≡ pass.Narrow → (view_of new).own basis.root ≡ None
+  header_kept narrow = narrow_keeps_header basis walk old new room_depth was may file.clean agreed file.form way None splits.passed (narrow_before narrow) done
 
   wide_now : walk.pass ≡ pass.Wide → map.get (view_of new).modes basis.root ≡ Some Exclusive
   wide_now wide = stays_exclusive_in_step old new basis.root may touches (splits.wide wide)
@@ -80,10 +100,16 @@ module _ (basis : Basis) (walk after : WalkFields) (old new : Moment) (value roo
       let here : IsSplitting basis (record walk { split = Some is }) (view_of new) room_depth = record {
         split = is;
         split_is = refl;
+        passed = passed_as basis basis.opens walk walk.phase (Some is) (view_of new) None passed_now;
+        shallow = let same = goes.directory_depth in omega (arith, shallow_before, same);
         under_way = goes.under_way;
         most = splits.most;
         later = splits.later;
-        narrow = λ narrow. let before = narrow_before narrow in let same = goes.directory_depth in omega (arith, before, same);
+        narrow = λ narrow. let before = narrow_before narrow in let same = goes.directory_depth in let depth = goes.depth in record {
+          enough = let enough = before.enough in omega (arith, enough, same);
+          one_page = let one = before.one_page in omega (arith, one, same, depth);
+          unwritten = header_kept narrow;
+        };
         wide = wide_now;
       } in
       record {
@@ -101,12 +127,12 @@ module _ (basis : Basis) (walk after : WalkFields) (old new : Moment) (value roo
         directory_depth = goes.directory_depth;
       }
 
-  -- the directory is as deep as it was, or one deeper
-  deep_enough : (n : ℕ) (rests : Rests (aim_of basis walk room_depth) new was n) → was.directory_depth ≤ rests.header.depth
-  deep_enough n rests =
+  -- the directory is no deeper than it may be
+  within_limit : (n : ℕ) (rests : Rests (aim_of basis walk room_depth) new was n) → rests.header.depth ≤ basis.max_depth
+  within_limit n rests =
       elim (cases_eq was.depth was.directory_depth) [
-        | inl deep ↦ let is = rests.doubled deep in omega (arith, is)
-        | inr shallow ↦ let is = rests.in_place shallow in omega (arith, is)
+        | inl deep ↦ let is = rests.doubled deep in let most = splits.most in omega (arith, is, deep, deep_before, most)
+        | inr shallow ↦ let is = rests.in_place shallow in omega (arith, is, shallow_before)
       ]
 
   -- **The split closes.**
@@ -115,11 +141,19 @@ module _ (basis : Basis) (walk after : WalkFields) (old new : Moment) (value roo
       let here : IsAdding basis (record walk { phase = at.Adding value n room_depth false; split = split }) (view_of new) n room_depth false = record {
         header = rests.header;
         fields = rests.bucket;
+        passed = passed_as basis basis.opens walk (at.Adding value n room_depth false) split (view_of new) None passed_now;
+        shallow = within_limit n rests;
         rest = rests.rest;
         most = splits.most;
         unsplit_is = λ first. absurd (false≢true first);
         later = splits.later;
-        narrow = λ narrow. let before = narrow_before narrow in let deep = deep_enough n rests in omega (arith, before, deep);
+        narrow = λ narrow. let before = narrow_before narrow in let enough = before.enough in
+            let kept = rests.in_place (λ (same : was.depth ≡ was.directory_depth). omega (arith, deep_before, enough, same)) in
+            let deeper = rests.deeper in record {
+              enough = omega (arith, enough, kept);
+              one_page = let one = before.one_page in omega (arith, one, kept, deeper);
+              unwritten = header_kept narrow;
+            };
         wide = wide_now;
       } in
       record {

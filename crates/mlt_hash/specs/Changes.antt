@@ -1,5 +1,5 @@
 -- What the changes of a walk tell
-use Rattle.std.specs.Prelude.{ℕ, ◌≡◌, ◌<◌, ◌⊎◌, true, IsSome, Bool, Some, None, position}
+use Rattle.std.specs.Prelude.{ℕ, ◌≡◌, ◌<◌, ◌≤◌, ◌⊎◌, true, IsSome, Bool, Some, None, position}
 use Rattle.std.specs.List.{list_all}
 use Rattle.mlt_types.specs.declared.mode.Mode.TheVariants.{Exclusive}
 use Rattle.mlt_types.specs.declared.refusal.Refusal.TheVariants as refusal
@@ -121,6 +121,7 @@ pub record MustWiden (basis : Basis) (new : Moment) (before after : WalkFields) 
   pub fields : BucketFields
   pub full : IsFull basis before (view_of new) fields
   pub same : IsSameWalk before after
+  pub stands : IsStanding basis after (view_of new)
   pub narrow : before.pass ≡ pass.Narrow
   pub wide : IsNext basis before fields pass.Wide
   pub phase : after.phase ≡ at.Full pass.Wide
@@ -129,6 +130,7 @@ pub record MustWiden (basis : Basis) (new : Moment) (before after : WalkFields) 
 pub record HasNoRoom (basis : Basis) (new : Moment) (before after : WalkFields) : Type 0 where
   pub fields : BucketFields
   pub full : IsFull basis before (view_of new) fields
+  pub shallow : fields.depth ≤ basis.max_depth
   pub never : NeverHasRoom (crowded_at basis before fields) fields.depth basis.max_depth
   pub later : before.pass ≡ pass.First → ⊥
   pub narrow : before.pass ≡ pass.Narrow → IsNext basis before fields pass.Narrow

@@ -3,7 +3,9 @@ use Rattle.std.specs.Prelude.{ℕ, refl}
 use Rattle.std.specs.Coded.{Coded, code_by, coded×, coded_ℕ}
 use Rattle.std.specs.FinMap as map
 use Rattle.mlt_page.specs.contracts.page.Page.{the_row}
-use Rattle.mlt_store.specs.Stores.{Pages}
+use Rattle.mlt_types.specs.declared.refusal.Refusal.{Refusal}
+use Rattle.mlt_store.specs.Stores.{Pages, page_at}
+use Rattle.mlt_hash.specs.AloneWalks.{IsHashFile, RefusesFor}
 
 -- the pages of a hash file, the page of its header, how deep its directory may get and how many pages there may be, and
 -- the function from keys to pseudokeys
@@ -13,6 +15,15 @@ pub record HashFileFields (P : Type 0) : Type 0 where
   pub max_depth : ℕ
   pub max_pages : ℕ
   pub pseudo : P
+
+-- its pages are a hash file
+abbrev pub IsFileOf : {P : Type 0} → (P → ℕ → ℕ) → HashFileFields P → Type 0
+IsFileOf bits_of file = IsHashFile (bits_of file.pseudo) (page_at file.pages) file.root file.max_depth
+
+-- an addition of the key's record is refused for this reason
+abbrev pub Refuses : {P : Type 0} → (P → ℕ → ℕ) → HashFileFields P → ℕ → Refusal → Type 0
+Refuses bits_of file key refusal =
+    RefusesFor (bits_of file.pseudo) (page_at file.pages) file.pages file.root file.max_depth file.max_pages key refusal
 
 -- a hash file is stored as the tuple of its fields
 abbrev pub hash_file_code : {P : Type 0} → Coded P → Coded (HashFileFields P)

@@ -6,4 +6,5 @@ pub mod Passes
 pub mod SplitPages
 pub mod Splitting
 pub mod Steps
+pub mod StepsLeft
 pub mod Walks

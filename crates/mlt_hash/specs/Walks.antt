@@ -1,6 +1,6 @@
 -- Where a walk stands, by its phase: which pages it holds, and what it has read of them. Each fact is about these pages
 -- alone, so that what other transactions do can't touch it.
-use Rattle.std.specs.Prelude.{ℕ, ◌≡◌, ◌<◌, ◌≤◌, ◌/◌, ◌%◌, ◌^◌, Bool, true, false, List, slice_index, slice_index_or, Option, Some, None, is_some, position}
+use Rattle.std.specs.Prelude.{ℕ, ◌≡◌, ◌≢◌, ◌<◌, ◌≤◌, ◌+◌, ◌/◌, ◌%◌, ◌^◌, ◌⊎◌, Bool, IsSome, true, false, List, slice_index, slice_index_or, Option, Some, None, is_some, position}
 use Rattle.std.specs.Ordering.{nat_cmp}
 use Rattle.std.specs.FinMap as map
 use Rattle.std.specs.FinSet as set
@@ -14,15 +14,15 @@ use Rattle.mlt_page.specs.declared.page.Page.{Page}
 use Rattle.mlt_page.specs.declared.page.Page.TheVariants as page
 use Rattle.mlt_page.specs.Values.{BucketFields, HeadFields}
 use Rattle.mlt_hash_form.specs.Form.{value_in}
-use Rattle.mlt_hash_form.specs.File.{HasForm}
+use Rattle.mlt_hash_form.specs.File.{HasForm, depth_of}
 use Rattle.mlt_hash_form.specs.Changes.{IsHome}
 use Rattle.mlt_hash_form.specs.Held.{Agrees, ChangesFile, over}
 use Rattle.mlt_hash_form.specs.declared.root.Root.{Root}
 use Rattle.mlt_held.specs.Moments.{HasCleanFile, MayStep, Moment}
 use Rattle.mlt_held.specs.Views.{View, view_of}
-use Rattle.mlt_split.specs.Rests.{Aim, IsAtRest}
+use Rattle.mlt_split.specs.Rests.{Aim, IsAtRest, held_page}
 use Rattle.mlt_split.specs.Splits.{IsUnderWay, SplitFields}
-use Rattle.mlt_hash.specs.Passes.{bucket_held, directory_held, header_held, slot_after, value_after}
+use Rattle.mlt_hash.specs.Passes.{bucket_held, bucket_mode, directory_held, directory_mode, header_held, header_mode, slot_after, value_after}
 use Rattle.mlt_hash.specs.declared.pass.Pass.{Pass}
 use Rattle.mlt_hash.specs.declared.pass.Pass.TheVariants as pass
 use Rattle.mlt_hash.specs.declared.pass.Phase.{Phase}
@@ -77,6 +77,7 @@ pub record IsHeaded (basis : Basis) (walk : WalkFields) (view : View) (dir row d
   pub dir_is : dir ≡ dir_of basis header walk.key
   pub row_is : row ≡ row_of basis header walk.key
   pub depth_is : depth ≡ header.depth
+  pub shallow : header.depth ≤ basis.max_depth
 
 -- so is the directory page of the key's place
 pub record IsPlaced (basis : Basis) (walk : WalkFields) (view : View) (bucket depth : ℕ) : Type 0 where
@@ -88,6 +89,7 @@ pub record IsPlaced (basis : Basis) (walk : WalkFields) (view : View) (bucket de
   pub listed : view.seen (dir_of basis header walk.key) ≡ Some (Some (page.Dir dir))
   pub bucket_is : bucket ≡ slice_index dir (row_of basis header walk.key)
   pub depth_is : depth ≡ header.depth
+  pub shallow : header.depth ≤ basis.max_depth
 
 -- so is the bucket that the key leads to, and what it has of the key is known
 pub record IsAtBucket (basis : Basis) (walk : WalkFields) (view : View) (bucket depth : ℕ) (found : Option ℕ) : Type 0 where
@@ -99,33 +101,69 @@ pub record IsAtBucket (basis : Basis) (walk : WalkFields) (view : View) (bucket 
   pub listed : view.seen (dir_of basis header walk.key) ≡ Some (Some (page.Dir dir))
   pub bucket_is : bucket ≡ slice_index dir (row_of basis header walk.key)
   pub depth_is : depth ≡ header.depth
+  pub shallow : header.depth ≤ basis.max_depth
   pub fields : BucketFields
   pub at : view.seen bucket ≡ Some (Some (page.Bucket fields))
   pub found_is : found ≡ value_in walk.key fields.slots
+
+-- Which pages a walk holds from its bucket's step on, and in which modes: those that it locked on its way, in the modes of
+-- its pass, and each other page exclusively. That one is made by the walk, unless the pass is wide.
+pub record HoldsByPass (walk : WalkFields) (root dir bucket : ℕ) (view : View) : Type 0 where
+  pub on_header : map.get view.modes root ≡ Some (header_mode walk.pass)
+  pub on_dir : map.get view.modes dir ≡ Some (directory_mode walk.pass)
+  pub on_bucket : map.get view.modes bucket ≡ Some (bucket_mode walk.pass walk.mode)
+  pub others : (q : ℕ) → q ≢ root → q ≢ dir → q ≢ bucket → is_some (map.get view.modes q) ≡ true
+      → (map.get view.modes q ≡ Some Exclusive) × ((walk.pass ≡ pass.Wide) ⊎ (view.seen q ≡ Some None))
+
+-- What a walk has read on its way to its bucket, which stays on the clean pages up to the walk's end: the header, the
+-- key's page of the directory, and the bucket, with what it has of the key. These pages are held.
+pub record HasPassed (basis : Basis) (walk : WalkFields) (view : View) (found : Option ℕ) : Type 0 where
+  pub header : HeadFields
+  pub dir : List ℕ
+  pub bucket : ℕ
+  pub fields : BucketFields
+  pub head : view.seen basis.root ≡ Some (Some (page.Head header))
+  pub listed : view.seen (dir_of basis header walk.key) ≡ Some (Some (page.Dir dir))
+  pub bucket_is : bucket ≡ slice_index dir (row_of basis header walk.key)
+  pub at : view.seen bucket ≡ Some (Some (page.Bucket fields))
+  pub found_is : found ≡ value_in walk.key fields.slots
+  pub shallow : header.depth ≤ basis.max_depth
+  pub holds : HoldsByPass walk basis.root (dir_of basis header walk.key) bucket view
+
+-- A narrow pass needs no deeper directory. One page of it has all entries of a bucket of depth l, where the directory is of
+-- depth g. And the header is not written.
+pub record StaysNarrow (root : ℕ) (view : View) (room_depth l g : ℕ) : Type 0 where
+  pub enough : room_depth ≤ g
+  pub one_page : g ≤ l + 8
+  pub unwritten : view.own root ≡ None
 
 -- what a walk's splits are for
 abbrev pub aim_of : Basis → WalkFields → ℕ → Aim
 aim_of basis walk room_depth = record { bits = basis.bits; opens = basis.opens; root = basis.root; key = walk.key; owner = basis.tx; room_depth = room_depth }
 
--- the bucket has no room yet, but has it once it is split down to this depth
+-- The bucket has no room yet, but has it once it is split down to this depth. Nothing was found of the key.
 pub record IsAdding (basis : Basis) (walk : WalkFields) (view : View) (bucket room_depth : ℕ) (unsplit : Bool) : Type 0 where
   pub header : HeadFields
   pub fields : BucketFields
+  pub passed : HasPassed basis walk view None
+  pub shallow : header.depth ≤ basis.max_depth
   pub rest : IsAtRest (aim_of basis walk room_depth) view bucket header fields
   pub most : room_depth ≤ basis.max_depth
   pub unsplit_is : unsplit ≡ true → fields.depth < room_depth
   pub later : walk.pass ≡ pass.First → ⊥
-  pub narrow : walk.pass ≡ pass.Narrow → room_depth ≤ header.depth
+  pub narrow : walk.pass ≡ pass.Narrow → StaysNarrow basis.root view room_depth fields.depth header.depth
   pub wide : walk.pass ≡ pass.Wide → map.get view.modes basis.root ≡ Some Exclusive
 
--- a split of the bucket is under way, down to this depth, at which there is room
+-- A split of the bucket is under way, down to this depth, at which there is room. Nothing was found of the key.
 pub record IsSplitting (basis : Basis) (walk : WalkFields) (view : View) (room_depth : ℕ) : Type 0 where
   pub split : SplitFields
   pub split_is : walk.split ≡ Some split
+  pub passed : HasPassed basis walk view None
+  pub shallow : split.directory_depth ≤ basis.max_depth
   pub under_way : IsUnderWay (aim_of basis walk room_depth) view split
   pub most : room_depth ≤ basis.max_depth
   pub later : walk.pass ≡ pass.First → ⊥
-  pub narrow : walk.pass ≡ pass.Narrow → room_depth ≤ split.directory_depth
+  pub narrow : walk.pass ≡ pass.Narrow → StaysNarrow basis.root view room_depth split.depth split.directory_depth
   pub wide : walk.pass ≡ pass.Wide → map.get view.modes basis.root ≡ Some Exclusive
 
 -- what stood in the slot that a change writes
@@ -135,9 +173,24 @@ StoodBefore (change.Revive value) basis key slots slot = (value_in key slots ≡
 StoodBefore (change.Set value) basis key slots slot = is_live_of key slot ≡ true
 StoodBefore change.Remove basis key slots slot = is_live_of key slot ≡ true
 
+-- what was found of the key where this change is made
+abbrev pub FoundBefore : Change → Option ℕ → Type 0
+FoundBefore (change.Put value) found = found ≡ None
+FoundBefore (change.Revive value) found = found ≡ None
+FoundBefore (change.Set value) found = IsSome found
+FoundBefore change.Remove found = IsSome found
+
 -- A change is written in the bucket: whatever the clean pages are elsewhere, what the walk has written are the same
--- slots, rearranged up to `rest`, and then one slot changed, where the walk's key leads.
+-- slots, rearranged up to `rest`, and then one slot changed, where the walk's key leads. The header is held, as deep as the
+-- walk leaves it.
 pub record IsChanged (basis : Basis) (walk : WalkFields) (view : View) (bucket : ℕ) (done : Change) : Type 0 where
+  pub found : Option ℕ
+  pub fits : FoundBefore done found
+  pub passed : HasPassed basis walk view found
+  pub header : HeadFields
+  pub head : held_page view basis.root ≡ Some (page.Head header)
+  pub shallow : header.depth ≤ basis.max_depth
+  pub few : map.len view.modes < 300
   pub rest : ℕ → Option Page
   pub slot : ℕ
   pub within : slot < 8
@@ -152,7 +205,7 @@ Stands at.Start basis walk view = IsAtStart view
 Stands (at.Headed dir row depth) basis walk view = IsHeaded basis walk view dir row depth
 Stands (at.Placed bucket depth) basis walk view = IsPlaced basis walk view bucket depth
 Stands (at.AtBucket bucket depth found) basis walk view = IsAtBucket basis walk view bucket depth found
-Stands (at.Full next) basis walk view = Unit {0}
+Stands (at.Full next) basis walk view = map.len view.modes ≤ 3
 Stands (at.Adding value bucket room_depth unsplit) basis walk view = IsAdding basis walk view bucket room_depth unsplit
 Stands (at.Splitting value room_depth) basis walk view = IsSplitting basis walk view room_depth
 Stands (at.Changed bucket done) basis walk view = IsChanged basis walk view bucket done
@@ -167,4 +220,5 @@ pub record MayWalk (basis : Basis) (m : Moment) (walk : WalkFields) : Type 0 whe
   pub small : basis.max_depth ≤ 16
   pub may : MayStep m
   pub file : HasCleanFile basis.bits basis.root m
+  pub shallow : depth_of file.clean basis.root ≤ basis.max_depth
   pub stands : IsStanding basis walk (view_of m)

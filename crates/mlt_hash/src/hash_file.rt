@@ -5,7 +5,7 @@ ghost use Rattle.std.specs.FinMap as map;
 ghost use Rattle.mlt_store.specs.Stores.{page_at};
 ghost use Rattle.mlt_hash_form.specs.File.{depth_of};
 ghost use Rattle.mlt_hash_form.specs.Records.{live_records};
-ghost use Rattle.mlt_hash.specs.AloneWalks.{IsHashFile, RefusesFor};
+ghost use Rattle.mlt_hash.specs.HashFiles.{IsFileOf, Refuses};
 
 use crate::answer::WalkAnswer;
 use crate::opening::open_file;
@@ -58,8 +58,9 @@ impl<P: Pseudo> HashFile<P> {
         ensures records { IfOk result (λ file. live_records file.pages ≡ map.empty) }
         ensures depth { IfOk result (λ file. depth_of (page_at file.pages) file.root ≡ 0) }
         ensures pages { IfOk result (λ file. map.len file.pages ≡ 3) }
-        ensures limits { IfOk result (λ file. (file.max_depth ≡ limits.now.max_depth) × (file.max_pages ≡ limits.now.max_pages) × (file.pseudo ≡ pseudo)) }
-        ensures file { IfOk result (λ file. IsHashFile (P.bits_of file.pseudo) (page_at file.pages) file.root file.max_depth) }
+        ensures limits { IfOk result (λ file. (file.max_depth ≡ limits.now.max_depth)
+            × (file.max_pages ≡ limits.now.max_pages) × (file.pseudo ≡ pseudo)) }
+        ensures file { IfOk result (λ file. IsFileOf P.bits_of file) }
         ensures refusal { IfErr result (λ refusal. refusal ≡ Refusal.OutOfMemory) }
     {
         let mut store = Store::new(alloc, limits);
@@ -92,7 +93,7 @@ impl<P: Pseudo> HashFile<P> {
     pub fn get(&mut self, key: Key) -> Option<Value>
         ensures value { result ≡ map.get (live_records self.old.pages) key }
         ensures same { self.new ≡ self.old }
-        ensures file { IsHashFile (P.bits_of self.new.pseudo) (page_at self.new.pages) self.new.root self.new.max_depth }
+        ensures file { IsFileOf P.bits_of self.new }
     {
         let mut walk = Walk::find(self.alloc, key, Mode::Shared);
         let found = self.runner.find(&mut walk, &self.root);
@@ -108,11 +109,12 @@ impl<P: Pseudo> HashFile<P> {
     /// bucket has room there is neither.
     pub fn insert(&mut self, key: Key, value: Value) -> Result<(), Refusal>
         requires absent { map.get (live_records self.old.pages) key ≡ None }
-        ensures records { OnOk result (live_records self.new.pages ≡ map.insert (live_records self.old.pages) key value) }
+        ensures records { OnOk result
+            (live_records self.new.pages ≡ map.insert (live_records self.old.pages) key value) }
         ensures limits { self.new ≡ record self.old { pages = self.new.pages } }
-        ensures file { IsHashFile (P.bits_of self.new.pseudo) (page_at self.new.pages) self.new.root self.new.max_depth }
+        ensures file { IsFileOf P.bits_of self.new }
         ensures err { OnErr result (self.new ≡ self.old) }
-        ensures refusal { IfErr result (λ refusal. RefusesFor (P.bits_of self.old.pseudo) (page_at self.old.pages) self.old.pages self.old.root self.old.max_depth self.old.max_pages key refusal) }
+        ensures refusal { IfErr result (λ refusal. Refuses P.bits_of self.old key refusal) }
     {
         let mut walk = Walk::find(self.alloc, key, Mode::Exclusive);
         match self.runner.insert(&mut walk, value, &self.root) {
@@ -131,9 +133,10 @@ impl<P: Pseudo> HashFile<P> {
     /// Gives a key's record another value.
     pub fn update(&mut self, key: Key, value: Value)
         requires present { IsSome (map.get (live_records self.old.pages) key) }
-        ensures records { live_records self.new.pages ≡ map.insert (live_records self.old.pages) key value }
+        ensures records { live_records self.new.pages
+            ≡ map.insert (live_records self.old.pages) key value }
         ensures limits { self.new ≡ record self.old { pages = self.new.pages } }
-        ensures file { IsHashFile (P.bits_of self.new.pseudo) (page_at self.new.pages) self.new.root self.new.max_depth }
+        ensures file { IsFileOf P.bits_of self.new }
     {
         let mut walk = Walk::find(self.alloc, key, Mode::Exclusive);
         self.runner.find(&mut walk, &self.root);
@@ -146,7 +149,7 @@ impl<P: Pseudo> HashFile<P> {
         requires present { IsSome (map.get (live_records self.old.pages) key) }
         ensures records { live_records self.new.pages ≡ map.remove (live_records self.old.pages) key }
         ensures limits { self.new ≡ record self.old { pages = self.new.pages } }
-        ensures file { IsHashFile (P.bits_of self.new.pseudo) (page_at self.new.pages) self.new.root self.new.max_depth }
+        ensures file { IsFileOf P.bits_of self.new }
     {
         let mut walk = Walk::find(self.alloc, key, Mode::Exclusive);
         self.runner.find(&mut walk, &self.root);
@@ -165,7 +168,7 @@ impl<P: Pseudo> HashFile<P> {
     }
 
     /// How many pages the file has.
-    pub fn pages(&self) -> usize
+    pub fn page_count(&self) -> usize
         ensures { result ≡ map.len self.now.pages }
     {
         self.runner.pages.store.len()

@@ -17,7 +17,8 @@ use mlt_types::{PageNo, Refusal};
 pub fn open_file(store: &mut Store) -> Result<PageNo, Refusal>
     requires no_page { store.old.pages ≡ map.empty }
     requires room { 3 ≤ store.old.max_pages }
-    ensures opening { IfOk result (λ root. (dir : ℕ) × (bucket : ℕ) × IsOpening (page_at store.new.pages) root dir bucket) }
+    ensures opening { IfOk result (λ root.
+        (dir : ℕ) × (bucket : ℕ) × IsOpening (page_at store.new.pages) root dir bucket) }
     ensures pages { OnOk result (map.len store.new.pages ≡ 3) }
     ensures limit { store.new.max_pages ≡ store.old.max_pages }
     ensures refusal { IfErr result (λ refusal. refusal ≡ Refusal.OutOfMemory) }

@@ -1,9 +1,10 @@
 //! What a walk knows, whatever other transactions do.
 
-ghost use Rattle.std.specs.Prelude.{ℕ, ◌≡◌, Option};
+ghost use Rattle.std.specs.Prelude.{ℕ, ◌≡◌, ◌<◌, ◌+◌, Option, Some};
 ghost use Rattle.std.specs.Ordering.{nat_cmp};
 ghost use Rattle.std.specs.FinMap as map;
 ghost use Rattle.std.specs.FinSet as set;
+ghost use Rattle.mlt_types.specs.declared.mode.Mode.TheVariants.{Exclusive};
 ghost use Rattle.mlt_page.specs.declared.page.Page.{Page};
 ghost use Rattle.mlt_page_locks.specs.LockTables.{pages_of};
 ghost use Rattle.mlt_hash_form.specs.File.{HasForm, look_up};
@@ -11,7 +12,12 @@ ghost use Rattle.mlt_hash_form.specs.Held.{Agrees};
 ghost use Rattle.mlt_held.specs.Moments.{MayStep, Moment};
 ghost use Rattle.mlt_held.specs.Views.{View, view_of};
 ghost use Rattle.mlt_split.specs.Rests.{KeepsNoMore};
-ghost use Rattle.mlt_hash.specs.Walks.{Basis, IsAtBucket, IsAtStart, IsStanding, WalkFields};
+ghost use Rattle.mlt_split.specs.Steps.{IsNextPage};
+ghost use Rattle.mlt_hash.specs.Walks.{Basis, HasPassed, IsAtBucket, IsAtStart, IsSplitting, IsStanding, WalkFields, aim_of};
+ghost use Rattle.mlt_hash.specs.Splitting.{TellsAt};
+ghost use Rattle.mlt_hash.specs.StepsLeft.{IsPutting, steps_to_put};
+ghost use Rattle.mlt_hash.specs.declared.answer.WalkAnswer.TheVariants as answer;
+ghost use Rattle.mlt_hash.specs.declared.pass.Pass.TheVariants as pass;
 
 /// Who holds no page and has written none is at the start of a walk.
 pub fn walk_starts_without_pages()
@@ -40,4 +46,46 @@ pub fn same_view_keeps_the_walk()
         → IsStanding basis walk before
         → after.modes ≡ before.modes → ((q : ℕ) → after.seen q ≡ before.seen q) → ((q : ℕ) → after.own q ≡ before.own q)
         → IsStanding basis walk after }
+{}
+
+/// A walk at its bucket has passed what it read on its way, and holds these pages in the modes of its pass.
+pub fn walk_at_its_bucket_has_passed()
+    ensures { (basis : Basis) (walk : WalkFields) (view : View) (bucket depth : ℕ)
+        (found : Option ℕ) → IsAtBucket basis walk view bucket depth found
+        → HasPassed basis walk view found }
+{}
+
+/// What a walk found of its key is on the clean pages up to the walk's end.
+pub fn what_was_found_stays_there()
+    ensures { (basis : Basis) (walk : WalkFields) (view : View) (found : Option ℕ)
+        (clean : ℕ → Option Page) → HasPassed basis walk view found
+        → Agrees view.seen clean → found ≡ look_up basis.bits clean basis.root walk.key }
+{}
+
+/// A narrow pass holds the page that it is to lock next, and exclusively, so that it never waits for one.
+pub fn narrow_passes_hold_their_next_page()
+    ensures { (basis : Basis) (walk : WalkFields) (view : View) (room_depth n : ℕ)
+        (clean : ℕ → Option Page) → (splits : IsSplitting basis walk view room_depth)
+        → walk.pass ≡ pass.Narrow
+        → Agrees view.seen clean → HasForm basis.bits clean basis.root
+        → IsNextPage splits.split.phase (aim_of basis walk room_depth) view n
+        → map.get view.modes n ≡ Some Exclusive }
+{}
+
+/// A walk holds fewer than 300 pages, wherever it stands. `clean` is some clean file that agrees with what it saw.
+pub fn walks_hold_fewer_than_300_pages()
+    ensures { (basis : Basis) (walk : WalkFields) (view : View) (clean : ℕ → Option Page)
+        → IsStanding basis walk view
+        → Agrees view.seen clean → HasForm basis.bits clean basis.root
+        → map.len view.modes < 300 }
+{}
+
+/// Each step of a pass that splits, or is to, is one of those that are left.
+pub fn each_step_leaves_one_fewer()
+    ensures { (basis : Basis) (old new : Moment) (before after : WalkFields)
+        (clean : ℕ → Option Page) → Agrees (view_of new).seen clean
+        → HasForm basis.bits clean basis.root → IsPutting before.phase
+        → TellsAt before.phase basis old new before after answer.Going
+        → steps_to_put basis.root after (view_of new) + 1
+        ≡ steps_to_put basis.root before (view_of old) }
 {}

@@ -1,4 +1,4 @@
--- The first bits of a pseudokey
+-- The first bits of a pseudokey. Other crates cite this module.
 use Rattle.std.proofs.Common.{ℕ, ◌≡◌, ◌<◌, ◌≤◌, ◌+◌, ◌-◌, ◌*◌, ◌/◌, ◌%◌, ◌^◌, sym, ◌∙◌, ap, arith}
 use Rattle.std.specs.Prelude.{◌⊎◌}
 use Rattle.std.proofs.lemmas.Nat.{shr-shr, shl-shr, shl_below, shr_below}

@@ -1,4 +1,4 @@
--- Walks side by side
+-- Walks side by side. Other crates cite this module.
 use Rattle.std.proofs.Common.{ℕ, ◌≡◌, Option, Some, None, refl, sym, ◌∙◌, ap, inl, inr}
 use Rattle.std.specs.Prelude.{◌⊎◌, true, false, is_some, slice_index_or}
 use Rattle.std.specs.Ordering.{nat_cmp, eq_by_cmp}

@@ -1,4 +1,4 @@
--- The look-up and the change of one slot, in pages
+-- The look-up and the change of one slot, in pages. Other crates cite this module.
 use Rattle.std.proofs.Common.{ℕ, List, ◌≡◌, ◌<◌, ◌≤◌, ◌-◌, ◌/◌, ◌%◌, ◌^◌, length, set, slice_index, Option, Some, None, refl, sym, ◌∙◌, ap, arith}
 use Rattle.std.specs.Prelude.{◌↔◌}
 use Rattle.mlt_page.specs.Bits.{first_bits}

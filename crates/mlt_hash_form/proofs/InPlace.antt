@@ -1,4 +1,5 @@
--- The run of places of a new bucket, where the directory is not doubled: within one page, or whole pages
+-- The run of places of a new bucket, where the directory is not doubled: within one page, or whole pages.
+-- Other crates cite this module.
 use Rattle.std.proofs.Common.{ℕ, ◌≡◌, ◌<◌, ◌≤◌, ◌+◌, ◌-◌, ◌*◌, ◌/◌, ◌%◌, ◌^◌, sym, ◌∙◌, ap, arith, add-zero}
 use Rattle.std.proofs.lemmas.Nat.{mod-pow-add, shl-shr, mod_low, pow-add, pow_pos, row_fits, mod_below, one_shl}
 use Rattle.std.proofs.Math.Nat.{mul-le-mul_right}

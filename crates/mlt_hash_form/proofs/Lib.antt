@@ -1,7 +1,7 @@
 pub mod Bits
-pub mod Change
+mod Change
 pub mod Crowd
-pub mod Fill
+mod Fill
 pub mod FillEnds
 pub mod HeldPages
 pub mod InPages
@@ -9,15 +9,15 @@ pub mod InPlace
 pub mod Lookup
 pub mod MapChanges
 pub mod Midway
-pub mod MidwayEnds
-pub mod Opening
+mod MidwayEnds
+mod Opening
 pub mod OpeningFile
 pub mod PageContents
 pub mod Paths
-pub mod PrefixForm
-pub mod RecordMap
-pub mod Same
+mod PrefixForm
+mod RecordMap
+mod Same
 pub mod SingleChanges
-pub mod SplitDone
+mod SplitDone
 pub mod SplitSteps
 pub mod Splitting

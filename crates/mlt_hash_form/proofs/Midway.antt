@@ -1,4 +1,4 @@
--- A split, one page per step, from the buckets' pages to the header
+-- A split, one page per step, from the buckets' pages to the header. Other crates cite this module.
 use Rattle.std.proofs.Common.{ℕ, ◌≡◌, ◌<◌, ◌≤◌, ◌+◌, ◌-◌, ◌*◌, ◌^◌, List, [], length, slice_index, Option, Some, None, sym, ◌∙◌, ap, arith, inl, inr}
 use Rattle.std.proofs.lemmas.Bool.{cases_eq}
 use Rattle.std.proofs.lemmas.List.{length-map}

@@ -1,4 +1,5 @@
--- A file as it is opened: it has the form, and no slot of it is used
+-- A file as it is opened: it has the form, and no slot of it is used.
+-- Other crates cite this module.
 use Rattle.std.proofs.Common.{ℕ, ◌≡◌, [], get_or, slice_index, replicate, Option, Some, refl, ap, arith, inl, inr}
 use Rattle.std.proofs.lemmas.Bool.{cases_eq, cases_lt}
 use Rattle.std.proofs.lemmas.List.{get_or-replicate, get_or_past, length-replicate}

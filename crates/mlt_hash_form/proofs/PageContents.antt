@@ -1,4 +1,4 @@
--- What the pages of a directory hold after a split
+-- What the pages of a directory hold after a split. Other crates cite this module.
 use Rattle.std.proofs.Common.{ℕ, ◌≡◌, ◌<◌, ◌≤◌, ◌+◌, ◌*◌, ◌/◌, ◌%◌, List, slice_index, Option}
 use Rattle.std.specs.Prelude.{◌⊎◌}
 use Rattle.mlt_page.specs.declared.page.Page.{Page}

@@ -1,4 +1,5 @@
--- The path of a pseudokey: there is one, it leads to the bucket, and each slot of a key lies there
+-- The path of a pseudokey: there is one, it leads to the bucket, and each slot of a key lies there.
+-- Other crates cite this module.
 use Rattle.std.proofs.Common.{ℕ, ◌≡◌, ◌<◌, ◌≤◌, ◌/◌, ◌%◌, ◌^◌, true, List, slice_index, get_or, Option, sym, ◌∙◌, ap, arith}
 use Rattle.std.specs.Prelude.{◌↔◌}
 use Rattle.mlt_page.specs.Bits.{first_bits}

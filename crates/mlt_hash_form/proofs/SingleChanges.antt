@@ -1,4 +1,4 @@
--- The four changes of a record: put, set_value, to_ghost, revive
+-- The four changes of a record: put, set_value, to_ghost, revive. Other crates cite this module.
 use Rattle.std.proofs.Common.{ℕ, ◌≡◌, ◌<◌, true, false, length, get_or, set, Option, Some, None, refl, sym, ◌∙◌, ap, arith}
 use Rattle.std.specs.Prelude.{◌↔◌}
 use Rattle.std.specs.Ordering.{nat_cmp}

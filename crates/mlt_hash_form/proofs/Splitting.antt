@@ -1,4 +1,4 @@
--- A split of one bucket
+-- A split of one bucket. Other crates cite this module.
 use Rattle.std.proofs.Common.{ℕ, ◌≡◌, ◌<◌, ◌≤◌, ◌+◌, ◌*◌, ◌^◌, ◌==◌, ◌&&◌, true, false, List, length, get_or, map, refl, sym, ◌∙◌, ap, arith, inl, inr, []}
 use Rattle.std.specs.Prelude.{◌⊎◌, ◌↔◌}
 use Rattle.std.proofs.lemmas.List.{get_or_past, get_or-map, length-map}

@@ -45,6 +45,7 @@ pub record IsSpread (bits : ℕ → ℕ) (depth : ℕ) (lead : ℕ → ℕ) (buc
   pub once : (n i j key v w : ℕ)
       → slot_at buckets n i ≡ Live key v → slot_at buckets n j ≡ Live key w → i ≡ j
 
+-- the value of a record or of a ghost; of a free slot the number says nothing
 abbrev pub slot_value : Slot → ℕ
 slot_value Free = 0
 slot_value (Live key value) = value

@@ -8,16 +8,16 @@ ghost use Rattle.mlt_page.specs.Slots.{half, is_kept};
 ghost use Rattle.mlt_page.specs.declared.slot.Slot.{Slot};
 ghost use Rattle.mlt_page.specs.declared.slot.Slot.TheVariants.{Free};
 ghost use Rattle.mlt_hash_form.specs.File.{FilePages, GivesPseudokeys, HasForm, buckets_of, lead_of};
-ghost use Rattle.mlt_hash_form.specs.Room.{IsCrowded, agrees, is_crowded};
+ghost use Rattle.mlt_hash_form.specs.Room.{IsCrowded, crowds, is_crowded};
 
 use crate::place::first_bits;
 use mlt_page::{Bucket, Slot};
 use mlt_types::{OpenSet, Pseudo};
 
 /// Whether the slot's room is taken by a key that agrees with a pseudokey in its first `depth` bits.
-fn agrees<P: Pseudo>(slot: &Slot, depth: u8, bits: u64, pseudo: &P, opens: &OpenSet) -> bool
+fn crowds<P: Pseudo>(slot: &Slot, depth: u8, bits: u64, pseudo: &P, opens: &OpenSet) -> bool
     requires { depth ≤ 64 }
-    ensures { result ≡ agrees (P.bits_of pseudo.now) opens.now depth bits slot.now }
+    ensures { result ≡ crowds (P.bits_of pseudo.now) opens.now depth bits slot.now }
 {
     match slot {
         Slot::Free => false,
@@ -41,7 +41,7 @@ pub fn is_crowded<P: Pseudo>(
     bucket
         .slots
         .iter()
-        .all(|slot| agrees(slot, depth, bits, pseudo, opens))
+        .all(|slot| crowds(slot, depth, bits, pseudo, opens))
 }
 
 /// The least depth, from the bucket's own up to `most`, at which a key of this pseudokey finds room, if there is one.

@@ -18,12 +18,12 @@ use Rattle.mlt_subtx.specs.CleanPages.{DropsImages, ImagesAreApart, ImagesAreLoc
 use Rattle.mlt_subtx.proofs.CleanLaws.{clean_page-end, clean_pages-roll_back, clean_pages-write, drops_cleared, drops_removed, image_at-insert, images_are_apart, not_true, others_stay, same_clean_pages}
 use Rattle.mlt_subtx.proofs.ImageLaws.{fresh_has_no_image, not_there, page_at-put_back, with_image-absent}
 use Rattle.mlt_subtx.proofs.RunningLaws.{images_locked-granted, images_locked-released, images_there-ended, images_there-rolled_back, locks_there-released, locks_there-rolled_back}
-use Rattle.mlt_hash_form.specs.Held.{own_or, over}
+use Rattle.mlt_hash_form.specs.Held.{Agrees, own_or, over}
 use Rattle.mlt_held.specs.Moments.{MayStep, Moment, page_before}
 use Rattle.mlt_held.specs.PageSteps.{LocksAtMost, TouchesOnePage, WritesAtMost}
-use Rattle.mlt_held.specs.Running.{AllMayStep, AllRunning, IsIdle, KeepsRunning, after_begin, after_close, after_end, after_roll_back, after_step, clean_of, images_by, is_open, moment_of}
-use Rattle.mlt_held.specs.Views.{own_at, page_written, seen_at, view_of}
-use Rattle.mlt_held.proofs.AllRunning.{each_may_step}
+use Rattle.mlt_held.specs.Running.{AllMayStep, AllRunning, HoldsNothing, KeepsRunning, after_begin, after_close, after_end, after_roll_back, after_step, clean_of, images_by, is_open, moment_of}
+use Rattle.mlt_held.specs.Views.{View, own_at, page_written, seen_at, view_of}
+use Rattle.mlt_held.proofs.AllRunning.{agrees_with_each, each_may_step}
 use Rattle.mlt_held.proofs.Moments.{may_after_lock_at_most, may_after_step}
 use Rattle.mlt_held.proofs.Others.{same_where_held, step_drops_no_page, step_keeps_held_pages, step_keeps_others, step_keeps_tx}
 
@@ -252,15 +252,26 @@ step_clean all tx images locks store may opened step =
     before : MayStep old
     before = each_may_step all tx may opened
 
--- **A step on one page leaves the clean pages and the views of all others.**
-pub step_leaves : (all : AllRunning) (tx : ℕ) (new : Moment) → AllMayStep all → is_open all tx ≡ true → TouchesOnePage (moment_of all tx) new → page_count new.locks tx ≤ 300 → KeepsRunning tx all (after_step all new) × (clean_of (after_step all new) ≡ clean_of all)
-step_leaves all tx new may opened step most =
-    let is : at tx new.running.images new.locks new.store ≡ new = λ i. record { running = record { tx = sym (step_keeps_tx (moment_of all tx) new (each_may_step all tx may opened) step) i; images = new.running.images }; locks = new.locks; store = new.store } in
-    let own : TouchesOnePage (moment_of all tx) (at tx new.running.images new.locks new.store) = subst (TouchesOnePage (moment_of all tx)) (sym is) step in
-    subst (λ (m : Moment). KeepsRunning tx all (after_step all m) × (clean_of (after_step all m) ≡ clean_of all)) is (
-      step_keeps all tx new.running.images new.locks new.store may opened own most,
-      ap page_at (step_clean all tx new.running.images new.locks new.store may opened own),
-    )
+-- the moment that a step leads to is one of the transaction that made it
+is_at : (all : AllRunning) (tx : ℕ) (new : Moment) → AllMayStep all → is_open all tx ≡ true → TouchesOnePage (moment_of all tx) new → at tx new.running.images new.locks new.store ≡ new
+is_at all tx new may opened step i = record {
+  running = record { tx = sym (step_keeps_tx (moment_of all tx) new (each_may_step all tx may opened) step) i; images = new.running.images };
+  locks = new.locks;
+  store = new.store;
+}
+
+own_step : (all : AllRunning) (tx : ℕ) (new : Moment) → AllMayStep all → is_open all tx ≡ true → TouchesOnePage (moment_of all tx) new → TouchesOnePage (moment_of all tx) (at tx new.running.images new.locks new.store)
+own_step all tx new may opened step = subst (TouchesOnePage (moment_of all tx)) (sym (is_at all tx new may opened step)) step
+
+-- **A step on one page leaves the views of all others,**
+pub step_leaves_views : (all : AllRunning) (tx : ℕ) (new : Moment) → AllMayStep all → is_open all tx ≡ true → TouchesOnePage (moment_of all tx) new → page_count new.locks tx ≤ 300 → KeepsRunning tx all (after_step all new)
+step_leaves_views all tx new may opened step most =
+    subst (λ (m : Moment). KeepsRunning tx all (after_step all m)) (is_at all tx new may opened step) (step_keeps all tx new.running.images new.locks new.store may opened (own_step all tx new may opened step) most)
+
+-- **and the clean pages.**
+pub step_leaves_clean : (all : AllRunning) (tx : ℕ) (new : Moment) → AllMayStep all → is_open all tx ≡ true → TouchesOnePage (moment_of all tx) new → clean_of (after_step all new) ≡ clean_of all
+step_leaves_clean all tx new may opened step =
+    subst (λ (m : Moment). clean_of (after_step all m) ≡ clean_of all) (is_at all tx new may opened step) (ap page_at (step_clean all tx new.running.images new.locks new.store may opened (own_step all tx new may opened step)))
 
 -- who holds pages once tx has released its own held them before
 holds_before : (locks : LockTable) (tx u : ℕ) → is_holder (released locks tx) u ≡ true → is_holder locks u ≡ true
@@ -308,12 +319,19 @@ end_keeps all tx may opened = record {
   holders = λ u ne. others_hold all.locks tx u ne;
 }
 
--- who has ended or was rolled back is idle
-pub idle_at_end : (all : AllRunning) (tx : ℕ) → IsIdle (after_end all tx) tx
-idle_at_end all tx = record { no_images = no_images_now all.images tx; no_locks = no_holder-released all.locks tx }
+-- **The pages that are clean then agree with the view of every other.**
+pub end_agrees : (all : AllRunning) (tx u : ℕ) → AllMayStep all → is_open all tx ≡ true → is_open all u ≡ true → u ≢ tx → Agrees (view_of (moment_of all u)).seen (clean_of (after_end all tx))
+end_agrees all tx u may opened other ne =
+    let keeps = end_keeps all tx may opened in
+    let after : Agrees (view_of (moment_of (after_end all tx) u)).seen (clean_of (after_end all tx)) = agrees_with_each (after_end all tx) u keeps.may (is_open-insert all.images tx map.empty u other) in
+    subst (λ (view : View). Agrees view.seen (clean_of (after_end all tx))) (keeps.views u ne) after
 
-pub idle_after_roll_back : (all : AllRunning) (tx : ℕ) → IsIdle (after_roll_back all tx) tx
-idle_after_roll_back all tx = record { no_images = no_images_now all.images tx; no_locks = no_holder-released all.locks tx }
+-- who has ended or was rolled back holds nothing
+pub nothing_at_end : (all : AllRunning) (tx : ℕ) → HoldsNothing (after_end all tx) tx
+nothing_at_end all tx = record { no_images = no_images_now all.images tx; no_locks = no_holder-released all.locks tx }
+
+pub nothing_after_roll_back : (all : AllRunning) (tx : ℕ) → HoldsNothing (after_roll_back all tx) tx
+nothing_after_roll_back all tx = record { no_images = no_images_now all.images tx; no_locks = no_holder-released all.locks tx }
 
 -- **A roll back changes no clean page.**
 pub roll_back_clean : (all : AllRunning) (tx : ℕ) → AllMayStep all → clean_of (after_roll_back all tx) ≡ clean_of all
@@ -366,8 +384,8 @@ begin_keeps all tx may room = record {
   holders = λ u ne. refl;
 }
 
-pub idle_at_begin : (all : AllRunning) (tx : ℕ) → AllMayStep all → is_open all tx ≡ false → IsIdle (after_begin all tx) tx
-idle_at_begin all tx may closed = record {
+pub nothing_at_begin : (all : AllRunning) (tx : ℕ) → AllMayStep all → is_open all tx ≡ false → HoldsNothing (after_begin all tx) tx
+nothing_at_begin all tx may closed = record {
   no_images = no_images_now all.images tx;
   no_locks = not_true (is_holder all.locks tx) (λ holds. false≢true (sym closed ∙ may.holders_open tx holds));
 }
@@ -376,19 +394,19 @@ others_left : (images : RunningImages) (tx u : ℕ) → u ≢ tx → map.get (ma
 others_left images tx u ne = grind (arith, nat_tests, get_removed images tx u)
 
 -- **nor does one that closes.**
-pub close_clean : (all : AllRunning) (tx : ℕ) → AllMayStep all → IsIdle all tx → clean_of (after_close all tx) ≡ clean_of all
-close_clean all tx may idle =
-    let none : (q : ℕ) → image_at all.images tx q ≡ None = λ q. ap (λ o. image_of (unwrap_or o map.empty) q) idle.no_images ∙ map.get-empty {X = Option Page} nat_cmp q in
+pub close_clean : (all : AllRunning) (tx : ℕ) → AllMayStep all → HoldsNothing all tx → clean_of (after_close all tx) ≡ clean_of all
+close_clean all tx may nothing =
+    let none : (q : ℕ) → image_at all.images tx q ≡ None = λ q. ap (λ o. image_of (unwrap_or o map.empty) q) nothing.no_images ∙ map.get-empty {X = Option Page} nat_cmp q in
     ap page_at (same_clean_pages all.images (map.remove all.images tx) all.store.pages (apart all may) (λ u q. others_stay all.images (map.remove all.images tx) tx q (drops_removed all.images tx) (none q) u))
 
-pub close_keeps : (all : AllRunning) (tx : ℕ) → AllMayStep all → IsIdle all tx → KeepsRunning tx all (after_close all tx)
-close_keeps all tx may idle = record {
+pub close_keeps : (all : AllRunning) (tx : ℕ) → AllMayStep all → HoldsNothing all tx → KeepsRunning tx all (after_close all tx)
+close_keeps all tx may nothing = record {
   may = record {
     compatible = may.compatible;
     locks_there = may.locks_there;
     images_locked = λ u q some. may.images_locked u q (kept_before all.images (map.remove all.images tx) tx u q (drops_removed all.images tx) some);
     images_there = λ u q some. may.images_there u q (kept_before all.images (map.remove all.images tx) tx u q (drops_removed all.images tx) some);
-    holders_open = λ u holds. ap is_some (others_left all.images tx u (λ same. false≢true (sym idle.no_locks ∙ ap (is_holder all.locks) (sym same) ∙ holds))) ∙ may.holders_open u holds;
+    holders_open = λ u holds. ap is_some (others_left all.images tx u (λ same. false≢true (sym nothing.no_locks ∙ ap (is_holder all.locks) (sym same) ∙ holds))) ∙ may.holders_open u holds;
     few_pages = may.few_pages;
     few_open = grind (arith, may.few_open, map.len-remove nat_cmp_total all.images tx);
   };

@@ -18,8 +18,11 @@ use Rattle.mlt_subtx.specs.CleanPages.{RunningImages, image_at}
 use Rattle.mlt_subtx.proofs.CleanLaws.{clean_page_there, clean_page_unwritten, clean_view}
 use Rattle.mlt_subtx.proofs.ImageLaws.{page_at-put_back}
 use Rattle.mlt_subtx.proofs.RunningLaws.{locks_there-none}
+use Rattle.mlt_hash_form.specs.Held.{Agrees}
 use Rattle.mlt_held.specs.Moments.{IsCleanFor, MayStep}
 use Rattle.mlt_held.specs.Running.{AllMayStep, AllRunning, clean_of, images_by, is_open, moment_of, nobody_running}
+use Rattle.mlt_held.specs.Views.{view_of}
+use Rattle.mlt_held.proofs.Views.{agrees}
 
 -- the numbers of a list of entries
 abbrev numbers_of : List (ℕ × Images) → List ℕ
@@ -61,6 +64,10 @@ clean_for_each all tx may = record {
   seen = λ q free. clean_view all.images all.locks all.store.pages tx q may.images_locked free ∙ page_at-put_back (images_by all tx) all.store.pages q;
   there = λ q. clean_page_there all.images all.store.pages q may.images_there;
 }
+
+-- **They agree with the view of each open transaction.**
+pub agrees_with_each : (all : AllRunning) (tx : ℕ) → AllMayStep all → is_open all tx ≡ true → Agrees (view_of (moment_of all tx)).seen (clean_of all)
+agrees_with_each all tx may opened = agrees (moment_of all tx) (clean_of all) (each_may_step all tx may opened) (clean_for_each all tx may)
 
 image_of_nobody : (tx q : ℕ) → image_at map.empty tx q ≡ None
 image_of_nobody tx q = grind (arith, map.get-empty {X = Images} nat_cmp tx, map.get-empty {X = Option Page} nat_cmp q)

@@ -52,7 +52,7 @@ pub record AllMayStep (all : AllRunning) : Type 0 where
   pub few_open : map.len all.images ≤ all.locks.max_open
 
 -- the transaction is open, holds no page and keeps no image
-pub record IsIdle (all : AllRunning) (tx : ℕ) : Type 0 where
+pub record HoldsNothing (all : AllRunning) (tx : ℕ) : Type 0 where
   pub no_images : map.get all.images tx ≡ Some map.empty
   pub no_locks : is_holder all.locks tx ≡ false
 

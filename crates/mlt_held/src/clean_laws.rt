@@ -7,7 +7,7 @@ ghost use Rattle.mlt_page_locks.specs.LockTables.{page_count};
 ghost use Rattle.mlt_hash_form.specs.Held.{Agrees, over};
 ghost use Rattle.mlt_held.specs.Moments.{IsCleanFor, MayStep, Moment};
 ghost use Rattle.mlt_held.specs.PageSteps.{TouchesOnePage};
-ghost use Rattle.mlt_held.specs.Running.{AllMayStep, AllRunning, IsIdle, KeepsRunning, after_begin, after_close, after_end, after_roll_back, after_step, clean_of, is_open, moment_of, nobody_running};
+ghost use Rattle.mlt_held.specs.Running.{AllMayStep, AllRunning, HoldsNothing, KeepsRunning, after_begin, after_close, after_end, after_roll_back, after_step, clean_of, is_open, moment_of, nobody_running};
 ghost use Rattle.mlt_held.specs.Views.{view_of};
 
 /// Each open transaction may step, and the pages as they were before all running subtransactions are clean for it.
@@ -29,11 +29,12 @@ pub fn nobody_runs_at_first()
 
 /// A step of one transaction on one page leaves the clean pages and the views of all others.
 pub fn step_leaves_clean_pages()
-    ensures { (all : AllRunning) (tx : ℕ) (new : Moment)
-        → AllMayStep all → is_open all tx ≡ true
-        → TouchesOnePage (moment_of all tx) new → page_count new.locks tx ≤ 300
-        → KeepsRunning tx all (after_step all new)
-        × (clean_of (after_step all new) ≡ clean_of all) }
+    ensures keeps { (all : AllRunning) (tx : ℕ) (new : Moment) → AllMayStep all
+        → is_open all tx ≡ true → TouchesOnePage (moment_of all tx) new
+        → page_count new.locks tx ≤ 300 → KeepsRunning tx all (after_step all new) }
+    ensures clean { (all : AllRunning) (tx : ℕ) (new : Moment) → AllMayStep all
+        → is_open all tx ≡ true → TouchesOnePage (moment_of all tx) new
+        → clean_of (after_step all new) ≡ clean_of all }
 {}
 
 /// A step makes the transaction hold at most one page more.
@@ -44,28 +45,39 @@ pub fn step_adds_one_page_at_most()
 
 /// The end of a subtransaction makes just the pages clean that it has written, and leaves the views of all others.
 pub fn end_makes_written_pages_clean()
-    ensures { (all : AllRunning) (tx : ℕ) → AllMayStep all → is_open all tx ≡ true
-        → let new = after_end all tx in KeepsRunning tx all new × IsIdle new tx
-        × (clean_of new ≡ over (clean_of all) (view_of (moment_of all tx)).own) }
+    ensures keeps { (all : AllRunning) (tx : ℕ) → AllMayStep all → is_open all tx ≡ true
+        → KeepsRunning tx all (after_end all tx) }
+    ensures nothing { (all : AllRunning) (tx : ℕ) → HoldsNothing (after_end all tx) tx }
+    ensures clean { (all : AllRunning) (tx : ℕ) → AllMayStep all
+        → clean_of (after_end all tx) ≡ over (clean_of all) (view_of (moment_of all tx)).own }
+    ensures agrees { (all : AllRunning) (tx u : ℕ) → AllMayStep all → is_open all tx ≡ true
+        → is_open all u ≡ true → u ≢ tx
+        → Agrees (view_of (moment_of all u)).seen (clean_of (after_end all tx)) }
 {}
 
 /// A roll back changes no clean page, and leaves the views of all others.
 pub fn roll_back_leaves_clean_pages()
-    ensures { (all : AllRunning) (tx : ℕ) → AllMayStep all → is_open all tx ≡ true
-        → let new = after_roll_back all tx in KeepsRunning tx all new × IsIdle new tx
-        × (clean_of new ≡ clean_of all) }
+    ensures keeps { (all : AllRunning) (tx : ℕ) → AllMayStep all → is_open all tx ≡ true
+        → KeepsRunning tx all (after_roll_back all tx) }
+    ensures nothing { (all : AllRunning) (tx : ℕ) → HoldsNothing (after_roll_back all tx) tx }
+    ensures clean { (all : AllRunning) (tx : ℕ) → AllMayStep all
+        → clean_of (after_roll_back all tx) ≡ clean_of all }
 {}
 
 /// A transaction that begins, where one more may be open, changes no clean page and no view.
 pub fn begin_leaves_clean_pages()
-    ensures { (all : AllRunning) (tx : ℕ) → AllMayStep all → is_open all tx ≡ false
-        → map.len all.images < all.locks.max_open
-        → let new = after_begin all tx in KeepsRunning tx all new × IsIdle new tx
-        × (clean_of new ≡ clean_of all) }
+    ensures keeps { (all : AllRunning) (tx : ℕ) → AllMayStep all
+        → map.len all.images < all.locks.max_open → KeepsRunning tx all (after_begin all tx) }
+    ensures nothing { (all : AllRunning) (tx : ℕ) → AllMayStep all → is_open all tx ≡ false
+        → HoldsNothing (after_begin all tx) tx }
+    ensures clean { (all : AllRunning) (tx : ℕ) → AllMayStep all → is_open all tx ≡ false
+        → clean_of (after_begin all tx) ≡ clean_of all }
 {}
 
 /// Nor does one that closes and holds no page.
 pub fn close_leaves_clean_pages()
-    ensures { (all : AllRunning) (tx : ℕ) → AllMayStep all → IsIdle all tx
-        → let new = after_close all tx in KeepsRunning tx all new × (clean_of new ≡ clean_of all) }
+    ensures keeps { (all : AllRunning) (tx : ℕ) → AllMayStep all → HoldsNothing all tx
+        → KeepsRunning tx all (after_close all tx) }
+    ensures clean { (all : AllRunning) (tx : ℕ) → AllMayStep all → HoldsNothing all tx
+        → clean_of (after_close all tx) ≡ clean_of all }
 {}

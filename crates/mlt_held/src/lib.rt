@@ -15,7 +15,8 @@ pub use clean_laws::{
 pub use locked_store::LockedStore;
 pub use pages::{lock, make_page, read_held, write_held, write_slot};
 pub use view_laws::{
-    others_leave_the_view, others_leave_what_was_written, view_agrees_with_clean_pages,
+    others_leave_the_view, others_leave_what_was_written, own_steps_see_more,
+    view_agrees_with_clean_pages,
 };
 
 #[cfg(test)]

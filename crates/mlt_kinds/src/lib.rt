@@ -17,6 +17,3 @@ pub use element::{Element, ElementOp};
 pub use kind::Kind;
 pub use laws::{steps_of_bases_are_fixed, steps_of_bases_pass};
 pub use operation::{Done, ObjOp, ObjReply};
-
-#[cfg(test)]
-mod tests;

@@ -30,6 +30,7 @@ key_of Free = 0
 key_of (Live key value) = key
 key_of (Ghost key value owner) = key
 
+-- the slot, where the test is true, and else a free one
 abbrev pub kept_if : Bool → Slot → Slot
 kept_if true s = s
 kept_if false s = Free

@@ -85,8 +85,10 @@ impl Bucket {
     /// other slots of both are free.
     pub fn part<P: Pseudo>(&self, place: u8, pseudo: &P, opens: &OpenSet) -> (Bucket, Bucket)
         requires { place < 64 }
-        ensures zeros { result.0 ≡ record { depth = place + 1; slots = map (half (P.bits_of pseudo.now) opens.now place 0) self.now.slots } }
-        ensures ones { result.1 ≡ record { depth = place + 1; slots = map (half (P.bits_of pseudo.now) opens.now place 1) self.now.slots } }
+        ensures zeros { let zero = half (P.bits_of pseudo.now) opens.now place 0 in
+            result.0 ≡ record { depth = place + 1; slots = map zero self.now.slots } }
+        ensures ones { let one = half (P.bits_of pseudo.now) opens.now place 1 in
+            result.1 ≡ record { depth = place + 1; slots = map one self.now.slots } }
     {
         let mut zeros = [Slot::Free; SLOTS];
         let mut ones = [Slot::Free; SLOTS];

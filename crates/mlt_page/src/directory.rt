@@ -58,8 +58,10 @@ impl DirPage {
     pub fn set_entries(&mut self, from: usize, count: usize, bucket: PageNo)
         requires { from + count ≤ 256 }
         ensures size { length self.new ≡ 256 }
-        ensures inside { (at : ℕ) → from ≤ at → at < from + count → slice_index self.new at ≡ bucket }
-        ensures outside { (at : ℕ) → (at < from) ⊎ (from + count ≤ at) → slice_index self.new at ≡ slice_index self.old at }
+        ensures inside { (at : ℕ) → from ≤ at → at < from + count
+            → slice_index self.new at ≡ bucket }
+        ensures outside { (at : ℕ) → (at < from) ⊎ (from + count ≤ at)
+            → slice_index self.new at ≡ slice_index self.old at }
     {
         for place in from..from + count {
             self.entries[place] = bucket;
@@ -69,7 +71,8 @@ impl DirPage {
     /// The page that the first 128 entries make where the directory doubles: each stands twice.
     pub fn first_half_doubled(&self) -> DirPage
         ensures size { length result ≡ 256 }
-        ensures entries { (at : ℕ) → at < 256 → slice_index result at ≡ slice_index self.now (at / 2) }
+        ensures entries { (at : ℕ) → at < 256
+            → slice_index result at ≡ slice_index self.now (at / 2) }
     {
         self.doubled(0)
     }
@@ -77,7 +80,8 @@ impl DirPage {
     /// The page that the last 128 entries make where the directory doubles: each stands twice.
     pub fn second_half_doubled(&self) -> DirPage
         ensures size { length result ≡ 256 }
-        ensures entries { (at : ℕ) → at < 256 → slice_index result at ≡ slice_index self.now (128 + at / 2) }
+        ensures entries { (at : ℕ) → at < 256
+            → slice_index result at ≡ slice_index self.now (128 + at / 2) }
     {
         self.doubled(128)
     }
@@ -85,7 +89,8 @@ impl DirPage {
     fn doubled(&self, from: usize) -> DirPage
         requires { from ≤ 128 }
         ensures size { length result ≡ 256 }
-        ensures entries { (at : ℕ) → at < 256 → slice_index result at ≡ slice_index self.now (from + at / 2) }
+        ensures entries { (at : ℕ) → at < 256
+            → slice_index result at ≡ slice_index self.now (from + at / 2) }
     {
         let mut entries = self.entries;
         for at in 0..DIR_ENTRIES {

@@ -26,6 +26,3 @@ pub use parser::parse;
 pub use printer::print;
 pub use script::Script;
 pub use statement::Ending;
-
-#[cfg(test)]
-mod tests;

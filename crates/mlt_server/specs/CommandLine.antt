@@ -4,7 +4,7 @@ use Rattle.std.specs.String.{string_bytes}
 use Rattle.std.specs.Str.{bytes_eq}
 use Rattle.clap.specs.Words.{App, HasKind, Kinds, Row, Rule, Text, fault_of, first_of, kind_of, new_app, new_rule, subcommand_of, with_rule, with_subcommand}
 use Rattle.clap.specs.declared.error.kind.ErrorKind.{ErrorKind}
-use Rattle.clap.specs.declared.error.kind.ErrorKind.TheVariants.{DisplayHelp, MissingRequiredArgument}
+use Rattle.clap.specs.declared.error.kind.ErrorKind.TheVariants.{DisplayHelp, DisplayVersion, MissingRequiredArgument, OutOfMemory}
 use Rattle.clap.specs.declared.error.Error.{Error}
 use Rattle.mlt_server.specs.declared.words.Job.{Job}
 use Rattle.mlt_server.specs.declared.words.Job.TheVariants.{Solo}
@@ -19,7 +19,13 @@ solo_app = with_rule (new_app (codes "solo")) file_rule
 
 abbrev pub bare_app : App
 bare_app = let named = new_app (codes "mltx") in
-    record named { top = record named.top { no_binary_name = true; subcommand_required = true } }
+    record named {
+      top = record named.top {
+        no_binary_name = true;
+        subcommand_required = true;
+        has_version = true;
+      };
+    }
 
 -- `mltx` with its subcommands; the words that it reads are those after the program's name
 abbrev pub mltx_app : App
@@ -58,7 +64,9 @@ abbrev pub FailsAt : List Text → Error → Type 0
 FailsAt words error = HasKind (word_kinds words) error
     ⊎ ((file_asked words ≡ None) × (kind_of error ≡ MissingRequiredArgument))
 
--- the status of a command line that gives no job: help is no mistake
+-- the status of a command line that gives no job: to ask for help or the version is no mistake
 abbrev pub words_status : ErrorKind → ℕ
 words_status DisplayHelp = 0
+words_status DisplayVersion = 0
+words_status OutOfMemory = 1
 words_status _ = 2

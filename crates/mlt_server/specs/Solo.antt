@@ -11,11 +11,20 @@ use Rattle.mlt_serial.specs.declared.report.Form.TheVariants.{Solo}
 use Rattle.mlt_serial.specs.Serial.{AreMarksOf, IsSerialRun}
 use Rattle.mlt_serial.specs.Texts.{report_text}
 
--- The input spells scripts, and the text is that of their run one after another, where a script that is refused is refused memory.
+-- The input spells scripts, and the text is that of their run one after another, where a script that is refused is
+-- refused memory.
 abbrev pub IsSoloText : List ℕ → List ℕ → Type 0
-IsSoloText input text = (scripts : List ScriptForm) × (marks : List (Option (ℕ × Refusal))) × (outcomes : List Outcome) × (base : Base)
-    × Spells input scripts × IsSerialRun scripts marks outcomes base × AreMarksOf OutOfMemory marks × (text ≡ report_text Solo outcomes base)
+IsSoloText input text =
+    (scripts : List ScriptForm) × (marks : List (Option (ℕ × Refusal)))
+    × (outcomes : List Outcome) × (base : Base)
+    × Spells input scripts × IsSerialRun scripts marks outcomes base × AreMarksOf OutOfMemory marks
+    × (text ≡ report_text Solo outcomes base)
 
 -- From what a reader had before and has after: it gave the input, which is not too long, and is at its end.
 abbrev pub GivesWhole : Option (List ℕ) → Option (List ℕ) → List ℕ → Type 0
-GivesWhole before after input = Consumes before after input × IsAtEnd after × (length input ≤ 16777216)
+GivesWhole before after input =
+    Consumes before after input × IsAtEnd after × (length input ≤ 16777216)
+
+-- a reader gave the input whole, and the text is that of its scripts
+abbrev pub IsSoloOf : Option (List ℕ) → Option (List ℕ) → List ℕ → List ℕ → Type 0
+IsSoloOf before after input text = GivesWhole before after input × IsSoloText input text

@@ -1,11 +1,15 @@
 //! What is said of a fault.
 
-ghost use Rattle.std.specs.Prelude.{◌≡◌, OnOk, IfErr};
+ghost use Rattle.std.specs.Prelude.{◌≡◌, IfErr, OnErr, OnOk};
 ghost use Rattle.std.specs.Io.KnownBytes.{Appends};
+ghost use Rattle.mlt_text.specs.Texts.{AppendsFront};
 ghost use Rattle.mlt_server.specs.Faults.{fault_text, status_of};
 
+use arrayvec::ArrayString;
+use mlt_text::write_text;
 use mlt_types::Refusal;
 use std::fmt;
+use std::fmt::Write as _;
 use std::io::Write;
 
 /// The line that tells of a fault. Its `Display` writes `mltx: N NAME`, for a faulty script or trace
@@ -37,21 +41,23 @@ impl fmt::Display for FaultLine {
     }
 }
 
-/// Writes the line that tells of the fault, and flushes.
+// Longer than any line that tells of a fault.
+const ROOM: usize = 96;
+
+/// Writes the line that tells of the fault, and flushes. It takes no memory.
 ///
 /// # Errors
-/// `Io` where a write or the flush fails; part of the line may then be written.
+/// `Io` where a write or the flush fails. The writer then has a front of the line.
 pub fn report_fault<W: Write>(refusal: &Refusal, errors: &mut W) -> Result<(), Refusal>
-    ensures ok { OnOk result (Appends (W.contents errors.old) (W.contents errors.new) (fault_text refusal.now)) }
+    ensures ok { OnOk result (Appends (W.contents errors.old) (W.contents errors.new)
+        (fault_text refusal.now)) }
+    ensures err { OnErr result (AppendsFront (W.contents errors.old) (W.contents errors.new)
+        (fault_text refusal.now)) }
     ensures refusal { IfErr result (λ again. again ≡ Refusal.Io) }
 {
-    let line = FaultLine(*refusal);
-    match write!(errors, "{line}") {
-        Ok(()) => {}
-        Err(_) => return Err(Refusal::Io),
-    }
-    match errors.flush() {
-        Ok(()) => Ok(()),
+    let mut line = ArrayString::<ROOM>::new();
+    match write!(line, "{}", FaultLine(*refusal)) {
+        Ok(()) => write_text(errors, line.as_str().as_bytes()),
         Err(_) => Err(Refusal::Io),
     }
 }

@@ -8,6 +8,3 @@ mod words;
 pub use fault::{FaultLine, report_fault, status};
 pub use solo_engine::solo;
 pub use words::{Job, command_line_status, read_words, report_command_line};
-
-#[cfg(test)]
-mod tests;

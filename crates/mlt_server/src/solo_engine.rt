@@ -5,49 +5,48 @@ ghost use Rattle.std.specs.Io.KnownBytes.{Appends, Consumes, Keeps};
 ghost use Rattle.mlt_types.specs.declared.refusal.ScriptCause.{ScriptCause};
 ghost use Rattle.mlt_text.specs.Texts.{AppendsFront};
 ghost use Rattle.mlt_script.specs.Grammar.{IsFirstFault};
-ghost use Rattle.mlt_server.specs.Solo.{GivesWhole, IsSoloText};
+ghost use Rattle.mlt_server.specs.Solo.{GivesWhole, IsSoloOf};
 
 use mlt_script::parse;
 use mlt_serial::{Form, serial_with_marks, write_report};
 use mlt_text::read_input;
-use mlt_types::{Limits, Pseudo, Refusal};
+use mlt_types::Refusal;
 use std::alloc::Global;
 use std::io::{Read, Write};
 
 /// Reads scripts to the end of the input, runs them one after another from the empty base, and writes
-/// for each the texts of its replies and how it ended. Clients' numbers make no difference. While there
-/// are no pages, neither do the limits and the function to pseudokeys.
+/// for each the texts of its replies and how it ended. Clients' numbers make no difference.
 ///
 /// # Errors
 /// `ScriptFault` exactly for an input that is no list of scripts, with its first fault; `Io` where a
 /// read or a write fails, or the input has more than 16,777,216 bytes, of which none past the first too
 /// many is read; `OutOfMemory` where a growth was refused outside a script. Nothing was written then,
 /// but for a write that fails: what went out is a front of the text.
-pub fn solo<R: Read, W: Write, P: Pseudo + Drop>(
-    alloc: Global,
-    reader: &mut R,
-    writer: &mut W,
-    _limits: Limits,
-    _pseudo: P,
-) -> Result<(), Refusal>
+pub fn solo<R: Read, W: Write>(alloc: Global, reader: &mut R, writer: &mut W) -> Result<(), Refusal>
     // what is written is the text of the scripts read
-    ensures text { OnOk result ((input : List ℕ) × (text : List ℕ) × GivesWhole (R.remaining reader.old) (R.remaining reader.new) input
-        × IsSoloText input text × Appends (W.contents writer.old) (W.contents writer.new) text) }
+    ensures text { OnOk result ((input text : List ℕ)
+        × IsSoloOf (R.remaining reader.old) (R.remaining reader.new) input text
+        × Appends (W.contents writer.old) (W.contents writer.new) text) }
     // a fault is the first one of the input
     ensures fault { (line : ℕ) (cause : ScriptCause) → result ≡ Err (Refusal.ScriptFault line cause)
-        → ((input : List ℕ) × GivesWhole (R.remaining reader.old) (R.remaining reader.new) input × IsFirstFault input line cause)
-        × Keeps (W.contents writer.old) (W.contents writer.new) }
+        → ((input : List ℕ) × GivesWhole (R.remaining reader.old) (R.remaining reader.new) input
+        × IsFirstFault input line cause) × Keeps (W.contents writer.old) (W.contents writer.new) }
     // an input that is too long is refused, and not read on
     ensures long { IfSome (R.remaining reader.old) (λ input. 16777216 < length input
         → IsErrAnd result (λ refusal. (refusal ≡ Refusal.OutOfMemory) ⊎ (refusal ≡ Refusal.Io))
         × Keeps (W.contents writer.old) (W.contents writer.new)) }
-    ensures bounded { (taken : List ℕ) × Consumes (R.remaining reader.old) (R.remaining reader.new) taken × (length taken ≤ 16777217) }
+    ensures bounded { (taken : List ℕ)
+        × Consumes (R.remaining reader.old) (R.remaining reader.new) taken
+        × (length taken ≤ 16777217) }
     // after a failed read nothing was written, and after a failed write a front of the text
     ensures io { result ≡ Err Refusal.Io → Keeps (W.contents writer.old) (W.contents writer.new)
-        ⊎ ((input : List ℕ) × (text : List ℕ) × GivesWhole (R.remaining reader.old) (R.remaining reader.new) input
-        × IsSoloText input text × AppendsFront (W.contents writer.old) (W.contents writer.new) text) }
-    ensures memory { result ≡ Err Refusal.OutOfMemory → Keeps (W.contents writer.old) (W.contents writer.new) }
-    ensures refusals { IfErr result (λ refusal. (refusal ≡ Refusal.OutOfMemory) ⊎ (refusal ≡ Refusal.Io)
+        ⊎ ((input text : List ℕ)
+        × IsSoloOf (R.remaining reader.old) (R.remaining reader.new) input text
+        × AppendsFront (W.contents writer.old) (W.contents writer.new) text) }
+    ensures memory { result ≡ Err Refusal.OutOfMemory
+        → Keeps (W.contents writer.old) (W.contents writer.new) }
+    ensures refusals { IfErr result
+        (λ refusal. (refusal ≡ Refusal.OutOfMemory) ⊎ (refusal ≡ Refusal.Io)
         ⊎ ((line : ℕ) × (cause : ScriptCause) × (refusal ≡ Refusal.ScriptFault line cause))) }
 {
     let input = read_input(alloc, reader)?;
@@ -55,6 +54,3 @@ pub fn solo<R: Read, W: Write, P: Pseudo + Drop>(
     let report = serial_with_marks(alloc, scripts.as_slice())?;
     write_report(alloc, &report, Form::Solo, writer)
 }
-
-#[cfg(test)]
-mod tests;

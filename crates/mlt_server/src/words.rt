@@ -1,6 +1,6 @@
 //! The words of the command line.
 
-ghost use Rattle.std.specs.Prelude.{◌≡◌, ◌≢◌, ◌⊎◌, ℕ, List, [], ◌∷◌, IfOk, IfErr, OnErr, Some, None, map, option_map, codes, false};
+ghost use Rattle.std.specs.Prelude.{◌≡◌, ◌≢◌, ◌⊎◌, ℕ, List, [], ◌∷◌, IfOk, IfErr, OnErr, Some, None, Err, map, option_map, codes, false};
 ghost use Rattle.std.specs.String.{string_bytes};
 ghost use Rattle.std.specs.Io.KnownBytes.{Keeps};
 ghost use Rattle.clap.specs.Words.{HasKind, app_of, kind_of, subcommand_rows_of};
@@ -9,6 +9,7 @@ ghost use Rattle.mlt_server.specs.CommandLine.{FailsAt, IsFileWord, solo_app, ba
 
 use clap::error::ErrorKind;
 use clap::{Arg, ArgMatches, Command, Error};
+use mlt_text::flush;
 use mlt_types::Refusal;
 use std::alloc::{AllocError, Global};
 use std::io::Write;
@@ -23,7 +24,9 @@ pub enum Job {
     },
 }
 
-const ABOUT: &str = "Runs scripts of transactions on accounts.";
+const VERSION: &str = "0.1.0";
+
+const ABOUT: &str = "Runs scripts of transactions on accounts, sets and counters.";
 
 const NO_WORDS: &str =
     "With no words at all it is `solo -`: the scripts are read from standard input.
@@ -47,18 +50,22 @@ const SOLO_EXAMPLE: &str = "Example: mltx solo scripts.txt
 /// The job that the words after the program's name ask for. With no words it is `solo -`.
 ///
 /// # Errors
-/// `clap`'s own, where the words ask for help or are wrong, or memory runs out.
+/// `clap`'s own, where the words ask for help or the version or are wrong, or memory runs out.
 pub fn read_words(alloc: Global, words: &[String]) -> Result<Job, Error>
     // with no words standard input is run, if there is memory
     ensures none { words.now ≡ [] → IfOk result (λ job. solo_file job ≡ codes "-") }
-    ensures none_err { words.now ≡ [] → IfErr result (λ error. kind_of error ≡ ErrorKind.OutOfMemory) }
+    ensures none_err { words.now ≡ []
+        → IfErr result (λ error. kind_of error ≡ ErrorKind.OutOfMemory) }
     // after `solo` a file goes as it stands, if there is memory
-    ensures file { (file : List ℕ) → map string_bytes words.now ≡ codes "solo" ∷ file ∷ [] → IsFileWord file
+    ensures file { (file : List ℕ) → map string_bytes words.now ≡ codes "solo" ∷ file ∷ []
+        → IsFileWord file
         → IfOk result (λ job. solo_file job ≡ file) }
-    ensures file_err { (file : List ℕ) → map string_bytes words.now ≡ codes "solo" ∷ file ∷ [] → IsFileWord file
+    ensures file_err { (file : List ℕ) → map string_bytes words.now ≡ codes "solo" ∷ file ∷ []
+        → IsFileWord file
         → IfErr result (λ error. kind_of error ≡ ErrorKind.OutOfMemory) }
     // the file is the one that `clap` finds in the words, and it finds nothing wrong with them
-    ensures ok { IfOk result (λ job. file_asked (map string_bytes words.now) ≡ Some (solo_file job)) }
+    ensures ok { IfOk result
+        (λ job. file_asked (map string_bytes words.now) ≡ Some (solo_file job)) }
     ensures lawful { IfOk result (λ _. word_kinds (map string_bytes words.now) ≡ []) }
     // an error is of a kind that the words call for, or memory ran out
     ensures err { IfErr result (λ error. FailsAt (map string_bytes words.now) error) }
@@ -67,7 +74,8 @@ pub fn read_words(alloc: Global, words: &[String]) -> Result<Job, Error>
 }
 
 fn read_job(alloc: Global, words: &[String]) -> Result<Job, Error>
-    ensures ok { IfOk result (λ job. file_asked (map string_bytes words.now) ≡ Some (solo_file job)) }
+    ensures ok { IfOk result
+        (λ job. file_asked (map string_bytes words.now) ≡ Some (solo_file job)) }
     ensures lawful { IfOk result (λ _. word_kinds (map string_bytes words.now) ≡ []) }
     ensures err { IfErr result (λ error. FailsAt (map string_bytes words.now) error) }
 {
@@ -96,6 +104,7 @@ fn bare_command<'a>(alloc: Global) -> Result<Command<'a>, AllocError>
     ensures { IfOk result (λ command. app_of command ≡ bare_app) }
 {
     Command::new(alloc, "mltx")
+        .version(VERSION)
         .about(ABOUT)
         .after_help(NO_WORDS)
         .no_binary_name(true)
@@ -123,34 +132,48 @@ fn file_found<'a>(matches: &ArgMatches<'a>) -> Option<&'a str>
     matches.subcommand_matches("solo")?.get_str("file")
 }
 
-/// The status that the program ends with where the words gave no job: 0 where they ask for help, and
-/// else 2.
+/// The status that the program ends with where the words gave no job: 0 where they ask for help or the
+/// version, 1 where memory ran out, and else 2.
 pub fn command_line_status(error: &Error) -> u8
     ensures { result ≡ words_status (kind_of error.now) }
 {
-    if error.kind() == ErrorKind::DisplayHelp {
-        0
-    } else {
-        2
+    match error.kind() {
+        ErrorKind::DisplayHelp | ErrorKind::DisplayVersion => 0,
+        ErrorKind::OutOfMemory => 1,
+        _ => 2,
     }
 }
 
 /// Writes what `clap` says where the words gave no job, and answers the status that the program ends
-/// with. Help goes to `output`, and what is wrong to `errors`, where a failed write changes nothing.
+/// with. Help and the version go to `output`, and what is wrong to `errors`, where a failed write changes
+/// nothing.
 ///
 /// # Errors
-/// `Io` where help can't be written.
+/// `OutOfMemory` exactly where memory ran out; nothing was written then. `Io` where help or the version
+/// can't be written.
 pub fn report_command_line<O: Write, E: Write>(
     error: &Error,
     output: &mut O,
     errors: &mut E,
 ) -> Result<u8, Refusal>
-    ensures status { IfOk result (λ status. status ≡ words_status (kind_of error.now)) }
-    ensures help { kind_of error.now ≡ ErrorKind.DisplayHelp → Keeps (E.contents errors.old) (E.contents errors.new) }
-    ensures wrong { kind_of error.now ≢ ErrorKind.DisplayHelp → Keeps (O.contents output.old) (O.contents output.new) }
-    ensures err { IfErr result (λ refusal. (refusal ≡ Refusal.Io) × (kind_of error.now ≡ ErrorKind.DisplayHelp)) }
+    ensures status { IfOk result
+        (λ status. (status ≡ words_status (kind_of error.now)) × (status ≢ 1)) }
+    // what was asked for goes to the output alone, and what is wrong to the errors alone
+    ensures asked { words_status (kind_of error.now) ≡ 0
+        → Keeps (E.contents errors.old) (E.contents errors.new) }
+    ensures wrong { words_status (kind_of error.now) ≡ 2
+        → Keeps (O.contents output.old) (O.contents output.new) }
+    ensures memory { words_status (kind_of error.now) ≡ 1
+        → (result ≡ Err Refusal.OutOfMemory) × Keeps (O.contents output.old) (O.contents output.new)
+        × Keeps (E.contents errors.old) (E.contents errors.new) }
+    ensures err { IfErr result (λ refusal.
+        ((refusal ≡ Refusal.OutOfMemory) × (words_status (kind_of error.now) ≡ 1))
+        ⊎ ((refusal ≡ Refusal.Io) × (words_status (kind_of error.now) ≡ 0))) }
 {
     let status = command_line_status(error);
+    if status == 1 {
+        return Err(Refusal::OutOfMemory);
+    }
     if status == 0 {
         write_error(error, output)?;
     } else {
@@ -164,11 +187,7 @@ fn write_error<W: Write>(error: &Error, writer: &mut W) -> Result<(), Refusal>
     ensures { IfErr result (λ refusal. refusal ≡ Refusal.Io) }
 {
     match write!(writer, "{error}") {
-        Ok(()) => {}
-        Err(_) => return Err(Refusal::Io),
-    }
-    match writer.flush() {
-        Ok(()) => Ok(()),
+        Ok(()) => flush(writer),
         Err(_) => Err(Refusal::Io),
     }
 }

@@ -13,5 +13,6 @@ mod split_laws;
 pub use phase::SplitPhase;
 pub use split::{Split, SplitAnswer};
 pub use split_laws::{
-    closed_owners_keep_the_rest, closed_owners_keep_the_split, steps_lock_their_page_alone,
+    closed_owners_keep_the_rest, closed_owners_keep_the_split, narrow_splits_lock_the_keys_page,
+    steps_lock_their_page_alone,
 };

@@ -21,14 +21,18 @@ const PIECE: usize = 65_536;
 /// past the limit. `OutOfMemory` where a growth is refused. What was read before is lost.
 pub fn read_input<R: Read>(alloc: Global, reader: &mut R) -> Result<Vec<u8>, Refusal>
     // all that the reader had, which fits
-    ensures ok { IfOk result (λ bytes. Consumes (R.remaining reader.old) (R.remaining reader.new) bytes.items
+    ensures ok { IfOk result
+        (λ bytes. Consumes (R.remaining reader.old) (R.remaining reader.new) bytes.items
         × IsAtEnd (R.remaining reader.new) × length bytes.items ≤ 16777216) }
     // a longer input is refused
-    ensures long { IfSome (R.remaining reader.old) (λ input. 16777216 < length input → IsErr result) }
+    ensures long { IfSome (R.remaining reader.old)
+        (λ input. 16777216 < length input → IsErr result) }
     // never is more read than one byte past the limit
-    ensures bounded { (taken : List ℕ) × Consumes (R.remaining reader.old) (R.remaining reader.new) taken
+    ensures bounded { (taken : List ℕ)
+        × Consumes (R.remaining reader.old) (R.remaining reader.new) taken
         × length taken ≤ 16777217 }
-    ensures refusals { IfErr result (λ refusal. (refusal ≡ Refusal.OutOfMemory) ⊎ (refusal ≡ Refusal.Io)) }
+    ensures refusals { IfErr result
+        (λ refusal. (refusal ≡ Refusal.OutOfMemory) ⊎ (refusal ≡ Refusal.Io)) }
 {
     let mut bytes = Vec::new(alloc);
     let mut piece = zeros(alloc, PIECE)?;
@@ -59,10 +63,13 @@ fn read_piece<R: Read>(
     requires within { length bytes.old.items + length piece.old ≤ 16777217 }
     ensures ok { IfOk result (λ ended. (read : List ℕ) × (bytes.new.items ≡ bytes.old.items ++ read)
         × Consumes (R.remaining reader.old) (R.remaining reader.new) read
-        × (ended ≡ true → (read ≡ []) × IsAtEnd (R.remaining reader.new)) × length bytes.new.items ≤ 16777216) }
-    ensures err { OnErr result ((read : List ℕ) × Consumes (R.remaining reader.old) (R.remaining reader.new) read
+        × (ended ≡ true → (read ≡ []) × IsAtEnd (R.remaining reader.new))
+        × length bytes.new.items ≤ 16777216) }
+    ensures err { OnErr result
+        ((read : List ℕ) × Consumes (R.remaining reader.old) (R.remaining reader.new) read
         × length bytes.old.items + length read ≤ 16777217) }
-    ensures refusals { IfErr result (λ refusal. (refusal ≡ Refusal.OutOfMemory) ⊎ (refusal ≡ Refusal.Io)) }
+    ensures refusals { IfErr result
+        (λ refusal. (refusal ≡ Refusal.OutOfMemory) ⊎ (refusal ≡ Refusal.Io)) }
 {
     let count = read_some(reader, piece)?;
     if bytes.len() + count > MAX_INPUT {
@@ -75,7 +82,8 @@ fn read_piece<R: Read>(
 // One read, tried again while it is interrupted.
 fn read_some<R: Read>(reader: &mut R, buffer: &mut [u8]) -> Result<usize, Refusal>
     ensures bound { ReadsAtMost result buffer.new }
-    ensures bytes { ReadConsumes (R.remaining reader.old) (R.remaining reader.new) result buffer.new }
+    ensures bytes { ReadConsumes (R.remaining reader.old)
+        (R.remaining reader.new) result buffer.new }
     ensures refusal { IfErr result (λ refusal. refusal ≡ Refusal.Io) }
 {
     for _ in 0..u64::MAX {

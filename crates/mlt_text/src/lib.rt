@@ -5,7 +5,7 @@ mod input;
 mod output;
 
 pub use input::{MAX_INPUT, read_input};
-pub use output::write_text;
+pub use output::{flush, write_text};
 
 #[cfg(test)]
 mod tests;

@@ -15,7 +15,8 @@ use std::io::{ErrorKind, Write};
 /// text.
 pub fn write_text<W: Write>(writer: &mut W, text: &[u8]) -> Result<(), Refusal>
     ensures ok { OnOk result (Appends (W.contents writer.old) (W.contents writer.new) text.now) }
-    ensures err { OnErr result (AppendsFront (W.contents writer.old) (W.contents writer.new) text.now) }
+    ensures err { OnErr result
+        (AppendsFront (W.contents writer.old) (W.contents writer.new) text.now) }
     ensures refusal { IfErr result (λ refusal. refusal ≡ Refusal.Io) }
 {
     let mut at = 0;
@@ -29,7 +30,8 @@ pub fn write_text<W: Write>(writer: &mut W, text: &[u8]) -> Result<(), Refusal>
 // One write of at least one byte, tried again while it is interrupted.
 fn write_some<W: Write>(writer: &mut W, text: &[u8]) -> Result<usize, Refusal>
     ensures count { IfOk result (λ count. (0 < count) × (count ≤ length text.now)) }
-    ensures ok { IfOk result (λ count. Appends (W.contents writer.old) (W.contents writer.new) (take count text.now)) }
+    ensures ok { IfOk result
+        (λ count. Appends (W.contents writer.old) (W.contents writer.new) (take count text.now)) }
     ensures err { OnErr result (Keeps (W.contents writer.old) (W.contents writer.new)) }
     ensures refusal { IfErr result (λ refusal. refusal ≡ Refusal.Io) }
 {
@@ -47,8 +49,11 @@ fn write_some<W: Write>(writer: &mut W, text: &[u8]) -> Result<usize, Refusal>
     Err(Refusal::Io)
 }
 
-// Flushes, again while it is interrupted.
-fn flush<W: Write>(writer: &mut W) -> Result<(), Refusal>
+/// Flushes, again while it is interrupted.
+///
+/// # Errors
+/// `Io` where the flush fails.
+pub fn flush<W: Write>(writer: &mut W) -> Result<(), Refusal>
     ensures bytes { Keeps (W.contents writer.old) (W.contents writer.new) }
     ensures refusal { IfErr result (λ refusal. refusal ≡ Refusal.Io) }
 {

@@ -1,6 +1,6 @@
 //! Readers that give little, fail or have too much, and a writer that fails.
 
-use crate::{MAX_INPUT, read_input, write_text};
+use crate::{MAX_INPUT, flush, read_input, write_text};
 use mlt_types::Refusal;
 use std::alloc::Global;
 use std::io;
@@ -114,6 +114,27 @@ impl Write for Full {
     }
 }
 
+// A writer that takes all, whose flushes fail in turn with these kinds of errors, and then succeed.
+#[derive(Drop)]
+struct Unflushed<'a> {
+    taken: Vec<u8>,
+    kinds: &'a [ErrorKind],
+}
+
+impl Write for Unflushed<'_> {
+    fn write(&mut self, buf: &[u8]) -> io::Result<usize> {
+        self.taken.write(buf)
+    }
+
+    fn flush(&mut self) -> io::Result<()> {
+        let Some((kind, rest)) = self.kinds.split_first() else {
+            return Ok(());
+        };
+        self.kinds = rest;
+        Err(Error::from(*kind))
+    }
+}
+
 #[test]
 fn one_byte_reads(rt: HostRuntime) -> Result<(), Fail> {
     let turns = [
@@ -205,4 +226,27 @@ fn narrow_writer_takes_all(rt: HostRuntime) -> Result<(), Fail> {
 fn full_writer(rt: HostRuntime) {
     assert_eq!(rt; write_text(&mut Full, b"opened\n"), Err(Refusal::Io));
     assert_eq!(rt; write_text(&mut Full, b""), Ok(()));
+}
+
+#[test]
+fn failed_flush(rt: HostRuntime) {
+    let mut writer = Unflushed {
+        taken: Vec::new(rt.alloc()),
+        kinds: &[ErrorKind::BrokenPipe],
+    };
+    assert_eq!(rt; write_text(&mut writer, b"done\n"), Err(Refusal::Io));
+    assert_eq!(rt; writer.taken.as_slice(), b"done\n".as_slice());
+    assert!(rt; writer.kinds.is_empty());
+    assert_eq!(rt; flush(&mut writer), Ok(()));
+}
+
+#[test]
+fn interrupted_flush(rt: HostRuntime) {
+    let mut writer = Unflushed {
+        taken: Vec::new(rt.alloc()),
+        kinds: &[ErrorKind::Interrupted, ErrorKind::Interrupted],
+    };
+    assert_eq!(rt; write_text(&mut writer, b"done\n"), Ok(()));
+    assert_eq!(rt; writer.taken.as_slice(), b"done\n".as_slice());
+    assert!(rt; writer.kinds.is_empty());
 }

@@ -2,7 +2,7 @@
 #![tactic(auto)]
 
 use mlt_server::{Job, read_words, report_command_line, report_fault, solo, status};
-use mlt_types::{Limits, Mult, Refusal};
+use mlt_types::Refusal;
 use std::fs::File;
 use std::io::ErrorKind;
 use std::process::ExitCode;
@@ -48,15 +48,9 @@ fn do_job(rt: &HostRuntime, job: &Job) -> Result<(), Refusal> {
     match job {
         Job::Solo { file } => {
             if file.as_str() == "-" {
-                solo(alloc, &mut rt.stdin(), &mut output, Limits::program(), Mult)
+                solo(alloc, &mut rt.stdin(), &mut output)
             } else {
-                solo(
-                    alloc,
-                    &mut open(rt, file.as_str())?,
-                    &mut output,
-                    Limits::program(),
-                    Mult,
-                )
+                solo(alloc, &mut open(rt, file.as_str())?, &mut output)
             }
         }
     }

@@ -52,7 +52,7 @@ returns-in-Some-clause-tells g c =
     let phase = c.requires.1.1.0 ∙ ap (at.Adding c.args.value c.args.number c.args.room_depth) planned.0 in
     let split = adding_at basis walk old c.args.value c.args.number c.args.room_depth false phase c.requires.1.1.1.stands in
     let again = c.in-Some.ensures split.fields split.rest.found in
-    put_tells basis walk c.put.new.walk old (moment c.put.new.subtx c.put.new.pages) c.args.value c.args.number c.args.room_depth phase split c.in-Some.write again.1 c.put.result c.put.ensures.tells
+    put_tells basis walk c.put.new.walk old (moment c.put.new.subtx c.put.new.pages) c.args.value c.args.number c.args.room_depth phase split c.in-Some.write again.1 (clean_now (aim_of basis walk c.args.room_depth) old c.requires.1.1.1.may c.requires.1.1.1.file) c.put.result c.put.ensures.tells
 
 pub begin-requires : goal.begin-requires
 begin-requires g c κs within =

@@ -18,7 +18,8 @@ returns-in-Going-clause-tells g c =
     let new = moment c.advance.new.subtx c.advance.new.pages in
     let was : walk.split ≡ Some c.deref_mut.result.now = sym (ap (λ (w : WalkFields). w.split) c.walk.view_is) ∙ ap (Rattle.std.specs.Option.option_map (λ b. b.value)) c.in-Some.is ∙ ap Some (sym c.deref_mut.ensures.value) in
     let tells = subst (λ (aim : Aim). GoesOn aim new c.deref_mut.result.now c.advance.new.self) c.requires.1.0 c.in-Going.ensures.tells in
-    ((c.deref_mut.result.now, was, subst (λ (aim : Aim). IsDone c.deref_mut.result.now.phase aim old new c.deref_mut.result.now) c.requires.1.0 c.in-Going.ensures.steps), inl (split_goes_on basis walk _ old new c.args.value c.args.room_depth c.deref_mut.result.now c.requires.1.1.0 c.requires.1.1.1.stands was c.requires.1.1.1.may c.in-Going.ensures.leaves.touches c.advance.new.self (ap (λ (w : WalkFields). record w { split = Some c.advance.new.self }) c.walk.view_is) tells))
+    let done = subst (λ (aim : Aim). IsDone c.deref_mut.result.now.phase aim old new c.deref_mut.result.now) c.requires.1.0 c.in-Going.ensures.steps in
+    ((c.deref_mut.result.now, was, done), inl (split_goes_on basis walk _ old new c.args.value c.args.room_depth c.deref_mut.result.now c.requires.1.1.0 c.requires.1.1.1.stands was c.requires.1.1.1.may c.requires.1.1.1.file c.in-Going.ensures.leaves.touches done c.advance.new.self (ap (λ (w : WalkFields). record w { split = Some c.advance.new.self }) c.walk.view_is) tells))
 
 pub returns-in-Closed-clause-tells : goal.returns-in-Closed-clause-tells
 returns-in-Closed-clause-tells g c =
@@ -27,9 +28,10 @@ returns-in-Closed-clause-tells g c =
     let old = moment c.args.subtx.now c.args.pages.now in
     let new = moment c.advance.new.subtx c.advance.new.pages in
     let was : walk.split ≡ Some c.deref_mut.result.now = sym (ap (λ (w : WalkFields). w.split) c.walk.view_is) ∙ ap (Rattle.std.specs.Option.option_map (λ b. b.value)) c.in-Some.is ∙ ap Some (sym c.deref_mut.ensures.value) in
-    let tells = subst (λ (aim : Aim). Rests aim new c.deref_mut.result.now c.in-Closed.bucket × (steps_left c.deref_mut.result.now ≡ 1)) c.requires.1.0 c.in-Closed.ensures.tells in (
-      (c.deref_mut.result.now, was, subst (λ (aim : Aim). IsDone c.deref_mut.result.now.phase aim old new c.deref_mut.result.now) c.requires.1.0 c.in-Closed.ensures.steps),
-      inr (split_closes_walk basis walk _ old new c.args.value c.args.room_depth c.deref_mut.result.now c.requires.1.1.0 c.requires.1.1.1.stands was c.requires.1.1.1.may c.in-Closed.ensures.leaves.touches c.in-Closed.bucket (Some c.advance.new.self)
+    let tells = subst (λ (aim : Aim). Rests aim new c.deref_mut.result.now c.in-Closed.bucket × (steps_left c.deref_mut.result.now ≡ 1)) c.requires.1.0 c.in-Closed.ensures.tells in
+    let done = subst (λ (aim : Aim). IsDone c.deref_mut.result.now.phase aim old new c.deref_mut.result.now) c.requires.1.0 c.in-Closed.ensures.steps in (
+      (c.deref_mut.result.now, was, done),
+      inr (split_closes_walk basis walk _ old new c.args.value c.args.room_depth c.deref_mut.result.now c.requires.1.1.0 c.requires.1.1.1.stands was c.requires.1.1.1.may c.requires.1.1.1.file c.in-Closed.ensures.leaves.touches done c.in-Closed.bucket (Some c.advance.new.self)
           (ap (λ (w : WalkFields). record w { phase = at.Adding c.args.value c.in-Closed.bucket c.args.room_depth false; split = Some c.advance.new.self }) c.walk.view_is) tells.0 tells.1),
     )
 

@@ -8,7 +8,7 @@ use Rattle.mlt_hash.specs.Changes.{IsFull, directory_depth_of}
 use Rattle.mlt_hash.specs.declared.pass.Pass.TheVariants as pass
 use Rattle.mlt_hash.specs.declared.pass.Phase.TheVariants as at
 use Rattle.mlt_hash.proofs.InPlace.{absent_at}
-use Rattle.mlt_hash.proofs.Resting.{TellsNext, adding_tells, first_tells, full_bucket, no_room_tells, shallow, tells_next, widen_tells}
+use Rattle.mlt_hash.proofs.Resting.{TellsNext, adding_tells, few_at_bucket, first_tells, full_bucket, no_room_tells, shallow, tells_next, widen_tells, within_limit}
 use Rattle.mlt_hash.proofs.change.without_room.Goals as goal
 
 pub next_pass-next-requires-clause-bucket : goal.next_pass-next-requires-clause-bucket
@@ -35,7 +35,7 @@ returns-in-First-clause-tells g c =
     tells_next basis fields c.walk.inside.key walk.key c.in-AtBucket.directory_depth (directory_depth_of walk.phase) next.0 next.1 (ap (λ (w : WalkFields). w.key) c.walk.view_is) depth
     (record { follows = c.next_pass-next.ensures.pass; room = c.next_pass-next.ensures.depth; narrow = c.next_pass-next.ensures.narrow }) in
     let own : c.walk.inside.pass ≡ walk.pass = ap (λ (w : WalkFields). w.pass) c.walk.view_is in
-    first_tells basis walk _ m fields next.0 next.1 c.args.value full told (sym own ∙ c.in-First.is) (ap (λ (w : WalkFields). record w { phase = at.Full next.0 }) c.walk.view_is)
+    first_tells basis walk _ m fields next.0 next.1 c.args.value full told (few_at_bucket basis walk (view_of m) c.requires.found c.requires.ready.walks.stands) (sym own ∙ c.in-First.is) (ap (λ (w : WalkFields). record w { phase = at.Full next.0 }) c.walk.view_is)
 
 pub returns-then-must_widen-clause-tells : goal.returns-then-must_widen-clause-tells
 returns-then-must_widen-clause-tells g c =
@@ -52,7 +52,7 @@ returns-then-must_widen-clause-tells g c =
     (record { follows = c.next_pass-next.ensures.pass; room = c.next_pass-next.ensures.depth; narrow = c.next_pass-next.ensures.narrow }) in
     let own : c.walk.inside.pass ≡ walk.pass = ap (λ (w : WalkFields). w.pass) c.walk.view_is in
     let both = c.if-must_widen.ensures.0 refl in
-    widen_tells basis walk _ m fields next.0 next.1 c.args.value full told (sym own ∙ both.0) both.1 (ap (λ (w : WalkFields). record w { phase = at.Full pass.Wide }) c.walk.view_is)
+    widen_tells basis walk _ m fields next.0 next.1 c.args.value full told (few_at_bucket basis walk (view_of m) c.requires.found c.requires.ready.walks.stands) (sym own ∙ both.0) both.1 (ap (λ (w : WalkFields). record w { phase = at.Full pass.Wide }) c.walk.view_is)
 
 pub returns-in_default-least-clause-tells : goal.returns-in_default-least-clause-tells
 returns-in_default-least-clause-tells g c =
@@ -69,7 +69,8 @@ returns-in_default-least-clause-tells g c =
     (record { follows = c.next_pass-next.ensures.pass; room = c.next_pass-next.ensures.depth; narrow = c.next_pass-next.ensures.narrow }) in
     let own : c.walk.inside.pass ≡ walk.pass = ap (λ (w : WalkFields). w.pass) c.walk.view_is in
     no_room_tells basis walk _ m fields next.0 next.1 c.args.value full told
-    (λ first. c.in_default-pass.not-First (own ∙ first)) (λ narrow wide. let both = c.must_widen.ensures.1 (own ∙ narrow, wide) in false≢true (sym c.if-must_widen.false ∙ both)) (ap is_some c.in_default-least.is) refl
+    (λ first. c.in_default-pass.not-First (own ∙ first)) (λ narrow wide. let both = c.must_widen.ensures.1 (own ∙ narrow, wide) in false≢true (sym c.if-must_widen.false ∙ both))
+    (within_limit basis walk m fields c.requires.ready.walks.bounded c.requires.ready.walks.may c.requires.ready.walks.file (absent_at basis walk (view_of m) walk.phase c.requires.found c.requires.ready.walks.stands) full) (ap is_some c.in_default-least.is) refl
 
 pub returns-clause-tells : goal.returns-clause-tells
 returns-clause-tells g c =

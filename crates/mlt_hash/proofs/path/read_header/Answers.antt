@@ -1,11 +1,15 @@
-use Rattle.std.proofs.Common.{Some, ap, ◌∙◌, arith}
+use Rattle.std.proofs.Common.{◌≡◌, ℕ, ◌/◌, ◌%◌, slice_index, Some, refl, sym, ap, subst, ◌∙◌, arith}
+use Rattle.mlt_page.specs.Bits.{first_bits}
+use Rattle.mlt_page.specs.Values.{HeadFields}
+use Rattle.mlt_page.specs.declared.page.Page.{Page}
 use Rattle.mlt_page.specs.declared.page.Page.TheVariants as page
 use Rattle.mlt_held.specs.Moments.{HasCleanFile, Moment, moment}
-use Rattle.mlt_held.specs.Views.{view_of}
+use Rattle.mlt_held.specs.Views.{ReadsPage, view_of}
 use Rattle.mlt_held.proofs.Views.{reads_after_lock, reads_seen}
-use Rattle.mlt_hash.specs.Walks.{IsAtStart}
+use Rattle.mlt_hash.specs.Passes.{header_mode}
+use Rattle.mlt_hash.specs.Walks.{IsAtStart, WalkFields}
 use Rattle.mlt_hash.specs.declared.pass.Phase.TheVariants as at
-use Rattle.mlt_hash.proofs.Paths.{head_there, header_there, one_page}
+use Rattle.mlt_hash.proofs.Paths.{head_there, headed, header_there, one_page}
 use Rattle.mlt_hash.proofs.Readings.{few_held, is_there, none_held, reads_clean}
 use Rattle.mlt_hash.proofs.Standing.{stands_at}
 use Rattle.mlt_hash.proofs.path.read_header.Given.{Over}
@@ -41,3 +45,22 @@ unreachable-requires g c =
     let read = reads_clean (before g s) after c.args.root.now.page c.header_mode.result (Some c.read_held.result.now) (file g s).clean c.lock.ensures.leaves.may (c.lock.ensures.leaves.clean (file g s).clean (file g s).is_clean) (start g s).unwritten (reads_seen (view_of (before g s)) (view_of after) c.args.root.now.page c.header_mode.result c.read_held.result.now c.in_default.ensures.view c.read_held.ensures.reads) in
     let head = head_there g.basis.bits (file g s).clean g.basis.root (file g s).form in
     c.in_default-read_held.not-Head head.0 (one_page ((file g s).clean c.args.root.now.page) c.read_held.result.now (page.Head head.0) read (ap (file g s).clean s.requires.1.1.0 ∙ head.1))
+
+pub returns-clause-tells : goal.returns-clause-tells
+unfolding file
+returns-clause-tells g c = λ opens.
+    let s = (goal.at.returns-clause-tells g c).Start in
+    let after = moment c.args.subtx.now c.lock.new.pages in
+    let header : HeadFields = record { depth = c.header.inside.depth; dirs = c.header.inside.dirs } in
+    let key : c.walk.inside.key ≡ c.args.walk.now.key = ap (λ (w : WalkFields). w.key) c.walk.view_is in
+    let pass : c.walk.inside.pass ≡ c.args.walk.now.pass = ap (λ (w : WalkFields). w.pass) c.walk.view_is in
+    let bits : c.bits.result ≡ g.basis.bits c.args.walk.now.key = c.bits.ensures ∙ (λ i. c.requires.1.1.1.0 i (key i)) in
+    let read : ReadsPage (view_of (before g s)) (view_of after) c.args.root.now.page c.header_mode.result (Some c.read_held.result.now) = reads_seen (view_of (before g s)) (view_of after) c.args.root.now.page c.header_mode.result c.read_held.result.now c.in_default.ensures.view c.read_held.ensures.reads in
+    let reads : ReadsPage (view_of (before g s)) (view_of after) g.basis.root c.header_mode.result (Some (page.Head header)) =
+    subst (λ (p : Page). ReadsPage (view_of (before g s)) (view_of after) g.basis.root c.header_mode.result (Some p)) (c.in-Head.is ∙ ap page.Head (sym c.header.view_is))
+    (subst (λ (q : ℕ). ReadsPage (view_of (before g s)) (view_of after) q c.header_mode.result (Some c.read_held.result.now)) c.requires.1.1.0 read) in (
+      headed g.basis opens c.args.walk.now _ (before g s) after c.header_mode.result header c.dir.result c.of-place.result.entry c.header.inside.depth (file g s) c.requires.1.1.1.1.1.shallow c.lock.ensures.leaves.may c.lock.ensures.leaves.clean (start g s) (c.header_mode.ensures ∙ ap header_mode pass) reads
+          (c.dir.ensures ∙ ap (λ (h : HeadFields). slice_index h.dirs c.of-place.result.dir) (sym c.header.view_is) ∙ ap (slice_index c.header.inside.dirs) c.of-place.ensures.dir ∙ ap (λ x. slice_index c.header.inside.dirs (first_bits c.header.inside.depth x / 256)) bits)
+          (c.of-place.ensures.entry ∙ ap (λ x. first_bits c.header.inside.depth x % 256) bits) refl c.requires.1.1.1.1.0 (ap (λ (w : WalkFields). record w { phase = at.Headed c.dir.result c.of-place.result.entry c.header.inside.depth }) c.walk.view_is),
+      omega arith,
+    )

@@ -1,5 +1,14 @@
-use Rattle.mlt_held.proofs.AllEvents.{end_clean, end_keeps, idle_at_end}
+use Rattle.mlt_held.proofs.AllEvents.{end_agrees, end_clean, end_keeps, nothing_at_end}
 use Rattle.mlt_held.proofs.clean_laws.end_makes_written_pages_clean.Goals as goal
 
-pub returns : goal.returns
-returns c = λ all tx may opened. (end_keeps all tx may opened, idle_at_end all tx, end_clean all tx may)
+pub returns-clause-keeps : goal.returns-clause-keeps
+returns-clause-keeps c = end_keeps
+
+pub returns-clause-nothing : goal.returns-clause-nothing
+returns-clause-nothing c = nothing_at_end
+
+pub returns-clause-clean : goal.returns-clause-clean
+returns-clause-clean c = end_clean
+
+pub returns-clause-agrees : goal.returns-clause-agrees
+returns-clause-agrees c = end_agrees

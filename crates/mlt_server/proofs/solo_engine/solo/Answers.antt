@@ -10,7 +10,7 @@ returns-clause-text g c =
     let input = c.in_ok-input.input.items in
     let text = is_solo_text c.as_slice.result.now input c.as_slice-2.result.now c.in_ok-scripts.scripts.items report.outcomes report.base
     c.as_slice.ensures.value c.as_slice-2.ensures.value c.in_ok-scripts.ensures.spelled c.in_ok-report.ensures.run c.in_ok-report.ensures.marks in
-    on_ok c.write_report.result _ _ (λ appends. (input, report_text Solo report.outcomes report.base, c.in_ok-input.ensures.ok, text, appends)) c.write_report.ensures.ok
+    on_ok c.write_report.result _ _ (λ appends. (input, report_text Solo report.outcomes report.base, (c.in_ok-input.ensures.ok, text), appends)) c.write_report.ensures.ok
 
 pub returns-clause-io : goal.returns-clause-io
 returns-clause-io g c = λ failed.
@@ -18,4 +18,4 @@ returns-clause-io g c = λ failed.
     let input = c.in_ok-input.input.items in
     let text = is_solo_text c.as_slice.result.now input c.as_slice-2.result.now c.in_ok-scripts.scripts.items report.outcomes report.base
     c.as_slice.ensures.value c.as_slice-2.ensures.value c.in_ok-scripts.ensures.spelled c.in_ok-report.ensures.run c.in_ok-report.ensures.marks in
-    inr (input, report_text Solo report.outcomes report.base, c.in_ok-input.ensures.ok, text, c.write_report.ensures.io failed)
+    inr (input, report_text Solo report.outcomes report.base, (c.in_ok-input.ensures.ok, text), c.write_report.ensures.io failed)

@@ -1,13 +1,34 @@
-use Rattle.std.proofs.Common.{◌≡◌, ap, sym, subst, ◌∙◌}
+use Rattle.std.proofs.Common.{◌≡◌, refl, ap, sym, subst, ◌∙◌}
 use Rattle.std.specs.Prelude.{◌↔◌}
+use Rattle.std.specs.FinSet as set
 use Rattle.mlt_types.specs.declared.refusal.Refusal.TheVariants as refusal
 use Rattle.mlt_held.specs.PageSteps.{HasNoPageLeft}
 use Rattle.mlt_held.specs.Moments.{Moment, moment}
 use Rattle.mlt_hash.specs.Walks.{Basis, WalkFields, basis_by}
 use Rattle.mlt_hash.specs.Splitting.{HasToMake, TellsAt}
 use Rattle.mlt_hash.specs.declared.answer.WalkAnswer.TheVariants as answer
+use Rattle.mlt_hash.specs.declared.pass.Phase.TheVariants as at
+use Rattle.mlt_hash.proofs.OnWay.{walks_for}
 use Rattle.mlt_hash.proofs.Splittings.{path_has_room}
 use Rattle.mlt_hash.proofs.walk.Walk.advance.Goals as goal
+
+pub read_header-requires : goal.read_header-requires
+read_header-requires g c κs within =
+    let basis : Basis = basis_by g.P.Pseudo.bits_of c.args.root.now c.args.opens.now c.args.subtx.now.tx in
+    let phase = sym (ap (λ (w : WalkFields). w.phase) c.self.view_is) ∙ c.in-Start.is in
+    (within, (refl, (refl, (refl, (phase, walks_for basis set.empty (moment c.args.subtx.now c.args.pages.now) c.args.self.now at.Start phase tt c.requires.ready)))))
+
+pub read_directory-requires : goal.read_directory-requires
+read_directory-requires g c κs within =
+    let basis : Basis = basis_by g.P.Pseudo.bits_of c.args.root.now c.args.opens.now c.args.subtx.now.tx in
+    let phase = sym (ap (λ (w : WalkFields). w.phase) c.self.view_is) ∙ c.in-Headed.is in
+    (within, (refl, (refl, (refl, (phase, walks_for basis set.empty (moment c.args.subtx.now c.args.pages.now) c.args.self.now (at.Headed c.in-Headed.dir c.in-Headed.row c.in-Headed.depth) phase tt c.requires.ready)))))
+
+pub read_bucket-requires : goal.read_bucket-requires
+read_bucket-requires g c κs within =
+    let basis : Basis = basis_by g.P.Pseudo.bits_of c.args.root.now c.args.opens.now c.args.subtx.now.tx in
+    let phase = sym (ap (λ (w : WalkFields). w.phase) c.self.view_is) ∙ c.in-Placed.is in
+    (within, (refl, (refl, (refl, (phase, walks_for basis set.empty (moment c.args.subtx.now c.args.pages.now) c.args.self.now (at.Placed c.in-Placed.bucket c.in-Placed.depth) phase tt c.requires.ready)))))
 
 pub returns-in-Start-clause-tells : goal.returns-in-Start-clause-tells
 returns-in-Start-clause-tells g c =

@@ -1,6 +1,6 @@
 //! Operations on a base, its text, and records read as objects.
 
-use crate::{Base, RecChange, inverse, plan, records_mean_bases, reply, write_base};
+use mlt_base::{Base, RecChange, inverse, plan, records_mean_bases, reply, write_base};
 use mlt_kinds::{AccountOp, CounterOp, Done, ElementOp, ObjOp, ObjReply};
 use mlt_types::{Cell, Key, Mode, Refusal, Value};
 use std::io;

@@ -2,7 +2,7 @@
 
 ghost use Rattle.mlt_kinds.specs.Accounts.{IsAccount};
 
-use crate::{
+use mlt_kinds::{
     Account, AccountOp, Counter, CounterOp, Done, Element, ElementOp, Kind, MAX_BALANCE, ObjOp,
     ObjReply, steps_of_bases_are_fixed, steps_of_bases_pass,
 };

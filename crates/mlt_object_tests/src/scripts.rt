@@ -1,5 +1,7 @@
-use super::*;
+//! Texts of scripts, cursors, and words of operations and replies.
+
 use mlt_kinds::{AccountOp, CounterOp, ElementOp, ObjOp, ObjReply};
+use mlt_script::{Cursor, Ending, Next, by_client, parse, print, read_op, read_reply};
 use mlt_types::{Refusal, ScriptCause};
 use std::alloc::AllocError;
 use std::test::Fail;

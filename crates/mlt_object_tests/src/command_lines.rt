@@ -1,10 +1,11 @@
 //! Command lines, help, statuses and fault lines.
 
-use crate::{
+use clap::Error;
+use mlt_server::{
     FaultLine, Job, command_line_status, read_words, report_command_line, report_fault, status,
 };
 use mlt_types::{Refusal, ScriptCause, TraceCause};
-use std::alloc::Global;
+use std::alloc::{AllocError, Global};
 use std::io;
 use std::io::{ErrorKind, Write};
 use std::test::Fail;
@@ -43,6 +44,12 @@ fn what_is_said(alloc: Global, words: &[&str]) -> Result<Option<Said>, Fail> {
     }))
 }
 
+// What `clap` says of the words, which give no job.
+fn error_of(alloc: Global, word: &str) -> Result<Error, Fail> {
+    let words = words_of(alloc, &[word])?;
+    Ok(read_words(alloc, words.as_slice()).err().ok_or("a job")?)
+}
+
 // A writer that fails.
 #[derive(Drop)]
 struct Closed;
@@ -56,6 +63,73 @@ impl Write for Closed {
         Ok(())
     }
 }
+
+// A writer that takes all, whose flushes fail in turn with these kinds of errors, and then succeed.
+#[derive(Drop)]
+struct Unflushed<'a> {
+    taken: Vec<u8>,
+    kinds: &'a [ErrorKind],
+}
+
+impl<'a> Unflushed<'a> {
+    fn new(alloc: Global, kinds: &'a [ErrorKind]) -> Unflushed<'a> {
+        Unflushed {
+            taken: Vec::new(alloc),
+            kinds,
+        }
+    }
+}
+
+impl Write for Unflushed<'_> {
+    fn write(&mut self, buf: &[u8]) -> io::Result<usize> {
+        self.taken.write(buf)
+    }
+
+    fn flush(&mut self) -> io::Result<()> {
+        let Some((kind, rest)) = self.kinds.split_first() else {
+            return Ok(());
+        };
+        self.kinds = rest;
+        Err(io::Error::from(*kind))
+    }
+}
+
+const HELP: &str = "Runs scripts of transactions on accounts, sets and counters.
+
+Usage: mltx <COMMAND>
+
+Commands:
+  solo  Runs the scripts of FILE one after another, and prints what each was told.
+  help  Print this message or the help of the given subcommand(s)
+
+Options:
+  -h, --help     Print help
+  -V, --version  Print version
+
+With no words at all it is `solo -`: the scripts are read from standard input.
+
+Example: mltx solo scripts.txt
+";
+
+const SOLO_HELP: &str = "Runs the scripts of FILE one after another, and prints what each was told.
+
+Usage: mltx solo <FILE>
+
+Arguments:
+  <FILE>  The file with the scripts; `-` is standard input
+
+Options:
+  -h, --help  Print help
+
+Example: mltx solo scripts.txt
+
+  scripts.txt      standard output
+  begin
+  open 1           opened
+  deposit 1 50     done
+  balance 1        is 50
+  commit           committed 1
+";
 
 #[test]
 fn jobs(rt: HostRuntime) -> Result<(), Fail> {
@@ -77,32 +151,22 @@ fn jobs(rt: HostRuntime) -> Result<(), Fail> {
 }
 
 #[test]
-fn help_of_both_forms(rt: HostRuntime) -> Result<(), Fail> {
-    let lines: [&[&str]; 5] = [
-        &["--help"],
-        &["-h"],
-        &["help"],
-        &["solo", "--help"],
-        &["help", "solo"],
+fn help_and_version(rt: HostRuntime) -> Result<(), Fail> {
+    let lines: [(&[&str], &str); 7] = [
+        (&["--help"], HELP),
+        (&["-h"], HELP),
+        (&["help"], HELP),
+        (&["solo", "--help"], SOLO_HELP),
+        (&["help", "solo"], SOLO_HELP),
+        (&["--version"], "mltx 0.1.0\n"),
+        (&["-V"], "mltx 0.1.0\n"),
     ];
-    for line in lines {
+    for (line, wanted) in lines {
         let said = what_is_said(rt.alloc(), line)?.ok_or("a job")?;
-        let help = said.output.as_str();
         assert_eq!(rt; said.status, 0);
+        assert_eq!(rt; said.output.as_str(), wanted);
         assert_eq!(rt; said.errors.as_str(), "");
-        assert!(rt; help.contains("Usage: mltx"));
-        assert!(rt; help.contains("mltx solo scripts.txt"));
-        assert!(rt; help.contains("standard input"));
     }
-    let top = what_is_said(rt.alloc(), &["--help"])?.ok_or("a job")?;
-    assert!(rt; top.output.contains("With no words at all it is `solo -`"));
-    assert!(rt;
-        top.output
-            .contains("Runs scripts of transactions on accounts.")
-    );
-    let solo = what_is_said(rt.alloc(), &["solo", "--help"])?.ok_or("a job")?;
-    assert!(rt; solo.output.contains("Usage: mltx solo <FILE>"));
-    assert!(rt; solo.output.contains("`-` is standard input"));
     Ok(())
 }
 
@@ -132,16 +196,14 @@ fn wrong_command_lines(rt: HostRuntime) -> Result<(), Fail> {
 fn closed_outputs(rt: HostRuntime) -> Result<(), Fail> {
     let alloc = rt.alloc();
     let mut errors = Vec::new(alloc);
-    let words = words_of(alloc, &["--help"])?;
-    let asked = read_words(alloc, words.as_slice()).err().ok_or("a job")?;
+    let asked = error_of(alloc, "--help")?;
     assert_eq!(rt;
         report_command_line(&asked, &mut Closed, &mut errors),
         Err(Refusal::Io)
     );
     assert!(rt; errors.is_empty());
     let mut output = Vec::new(alloc);
-    let words = words_of(alloc, &["play"])?;
-    let wrong = read_words(alloc, words.as_slice()).err().ok_or("a job")?;
+    let wrong = error_of(alloc, "play")?;
     assert_eq!(rt;
         report_command_line(&wrong, &mut output, &mut Closed),
         Ok(2)
@@ -155,6 +217,68 @@ fn closed_outputs(rt: HostRuntime) -> Result<(), Fail> {
 }
 
 #[test]
+fn failed_flushes(rt: HostRuntime) -> Result<(), Fail> {
+    let alloc = rt.alloc();
+    let broken = [ErrorKind::BrokenPipe];
+    let mut errors = Unflushed::new(alloc, &broken);
+    assert_eq!(rt;
+        report_fault(&Refusal::Audit, &mut errors),
+        Err(Refusal::Io)
+    );
+    assert_eq!(rt; errors.taken.as_slice(), b"mltx: 15 Audit\n".as_slice());
+    let asked = error_of(alloc, "--version")?;
+    let mut output = Unflushed::new(alloc, &broken);
+    let mut errors = Unflushed::new(alloc, &broken);
+    assert_eq!(rt;
+        report_command_line(&asked, &mut output, &mut errors),
+        Err(Refusal::Io)
+    );
+    assert_eq!(rt; output.taken.as_slice(), b"mltx 0.1.0\n".as_slice());
+    let wrong = error_of(alloc, "play")?;
+    let mut output = Unflushed::new(alloc, &broken);
+    assert_eq!(rt;
+        report_command_line(&wrong, &mut output, &mut errors),
+        Ok(2)
+    );
+    assert!(rt; output.taken.is_empty());
+    assert!(rt; errors.kinds.is_empty());
+    Ok(())
+}
+
+#[test]
+fn interrupted_flushes(rt: HostRuntime) -> Result<(), Fail> {
+    let alloc = rt.alloc();
+    let interrupted = [ErrorKind::Interrupted];
+    let mut errors = Unflushed::new(alloc, &interrupted);
+    assert_eq!(rt; report_fault(&Refusal::Audit, &mut errors), Ok(()));
+    assert_eq!(rt; errors.taken.as_slice(), b"mltx: 15 Audit\n".as_slice());
+    assert!(rt; errors.kinds.is_empty());
+    let asked = error_of(alloc, "--version")?;
+    let mut output = Unflushed::new(alloc, &interrupted);
+    assert_eq!(rt;
+        report_command_line(&asked, &mut output, &mut errors),
+        Ok(0)
+    );
+    assert_eq!(rt; output.taken.as_slice(), b"mltx 0.1.0\n".as_slice());
+    assert!(rt; output.kinds.is_empty());
+    Ok(())
+}
+
+#[test]
+fn command_line_without_memory(rt: HostRuntime) {
+    let mut output = Vec::new(rt.alloc());
+    let mut errors = Vec::new(rt.alloc());
+    let error = Error::from(AllocError);
+    assert_eq!(rt; command_line_status(&error), 1);
+    assert_eq!(rt;
+        report_command_line(&error, &mut output, &mut errors),
+        Err(Refusal::OutOfMemory)
+    );
+    assert!(rt; output.is_empty());
+    assert!(rt; errors.is_empty());
+}
+
+#[test]
 fn fault_lines(rt: HostRuntime) -> Result<(), Fail> {
     let faults = [
         (
@@ -163,6 +287,13 @@ fn fault_lines(rt: HostRuntime) -> Result<(), Fail> {
                 cause: ScriptCause::Words,
             },
             "mltx: 10 ScriptFault line 2 Words\n",
+        ),
+        (
+            Refusal::ScriptFault {
+                line: u64::MAX,
+                cause: ScriptCause::Unfinished,
+            },
+            "mltx: 10 ScriptFault line 18446744073709551615 Unfinished\n",
         ),
         (
             Refusal::TraceFault {

@@ -1,6 +1,10 @@
-use super::*;
+//! Runs one after another, and texts of reports.
+
 use mlt_kinds::ObjReply;
 use mlt_script::parse;
+use mlt_serial::{
+    End, Form, Outcome, Outcomes, Report, Transcript, serial, serial_with_marks, write_report,
+};
 use std::test::Fail;
 
 fn report(rt: &HostRuntime, text: &str, form: Form) -> Result<String, Fail> {

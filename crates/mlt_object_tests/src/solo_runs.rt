@@ -1,16 +1,21 @@
+//! Scripts read, run one after another and written, with readers and writers that fail.
+
 ghost use Rattle.std.specs.Prelude.{◌≤◌};
 
-use super::*;
-use mlt_types::{Low, Mult, ScriptCause};
+use mlt_server::solo;
+use mlt_types::{Refusal, ScriptCause};
 use std::io;
+use std::io::{Read, Write};
 use std::test::Fail;
 
-/// A writer that takes one byte a call into 64 bytes of its own, and fails once it has `limit` of them.
+/// A writer that takes one byte a call into 64 bytes of its own, and fails once it has `limit` of them. Its
+/// first flush fails where there is an error for it.
 #[derive(Drop)]
 struct OneByte {
     bytes: [u8; 64],
     len: usize,
     limit: usize,
+    flush: Option<io::ErrorKind>,
     ghost fits: { len ≤ 64 },
 }
 
@@ -20,6 +25,7 @@ impl OneByte {
             bytes: [0; 64],
             len: 0,
             limit,
+            flush: None,
         }
     }
 
@@ -42,7 +48,10 @@ impl Write for OneByte {
     }
 
     fn flush(&mut self) -> io::Result<()> {
-        Ok(())
+        match self.flush.take() {
+            Some(kind) => Err(io::Error::from(kind)),
+            None => Ok(()),
+        }
     }
 }
 
@@ -68,19 +77,16 @@ const FIRST_RUN: &[u8] = b"begin\nopen 1\ndeposit 1 50\nbalance 1\ncommit\n";
 const FIRST_TEXT: &[u8] = b"opened\ndone\nis 50\ncommitted 1\n";
 
 fn is_solo(rt: &HostRuntime, text: &[u8], wanted: &[u8]) -> Result<bool, Fail> {
-    let mut mult = Vec::new(rt.alloc());
+    let mut written = Vec::new(rt.alloc());
     let mut input = text;
-    solo(rt.alloc(), &mut input, &mut mult, Limits::program(), Mult)?;
-    let mut low = Vec::new(rt.alloc());
-    let mut input = text;
-    solo(rt.alloc(), &mut input, &mut low, Limits::program(), Low)?;
-    Ok(mult.as_slice() == wanted && low.as_slice() == wanted)
+    solo(rt.alloc(), &mut input, &mut written)?;
+    Ok(written.as_slice() == wanted)
 }
 
 fn fault(rt: &HostRuntime, text: &[u8]) -> Option<(u64, ScriptCause)> {
     let mut input = text;
     let mut writer = OneByte::new(64);
-    match solo(rt.alloc(), &mut input, &mut writer, Limits::program(), Mult) {
+    match solo(rt.alloc(), &mut input, &mut writer) {
         Err(Refusal::ScriptFault { line, cause }) if writer.written().is_empty() => Some((
             line, cause,
         )),
@@ -188,22 +194,32 @@ fn line_limits(rt: HostRuntime) -> Result<(), Fail> {
 fn one_byte_writer(rt: HostRuntime) {
     let mut input = FIRST_RUN;
     let mut writer = OneByte::new(5);
-    let result = solo(rt.alloc(), &mut input, &mut writer, Limits::program(), Mult);
+    let result = solo(rt.alloc(), &mut input, &mut writer);
     assert_eq!(rt; result, Err(Refusal::Io));
     assert_eq!(rt; writer.written(), b"opene".as_slice());
+}
+
+#[test]
+fn failing_flush(rt: HostRuntime) {
+    let flushes = [
+        (io::ErrorKind::BrokenPipe, Err(Refusal::Io)),
+        (io::ErrorKind::Interrupted, Ok(())),
+    ];
+    for (kind, wanted) in flushes {
+        let mut input = FIRST_RUN;
+        let mut writer = OneByte::new(64);
+        writer.flush = Some(kind);
+        assert_eq!(rt; solo(rt.alloc(), &mut input, &mut writer), wanted);
+        assert_eq!(rt; writer.written(), FIRST_TEXT);
+        assert!(rt; writer.flush.is_none());
+    }
 }
 
 #[test]
 fn failing_reader(rt: HostRuntime) {
     let mut reader = Failing { rest: FIRST_RUN };
     let mut writer = OneByte::new(64);
-    let result = solo(
-        rt.alloc(),
-        &mut reader,
-        &mut writer,
-        Limits::program(),
-        Mult,
-    );
+    let result = solo(rt.alloc(), &mut reader, &mut writer);
     assert_eq!(rt; result, Err(Refusal::Io));
     assert_eq!(rt; writer.written(), b"".as_slice());
 }
@@ -214,7 +230,7 @@ fn failing_reader(rt: HostRuntime) {
 fn refused_growths(rt: HostRuntime) {
     let mut input = FIRST_RUN;
     let mut writer = OneByte::new(64);
-    let result = solo(rt.alloc(), &mut input, &mut writer, Limits::program(), Mult);
+    let result = solo(rt.alloc(), &mut input, &mut writer);
     let written = writer.written();
     match result {
         Ok(()) => {

@@ -1,0 +1,242 @@
+-- What a walk has read on its way to its bucket, and the modes of its pages, up to its end
+use Rattle.std.proofs.Common.{◌≡◌, ◌≢◌, ℕ, ◌<◌, ◌⊎◌, true, List, Option, None, Some, is_some, unwrap_or, refl, sym, ap, subst, ◌∙◌, inl, inr, arith}
+use Rattle.std.specs.Ordering.{nat_cmp}
+use Rattle.std.specs.FinMap as map
+use Rattle.std.specs.FinSet as set
+use Rattle.std.proofs.lemmas.Bool.{cases_eq, false≢true}
+use Rattle.mlt_types.specs.declared.mode.Mode.{Mode}
+use Rattle.mlt_types.specs.declared.mode.Mode.TheVariants.{Exclusive}
+use Rattle.mlt_page.specs.declared.page.Page.{Page}
+use Rattle.mlt_page.specs.declared.page.Page.TheVariants as page
+use Rattle.mlt_page.specs.Values.{BucketFields, HeadFields}
+use Rattle.mlt_page_locks.specs.LockTables.{Modes, mode_held}
+use Rattle.mlt_page_locks.specs.Requests.{stronger, with_page}
+use Rattle.mlt_hash_form.specs.File.{HasForm}
+use Rattle.mlt_hash_form.specs.Held.{Agrees, own_or}
+use Rattle.mlt_held.specs.Moments.{MayStep, Moment}
+use Rattle.mlt_held.specs.PageSteps.{TouchesOnePage}
+use Rattle.mlt_held.specs.Views.{MakesPage, View, WritesPage, view_of}
+use Rattle.mlt_held.proofs.Others.{step_keeps_tx}
+use Rattle.mlt_held.proofs.OwnSteps.{own_step_sees_more}
+use Rattle.mlt_held.proofs.Views.{mode_of_others, mode_of_page}
+use Rattle.mlt_split.specs.Rests.{Aim}
+use Rattle.mlt_split.specs.Splits.{IsUnderWay, SplitFields}
+use Rattle.mlt_split.specs.Steps.{IsDone, IsKeysPage, IsMaking, IsNextPage}
+use Rattle.mlt_split.specs.declared.split.SplitAnswer.TheVariants as split_answer
+use Rattle.mlt_split.proofs.HeldPages.{exclusive_after_make, grows_by_make}
+use Rattle.mlt_split.proofs.Locks.{locks_its_page_alone}
+use Rattle.mlt_split.proofs.Narrow.{narrow_leaves_header, narrow_makes_none, narrow_next_page}
+use Rattle.mlt_hash.specs.Passes.{bucket_held, bucket_mode, directory_held, directory_mode, header_held, header_mode}
+use Rattle.mlt_hash.specs.Walks.{Basis, HasPassed, HoldsByPass, IsAtBucket, IsSplitting, StaysNarrow, WalkFields, aim_of, dir_of}
+use Rattle.mlt_hash.specs.declared.pass.Pass.{Pass}
+use Rattle.mlt_hash.specs.declared.pass.Pass.TheVariants as pass
+use Rattle.mlt_hash.specs.declared.pass.Phase.{Phase}
+
+-- whoever is open, and at whatever phase
+pub passed_as : (basis : Basis) (opens : set.FinSet nat_cmp) (walk : WalkFields) (phase : Phase) (split : Option SplitFields) (view : View) (found : Option ℕ) → HasPassed basis walk view found
+    → HasPassed (record basis { opens = opens }) (record walk { phase = phase; split = split }) view found
+passed_as basis opens walk phase split view found p = record {
+  header = p.header;
+  dir = p.dir;
+  bucket = p.bucket;
+  fields = p.fields;
+  head = p.head;
+  listed = p.listed;
+  bucket_is = p.bucket_is;
+  at = p.at;
+  found_is = p.found_is;
+  shallow = p.shallow;
+  holds = record { on_header = p.holds.on_header; on_dir = p.holds.on_dir; on_bucket = p.holds.on_bucket; others = p.holds.others };
+}
+
+-- pages of different kinds are different pages
+head_is_no_dir : (view : View) (p q : ℕ) (header : HeadFields) (dir : List ℕ) → view.seen p ≡ Some (Some (page.Head header)) → view.seen q ≡ Some (Some (page.Dir dir)) → p ≡ q → ⊥
+head_is_no_dir view p q header dir head listed same = let both : Some (Some (page.Head header)) ≡ Some (Some (page.Dir dir)) = sym head ∙ ap view.seen same ∙ listed in cc
+
+head_is_no_bucket : (view : View) (p q : ℕ) (header : HeadFields) (fields : BucketFields) → view.seen p ≡ Some (Some (page.Head header)) → view.seen q ≡ Some (Some (page.Bucket fields)) → p ≡ q → ⊥
+head_is_no_bucket view p q header fields head at same = let both : Some (Some (page.Head header)) ≡ Some (Some (page.Bucket fields)) = sym head ∙ ap view.seen same ∙ at in cc
+
+dir_is_no_bucket : (view : View) (p q : ℕ) (dir : List ℕ) (fields : BucketFields) → view.seen p ≡ Some (Some (page.Dir dir)) → view.seen q ≡ Some (Some (page.Bucket fields)) → p ≡ q → ⊥
+dir_is_no_bucket view p q dir fields listed at same = let both : Some (Some (page.Dir dir)) ≡ Some (Some (page.Bucket fields)) = sym listed ∙ ap view.seen same ∙ at in cc
+
+-- a page that is locked first has this mode
+first_mode : (modes : Modes) (q : ℕ) (mode : Mode) → map.get modes q ≡ None → map.get (with_page modes q mode) q ≡ Some mode
+first_mode modes q mode free = mode_of_page modes q mode ∙ ap (λ o. Some (stronger o mode)) free
+
+module _ (walk : WalkFields) (root dir bucket : ℕ) (apart : root ≢ dir) (beside : root ≢ bucket) (below : dir ≢ bucket) where
+  abbrev one : Modes
+  one = header_held walk.pass root
+
+  abbrev two : Modes
+  two = directory_held walk.pass root dir
+
+  abbrev three : Modes
+  three = bucket_held walk.pass walk.mode root dir bucket
+
+  not_among : (q : ℕ) → q ≢ root → q ≢ dir → q ≢ bucket → map.get three q ≡ None
+  not_among q away further last = mode_of_others two bucket (bucket_mode walk.pass walk.mode) q last ∙ mode_of_others one dir (directory_mode walk.pass) q further ∙ mode_of_others map.empty root (header_mode walk.pass) q away ∙ map.get-empty {X = Mode} nat_cmp q
+
+  held_on_way : (view : View) → view.modes ≡ three → HoldsByPass walk root dir bucket view
+  held_on_way view held = record {
+    on_header = ap (λ (modes : Modes). map.get modes root) held ∙ mode_of_others two bucket (bucket_mode walk.pass walk.mode) root beside ∙ mode_of_others one dir (directory_mode walk.pass) root apart
+        ∙ first_mode map.empty root (header_mode walk.pass) (map.get-empty {X = Mode} nat_cmp root);
+    on_dir = ap (λ (modes : Modes). map.get modes dir) held ∙ mode_of_others two bucket (bucket_mode walk.pass walk.mode) dir below
+        ∙ first_mode one dir (directory_mode walk.pass) (mode_of_others map.empty root (header_mode walk.pass) dir (λ e. apart (sym e)) ∙ map.get-empty {X = Mode} nat_cmp dir);
+    on_bucket = ap (λ (modes : Modes). map.get modes bucket) held
+        ∙ first_mode two bucket (bucket_mode walk.pass walk.mode) (mode_of_others one dir (directory_mode walk.pass) bucket (λ e. below (sym e)) ∙ mode_of_others map.empty root (header_mode walk.pass) bucket (λ e. beside (sym e)) ∙ map.get-empty {X = Mode} nat_cmp bucket);
+    others = λ q away further last some. absurd (false≢true (sym (ap is_some (ap (λ (modes : Modes). map.get modes q) held ∙ not_among q away further last)) ∙ some));
+  }
+
+-- **A walk at its bucket has passed what it has read.**
+pub passed_at_bucket : (basis : Basis) (walk : WalkFields) (view : View) (bucket depth : ℕ) (found : Option ℕ) → IsAtBucket basis walk view bucket depth found → HasPassed basis walk view found
+passed_at_bucket basis walk view bucket depth found here =
+    let dir = dir_of basis here.header walk.key in
+    record {
+      header = here.header;
+      dir = here.dir;
+      bucket = bucket;
+      fields = here.fields;
+      head = here.head;
+      listed = here.listed;
+      bucket_is = here.bucket_is;
+      at = here.at;
+      found_is = here.found_is;
+      shallow = here.shallow;
+      holds = held_on_way walk basis.root dir bucket (head_is_no_dir view basis.root dir here.header here.dir here.head here.listed) (head_is_no_bucket view basis.root bucket here.header here.fields here.head here.at) (dir_is_no_bucket view dir bucket here.dir here.fields here.listed here.at) view here.held;
+    }
+
+-- What a walk's own step does to what it has read: all that was seen is seen, and a page that changes its mode is held
+-- exclusively, and was so, or is made, unless the pass is wide.
+pub record StepsOn (walk : WalkFields) (old new : View) : Type 0 where
+  pub before : (q : ℕ) (first : Option Page) → old.seen q ≡ Some first → new.seen q ≡ Some first
+  pub modes : (q : ℕ) → (map.get new.modes q ≡ map.get old.modes q)
+      ⊎ ((map.get new.modes q ≡ Some Exclusive) × ((walk.pass ≡ pass.Wide) ⊎ ((map.get old.modes q ≡ Some Exclusive) ⊎ (new.seen q ≡ Some None))))
+
+module _ (basis : Basis) (walk : WalkFields) (old new : View) (step : StepsOn walk old new) where
+  keeps_mode : (q : ℕ) (mode : Mode) (p : Page) → old.seen q ≡ Some (Some p) → (walk.pass ≡ pass.Wide → mode ≡ Exclusive) → map.get old.modes q ≡ Some mode → map.get new.modes q ≡ Some mode
+  keeps_mode q mode p sees wide held =
+      elim (step.modes q) [
+        | inl same ↦ same ∙ held
+        | inr locked ↦ elim locked.1 [
+          | inl is ↦ locked.0 ∙ ap Some (sym (wide is))
+          | inr other ↦ elim other [
+            | inl was ↦ locked.0 ∙ sym was ∙ held
+            | inr made ↦ let none : Some None ≡ Some (Some p) = sym made ∙ step.before q (Some p) sees in cc
+          ]
+        ]
+      ]
+
+  keeps_others : (root dir bucket : ℕ) → HoldsByPass walk root dir bucket old → (q : ℕ) → q ≢ root → q ≢ dir → q ≢ bucket → is_some (map.get new.modes q) ≡ true
+      → (map.get new.modes q ≡ Some Exclusive) × ((walk.pass ≡ pass.Wide) ⊎ (new.seen q ≡ Some None))
+  keeps_others root dir bucket holds q away further last some =
+      elim (step.modes q) [
+        | inl same ↦
+            let was = holds.others q away further last (sym (ap is_some same) ∙ some) in
+            (same ∙ was.0, elim was.1 [ inl wide ↦ inl wide | inr made ↦ inr (step.before q None made) ])
+        | inr locked ↦ (
+          locked.0,
+          elim locked.1 [
+            | inl wide ↦ inl wide
+            | inr other ↦ elim other [
+              | inl was ↦ elim (holds.others q away further last (ap is_some was)).1 [ inl wide ↦ inl wide | inr made ↦ inr (step.before q None made) ]
+              | inr made ↦ inr made
+            ]
+          ],
+        )
+      ]
+
+  -- **It stays so from step to step.**
+  pub passes_on : (found : Option ℕ) → HasPassed basis walk old found → HasPassed basis walk new found
+  passes_on found p = record {
+    header = p.header;
+    dir = p.dir;
+    bucket = p.bucket;
+    fields = p.fields;
+    head = step.before basis.root (Some (page.Head p.header)) p.head;
+    listed = step.before (dir_of basis p.header walk.key) (Some (page.Dir p.dir)) p.listed;
+    bucket_is = p.bucket_is;
+    at = step.before p.bucket (Some (page.Bucket p.fields)) p.at;
+    found_is = p.found_is;
+    shallow = p.shallow;
+    holds = record {
+      on_header = keeps_mode basis.root (header_mode walk.pass) (page.Head p.header) p.head (λ wide. ap header_mode wide) p.holds.on_header;
+      on_dir = keeps_mode (dir_of basis p.header walk.key) (directory_mode walk.pass) (page.Dir p.dir) p.listed (λ wide. ap directory_mode wide) p.holds.on_dir;
+      on_bucket = keeps_mode p.bucket (bucket_mode walk.pass walk.mode) (page.Bucket p.fields) p.at (λ wide. ap (λ pass. bucket_mode pass walk.mode) wide) p.holds.on_bucket;
+      others = keeps_others basis.root (dir_of basis p.header walk.key) p.bucket p.holds;
+    };
+  }
+
+-- a write of a held page is such a step,
+pub steps_by_write : (walk : WalkFields) (old new : View) (q : ℕ) (p : Page) → WritesPage old new q p → StepsOn walk old new
+steps_by_write walk old new q p writes = record {
+  before = λ r first sees. writes.seen r ∙ sees;
+  modes = λ r. inl (ap (λ (modes : Modes). map.get modes r) writes.modes);
+}
+
+-- and so is one that makes a page
+pub steps_by_making : (walk : WalkFields) (old new : View) (q : ℕ) (p : Page) → MakesPage old new q p → StepsOn walk old new
+steps_by_making walk old new q p makes = record {
+  before = grows_by_make old new q p makes;
+  modes = λ r. elim (cases_eq r q) [
+    | inl here ↦ inr (subst (λ (r : ℕ). (map.get new.modes r ≡ Some Exclusive) × ((walk.pass ≡ pass.Wide) ⊎ ((map.get old.modes r ≡ Some Exclusive) ⊎ (new.seen r ≡ Some None)))) (sym here) (exclusive_after_make old new q p makes, inr (inr makes.seen_here)))
+    | inr elsewhere ↦ inl (ap (λ (modes : Modes). map.get modes r) makes.modes ∙ mode_of_others old.modes q Exclusive r elsewhere)
+  ];
+}
+
+same_head : (a b : HeadFields) → Some (page.Head a) ≡ Some (page.Head b) → a ≡ b
+same_head a b same = cc
+
+-- where the splits of a narrow pass stand
+module _ (basis : Basis) (walk : WalkFields) (view : View) (room_depth : ℕ) (split : SplitFields) (clean : ℕ → Option Page) (agree : Agrees view.seen clean) (form : HasForm basis.bits clean basis.root)
+    (way : IsUnderWay (aim_of basis walk room_depth) view split) (found : Option ℕ) (passed : HasPassed basis walk view found) (narrow : StaysNarrow basis.root view room_depth split.depth split.directory_depth) where
+  -- they are in place,
+  pub in_place : split.depth < split.directory_depth
+  in_place = let deep = (way.begins clean agree form).deep in let enough = narrow.enough in omega (arith, deep, enough)
+
+  -- and their next page is the key's own, which the pass holds
+  pub next_is_dir : (n : ℕ) → IsNextPage split.phase (aim_of basis walk room_depth) view n → n ≡ dir_of basis passed.header walk.key
+  next_is_dir n next =
+      let own : IsKeysPage (aim_of basis walk room_depth) view n = narrow_next_page (aim_of basis walk room_depth) view split n clean agree form way in_place narrow.one_page next in
+      let reads : Some (page.Head passed.header) ≡ Some (page.Head own.0) = sym (ap (λ o. own_or o (Some (page.Head passed.header))) narrow.unwritten) ∙ ap (λ (o : Option (Option Page)). own_or (view.own basis.root) (unwrap_or o None)) (sym passed.head) ∙ own.1 in
+      own.2 ∙ ap (λ (h : HeadFields). dir_of basis h walk.key) (sym (same_head passed.header own.0 reads))
+
+  pub narrow_holds : walk.pass ≡ pass.Narrow → (n : ℕ) → IsNextPage split.phase (aim_of basis walk room_depth) view n → map.get view.modes n ≡ Some Exclusive
+  narrow_holds is n next = ap (map.get view.modes) (next_is_dir n next) ∙ passed.holds.on_dir ∙ ap (λ p. Some (directory_mode p)) is
+
+-- **The page that a narrow pass is to lock next it holds exclusively.**
+pub narrow_holds_next : (basis : Basis) (walk : WalkFields) (view : View) (room_depth n : ℕ) (clean : ℕ → Option Page) → (splits : IsSplitting basis walk view room_depth) → walk.pass ≡ pass.Narrow → Agrees view.seen clean → HasForm basis.bits clean basis.root
+    → IsNextPage splits.split.phase (aim_of basis walk room_depth) view n → map.get view.modes n ≡ Some Exclusive
+narrow_holds_next basis walk view room_depth n clean splits is agree form next = narrow_holds basis walk view room_depth splits.split clean agree form splits.under_way None splits.passed (splits.narrow is) is n next
+
+-- what is needed of a step of the splits of a pass
+module _ (basis : Basis) (walk : WalkFields) (old new : Moment) (room_depth : ℕ) (split : SplitFields) (may : MayStep old) (clean : ℕ → Option Page) (agree : Agrees (view_of old).seen clean) (form : HasForm basis.bits clean basis.root)
+    (way : IsUnderWay (aim_of basis walk room_depth) (view_of old) split) (found : Option ℕ) (passed : HasPassed basis walk (view_of old) found) where
+  abbrev aim : Aim
+  aim = aim_of basis walk room_depth
+
+  -- a narrow pass leaves the header as it was
+  pub narrow_keeps_header : StaysNarrow basis.root (view_of old) room_depth split.depth split.directory_depth → IsDone split.phase aim old new split → (view_of new).own basis.root ≡ None
+  narrow_keeps_header narrow done =
+      narrow_leaves_header aim old new split may (in_place basis walk (view_of old) room_depth split clean agree form way found passed narrow) clean agree form way
+      (λ n next same. head_is_no_dir (view_of old) basis.root (dir_of basis passed.header walk.key) passed.header passed.dir passed.head passed.listed (same ∙ next_is_dir basis walk (view_of old) room_depth split clean agree form way found passed narrow n next)) done
+      ∙ narrow.unwritten
+
+  module _ (later : walk.pass ≡ pass.First → ⊥) (narrow : walk.pass ≡ pass.Narrow → StaysNarrow basis.root (view_of old) room_depth split.depth split.directory_depth) (touches : TouchesOnePage old new) (done : IsDone split.phase aim old new split) where
+    why : (p : Pass) → walk.pass ≡ p → (q : ℕ) → IsNextPage split.phase aim (view_of old) q ⊎ IsMaking split.phase → (walk.pass ≡ pass.Wide) ⊎ ((map.get (view_of old).modes q ≡ Some Exclusive) ⊎ ((view_of new).seen q ≡ Some None))
+    why pass.First is q locked = absurd (later is)
+    why pass.Narrow is q (inl next) = inr (inl (narrow_holds basis walk (view_of old) room_depth split clean agree form way found passed (narrow is) is q next))
+    why pass.Narrow is q (inr making) = absurd (narrow_makes_none aim (view_of old) split clean agree form way (in_place basis walk (view_of old) room_depth split clean agree form way found passed (narrow is)) making)
+    why pass.Wide is q locked = inl is
+
+    -- **A step of the splits of a pass.**
+    pub steps_by_split : StepsOn walk (view_of old) (view_of new)
+    steps_by_split = record {
+      before = λ q first sees. own_step_sees_more old new q first may touches sees;
+      modes = λ q.
+          let tx = step_keeps_tx old new may touches in
+          let now : map.get (view_of new).modes q ≡ mode_held new.locks old.running.tx q = ap (λ t. mode_held new.locks t q) tx in
+          elim (locks_its_page_alone split_answer.Going aim old new split q done) [
+            | inl same ↦ inl (now ∙ same)
+            | inr locked ↦ inr (now ∙ locked.0, elim locked.1 [ inl next ↦ why walk.pass refl q (inl next) | inr making ↦ why walk.pass refl q (inr making.0) ])
+          ];
+    }
