@@ -82,8 +82,13 @@ impl NearImages {
     pub fn clear(&mut self)
         ensures { self.new ≡ [] }
     {
-        self.first = None;
-        self.second = None;
+        // To write `None` clears the room of an image, so it is written only where there is one.
+        if self.first.is_some() {
+            self.first = None;
+        }
+        if self.second.is_some() {
+            self.second = None;
+        }
     }
 }
 
