@@ -46,15 +46,15 @@ impl Split {
         ensures halves { IfOk result (λ split. (bucket : BucketFields)
             → held_page (view_of (moment subtx.old pages.old)) old ≡ Some (page.Bucket bucket)
             → HasHalves (aim_by P.bits_of root.now opens.now key subtx.old.tx room_depth)
-                pages.new.store.pages bucket split) }
+            pages.new.store.pages bucket split) }
         ensures under_way { IfOk result (λ split.
             IsUnderWay (aim_by P.bits_of root.now opens.now key subtx.old.tx room_depth)
-                (view_of (moment subtx.new pages.new)) split) }
+            (view_of (moment subtx.new pages.new)) split) }
         ensures steps { IfOk result (λ split.
             steps_left split ≡ 1 + directory_steps split.depth split.directory_depth) }
         ensures depths { IfOk result (λ split. (header : HeadFields) (bucket : BucketFields)
             → IsAtRest (aim_by P.bits_of root.now opens.now key subtx.old.tx room_depth)
-                (view_of (moment subtx.old pages.old)) old header bucket
+            (view_of (moment subtx.old pages.old)) old header bucket
             → (split.depth ≡ bucket.depth) × (split.directory_depth ≡ header.depth)) }
         ensures leaves { Leaves (moment subtx.old pages.old) (moment subtx.new pages.new) }
         ensures err { OnErr result ((subtx.new ≡ subtx.old) × (pages.new ≡ pages.old)) }
