@@ -11,6 +11,7 @@ pub mod AloneWalks
 pub mod HashFiles
 pub mod InPlace
 pub mod Laws
+pub mod NoWaiting
 pub mod OnWay
 pub mod OpenedFiles
 pub mod Owners

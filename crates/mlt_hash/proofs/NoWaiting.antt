@@ -1,0 +1,47 @@
+-- A narrow pass that splits never waits
+use Rattle.std.proofs.Common.{◌≡◌, ℕ, true, false, Option, Some, None, is_some, refl, sym, ◌∙◌, subst, inl, inr, arith}
+use Rattle.std.specs.FinMap as map
+use Rattle.std.proofs.lemmas.Bool.{cases_eq, false≢true}
+use Rattle.std.proofs.lemmas.Bool.Decides.{nat_tests}
+use Rattle.mlt_types.specs.declared.mode.Mode.{Mode}
+use Rattle.mlt_types.specs.declared.mode.Mode.TheVariants.{Exclusive}
+use Rattle.mlt_page.specs.declared.page.Page.{Page}
+use Rattle.mlt_page_locks.specs.LockTables.{mode_held}
+use Rattle.mlt_page_locks.specs.Requests.{conflicts, is_against}
+use Rattle.mlt_hash_form.specs.File.{HasForm}
+use Rattle.mlt_hash_form.specs.Held.{Agrees}
+use Rattle.mlt_held.specs.Moments.{MayStep, Moment}
+use Rattle.mlt_held.specs.Views.{view_of}
+use Rattle.mlt_held.proofs.Views.{may_write}
+use Rattle.mlt_split.specs.Splits.{SplitFields}
+use Rattle.mlt_split.specs.Steps.{IsNextPage}
+use Rattle.mlt_hash.specs.Splitting.{TellsOfSplitting}
+use Rattle.mlt_hash.specs.Walks.{Basis, IsSplitting, WalkFields, aim_of}
+use Rattle.mlt_hash.specs.declared.answer.WalkAnswer.TheVariants as answer
+use Rattle.mlt_hash.specs.declared.pass.Pass.TheVariants as pass
+use Rattle.mlt_hash.proofs.Passed.{narrow_holds_next}
+
+against_is_held : (o : Option Mode) (mode : Mode) → is_against o mode ≡ true → is_some o ≡ true
+against_is_held None mode against = absurd (false≢true against)
+against_is_held (Some held) mode against = refl
+
+-- nobody's lock stands against a page that is held exclusively
+nobody_against : (m : Moment) (q by : ℕ) → MayStep m → map.get (view_of m).modes q ≡ Some Exclusive → conflicts m.locks m.running.tx q Exclusive by ≡ true → ⊥
+nobody_against m q by may held against =
+    elim (cases_eq by m.running.tx) [
+      | inl mine ↦ let none : conflicts m.locks m.running.tx q Exclusive by ≡ false = grind (arith, nat_tests) in false≢true (sym none ∙ against)
+      | inr differ ↦
+          let stands : is_against (mode_held m.locks by q) Exclusive ≡ true = grind (arith, nat_tests, against) in
+          differ (sym (may.compatible m.running.tx by q (may_write m q held) (against_is_held (mode_held m.locks by q) Exclusive stands)))
+    ]
+
+some_is_one : (x y : SplitFields) (o : Option SplitFields) → o ≡ Some x → o ≡ Some y → x ≡ y
+some_is_one x y o is_x is_y = let e : Some x ≡ Some y = sym is_x ∙ is_y in cc
+
+-- **A narrow pass that splits never waits.**
+pub narrow_never_waits : (basis : Basis) (old new : Moment) (before after : WalkFields) (value room_depth page by : ℕ) (clean : ℕ → Option Page) → MayStep old → IsSplitting basis before (view_of old) room_depth → before.pass ≡ pass.Narrow
+    → Agrees (view_of old).seen clean → HasForm basis.bits clean basis.root → TellsOfSplitting basis old new before after value room_depth (answer.Waiting page by) → ⊥
+narrow_never_waits basis old new before after value room_depth page by clean may splits narrow agree form tells =
+    let same : tells.0.0 ≡ splits.split = some_is_one tells.0.0 splits.split before.split tells.0.1 splits.split_is in
+    let next : IsNextPage splits.split.phase (aim_of basis before room_depth) (view_of old) page = subst (λ (s : SplitFields). IsNextPage s.phase (aim_of basis before room_depth) (view_of old) page) same tells.0.2 in
+    nobody_against old page by may (narrow_holds_next basis before (view_of old) room_depth page clean splits narrow agree form next) tells.1.has_it
