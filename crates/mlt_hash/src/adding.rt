@@ -121,7 +121,10 @@ fn put(
 // Notes the split that began.
 fn keep_split(walk: &mut Walk, value: Value, room_depth: u8, split: Split) -> WalkAnswer
     ensures kept { result ≡ WalkAnswer.Going
-        → walk.new ≡ record walk.old { phase = Phase.Splitting value room_depth; split = Some split } }
+        → walk.new ≡ record walk.old {
+          phase = Phase.Splitting value room_depth;
+          split = Some split;
+        } }
     ensures told { (result ≡ WalkAnswer.Going) ⊎ (result ≡ WalkAnswer.Refused Refusal.OutOfMemory) }
 {
     match Box::new(walk.alloc, split) {

@@ -61,7 +61,8 @@ impl Walk {
         ensures leaves { Leaves (moment subtx.old pages.old) (moment subtx.new pages.new) }
         ensures tells { (basis : Basis) → basis.tx ≡ subtx.old.tx
             → MayChange basis (moment subtx.old pages.old) self.old
-            → TellsOfChange basis (moment subtx.new pages.new) self.old self.new (change.Set value) result }
+            → TellsOfChange basis (moment subtx.new pages.new) self.old
+            self.new (change.Set value) result }
     {
         let (number, bucket) = held_bucket(self, subtx, pages);
         let Some(write) = mlt_record::update(number, bucket, self.key, value) else {
@@ -79,7 +80,8 @@ impl Walk {
         ensures leaves { Leaves (moment subtx.old pages.old) (moment subtx.new pages.new) }
         ensures tells { (basis : Basis) → basis.tx ≡ subtx.old.tx
             → MayChange basis (moment subtx.old pages.old) self.old
-            → TellsOfChange basis (moment subtx.new pages.new) self.old self.new change.Remove result }
+            → TellsOfChange basis (moment subtx.new pages.new) self.old
+            self.new change.Remove result }
     {
         let (number, bucket) = held_bucket(self, subtx, pages);
         let Some(write) = mlt_record::remove(number, bucket, self.key, subtx.tx()) else {
@@ -99,7 +101,8 @@ impl Walk {
         ensures leaves { Leaves (moment subtx.old pages.old) (moment subtx.new pages.new) }
         ensures tells { (basis : Basis) → basis.tx ≡ subtx.old.tx
             → MayChange basis (moment subtx.old pages.old) self.old
-            → TellsOfChange basis (moment subtx.new pages.new) self.old self.new (change.Revive value) result }
+            → TellsOfChange basis (moment subtx.new pages.new) self.old
+            self.new (change.Revive value) result }
     {
         let (number, bucket) = held_bucket(self, subtx, pages);
         let Some(write) = mlt_record::revive(number, bucket, self.key, subtx.tx(), value) else {
@@ -147,7 +150,8 @@ fn write_change(
     requires planned { PlansSlot (view_of (moment subtx.old pages.old)) write }
     ensures writes { WritesIfChanged (moment subtx.old pages.old) (moment subtx.new pages.new)
         write.number result }
-    ensures view { WritesSlot (view_of (moment subtx.old pages.old)) (view_of (moment subtx.new pages.new))
+    ensures view { WritesSlot
+        (view_of (moment subtx.old pages.old)) (view_of (moment subtx.new pages.new))
         write.number write.at write.slot }
     ensures leaves { Leaves (moment subtx.old pages.old) (moment subtx.new pages.new) }
     ensures walk { walk.new ≡ record walk.old { phase = Phase.Changed write.number done } }
@@ -174,7 +178,8 @@ fn without_room<P: Pseudo>(
     requires ready { MayChange (basis_by P.bits_of root.now opens.now subtx.now.tx)
         (moment subtx.now pages.now) walk.old }
     requires found { IsAtAbsent walk.old.phase }
-    requires full { (fields : BucketFields) × IsFull (basis_by P.bits_of root.now opens.now subtx.now.tx)
+    requires full { (fields : BucketFields)
+        × IsFull (basis_by P.bits_of root.now opens.now subtx.now.tx)
         walk.old (view_of (moment subtx.now pages.now)) fields }
     ensures tells { TellsOfAddition (basis_by P.bits_of root.now opens.now subtx.now.tx)
         (moment subtx.now pages.now) walk.old walk.new value result }

@@ -41,9 +41,16 @@ impl<P: Pseudo> Model for HashFile<P> {
 
     ghost coded = { hash_file_code P.code };
 
-    ghost view = { λ f. record { pages = f.runner.store.pages; root = f.root.page; max_depth = f.root.max_depth; max_pages = f.runner.store.max_pages; pseudo = f.root.pseudo } };
+    ghost view = { λ f. record {
+      pages = f.runner.store.pages;
+      root = f.root.page;
+      max_depth = f.root.max_depth;
+      max_pages = f.runner.store.max_pages;
+      pseudo = f.root.pseudo;
+    } };
 
-    ghost invariant = { λ f. IsIdle f.runner × IsHashFile (P.bits_of f.root.pseudo) (page_at f.runner.store.pages) f.root.page f.root.max_depth };
+    ghost invariant = { λ f. IsIdle f.runner
+        × IsHashFile (P.bits_of f.root.pseudo) (page_at f.runner.store.pages) f.root.page f.root.max_depth };
 }
 
 impl<P: Pseudo> HashFile<P> {

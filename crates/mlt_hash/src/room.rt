@@ -21,9 +21,17 @@ pub(crate) fn next_pass<P: Pseudo>(
 ) -> (Pass, Option<u8>)
     requires depth { root.now.max_depth ≤ 16 }
     requires bucket { bucket.now.depth ≤ 16 }
-    ensures pass { IsNextPass (λ (d : ℕ). is_crowded (P.bits_of root.now.pseudo) opens.now d (P.bits_of root.now.pseudo key) bucket.now.slots) bucket.now.depth root.now.max_depth directory_depth result.0 }
-    ensures depth { let crowded = λ (d : ℕ). is_crowded (P.bits_of root.now.pseudo) opens.now d (P.bits_of root.now.pseudo key) bucket.now.slots in MatchOption result.1 (NeverHasRoom crowded bucket.now.depth root.now.max_depth) (λ d. HasRoomFrom crowded bucket.now.depth root.now.max_depth d) }
-    ensures narrow { result.0 ≡ Pass.Narrow → MatchOption result.1 (bucket.now.depth ≤ directory_depth) (λ d. d ≤ directory_depth) }
+    ensures pass { IsNextPass (λ (d : ℕ).
+        is_crowded (P.bits_of root.now.pseudo) opens.now d (P.bits_of root.now.pseudo key)
+        bucket.now.slots)
+        bucket.now.depth root.now.max_depth directory_depth result.0 }
+    ensures depth { let crowded = λ (d : ℕ).
+        is_crowded (P.bits_of root.now.pseudo) opens.now d (P.bits_of root.now.pseudo key)
+        bucket.now.slots in
+        MatchOption result.1 (NeverHasRoom crowded bucket.now.depth root.now.max_depth)
+        (λ d. HasRoomFrom crowded bucket.now.depth root.now.max_depth d) }
+    ensures narrow { result.0 ≡ Pass.Narrow
+        → MatchOption result.1 (bucket.now.depth ≤ directory_depth) (λ d. d ≤ directory_depth) }
 {
     let least = depth_with_room(
         bucket,

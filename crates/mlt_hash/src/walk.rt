@@ -38,13 +38,25 @@ impl Model for Walk {
 
     ghost Value = { WalkFields };
 
-    ghost view = { λ walk. record { key = walk.key; mode = walk.mode; pass = walk.pass; phase = walk.phase; split = option_map (λ split. split.value) walk.split } };
+    ghost view = { λ walk. record {
+      key = walk.key;
+      mode = walk.mode;
+      pass = walk.pass;
+      phase = walk.phase;
+      split = option_map (λ split. split.value) walk.split;
+    } };
 }
 
 impl Walk {
     /// A first pass to a key, whose bucket is then locked in this mode. Only a split takes memory.
     pub fn find(alloc: Global, key: Key, mode: Mode) -> Walk
-        ensures { result ≡ record { key = key; mode = mode; pass = Pass.First; phase = Phase.Start; split = None } }
+        ensures { result ≡ record {
+          key = key;
+          mode = mode;
+          pass = Pass.First;
+          phase = Phase.Start;
+          split = None;
+        } }
     {
         Walk {
             alloc,
@@ -59,7 +71,11 @@ impl Walk {
     /// Starts the pass that follows one whose bucket had no room, once that one was rolled back.
     pub fn again(&mut self)
         requires { self.old.phase ≡ Phase.Full (next_of self.old.phase) }
-        ensures { self.new ≡ record self.old { pass = next_of self.old.phase; phase = Phase.Start; split = None } }
+        ensures { self.new ≡ record self.old {
+          pass = next_of self.old.phase;
+          phase = Phase.Start;
+          split = None;
+        } }
     {
         match self.phase {
             Phase::Full(next) => {

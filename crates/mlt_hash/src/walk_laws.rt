@@ -21,12 +21,15 @@ ghost use Rattle.mlt_hash.specs.declared.pass.Pass.TheVariants as pass;
 
 /// Who holds no page and has written none is at the start of a walk.
 pub fn walk_starts_without_pages()
-    ensures { (m : Moment) → MayStep m → pages_of m.locks m.running.tx ≡ map.empty → m.running.images ≡ map.empty → IsAtStart (view_of m) }
+    ensures { (m : Moment) → MayStep m
+        → pages_of m.locks m.running.tx ≡ map.empty → m.running.images ≡ map.empty
+        → IsAtStart (view_of m) }
 {}
 
 /// What a walk found of its key at its bucket is on the clean pages.
 pub fn what_is_found_is_there()
-    ensures { (basis : Basis) (walk : WalkFields) (view : View) (bucket depth : ℕ) (found : Option ℕ) (clean : ℕ → Option Page)
+    ensures { (basis : Basis) (walk : WalkFields) (view : View) (bucket depth : ℕ)
+        (found : Option ℕ) (clean : ℕ → Option Page)
         → IsAtBucket basis walk view bucket depth found
         → Agrees view.seen clean → HasForm basis.bits clean basis.root
         → look_up basis.bits clean basis.root walk.key ≡ found }
@@ -34,7 +37,8 @@ pub fn what_is_found_is_there()
 
 /// Transactions may close, and others begin that left no ghost on a page that is held: a walk stands where it stood.
 pub fn closed_owners_keep_the_walk()
-    ensures { (basis : Basis) (fewer : set.FinSet nat_cmp) (walk : WalkFields) (view : View) (clean : ℕ → Option Page)
+    ensures { (basis : Basis) (fewer : set.FinSet nat_cmp) (walk : WalkFields) (view : View)
+        (clean : ℕ → Option Page)
         → IsStanding basis walk view → KeepsNoMore basis.opens fewer view
         → Agrees view.seen clean → HasForm basis.bits clean basis.root
         → IsStanding (record basis { opens = fewer }) walk view }
@@ -44,7 +48,8 @@ pub fn closed_owners_keep_the_walk()
 pub fn same_view_keeps_the_walk()
     ensures { (basis : Basis) (walk : WalkFields) (before after : View)
         → IsStanding basis walk before
-        → after.modes ≡ before.modes → ((q : ℕ) → after.seen q ≡ before.seen q) → ((q : ℕ) → after.own q ≡ before.own q)
+        → after.modes ≡ before.modes → ((q : ℕ) → after.seen q ≡ before.seen q)
+        → ((q : ℕ) → after.own q ≡ before.own q)
         → IsStanding basis walk after }
 {}
 

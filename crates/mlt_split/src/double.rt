@@ -76,7 +76,8 @@ pub(crate) fn make_second_half(
     ensures leaves { Leaves (moment subtx.old pages.old) (moment subtx.new pages.new) }
     ensures steps { Touches result aim
         (moment subtx.old pages.old) (moment subtx.new pages.new) split.old }
-    ensures no_room { (result ≡ SplitAnswer.Refused Refusal.NoRoom) ↔ HasNoPageLeft pages.old.store }
+    ensures no_room { (result ≡ SplitAnswer.Refused Refusal.NoRoom)
+        ↔ HasNoPageLeft pages.old.store }
     ensures tells { Tells aim
         (moment subtx.old pages.old) (moment subtx.new pages.new) split.old split.new result }
 {

@@ -60,9 +60,29 @@ impl Model for Split {
 
     ghost Value = { SplitFields };
 
-    ghost view = { λ split. record { seed = split.seed; old_page = split.old_page; new_page = split.new_page; depth = split.depth; directory_depth = split.directory_depth; zeros = split.zeros; made = split.made; second = split.second; phase = split.phase } };
+    ghost view = { λ split. record {
+      seed = split.seed;
+      old_page = split.old_page;
+      new_page = split.new_page;
+      depth = split.depth;
+      directory_depth = split.directory_depth;
+      zeros = split.zeros;
+      made = split.made;
+      second = split.second;
+      phase = split.phase;
+    } };
 
-    ghost inverse = { λ fields. record { seed = fields.seed; old_page = fields.old_page; new_page = fields.new_page; depth = fields.depth; directory_depth = fields.directory_depth; zeros = fields.zeros; made = fields.made; second = fields.second; phase = fields.phase } };
+    ghost inverse = { λ fields. record {
+      seed = fields.seed;
+      old_page = fields.old_page;
+      new_page = fields.new_page;
+      depth = fields.depth;
+      directory_depth = fields.directory_depth;
+      zeros = fields.zeros;
+      made = fields.made;
+      second = fields.second;
+      phase = fields.phase;
+    } };
 }
 
 impl Split {
@@ -80,7 +100,8 @@ impl Split {
         ensures leaves { Leaves (moment subtx.old pages.old) (moment subtx.new pages.new) }
         ensures steps { Touches result aim
             (moment subtx.old pages.old) (moment subtx.new pages.new) self.old }
-        ensures no_room { (result ≡ SplitAnswer.Refused Refusal.NoRoom) ↔ (IsMaking self.old.phase × HasNoPageLeft pages.old.store) }
+        ensures no_room { (result ≡ SplitAnswer.Refused Refusal.NoRoom)
+            ↔ (IsMaking self.old.phase × HasNoPageLeft pages.old.store) }
         ensures tells { Tells aim
             (moment subtx.old pages.old) (moment subtx.new pages.new) self.old self.new result }
     {
@@ -98,7 +119,8 @@ impl Split {
     /// The bucket that the key leads to, once the split is done.
     pub(crate) fn key_bucket(&self) -> PageNo
         requires { self.now.depth < 64 }
-        ensures { result ≡ (if bit_at self.now.depth self.now.seed == 1 then self.now.new_page else self.now.old_page) }
+        ensures { result ≡ (if bit_at self.now.depth self.now.seed == 1
+            then self.now.new_page else self.now.old_page) }
     {
         if first_bits(self.seed, self.depth + 1) % 2 == 1 {
             self.new_page

@@ -22,7 +22,8 @@ ghost use Rattle.mlt_split.specs.declared.split.SplitAnswer.{SplitAnswer};
 /// Transactions may close, and others begin, that left no ghost on a page that is held: the walk's file is at rest still.
 /// `clean` is some clean file that agrees with what the walk saw: there always is one.
 pub fn closed_owners_keep_the_rest()
-    ensures { (aim : Aim) (fewer : set.FinSet nat_cmp) (view : View) (n : ℕ) (header : HeadFields) (bucket : BucketFields) (clean : ℕ → Option Page)
+    ensures { (aim : Aim) (fewer : set.FinSet nat_cmp) (view : View) (n : ℕ)
+        (header : HeadFields) (bucket : BucketFields) (clean : ℕ → Option Page)
         → Agrees view.seen clean → HasForm aim.bits clean aim.root
         → IsAtRest aim view n header bucket → KeepsNoMore aim.opens fewer view
         → IsAtRest (record aim { opens = fewer }) view n header bucket }
@@ -30,7 +31,8 @@ pub fn closed_owners_keep_the_rest()
 
 /// And a split is under way still.
 pub fn closed_owners_keep_the_split()
-    ensures { (aim : Aim) (fewer : set.FinSet nat_cmp) (view : View) (split : SplitFields) (clean : ℕ → Option Page)
+    ensures { (aim : Aim) (fewer : set.FinSet nat_cmp) (view : View) (split : SplitFields)
+        (clean : ℕ → Option Page)
         → Agrees view.seen clean → HasForm aim.bits clean aim.root
         → IsUnderWay aim view split → KeepsNoMore aim.opens fewer view
         → IsUnderWay (record aim { opens = fewer }) view split }
@@ -41,7 +43,10 @@ pub fn closed_owners_keep_the_split()
 pub fn steps_lock_their_page_alone()
     ensures { (told : SplitAnswer) (aim : Aim) (old new : Moment) (split : SplitFields) (p : ℕ)
         → Touches told aim old new split
-        → (mode_held new.locks old.running.tx p ≡ mode_held old.locks old.running.tx p) ⊎ ((mode_held new.locks old.running.tx p ≡ Some Exclusive) × (IsNextPage split.phase aim (view_of old) p ⊎ (IsMaking split.phase × (page_at old.store.pages p ≡ None)))) }
+        → (mode_held new.locks old.running.tx p ≡ mode_held old.locks old.running.tx p)
+        ⊎ ((mode_held new.locks old.running.tx p ≡ Some Exclusive)
+        × (IsNextPage split.phase aim (view_of old) p
+        ⊎ (IsMaking split.phase × (page_at old.store.pages p ≡ None)))) }
 {}
 
 /// Where one page of the directory has all entries of the bucket, a split in place locks the key's own page, and no other.

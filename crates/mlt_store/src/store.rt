@@ -55,7 +55,8 @@ impl Store {
     /// Writes a page. Answers false where there is no page of this number; then nothing changes.
     pub fn write(&mut self, number: PageNo, page: Page) -> bool
         ensures written { IsTrue result ↔ IsTrue (map.contains_key self.old.pages number) }
-        ensures pages { result ≡ true → self.new ≡ record self.old { pages = map.insert self.old.pages number page } }
+        ensures pages { result ≡ true
+            → self.new ≡ record self.old { pages = map.insert self.old.pages number page } }
         ensures absent { result ≡ false → self.new ≡ self.old }
     {
         match self.pages.get_mut(number.0 as usize) {
@@ -86,10 +87,13 @@ impl Store {
     /// refused. The store is then as before.
     pub fn grow(&mut self, page: Page) -> Result<PageNo, Refusal>
         ensures fresh { IfOk result (λ number. page_at self.old.pages number ≡ None) }
-        ensures made { IfOk result (λ number. self.new ≡ record self.old { pages = map.insert self.old.pages number page }) }
+        ensures made { IfOk result (λ number.
+            self.new ≡ record self.old { pages = map.insert self.old.pages number page }) }
         ensures err { OnErr result (self.new ≡ self.old) }
-        ensures no_room { (result ≡ Err Refusal.NoRoom) ↔ (map.len self.old.pages ≡ self.old.max_pages) }
-        ensures refusal { IfErr result (λ refusal. (refusal ≡ Refusal.NoRoom) ⊎ (refusal ≡ Refusal.OutOfMemory)) }
+        ensures no_room { (result ≡ Err Refusal.NoRoom)
+            ↔ (map.len self.old.pages ≡ self.old.max_pages) }
+        ensures refusal { IfErr result (λ refusal.
+            (refusal ≡ Refusal.NoRoom) ⊎ (refusal ≡ Refusal.OutOfMemory)) }
     {
         if self.pages.len() >= self.max_pages as usize {
             return Err(Refusal::NoRoom);
