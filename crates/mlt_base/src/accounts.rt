@@ -73,7 +73,8 @@ impl Accounts {
 
     // Appends a line `account A b` for each account, by rising number.
     pub(crate) fn push_text(&self, text: &mut String) -> Result<(), Refusal>
-        ensures text { OnOk result (string_bytes text.new ≡ string_bytes text.old ++ account_lines self.now) }
+        ensures text { OnOk result
+            (string_bytes text.new ≡ string_bytes text.old ++ account_lines self.now) }
         ensures refusal { IfErr result (λ refusal. refusal ≡ Refusal.OutOfMemory) }
     {
         push_accounts(text, &self.balances)

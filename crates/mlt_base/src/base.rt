@@ -92,7 +92,8 @@ impl Base {
     }
 
     fn apply_account(&mut self, account: u32, op: AccountOp) -> Result<ObjReply, Refusal>
-        ensures step { IfOk result (λ reply. Step self.old (ObjOp.Account account op, reply) self.new) }
+        ensures step { IfOk result
+            (λ reply. Step self.old (ObjOp.Account account op, reply) self.new) }
         ensures err { OnErr result (self.new ≡ self.old) }
         ensures growth { OnErr result (MakesObject self.old (ObjOp.Account account op)) }
         ensures refusal { IfErr result (λ refusal. refusal ≡ Refusal.OutOfMemory) }
@@ -106,7 +107,8 @@ impl Base {
     }
 
     fn apply_element(&mut self, set: u16, element: u32, op: ElementOp) -> Result<ObjReply, Refusal>
-        ensures step { IfOk result (λ reply. Step self.old (ObjOp.Element set element op, reply) self.new) }
+        ensures step { IfOk result
+            (λ reply. Step self.old (ObjOp.Element set element op, reply) self.new) }
         ensures err { OnErr result (self.new ≡ self.old) }
         ensures growth { OnErr result (MakesObject self.old (ObjOp.Element set element op)) }
         ensures refusal { IfErr result (λ refusal. refusal ≡ Refusal.OutOfMemory) }
@@ -120,7 +122,8 @@ impl Base {
     }
 
     fn apply_counter(&mut self, counter: u32, op: CounterOp) -> Result<ObjReply, Refusal>
-        ensures step { IfOk result (λ reply. Step self.old (ObjOp.Counter counter op, reply) self.new) }
+        ensures step { IfOk result
+            (λ reply. Step self.old (ObjOp.Counter counter op, reply) self.new) }
         ensures err { OnErr result (self.new ≡ self.old) }
         ensures growth { OnErr result (MakesObject self.old (ObjOp.Counter counter op)) }
         ensures refusal { IfErr result (λ refusal. refusal ≡ Refusal.OutOfMemory) }

@@ -67,7 +67,8 @@ impl Counters {
 
     // Appends a line `counter C v` for each counter that is not 0, by rising number.
     pub(crate) fn push_text(&self, text: &mut String) -> Result<(), Refusal>
-        ensures text { OnOk result (string_bytes text.new ≡ string_bytes text.old ++ counter_lines self.now) }
+        ensures text { OnOk result
+            (string_bytes text.new ≡ string_bytes text.old ++ counter_lines self.now) }
         ensures refusal { IfErr result (λ refusal. refusal ≡ Refusal.OutOfMemory) }
     {
         push_counters(text, &self.values)

@@ -51,9 +51,11 @@ impl Elements {
 
     // The element is in its set from now on, or is not.
     pub(crate) fn set(&mut self, set: u16, element: u32, present: bool) -> Result<(), Refusal>
-        ensures set { OnOk result (self.new ≡ with_entry self.old (set, element) (element_entry present)) }
+        ensures set { OnOk result
+            (self.new ≡ with_entry self.old (set, element) (element_entry present)) }
         ensures err { OnErr result (self.new ≡ self.old) }
-        ensures growth { OnErr result ((is_some (map.get self.old (set, element)) ≡ false) × (present ≡ true)) }
+        ensures growth { OnErr result
+            ((is_some (map.get self.old (set, element)) ≡ false) × (present ≡ true)) }
         ensures refusal { IfErr result (λ refusal. refusal ≡ Refusal.OutOfMemory) }
     {
         let key = (set, element);
@@ -67,7 +69,8 @@ impl Elements {
 
     // Appends a line `element S e` for each element, by rising set and then by rising number.
     pub(crate) fn push_text(&self, text: &mut String) -> Result<(), Refusal>
-        ensures text { OnOk result (string_bytes text.new ≡ string_bytes text.old ++ element_lines self.now) }
+        ensures text { OnOk result
+            (string_bytes text.new ≡ string_bytes text.old ++ element_lines self.now) }
         ensures refusal { IfErr result (λ refusal. refusal ≡ Refusal.OutOfMemory) }
     {
         push_elements(text, &self.keys)

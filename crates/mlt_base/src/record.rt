@@ -49,8 +49,10 @@ pub fn plan(op: &ObjOp) -> (Key, Mode)
 pub fn reply(op: &ObjOp, live: Option<Value>) -> (ObjReply, Option<RecChange>)
     ensures table { result ≡ reply_of op.now live }
     ensures step { IsRecord (cell_of op.now) live
-        → CellStep (state_of_record (cell_of op.now) live) (op.now, result.0) (state_of_record (cell_of op.now) (record_after result.1 live)) }
-    ensures record { IsRecord (cell_of op.now) live → IsRecord (cell_of op.now) (record_after result.1 live) }
+        → CellStep (state_of_record (cell_of op.now) live) (op.now, result.0)
+        (state_of_record (cell_of op.now) (record_after result.1 live)) }
+    ensures record { IsRecord (cell_of op.now) live
+        → IsRecord (cell_of op.now) (record_after result.1 live) }
     ensures fits { CanChange result.1 live }
 {
     match *op {
@@ -78,7 +80,8 @@ fn account_reply(op: AccountOp, live: Option<Value>) -> (ObjReply, Option<RecCha
 
 fn deposit_reply(live: Option<Value>, amount: u64) -> (ObjReply, Option<RecChange>)
     ensures table { result ≡ account_reply_of (AccountOp.Deposit amount) live }
-    ensures step { IsAccount live → AccountStep live (AccountOp.Deposit amount) result.0 (record_after result.1 live) }
+    ensures step { IsAccount live
+        → AccountStep live (AccountOp.Deposit amount) result.0 (record_after result.1 live) }
 {
     match live {
         None => (ObjReply::Missing, None),
@@ -91,7 +94,8 @@ fn deposit_reply(live: Option<Value>, amount: u64) -> (ObjReply, Option<RecChang
 
 fn withdraw_reply(live: Option<Value>, amount: u64) -> (ObjReply, Option<RecChange>)
     ensures table { result ≡ account_reply_of (AccountOp.Withdraw amount) live }
-    ensures step { IsAccount live → AccountStep live (AccountOp.Withdraw amount) result.0 (record_after result.1 live) }
+    ensures step { IsAccount live
+        → AccountStep live (AccountOp.Withdraw amount) result.0 (record_after result.1 live) }
 {
     match live {
         None => (ObjReply::Missing, None),
@@ -116,7 +120,8 @@ fn element_reply(op: ElementOp, live: Option<Value>) -> (ObjReply, Option<RecCha
 
 fn counter_reply(op: CounterOp, live: Option<Value>) -> (ObjReply, Option<RecChange>)
     ensures table { result ≡ counter_reply_of op live }
-    ensures step { CounterStep (counter_of_record live) op result.0 (counter_of_record (record_after result.1 live)) }
+    ensures step { CounterStep (counter_of_record live) op result.0
+        (counter_of_record (record_after result.1 live)) }
 {
     match op {
         CounterOp::Up(amount) => up_reply(live, amount),
@@ -127,7 +132,8 @@ fn counter_reply(op: CounterOp, live: Option<Value>) -> (ObjReply, Option<RecCha
 
 fn up_reply(live: Option<Value>, amount: u64) -> (ObjReply, Option<RecChange>)
     ensures table { result ≡ counter_reply_of (CounterOp.Up amount) live }
-    ensures step { CounterStep (counter_of_record live) (CounterOp.Up amount) result.0 (counter_of_record (record_after result.1 live)) }
+    ensures step { CounterStep (counter_of_record live) (CounterOp.Up amount) result.0
+        (counter_of_record (record_after result.1 live)) }
 {
     let change = match live {
         Some(value) => RecChange::Set(value.wrapping_add(amount)),
@@ -138,7 +144,8 @@ fn up_reply(live: Option<Value>, amount: u64) -> (ObjReply, Option<RecChange>)
 
 fn down_reply(live: Option<Value>, amount: u64) -> (ObjReply, Option<RecChange>)
     ensures table { result ≡ counter_reply_of (CounterOp.Down amount) live }
-    ensures step { CounterStep (counter_of_record live) (CounterOp.Down amount) result.0 (counter_of_record (record_after result.1 live)) }
+    ensures step { CounterStep (counter_of_record live) (CounterOp.Down amount) result.0
+        (counter_of_record (record_after result.1 live)) }
 {
     let change = match live {
         Some(value) => RecChange::Set(value.wrapping_sub(amount)),
@@ -150,14 +157,17 @@ fn down_reply(live: Option<Value>, amount: u64) -> (ObjReply, Option<RecChange>)
 /// The change that undoes an operation on the record as it is then, or `None` where nothing is to be undone.
 pub fn inverse(done: &Done) -> Option<RecChange>
     ensures table { result ≡ inverse_of done.now }
-    ensures undoes { (before : CellState) (live : Option ℕ) → IsRecord (cell_of done.now.0) live → HasWhatIsUndone done.now live
+    ensures undoes { (before : CellState) (live : Option ℕ) → IsRecord (cell_of done.now.0) live
+        → HasWhatIsUndone done.now live
         → CellStep before done.now (state_of_record (cell_of done.now.0) live)
         → state_of_record (cell_of done.now.0) (record_after result live) ≡ before }
-    ensures record { (before : CellState) (live : Option ℕ) → IsRecord (cell_of done.now.0) live → HasWhatIsUndone done.now live
+    ensures record { (before : CellState) (live : Option ℕ) → IsRecord (cell_of done.now.0) live
+        → HasWhatIsUndone done.now live
         → CellStep before done.now (state_of_record (cell_of done.now.0) live)
         → IsRecord (cell_of done.now.0) (record_after result live) }
     ensures fits { (before : CellState) (live : Option ℕ) → HasWhatIsUndone done.now live
-        → CellStep before done.now (state_of_record (cell_of done.now.0) live) → CanChange result live }
+        → CellStep before done.now (state_of_record (cell_of done.now.0) live)
+        → CanChange result live }
 {
     let reply = done.reply();
     match done.op() {

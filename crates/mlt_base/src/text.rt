@@ -19,7 +19,9 @@ use std::io::Write;
 
 // Appends a line for each account.
 pub(crate) fn push_accounts(text: &mut String, balances: &BTreeMap<u32, u64>) -> Result<(), Refusal>
-    ensures text { OnOk result (string_bytes text.new ≡ string_bytes text.old ++ flat_map account_line balances.now.entries) }
+    ensures text { OnOk result
+        (string_bytes text.new
+        ≡ string_bytes text.old ++ flat_map account_line balances.now.entries) }
     ensures by_number { OnOk result (tree.IsOrdered nat_cmp balances.now) }
     ensures refusal { IfErr result (λ refusal. refusal ≡ Refusal.OutOfMemory) }
 {
@@ -31,7 +33,8 @@ pub(crate) fn push_accounts(text: &mut String, balances: &BTreeMap<u32, u64>) ->
 
 // Appends a line for each element.
 pub(crate) fn push_elements(text: &mut String, keys: &BTreeSet<(u16, u32)>) -> Result<(), Refusal>
-    ensures text { OnOk result (string_bytes text.new ≡ string_bytes text.old ++ flat_map key_line keys.now.keys) }
+    ensures text { OnOk result
+        (string_bytes text.new ≡ string_bytes text.old ++ flat_map key_line keys.now.keys) }
     ensures by_key { OnOk result (sorted.IsOrdered element_cmp keys.now) }
     ensures refusal { IfErr result (λ refusal. refusal ≡ Refusal.OutOfMemory) }
 {
@@ -44,7 +47,8 @@ pub(crate) fn push_elements(text: &mut String, keys: &BTreeSet<(u16, u32)>) -> R
 
 // Appends a line for each counter.
 pub(crate) fn push_counters(text: &mut String, values: &BTreeMap<u32, u64>) -> Result<(), Refusal>
-    ensures text { OnOk result (string_bytes text.new ≡ string_bytes text.old ++ flat_map value_line values.now.entries) }
+    ensures text { OnOk result
+        (string_bytes text.new ≡ string_bytes text.old ++ flat_map value_line values.now.entries) }
     ensures by_number { OnOk result (tree.IsOrdered nat_cmp values.now) }
     ensures refusal { IfErr result (λ refusal. refusal ≡ Refusal.OutOfMemory) }
 {
@@ -61,10 +65,14 @@ pub(crate) fn push_counters(text: &mut String, values: &BTreeMap<u32, u64>) -> R
 /// `OutOfMemory`, where a growth was refused; nothing was written. `Io`, where a write failed; then a
 /// front of the text was written.
 pub fn write_base<W: Write>(base: &Base, writer: &mut W) -> Result<(), Refusal>
-    ensures ok { OnOk result (Appends (W.contents writer.old) (W.contents writer.new) (base_text base.now)) }
-    ensures memory { IsErrOf result Refusal.OutOfMemory → Keeps (W.contents writer.old) (W.contents writer.new) }
-    ensures io { IsErrOf result Refusal.Io → AppendsFront (W.contents writer.old) (W.contents writer.new) (base_text base.now) }
-    ensures refusal { IfErr result (λ refusal. (refusal ≡ Refusal.OutOfMemory) ⊎ (refusal ≡ Refusal.Io)) }
+    ensures ok { OnOk result
+        (Appends (W.contents writer.old) (W.contents writer.new) (base_text base.now)) }
+    ensures memory { IsErrOf result Refusal.OutOfMemory
+        → Keeps (W.contents writer.old) (W.contents writer.new) }
+    ensures io { IsErrOf result Refusal.Io
+        → AppendsFront (W.contents writer.old) (W.contents writer.new) (base_text base.now) }
+    ensures refusal { IfErr result
+        (λ refusal. (refusal ≡ Refusal.OutOfMemory) ⊎ (refusal ≡ Refusal.Io)) }
 {
     let text = base.text()?;
     write_text(writer, text.as_bytes())

@@ -36,9 +36,11 @@ pub fn steps_of_bases_meet_the_laws()
 
 /// An operation of a running transaction may come next where it clashes with nothing that others hold.
 pub fn operation_without_clash_may_come()
-    ensures { (lists : Lists (ObjOp × ObjReply)) (before after : Base) (i : ℕ) (item : ObjOp × ObjReply)
+    ensures { (lists : Lists (ObjOp × ObjReply)) (before after : Base) (i : ℕ)
+        (item : ObjOp × ObjReply)
         → lists.stage i ≡ Running → Step before item after
-        → ((j : ℕ) (held : ObjOp × ObjReply) → j ≢ i → Contains (lists.held j) held → clashes held item ≡ false)
+        → ((j : ℕ) (held : ObjOp × ObjReply) → j ≢ i → Contains (lists.held j) held
+        → clashes held item ≡ false)
         → MayCome Step lists before (Did i item) after }
 {}
 
@@ -57,5 +59,6 @@ pub fn every_history_of_bases_is_serializable()
         (rest : List (ObjOp × ObjReply)) (last : ObjOp × ObjReply)
         → IsHistory Step empty_base history base
         → (lists_of history).transcripts i ≡ rest ++ last ∷ []
-        → (earlier : Base) × Step earlier last base × ((other : Base) → Step other last base → other ≡ earlier) }
+        → (earlier : Base) × Step earlier last base
+        × ((other : Base) → Step other last base → other ≡ earlier) }
 {}

@@ -21,7 +21,8 @@ pub trait Table: Kind {
     /// is never told the reply.
     fn class(op: &Self::Op, reply: &Self::Reply) -> Option<Self::Class>
         ensures row { result ≡ class_of op.now reply.now }
-        ensures none { IfNone result ((before after : Self.State) → Self.step before op.now reply.now after → ⊥) };
+        ensures none { IfNone result
+            ((before after : Self.State) → Self.step before op.now reply.now after → ⊥) };
 
     /// Whether a requested operation of the class may conflict with a held one: exactly where some operations
     /// of the classes, in some state, do not right commute backward.

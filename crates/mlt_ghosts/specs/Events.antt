@@ -10,8 +10,8 @@ use Rattle.mlt_hash_form.specs.Changes.{ChangesRecord, IsAtHome, Spot, slot_of}
 use Rattle.mlt_ghosts.specs.Ledgers.{IsOpenIn, Ledger, NoOtherLast}
 use Rattle.mlt_ghosts.specs.Operations.{Added, Removed}
 
--- In the bucket that the key leads to, one slot becomes `made`: the clean pages are then these, and with it the key has
--- this value, or none.
+-- In the bucket that the key leads to, one slot becomes `made`, and with it the key has this value, or none. The
+-- clean pages are then `pages`.
 pub record ChangesSlot (ledger : Ledger) (pages : FilePages) (spot : Spot) (key : ℕ)
     (value : Option ℕ) (made : Slot) : Type 0 where
   pub at_home : IsAtHome ledger.bits ledger.pages ledger.root key spot

@@ -1,4 +1,5 @@
-//! What changes of one slot do to the ghosts of open transactions: the pages and the operations that stand match on.
+//! What changes of one slot do to the ghosts of open transactions: the pages and the operations that stand still
+//! match.
 //!
 //! `pages` are the clean pages after the change, and `standing` the operations on keys' presence that stand then.
 

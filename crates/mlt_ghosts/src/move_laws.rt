@@ -40,7 +40,7 @@ pub fn rearranged_slots_are_moved()
         → MovesSlots bits (is_kept opens) before after root }
 {}
 
-/// What a walk wrote up to its change of a record, as splits, keeps the ghosts: on the clean pages with these writes.
+/// What a walk wrote before its change of a record, by splits, keeps the ghosts.
 pub fn kept_file_keeps_ghosts()
     ensures { (ledger : Ledger) (seen : SeenPages) (rest : FilePages)
         → PagesMatchOperations ledger → HasForm ledger.bits ledger.pages ledger.root

@@ -17,7 +17,7 @@ use Rattle.mlt_held.specs.Views.{View, view_of}
 use Rattle.mlt_record.specs.Plans.{IsNowhere, SetsFirst, WriteFields, has_room}
 use Rattle.mlt_hash.specs.Passes.{slot_after}
 use Rattle.mlt_hash.specs.Walks.{Basis, FoundBefore, Stands, StoodBefore, WalkFields}
-use Rattle.mlt_hash.specs.Changes.{HasOwnGhost, IsAtAbsent, IsFull, Makes, PlansSlot, SeesBucket, TellsOfAddition, TellsOfChange, directory_depth_of, page_of}
+use Rattle.mlt_hash.specs.Changes.{HasOwnGhost, IsAtAbsent, IsFull, Makes, SeesBucket, TellsOfAddition, TellsOfChange, directory_depth_of, page_of, PlansSlot}
 use Rattle.mlt_hash.specs.declared.pass.Change.{Change}
 use Rattle.mlt_hash.specs.declared.pass.Change.TheVariants as change
 use Rattle.mlt_hash.specs.declared.answer.WalkAnswer.{WalkAnswer}

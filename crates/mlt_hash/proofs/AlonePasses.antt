@@ -21,7 +21,8 @@ use Rattle.mlt_held.specs.Moments.{IsCleanFor, MayStep, Moment}
 use Rattle.mlt_held.specs.PageSteps.{WritesAtMost}
 use Rattle.mlt_held.specs.Views.{View, view_of}
 use Rattle.mlt_hash.specs.Alone.{IsAlone, KeepsBefore, basis_of, pages_before}
-use Rattle.mlt_hash.specs.AloneWalks.{HasArrived, HasChanged, IsAddingAt, IsFullFor, IsHashFile, NeedsRoom, NeedsSplits, NeverHasRoomFor, TellsOfPass, added_value}
+use Rattle.mlt_hash.specs.StepsLeft.{IsPutting}
+use Rattle.mlt_hash.specs.AloneWalks.{HasArrived, HasChanged, IsFullFor, IsHashFile, NeedsRoom, NeedsSplits, NeverHasRoomFor, TellsOfPass, added_value}
 use Rattle.mlt_hash.specs.Changes.{HasNoRoom, IsAtAbsent, IsAtRecord, IsFull, Makes, NeedsSplit, TellsOfAddition, WritesIfChanged, crowded_at, page_of}
 use Rattle.mlt_hash.specs.Passes.{HasRoomFrom, IsNextPass, next_of, value_after}
 use Rattle.mlt_hash.specs.SplitPages.{HasRoomAt, pages_for, pages_in_the_end, pages_left_at, pages_to_make}
@@ -197,7 +198,7 @@ module _ (bits : ℕ → ℕ) (root max_depth : ℕ) (first mid new : Moment) (w
         let next = needs.later later in
         record {
           value_is = ap added_value next.1;
-          may = record { stands = needs.stands; adds = subst (λ (phase : Phase). IsAddingAt phase ours new after) (sym next.1) shallow };
+          may = record { stands = needs.stands; adds = subst IsPutting (sym next.1) tt };
           ever = has_room needs.fields next.0 needs.full.sees.at next.2.1 next.2.2;
           d = next.0;
           least = subst (λ (b : BucketFields). HasRoomFrom (λ e. is_crowded bits set.empty e (bits walk.key) b.slots) b.depth max_depth next.0) (sym (key_bucket needs.fields needs.full.sees.at)) next.2;

@@ -3,7 +3,6 @@ use Rattle.std.proofs.Common.{◌≡◌, ℕ, ◌<◌, ◌≤◌, ◌+◌, ◌*�
 use Rattle.std.specs.List.{list_all}
 use Rattle.std.specs.FinMap as map
 use Rattle.std.specs.FinSet as set
-use Rattle.std.proofs.lemmas.Bool.{cases_eq}
 use Rattle.std.proofs.Math.Nat.{pow-le-pow_right}
 use Rattle.mlt_types.specs.declared.refusal.Refusal.TheVariants as refusal
 use Rattle.mlt_page.specs.Slots.{is_kept}
@@ -28,7 +27,8 @@ use Rattle.mlt_split.proofs.HeldPages.{clean_now}
 use Rattle.mlt_split.proofs.Later.{begins_now, stands_now}
 use Rattle.mlt_split.proofs.OldBucket.{depths_are_small}
 use Rattle.mlt_hash.specs.Alone.{HasNotWaited, IsAlone, KeepsBefore, basis_of, pages_before}
-use Rattle.mlt_hash.specs.AloneWalks.{HasChanged, IsAddingAt, IsHashFile, MayAdd, TellsOfSplits, added_value}
+use Rattle.mlt_hash.specs.StepsLeft.{IsPutting}
+use Rattle.mlt_hash.specs.AloneWalks.{HasChanged, IsHashFile, MayAdd, TellsOfSplits, added_value}
 use Rattle.mlt_hash.specs.Changes.{Makes}
 use Rattle.mlt_hash.specs.SplitPages.{left_from, left_from_split, pages_in_the_end, pages_left_at, pages_to_make}
 use Rattle.mlt_hash.specs.Splitting.{BeginsSplit, HasToSplit, OfSplit, SplitCloses, SplitGoesOn, TellsAt, TellsOfAdding, TellsOfSplitting}
@@ -99,18 +99,18 @@ pub record IsSplittingOn (basis : Basis) (old now : Moment) (before walk : WalkF
   pub keeps : KeepsBefore old now
   pub pages : pages_in_the_end basis.root walk now ≤ pages_in_the_end basis.root before old
 
-next_step : (phase : Phase) (basis : Basis) (m : Moment) (walk : WalkFields) → IsAddingAt phase basis m walk → HasNextStep phase
-next_step (at.Adding value bucket room_depth unsplit) basis m walk adds = tt
-next_step (at.Splitting value room_depth) basis m walk adds = tt
-next_step at.Start basis m walk adds = absurd adds
-next_step (at.Headed dir row depth) basis m walk adds = absurd adds
-next_step (at.Placed bucket depth) basis m walk adds = absurd adds
-next_step (at.AtBucket bucket depth found) basis m walk adds = absurd adds
-next_step (at.Full next) basis m walk adds = absurd adds
-next_step (at.Changed bucket done) basis m walk adds = absurd adds
+next_step : (phase : Phase) → IsPutting phase → HasNextStep phase
+next_step (at.Adding value bucket room_depth unsplit) adds = tt
+next_step (at.Splitting value room_depth) adds = tt
+next_step at.Start adds = absurd adds
+next_step (at.Headed dir row depth) adds = absurd adds
+next_step (at.Placed bucket depth) adds = absurd adds
+next_step (at.AtBucket bucket depth found) adds = absurd adds
+next_step (at.Full next) adds = absurd adds
+next_step (at.Changed bucket done) adds = absurd adds
 
 pub has_next_step : (basis : Basis) (m : Moment) (walk : WalkFields) → MayAdd basis m walk → HasNextStep walk.phase
-has_next_step basis m walk may = next_step walk.phase basis m walk may.adds
+has_next_step basis m walk may = next_step walk.phase may.adds
 
 -- sums of pages that are there and pages that are left
 one_made : (now new left left' all all' : ℕ) → new ≡ now + 1 → left' + 1 ≤ all' → left ≡ all → (left'' : ℕ) → left'' ≡ left' → all' ≡ all → new + left'' ≤ now + left
@@ -147,12 +147,15 @@ module _ (bits : ℕ → ℕ) (root max_depth : ℕ) (first now new : Moment) (w
   clean_now_is = clean_file bits root max_depth now alone.may file
 
   -- where the walk is at rest,
-  module _ (value n room_depth : ℕ) (unsplit : Bool) (adding : IsAdding ours walk (view_of now) n room_depth unsplit) (shallow : depth_of (page_at now.store.pages) root ≤ max_depth) (phase_is : walk.phase ≡ at.Adding value n room_depth unsplit) where
+  module _ (value n room_depth : ℕ) (unsplit : Bool) (adding : IsAdding ours walk (view_of now) n room_depth unsplit) (phase_is : walk.phase ≡ at.Adding value n room_depth unsplit) where
     stored_bucket : page_at now.store.pages n ≡ Some (page.Bucket adding.fields)
     stored_bucket = held_is_stored now n (page.Bucket adding.fields) alone.may adding.rest.found
 
     stored_head : page_at now.store.pages root ≡ Some (page.Head adding.header)
     stored_head = held_is_stored now root (page.Head adding.header) alone.may adding.rest.head
+
+    shallow : depth_of (page_at now.store.pages) root ≤ max_depth
+    shallow = subst (λ (p : Option Page). (header_of p).depth ≤ max_depth) (sym stored_head) adding.shallow
 
     -- a split that begins makes one of the pages that it leads to
     begins_pages : (b : BeginsSplit ours now new walk after value n room_depth) → page_at now.store.pages root ≡ Some (page.Head b.header) → page_at now.store.pages n ≡ Some (page.Bucket b.bucket) → b.split.depth < room_depth
@@ -180,7 +183,7 @@ module _ (bits : ℕ → ℕ) (root max_depth : ℕ) (first now new : Moment) (w
           value = ap added_value b.phase ∙ sym (ap added_value phase_is);
           may = record {
             stands = b.on.stands;
-            adds = subst (λ (phase : Phase). IsAddingAt phase ours new after) (sym b.phase) (λ split is. let one = some_is_one split b.split after.split is b.split_is in subst (λ (s : SplitFields). s.directory_depth ≤ max_depth) (sym one) (omega (arith, fits, b.directory_depth)));
+            adds = subst IsPutting (sym b.phase) tt;
           };
           less = let small = stands.under_way.small in omega (arith, now_is, new_is, b.steps, steps, b.depth, deep, small);
           pages = begins_pages b head bucket deep;
@@ -220,7 +223,7 @@ module _ (bits : ℕ → ℕ) (root max_depth : ℕ) (first now new : Moment) (w
     adding_ends other not tells = absurd tells
 
   -- and in the midst of a split
-  module _ (value room_depth : ℕ) (splitting : IsSplitting ours walk (view_of now) room_depth) (shallow : (split : SplitFields) → walk.split ≡ Some split → split.directory_depth ≤ max_depth) (phase_is : walk.phase ≡ at.Splitting value room_depth) where
+  module _ (value room_depth : ℕ) (splitting : IsSplitting ours walk (view_of now) room_depth) (phase_is : walk.phase ≡ at.Splitting value room_depth) where
     effort_now : (was : SplitFields) → walk.split ≡ Some was → effort walk now ≡ 1000 * (16 - was.depth) + steps_left was
     effort_now was is = ap (λ (phase : Phase). effort_at phase walk now) phase_is ∙ split_effort_is walk.split was is
 
@@ -260,7 +263,6 @@ module _ (bits : ℕ → ℕ) (root max_depth : ℕ) (first now new : Moment) (w
 
     split_goes_on : SplitGoesOn ours new walk after value room_depth → OfSplit walk (λ (split : SplitFields). IsDone split.phase (aim_of ours walk room_depth) now new split) → Advances ours now new walk after
     split_goes_on s done =
-        let fits : s.was.directory_depth ≤ max_depth = shallow s.was s.was_is in
         let now_is = effort_now s.was s.was_is in
         let new_is : effort after new ≡ 1000 * (16 - s.is.depth) + steps_left s.is = ap (λ (phase : Phase). effort_at phase after new) s.phase ∙ split_effort_is after.split s.is s.is_is in
         record {
@@ -268,7 +270,7 @@ module _ (bits : ℕ → ℕ) (root max_depth : ℕ) (first now new : Moment) (w
           value = ap added_value s.phase ∙ sym (ap added_value phase_is);
           may = record {
             stands = s.on.stands;
-            adds = subst (λ (phase : Phase). IsAddingAt phase ours new after) (sym s.phase) (λ split is. let one = some_is_one split s.is after.split is s.is_is in subst (λ (s : SplitFields). s.directory_depth ≤ max_depth) (sym one) (omega (arith, fits, s.directory_depth)));
+            adds = subst IsPutting (sym s.phase) tt;
           };
           less = omega (arith, now_is, new_is, s.fewer, ap (λ d. 1000 * (16 - d)) s.depth);
           pages = goes_on_pages s done;
@@ -278,15 +280,6 @@ module _ (bits : ℕ → ℕ) (root max_depth : ℕ) (first now new : Moment) (w
     split_closes s done =
         let head : page_at new.store.pages root ≡ Some (page.Head s.rests.header) = held_is_stored new root (page.Head s.rests.header) alone_new.may s.rests.rest.head in
         let bucket : page_at new.store.pages s.bucket ≡ Some (page.Bucket s.rests.bucket) = held_is_stored new s.bucket (page.Bucket s.rests.bucket) alone_new.may s.rests.rest.found in
-        let fits : s.was.directory_depth ≤ max_depth = shallow s.was s.was_is in
-        let same : splitting.split ≡ s.was = some_is_one splitting.split s.was walk.split splitting.split_is s.was_is in
-        let deep_there = (begins_now (aim_of ours walk room_depth) now splitting.split alone.may clean_now_is splitting.under_way).deep in
-        let deep : s.was.depth < room_depth = subst (λ (s : SplitFields). s.depth < room_depth) same deep_there in
-        let most = splitting.most in
-        let fits_now : s.rests.header.depth ≤ max_depth = elim (cases_eq s.was.depth s.was.directory_depth) [
-          | inl doubles ↦ let one_more = s.rests.doubled doubles in omega (arith, one_more, doubles, deep, most)
-          | inr keeps_depth ↦ let as_before = s.rests.in_place keeps_depth in omega (arith, as_before, fits)
-        ] in
         let now_is = effort_now s.was s.was_is in
         let new_is : effort after new ≡ 1000 * (17 - s.rests.bucket.depth) = ap (λ (phase : Phase). effort_at phase after new) s.phase ∙ ap (λ (p : Option Page). 1000 * (17 - (bucket_of p).depth)) bucket in
         record {
@@ -294,7 +287,7 @@ module _ (bits : ℕ → ℕ) (root max_depth : ℕ) (first now new : Moment) (w
           value = ap added_value s.phase ∙ sym (ap added_value phase_is);
           may = record {
             stands = s.on.stands;
-            adds = subst (λ (phase : Phase). IsAddingAt phase ours new after) (sym s.phase) (subst (λ (p : Option Page). (header_of p).depth ≤ max_depth) (sym head) fits_now);
+            adds = subst IsPutting (sym s.phase) tt;
           };
           less = omega (arith, now_is, new_is, s.last, s.rests.deeper);
           pages = closes_pages s head bucket done;
@@ -323,16 +316,16 @@ module _ (bits : ℕ → ℕ) (root max_depth : ℕ) (first now new : Moment) (w
     splitting_ends other not went tells = absurd tells
 
   -- **A step of a walk that splits goes on, with less work left,**
-  advances_at : (phase : Phase) → walk.phase ≡ phase → IsAddingAt phase ours now walk → Stands phase ours walk (view_of now) → TellsAt phase ours now new walk after answer.Going → Advances ours now new walk after
-  advances_at (at.Adding value n room_depth unsplit) is adds stands tells = adding_goes value n room_depth unsplit stands adds is tells
-  advances_at (at.Splitting value room_depth) is adds stands tells = splitting_goes value room_depth stands adds is tells
+  advances_at : (phase : Phase) → walk.phase ≡ phase → IsPutting phase → Stands phase ours walk (view_of now) → TellsAt phase ours now new walk after answer.Going → Advances ours now new walk after
+  advances_at (at.Adding value n room_depth unsplit) is adds stands tells = adding_goes value n room_depth unsplit stands is tells
+  advances_at (at.Splitting value room_depth) is adds stands tells = splitting_goes value room_depth stands is tells
   advances_at other is adds stands tells = absurd adds
 
   -- **or tells how it ended.**
-  ends_at : (phase : Phase) → walk.phase ≡ phase → IsAddingAt phase ours now walk → Stands phase ours walk (view_of now) → (told : WalkAnswer) → (told ≡ answer.Going → ⊥) → HasNotWaited told → TellsAt phase ours now new walk after told
+  ends_at : (phase : Phase) → walk.phase ≡ phase → IsPutting phase → Stands phase ours walk (view_of now) → (told : WalkAnswer) → (told ≡ answer.Going → ⊥) → HasNotWaited told → TellsAt phase ours now new walk after told
       → TellsOfSplits ours new walk.key (added_value phase) (pages_in_the_end root walk now) told
-  ends_at (at.Adding value n room_depth unsplit) is adds stands told not went tells = adding_ends value n room_depth unsplit stands adds is told not tells
-  ends_at (at.Splitting value room_depth) is adds stands told not went tells = splitting_ends value room_depth stands adds is told not went tells
+  ends_at (at.Adding value n room_depth unsplit) is adds stands told not went tells = adding_ends value n room_depth unsplit stands is told not tells
+  ends_at (at.Splitting value room_depth) is adds stands told not went tells = splitting_ends value room_depth stands is told not went tells
   ends_at other is adds stands told not went tells = absurd adds
 
 splitting_still : (basis : Basis) (first now new : Moment) (before walk after : WalkFields) → IsSplittingOn basis first now before walk → KeepsBefore now new → Advances basis now new walk after → IsSplittingOn basis first new before after

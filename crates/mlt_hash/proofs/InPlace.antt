@@ -34,7 +34,7 @@ use Rattle.mlt_held.proofs.Views.{may_write, mode_of_page, own_held}
 use Rattle.mlt_record.specs.Plans.{IsNowhere, SetsFirst, WriteFields}
 use Rattle.mlt_hash.specs.Passes.{bucket_mode, directory_held, slot_after, value_after}
 use Rattle.mlt_hash.specs.Walks.{Basis, FoundBefore, IsAtBucket, IsChanged, IsUnwritten, Stands, StoodBefore, WalkFields, dir_of}
-use Rattle.mlt_hash.specs.Changes.{IsAtAbsent, IsAtRecord, Makes, PlansSlot, SeesBucket, TellsOfChange, WritesIfChanged, directory_depth_of, page_of}
+use Rattle.mlt_hash.specs.Changes.{IsAtAbsent, IsAtRecord, Makes, SeesBucket, TellsOfChange, WritesIfChanged, directory_depth_of, page_of, PlansSlot}
 use Rattle.mlt_hash.specs.declared.pass.Pass.{Pass}
 use Rattle.mlt_hash.specs.declared.pass.Pass.TheVariants as pass
 use Rattle.mlt_hash.specs.declared.pass.Phase.{Phase}

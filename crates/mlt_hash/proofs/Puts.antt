@@ -1,5 +1,5 @@
 -- Additions whose bucket had no room: what a walk at rest knows of its file, and the record that it puts at last
-use Rattle.std.proofs.Common.{ℕ, suc, ◌≡◌, ◌<◌, ◌≤◌, ◌+◌, Bool, true, false, not, List, [], ◌∷◌, length, Option, Some, None, is_some, refl, sym, ◌∙◌, ap, subst, inl, inr, ◌⊎◌, arith}
+use Rattle.std.proofs.Common.{ℕ, suc, ◌≡◌, ◌<◌, ◌≤◌, ◌+◌, Bool, true, false, not, List, [], ◌∷◌, length, Option, Some, None, is_some, refl, sym, ◌∙◌, ap, subst, inl, inr, ◌⊎◌, arith, unwrap_or}
 use Rattle.std.specs.Prelude.{◌↔◌, slice_index_or, position, unwrap_or, Err, Result}
 use Rattle.std.specs.List.{list_all}
 use Rattle.std.specs.Ordering.{nat_cmp}
@@ -26,18 +26,18 @@ use Rattle.mlt_hash_form.proofs.Crowd.{crowded_at_own_depth, crowded_in_fewer}
 use Rattle.mlt_hash_form.proofs.HeldPages.{keeps_more}
 use Rattle.mlt_held.specs.Moments.{HasCleanFile, MayStep, Moment, page_before}
 use Rattle.mlt_held.specs.PageSteps.{MakesLockedPage, TouchesOnePage, WritesHeldPage, WritesHeldSlot}
-use Rattle.mlt_held.specs.Views.{MakesPage, ReadsHeldBucket, ReadsHeldPage, View, WritesPage, own_at, view_of}
-use Rattle.mlt_page_locks.specs.LockTables.{can_read, can_write}
-use Rattle.mlt_held.proofs.Views.{make_makes, may_read, may_write, seen_held, write_writes, writes_over_clean}
+use Rattle.mlt_held.specs.Views.{MakesPage, View, WritesPage, view_of, ReadsHeldBucket, ReadsHeldPage, own_at}
+use Rattle.mlt_page_locks.specs.LockTables.{can_write, can_read}
+use Rattle.mlt_held.proofs.Views.{make_makes, may_write, write_writes, writes_over_clean, may_read, seen_held}
 use Rattle.mlt_record.specs.Plans.{IsNowhere, SetsFirst, WriteFields, has_room}
 use Rattle.mlt_split.specs.Rests.{Aim, IsAtRest, held_page, seed_of}
-use Rattle.mlt_split.specs.Splits.{IsUnderWay, MayBegin, SplitFields, directory_steps, steps_left}
+use Rattle.mlt_split.specs.Splits.{HasHalves, IsUnderWay, MayBegin, SplitFields, directory_steps, steps_left}
 use Rattle.mlt_split.proofs.Beginning.{rest_bucket, rest_is_shallow, rest_is_small}
 use Rattle.mlt_split.proofs.Closing.{HasClean}
 use Rattle.mlt_split.proofs.Few.{rest_holds_few}
 use Rattle.mlt_split.proofs.HeldPages.{not_made}
 use Rattle.mlt_hash.specs.Walks.{Basis, HasPassed, IsAdding, IsChanged, IsSplitting, IsStanding, Stands, WalkFields, aim_of}
-use Rattle.mlt_hash.specs.Changes.{Makes, PlansSlot, page_of}
+use Rattle.mlt_hash.specs.Changes.{Makes, page_of, PlansSlot}
 use Rattle.mlt_hash.specs.Splitting.{BeginsSplit, HasToSplit, TellsOfAdding, TellsOfPut}
 use Rattle.mlt_hash.specs.declared.answer.WalkAnswer.{WalkAnswer}
 use Rattle.mlt_hash.specs.declared.answer.WalkAnswer.TheVariants as answer
@@ -259,9 +259,9 @@ begun_alike {A} result why is = (
 
 -- **A split that has begun.**
 pub begins_split : (basis : Basis) (walk after : WalkFields) (old new : Moment) (value n room_depth : ℕ) (unsplit : Bool) (split : SplitFields) (made : Page) → MayStep old → MakesLockedPage old new split.new_page made → (adds : IsAdding basis walk (view_of old) n room_depth unsplit) → HasToSplit basis old walk value n room_depth
-    → IsUnderWay (aim_of basis walk room_depth) (view_of new) split → steps_left split ≡ 1 + directory_steps split.depth split.directory_depth → split.depth ≡ adds.fields.depth → split.directory_depth ≡ adds.header.depth
+    → IsUnderWay (aim_of basis walk room_depth) (view_of new) split → steps_left split ≡ 1 + directory_steps split.depth split.directory_depth → split.depth ≡ adds.fields.depth → split.directory_depth ≡ adds.header.depth → HasHalves (aim_of basis walk room_depth) new.store.pages adds.fields split
     → after ≡ record walk { phase = at.Splitting value room_depth; split = Some split } → BeginsSplit basis old new walk after value n room_depth
-begins_split basis walk after old new value n room_depth unsplit split made may makes adds needed under_way steps bucket_depth depth after_is =
+begins_split basis walk after old new value n room_depth unsplit split made may makes adds needed under_way steps bucket_depth depth halves after_is =
     let made_there : MakesPage (view_of old) (view_of new) split.new_page made = make_makes old new split.new_page made may makes in
     let here : IsSplitting basis (record walk { phase = at.Splitting value room_depth; split = Some split }) (view_of new) room_depth = record {
       split = split;
@@ -295,6 +295,7 @@ begins_split basis walk after old new value n room_depth unsplit split made may 
       directory_depth = depth;
       steps = steps;
       made = (made, makes);
+      halves = halves;
     }
 
 -- a bucket at rest may be written

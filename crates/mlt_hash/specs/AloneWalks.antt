@@ -14,9 +14,9 @@ use Rattle.mlt_hash_form.specs.declared.root.Root.{Root}
 use Rattle.mlt_subtx.specs.Images.{put_back}
 use Rattle.mlt_held.specs.Moments.{Moment}
 use Rattle.mlt_held.specs.Views.{view_of}
-use Rattle.mlt_split.specs.Splits.{SplitFields}
 use Rattle.mlt_hash.specs.Walks.{Basis, IsStanding, WalkFields}
 use Rattle.mlt_hash.specs.Steps.{HasFound, IsSameWalk}
+use Rattle.mlt_hash.specs.StepsLeft.{IsPutting}
 use Rattle.mlt_hash.specs.Alone.{pages_before}
 use Rattle.mlt_hash.specs.Passes.{next_of}
 use Rattle.mlt_hash.specs.SplitPages.{HasRoomAt, LacksPages, bucket_for, pages_for, pages_in_the_end}
@@ -70,16 +70,10 @@ added_value (at.Adding value bucket room_depth unsplit) = value
 added_value (at.Splitting value room_depth) = value
 added_value other = 0
 
--- the walk splits, and the directory that it has written is no deeper than it may be
-abbrev pub IsAddingAt : Phase → Basis → Moment → WalkFields → Type 0
-IsAddingAt (at.Adding value bucket room_depth unsplit) basis new walk = depth_of (page_at new.store.pages) basis.root ≤ basis.max_depth
-IsAddingAt (at.Splitting value room_depth) basis new walk = (split : SplitFields) → walk.split ≡ Some split → split.directory_depth ≤ basis.max_depth
-IsAddingAt other basis new walk = ⊥
-
 -- the walk may go on to split, and to add its record
 pub record MayAdd (basis : Basis) (new : Moment) (walk : WalkFields) : Type 0 where
   pub stands : IsStanding basis walk (view_of new)
-  pub adds : IsAddingAt walk.phase basis new walk
+  pub adds : IsPutting walk.phase
 
 -- Some depth makes room, and the walk may go on to split its bucket down to there, which takes so many pages.
 pub record NeedsSplits (basis : Basis) (new : Moment) (before after : WalkFields) (value : ℕ) : Type 0 where

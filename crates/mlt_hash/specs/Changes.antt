@@ -1,5 +1,5 @@
 -- What the changes of a walk tell
-use Rattle.std.specs.Prelude.{ℕ, ◌≡◌, ◌<◌, ◌≤◌, ◌⊎◌, true, IsSome, Bool, Some, None, position}
+use Rattle.std.specs.Prelude.{ℕ, ◌≡◌, ◌≤◌, ◌⊎◌, true, IsSome, Bool, Some, None, position, ◌<◌}
 use Rattle.std.specs.List.{list_all}
 use Rattle.mlt_types.specs.declared.mode.Mode.TheVariants.{Exclusive}
 use Rattle.mlt_types.specs.declared.refusal.Refusal.TheVariants as refusal

@@ -14,7 +14,7 @@ use Rattle.mlt_held.specs.PageSteps.{MakesLockedPage, WritesAtMost, WritesHeldSl
 use Rattle.mlt_held.specs.Views.{view_of}
 use Rattle.mlt_record.specs.Plans.{WriteFields}
 use Rattle.mlt_split.specs.Rests.{held_page}
-use Rattle.mlt_split.specs.Splits.{SplitFields, directory_steps, steps_left}
+use Rattle.mlt_split.specs.Splits.{HasHalves, SplitFields, directory_steps, steps_left}
 use Rattle.mlt_split.specs.Steps.{IsDone, IsLeft, IsMaking, IsNextPage}
 use Rattle.mlt_split.specs.Tells.{Rests}
 use Rattle.mlt_hash.specs.Walks.{Basis, IsStanding, WalkFields, aim_of}
@@ -55,6 +55,7 @@ pub record BeginsSplit (basis : Basis) (old new : Moment) (before after : WalkFi
   pub directory_depth : split.directory_depth ≡ header.depth
   pub steps : steps_left split ≡ 1 + directory_steps split.depth split.directory_depth
   pub made : (page : Page) × MakesLockedPage old new split.new_page page
+  pub halves : HasHalves (aim_of basis before room_depth) new.store.pages bucket split
 
 -- The split goes on, one step fewer is left.
 pub record SplitGoesOn (basis : Basis) (new : Moment) (before after : WalkFields) (value room_depth : ℕ) : Type 0 where

@@ -13,11 +13,12 @@ abbrev pub target : (ℕ → ℕ) → ℕ → ℕ → ℕ → ℕ → ℕ → �
 target old g g' l prefix new place =
     if place / 2 ^ (g' - (l + 1)) == prefix then new else old (place / 2 ^ (g' - g))
 
--- the l + 1 bits of the pseudokeys that go to the new bucket, of the bucket on page n, to which the pseudokey x leads
+-- The bucket on page n, to which the pseudokey x leads, has depth l: these are the l + 1 bits of the pseudokeys that go
+-- to the new bucket,
 abbrev pub prefix_of : FilePages → ℕ → ℕ → ℕ
 prefix_of pages n x = 2 * first_bits (buckets_of pages n).depth x + 1
 
--- what the split of that bucket leaves at a place
+-- and this is what its split leaves at a place
 abbrev pub target_of : FilePages → ℕ → ℕ → ℕ → ℕ → ℕ → ℕ → ℕ
 target_of pages root n new x g' =
     target (entry pages (dirs_of pages root)) (depth_of pages root) g' (buckets_of pages n).depth
@@ -66,7 +67,8 @@ pub record IsMidway (bits : ℕ → ℕ) (opens : set.FinSet nat_cmp) (before pa
   pub filling : IsFilling pages made (dirs_of before root) (target_of before root n new x g')
       (entry before (dirs_of before root)) j k (2 ^ (depth_of before root - 8))
 
--- a split in place under way: the directory keeps its depth and its pages, and the first q of these are as they are to be
+-- a split in place under way: the directory keeps its depth and its pages, and the first q of these are as they
+-- are to be
 abbrev pub IsMidwayInPlace
     : (ℕ → ℕ) → set.FinSet nat_cmp → FilePages → FilePages → ℕ → ℕ → ℕ → ℕ → ℕ → Type 0
 IsMidwayInPlace bits opens before pages root n new x q =

@@ -43,8 +43,8 @@ pub fn change_to_no_value_removes()
         → live_records pages' ≡ map.remove (live_records pages) key }
 {}
 
-/// Where a walk that changed the file ends, its pages become clean: they have the form, and the map of their records
-/// changes at the walk's key alone.
+/// Where a walk that changed the file ends, what it wrote becomes clean: the pages have the form, and the map of
+/// their records changes at the walk's key alone.
 pub fn changed_file_changes_the_map()
     ensures { (bits : ℕ → ℕ) (opens : set.FinSet nat_cmp) (root key n i : ℕ) (value : Option ℕ)
         (after : Slot) (seen : SeenPages) (rest own : FilePages)

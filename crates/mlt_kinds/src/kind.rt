@@ -25,14 +25,18 @@ pub trait Kind {
     /// The state before an operation that was told the reply and led to `state`.
     fn undo(state: &Self::State, op: &Self::Op, reply: &Self::Reply) -> Self::State
         requires { (before : Self.State) × step before op.now reply.now state.now }
-        ensures { (before : Self.State) → step before op.now reply.now state.now → result ≡ before };
+        ensures { (before : Self.State) → step before op.now reply.now state.now
+            → result ≡ before };
 
     /// For each state and operation there is one legal reply, and one state after.
-    ghost one_answer: { (s : Self.State) (o : Self.Op) (r q : Self.Reply) (t u : Self.State) → step s o r t → step s o q u → (r ≡ q) × (t ≡ u) };
+    ghost one_answer: { (s : Self.State) (o : Self.Op) (r q : Self.Reply) (t u : Self.State)
+        → step s o r t → step s o q u → (r ≡ q) × (t ≡ u) };
 
     /// The state after fixes the state before.
-    ghost one_start: { (s u t : Self.State) (o : Self.Op) (r : Self.Reply) → step s o r t → step u o r t → s ≡ u };
+    ghost one_start: { (s u t : Self.State) (o : Self.Op) (r : Self.Reply) → step s o r t
+        → step u o r t → s ≡ u };
 
     /// A step leads from a state to a state.
-    ghost stays_state: { (s t : Self.State) (o : Self.Op) (r : Self.Reply) → step s o r t → is_state s × is_state t };
+    ghost stays_state: { (s t : Self.State) (o : Self.Op) (r : Self.Reply) → step s o r t
+        → is_state s × is_state t };
 }

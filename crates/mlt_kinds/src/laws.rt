@@ -14,9 +14,12 @@ ghost use Rattle.mlt_types.specs.declared.cell.Cell.{Cell};
 /// the cell that an operation is on is a step of the base.
 pub fn steps_of_bases_are_fixed()
     ensures cells { (b d : Base) → ((c : Cell) → state_at b c ≡ state_at d c) → b ≡ d }
-    ensures one_answer { (b c d : Base) (op : ObjOp) (r q : ObjReply) → Step b (op, r) c → Step b (op, q) d → (r ≡ q) × (c ≡ d) }
-    ensures one_start { (b c d : Base) (op : ObjOp) (r : ObjReply) → Step b (op, r) d → Step c (op, r) d → b ≡ c }
-    ensures of_the_cell { (b : Base) (x : ObjOp × ObjReply) (s : CellState) → CellStep (state_at b (cell_of x.0)) x s
+    ensures one_answer { (b c d : Base) (op : ObjOp) (r q : ObjReply) → Step b (op, r) c
+        → Step b (op, q) d → (r ≡ q) × (c ≡ d) }
+    ensures one_start { (b c d : Base) (op : ObjOp) (r : ObjReply) → Step b (op, r) d
+        → Step c (op, r) d → b ≡ c }
+    ensures of_the_cell { (b : Base) (x : ObjOp × ObjReply) (s : CellState)
+        → CellStep (state_at b (cell_of x.0)) x s
         → Step b x (with_state b (cell_of x.0) s) }
 {}
 
@@ -24,5 +27,6 @@ pub fn steps_of_bases_are_fixed()
 /// so on the cell: then the second may come before the first, with the same end.
 pub fn steps_of_bases_pass()
     ensures apart { (p q : ObjOp × ObjReply) → cell_of p.0 ≢ cell_of q.0 → Passes p q }
-    ensures on_one_cell { (p q : ObjOp × ObjReply) → cell_of p.0 ≡ cell_of q.0 → PassesOnCell p q → Passes p q }
+    ensures on_one_cell { (p q : ObjOp × ObjReply) → cell_of p.0 ≡ cell_of q.0 → PassesOnCell p q
+        → Passes p q }
 {}

@@ -30,7 +30,8 @@ impl Model for ObjectLocks {
 
     ghost view = { λ locks. record { held = locks.held.items; reserved = locks.reserved.items } };
 
-    ghost invariant = { λ locks. vec_len locks.held + vec_len locks.reserved ≤ vec_capacity locks.held };
+    ghost invariant = { λ locks.
+        vec_len locks.held + vec_len locks.reserved ≤ vec_capacity locks.held };
 }
 
 impl ObjectLocks {
@@ -73,7 +74,8 @@ impl ObjectLocks {
     #[tactic(auto, using(crate::proofs::Entries::reservation_of_other, crate::proofs::Entries::reservation_removed, crate::proofs::Entries::fewer_left))]
     pub fn ask(&mut self, tx: TxId, done: &Done) -> Result<(), TxId>
         requires { reservation_of self.old.reserved tx ≡ Some (cell_of done.now.0) }
-        ensures free { OnOk result ((holder : ℕ) → HoldsClash self.old.held tx done.now holder → ⊥) }
+        ensures free { OnOk result
+            ((holder : ℕ) → HoldsClash self.old.held tx done.now holder → ⊥) }
         ensures granted { OnOk result (self.new.held ≡ self.old.held ++ (tx, done.now) ∷ []) }
         ensures used { OnOk result (reservation_of self.new.reserved tx ≡ None) }
         ensures others { SameReservations self.old.reserved self.new.reserved tx }

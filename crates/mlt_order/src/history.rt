@@ -21,8 +21,10 @@ pub fn every_history_is_serializable<T: Steps>()
 
 /// The last item of a running transaction can always be taken back, and that leads to one state.
 pub fn last_item_can_be_taken_back<T: Steps>()
-    ensures { (start state : T.State) (history : List (Entry T.Item)) (i : ℕ) (rest : List T.Item) (item : T.Item)
-        → IsHistory T.step start history state → (lists_of history).transcripts i ≡ rest ++ item ∷ []
+    ensures { (start state : T.State) (history : List (Entry T.Item)) (i : ℕ) (rest : List T.Item)
+        (item : T.Item)
+        → IsHistory T.step start history state
+        → (lists_of history).transcripts i ≡ rest ++ item ∷ []
         → (earlier : T.State) × T.step earlier item state
         × ((other : T.State) → T.step other item state → other ≡ earlier) }
 {}
@@ -30,7 +32,8 @@ pub fn last_item_can_be_taken_back<T: Steps>()
 /// A history grows at its end by an entry that may come, and its lists by that entry; each front of a history
 /// is one.
 pub fn history_grows<T: Steps>()
-    ensures grows { (start state next : T.State) (history : List (Entry T.Item)) (entry : Entry T.Item)
+    ensures grows { (start state next : T.State) (history : List (Entry T.Item))
+        (entry : Entry T.Item)
         → IsHistory T.step start history state → MayCome T.step (lists_of history) state entry next
         → IsHistory T.step start (history ++ entry ∷ []) next }
     ensures lists { (history : List (Entry T.Item)) (entry : Entry T.Item)
@@ -61,7 +64,8 @@ pub fn lists_tell_what_was_begun_and_done<T: Steps>()
 pub fn lists_hold_what_is_open<T: Steps>()
     ensures held { (start state : T.State) (history : List (Entry T.Item)) (i : ℕ) (item : T.Item)
         → IsHistory T.step start history state
-        → Contains ((lists_of history).transcripts i) item → Contains ((lists_of history).held i) item }
+        → Contains ((lists_of history).transcripts i) item
+        → Contains ((lists_of history).held i) item }
     ensures running { (start state : T.State) (history : List (Entry T.Item)) (i : ℕ)
         → IsHistory T.step start history state → (lists_of history).stage i ≢ Running
         → ((lists_of history).transcripts i ≡ []) × ((lists_of history).held i ≡ []) }

@@ -30,7 +30,8 @@ pub fn done_keeps_undone_to<T: Steps>()
 /// The last item of a transaction can be taken back: one state leads here by it, and of that state the
 /// base is left.
 pub fn undo_keeps_undone_to<T: Steps>()
-    ensures keeps { (base state earlier : T.State) (i : ℕ) (item : T.Item) (before after : ℕ → List T.Item)
+    ensures keeps { (base state earlier : T.State) (i : ℕ) (item : T.Item)
+        (before after : ℕ → List T.Item)
         → Gains after before i item → T.step earlier item state
         → UndoneTo T.step base before state → UndoneTo T.step base after earlier }
     ensures goes { (base state : T.State) (i : ℕ) (item : T.Item) (before after : ℕ → List T.Item)
@@ -49,9 +50,12 @@ pub fn commit_keeps_undone_to<T: Steps>()
 /// At most one base is left when the open transcripts are undone, the state itself where none is open, and at
 /// most one is reached by transcripts that run one after another.
 pub fn one_base_fits<T: Steps>()
-    ensures undone { (one other state : T.State) (transcripts : ℕ → List T.Item) → AreFinitelyMany transcripts
-        → UndoneTo T.step one transcripts state → UndoneTo T.step other transcripts state → one ≡ other }
-    ensures nothing_open { (base state : T.State) (transcripts : ℕ → List T.Item) → ((i : ℕ) → transcripts i ≡ [])
+    ensures undone { (one other state : T.State) (transcripts : ℕ → List T.Item)
+        → AreFinitelyMany transcripts
+        → UndoneTo T.step one transcripts state → UndoneTo T.step other transcripts state
+        → one ≡ other }
+    ensures nothing_open { (base state : T.State) (transcripts : ℕ → List T.Item)
+        → ((i : ℕ) → transcripts i ≡ [])
         → UndoneTo T.step base transcripts state → base ≡ state }
     ensures serial { (start one other : T.State) (transcripts : List (List T.Item))
         → IsSerialBase T.step start transcripts one → IsSerialBase T.step start transcripts other

@@ -33,7 +33,9 @@ fn fill(table: &mut Vec<Vec<Script>>, scripts: Vec<Script>) -> Result<(), AllocE
 
 /// Adds a client's scripts, if there are any, which came the last one first.
 fn push_part(parts: &mut Vec<Vec<Script>>, part: Vec<Script>) -> Result<(), AllocError>
-    ensures { OnOk result (map (λ list. list.items) parts.new.items ≡ map (λ list. list.items) parts.old.items ++ if_any (reverse part.items)) }
+    ensures { OnOk result
+        (map (λ list. list.items) parts.new.items
+        ≡ map (λ list. list.items) parts.old.items ++ if_any (reverse part.items)) }
 {
     let mut part = part;
     if part.is_empty() {
@@ -49,7 +51,8 @@ fn push_part(parts: &mut Vec<Vec<Script>>, part: Vec<Script>) -> Result<(), Allo
 /// # Errors
 /// `OutOfMemory`, where a growth was refused.
 pub fn by_client(alloc: Global, scripts: Vec<Script>) -> Result<Vec<Vec<Script>>, Refusal>
-    ensures parts { IfOk result (λ parts. map (λ part. part.items) parts.items ≡ parts_of scripts.items) }
+    ensures parts { IfOk result
+        (λ parts. map (λ part. part.items) parts.items ≡ parts_of scripts.items) }
     ensures refusal { IfErr result (λ refusal. refusal ≡ Refusal.OutOfMemory) }
 {
     let mut table = empty_table(alloc)?;

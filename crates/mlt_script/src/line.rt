@@ -19,7 +19,8 @@ fn find_lf(text: &[u8]) -> Option<usize>
 /// The first line without its LF, whether an LF ends it, and the text after it.
 pub fn first_line(text: &[u8]) -> (&[u8], bool, &[u8])
     requires { 0 < length text.now }
-    ensures first { lines text.now ≡ record { bytes = result.0.now; ended = result.1 } ∷ lines result.2.now }
+    ensures first { lines text.now
+        ≡ record { bytes = result.0.now; ended = result.1 } ∷ lines result.2.now }
     ensures less { length result.2.now < length text.now }
 {
     match find_lf(text) {

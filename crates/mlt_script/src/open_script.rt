@@ -90,7 +90,9 @@ impl OpenScript {
     fn ask(self, statement: Statement) -> Result<OpenScript, AllocError>
         requires { line_fault (open_of self.lines.items) (Line.Plain statement) ≡ None }
         ensures client { IfOk result (λ script. script.client ≡ self.client) }
-        ensures lines { IfOk result (λ script. open_of script.lines.items ≡ one_more (open_of self.lines.items) (Line.Plain statement)) }
+        ensures lines { IfOk result
+            (λ script. open_of script.lines.items
+            ≡ one_more (open_of self.lines.items) (Line.Plain statement)) }
     {
         let OpenScript {
             client,
@@ -110,7 +112,9 @@ impl OpenScript {
     fn open(self, asking: Asking, wanted: Wanted) -> Result<OpenScript, AllocError>
         requires { line_fault (open_of self.lines.items) (Line.If asking wanted) ≡ None }
         ensures client { IfOk result (λ script. script.client ≡ self.client) }
-        ensures lines { IfOk result (λ script. open_of script.lines.items ≡ one_more (open_of self.lines.items) (Line.If asking wanted)) }
+        ensures lines { IfOk result
+            (λ script. open_of script.lines.items
+            ≡ one_more (open_of self.lines.items) (Line.If asking wanted)) }
     {
         let OpenScript {
             client,
@@ -135,7 +139,8 @@ impl OpenScript {
     fn turn(self) -> Result<OpenScript, AllocError>
         requires { line_fault (open_of self.lines.items) Line.Else ≡ None }
         ensures client { IfOk result (λ script. script.client ≡ self.client) }
-        ensures lines { IfOk result (λ script. open_of script.lines.items ≡ one_more (open_of self.lines.items) Line.Else) }
+        ensures lines { IfOk result
+            (λ script. open_of script.lines.items ≡ one_more (open_of self.lines.items) Line.Else) }
     {
         let OpenScript {
             client,
@@ -164,7 +169,8 @@ impl OpenScript {
     fn close(self) -> Result<OpenScript, AllocError>
         requires { line_fault (open_of self.lines.items) Line.End ≡ None }
         ensures client { IfOk result (λ script. script.client ≡ self.client) }
-        ensures lines { IfOk result (λ script. open_of script.lines.items ≡ one_more (open_of self.lines.items) Line.End) }
+        ensures lines { IfOk result
+            (λ script. open_of script.lines.items ≡ one_more (open_of self.lines.items) Line.End) }
     {
         let OpenScript {
             client,
@@ -193,7 +199,8 @@ impl OpenScript {
     pub fn say(self, line: Line) -> Result<OpenScript, AllocError>
         requires { line_fault (open_of self.lines.items) line ≡ None }
         ensures client { IfOk result (λ script. script.client ≡ self.client) }
-        ensures lines { IfOk result (λ script. open_of script.lines.items ≡ one_more (open_of self.lines.items) line) }
+        ensures lines { IfOk result
+            (λ script. open_of script.lines.items ≡ one_more (open_of self.lines.items) line) }
     {
         match line {
             Line::Plain(statement) => self.ask(statement),

@@ -48,7 +48,8 @@ impl Parser {
     /// Goes over a line outside a script.
     fn begin(&mut self, alloc: Global, line: u64, form: LineForm) -> Result<(), Refusal>
         requires { IsReading (Reading.Form form) }
-        ensures { Advances result line (step (Outside self.old.scripts.items) form) (state_of self.new) }
+        ensures { Advances result line (step (Outside self.old.scripts.items) form)
+            (state_of self.new) }
     {
         match form {
             LineForm::Begins(client) => {
@@ -61,7 +62,9 @@ impl Parser {
 
     /// Ends the script that is open.
     fn close(&mut self, script: OpenScript, line: u64, ending: Ending) -> Result<(), Refusal>
-        ensures { Advances result line (ended self.old.scripts.items script.client (open_of script.lines.items) ending) (state_of self.new) }
+        ensures { Advances result line
+            (ended self.old.scripts.items script.client (open_of script.lines.items) ending)
+            (state_of self.new) }
     {
         if !script.ifs.is_empty() {
             return Err(misplaced(line));
@@ -79,7 +82,9 @@ impl Parser {
 
     /// Goes over a line inside a script.
     fn go_on(&mut self, script: OpenScript, line: u64, form: LineForm) -> Result<(), Refusal>
-        ensures { Advances result line (step (Inside self.old.scripts.items script.client (open_of script.lines.items)) form) (state_of self.new) }
+        ensures { Advances result line
+            (step (Inside self.old.scripts.items script.client (open_of script.lines.items)) form)
+            (state_of self.new) }
     {
         match form {
             LineForm::Begins(_) => Err(misplaced(line)),
@@ -108,7 +113,9 @@ impl Parser {
 
     /// Goes over a line.
     fn read(&mut self, alloc: Global, line: u64, bytes: &[u8], ended: bool) -> Result<(), Refusal>
-        ensures { Advances result line (advance (state_of self.old) (reading record { bytes = bytes.now; ended = ended })) (state_of self.new) }
+        ensures { Advances result line
+            (advance (state_of self.old) (reading record { bytes = bytes.now; ended = ended }))
+            (state_of self.new) }
     {
         match read_line(bytes, ended) {
             Reading::Bad(cause) => Err(Refusal::ScriptFault { line, cause }),
@@ -156,10 +163,14 @@ fn read_lines(alloc: Global, text: &[u8]) -> Result<Vec<Script>, Refusal>
 pub fn parse(alloc: Global, text: &[u8]) -> Result<Vec<Script>, Refusal>
     ensures spelled { IfOk result (λ scripts. Spells text.now scripts.items) }
     ensures accepted { (scripts : List ScriptForm) → Spells text.now scripts
-        → MatchResult result (λ found. found.items ≡ scripts) (λ refusal. refusal ≡ Refusal.OutOfMemory) }
-    ensures fault { (line : ℕ) (cause : ScriptCause) → result ≡ Err (Refusal.ScriptFault line cause) → IsFirstFault text.now line cause }
+        → MatchResult result (λ found. found.items ≡ scripts)
+        (λ refusal. refusal ≡ Refusal.OutOfMemory) }
+    ensures fault { (line : ℕ) (cause : ScriptCause) → result ≡ Err (Refusal.ScriptFault line cause)
+        → IsFirstFault text.now line cause }
     ensures faulty { (line : ℕ) (cause : ScriptCause) → IsFirstFault text.now line cause
-        → IsErrAnd result (λ refusal. (refusal ≡ Refusal.ScriptFault line cause) ⊎ (refusal ≡ Refusal.OutOfMemory)) }
+        → IsErrAnd result
+        (λ refusal. (refusal ≡ Refusal.ScriptFault line cause)
+        ⊎ (refusal ≡ Refusal.OutOfMemory)) }
     ensures refusals { IfErr result (λ refusal. (refusal ≡ Refusal.OutOfMemory)
         ⊎ ((line : ℕ) × (cause : ScriptCause) × (refusal ≡ Refusal.ScriptFault line cause))) }
     ensures decided { IsDecided text.now }

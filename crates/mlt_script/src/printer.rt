@@ -132,7 +132,8 @@ impl fmt::Display for Ending {
 }
 
 fn push_begin(text: &mut String, client: u16) -> Result<(), AllocError>
-    ensures { OnOk result (string_bytes text.new ≡ string_bytes text.old ++ as_line (begin_text client)) }
+    ensures { OnOk result
+        (string_bytes text.new ≡ string_bytes text.old ++ as_line (begin_text client)) }
 {
     if client == 0 {
         writeln!(text, "begin")
@@ -142,7 +143,8 @@ fn push_begin(text: &mut String, client: u16) -> Result<(), AllocError>
 }
 
 fn push_ending(text: &mut String, ending: Ending) -> Result<(), AllocError>
-    ensures { OnOk result (string_bytes text.new ≡ string_bytes text.old ++ as_line (ending_text ending)) }
+    ensures { OnOk result
+        (string_bytes text.new ≡ string_bytes text.old ++ as_line (ending_text ending)) }
 {
     writeln!(text, "{ending}")
 }
@@ -174,7 +176,8 @@ fn idle(line: Line, after: &[Line]) -> bool
 }
 
 fn push_line(text: &mut String, line: Line, after: &[Line]) -> Result<(), AllocError>
-    ensures { OnOk result (string_bytes text.new ≡ string_bytes text.old ++ shown_line line after.now) }
+    ensures { OnOk result
+        (string_bytes text.new ≡ string_bytes text.old ++ shown_line line after.now) }
 {
     if idle(line, after) {
         return Ok(());
@@ -197,7 +200,8 @@ fn push_lines(text: &mut String, lines: &[Line]) -> Result<(), AllocError>
 }
 
 fn push_script(text: &mut String, script: &Script) -> Result<(), AllocError>
-    ensures text { OnOk result (string_bytes text.new ≡ string_bytes text.old ++ script_text script.now) }
+    ensures text { OnOk result
+        (string_bytes text.new ≡ string_bytes text.old ++ script_text script.now) }
     ensures again { OnOk result (IsScriptAgain script.now) }
 {
     push_begin(text, script.client())?;

@@ -26,7 +26,8 @@ impl Model for Script {
 
     ghost coded = { coded_script };
 
-    ghost view = { λ s. record { client = s.client; block = tree_of s.lines.items; ending = s.ending } };
+    ghost view = { λ s.
+        record { client = s.client; block = tree_of s.lines.items; ending = s.ending } };
 
     ghost invariant = { λ s. (s.client < 1000) × (lines_of (tree_of s.lines.items) ≡ s.lines.items)
         × (longest (tree_of s.lines.items) ≤ 256) × (nesting (tree_of s.lines.items) ≤ 16) };
@@ -39,7 +40,8 @@ impl Script {
         requires lines { lines_of (tree_of lines.items) ≡ lines.items }
         requires longest { longest (tree_of lines.items) ≤ 256 }
         requires nesting { nesting (tree_of lines.items) ≤ 16 }
-        ensures { result ≡ record { client = client; block = tree_of lines.items; ending = ending } }
+        ensures { result
+            ≡ record { client = client; block = tree_of lines.items; ending = ending } }
     {
         Script {
             client,

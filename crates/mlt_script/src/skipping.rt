@@ -69,7 +69,8 @@ pub fn settled(lines: &[Line], at: usize, skipping: Skipping) -> usize
     ensures from { at ≤ result }
     ensures within { result ≤ length lines.now }
     ensures settled { is_settled (drop result lines.now) ≡ true }
-    ensures same { (vs : Variables) (end : Ending) → run (drop result lines.now) Nowhere vs end ≡ run (drop at lines.now) skipping vs end }
+    ensures same { (vs : Variables) (end : Ending)
+        → run (drop result lines.now) Nowhere vs end ≡ run (drop at lines.now) skipping vs end }
 {
     let mut place = at;
     let mut skipping = skipping;

@@ -50,7 +50,8 @@ fn push_end(text: &mut String, end: End) -> Result<(), AllocError>
 }
 
 fn push_outcome(text: &mut String, outcome: &Outcome) -> Result<(), AllocError>
-    ensures { OnOk result (string_bytes text.new ≡ string_bytes text.old ++ outcome_text outcome.now) }
+    ensures { OnOk result
+        (string_bytes text.new ≡ string_bytes text.old ++ outcome_text outcome.now) }
 {
     for done in outcome.done.as_slice() {
         let reply = done.reply();
@@ -60,7 +61,8 @@ fn push_outcome(text: &mut String, outcome: &Outcome) -> Result<(), AllocError>
 }
 
 fn push_script(text: &mut String, outcome: &Outcome) -> Result<(), AllocError>
-    ensures { OnOk result (string_bytes text.new ≡ string_bytes text.old ++ script_line outcome.now) }
+    ensures { OnOk result
+        (string_bytes text.new ≡ string_bytes text.old ++ script_line outcome.now) }
 {
     let client = outcome.client;
     let number = outcome.number;
@@ -78,7 +80,8 @@ fn solo_text(alloc: Global, outcomes: &[Outcome]) -> Result<String, AllocError>
 }
 
 fn run_text(alloc: Global, outcomes: &[Outcome]) -> Result<String, AllocError>
-    ensures { IfOk result (λ text. string_bytes text ≡ flat_map (λ o. script_line o ++ outcome_text o) outcomes.now) }
+    ensures { IfOk result
+        (λ text. string_bytes text ≡ flat_map (λ o. script_line o ++ outcome_text o) outcomes.now) }
 {
     let mut text = String::new(alloc);
     for outcome in outcomes {
@@ -89,7 +92,8 @@ fn run_text(alloc: Global, outcomes: &[Outcome]) -> Result<String, AllocError>
 }
 
 fn text_of(alloc: Global, report: &Report, form: Form) -> Result<Vec<u8>, Refusal>
-    ensures text { IfOk result (λ text. text.items ≡ report_text form report.now.outcomes report.now.base) }
+    ensures text { IfOk result
+        (λ text. text.items ≡ report_text form report.now.outcomes report.now.base) }
     ensures refusal { IfErr result (λ refusal. refusal ≡ Refusal.OutOfMemory) }
 {
     let outcomes = report.outcomes.as_slice();
@@ -115,10 +119,16 @@ pub fn write_report<W: Write>(
     form: Form,
     writer: &mut W,
 ) -> Result<(), Refusal>
-    ensures ok { OnOk result (Appends (W.contents writer.old) (W.contents writer.new) (report_text form report.now.outcomes report.now.base)) }
-    ensures memory { IsErrOf result Refusal.OutOfMemory → Keeps (W.contents writer.old) (W.contents writer.new) }
-    ensures io { IsErrOf result Refusal.Io → AppendsFront (W.contents writer.old) (W.contents writer.new) (report_text form report.now.outcomes report.now.base) }
-    ensures refusal { IfErr result (λ refusal. (refusal ≡ Refusal.OutOfMemory) ⊎ (refusal ≡ Refusal.Io)) }
+    ensures ok { OnOk result
+        (Appends (W.contents writer.old) (W.contents writer.new)
+        (report_text form report.now.outcomes report.now.base)) }
+    ensures memory { IsErrOf result Refusal.OutOfMemory
+        → Keeps (W.contents writer.old) (W.contents writer.new) }
+    ensures io { IsErrOf result Refusal.Io
+        → AppendsFront (W.contents writer.old) (W.contents writer.new)
+        (report_text form report.now.outcomes report.now.base) }
+    ensures refusal { IfErr result
+        (λ refusal. (refusal ≡ Refusal.OutOfMemory) ⊎ (refusal ≡ Refusal.Io)) }
 {
     let text = text_of(alloc, report, form)?;
     write_text(writer, text.as_slice())

@@ -50,8 +50,11 @@ fn attempt(
 ) -> Result<End, Refusal>
     requires empty { done.old.items ≡ [] }
     requires commits { commits < 2 ^ 63 }
-    ensures run { IfOk result (λ end. IsRun script.now base.old commits done.new.items end base.new (commits_after commits end)) }
-    ensures mark { (refusal : RefusalForm) → result ≡ Ok (End.Refused refusal) → refusal ≡ Refusal.OutOfMemory }
+    ensures run { IfOk result (λ end.
+        IsRun script.now base.old commits done.new.items end base.new
+        (commits_after commits end)) }
+    ensures mark { (refusal : RefusalForm) → result ≡ Ok (End.Refused refusal)
+        → refusal ≡ Refusal.OutOfMemory }
     ensures refusal { IfErr result (λ refusal. refusal ≡ Refusal.OutOfMemory) }
 {
     let end = match play(script, base, done) {
@@ -75,11 +78,15 @@ fn run_alone(
     base: &mut Base,
 ) -> Result<Outcome, Refusal>
     requires { commits < 2 ^ 63 }
-    ensures run { IfOk result (λ outcome. IsRun script.now base.old commits outcome.done outcome.end base.new (commits_after commits outcome.end)) }
+    ensures run { IfOk result (λ outcome.
+        IsRun script.now base.old commits outcome.done outcome.end base.new
+        (commits_after commits outcome.end)) }
     ensures client { IfOk result (λ outcome. outcome.client ≡ script.now.client) }
     ensures number { IfOk result (λ outcome. outcome.number ≡ number) }
     ensures tx { IfOk result (λ outcome. outcome.tx ≡ 0) }
-    ensures mark { IfOk result (λ outcome. (refusal : RefusalForm) → outcome.end ≡ End.Refused refusal → refusal ≡ Refusal.OutOfMemory) }
+    ensures mark { IfOk result
+        (λ outcome. (refusal : RefusalForm) → outcome.end ≡ End.Refused refusal
+        → refusal ≡ Refusal.OutOfMemory) }
     ensures refusal { IfErr result (λ refusal. refusal ≡ Refusal.OutOfMemory) }
 {
     let mut done = Vec::new(alloc);
@@ -116,10 +123,13 @@ fn no_scripts() -> [u64; 1_000]
 /// # Errors
 /// `OutOfMemory`, where a growth of the report's own was refused, or one while a script was taken back.
 pub fn serial_with_marks(alloc: Global, scripts: &[Script]) -> Result<Report, Refusal>
-    ensures run { IfOk result (λ report. IsSerialRun scripts.now (map mark_of report.outcomes) report.outcomes report.base) }
-    ensures marks { IfOk result (λ report. AreMarksOf Refusal.OutOfMemory (map mark_of report.outcomes)) }
+    ensures run { IfOk result (λ report.
+        IsSerialRun scripts.now (map mark_of report.outcomes) report.outcomes report.base) }
+    ensures marks { IfOk result
+        (λ report. AreMarksOf Refusal.OutOfMemory (map mark_of report.outcomes)) }
     ensures numbered { IfOk result (λ report. AreNumbered [] scripts.now report.outcomes) }
-    ensures without_manager { IfOk result (λ report. (report.events ≡ 0) × AreWithoutTx report.outcomes) }
+    ensures without_manager { IfOk result
+        (λ report. (report.events ≡ 0) × AreWithoutTx report.outcomes) }
     ensures refusal { IfErr result (λ refusal. refusal ≡ Refusal.OutOfMemory) }
 {
     let mut base = Base::new(alloc);
@@ -146,9 +156,11 @@ pub fn serial_with_marks(alloc: Global, scripts: &[Script]) -> Result<Report, Re
 /// # Errors
 /// `OutOfMemory`, where a growth was refused, of a script or of the report.
 pub fn serial(alloc: Global, scripts: &[Script]) -> Result<Report, Refusal>
-    ensures run { IfOk result (λ report. IsSerialRun scripts.now (unmarked scripts.now) report.outcomes report.base) }
+    ensures run { IfOk result
+        (λ report. IsSerialRun scripts.now (unmarked scripts.now) report.outcomes report.base) }
     ensures numbered { IfOk result (λ report. AreNumbered [] scripts.now report.outcomes) }
-    ensures without_manager { IfOk result (λ report. (report.events ≡ 0) × AreWithoutTx report.outcomes) }
+    ensures without_manager { IfOk result
+        (λ report. (report.events ≡ 0) × AreWithoutTx report.outcomes) }
     ensures refusal { IfErr result (λ refusal. refusal ≡ Refusal.OutOfMemory) }
 {
     let report = serial_with_marks(alloc, scripts)?;
@@ -163,7 +175,8 @@ pub fn serial(alloc: Global, scripts: &[Script]) -> Result<Report, Refusal>
 
 /// The scripts and their marks fix what is told of each script, and the base that is reached.
 pub fn scripts_and_marks_fix_the_run()
-    ensures { (scripts : List ScriptForm) (marks : List (Option (ℕ × RefusalForm))) (one other : List OutcomeForm) (reached last : ObjectBase)
+    ensures { (scripts : List ScriptForm) (marks : List (Option (ℕ × RefusalForm)))
+        (one other : List OutcomeForm) (reached last : ObjectBase)
         → IsSerialRun scripts marks one reached → IsSerialRun scripts marks other last
         → (map story_of one ≡ map story_of other) × (reached ≡ last) }
 {}

@@ -46,7 +46,8 @@ fn opposite(done: &Done) -> Option<ObjOp>
 /// # Errors
 /// `OutOfMemory`, where a growth was refused.
 pub fn take_back(base: &mut Base, done: &[Done]) -> Result<(), Refusal>
-    ensures ok { OnOk result ((before : ObjectBase) → Runs before done.now base.old → base.new ≡ before) }
+    ensures ok { OnOk result
+        ((before : ObjectBase) → Runs before done.now base.old → base.new ≡ before) }
     ensures refusal { IfErr result (λ refusal. refusal ≡ Refusal.OutOfMemory) }
 {
     let mut left = done.len();

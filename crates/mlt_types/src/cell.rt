@@ -44,7 +44,8 @@ impl Key {
     /// `3 * 2^48 + s * 2^32 + e` for element `e` of set `s`. No other cell has it.
     pub fn of(cell: &Cell) -> Key
         ensures number { result ≡ key_number cell.now }
-        ensures apart { (other : Cell) → IsInRange other → key_number other ≡ result → other ≡ cell.now }
+        ensures apart { (other : Cell) → IsInRange other → key_number other ≡ result
+            → other ≡ cell.now }
     {
         let number = match *cell {
             Cell::Account(account) => ACCOUNTS + u64::from(account),

@@ -34,8 +34,10 @@ impl Limits {
         max_ops: u32,
     ) -> Result<Limits, Refusal>
         ensures in_range { IsOk result ↔ AreInRange max_open max_ids max_pages max_depth max_ops }
-        ensures fields { IfOk result (λ limits. (limits.max_open ≡ max_open) × (limits.max_ids ≡ max_ids)
-            × (limits.max_pages ≡ max_pages) × (limits.max_depth ≡ max_depth) × (limits.max_ops ≡ max_ops)) }
+        ensures fields { IfOk result
+            (λ limits. (limits.max_open ≡ max_open) × (limits.max_ids ≡ max_ids)
+            × (limits.max_pages ≡ max_pages) × (limits.max_depth ≡ max_depth)
+            × (limits.max_ops ≡ max_ops)) }
         ensures refusal { IfErr result (λ refusal. refusal ≡ Refusal.BadLimits) }
     {
         let in_range = (1..=64).contains(&max_open)

@@ -22,7 +22,8 @@ impl Model for UndoList {
 
     ghost Value = { Undo };
 
-    ghost view = { λ list. record { entries = list.done.items; spare = vec_capacity list.done - vec_len list.done } };
+    ghost view = { λ list.
+        record { entries = list.done.items; spare = vec_capacity list.done - vec_len list.done } };
 }
 
 impl UndoList {

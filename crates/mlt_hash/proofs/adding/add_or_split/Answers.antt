@@ -6,7 +6,7 @@ use Rattle.mlt_page.specs.declared.slot.Slot.TheVariants.{Live}
 use Rattle.mlt_held.specs.Moments.{Moment, moment}
 use Rattle.mlt_held.specs.Views.{view_of}
 use Rattle.mlt_record.specs.Plans.{has_room}
-use Rattle.mlt_split.specs.Splits.{IsUnderWay, MayBegin}
+use Rattle.mlt_split.specs.Splits.{HasHalves, IsUnderWay, MayBegin}
 use Rattle.mlt_split.specs.Rests.{Aim, IsAtRest}
 use Rattle.mlt_split.proofs.HeldPages.{clean_now}
 use Rattle.mlt_hash.specs.Walks.{Basis, WalkFields, aim_of, basis_by}
@@ -85,9 +85,10 @@ returns-in-Ok-clause-tells g c =
     let under_way = subst (λ (a : Aim). IsUnderWay a (view_of new) c.in-Ok.split) same c.in-Ok.ensures.under_way in
     let rest : IsAtRest aim (view_of old) c.args.number adds.header adds.fields = subst (λ (a : Aim). IsAtRest a (view_of old) c.args.number adds.header adds.fields) (sym same) adds.rest in
     let depths = c.in-Ok.ensures.depths adds.header adds.fields rest in
+    let halves = subst (λ (a : Aim). HasHalves a new.store.pages adds.fields c.in-Ok.split) same (c.in-Ok.ensures.halves adds.fields adds.rest.found) in
     elim c.keep_split.ensures.told [
       | inl going ↦
-          let begun = begins_split basis walk c.keep_split.new.walk old new c.args.value c.args.number c.args.room_depth c.args.unsplit c.in-Ok.split c.in-Ok.ensures.makes.0 c.requires.1.1.1.may c.in-Ok.ensures.makes.1 adds needed under_way c.in-Ok.ensures.steps depths.0 depths.1 (c.keep_split.ensures.kept going) in
+          let begun = begins_split basis walk c.keep_split.new.walk old new c.args.value c.args.number c.args.room_depth c.args.unsplit c.in-Ok.split c.in-Ok.ensures.makes.0 c.requires.1.1.1.may c.in-Ok.ensures.makes.1 adds needed under_way c.in-Ok.ensures.steps depths.0 depths.1 halves (c.keep_split.ensures.kept going) in
           subst (λ r. TellsOfAdding basis old new walk c.keep_split.new.walk c.args.value c.args.number c.args.room_depth r) (sym going) begun
       | inr refused ↦ subst (λ r. TellsOfAdding basis old new walk c.keep_split.new.walk c.args.value c.args.number c.args.room_depth r) (sym refused) refl
     ]
