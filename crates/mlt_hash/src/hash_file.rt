@@ -50,7 +50,8 @@ impl<P: Pseudo> Model for HashFile<P> {
     } };
 
     ghost invariant = { λ f. IsIdle f.runner
-        × IsHashFile (P.bits_of f.root.pseudo) (page_at f.runner.store.pages) f.root.page f.root.max_depth };
+        × IsHashFile (P.bits_of f.root.pseudo) (page_at f.runner.store.pages)
+        f.root.page f.root.max_depth };
 }
 
 impl<P: Pseudo> HashFile<P> {
@@ -154,7 +155,8 @@ impl<P: Pseudo> HashFile<P> {
     /// Removes a key's record.
     pub fn remove(&mut self, key: Key)
         requires present { IsSome (map.get (live_records self.old.pages) key) }
-        ensures records { live_records self.new.pages ≡ map.remove (live_records self.old.pages) key }
+        ensures records { live_records self.new.pages
+            ≡ map.remove (live_records self.old.pages) key }
         ensures limits { self.new ≡ record self.old { pages = self.new.pages } }
         ensures file { IsFileOf P.bits_of self.new }
     {

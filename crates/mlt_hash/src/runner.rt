@@ -46,7 +46,8 @@ impl Model for Runner {
 
     ghost view = { λ runner. moment runner.subtx runner.pages };
 
-    ghost invariant = { λ runner. IsAlone (moment runner.subtx runner.pages) × (runner.opens ≡ set.empty) };
+    ghost invariant = { λ runner. IsAlone (moment runner.subtx runner.pages)
+        × (runner.opens ≡ set.empty) };
 }
 
 impl Runner {
@@ -54,7 +55,8 @@ impl Runner {
     pub(crate) fn step<P: Pseudo>(&mut self, walk: &mut Walk, root: &Root<P>) -> WalkAnswer
         requires under_way { IsUnderWay walk.old.phase }
         requires file { IsFileBefore P.bits_of root.now self.old }
-        requires stands { IsStanding (basis_alone P.bits_of root.now self.old) walk.old (view_of self.old) }
+        requires stands { IsStanding (basis_alone P.bits_of root.now self.old) walk.old
+            (view_of self.old) }
         ensures keeps { KeepsBefore self.old self.new }
         ensures tells { TellsAt walk.old.phase (basis_alone P.bits_of root.now self.old)
             self.old self.new walk.old walk.new result }
@@ -210,7 +212,8 @@ impl Runner {
         requires mode { walk.old.mode ≡ Mode.Exclusive }
         requires found { IsAtRecord walk.old.phase }
         requires file { IsFileBefore P.bits_of root.now self.old }
-        requires stands { IsStanding (basis_alone P.bits_of root.now self.old) walk.old (view_of self.old) }
+        requires stands { IsStanding (basis_alone P.bits_of root.now self.old) walk.old
+            (view_of self.old) }
         ensures keeps { KeepsBefore self.old self.new }
         ensures changes { HasChanged (basis_alone P.bits_of root.now self.old)
             self.new walk.old.key (Some value) }
@@ -223,7 +226,8 @@ impl Runner {
         requires mode { walk.old.mode ≡ Mode.Exclusive }
         requires found { IsAtRecord walk.old.phase }
         requires file { IsFileBefore P.bits_of root.now self.old }
-        requires stands { IsStanding (basis_alone P.bits_of root.now self.old) walk.old (view_of self.old) }
+        requires stands { IsStanding (basis_alone P.bits_of root.now self.old) walk.old
+            (view_of self.old) }
         ensures keeps { KeepsBefore self.old self.new }
         ensures changes { HasChanged (basis_alone P.bits_of root.now self.old)
             self.new walk.old.key None }

@@ -31,7 +31,8 @@ pub fn lock(subtx: &Subtx, pages: &mut LockedStore, number: PageNo, mode: Mode) 
         (SeesPage (view_of (moment subtx.now pages.old)) (view_of (moment subtx.now pages.new)) number mode) }
     ensures leaves { Leaves (moment subtx.now pages.old) (moment subtx.now pages.new) }
     ensures waits { IfErr result (λ by.
-        IsLowest (conflicts pages.old.locks subtx.now.tx number mode) by × (pages.new ≡ pages.old)) }
+        IsLowest (conflicts pages.old.locks subtx.now.tx number mode) by
+        × (pages.new ≡ pages.old)) }
 {
     match pages.locks.ask(subtx.tx(), number, mode) {
         Grant::Held => Ok(()),

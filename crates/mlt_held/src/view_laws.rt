@@ -17,7 +17,8 @@ pub fn view_agrees_with_clean_pages()
 
 /// A transaction's own step lets what it sees only grow, so that what was found on its way stays on the clean pages.
 pub fn own_steps_see_more()
-    ensures { (old new : Moment) (q : ℕ) (first : Option Page) → MayStep old → TouchesOnePage old new
+    ensures { (old new : Moment) (q : ℕ) (first : Option Page)
+        → MayStep old → TouchesOnePage old new
         → (view_of old).seen q ≡ Some first → (view_of new).seen q ≡ Some first }
 {}
 
@@ -25,7 +26,8 @@ pub fn own_steps_see_more()
 pub fn others_leave_the_view()
     ensures { (old new : Moment) (running : Running) → MayStep old → TouchesOnePage old new
         → (running.tx ≢ old.running.tx)
-        → let before = view_of (record { running = running; locks = old.locks; store = old.store }) in
+        → let before = view_of
+        (record { running = running; locks = old.locks; store = old.store }) in
         let after = view_of (record { running = running; locks = new.locks; store = new.store }) in
         (after.modes ≡ before.modes) × ((q : ℕ) → after.seen q ≡ before.seen q)
         × ((q : ℕ) → after.own q ≡ before.own q) }

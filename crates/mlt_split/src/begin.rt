@@ -42,7 +42,8 @@ impl Split {
         requires begins { MayBegin (aim_by P.bits_of root.now opens.now key subtx.old.tx room_depth)
             (view_of (moment subtx.old pages.old)) old }
         ensures makes { IfOk result (λ split. (page : Page)
-            × MakesLockedPage (moment subtx.old pages.old) (moment subtx.new pages.new) split.new_page page) }
+            × MakesLockedPage (moment subtx.old pages.old) (moment subtx.new pages.new)
+            split.new_page page) }
         ensures halves { IfOk result (λ split. (bucket : BucketFields)
             → held_page (view_of (moment subtx.old pages.old)) old ≡ Some (page.Bucket bucket)
             → HasHalves (aim_by P.bits_of root.now opens.now key subtx.old.tx room_depth)
