@@ -67,7 +67,7 @@ pub fn what_was_found_stays_there()
         → Agrees view.seen clean → found ≡ look_up basis.bits clean basis.root walk.key }
 {}
 
-/// A narrow pass holds the page that it is to lock next, and exclusively, so that it never waits for one.
+/// Once a narrow pass splits, it holds the page that it is to lock next, and exclusively.
 pub fn narrow_passes_hold_their_next_page()
     ensures { (basis : Basis) (walk : WalkFields) (view : View) (room_depth n : ℕ)
         (clean : ℕ → Option Page) → (splits : IsSplitting basis walk view room_depth)

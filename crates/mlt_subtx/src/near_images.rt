@@ -8,7 +8,7 @@ use crate::image::Image;
 use mlt_types::PageNo;
 use std::marker::Model;
 
-/// At most two images. To make it, or to clear it, writes no image. A contract sees the list of them.
+/// At most two images. A contract sees the list of them.
 #[derive(Drop)]
 pub(crate) struct NearImages {
     first: Option<Image>,
