@@ -25,6 +25,3 @@ pub use transaction_laws::{
     abort_keeps_ghosts, begin_keeps_ghosts, close_frees_the_room, file_without_ghosts,
     operations_keep_ghosts,
 };
-
-#[cfg(test)]
-mod tests;

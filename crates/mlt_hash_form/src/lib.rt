@@ -46,6 +46,3 @@ pub use split_laws::{
     split_begins_in_place, split_begins_to_double, split_closes_by_header, split_closes_in_place,
     split_makes_a_page, split_rewrites_a_page, unwritten_page_is_as_it_was,
 };
-
-#[cfg(test)]
-mod tests;

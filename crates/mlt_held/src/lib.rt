@@ -18,6 +18,3 @@ pub use view_laws::{
     others_leave_the_view, others_leave_what_was_written, own_steps_see_more,
     view_agrees_with_clean_pages,
 };
-
-#[cfg(test)]
-mod tests;

@@ -11,6 +11,3 @@ pub use bucket::{Bucket, SLOTS};
 pub use directory::{DIR_ENTRIES, DirPage, HeadPage};
 pub use page::Page;
 pub use slot::Slot;
-
-#[cfg(test)]
-mod tests;

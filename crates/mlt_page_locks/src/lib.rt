@@ -7,6 +7,3 @@ mod lock_list;
 mod page_locks;
 
 pub use page_locks::{Grant, PageLocks};
-
-#[cfg(test)]
-mod tests;

@@ -7,6 +7,3 @@ mod slot_write;
 
 pub use change::{insert, remove, revive, update};
 pub use slot_write::SlotWrite;
-
-#[cfg(test)]
-mod tests;

@@ -4,6 +4,3 @@
 mod store;
 
 pub use store::Store;
-
-#[cfg(test)]
-mod tests;

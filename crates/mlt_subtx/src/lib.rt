@@ -8,6 +8,3 @@ mod near_images;
 mod subtx;
 
 pub use subtx::Subtx;
-
-#[cfg(test)]
-mod tests;
