@@ -13,7 +13,7 @@ use Rattle.mlt_page_locks.proofs.LockLaws.{few_none, room_for_few}
 use Rattle.mlt_page_locks.specs.Requests.{released}
 use Rattle.mlt_subtx.specs.Images.{Images, Running, image_of, or_image, put_back, started}
 use Rattle.mlt_subtx.proofs.ImageLaws.{page_at-put_back}
-use Rattle.mlt_subtx.proofs.RunningLaws.{locks_there-none}
+use Rattle.mlt_subtx.proofs.LockedPages.{locks_there-none}
 use Rattle.mlt_held.specs.Moments.{Moment}
 use Rattle.mlt_held.specs.Views.{page_written, view_of}
 use Rattle.mlt_held.proofs.Moments.{may_start}

@@ -9,7 +9,7 @@ use Rattle.mlt_page.specs.declared.slot.Slot.TheVariants.{Free, Live, Ghost}
 use Rattle.mlt_page.specs.declared.page.Page.{Page}
 use Rattle.mlt_page.specs.declared.page.Page.TheVariants as page
 use Rattle.mlt_page.specs.Values.{BucketFields, HeadFields}
-use Rattle.mlt_subtx.proofs.CleanLaws.{not_true}
+use Rattle.mlt_subtx.proofs.ImageLaws.{not_true}
 use Rattle.mlt_hash_form.specs.File.{HasForm, bucket_of, buckets_of}
 use Rattle.mlt_hash_form.specs.Form.{is_used, slot_at}
 use Rattle.mlt_hash_form.specs.Held.{Agrees, KeepsFile, over}

@@ -1,10 +1,10 @@
 -- What steps leave, by what they do. The crates of splits and walks cite these.
-use Rattle.std.proofs.Common.{◌≡◌, ℕ, Option, Result, Ok, Err, refl, sym, subst, inl, inr}
+use Rattle.std.proofs.Common.{◌≡◌, ℕ, refl, inl, inr}
 use Rattle.mlt_types.specs.declared.mode.Mode.{Mode}
 use Rattle.mlt_page.specs.declared.page.Page.{Page}
 use Rattle.mlt_subtx.specs.Images.{Running}
 use Rattle.mlt_held.specs.declared.locked_store.LockedStore.{LockedStore}
-use Rattle.mlt_held.specs.Moments.{IsCleanFor, MayStep, Moment, moment}
+use Rattle.mlt_held.specs.Moments.{MayStep, Moment, moment}
 use Rattle.mlt_held.specs.PageSteps.{Leaves, LocksAtMost, LocksPage, MakesLockedPage, TouchesOnePage, WritesHeldPage}
 use Rattle.mlt_held.proofs.Moments.{clean_after_step, may_after_step}
 

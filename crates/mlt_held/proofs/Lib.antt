@@ -1,5 +1,3 @@
-pub mod AllEvents
-pub mod AllRunning
 pub mod Leaving
 pub mod Moments
 pub mod Others

@@ -14,10 +14,9 @@ use Rattle.mlt_page_locks.specs.LockTables.{AreCompatible, HasRoom, LockTable, c
 use Rattle.mlt_page_locks.specs.Requests.{IsNobody, conflicts, granted, stronger, with_page}
 use Rattle.mlt_page_locks.proofs.LockLaws.{can_write-granted, compatible_granted, conflicts-exclusive, page_count-granted, pages_of-granted}
 use Rattle.mlt_subtx.specs.Images.{Images, image_of, started, with_image}
-use Rattle.mlt_subtx.proofs.ImageLaws.{fresh_has_no_image, image_of-with_image, there_made, there_none, there_written}
-use Rattle.mlt_subtx.proofs.CleanLaws.{not_true}
+use Rattle.mlt_subtx.proofs.ImageLaws.{fresh_has_no_image, image_of-with_image, there_made, there_none, there_written, not_true}
 use Rattle.mlt_subtx.specs.Locking.{LocksPagesThere}
-use Rattle.mlt_subtx.proofs.RunningLaws.{locks_there-granted, locks_there-written}
+use Rattle.mlt_subtx.proofs.LockedPages.{locks_there-granted, locks_there-written}
 use Rattle.mlt_held.specs.Moments.{IsCleanFor, MayStep, Moment, page_before}
 use Rattle.mlt_held.specs.PageSteps.{LocksAtMost, LocksPage, MakesLockedPage, TouchesOnePage, WritesAtMost, WritesHeldPage}
 

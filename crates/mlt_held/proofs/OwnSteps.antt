@@ -1,5 +1,5 @@
 -- What a transaction's own step leaves of what it saw
-use Rattle.std.proofs.Common.{◌≡◌, ℕ, true, Option, None, Some, is_some, refl, sym, ap, subst, ◌∙◌, inl, inr}
+use Rattle.std.proofs.Common.{◌≡◌, ℕ, true, Option, None, Some, is_some, refl, sym, ap, ◌∙◌, inl, inr}
 use Rattle.std.proofs.lemmas.Bool.{cases_eq, false≢true}
 use Rattle.mlt_types.specs.declared.mode.Mode.{Mode}
 use Rattle.mlt_page.specs.declared.page.Page.{Page}

@@ -14,8 +14,7 @@ use Rattle.mlt_page_locks.specs.LockTables.{LockTable, Modes, allows_write, can_
 use Rattle.mlt_page_locks.specs.Requests.{granted, stronger, with_page}
 use Rattle.mlt_page_locks.proofs.LockLaws.{can_read-granted, pages_of-granted, writer_reads}
 use Rattle.mlt_subtx.specs.Images.{Images, image_of, or_image, with_image}
-use Rattle.mlt_subtx.proofs.ImageLaws.{fresh_has_no_image, image_of-with_image}
-use Rattle.mlt_subtx.proofs.CleanLaws.{not_true}
+use Rattle.mlt_subtx.proofs.ImageLaws.{fresh_has_no_image, image_of-with_image, not_true}
 use Rattle.mlt_hash_form.specs.File.{Writes}
 use Rattle.mlt_hash_form.specs.Held.{Agrees, over, own_or}
 use Rattle.mlt_hash_form.proofs.HeldPages.{writes_over}

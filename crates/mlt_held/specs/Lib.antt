@@ -1,4 +1,3 @@
 pub mod Moments
 pub mod PageSteps
 pub mod Views
-pub mod Running

@@ -2,16 +2,10 @@
 //! of them whatever others do.
 #![tactic(auto)]
 
-mod clean_laws;
 mod locked_store;
 mod pages;
 mod view_laws;
 
-pub use clean_laws::{
-    begin_leaves_clean_pages, clean_pages_are_clean_for_each, close_leaves_clean_pages,
-    end_makes_written_pages_clean, nobody_runs_at_first, roll_back_leaves_clean_pages,
-    step_adds_one_page_at_most, step_leaves_clean_pages,
-};
 pub use locked_store::LockedStore;
 pub use pages::{lock, make_page, read_held, write_held, write_slot};
 pub use view_laws::{

@@ -87,6 +87,10 @@ pub not_there : {X : Type 0} (o : Option X) → is_some o ≡ false → o ≡ No
 not_there None none = refl
 not_there (Some x) none = cc
 
+pub not_true : (b : Bool) → (b ≡ true → ⊥) → b ≡ false
+not_true false h = refl
+not_true true h = absurd (h refl)
+
 -- a page that is not there has no image
 pub fresh_has_no_image : (images : Images) (pages : Pages) (k : ℕ) → AreThere images pages → page_at pages k ≡ None → image_of images k ≡ None
 fresh_has_no_image images pages k there fresh =

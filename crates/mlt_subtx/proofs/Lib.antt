@@ -1,4 +1,3 @@
 pub mod ImageLaws
-pub mod CleanLaws
-pub mod RunningLaws
 pub mod Lists
+pub mod LockedPages

@@ -1,4 +1,3 @@
 pub mod Images
 pub mod ImageLists
 pub mod Locking
-pub mod CleanPages

@@ -9,7 +9,7 @@ use Rattle.mlt_page_locks.proofs.LockLaws.{few_answered, few_none, room_for_few}
 use Rattle.mlt_page_locks.specs.Requests.{Answers}
 use Rattle.mlt_subtx.specs.Images.{Running}
 use Rattle.mlt_subtx.specs.Locking.{LocksPagesThere}
-use Rattle.mlt_subtx.proofs.RunningLaws.{locks_there-granted, locks_there-none}
+use Rattle.mlt_subtx.proofs.LockedPages.{locks_there-granted, locks_there-none}
 use Rattle.mlt_held.specs.Moments.{MayStep}
 use Rattle.mlt_held.proofs.Moments.{may_start}
 use Rattle.mlt_hash_tests.proofs.held_pages.at_work.Goals as goal

@@ -1,9 +1,8 @@
-use Rattle.std.proofs.Common.{◌≡◌, is_some, true, ap, subst, refl, sym}
-use Rattle.mlt_page.specs.declared.page.Page.{Page}
+use Rattle.std.proofs.Common.{ap, refl}
 use Rattle.mlt_store.specs.Stores.{page_at}
 use Rattle.mlt_held.specs.Moments.{Moment, moment}
 use Rattle.mlt_held.specs.PageSteps.{LocksPage}
-use Rattle.mlt_held.proofs.Leaving.{leaves_by_locking, leaves_it, same_moment}
+use Rattle.mlt_held.proofs.Leaving.{leaves_by_locking, leaves_it}
 use Rattle.mlt_held.proofs.Results.{lock_granted, page_there}
 use Rattle.mlt_held.proofs.Views.{lock_reads}
 use Rattle.mlt_held.proofs.pages.lock.Goals.{After-ask, In-Held}

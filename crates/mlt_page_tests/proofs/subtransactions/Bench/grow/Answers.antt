@@ -9,7 +9,7 @@ use Rattle.mlt_page_locks.proofs.LockLaws.{room_for_few, few_granted}
 use Rattle.mlt_subtx.specs.Images.{Images, Running, AreThere}
 use Rattle.mlt_subtx.proofs.ImageLaws.{there_made}
 use Rattle.mlt_subtx.specs.Locking.{LocksPagesThere}
-use Rattle.mlt_subtx.proofs.RunningLaws.{locks_there-written, locks_there-granted}
+use Rattle.mlt_subtx.proofs.LockedPages.{locks_there-written, locks_there-granted}
 use Rattle.mlt_page_tests.proofs.subtransactions.Bench.grow.Goals as goal
 
 pub grow-requires-clause-room : goal.grow-requires-clause-room

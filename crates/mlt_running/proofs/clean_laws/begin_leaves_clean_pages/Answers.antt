@@ -1,5 +1,5 @@
-use Rattle.mlt_held.proofs.AllEvents.{begin_clean, begin_keeps, nothing_at_begin}
-use Rattle.mlt_held.proofs.clean_laws.begin_leaves_clean_pages.Goals as goal
+use Rattle.mlt_running.proofs.AllEvents.{begin_clean, begin_keeps, nothing_at_begin}
+use Rattle.mlt_running.proofs.clean_laws.begin_leaves_clean_pages.Goals as goal
 
 pub returns-clause-keeps : goal.returns-clause-keeps
 returns-clause-keeps c = begin_keeps

@@ -14,13 +14,13 @@ use Rattle.mlt_page_locks.specs.LockTables.{HasRoom, Modes, page_count}
 use Rattle.mlt_page_locks.specs.Requests.{granted}
 use Rattle.mlt_page_locks.proofs.LockLaws.{few_none, room_to_grant}
 use Rattle.mlt_subtx.specs.Images.{Images}
-use Rattle.mlt_subtx.specs.CleanPages.{RunningImages, image_at}
-use Rattle.mlt_subtx.proofs.CleanLaws.{clean_page_there, clean_page_unwritten, clean_view}
+use Rattle.mlt_running.specs.CleanPages.{RunningImages, image_at}
+use Rattle.mlt_running.proofs.CleanLaws.{clean_page_there, clean_page_unwritten, clean_view}
 use Rattle.mlt_subtx.proofs.ImageLaws.{page_at-put_back}
-use Rattle.mlt_subtx.proofs.RunningLaws.{locks_there-none}
+use Rattle.mlt_subtx.proofs.LockedPages.{locks_there-none}
 use Rattle.mlt_hash_form.specs.Held.{Agrees}
 use Rattle.mlt_held.specs.Moments.{IsCleanFor, MayStep}
-use Rattle.mlt_held.specs.Running.{AllMayStep, AllRunning, clean_of, images_by, is_open, moment_of, nobody_running}
+use Rattle.mlt_running.specs.Running.{AllMayStep, AllRunning, clean_of, images_by, is_open, moment_of, nobody_running}
 use Rattle.mlt_held.specs.Views.{view_of}
 use Rattle.mlt_held.proofs.Views.{agrees}
 

@@ -1,5 +1,5 @@
-use Rattle.mlt_held.proofs.AllRunning.{first_clean, first_may_step}
-use Rattle.mlt_held.proofs.clean_laws.nobody_runs_at_first.Goals as goal
+use Rattle.mlt_running.proofs.AllRunning.{first_clean, first_may_step}
+use Rattle.mlt_running.proofs.clean_laws.nobody_runs_at_first.Goals as goal
 
 pub returns-clause-may : goal.returns-clause-may
 returns-clause-may c = first_may_step

@@ -7,8 +7,8 @@ ghost use Rattle.mlt_page_locks.specs.LockTables.{page_count};
 ghost use Rattle.mlt_hash_form.specs.Held.{Agrees, over};
 ghost use Rattle.mlt_held.specs.Moments.{IsCleanFor, MayStep, Moment};
 ghost use Rattle.mlt_held.specs.PageSteps.{TouchesOnePage};
-ghost use Rattle.mlt_held.specs.Running.{AllMayStep, AllRunning, HoldsNothing, KeepsRunning, after_begin, after_close, after_end, after_roll_back, after_step, clean_of, is_open, moment_of, nobody_running};
 ghost use Rattle.mlt_held.specs.Views.{view_of};
+ghost use Rattle.mlt_running.specs.Running.{AllMayStep, AllRunning, HoldsNothing, KeepsRunning, after_begin, after_close, after_end, after_roll_back, after_step, clean_of, is_open, moment_of, nobody_running};
 
 /// Each open transaction may step, and the pages as they were before all running subtransactions are clean for it.
 pub fn clean_pages_are_clean_for_each()

@@ -1,5 +1,5 @@
-use Rattle.mlt_held.proofs.AllEvents.{step_leaves_clean, step_leaves_views}
-use Rattle.mlt_held.proofs.clean_laws.step_leaves_clean_pages.Goals as goal
+use Rattle.mlt_running.proofs.AllEvents.{step_leaves_clean, step_leaves_views}
+use Rattle.mlt_running.proofs.clean_laws.step_leaves_clean_pages.Goals as goal
 
 pub returns-clause-keeps : goal.returns-clause-keeps
 returns-clause-keeps c = step_leaves_views

@@ -1,5 +1,5 @@
-use Rattle.mlt_held.proofs.AllRunning.{agrees_with_each, clean_for_each, each_may_step}
-use Rattle.mlt_held.proofs.clean_laws.clean_pages_are_clean_for_each.Goals as goal
+use Rattle.mlt_running.proofs.AllRunning.{agrees_with_each, clean_for_each, each_may_step}
+use Rattle.mlt_running.proofs.clean_laws.clean_pages_are_clean_for_each.Goals as goal
 
 pub returns-clause-may : goal.returns-clause-may
 returns-clause-may c = each_may_step

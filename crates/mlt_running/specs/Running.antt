@@ -6,11 +6,11 @@ use Rattle.mlt_page.specs.declared.page.Page.{Page}
 use Rattle.mlt_store.specs.Stores.{PageStore, page_at}
 use Rattle.mlt_page_locks.specs.LockTables.{AreCompatible, LockTable, is_holder, no_locks, page_count}
 use Rattle.mlt_page_locks.specs.Requests.{released}
-use Rattle.mlt_subtx.specs.CleanPages.{ImagesAreLocked, ImagesAreThere, RunningImages, clean_pages}
 use Rattle.mlt_subtx.specs.Images.{Images, put_back}
 use Rattle.mlt_subtx.specs.Locking.{LocksPagesThere}
 use Rattle.mlt_held.specs.Moments.{Moment}
 use Rattle.mlt_held.specs.Views.{view_of}
+use Rattle.mlt_running.specs.CleanPages.{ImagesAreLocked, ImagesAreThere, RunningImages, clean_pages}
 
 -- the first images that each open transaction keeps, the page locks of all of them, and the store; a transaction that
 -- is open and runs no subtransaction keeps none

@@ -1,5 +1,5 @@
-use Rattle.mlt_held.proofs.AllEvents.{nothing_after_roll_back, roll_back_clean, roll_back_keeps}
-use Rattle.mlt_held.proofs.clean_laws.roll_back_leaves_clean_pages.Goals as goal
+use Rattle.mlt_running.proofs.AllEvents.{nothing_after_roll_back, roll_back_clean, roll_back_keeps}
+use Rattle.mlt_running.proofs.clean_laws.roll_back_leaves_clean_pages.Goals as goal
 
 pub returns-clause-keeps : goal.returns-clause-keeps
 returns-clause-keeps c = roll_back_keeps

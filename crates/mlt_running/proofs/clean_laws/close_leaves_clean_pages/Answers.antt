@@ -1,5 +1,5 @@
-use Rattle.mlt_held.proofs.AllEvents.{close_clean, close_keeps}
-use Rattle.mlt_held.proofs.clean_laws.close_leaves_clean_pages.Goals as goal
+use Rattle.mlt_running.proofs.AllEvents.{close_clean, close_keeps}
+use Rattle.mlt_running.proofs.clean_laws.close_leaves_clean_pages.Goals as goal
 
 pub returns-clause-keeps : goal.returns-clause-keeps
 returns-clause-keeps c = close_keeps

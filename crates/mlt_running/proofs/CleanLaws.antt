@@ -12,8 +12,8 @@ use Rattle.mlt_page_locks.proofs.Maps.{get_inserted, get_removed}
 use Rattle.mlt_page_locks.specs.LockTables.{LockTable, can_read, can_write, AreCompatible}
 use Rattle.mlt_page_locks.proofs.LockLaws.{writer_reads}
 use Rattle.mlt_subtx.specs.Images.{Images, image_of, or_image, put_back, with_image}
-use Rattle.mlt_subtx.proofs.ImageLaws.{not_there, page_at-put_back, image_of-with_image, same_pages}
-use Rattle.mlt_subtx.specs.CleanPages.{RunningImages, image_at, all_put_back, clean_pages, ImagesAreLocked, ImagesAreApart, ImagesAreThere, DropsImages}
+use Rattle.mlt_subtx.proofs.ImageLaws.{not_there, not_true, page_at-put_back, image_of-with_image, same_pages}
+use Rattle.mlt_running.specs.CleanPages.{RunningImages, image_at, all_put_back, clean_pages, ImagesAreLocked, ImagesAreApart, ImagesAreThere, DropsImages}
 
 -- images of different subtransactions are of different pages
 pub images_are_apart : (running : RunningImages) (locks : LockTable) → AreCompatible locks → ImagesAreLocked running locks → ImagesAreApart running
@@ -100,10 +100,6 @@ one_image (e ∷ es) tx q sorted others =
 
 by : (running : RunningImages) (tx q : ℕ) → image_at running tx q ≡ image_by (map.entries running) tx q
 by running tx q = ap (λ o. image_of (unwrap_or o map.empty) q) (map.get-entries running tx)
-
-pub not_true : (b : Bool) → (b ≡ true → ⊥) → b ≡ false
-not_true false h = refl
-not_true true h = absurd (h refl)
 
 page_at-clean : (running : RunningImages) (pages : Pages) (q : ℕ) → page_at (clean_pages running pages) q ≡ or_image (image_in (map.entries running) q) (page_at pages q)
 page_at-clean running pages q = page_at-all_put_back (map.entries running) pages q

@@ -14,16 +14,16 @@ use Rattle.mlt_page_locks.specs.Requests.{granted, released, with_page}
 use Rattle.mlt_page_locks.proofs.LockLaws.{can_write-granted, compatible_released, no_holder-released, page_count-granted, pages_of-released, released_keeps_others, writer_reads}
 use Rattle.mlt_page_locks.proofs.Maps.{get_inserted, get_removed, same_entries}
 use Rattle.mlt_subtx.specs.Images.{Images, Running, image_of, or_image, put_back, with_image}
-use Rattle.mlt_subtx.specs.CleanPages.{DropsImages, ImagesAreApart, ImagesAreLocked, ImagesAreThere, RunningImages, clean_pages, image_at}
-use Rattle.mlt_subtx.proofs.CleanLaws.{clean_page-end, clean_pages-roll_back, clean_pages-write, drops_cleared, drops_removed, image_at-insert, images_are_apart, not_true, others_stay, same_clean_pages}
-use Rattle.mlt_subtx.proofs.ImageLaws.{fresh_has_no_image, not_there, page_at-put_back, with_image-absent}
-use Rattle.mlt_subtx.proofs.RunningLaws.{images_locked-granted, images_locked-released, images_there-ended, images_there-rolled_back, locks_there-released, locks_there-rolled_back}
+use Rattle.mlt_running.specs.CleanPages.{DropsImages, ImagesAreApart, ImagesAreLocked, ImagesAreThere, RunningImages, clean_pages, image_at}
+use Rattle.mlt_running.proofs.CleanLaws.{clean_page-end, clean_pages-roll_back, clean_pages-write, drops_cleared, drops_removed, image_at-insert, images_are_apart, others_stay, same_clean_pages}
+use Rattle.mlt_subtx.proofs.ImageLaws.{fresh_has_no_image, not_there, not_true, page_at-put_back, with_image-absent}
+use Rattle.mlt_running.proofs.RunningLaws.{images_locked-granted, images_locked-released, images_there-ended, images_there-rolled_back, locks_there-released, locks_there-rolled_back}
 use Rattle.mlt_hash_form.specs.Held.{Agrees, own_or, over}
 use Rattle.mlt_held.specs.Moments.{MayStep, Moment, page_before}
 use Rattle.mlt_held.specs.PageSteps.{LocksAtMost, TouchesOnePage, WritesAtMost}
-use Rattle.mlt_held.specs.Running.{AllMayStep, AllRunning, HoldsNothing, KeepsRunning, after_begin, after_close, after_end, after_roll_back, after_step, clean_of, images_by, is_open, moment_of}
+use Rattle.mlt_running.specs.Running.{AllMayStep, AllRunning, HoldsNothing, KeepsRunning, after_begin, after_close, after_end, after_roll_back, after_step, clean_of, images_by, is_open, moment_of}
 use Rattle.mlt_held.specs.Views.{View, own_at, page_written, seen_at, view_of}
-use Rattle.mlt_held.proofs.AllRunning.{agrees_with_each, each_may_step}
+use Rattle.mlt_running.proofs.AllRunning.{agrees_with_each, each_may_step}
 use Rattle.mlt_held.proofs.Moments.{may_after_lock_at_most, may_after_step}
 use Rattle.mlt_held.proofs.Others.{same_where_held, step_drops_no_page, step_keeps_held_pages, step_keeps_others, step_keeps_tx}
 

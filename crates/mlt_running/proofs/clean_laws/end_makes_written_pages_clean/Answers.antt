@@ -1,5 +1,5 @@
-use Rattle.mlt_held.proofs.AllEvents.{end_agrees, end_clean, end_keeps, nothing_at_end}
-use Rattle.mlt_held.proofs.clean_laws.end_makes_written_pages_clean.Goals as goal
+use Rattle.mlt_running.proofs.AllEvents.{end_agrees, end_clean, end_keeps, nothing_at_end}
+use Rattle.mlt_running.proofs.clean_laws.end_makes_written_pages_clean.Goals as goal
 
 pub returns-clause-keeps : goal.returns-clause-keeps
 returns-clause-keeps c = end_keeps

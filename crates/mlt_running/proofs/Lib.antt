@@ -1,0 +1,4 @@
+pub mod AllEvents
+pub mod AllRunning
+pub mod CleanLaws
+pub mod RunningLaws

@@ -1,0 +1,2 @@
+pub mod CleanPages
+pub mod Running
