@@ -1,14 +1,4 @@
 pub mod Additions
-pub mod Alone
-pub mod AloneChanges
-pub mod AloneEnds
-pub mod AloneInsertions
-pub mod AlonePages
-pub mod AlonePasses
-pub mod AloneSplits
-pub mod AloneSteps
-pub mod AloneWalks
-pub mod HashFiles
 pub mod InPlace
 pub mod Laws
 pub mod NoWaiting
@@ -21,7 +11,6 @@ pub mod Puts
 pub mod Readings
 pub mod Resting
 pub mod Slots
-pub mod SplitPages
 pub mod Splittings
 pub mod Standing
 pub mod Standings

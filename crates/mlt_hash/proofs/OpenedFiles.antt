@@ -1,6 +1,7 @@
 -- The pages of a file as it is opened, one made after another
-use Rattle.std.proofs.Common.{◌≡◌, ℕ, ◌<◌, ◌≤◌, ◌+◌, ◌^◌, ◌⊎◌, Option, None, Some, Result, Ok, Err, IfErr, replicate, sym, ap, subst, ◌∙◌, inl, inr, arith}
+use Rattle.std.proofs.Common.{◌≡◌, ℕ, ◌<◌, ◌+◌, ◌⊎◌, None, Some, Result, Ok, Err, IfErr, replicate, sym, ap, ◌∙◌, inl, inr, arith}
 use Rattle.std.specs.Ordering.{nat_cmp}
+use Rattle.std.specs.Cmp.{nat_cmp_total}
 use Rattle.std.specs.Result.{IsErrAnd}
 use Rattle.std.specs.FinMap as map
 use Rattle.std.proofs.lemmas.Bool.Decides.{nat_tests}
@@ -12,10 +13,10 @@ use Rattle.mlt_page.specs.declared.slot.Slot.TheVariants.{Free}
 use Rattle.mlt_store.specs.Stores.{PageStore, Pages, page_at}
 use Rattle.mlt_page_locks.proofs.Maps.{get_inserted}
 use Rattle.mlt_hash_form.specs.Changes.{IsOpening}
-use Rattle.mlt_hash_form.specs.File.{depth_of, header_of}
-use Rattle.mlt_hash_form.proofs.OpeningFile.{opening_has_form}
-use Rattle.mlt_hash.specs.AloneWalks.{IsHashFile}
-use Rattle.mlt_hash.proofs.AlonePages.{fresh_is_one_more}
+
+-- where a page is made that was not there, there is one more
+pub fresh_is_one_more : (pages : Pages) (q : ℕ) (p : Page) → page_at pages q ≡ None → map.len (map.insert pages q p) ≡ map.len pages + 1
+fresh_is_one_more pages q p fresh = grind (arith, fresh, map.len-insert nat_cmp_total pages q p)
 
 -- a page is made that was not there
 pub record IsMade (old new : PageStore) (n : ℕ) (p : Page) : Type 0 where
@@ -63,21 +64,8 @@ module _ (empty one two three : PageStore) (b d r : ℕ) (bucket dir head : Page
 pub no_pages : (empty : PageStore) → empty.pages ≡ map.empty → map.len empty.pages ≡ 0
 no_pages empty none = ap map.len none ∙ map.len-empty nat_cmp Page
 
--- its directory has depth 0
-pub opened_depth : (root d b : ℕ) (pages : Pages) → IsOpening (page_at pages) root d b → depth_of (page_at pages) root ≡ 0
-opened_depth root d b pages is = ap (λ (o : Option Page). (header_of o).depth) is.head
-
 -- where there may be more pages, only memory is refused
 pub only_memory : {T : Type 0} (result : Result T Refusal) (reason : Refusal) (len max : ℕ) → IsErrAnd result (λ e. e ≡ reason) → (reason ≡ refusal.NoRoom) ⊎ (reason ≡ refusal.OutOfMemory) → (reason ≡ refusal.NoRoom → len ≡ max) → len < max → IfErr result (λ e. e ≡ refusal.OutOfMemory)
 only_memory (Ok x) reason len max is which full fewer = tt
 only_memory (Err e) reason len max is (inr memory) full fewer = is ∙ memory
 only_memory (Err e) reason len max is (inl room) full fewer = absurd (let same = full room in omega (arith, same, fewer))
-
--- **It is a hash file without records, whose directory has depth 0.**
-pub opened_file : (bits : ℕ → ℕ) (root d b max_depth : ℕ) (pages : Pages) → ((k : ℕ) → bits k < 2 ^ 64) → max_depth ≤ 16 → IsOpening (page_at pages) root d b → IsHashFile bits (page_at pages) root max_depth
-opened_file bits root d b max_depth pages bounded small is = record {
-  bounded = bounded;
-  form = opening_has_form bits (page_at pages) root d b is;
-  shallow = subst (λ (depth : ℕ). depth ≤ max_depth) (sym (opened_depth root d b pages is)) (omega arith);
-  small = small;
-}

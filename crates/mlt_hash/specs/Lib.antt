@@ -1,9 +1,5 @@
-pub mod Alone
-pub mod AloneWalks
 pub mod Changes
-pub mod HashFiles
 pub mod Passes
-pub mod SplitPages
 pub mod Splitting
 pub mod Steps
 pub mod StepsLeft

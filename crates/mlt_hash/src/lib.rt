@@ -5,17 +5,14 @@
 mod adding;
 mod answer;
 mod change;
-mod hash_file;
 mod opening;
 mod pass;
 mod path;
 mod room;
-mod runner;
 mod walk;
 mod walk_laws;
 
 pub use answer::WalkAnswer;
-pub use hash_file::HashFile;
 pub use opening::open_file;
 pub use pass::{Change, Pass, Phase};
 pub use walk::Walk;

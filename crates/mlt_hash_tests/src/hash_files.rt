@@ -1,6 +1,6 @@
 //! Hash files for one caller.
 
-use mlt_hash::HashFile;
+use mlt_hash_file::HashFile;
 use mlt_types::{Cell, Key, Limits, Low, Pseudo, Refusal, Value};
 use std::alloc::Global;
 use std::process::Abort;

@@ -1,0 +1,267 @@
+-- What a pass finds that runs alone, and what it tells of its addition
+use Rattle.std.proofs.Common.{◌≡◌, ℕ, ◌≤◌, ◌<◌, ◌+◌, ◌^◌, true, false, Bool, Option, None, Some, IsSome, refl, sym, ap, subst, ◌∙◌, inl, inr, arith}
+use Rattle.std.specs.List.{list_all}
+use Rattle.std.specs.Ordering.{nat_cmp}
+use Rattle.std.specs.FinMap as map
+use Rattle.std.specs.FinSet as set
+use Rattle.std.proofs.lemmas.Bool.{false≢true}
+use Rattle.mlt_types.specs.declared.refusal.Refusal.TheVariants as refusal
+use Rattle.mlt_page.specs.Slots.{is_kept}
+use Rattle.mlt_page.specs.Values.{BucketFields}
+use Rattle.mlt_page.specs.declared.page.Page.{Page}
+use Rattle.mlt_page.specs.declared.page.Page.TheVariants as page
+use Rattle.mlt_store.specs.Stores.{page_at}
+use Rattle.mlt_subtx.specs.Images.{put_back}
+use Rattle.mlt_subtx.proofs.ImageLaws.{page_at-put_back, same_pages}
+use Rattle.mlt_hash_form.specs.File.{bucket_of, buckets_of, depth_of, lead_of, look_up}
+use Rattle.mlt_hash_form.specs.Room.{is_crowded}
+use Rattle.mlt_hash_form.proofs.Crowd.{crowded_in_fewer, crowded_test}
+use Rattle.mlt_hash_form.proofs.InPages.{led_at}
+use Rattle.mlt_held.specs.Moments.{IsCleanFor, MayStep, Moment}
+use Rattle.mlt_held.specs.PageSteps.{WritesAtMost}
+use Rattle.mlt_held.specs.Views.{View, view_of}
+use Rattle.mlt_hash_file.specs.Alone.{IsAlone, KeepsBefore, basis_of, pages_before}
+use Rattle.mlt_hash.specs.StepsLeft.{IsPutting}
+use Rattle.mlt_hash_file.specs.AloneWalks.{HasArrived, HasChanged, IsFullFor, IsHashFile, NeedsRoom, NeedsSplits, NeverHasRoomFor, TellsOfPass, added_value}
+use Rattle.mlt_hash.specs.Changes.{HasNoRoom, IsAtAbsent, IsAtRecord, IsFull, Makes, NeedsSplit, TellsOfAddition, WritesIfChanged, crowded_at, page_of}
+use Rattle.mlt_hash.specs.Passes.{HasRoomFrom, IsNextPass, next_of, value_after}
+use Rattle.mlt_hash_file.specs.SplitPages.{HasRoomAt, pages_for, pages_in_the_end, pages_left_at, pages_to_make}
+use Rattle.mlt_hash.specs.Steps.{HasFound, IsSameWalk}
+use Rattle.mlt_hash.specs.Walks.{Basis, IsAtBucket, IsStanding, IsUnwritten, Stands, WalkFields}
+use Rattle.mlt_hash.specs.declared.answer.WalkAnswer.{WalkAnswer}
+use Rattle.mlt_hash.specs.declared.answer.WalkAnswer.TheVariants as answer
+use Rattle.mlt_hash.specs.declared.pass.Change.{Change}
+use Rattle.mlt_hash.specs.declared.pass.Change.TheVariants as change
+use Rattle.mlt_hash.specs.declared.pass.Pass.{Pass}
+use Rattle.mlt_hash.specs.declared.pass.Pass.TheVariants as pass
+use Rattle.mlt_hash.specs.declared.pass.Phase.{Phase}
+use Rattle.mlt_hash.specs.declared.pass.Phase.TheVariants as at
+use Rattle.mlt_hash_file.proofs.Alone.{alone_after_write, keeps_both, sees_before, write_keeps_before}
+use Rattle.mlt_hash_file.proofs.AloneChanges.{made_alone, shallow_after_write, unwritten_store, writes_at_most}
+use Rattle.mlt_hash_file.proofs.AloneWalks.{file_kept, same_basis, same_before, same_walks}
+use Rattle.mlt_hash.proofs.Laws.{found_there, path_taken}
+
+-- a walk that has arrived is at its bucket, with what it has found,
+arrived_at : (basis : Basis) (walk : WalkFields) (view : View) (phase : Phase) (value : Option ℕ) → HasFound phase value → Stands phase basis walk view → (depth : ℕ) × IsAtBucket basis walk view (page_of phase) depth value
+arrived_at basis walk view (at.AtBucket bucket depth found) value is stands = (depth, subst (λ (found : Option ℕ). IsAtBucket basis walk view bucket depth found) is stands)
+arrived_at basis walk view at.Start value is stands = absurd is
+arrived_at basis walk view (at.Headed dir row depth) value is stands = absurd is
+arrived_at basis walk view (at.Placed bucket depth) value is stands = absurd is
+arrived_at basis walk view (at.Full next) value is stands = absurd is
+arrived_at basis walk view (at.Adding own bucket room_depth unsplit) value is stands = absurd is
+arrived_at basis walk view (at.Splitting own room_depth) value is stands = absurd is
+arrived_at basis walk view (at.Changed bucket done) value is stands = absurd is
+
+found_absent : (phase : Phase) (value : Option ℕ) → HasFound phase value → value ≡ None → IsAtAbsent phase
+found_absent (at.AtBucket bucket depth found) value is none = is ∙ none
+found_absent at.Start value is none = absurd is
+found_absent (at.Headed dir row depth) value is none = absurd is
+found_absent (at.Placed bucket depth) value is none = absurd is
+found_absent (at.Full next) value is none = absurd is
+found_absent (at.Adding own bucket room_depth unsplit) value is none = absurd is
+found_absent (at.Splitting own room_depth) value is none = absurd is
+found_absent (at.Changed bucket done) value is none = absurd is
+
+-- a walk that has found a value is at a record
+pub found_record : (phase : Phase) (value : Option ℕ) → HasFound phase value → IsSome value → IsAtRecord phase
+found_record (at.AtBucket bucket depth found) value is there = subst IsSome (sym is) there
+found_record at.Start value is there = absurd is
+found_record (at.Headed dir row depth) value is there = absurd is
+found_record (at.Placed bucket depth) value is there = absurd is
+found_record (at.Full next) value is there = absurd is
+found_record (at.Adding own bucket room_depth unsplit) value is there = absurd is
+found_record (at.Splitting own room_depth) value is there = absurd is
+found_record (at.Changed bucket done) value is there = absurd is
+
+-- a walk that has arrived has written nothing
+pub arrived_store : (basis : Basis) (m : Moment) (before walk : WalkFields) (value : Option ℕ) (q : ℕ) → IsAlone m → HasArrived basis m before walk value → page_at m.store.pages q ≡ pages_before m q
+arrived_store basis m before walk value q alone arrived =
+    let here = arrived_at basis walk (view_of m) walk.phase value arrived.found arrived.stands in
+    unwritten_store m q alone.may here.1.unwritten
+
+-- **What a walk alone has found is the value of its key.**
+pub found_is_value : (basis : Basis) (m : Moment) (before walk : WalkFields) (value : Option ℕ) → IsAlone m → HasArrived basis m before walk value → look_up basis.bits (pages_before m) basis.root before.key ≡ value
+found_is_value basis m before walk value alone arrived =
+    let here = arrived_at basis walk (view_of m) walk.phase value arrived.found arrived.stands in
+    ap (look_up basis.bits (pages_before m) basis.root) (sym arrived.same.key) ∙ found_there basis walk (view_of m) (page_of walk.phase) here.0 value (pages_before m) here.1 (sees_before m alone.may)
+
+-- so it finds none where there is none
+pub finds_none : (basis : Basis) (m : Moment) (before walk : WalkFields) (value : Option ℕ) → IsAlone m → HasArrived basis m before walk value → look_up basis.bits (pages_before m) basis.root before.key ≡ None → IsAtAbsent walk.phase
+finds_none basis m before walk value alone arrived none = found_absent walk.phase value arrived.found (sym (found_is_value basis m before walk value alone arrived) ∙ none)
+
+pub absent_here : (bits : ℕ → ℕ) (root max_depth : ℕ) (first old mid : Moment) (before walk : WalkFields) (value : Option ℕ) → mid ≡ old → IsAlone mid → KeepsBefore first old → HasArrived (basis_of bits root max_depth first) old before walk value
+    → look_up bits (pages_before first) root before.key ≡ None → IsAtAbsent walk.phase
+absent_here bits root max_depth first old mid before walk value same alone keeps arrived none =
+    let arrived_mid : HasArrived (basis_of bits root max_depth first) mid before walk value = subst (λ (m : Moment). HasArrived (basis_of bits root max_depth first) m before walk value) (sym same) arrived in
+    let none_mid : look_up bits (pages_before mid) root before.key ≡ None = ap (λ (m : Moment). look_up bits (pages_before m) root before.key) same ∙ ap (λ (pages : ℕ → Option Page). look_up bits pages root before.key) (same_before first old keeps) ∙ none in
+    finds_none (basis_of bits root max_depth first) mid before walk value alone arrived_mid none_mid
+
+-- a walk that has arrived stands there, by what the transaction goes by now
+pub arrived_stands : (bits : ℕ → ℕ) (root max_depth : ℕ) (first old : Moment) (before walk : WalkFields) (value : Option ℕ) → KeepsBefore first old → HasArrived (basis_of bits root max_depth first) old before walk value → IsStanding (basis_of bits root max_depth old) walk (view_of old)
+arrived_stands bits root max_depth first old before walk value keeps arrived = subst (λ basis. IsStanding basis walk (view_of old)) (sym (same_basis bits root max_depth first old keeps)) arrived.stands
+
+-- and its bucket is where its key leads
+leads_here : (basis : Basis) (m : Moment) (walk : WalkFields) (bucket depth : ℕ) (found : Option ℕ) (here : IsAtBucket basis walk (view_of m) bucket depth found) → MayStep m → lead_of (pages_before m) basis.root (basis.bits walk.key) ≡ bucket
+leads_here basis m walk bucket depth found here may =
+    (led_at (pages_before m) basis.root (basis.bits walk.key) here.header here.dir bucket here.fields (path_taken basis walk (view_of m) bucket depth found (pages_before m) here (sees_before m may))).0
+
+absent_bucket : (basis : Basis) (walk : WalkFields) (view : View) (phase : Phase) → IsAtAbsent phase → Stands phase basis walk view → (depth : ℕ) × (found : Option ℕ) × IsAtBucket basis walk view (page_of phase) depth found
+absent_bucket basis walk view (at.AtBucket bucket depth found) none stands = (depth, found, stands)
+absent_bucket basis walk view at.Start none stands = absurd none
+absent_bucket basis walk view (at.Headed dir row depth) none stands = absurd none
+absent_bucket basis walk view (at.Placed bucket depth) none stands = absurd none
+absent_bucket basis walk view (at.Full next) none stands = absurd none
+absent_bucket basis walk view (at.Adding own bucket room_depth unsplit) none stands = absurd none
+absent_bucket basis walk view (at.Splitting own room_depth) none stands = absurd none
+absent_bucket basis walk view (at.Changed bucket done) none stands = absurd none
+
+not_first : (crowded : ℕ → Bool) (l most g : ℕ) (next : Pass) → IsNextPass crowded l most g next → next ≡ pass.First → ⊥
+not_first crowded l most g pass.First is same = is
+not_first crowded l most g pass.Narrow is same = cc
+not_first crowded l most g pass.Wide is same = cc
+
+-- which pass follows is in the phase
+follows : (phase : Phase) (next : Pass) → phase ≡ at.Full next → (next ≡ pass.First → ⊥) → (phase ≡ at.Full (next_of phase)) × (next_of phase ≡ pass.First → ⊥)
+follows phase next is later = subst (λ (phase : Phase). (phase ≡ at.Full (next_of phase)) × (next_of phase ≡ pass.First → ⊥)) (sym is) (refl, later)
+
+module _ (bits : ℕ → ℕ) (root max_depth : ℕ) (first mid new : Moment) (walk after : WalkFields) (value : ℕ) (alone : IsAlone mid) (file : IsHashFile bits (pages_before mid) root max_depth) (none : IsAtAbsent walk.phase)
+    (stood : IsStanding (basis_of bits root max_depth first) walk (view_of mid)) (may : MayStep new) (clean : (clean : ℕ → Option Page) → IsCleanFor mid clean → IsCleanFor new clean) (step : WritesAtMost mid new (page_of walk.phase))
+  where
+    abbrev ours : Basis
+    ours = basis_of bits root max_depth first
+
+    here : (depth : ℕ) × (found : Option ℕ) × IsAtBucket ours walk (view_of mid) (page_of walk.phase) depth found
+    here = absent_bucket ours walk (view_of mid) walk.phase none stood
+
+    keeps : KeepsBefore mid new
+    keeps = write_keeps_before mid mid new (page_of walk.phase) refl alone may clean step
+
+    alone_new : IsAlone new
+    alone_new = alone_after_write mid new (page_of walk.phase) alone may step
+
+    file_new : IsHashFile bits (pages_before new) root max_depth
+    file_new = file_kept bits root max_depth mid new keeps file
+
+    shallow : depth_of (page_at new.store.pages) root ≤ max_depth
+    shallow = let h = here in shallow_after_write ours mid new walk (page_of walk.phase) h.0 h.1 alone.may file h.2 step
+
+    -- the bucket that the walk sees is the key's
+    leads : lead_of (pages_before new) root (bits walk.key) ≡ page_of walk.phase
+    leads = let h = here in ap (λ (pages : ℕ → Option Page). lead_of pages root (bits walk.key)) (same_before mid new keeps) ∙ leads_here ours mid walk (page_of walk.phase) h.0 h.1 h.2 alone.may
+
+    key_bucket : (fields : BucketFields) → (view_of new).seen (page_of walk.phase) ≡ Some (Some (page.Bucket fields)) → buckets_of (pages_before new) (lead_of (pages_before new) root (bits walk.key)) ≡ fields
+    key_bucket fields sees = ap (buckets_of (pages_before new)) leads ∙ ap bucket_of (sees_before new may (page_of walk.phase) (Some (page.Bucket fields)) sees)
+
+    is_full : (fields : BucketFields) → IsFull ours walk (view_of new) fields → IsFullFor bits (pages_before new) root walk.key
+    is_full fields full = ap (λ (b : BucketFields). list_all (is_kept set.empty) b.slots) (key_bucket fields full.sees.at) ∙ full.no_room
+
+    never : HasNoRoom ours new walk after → NeverHasRoomFor bits (pages_before new) max_depth walk.key
+    never has =
+        let same : buckets_of (pages_before new) (lead_of (pages_before new) root (bits walk.key)) ≡ has.fields = key_bucket has.fields has.full.sees.at in
+        let x : ℕ = bits walk.key in
+        let below : x < 2 ^ 64 = file_new.bounded walk.key in
+        let fine : (buckets_of (pages_before new) (lead_of (pages_before new) root x)).depth ≤ max_depth = omega (arith, file_new.form.form.fine x below, file_new.shallow) in
+        let fits : has.fields.depth ≤ max_depth = subst (λ (b : BucketFields). b.depth ≤ max_depth) same fine in
+        let crowded : is_crowded bits set.empty max_depth x has.fields.slots ≡ true = has.never max_depth fits (omega arith) in
+        let there : is_crowded bits set.empty max_depth x (buckets_of (pages_before new) (lead_of (pages_before new) root x)).slots ≡ true = ap (λ (b : BucketFields). is_crowded bits set.empty max_depth x b.slots) same ∙ crowded in
+        (crowded_test bits set.empty _ (lead_of (pages_before new) root) (buckets_of (pages_before new)) max_depth x below file_new.bounded file_new.form.form fine (omega (arith, file_new.small))).1 there
+
+    -- at a depth at which the bucket has room, and at any deeper one, the file is not crowded
+    has_room : (fields : BucketFields) (d : ℕ) → (view_of new).seen (page_of walk.phase) ≡ Some (Some (page.Bucket fields)) → d ≤ max_depth → crowded_at ours walk fields d ≡ false → NeverHasRoomFor bits (pages_before new) max_depth walk.key → ⊥
+    has_room fields d sees within room never =
+        let same : buckets_of (pages_before new) (lead_of (pages_before new) root (bits walk.key)) ≡ fields = key_bucket fields sees in
+        let x : ℕ = bits walk.key in
+        let below : x < 2 ^ 64 = file_new.bounded walk.key in
+        let fine : (buckets_of (pages_before new) (lead_of (pages_before new) root x)).depth ≤ max_depth = omega (arith, file_new.form.form.fine x below, file_new.shallow) in
+        let there : is_crowded bits set.empty max_depth x (buckets_of (pages_before new) (lead_of (pages_before new) root x)).slots ≡ true = (crowded_test bits set.empty _ (lead_of (pages_before new) root) (buckets_of (pages_before new)) max_depth x below file_new.bounded file_new.form.form fine (omega (arith, file_new.small))).0 never in
+        let crowded : is_crowded bits set.empty max_depth x fields.slots ≡ true = ap (λ (b : BucketFields). is_crowded bits set.empty max_depth x b.slots) (sym same) ∙ there in
+        false≢true (sym room ∙ crowded_in_fewer bits set.empty d max_depth x fields.slots within (omega (arith, file_new.small)) crowded)
+
+    changed : (done : Change) → value_after done ≡ Some value → Makes ours new walk after done → HasChanged ours new walk.key (Some value)
+    changed done is makes = subst (λ (value : Option ℕ). HasChanged ours new walk.key value) is (made_alone ours new walk after done alone_new file_new shallow makes)
+
+    -- where nothing is written, the pages are those before
+    store_is : new ≡ mid → page_at new.store.pages ≡ pages_before new
+    store_is same i q = let h = here in unwritten_store new q may (subst (λ (m : Moment). IsUnwritten (view_of m)) (sym same) h.2.unwritten) i
+
+    pages_counted : (d : ℕ) → new ≡ mid → after.phase ≡ at.Adding value (page_of walk.phase) d true → pages_in_the_end root after new ≡ map.len (put_back new.running.images new.store.pages) + pages_for bits (pages_before new) root walk.key d
+    pages_counted d same phase =
+        let stored = store_is same in
+        let back : new.store.pages ≡ put_back new.running.images new.store.pages = sym (same_pages _ _ (λ q. page_at-put_back new.running.images new.store.pages q ∙ sym (λ i. stored i q))) in
+        let leads_there : page_of walk.phase ≡ lead_of (pages_before new) root (bits walk.key) = sym leads in
+        let left : pages_left_at after.phase root after new ≡ pages_to_make (buckets_of (page_at new.store.pages) (page_of walk.phase)).depth (depth_of (page_at new.store.pages) root) d = ap (λ (phase : Phase). pages_left_at phase root after new) phase in
+        let same_left : pages_to_make (buckets_of (page_at new.store.pages) (page_of walk.phase)).depth (depth_of (page_at new.store.pages) root) d ≡ pages_for bits (pages_before new) root walk.key d = (λ i. pages_to_make (buckets_of (stored i) (leads_there i)).depth (depth_of (stored i) root) d) in
+        (λ i. map.len (back i) + (left ∙ same_left) i)
+
+    needs_splits : new ≡ mid → NeedsSplit ours new walk after value → (walk.pass ≡ pass.First → ⊥) → NeedsSplits ours new walk after value
+    needs_splits same needs later =
+        let next = needs.later later in
+        record {
+          value_is = ap added_value next.1;
+          may = record { stands = needs.stands; adds = subst IsPutting (sym next.1) tt };
+          ever = has_room needs.fields next.0 needs.full.sees.at next.2.1 next.2.2;
+          d = next.0;
+          least = subst (λ (b : BucketFields). HasRoomFrom (λ e. is_crowded bits set.empty e (bits walk.key) b.slots) b.depth max_depth next.0) (sym (key_bucket needs.fields needs.full.sees.at)) next.2;
+          pages = pages_counted next.0 same next.1;
+        }
+
+    needs_room : new ≡ mid → NeedsSplit ours new walk after value → NeedsRoom ours new walk after value
+    needs_room same needs = record {
+      full = is_full needs.fields needs.full;
+      same = needs.same;
+      first = λ is. let next = needs.first is in follows after.phase next.0 next.1 (not_first _ _ _ _ next.0 next.2);
+      later = needs_splits same needs;
+    }
+
+    -- **The pass tells what its addition told.**
+    pub pass_tells : (told : WalkAnswer) → WritesIfChanged mid new (page_of walk.phase) told → TellsOfAddition ours new walk after value told → TellsOfPass ours new walk after value told
+    pass_tells answer.Changed writes tells =
+        elim tells [
+          | inl revives ↦ changed (change.Revive value) refl revives
+          | inr puts ↦ changed (change.Put value) refl puts
+        ]
+    pass_tells answer.NeedSplit writes tells = needs_room writes tells
+    pass_tells answer.Widen writes tells = record { same = tells.same; narrow = tells.narrow; phase = tells.phase }
+    pass_tells (answer.Refused refusal.NoRoom) writes tells = (tells.later, is_full tells.fields tells.full, never tells)
+    pass_tells other writes tells = absurd tells
+
+retell_splits : (basis : Basis) (new : Moment) (before walk after : WalkFields) (value : ℕ) → IsSameWalk before walk → NeedsSplits basis new walk after value → NeedsSplits basis new before after value
+retell_splits basis new before walk after value same needs = record {
+  value_is = needs.value_is;
+  may = needs.may;
+  ever = subst (λ (key : ℕ). NeverHasRoomFor basis.bits (pages_before new) basis.max_depth key → ⊥) same.key needs.ever;
+  d = needs.d;
+  least = subst (λ (key : ℕ). HasRoomAt basis.bits (pages_before new) basis.root basis.max_depth key needs.d) same.key needs.least;
+  pages = subst (λ (key : ℕ). pages_in_the_end basis.root after new ≡ map.len (put_back new.running.images new.store.pages) + pages_for basis.bits (pages_before new) basis.root key needs.d) same.key needs.pages;
+}
+
+-- a pass tells the same of the walk as it was before it went to its bucket
+pub retell : (basis : Basis) (new : Moment) (before walk after : WalkFields) (value : ℕ) (told : WalkAnswer) → IsSameWalk before walk → TellsOfPass basis new walk after value told → TellsOfPass basis new before after value told
+retell basis new before walk after value answer.Changed same tells = subst (λ (key : ℕ). HasChanged basis new key (Some value)) same.key tells
+retell basis new before walk after value answer.NeedSplit same tells = record {
+  full = subst (λ (key : ℕ). IsFullFor basis.bits (pages_before new) basis.root key) same.key tells.full;
+  same = same_walks before walk after same tells.same;
+  first = λ is. tells.first (same.pass ∙ is);
+  later = λ later. retell_splits basis new before walk after value same (tells.later (λ is. later (sym same.pass ∙ is)));
+}
+retell basis new before walk after value answer.Widen same tells = record { same = same_walks before walk after same tells.same; narrow = sym same.pass ∙ tells.narrow; phase = tells.phase }
+retell basis new before walk after value (answer.Refused refusal.NoRoom) same tells = (λ is. tells.0 (same.pass ∙ is), subst (λ (key : ℕ). IsFullFor basis.bits (pages_before new) basis.root key) same.key tells.1, subst (λ (key : ℕ). NeverHasRoomFor basis.bits (pages_before new) basis.max_depth key) same.key tells.2)
+retell basis new before walk after value other same tells = absurd tells
+
+-- **A pass alone tells what its addition told at the bucket that it went to.**
+pub addition_tells : (bits : ℕ → ℕ) (opens : set.FinSet nat_cmp) (root max_depth : ℕ) (first old mid new : Moment) (before walk after : WalkFields) (found : Option ℕ) (value : ℕ) (told : WalkAnswer)
+    → opens ≡ set.empty → mid ≡ old → IsAlone mid → KeepsBefore first old → HasArrived (basis_of bits root max_depth first) old before walk found → IsAtAbsent walk.phase → IsHashFile bits (pages_before first) root max_depth
+    → MayStep new → ((clean : ℕ → Option Page) → IsCleanFor mid clean → IsCleanFor new clean) → WritesIfChanged mid new (page_of walk.phase) told
+    → TellsOfAddition (record { bits = bits; opens = opens; root = root; max_depth = max_depth; tx = mid.running.tx }) new walk after value told
+    → TellsOfPass (basis_of bits root max_depth first) new before after value told
+addition_tells bits opens root max_depth first old mid new before walk after found value told none same alone keeps arrived absent was may clean writes tells =
+    let basis : Basis = basis_of bits root max_depth first in
+    let same_tx : mid.running.tx ≡ first.running.tx = ap (λ (m : Moment). m.running.tx) same ∙ keeps.tx in
+    let same_basis : record { bits = bits; opens = opens; root = root; max_depth = max_depth; tx = mid.running.tx } ≡ basis = λ i. record { bits = bits; opens = none i; root = root; max_depth = max_depth; tx = same_tx i } in
+    let stood : IsStanding basis walk (view_of mid) = subst (λ (m : Moment). IsStanding basis walk (view_of m)) (sym same) arrived.stands in
+    let file : IsHashFile bits (pages_before mid) root max_depth = subst (λ (m : Moment). IsHashFile bits (pages_before m) root max_depth) (sym same) (file_kept bits root max_depth first old keeps was) in
+    let of_pass = pass_tells bits root max_depth first mid new walk after value alone file absent stood may clean (writes_at_most mid new (page_of walk.phase) told writes) told writes (subst (λ (basis : Basis). TellsOfAddition basis new walk after value told) same_basis tells) in
+    retell basis new before walk after value told arrived.same of_pass
+
+pub addition_keeps : (first old mid new : Moment) (q : ℕ) → mid ≡ old → IsAlone mid → KeepsBefore first old → MayStep new → ((clean : ℕ → Option Page) → IsCleanFor mid clean → IsCleanFor new clean) → WritesAtMost mid new q → KeepsBefore first new
+addition_keeps first old mid new q same alone keeps may clean step = keeps_both first old new keeps (write_keeps_before mid old new q same alone may clean step)

@@ -1,0 +1,96 @@
+-- The way of a walk that runs alone
+use Rattle.std.proofs.Common.{◌≡◌, ℕ, ◌<◌, Option, refl, sym, subst, ◌∙◌, arith}
+use Rattle.std.specs.FinSet as set
+use Rattle.mlt_page.specs.declared.page.Page.{Page}
+use Rattle.mlt_held.specs.Moments.{Moment}
+use Rattle.mlt_held.specs.Views.{view_of}
+use Rattle.mlt_hash_file.specs.Alone.{KeepsBefore, basis_of, pages_before}
+use Rattle.mlt_hash_file.specs.AloneWalks.{HasArrived, IsHashFile}
+use Rattle.mlt_hash.specs.Splitting.{IsUnderWay, TellsAt}
+use Rattle.mlt_hash.specs.Steps.{IsSameWalk, TellsOfPath, steps_to_bucket}
+use Rattle.mlt_hash.specs.Walks.{Basis, IsAtStart, IsStanding, Stands, WalkFields}
+use Rattle.mlt_hash.specs.declared.answer.WalkAnswer.{WalkAnswer}
+use Rattle.mlt_hash.specs.declared.answer.WalkAnswer.TheVariants as answer
+use Rattle.mlt_hash.specs.declared.pass.Phase.{Phase}
+use Rattle.mlt_hash.specs.declared.pass.Phase.TheVariants as at
+use Rattle.mlt_hash_file.proofs.Alone.{keeps_both, keeps_same}
+
+-- the pages stand as they stood before, all at once
+pub same_before : (old new : Moment) → KeepsBefore old new → pages_before new ≡ pages_before old
+same_before old new keeps i q = keeps.pages q i
+
+-- so the file is the one that it was
+pub file_kept : (bits : ℕ → ℕ) (root max_depth : ℕ) (old new : Moment) → KeepsBefore old new → IsHashFile bits (pages_before old) root max_depth → IsHashFile bits (pages_before new) root max_depth
+file_kept bits root max_depth old new keeps file = subst (λ (pages : ℕ → Option Page). IsHashFile bits pages root max_depth) (sym (same_before old new keeps)) file
+
+-- what a walk goes by is the same at each of its steps
+pub same_basis : (bits : ℕ → ℕ) (root max_depth : ℕ) (old new : Moment) → KeepsBefore old new → basis_of bits root max_depth new ≡ basis_of bits root max_depth old
+same_basis bits root max_depth old new keeps i = record { bits = bits; opens = set.empty; root = root; max_depth = max_depth; tx = keeps.tx i }
+
+-- a walk is on its way to its bucket
+pub record IsOnItsWay (basis : Basis) (old now : Moment) (before walk : WalkFields) : Type 0 where
+  pub more : 0 < steps_to_bucket walk.phase
+  pub same : IsSameWalk before walk
+  pub stands : IsStanding basis walk (view_of now)
+  pub keeps : KeepsBefore old now
+
+pub starts : (basis : Basis) (m : Moment) (walk : WalkFields) → walk.phase ≡ at.Start → IsAtStart (view_of m) → IsOnItsWay basis m m walk walk
+starts basis m walk start nothing = record {
+  more = subst (λ (phase : Phase). 0 < steps_to_bucket phase) (sym start) (omega arith);
+  same = record { key = refl; mode = refl; pass = refl };
+  stands = subst (λ (phase : Phase). Stands phase basis walk (view_of m)) (sym start) nothing;
+  keeps = keeps_same m;
+}
+
+-- then it has a next step,
+under_way_at : (phase : Phase) → 0 < steps_to_bucket phase → IsUnderWay phase
+under_way_at at.Start more = tt
+under_way_at (at.Headed dir row depth) more = tt
+under_way_at (at.Placed bucket depth) more = tt
+under_way_at (at.AtBucket bucket depth found) more = absurd (omega (arith, more))
+under_way_at (at.Full next) more = absurd (omega (arith, more))
+under_way_at (at.Adding value bucket room_depth unsplit) more = absurd (omega (arith, more))
+under_way_at (at.Splitting value room_depth) more = absurd (omega (arith, more))
+under_way_at (at.Changed bucket done) more = absurd (omega (arith, more))
+
+pub under_way : (basis : Basis) (old now : Moment) (before walk : WalkFields) → IsOnItsWay basis old now before walk → IsUnderWay walk.phase
+under_way basis old now before walk way = under_way_at walk.phase way.more
+
+-- which tells of its way
+path_tells : (phase : Phase) (basis : Basis) (old new : Moment) (before after : WalkFields) (told : WalkAnswer) → 0 < steps_to_bucket phase → TellsAt phase basis old new before after told → TellsOfPath basis old new before after told
+path_tells at.Start basis old new before after told more tells = tells
+path_tells (at.Headed dir row depth) basis old new before after told more tells = tells
+path_tells (at.Placed bucket depth) basis old new before after told more tells = tells
+path_tells (at.AtBucket bucket depth found) basis old new before after told more tells = tells
+path_tells (at.Full next) basis old new before after told more tells = tells
+path_tells (at.Adding value bucket room_depth unsplit) basis old new before after told more tells = absurd (omega (arith, more))
+path_tells (at.Splitting value room_depth) basis old new before after told more tells = absurd (omega (arith, more))
+path_tells (at.Changed bucket done) basis old new before after told more tells = tells
+
+pub same_walks : (first next last : WalkFields) → IsSameWalk first next → IsSameWalk next last → IsSameWalk first last
+same_walks first next last one two = record { key = two.key ∙ one.key; mode = two.mode ∙ one.mode; pass = two.pass ∙ one.pass }
+
+module _ (bits : ℕ → ℕ) (root max_depth : ℕ) (old now new : Moment) (before walk after : WalkFields) (way : IsOnItsWay (basis_of bits root max_depth old) old now before walk) where
+  -- the walk stands so at this moment too
+  pub stands_now : IsStanding (basis_of bits root max_depth now) walk (view_of now)
+  stands_now = subst (λ (basis : Basis). IsStanding basis walk (view_of now)) (sym (same_basis bits root max_depth old now way.keeps)) way.stands
+
+  told_of : (told : WalkAnswer) → TellsAt walk.phase (basis_of bits root max_depth now) now new walk after told → TellsOfPath (basis_of bits root max_depth old) now new walk after told
+  told_of told tells =
+      subst (λ (basis : Basis). TellsOfPath basis now new walk after told) (same_basis bits root max_depth old now way.keeps) (path_tells walk.phase (basis_of bits root max_depth now) now new walk after told way.more tells)
+
+  -- it goes on,
+  pub on_its_way : KeepsBefore now new → TellsAt walk.phase (basis_of bits root max_depth now) now new walk after answer.Going → IsOnItsWay (basis_of bits root max_depth old) old new before after
+  on_its_way keeps tells =
+      let told = told_of answer.Going tells in
+      record { more = told.1; same = same_walks before walk after way.same told.0.same; stands = told.0.stands; keeps = keeps_both old now new way.keeps keeps }
+
+  -- with a step fewer,
+  pub one_step_fewer : TellsAt walk.phase (basis_of bits root max_depth now) now new walk after answer.Going → steps_to_bucket after.phase < steps_to_bucket walk.phase
+  one_step_fewer tells = let told = told_of answer.Going tells in omega (arith, told.0.fewer)
+
+  -- or has arrived,
+  pub arrives : (found : Option ℕ) → TellsAt walk.phase (basis_of bits root max_depth now) now new walk after (answer.Found found) → HasArrived (basis_of bits root max_depth old) new before after found
+  arrives found tells =
+      let told = told_of (answer.Found found) tells in
+      record { same = same_walks before walk after way.same told.0.same; stands = told.0.stands; found = told.1 }

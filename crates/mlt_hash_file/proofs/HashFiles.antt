@@ -1,0 +1,104 @@
+-- A hash file alone: its records as one finite map
+use Rattle.std.proofs.Common.{◌≡◌, ℕ, Option, None, Some, IsSome, sym, ap, subst, ◌∙◌, inl, inr, arith}
+use Rattle.std.proofs.Math.Path.{transport}
+use Rattle.std.specs.FinMap as map
+use Rattle.std.proofs.lemmas.Bool.{cases_eq}
+use Rattle.std.proofs.lemmas.Bool.Decides.{nat_tests}
+use Rattle.mlt_types.specs.declared.refusal.Refusal.{Refusal}
+use Rattle.mlt_page.specs.declared.page.Page.{Page}
+use Rattle.mlt_store.specs.Stores.{Pages, page_at}
+use Rattle.mlt_page_locks.proofs.Maps.{get_inserted, get_removed, same_entries}
+use Rattle.mlt_subtx.specs.Images.{put_back}
+use Rattle.mlt_subtx.proofs.ImageLaws.{page_at-put_back, same_pages}
+use Rattle.mlt_hash_form.specs.File.{look_up}
+use Rattle.mlt_hash_form.specs.Records.{live_records}
+use Rattle.mlt_hash_form.proofs.MapChanges.{map_is_look_up}
+use Rattle.mlt_held.specs.Moments.{Moment}
+use Rattle.mlt_hash_file.specs.Alone.{IsAlone, IsIdle, KeepsBefore, basis_of, pages_before}
+use Rattle.mlt_hash_file.specs.AloneWalks.{ChangesValue, HasArrived, HasChanged, IsHashFile, RefusesFor, TellsRefusal}
+use Rattle.mlt_hash.specs.Changes.{IsAtRecord}
+use Rattle.mlt_hash.specs.Walks.{Basis, WalkFields}
+use Rattle.mlt_hash_file.proofs.Alone.{keeps_both}
+use Rattle.mlt_hash_file.proofs.AloneEnds.{idle_before, idle_store}
+use Rattle.mlt_hash_file.proofs.AlonePasses.{arrived_store, found_is_value, found_record}
+use Rattle.mlt_hash_file.proofs.AloneWalks.{same_before}
+
+-- the look-up of a key in the map of records is that in the file
+pub record_is : (bits : ℕ → ℕ) (root max_depth : ℕ) (pages : Pages) (key : ℕ) → IsHashFile bits (page_at pages) root max_depth → map.get (live_records pages) key ≡ look_up bits (page_at pages) root key
+record_is bits root max_depth pages key file = map_is_look_up bits pages root file.bounded file.form key
+
+-- a change of a value is an insertion or a removal
+inserted : (bits : ℕ → ℕ) (root max_depth : ℕ) (pages pages' : Pages) (key value : ℕ) → IsHashFile bits (page_at pages) root max_depth → ChangesValue bits (page_at pages) (page_at pages') root max_depth key (Some value) → live_records pages' ≡ map.insert (live_records pages) key value
+inserted bits root max_depth pages pages' key value file changes = same_entries (live_records pages') (map.insert (live_records pages) key value) (λ q.
+    elim (cases_eq q key) [
+      | inl here ↦ record_is bits root max_depth pages' q changes.file ∙ ap (look_up bits (page_at pages') root) here ∙ changes.here ∙ grind (arith, nat_tests, get_inserted (live_records pages) key value q)
+      | inr other ↦ record_is bits root max_depth pages' q changes.file ∙ changes.others q other ∙ sym (record_is bits root max_depth pages q file) ∙ grind (arith, nat_tests, get_inserted (live_records pages) key value q)
+    ])
+
+removed : (bits : ℕ → ℕ) (root max_depth : ℕ) (pages pages' : Pages) (key : ℕ) → IsHashFile bits (page_at pages) root max_depth → ChangesValue bits (page_at pages) (page_at pages') root max_depth key None → live_records pages' ≡ map.remove (live_records pages) key
+removed bits root max_depth pages pages' key file changes = same_entries (live_records pages') (map.remove (live_records pages) key) (λ q.
+    elim (cases_eq q key) [
+      | inl here ↦ record_is bits root max_depth pages' q changes.file ∙ ap (look_up bits (page_at pages') root) here ∙ changes.here ∙ grind (arith, nat_tests, get_removed (live_records pages) key q)
+      | inr other ↦ record_is bits root max_depth pages' q changes.file ∙ changes.others q other ∙ sym (record_is bits root max_depth pages q file) ∙ grind (arith, nat_tests, get_removed (live_records pages) key q)
+    ])
+
+-- a file at rest is the one that a walk finds
+pub file_before : (bits : ℕ → ℕ) (root max_depth : ℕ) (m : Moment) → IsIdle m → IsHashFile bits (page_at m.store.pages) root max_depth → IsHashFile bits (pages_before m) root max_depth
+file_before bits root max_depth m idle file = subst (λ (pages : ℕ → Option Page). IsHashFile bits pages root max_depth) (sym (idle_store m idle)) file
+
+-- a key that no record has is absent to a walk
+pub absent_before : (bits : ℕ → ℕ) (root max_depth : ℕ) (m : Moment) (key : ℕ) → IsIdle m → IsHashFile bits (page_at m.store.pages) root max_depth → map.get (live_records m.store.pages) key ≡ None → look_up bits (pages_before m) root key ≡ None
+absent_before bits root max_depth m key idle file absent = ap (λ (pages : ℕ → Option Page). look_up bits pages root key) (idle_store m idle) ∙ sym (record_is bits root max_depth m.store.pages key file) ∙ absent
+
+-- who has only read leaves the store as it was
+pub store_stays : (basis : Basis) (old mid : Moment) (before walk : WalkFields) (value : Option ℕ) → IsIdle old → KeepsBefore old mid → IsAlone mid → HasArrived basis mid before walk value → mid.store ≡ old.store
+store_stays basis old mid before walk value idle keeps alone arrived =
+    let pages : mid.store.pages ≡ old.store.pages = same_pages mid.store.pages old.store.pages (λ q. arrived_store basis mid before walk value q alone arrived ∙ keeps.pages q ∙ idle_before old q idle) in
+    λ i. record { pages = pages i; max_pages = keeps.max_pages i }
+
+-- what was found is the record
+pub found_is_record : (bits : ℕ → ℕ) (root max_depth : ℕ) (old mid : Moment) (before walk : WalkFields) (value : Option ℕ) → IsIdle old → IsHashFile bits (page_at old.store.pages) root max_depth → KeepsBefore old mid → IsAlone mid → HasArrived (basis_of bits root max_depth old) mid before walk value
+    → value ≡ map.get (live_records old.store.pages) before.key
+found_is_record bits root max_depth old mid before walk value idle file keeps alone arrived =
+    let found : look_up bits (pages_before mid) root before.key ≡ value = found_is_value (basis_of bits root max_depth old) mid before walk value alone arrived in
+    let same : pages_before mid ≡ page_at old.store.pages = same_before old mid keeps ∙ idle_store old idle in
+    sym found ∙ ap (λ (pages : ℕ → Option Page). look_up bits pages root before.key) same ∙ sym (record_is bits root max_depth old.store.pages before.key file)
+
+-- a walk of a key that is there has found its record
+pub at_record : (bits : ℕ → ℕ) (root max_depth : ℕ) (old mid : Moment) (before walk : WalkFields) (value : Option ℕ) → IsIdle old → IsHashFile bits (page_at old.store.pages) root max_depth → KeepsBefore old mid → IsAlone mid → HasArrived (basis_of bits root max_depth old) mid before walk value
+    → IsSome (map.get (live_records old.store.pages) before.key) → IsAtRecord walk.phase
+at_record bits root max_depth old mid before walk value idle file keeps alone arrived there =
+    found_record walk.phase value arrived.found (subst IsSome (sym (found_is_record bits root max_depth old mid before walk value idle file keeps alone arrived)) there)
+
+-- a change, over the file as it was
+change_of_file : (bits : ℕ → ℕ) (root max_depth : ℕ) (old mid : Moment) (key : ℕ) (value : Option ℕ) → IsIdle old → KeepsBefore old mid → HasChanged (basis_of bits root max_depth old) mid key value → ChangesValue bits (page_at old.store.pages) (page_at mid.store.pages) root max_depth key value
+change_of_file bits root max_depth old mid key value idle keeps changed = subst (λ (pages : ℕ → Option Page). ChangesValue bits pages (page_at mid.store.pages) root max_depth key value) (same_before old mid keeps ∙ idle_store old idle) changed
+
+-- **so a change is one of the map of records.**
+module _ (bits : ℕ → ℕ) (root max_depth : ℕ) (old mid new : Moment) (key : ℕ) (idle : IsIdle old) (file : IsHashFile bits (page_at old.store.pages) root max_depth) (keeps : KeepsBefore old mid) (keeps_too : KeepsBefore mid new) where
+  changes_file : (value : Option ℕ) → HasChanged (basis_of bits root max_depth mid) new key value → ChangesValue bits (page_at old.store.pages) (page_at new.store.pages) root max_depth key value
+  changes_file value changed = change_of_file bits root max_depth old new key value idle (keeps_both old mid new keeps keeps_too) changed
+
+  pub inserts : (value : ℕ) → HasChanged (basis_of bits root max_depth mid) new key (Some value) → live_records new.store.pages ≡ map.insert (live_records old.store.pages) key value
+  inserts value changed = inserted bits root max_depth old.store.pages new.store.pages key value file (changes_file (Some value) changed)
+
+  pub removes : HasChanged (basis_of bits root max_depth mid) new key None → live_records new.store.pages ≡ map.remove (live_records old.store.pages) key
+  removes changed = removed bits root max_depth old.store.pages new.store.pages key file (changes_file None changed)
+
+-- who holds nothing, and kept the pages as they were before, left the store as it was
+pub idle_store_stays : (old new : Moment) → IsIdle old → IsIdle new → KeepsBefore old new → new.store ≡ old.store
+idle_store_stays old new idle idle_too keeps =
+    let pages : new.store.pages ≡ old.store.pages = same_pages new.store.pages old.store.pages (λ q. sym (idle_before new q idle_too) ∙ keeps.pages q ∙ idle_before old q idle) in
+    λ i. record { pages = pages i; max_pages = keeps.max_pages i }
+
+-- the pages that a roll back leaves are those that were there
+put_back_first : (old mid : Moment) → IsIdle old → KeepsBefore old mid → put_back mid.running.images mid.store.pages ≡ old.store.pages
+put_back_first old mid idle keeps =
+    same_pages (put_back mid.running.images mid.store.pages) old.store.pages (λ q. page_at-put_back mid.running.images mid.store.pages q ∙ keeps.pages q ∙ idle_before old q idle)
+
+-- **An addition that is refused says of the file as it was why.**
+pub refuses : (bits : ℕ → ℕ) (root max_depth : ℕ) (old mid : Moment) (key : ℕ) (reason : Refusal) → IsIdle old → KeepsBefore old mid → TellsRefusal (basis_of bits root max_depth old) mid key reason → RefusesFor bits (page_at old.store.pages) old.store.pages root max_depth old.store.max_pages key reason
+refuses bits root max_depth old mid key reason idle keeps tells =
+    let before : pages_before mid ≡ page_at old.store.pages = same_before old mid keeps ∙ idle_store old idle in
+    let pages : put_back mid.running.images mid.store.pages ≡ old.store.pages = put_back_first old mid idle keeps in
+    transport (λ i. RefusesFor bits (before i) (pages i) root max_depth (keeps.max_pages i) key reason) tells

@@ -1,0 +1,12 @@
+pub mod Alone
+pub mod AloneChanges
+pub mod AloneEnds
+pub mod AloneInsertions
+pub mod AlonePages
+pub mod AlonePasses
+pub mod AloneSplits
+pub mod AloneSteps
+pub mod AloneWalks
+pub mod HashFiles
+pub mod OpenedFiles
+pub mod SplitPages

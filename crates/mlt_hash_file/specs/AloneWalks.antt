@@ -1,0 +1,137 @@
+-- What walks do that run alone
+use Rattle.std.specs.Prelude.{ℕ, ◌≡◌, ◌<◌, ◌≤◌, ◌+◌, ◌^◌, ◌⊎◌, true, None, Option, Some}
+use Rattle.std.specs.List.{list_all}
+use Rattle.std.specs.FinMap as map
+use Rattle.std.specs.FinSet as set
+use Rattle.mlt_types.specs.declared.refusal.Refusal.{Refusal}
+use Rattle.mlt_types.specs.declared.refusal.Refusal.TheVariants as refusal
+use Rattle.mlt_page.specs.Slots.{is_kept}
+use Rattle.mlt_page.specs.declared.page.Page.{Page}
+use Rattle.mlt_store.specs.Stores.{Pages, page_at}
+use Rattle.mlt_hash_form.specs.File.{HasForm, buckets_of, depth_of, look_up}
+use Rattle.mlt_hash_form.specs.Room.{IsCrowded}
+use Rattle.mlt_hash_form.specs.declared.root.Root.{Root}
+use Rattle.mlt_subtx.specs.Images.{put_back}
+use Rattle.mlt_held.specs.Moments.{Moment}
+use Rattle.mlt_held.specs.Views.{view_of}
+use Rattle.mlt_hash.specs.Walks.{Basis, IsStanding, WalkFields}
+use Rattle.mlt_hash.specs.Steps.{HasFound, IsSameWalk}
+use Rattle.mlt_hash.specs.StepsLeft.{IsPutting}
+use Rattle.mlt_hash_file.specs.Alone.{pages_before}
+use Rattle.mlt_hash.specs.Passes.{next_of}
+use Rattle.mlt_hash_file.specs.SplitPages.{HasRoomAt, LacksPages, bucket_for, pages_for, pages_in_the_end}
+use Rattle.mlt_hash.specs.declared.pass.Pass.TheVariants as pass
+use Rattle.mlt_hash.specs.declared.pass.Phase.{Phase}
+use Rattle.mlt_hash.specs.declared.pass.Phase.TheVariants as at
+use Rattle.mlt_hash.specs.declared.answer.WalkAnswer.{WalkAnswer}
+use Rattle.mlt_hash.specs.declared.answer.WalkAnswer.TheVariants as answer
+
+-- a hash file whose directory is no deeper than this, which is at most 16
+pub record IsHashFile (bits : ℕ → ℕ) (pages : ℕ → Option Page) (root max_depth : ℕ) : Type 0 where
+  pub bounded : (k : ℕ) → bits k < 2 ^ 64
+  pub form : HasForm bits pages root
+  pub shallow : depth_of pages root ≤ max_depth
+  pub small : max_depth ≤ 16
+
+-- the pages that a transaction alone began with are a hash file with this root, and have no record of the key
+abbrev pub IsFileBefore : {P : Type 0} → (P → ℕ → ℕ) → Root P → Moment → Type 0
+IsFileBefore bits_of root m = IsHashFile (bits_of root.pseudo) (pages_before m) root.page root.max_depth
+
+abbrev pub IsAbsentBefore : {P : Type 0} → (P → ℕ → ℕ) → Root P → Moment → ℕ → Type 0
+IsAbsentBefore bits_of root m key = look_up (bits_of root.pseudo) (pages_before m) root.page key ≡ None
+
+-- another hash file, in which the key has this value, or none, and each other key what it had
+pub record ChangesValue (bits : ℕ → ℕ) (before after : ℕ → Option Page) (root max_depth key : ℕ) (value : Option ℕ) : Type 0 where
+  pub file : IsHashFile bits after root max_depth
+  pub here : look_up bits after root key ≡ value
+  pub others : (k : ℕ) → (k ≡ key → ⊥) → look_up bits after root k ≡ look_up bits before root k
+
+-- the walk is at its key's bucket, and has found this there
+pub record HasArrived (basis : Basis) (new : Moment) (before after : WalkFields) (value : Option ℕ) : Type 0 where
+  pub same : IsSameWalk before after
+  pub stands : IsStanding basis after (view_of new)
+  pub found : HasFound after.phase value
+
+-- the change of the walk's key is written
+abbrev pub HasChanged : Basis → Moment → ℕ → Option ℕ → Type 0
+HasChanged basis new key value = ChangesValue basis.bits (pages_before new) (page_at new.store.pages) basis.root basis.max_depth key value
+
+-- the bucket of the key has no slot with room
+abbrev pub IsFullFor : (ℕ → ℕ) → (ℕ → Option Page) → ℕ → ℕ → Type 0
+IsFullFor bits pages root key = list_all (is_kept set.empty) (bucket_for bits pages root key).slots ≡ true
+
+-- eight slots of the file agree with the key in all bits that its directory may get, so that no split makes room
+abbrev pub NeverHasRoomFor : (ℕ → ℕ) → (ℕ → Option Page) → ℕ → ℕ → Type 0
+NeverHasRoomFor bits pages max_depth key = IsCrowded bits set.empty (buckets_of pages) max_depth (bits key)
+
+-- the value of the record that a walk adds once its bucket is split
+abbrev pub added_value : Phase → ℕ
+added_value (at.Adding value bucket room_depth unsplit) = value
+added_value (at.Splitting value room_depth) = value
+added_value other = 0
+
+-- the walk may go on to split, and to add its record
+pub record MayAdd (basis : Basis) (new : Moment) (walk : WalkFields) : Type 0 where
+  pub stands : IsStanding basis walk (view_of new)
+  pub adds : IsPutting walk.phase
+
+-- Some depth makes room, and the walk may go on to split its bucket down to there, which takes so many pages.
+pub record NeedsSplits (basis : Basis) (new : Moment) (before after : WalkFields) (value : ℕ) : Type 0 where
+  pub value_is : added_value after.phase ≡ value
+  pub may : MayAdd basis new after
+  pub ever : NeverHasRoomFor basis.bits (pages_before new) basis.max_depth before.key → ⊥
+  pub d : ℕ
+  pub least : HasRoomAt basis.bits (pages_before new) basis.root basis.max_depth before.key d
+  pub pages : pages_in_the_end basis.root after new ≡ map.len (put_back new.running.images new.store.pages) + pages_for basis.bits (pages_before new) basis.root before.key d
+
+-- A split is needed: a first pass says which one follows, and a later one may go on.
+pub record NeedsRoom (basis : Basis) (new : Moment) (before after : WalkFields) (value : ℕ) : Type 0 where
+  pub full : IsFullFor basis.bits (pages_before new) basis.root before.key
+  pub same : IsSameWalk before after
+  pub first : before.pass ≡ pass.First → (after.phase ≡ at.Full (next_of after.phase)) × (next_of after.phase ≡ pass.First → ⊥)
+  pub later : (before.pass ≡ pass.First → ⊥) → NeedsSplits basis new before after value
+
+-- A narrow pass has to be wide.
+pub record NeedsWidth (before after : WalkFields) : Type 0 where
+  pub same : IsSameWalk before after
+  pub narrow : before.pass ≡ pass.Narrow
+  pub phase : after.phase ≡ at.Full pass.Wide
+
+-- what a pass tells that adds a record of this value
+abbrev pub TellsOfPass : Basis → Moment → WalkFields → WalkFields → ℕ → WalkAnswer → Type 0
+TellsOfPass basis new before after value answer.Changed = HasChanged basis new before.key (Some value)
+TellsOfPass basis new before after value answer.NeedSplit = NeedsRoom basis new before after value
+TellsOfPass basis new before after value answer.Widen = NeedsWidth before after
+TellsOfPass basis new before after value (answer.Refused refusal.NoRoom) = (before.pass ≡ pass.First → ⊥) × IsFullFor basis.bits (pages_before new) basis.root before.key × NeverHasRoomFor basis.bits (pages_before new) basis.max_depth before.key
+TellsOfPass basis new before after value other = ⊥
+
+-- what the splits of a pass tell that lead to this number of pages
+abbrev pub TellsOfSplits : Basis → Moment → ℕ → ℕ → ℕ → WalkAnswer → Type 0
+TellsOfSplits basis new key value most answer.Changed = HasChanged basis new key (Some value)
+TellsOfSplits basis new key value most (answer.Refused refusal.NoRoom) = new.store.max_pages < most
+TellsOfSplits basis new key value most (answer.Refused reason) = reason ≡ refusal.OutOfMemory
+TellsOfSplits basis new key value most other = ⊥
+
+-- Why an addition is refused. The bucket of the key is full; and no split makes room, or there may not be as many pages as
+-- the splits make that do, or a growth was refused to them.
+abbrev pub RefusesFor : (ℕ → ℕ) → (ℕ → Option Page) → Pages → ℕ → ℕ → ℕ → ℕ → Refusal → Type 0
+RefusesFor bits before pages root max_depth max_pages key refusal.NoRoom = IsFullFor bits before root key × (NeverHasRoomFor bits before max_depth key ⊎ LacksPages bits before pages root max_depth max_pages key)
+RefusesFor bits before pages root max_depth max_pages key refusal.OutOfMemory = IsFullFor bits before root key × (NeverHasRoomFor bits before max_depth key → ⊥)
+RefusesFor bits before pages root max_depth max_pages key other = ⊥
+
+-- the same of an addition under way: the pages as they were before it
+abbrev pub TellsRefusal : Basis → Moment → ℕ → Refusal → Type 0
+TellsRefusal basis new key reason = RefusesFor basis.bits (pages_before new) (put_back new.running.images new.store.pages) basis.root basis.max_depth new.store.max_pages key reason
+
+-- what a later pass tells, with its splits
+abbrev pub TellsOfLater : Basis → Moment → WalkFields → WalkFields → ℕ → WalkAnswer → Type 0
+TellsOfLater basis new before after value answer.Changed = HasChanged basis new before.key (Some value)
+TellsOfLater basis new before after value answer.Widen = NeedsWidth before after
+TellsOfLater basis new before after value (answer.Refused reason) = TellsRefusal basis new before.key reason
+TellsOfLater basis new before after value other = ⊥
+
+-- what an addition tells with all its passes
+abbrev pub TellsOfInsertion : Basis → Moment → ℕ → ℕ → WalkAnswer → Type 0
+TellsOfInsertion basis new key value answer.Changed = HasChanged basis new key (Some value)
+TellsOfInsertion basis new key value (answer.Refused reason) = TellsRefusal basis new key reason
+TellsOfInsertion basis new key value other = ⊥

@@ -1,0 +1,4 @@
+pub mod Alone
+pub mod AloneWalks
+pub mod HashFiles
+pub mod SplitPages

@@ -1,0 +1,254 @@
+//! A transaction that runs alone.
+
+ghost use Rattle.std.specs.Prelude.{◌≡◌, ◌≢◌, ◌≤◌, ℕ, None, Some};
+ghost use Rattle.mlt_types.specs.declared.mode.Mode.{Mode};
+ghost use Rattle.mlt_store.specs.Stores.{page_at};
+ghost use Rattle.mlt_hash_form.specs.File.{look_up};
+ghost use Rattle.mlt_held.specs.Views.{view_of};
+ghost use Rattle.mlt_hash.specs.Walks.{IsAtStart, IsStanding};
+ghost use Rattle.mlt_hash.specs.Splitting.{IsUnderWay, TellsAt};
+ghost use Rattle.mlt_hash.specs.Changes.{IsAtRecord};
+ghost use Rattle.mlt_hash_file.specs.Alone.{HasNotWaited, IsAlone, IsIdle, KeepsBefore, basis_alone};
+ghost use Rattle.mlt_hash_file.specs.AloneWalks.{HasArrived, HasChanged, IsAbsentBefore, IsFileBefore, MayAdd, TellsOfInsertion, TellsOfLater, TellsOfPass, TellsOfSplits, added_value};
+ghost use Rattle.mlt_hash.specs.Passes.{next_of};
+ghost use Rattle.mlt_hash_file.specs.SplitPages.{pages_in_the_end};
+ghost use Rattle.mlt_hash.specs.declared.pass.Pass.{Pass};
+ghost use Rattle.mlt_hash.specs.declared.pass.Phase.{Phase};
+
+use mlt_hash::{Walk, WalkAnswer};
+use mlt_hash_form::Root;
+use mlt_held::LockedStore;
+use mlt_store::Store;
+use mlt_subtx::Subtx;
+use mlt_types::{OpenSet, Pseudo, Value};
+use std::marker::Model;
+
+/// The one transaction that works on a store, and what it holds there. A contract sees the moment. No other transaction
+/// holds a page, so no walk of it waits; and none is open, so no ghost keeps its room.
+#[derive(Drop)]
+pub(crate) struct Runner {
+    pub(crate) subtx: Subtx,
+    pub(crate) pages: LockedStore,
+    /// Nobody: no ghost keeps its room.
+    pub(crate) opens: OpenSet,
+}
+
+impl Model for Runner {
+    ghost use Rattle.std.specs.Prelude.{◌≡◌};
+    ghost use Rattle.std.specs.FinSet as set;
+    ghost use Rattle.mlt_held.specs.Moments.{Moment, moment};
+    ghost use Rattle.mlt_hash_file.specs.Alone.{IsAlone, coded_moment};
+
+    ghost Value = { Moment };
+
+    ghost coded = { coded_moment };
+
+    ghost view = { λ runner. moment runner.subtx runner.pages };
+
+    ghost invariant = { λ runner. IsAlone (moment runner.subtx runner.pages)
+        × (runner.opens ≡ set.empty) };
+}
+
+impl Runner {
+    /// One step of a walk.
+    pub(crate) fn step<P: Pseudo>(&mut self, walk: &mut Walk, root: &Root<P>) -> WalkAnswer
+        requires under_way { IsUnderWay walk.old.phase }
+        requires file { IsFileBefore P.bits_of root.now self.old }
+        requires stands { IsStanding (basis_alone P.bits_of root.now self.old) walk.old
+            (view_of self.old) }
+        ensures keeps { KeepsBefore self.old self.new }
+        ensures tells { TellsAt walk.old.phase (basis_alone P.bits_of root.now self.old)
+            self.old self.new walk.old walk.new result }
+        ensures goes { HasNotWaited result }
+        ensures alone { IsAlone self.old × IsAlone self.new }
+    {
+        walk.advance(root, &mut self.subtx, &mut self.pages, &self.opens)
+    }
+
+    /// Goes on to the bucket of the walk's key: the value that the key has there, if it has one.
+    pub(crate) fn find<P: Pseudo>(&mut self, walk: &mut Walk, root: &Root<P>) -> Option<Value>
+        requires start { walk.old.phase ≡ Phase.Start }
+        requires nothing { IsAtStart (view_of self.old) }
+        requires file { IsFileBefore P.bits_of root.now self.old }
+        ensures keeps { KeepsBefore self.old self.new }
+        ensures arrives { HasArrived (basis_alone P.bits_of root.now self.old)
+            self.new walk.old walk.new result }
+        ensures alone { IsAlone self.new }
+    {
+        loop {
+            match self.step(walk, root) {
+                WalkAnswer::Going => {}
+                WalkAnswer::Found(found) => return found,
+                _ => unreachable!(),
+            }
+        }
+    }
+
+    /// A pass that adds a record of the walk's key, which has none, if its bucket has room.
+    pub(crate) fn add<P: Pseudo>(
+        &mut self,
+        walk: &mut Walk,
+        value: Value,
+        root: &Root<P>,
+    ) -> WalkAnswer
+        requires start { walk.old.phase ≡ Phase.Start }
+        requires mode { walk.old.mode ≡ Mode.Exclusive }
+        requires nothing { IsAtStart (view_of self.old) }
+        requires file { IsFileBefore P.bits_of root.now self.old }
+        requires absent { IsAbsentBefore P.bits_of root.now self.old walk.old.key }
+        ensures keeps { KeepsBefore self.old self.new }
+        ensures tells { TellsOfPass (basis_alone P.bits_of root.now self.old)
+            self.new walk.old walk.new value result }
+    {
+        self.find(walk, root);
+        walk.insert(value, root, &mut self.subtx, &mut self.pages, &self.opens)
+    }
+
+    /// Rolls a pass back that found no room, and runs the one that follows.
+    pub(crate) fn add_again<P: Pseudo>(
+        &mut self,
+        walk: &mut Walk,
+        value: Value,
+        root: &Root<P>,
+    ) -> WalkAnswer
+        requires full { walk.old.phase ≡ Phase.Full (next_of walk.old.phase) }
+        requires mode { walk.old.mode ≡ Mode.Exclusive }
+        requires file { IsFileBefore P.bits_of root.now self.old }
+        requires absent { IsAbsentBefore P.bits_of root.now self.old walk.old.key }
+        ensures keeps { KeepsBefore self.old self.new }
+        ensures tells { TellsOfPass (basis_alone P.bits_of root.now self.old)
+            self.new (record walk.old { pass = next_of walk.old.phase; phase = Phase.Start }) walk.new value result }
+    {
+        self.roll_back();
+        walk.again();
+        self.add(walk, value, root)
+    }
+
+    /// Splits the bucket until there is room, and adds the record.
+    pub(crate) fn split<P: Pseudo>(&mut self, walk: &mut Walk, root: &Root<P>) -> WalkAnswer
+        requires file { IsFileBefore P.bits_of root.now self.old }
+        requires adds { MayAdd (basis_alone P.bits_of root.now self.old) self.old walk.old }
+        ensures keeps { KeepsBefore self.old self.new }
+        ensures tells { TellsOfSplits (basis_alone P.bits_of root.now self.old)
+            self.new walk.old.key (added_value walk.old.phase) (pages_in_the_end root.now.page walk.old self.old) result }
+    {
+        loop {
+            match self.step(walk, root) {
+                WalkAnswer::Going => {}
+                answer => return answer,
+            }
+        }
+    }
+
+    /// A later pass, with its splits.
+    pub(crate) fn add_with_splits<P: Pseudo>(
+        &mut self,
+        walk: &mut Walk,
+        value: Value,
+        root: &Root<P>,
+    ) -> WalkAnswer
+        requires full { walk.old.phase ≡ Phase.Full (next_of walk.old.phase) }
+        requires later { next_of walk.old.phase ≢ Pass.First }
+        requires mode { walk.old.mode ≡ Mode.Exclusive }
+        requires file { IsFileBefore P.bits_of root.now self.old }
+        requires absent { IsAbsentBefore P.bits_of root.now self.old walk.old.key }
+        ensures keeps { KeepsBefore self.old self.new }
+        ensures tells { TellsOfLater (basis_alone P.bits_of root.now self.old)
+            self.new (record walk.old { pass = next_of walk.old.phase; phase = Phase.Start }) walk.new value result }
+    {
+        match self.add_again(walk, value, root) {
+            WalkAnswer::NeedSplit => self.split(walk, root),
+            answer => answer,
+        }
+    }
+
+    /// The pass that follows a first one, and a wide one where a narrow one has to be wide.
+    pub(crate) fn add_in_later_passes<P: Pseudo>(
+        &mut self,
+        walk: &mut Walk,
+        value: Value,
+        root: &Root<P>,
+    ) -> WalkAnswer
+        requires full { walk.old.phase ≡ Phase.Full (next_of walk.old.phase) }
+        requires later { next_of walk.old.phase ≢ Pass.First }
+        requires mode { walk.old.mode ≡ Mode.Exclusive }
+        requires file { IsFileBefore P.bits_of root.now self.old }
+        requires absent { IsAbsentBefore P.bits_of root.now self.old walk.old.key }
+        ensures keeps { KeepsBefore self.old self.new }
+        ensures tells { TellsOfInsertion (basis_alone P.bits_of root.now self.old)
+            self.new walk.old.key value result }
+    {
+        match self.add_with_splits(walk, value, root) {
+            WalkAnswer::Widen => self.add_with_splits(walk, value, root),
+            answer => answer,
+        }
+    }
+
+    /// Adds a record of the walk's key, which has none, in as many passes as that takes.
+    pub(crate) fn insert<P: Pseudo>(
+        &mut self,
+        walk: &mut Walk,
+        value: Value,
+        root: &Root<P>,
+    ) -> WalkAnswer
+        requires start { (walk.old.phase ≡ Phase.Start) × (walk.old.pass ≡ Pass.First) }
+        requires mode { walk.old.mode ≡ Mode.Exclusive }
+        requires nothing { IsAtStart (view_of self.old) }
+        requires file { IsFileBefore P.bits_of root.now self.old }
+        requires absent { IsAbsentBefore P.bits_of root.now self.old walk.old.key }
+        ensures keeps { KeepsBefore self.old self.new }
+        ensures tells { TellsOfInsertion (basis_alone P.bits_of root.now self.old)
+            self.new walk.old.key value result }
+    {
+        match self.add(walk, value, root) {
+            WalkAnswer::NeedSplit => self.add_in_later_passes(walk, value, root),
+            answer => answer,
+        }
+    }
+
+    /// Gives the record of the walk's key, which the walk has found, another value.
+    pub(crate) fn update<P: Pseudo>(&mut self, walk: &mut Walk, value: Value, root: &Root<P>)
+        requires mode { walk.old.mode ≡ Mode.Exclusive }
+        requires found { IsAtRecord walk.old.phase }
+        requires file { IsFileBefore P.bits_of root.now self.old }
+        requires stands { IsStanding (basis_alone P.bits_of root.now self.old) walk.old
+            (view_of self.old) }
+        ensures keeps { KeepsBefore self.old self.new }
+        ensures changes { HasChanged (basis_alone P.bits_of root.now self.old)
+            self.new walk.old.key (Some value) }
+    {
+        walk.update(value, &mut self.subtx, &mut self.pages);
+    }
+
+    /// Removes the record of the walk's key, which the walk has found.
+    pub(crate) fn remove<P: Pseudo>(&mut self, walk: &mut Walk, root: &Root<P>)
+        requires mode { walk.old.mode ≡ Mode.Exclusive }
+        requires found { IsAtRecord walk.old.phase }
+        requires file { IsFileBefore P.bits_of root.now self.old }
+        requires stands { IsStanding (basis_alone P.bits_of root.now self.old) walk.old
+            (view_of self.old) }
+        ensures keeps { KeepsBefore self.old self.new }
+        ensures changes { HasChanged (basis_alone P.bits_of root.now self.old)
+            self.new walk.old.key None }
+    {
+        walk.remove(&mut self.subtx, &mut self.pages);
+    }
+
+    /// Keeps what was written, and releases all locks.
+    pub(crate) fn end(&mut self)
+        ensures store { self.new.store ≡ self.old.store }
+        ensures tx { self.new.running.tx ≡ self.old.running.tx }
+        ensures idle { IsIdle self.new }
+    {
+        self.subtx.end(&mut self.pages.locks);
+    }
+
+    /// Leaves the pages as they were before, and releases all locks.
+    pub(crate) fn roll_back(&mut self)
+        ensures keeps { KeepsBefore self.old self.new }
+        ensures idle { IsIdle self.new }
+    {
+        self.subtx
+            .roll_back(&mut self.pages.store, &mut self.pages.locks);
+    }
+}
