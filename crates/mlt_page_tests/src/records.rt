@@ -1,7 +1,7 @@
 //! Changes of a bucket made by hand.
 
-use mlt_record::{SlotWrite, insert, remove, revive, update};
 use mlt_page::{Bucket, SLOTS, Slot};
+use mlt_record::{SlotWrite, insert, remove, revive, update};
 use mlt_types::{Cell, Key, OpenSet, PageNo, TxId};
 
 const PAGE: PageNo = PageNo(7);

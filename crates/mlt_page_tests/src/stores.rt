@@ -1,7 +1,7 @@
 //! A store at its limit, and numbers of dropped pages.
 
-use mlt_store::Store;
 use mlt_page::{Bucket, Page, SLOTS, Slot};
+use mlt_store::Store;
 use mlt_types::{Cell, Key, Limits, PageNo, Refusal};
 use std::test::Fail;
 

@@ -5,10 +5,10 @@ ghost use Rattle.mlt_page_locks.specs.LockTables.{HasAtMost};
 ghost use Rattle.mlt_subtx.specs.Images.{AreThere};
 ghost use Rattle.mlt_subtx.specs.Locking.{LocksPagesThere};
 
-use mlt_subtx::Subtx;
 use mlt_page::{Bucket, Page, Slot};
 use mlt_page_locks::PageLocks;
 use mlt_store::Store;
+use mlt_subtx::Subtx;
 use mlt_types::{Cell, Key, Limits, Mode, PageNo, Refusal, TxId};
 use std::process::Abort;
 use std::test::Fail;
