@@ -24,6 +24,3 @@ pub use laws::{
     steps_of_bases_meet_the_laws,
 };
 pub use table::Table;
-
-#[cfg(test)]
-mod tests;

@@ -8,6 +8,3 @@
 mod locks;
 
 pub use locks::ObjectLocks;
-
-#[cfg(test)]
-mod tests;

@@ -1,17 +1,20 @@
-//! Tests of objects: kinds, scripts, bases, runs one after another, and the program's engine and its
-//! command line. They stand here and not in the crates that they test, since a crate with tests is proved
-//! twice.
+//! Tests of objects: values and texts, kinds and bases, conflict tables and the laws of commit order, locks and
+//! undo lists. They stand here and not in the crates that they test, since a crate with tests is proved twice.
 #![tactic(auto)]
 
 #[cfg(test)]
 mod bases;
 #[cfg(test)]
-mod command_lines;
+mod histories;
 #[cfg(test)]
 mod kinds;
 #[cfg(test)]
-mod scripts;
+mod locks;
 #[cfg(test)]
-mod serial_runs;
+mod tables;
 #[cfg(test)]
-mod solo_runs;
+mod texts;
+#[cfg(test)]
+mod undo_lists;
+#[cfg(test)]
+mod values;

@@ -23,6 +23,3 @@ pub use laws::{
     undo_keeps_undone_to,
 };
 pub use steps::Steps;
-
-#[cfg(test)]
-mod tests;

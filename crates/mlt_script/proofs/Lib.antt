@@ -1,15 +1,6 @@
-pub mod Splitting
-pub mod Cutting
-pub mod Numerals
-pub mod Running
-pub mod Trees
 pub mod Placing
 pub mod Scanning
 pub mod Forming
 pub mod Soundness
 pub mod Completeness
 pub mod Deciding
-pub mod Pieces
-pub mod Rereading
-pub mod Printed
-pub mod Parting

@@ -13,23 +13,24 @@ use Rattle.mlt_kinds.specs.declared.operation.ObjReply.{ObjReply}
 use Rattle.mlt_kinds.specs.declared.operation.ObjReply.TheVariants as reply
 use Rattle.mlt_script.specs.declared.forms.LineForm.{LineForm}
 use Rattle.mlt_script.specs.declared.forms.LineForm.TheVariants.{Begins, Says, Closes}
-use Rattle.mlt_script.specs.declared.keyword.Keyword.{Keyword}
-use Rattle.mlt_script.specs.declared.keyword.Keyword.TheVariants as key
-use Rattle.mlt_script.specs.declared.keyword.Word.{Word}
-use Rattle.mlt_script.specs.declared.keyword.Word.TheVariants.{Key, Variable, Number, Other}
-use Rattle.mlt_script.specs.declared.letter.Letter.{Letter}
-use Rattle.mlt_script.specs.declared.statement.AmountOp.{AmountOp}
-use Rattle.mlt_script.specs.declared.statement.AmountOp.TheVariants as amount
-use Rattle.mlt_script.specs.declared.statement.Asking.{Asking}
-use Rattle.mlt_script.specs.declared.statement.Asking.TheVariants.{Fixed, By}
-use Rattle.mlt_script.specs.declared.statement.Wanted.{Wanted}
-use Rattle.mlt_script.specs.declared.statement.Wanted.TheVariants as wanted
-use Rattle.mlt_script.specs.declared.statement.Source.{Source}
-use Rattle.mlt_script.specs.declared.statement.Source.TheVariants as source
-use Rattle.mlt_script.specs.declared.statement.Ending.TheVariants.{Commit, Abort}
-use Rattle.mlt_script.specs.declared.statement.Statement.TheVariants.{Ask, Need, Let}
-use Rattle.mlt_script.specs.declared.statement.Line.TheVariants as line
-use Rattle.mlt_script.specs.Words.{words_of, word_at}
+use Rattle.mlt_words.specs.declared.keyword.Keyword.{Keyword}
+use Rattle.mlt_words.specs.declared.keyword.Keyword.TheVariants as key
+use Rattle.mlt_words.specs.declared.keyword.Word.{Word}
+use Rattle.mlt_words.specs.declared.keyword.Word.TheVariants.{Key, Variable, Number, Other}
+use Rattle.mlt_words.specs.declared.letter.Letter.{Letter}
+use Rattle.mlt_tree.specs.declared.statement.AmountOp.{AmountOp}
+use Rattle.mlt_tree.specs.declared.statement.AmountOp.TheVariants as amount
+use Rattle.mlt_tree.specs.declared.statement.Asking.{Asking}
+use Rattle.mlt_tree.specs.declared.statement.Asking.TheVariants.{Fixed, By}
+use Rattle.mlt_tree.specs.declared.statement.Wanted.{Wanted}
+use Rattle.mlt_tree.specs.declared.statement.Wanted.TheVariants as wanted
+use Rattle.mlt_tree.specs.declared.statement.Source.{Source}
+use Rattle.mlt_tree.specs.declared.statement.Source.TheVariants as source
+use Rattle.mlt_tree.specs.declared.statement.Ending.TheVariants.{Commit, Abort}
+use Rattle.mlt_tree.specs.declared.statement.Statement.TheVariants.{Ask, Need, Let}
+use Rattle.mlt_tree.specs.declared.statement.Line.TheVariants as line
+use Rattle.mlt_tree.specs.Amounts.{with_amount}
+use Rattle.mlt_words.specs.Words.{words_of, word_at}
 
 infixl 10 ◌>>=◌
 abbrev pub ◌>>=◌ : {A B : Type 0} → Option A → (A → Option B) → Option B
@@ -68,13 +69,6 @@ unfoldable pub letter_at : List Word → Option (Letter × List Word)
 letter_at words = do
   w ← word_at words
   letter_in w.0 w.1
-
--- the operation with this amount
-abbrev pub with_amount : AmountOp → ℕ → ObjOp
-with_amount (amount.Deposit a) n = Account a (account.Deposit n)
-with_amount (amount.Withdraw a) n = Account a (account.Withdraw n)
-with_amount (amount.Up c) n = Counter c (counter.Up n)
-with_amount (amount.Down c) n = Counter c (counter.Down n)
 
 abbrev pub amount_in : AmountOp → Word → List Word → Option (Asking × List Word)
 amount_in op (Number n) rest = Some (Fixed (with_amount op n), rest)

@@ -2,13 +2,11 @@
 
 ghost use Rattle.std.specs.Prelude.{◌≡◌};
 ghost use Rattle.mlt_script.specs.Forms.{Reads, number_below, letter_at, asking_is_at, source_at, finish, begin_form, let_form, need_form, if_form, ask_form, key_form, form_of};
-ghost use Rattle.mlt_script.specs.Words.{words_of};
+ghost use Rattle.mlt_words.specs.Words.{words_of};
 
-use crate::keyword::{Keyword, Word};
-use crate::letter::Letter;
 use crate::operations::{asking, keyword, number_32, wanted};
-use crate::statement::{Asking, Ending, Line, Source, Statement, Wanted};
-use crate::words::next_word;
+use mlt_tree::{Asking, Ending, Line, Source, Statement, Wanted};
+use mlt_words::{Keyword, Letter, Word, next_word};
 
 /// What a line says.
 #[derive(Clone, Copy)]

@@ -1,13 +1,12 @@
 //! Operations and replies, as words.
 
 ghost use Rattle.std.specs.Prelude.{◌≡◌, ◌≤◌, ◌^◌};
-ghost use Rattle.mlt_script.specs.Forms.{Reads, key_at, number_below, with_amount, amount_at, account_at, element_at, counter_at, deposit_at, withdraw_at, up_at, down_at, asking_at, op_at, reply_word, reply_at, wanted_at};
-ghost use Rattle.mlt_script.specs.Words.{words_of};
+ghost use Rattle.mlt_script.specs.Forms.{Reads, key_at, number_below, amount_at, account_at, element_at, counter_at, deposit_at, withdraw_at, up_at, down_at, asking_at, op_at, reply_word, reply_at, wanted_at};
+ghost use Rattle.mlt_words.specs.Words.{words_of};
 
-use crate::keyword::{Keyword, Word};
-use crate::statement::{AmountOp, Asking, Wanted};
-use crate::words::next_word;
 use mlt_kinds::{AccountOp, CounterOp, ElementOp, ObjOp, ObjReply};
+use mlt_tree::{AmountOp, Asking, Wanted};
+use mlt_words::{Keyword, Word, next_word};
 
 /// A keyword.
 #[tactic(auto, unfolding(crate::specs::Forms::key_at))]
@@ -50,20 +49,6 @@ fn number_64(text: &[u8]) -> Option<(u64, &[u8])>
     match next_word(text)? {
         (Word::Number(number), rest) => Some((number, rest)),
         _ => None,
-    }
-}
-
-impl AmountOp {
-    /// The operation with this amount.
-    pub fn with(self, amount: u64) -> ObjOp
-        ensures { result ≡ with_amount self amount }
-    {
-        match self {
-            AmountOp::Deposit(account) => ObjOp::Account(account, AccountOp::Deposit(amount)),
-            AmountOp::Withdraw(account) => ObjOp::Account(account, AccountOp::Withdraw(amount)),
-            AmountOp::Up(counter) => ObjOp::Counter(counter, CounterOp::Up(amount)),
-            AmountOp::Down(counter) => ObjOp::Counter(counter, CounterOp::Down(amount)),
-        }
     }
 }
 

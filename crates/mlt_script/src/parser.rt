@@ -3,18 +3,18 @@
 ghost use Rattle.std.specs.Prelude.{◌≡◌, ◌≤◌, ◌<◌, ◌⊎◌, ℕ, List, length, IfOk, IfErr, IsErrAnd, MatchResult, [], Err};
 ghost use Rattle.mlt_types.specs.declared.refusal.ScriptCause.{ScriptCause};
 ghost use Rattle.mlt_script.specs.Grammar.{Spells, IsFirstFault, IsDecided};
-ghost use Rattle.mlt_script.specs.Lines.{lines};
+ghost use Rattle.mlt_words.specs.Lines.{lines};
 ghost use Rattle.mlt_script.specs.Readings.{reading, IsReading};
 ghost use Rattle.mlt_script.specs.Scan.{scan, step, ended, advance, at_end, Gives, Advances};
 ghost use Rattle.mlt_script.specs.Scan.State.{Outside, Inside};
-ghost use Rattle.mlt_script.specs.Scripts.{ScriptForm, open_of};
+ghost use Rattle.mlt_tree.specs.Scripts.{ScriptForm, open_of};
 
 use crate::forms::LineForm;
-use crate::line::{Reading, first_line, read_line};
+use crate::line::{Reading, read_line};
 use crate::open_script::OpenScript;
-use crate::script::Script;
-use crate::statement::Ending;
+use mlt_tree::{Ending, Script};
 use mlt_types::{Refusal, ScriptCause};
+use mlt_words::first_line;
 use std::alloc::Global;
 
 /// What was read of a text so far. After an `Err` it is of no more use.

@@ -4,17 +4,17 @@ use Rattle.mlt_kinds.specs.declared.operation.ObjOp.{ObjOp}
 use Rattle.mlt_kinds.specs.declared.operation.ObjReply.{ObjReply}
 use Rattle.mlt_kinds.specs.BaseLaws.{base_one_answer}
 use Rattle.mlt_kinds.specs.Bases.{Base, Step, Runs, Transcript}
-use Rattle.mlt_script.specs.declared.statement.Ending.{Ending}
-use Rattle.mlt_script.specs.declared.statement.Ending.TheVariants.{Commit, Abort}
-use Rattle.mlt_script.specs.Scripts.{ScriptForm}
-use Rattle.mlt_script.specs.Follows.{Plan, Reaches, Follows, plan_of_script}
+use Rattle.mlt_tree.specs.declared.statement.Ending.{Ending}
+use Rattle.mlt_tree.specs.declared.statement.Ending.TheVariants.{Commit, Abort}
+use Rattle.mlt_tree.specs.Scripts.{ScriptForm}
+use Rattle.mlt_cursor.specs.Follows.{Plan, Reaches, Follows, plan_of_script}
 use Rattle.mlt_types.specs.declared.refusal.Refusal.{Refusal}
 use Rattle.mlt_serial.specs.declared.outcome.End.{End}
 use Rattle.mlt_serial.specs.declared.outcome.End.TheVariants.{Committed, Aborted, Refused}
 use Rattle.mlt_serial.specs.declared.outcome.Outcome.{Outcome}
 use Rattle.mlt_serial.specs.Serial.{IsRun, AreRuns, mark_of, mark_of_end, story_of}
 use Rattle.mlt_serial.proofs.Transcripts.{reaches_front}
-use Rattle.mlt_script.specs.Follows.Plan.{Ends, Asks}
+use Rattle.mlt_cursor.specs.Follows.Plan.{Ends, Asks}
 
 -- Two transcripts of one plan from one base are one, where both come to an end.
 one_transcript : (p : Plan) (b m n : Base) (t u : Transcript) (e f : Ending) → Reaches p t (Ends e) → Reaches p u (Ends f) → Runs b t m → Runs b u n

@@ -4,11 +4,11 @@ use Rattle.mlt_kinds.specs.declared.operation.ObjOp.{ObjOp}
 use Rattle.mlt_kinds.specs.declared.operation.ObjReply.{ObjReply}
 use Rattle.mlt_kinds.specs.declared.operation.ObjReply.TheVariants.{Missing}
 use Rattle.mlt_kinds.specs.Bases.{Base, Step, Runs, Transcript}
-use Rattle.mlt_script.specs.declared.statement.Ending.{Ending}
-use Rattle.mlt_script.specs.declared.cursor.Next.TheVariants as next
-use Rattle.mlt_script.specs.Scripts.{ScriptForm}
-use Rattle.mlt_script.specs.Follows.{Plan, Reaches, IsNext, IsPartial, answered, plan_of_script}
-use Rattle.mlt_script.specs.Follows.Plan.{Ends, Asks}
+use Rattle.mlt_tree.specs.declared.statement.Ending.{Ending}
+use Rattle.mlt_cursor.specs.declared.cursor.Next.TheVariants as next
+use Rattle.mlt_tree.specs.Scripts.{ScriptForm}
+use Rattle.mlt_cursor.specs.Follows.{Plan, Reaches, IsNext, IsPartial, answered, plan_of_script}
+use Rattle.mlt_cursor.specs.Follows.Plan.{Ends, Asks}
 
 -- one more operation is done
 pub runs_more : (b : Base) (t : Transcript) (m c : Base) (x : ObjOp × ObjReply) → Runs b t m → Step m x c → Runs b (t ++ x ∷ []) c

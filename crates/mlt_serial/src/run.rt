@@ -3,8 +3,8 @@
 ghost use Rattle.std.specs.Prelude.{◌≡◌, ◌+◌, ◌<◌, ◌^◌, ℕ, List, [], map, Option, Ok, IfOk, IfErr, OnErr, replicate};
 ghost use Rattle.mlt_types.specs.declared.refusal.Refusal.{Refusal as RefusalForm};
 ghost use Rattle.mlt_kinds.specs.Bases.{Base as ObjectBase, Runs};
-ghost use Rattle.mlt_script.specs.Follows.{Follows, IsPartial};
-ghost use Rattle.mlt_script.specs.Scripts.{ScriptForm};
+ghost use Rattle.mlt_cursor.specs.Follows.{Follows, IsPartial};
+ghost use Rattle.mlt_tree.specs.Scripts.{ScriptForm};
 ghost use Rattle.mlt_serial.specs.Serial.{AreMarksOf, AreNumbered, AreWithoutTx, IsRun, IsSerialRun, commits_after, mark_of, story_of, unmarked};
 ghost use Rattle.mlt_serial.specs.declared.outcome.Outcome.{Outcome as OutcomeForm};
 
@@ -12,8 +12,9 @@ use crate::outcome::{End, Outcome, Outcomes, Transcript};
 use crate::report::Report;
 use crate::take_back::take_back;
 use mlt_base::Base;
+use mlt_cursor::{Cursor, Next};
 use mlt_kinds::Done;
-use mlt_script::{Cursor, Ending, Next, Script};
+use mlt_tree::{Ending, Script};
 use mlt_types::Refusal;
 use std::alloc::Global;
 

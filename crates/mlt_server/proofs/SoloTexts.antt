@@ -3,7 +3,7 @@ use Rattle.std.proofs.Common.{◌≡◌, ℕ, List, map, Result, Ok, Err, OnOk, 
 use Rattle.mlt_types.specs.declared.refusal.Refusal.TheVariants.{OutOfMemory}
 use Rattle.mlt_kinds.specs.Bases.{Base}
 use Rattle.mlt_script.specs.Grammar.{Spells}
-use Rattle.mlt_script.specs.Scripts.{ScriptForm}
+use Rattle.mlt_tree.specs.Scripts.{ScriptForm}
 use Rattle.mlt_serial.specs.declared.outcome.Outcome.{Outcome}
 use Rattle.mlt_serial.specs.declared.report.Form.TheVariants.{Solo}
 use Rattle.mlt_serial.specs.Serial.{AreMarksOf, IsSerialRun, mark_of}

@@ -6,6 +6,3 @@ mod output;
 
 pub use input::{MAX_INPUT, read_input};
 pub use output::{flush, write_text};
-
-#[cfg(test)]
-mod tests;

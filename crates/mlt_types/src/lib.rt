@@ -17,6 +17,3 @@ pub use number::{PageNo, TxId, Value};
 pub use open_set::OpenSet;
 pub use pseudo::{Low, Mult, Pseudo};
 pub use refusal::{Refusal, ScriptCause, TraceCause};
-
-#[cfg(test)]
-mod tests;

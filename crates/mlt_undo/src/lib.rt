@@ -8,6 +8,3 @@
 mod list;
 
 pub use list::UndoList;
-
-#[cfg(test)]
-mod tests;

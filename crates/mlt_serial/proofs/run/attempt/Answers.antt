@@ -1,7 +1,7 @@
 use Rattle.std.proofs.Common.{◌≡◌, refl, sym, subst}
 use Rattle.mlt_kinds.specs.Bases.{Runs, Transcript}
-use Rattle.mlt_script.specs.declared.statement.Ending.{Ending}
-use Rattle.mlt_script.specs.Follows.{Follows}
+use Rattle.mlt_tree.specs.declared.statement.Ending.{Ending}
+use Rattle.mlt_cursor.specs.Follows.{Follows}
 use Rattle.mlt_serial.proofs.run.attempt.Goals as goal
 use Rattle.mlt_serial.proofs.run.attempt.Goals.{in-Ok-Abort, in-Err}
 

@@ -1,6 +1,6 @@
 use Rattle.std.proofs.Common.{rules, refl}
-use Rattle.mlt_script.specs.Follows.{plan_of_script}
-use Rattle.mlt_script.specs.Cursors.{plan_of}
+use Rattle.mlt_cursor.specs.Follows.{plan_of_script}
+use Rattle.mlt_cursor.specs.Cursors.{plan_of}
 use Rattle.mlt_serial.proofs.Transcripts.{is_partial, on_err, reaches_more, runs_more}
 use Rattle.mlt_serial.proofs.run.play.Goals as goal
 

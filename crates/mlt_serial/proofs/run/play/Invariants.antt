@@ -1,6 +1,6 @@
 use Rattle.mlt_kinds.specs.Bases.{Runs}
-use Rattle.mlt_script.specs.Follows.{Reaches, plan_of_script}
-use Rattle.mlt_script.specs.Cursors.{plan_of, left_of}
+use Rattle.mlt_cursor.specs.Follows.{Reaches, plan_of_script}
+use Rattle.mlt_cursor.specs.Cursors.{plan_of, left_of}
 use Rattle.mlt_serial.proofs.run.play.Given as goal
 
 abbrev pub invariant-loop-op : goal.invariant-loop-op

@@ -1,0 +1,13 @@
+-- What a cursor still asks.
+use Rattle.std.specs.Prelude.{ℕ, ◌-◌, length, drop}
+use Rattle.mlt_cursor.specs.declared.cursor.Cursor.{Cursor}
+use Rattle.mlt_cursor.specs.declared.skipping.Skipping.TheVariants.{Nowhere}
+use Rattle.mlt_cursor.specs.Follows.{Plan}
+use Rattle.mlt_cursor.specs.Runs.{run}
+
+abbrev pub plan_of : Cursor → Plan
+plan_of c = run (drop c.at c.lines.now) Nowhere c.variables c.ending
+
+-- how many lines are left, of which each asks at most one operation
+abbrev pub left_of : Cursor → ℕ
+left_of c = length c.lines.now - c.at

@@ -1,0 +1,4 @@
+pub mod Follows
+pub mod Runs
+pub mod Hearing
+pub mod Cursors

@@ -1,0 +1,72 @@
+//! Reservations, grants and conflicts.
+
+ghost use Rattle.std.specs.Prelude.{◌≡◌};
+
+use mlt_kinds::{AccountOp, Done, ObjOp, ObjReply};
+use mlt_object_locks::ObjectLocks;
+use mlt_types::{Cell, Refusal, TxId};
+
+const ACCOUNT: u32 = 1;
+
+fn on_account(account: u32, op: AccountOp, reply: ObjReply) -> Done
+    ensures { result ≡ (ObjOp.Account account op, reply) }
+{
+    Done::new(ObjOp::Account(account, op), reply)
+}
+
+// Reserves and asks.
+fn grant(locks: &mut ObjectLocks, tx: u64, done: Done) -> Result<Result<(), TxId>, Refusal> {
+    locks.reserve(TxId(tx), &done.cell())?;
+    Ok(locks.ask(TxId(tx), &done))
+}
+
+#[test]
+fn reservation_released(rt: HostRuntime) -> Result<(), Refusal> {
+    let mut locks = ObjectLocks::new(rt.alloc());
+    let deposit = on_account(ACCOUNT, AccountOp::Deposit(5), ObjReply::Done);
+    locks.reserve(TxId(1), &Cell::Account(ACCOUNT))?;
+    locks.reserve(TxId(2), &Cell::Account(ACCOUNT))?;
+    locks.release_all(TxId(1));
+    assert_eq!(rt; locks.ask(TxId(2), &deposit), Ok(()));
+    Ok(())
+}
+
+#[test]
+fn lowest_of_two_holders(rt: HostRuntime) -> Result<(), Refusal> {
+    let mut locks = ObjectLocks::new(rt.alloc());
+    let withdrawal = on_account(ACCOUNT, AccountOp::Withdraw(2), ObjReply::Done);
+    let balance = on_account(ACCOUNT, AccountOp::Balance, ObjReply::Is(5));
+    assert_eq!(rt; grant(&mut locks, 5, withdrawal)?, Ok(()));
+    assert_eq!(rt; grant(&mut locks, 3, withdrawal)?, Ok(()));
+    assert_eq!(rt; grant(&mut locks, 4, balance)?, Err(TxId(3)));
+    locks.release_all(TxId(3));
+    assert_eq!(rt; grant(&mut locks, 4, balance)?, Err(TxId(5)));
+    locks.release_all(TxId(5));
+    assert_eq!(rt; grant(&mut locks, 4, balance)?, Ok(()));
+    Ok(())
+}
+
+#[test]
+fn held_first_requested_second(rt: HostRuntime) -> Result<(), Refusal> {
+    let deposit = on_account(ACCOUNT, AccountOp::Deposit(1), ObjReply::Done);
+    let short = on_account(ACCOUNT, AccountOp::Withdraw(7), ObjReply::Short);
+    let mut locks = ObjectLocks::new(rt.alloc());
+    assert_eq!(rt; grant(&mut locks, 1, deposit)?, Ok(()));
+    assert_eq!(rt; grant(&mut locks, 2, short)?, Ok(()));
+    let mut locks = ObjectLocks::new(rt.alloc());
+    assert_eq!(rt; grant(&mut locks, 1, short)?, Ok(()));
+    assert_eq!(rt; grant(&mut locks, 2, deposit)?, Err(TxId(1)));
+    Ok(())
+}
+
+#[test]
+fn own_and_other_cells_stand_in_no_way(rt: HostRuntime) -> Result<(), Refusal> {
+    let mut locks = ObjectLocks::new(rt.alloc());
+    let withdrawal = on_account(ACCOUNT, AccountOp::Withdraw(2), ObjReply::Done);
+    let balance = on_account(ACCOUNT, AccountOp::Balance, ObjReply::Is(5));
+    let other = on_account(2, AccountOp::Balance, ObjReply::Is(5));
+    assert_eq!(rt; grant(&mut locks, 1, withdrawal)?, Ok(()));
+    assert_eq!(rt; grant(&mut locks, 1, balance)?, Ok(()));
+    assert_eq!(rt; grant(&mut locks, 2, other)?, Ok(()));
+    Ok(())
+}

@@ -1,0 +1,153 @@
+//! Limits, keys and pseudokeys, refusals, and a full set of open transactions.
+
+use mlt_types::{
+    Cell, Key, Limits, Low, Mult, OpenSet, Pseudo, Refusal, ScriptCause, TraceCause, TxId,
+};
+
+#[test]
+fn limits_out_of_range(rt: HostRuntime) {
+    let refused = [
+        (0, 1, 3, 0, 1),
+        (65, 1, 3, 0, 1),
+        (1, 0, 3, 0, 1),
+        (1, 4_294_967_297, 3, 0, 1),
+        (1, 1, 2, 0, 1),
+        (1, 1, 70_001, 0, 1),
+        (1, 1, 3, 17, 1),
+        (1, 1, 3, 0, 0),
+        (1, 1, 3, 0, 1_025),
+    ];
+    for (open, ids, pages, depth, ops) in refused {
+        let limits = Limits::checked(open, ids, pages, depth, ops);
+        assert_eq!(rt;
+            limits,
+            Err(Refusal::BadLimits),
+            "{open} {ids} {pages} {depth} {ops}"
+        );
+    }
+    assert!(rt; Limits::checked(1, 1, 3, 0, 1).is_ok());
+    let greatest = Limits::checked(64, 4_294_967_296, 70_000, 16, 1_024);
+    assert_eq!(rt; greatest, Ok(Limits::program()));
+}
+
+#[test]
+fn key_numbers(rt: HostRuntime) {
+    let table = [
+        (Cell::Account(0), 281_474_976_710_656),
+        (Cell::Account(u32::MAX), 281_479_271_677_951),
+        (Cell::Counter(7), 562_949_953_421_319),
+        (Cell::Element(0, 0), 844_424_930_131_968),
+        (Cell::Element(2, 5), 844_433_520_066_565),
+        (Cell::Element(u16::MAX, u32::MAX), 1_125_899_906_842_623),
+    ];
+    for (cell, number) in table {
+        assert_eq!(rt; Key::of(&cell).number(), number, "{cell:?}");
+    }
+}
+
+#[test]
+fn pseudokeys(rt: HostRuntime) {
+    let mult = [(0, 0x7C15_0000_0000_0000), (1, 0x1A4C_79B9_7F4A_7C15)];
+    for (account, bits) in mult {
+        assert_eq!(rt; bits_of(&Mult, account), bits, "account {account}");
+    }
+    let low = [
+        (0, 0),
+        (1, 0x0001_0000_0000_0000),
+        (32_768, 0x8000_0000_0000_0000),
+        (65_536, 0),
+    ];
+    for (account, bits) in low {
+        assert_eq!(rt; bits_of(&Low, account), bits, "account {account}");
+    }
+}
+
+fn bits_of<P: Pseudo>(pseudo: &P, account: u32) -> u64 {
+    pseudo.bits(&Key::of(&Cell::Account(account)))
+}
+
+#[test]
+fn refusals_by_number(rt: HostRuntime) {
+    let table = [
+        (Refusal::OutOfMemory, "OutOfMemory"),
+        (Refusal::NoRoom, "NoRoom"),
+        (Refusal::NoSuchTx, "NoSuchTx"),
+        (Refusal::Undoing, "Undoing"),
+        (Refusal::Running, "Running"),
+        (Refusal::NotRunning, "NotRunning"),
+        (Refusal::TooManyOpen, "TooManyOpen"),
+        (Refusal::LogFull, "LogFull"),
+        (Refusal::IdsSpent, "IdsSpent"),
+        (script_fault(ScriptCause::Words), "ScriptFault"),
+        (trace_fault(TraceCause::Words), "TraceFault"),
+        (Refusal::LineTooLong, "LineTooLong"),
+        (Refusal::Io, "Io"),
+        (Refusal::GaveUp, "GaveUp"),
+        (Refusal::Audit, "Audit"),
+        (Refusal::BadLimits, "BadLimits"),
+    ];
+    let mut number = 0u8;
+    for (refusal, name) in table {
+        number = number.wrapping_add(1);
+        assert_eq!(rt; refusal.number(), number, "{name}");
+        assert!(rt; refusal.name() == name, "{name}");
+    }
+}
+
+fn script_fault(cause: ScriptCause) -> Refusal {
+    Refusal::ScriptFault { line: 2, cause }
+}
+
+fn trace_fault(cause: TraceCause) -> Refusal {
+    Refusal::TraceFault { line: 2, cause }
+}
+
+#[test]
+fn names_of_causes(rt: HostRuntime) {
+    let script = [
+        (ScriptCause::Line, "Line"),
+        (ScriptCause::Words, "Words"),
+        (ScriptCause::Place, "Place"),
+        (ScriptCause::Deep, "Deep"),
+        (ScriptCause::Long, "Long"),
+        (ScriptCause::Unfinished, "Unfinished"),
+    ];
+    for (cause, name) in script {
+        assert!(rt; cause.name() == name, "{name}");
+    }
+    let trace = [
+        (TraceCause::Line, "Line"),
+        (TraceCause::Cut, "Cut"),
+        (TraceCause::Words, "Words"),
+        (TraceCause::Place, "Place"),
+        (TraceCause::Reply, "Reply"),
+    ];
+    for (cause, name) in trace {
+        assert!(rt; cause.name() == name, "{name}");
+    }
+}
+
+#[test]
+fn set_of_64(rt: HostRuntime) {
+    let mut open = OpenSet::new();
+    assert!(rt; open.is_empty());
+    for number in 1..=64 {
+        assert!(rt; !open.is_full());
+        open.insert(TxId(number));
+    }
+    assert!(rt; open.is_full());
+    assert_eq!(rt; open.len(), 64);
+    assert!(rt; open.contains(TxId(64)));
+    open.insert(TxId(64));
+    assert_eq!(rt; open.len(), 64);
+    open.remove(TxId(65));
+    assert_eq!(rt; open.len(), 64);
+    for number in 1..=63 {
+        open.remove(TxId(number));
+        assert!(rt; !open.contains(TxId(number)));
+    }
+    assert_eq!(rt; open.len(), 1);
+    assert!(rt; open.contains(TxId(64)));
+    open.remove(TxId(64));
+    assert!(rt; open.is_empty());
+}

@@ -1,6 +1,0 @@
-use Rattle.std.proofs.Common.{◌≡◌, drop}
-use Rattle.mlt_script.specs.Lines.{is_comment}
-use Rattle.mlt_script.proofs.line.comment.Given as goal
-
-abbrev pub invariant-loop-byte : goal.invariant-loop-byte
-invariant-loop-byte l = is_comment (drop l.byte-index l.line) ≡ is_comment l.line

@@ -1,0 +1,250 @@
+//! Scripts read, run one after another and written, with readers and writers that fail.
+
+ghost use Rattle.std.specs.Prelude.{◌≤◌};
+
+use mlt_server::solo;
+use mlt_types::{Refusal, ScriptCause};
+use std::io;
+use std::io::{Read, Write};
+use std::test::Fail;
+
+/// A writer that takes one byte a call into 64 bytes of its own, and fails once it has `limit` of them. Its
+/// first flush fails where there is an error for it.
+#[derive(Drop)]
+struct OneByte {
+    bytes: [u8; 64],
+    len: usize,
+    limit: usize,
+    flush: Option<io::ErrorKind>,
+    ghost fits: { len ≤ 64 },
+}
+
+impl OneByte {
+    fn new(limit: usize) -> OneByte {
+        OneByte {
+            bytes: [0; 64],
+            len: 0,
+            limit,
+            flush: None,
+        }
+    }
+
+    fn written(&self) -> &[u8] {
+        &self.bytes[..self.len]
+    }
+}
+
+impl Write for OneByte {
+    fn write(&mut self, buf: &[u8]) -> io::Result<usize> {
+        if buf.is_empty() {
+            return Ok(0);
+        }
+        if self.len >= self.limit || self.len >= 64 {
+            return Err(io::Error::from(io::ErrorKind::Other));
+        }
+        self.bytes[self.len] = buf[0];
+        self.len += 1;
+        Ok(1)
+    }
+
+    fn flush(&mut self) -> io::Result<()> {
+        match self.flush.take() {
+            Some(kind) => Err(io::Error::from(kind)),
+            None => Ok(()),
+        }
+    }
+}
+
+/// A reader that gives some bytes and then fails.
+#[derive(Drop)]
+struct Failing<'a> {
+    rest: &'a [u8],
+}
+
+impl Read for Failing<'_> {
+    fn read(&mut self, buf: &mut [u8]) -> io::Result<usize> {
+        if self.rest.is_empty() || buf.is_empty() {
+            return Err(io::Error::from(io::ErrorKind::Other));
+        }
+        buf[0] = self.rest[0];
+        self.rest = &self.rest[1..];
+        Ok(1)
+    }
+}
+
+const FIRST_RUN: &[u8] = b"begin\nopen 1\ndeposit 1 50\nbalance 1\ncommit\n";
+
+const FIRST_TEXT: &[u8] = b"opened\ndone\nis 50\ncommitted 1\n";
+
+fn is_solo(rt: &HostRuntime, text: &[u8], wanted: &[u8]) -> Result<bool, Fail> {
+    let mut written = Vec::new(rt.alloc());
+    let mut input = text;
+    solo(rt.alloc(), &mut input, &mut written)?;
+    Ok(written.as_slice() == wanted)
+}
+
+fn fault(rt: &HostRuntime, text: &[u8]) -> Option<(u64, ScriptCause)> {
+    let mut input = text;
+    let mut writer = OneByte::new(64);
+    match solo(rt.alloc(), &mut input, &mut writer) {
+        Err(Refusal::ScriptFault { line, cause }) if writer.written().is_empty() => Some((
+            line, cause,
+        )),
+        _ => None,
+    }
+}
+
+#[test]
+fn first_run(rt: HostRuntime) -> Result<(), Fail> {
+    assert!(rt; is_solo(&rt, FIRST_RUN, FIRST_TEXT)?);
+    Ok(())
+}
+
+#[test]
+fn empty_script(rt: HostRuntime) -> Result<(), Fail> {
+    assert!(rt; is_solo(&rt, b"", b"")?);
+    Ok(())
+}
+
+#[test]
+fn amount_over_limit(rt: HostRuntime) -> Result<(), Fail> {
+    let text = b"begin\nopen 1\ndeposit 1 18446744073709551615\ncommit\n";
+    assert!(rt; is_solo(&rt, text, b"opened\nover\ncommitted 1\n")?);
+    Ok(())
+}
+
+#[test]
+fn nine_accounts(rt: HostRuntime) -> Result<(), Fail> {
+    let text =
+        b"begin\nopen 0\nopen 1\nopen 2\nopen 3\nopen 4\nopen 5\nopen 6\nopen 7\nopen 8\ncommit\nbegin\nbalance 0\ncommit\n";
+    let wanted =
+        b"opened\nopened\nopened\nopened\nopened\nopened\nopened\nopened\nopened\ncommitted 1\nis 0\ncommitted 2\n";
+    assert!(rt; is_solo(&rt, text, wanted)?);
+    Ok(())
+}
+
+#[test]
+fn aborted_open(rt: HostRuntime) -> Result<(), Fail> {
+    let text = b"begin\nopen 1\nabort\nbegin\nopen 1\ncommit\n";
+    assert!(rt; is_solo(&rt, text, b"opened\naborted\nopened\ncommitted 1\n")?);
+    Ok(())
+}
+
+const IF_ELSE: &[u8] =
+    b"begin\nopen 1\ndeposit 1 9\nlet v = balance 1\nif withdraw 1 v is done\nclose 1\nelse\nbalance 1\nend\ncommit\n";
+
+#[test]
+fn if_else_script(rt: HostRuntime) -> Result<(), Fail> {
+    let wanted = b"opened\ndone\nis 9\ndone\nclosed\ncommitted 1\n";
+    assert!(rt; is_solo(&rt, IF_ELSE, wanted)?);
+    let scripts = mlt_script::parse(rt.alloc(), IF_ELSE)?;
+    let text = mlt_print::print(rt.alloc(), scripts.as_slice())?;
+    assert_eq!(rt; text.as_bytes(), IF_ELSE);
+    Ok(())
+}
+
+#[test]
+fn sets_and_counters(rt: HostRuntime) -> Result<(), Fail> {
+    let text =
+        b"begin\nadd 4 9\nhas 4 9\nup 7 5\nlet c = read 7\ndown 7 c\nread 7\nadd 4 9\nremove 4 9\nremove 4 9\nhas 4 9\ncommit\n";
+    let wanted = b"added\nyes\ndone\nis 5\ndone\nis 0\npresent\nremoved\nabsent\nno\ncommitted 1\n";
+    assert!(rt; is_solo(&rt, text, wanted)?);
+    Ok(())
+}
+
+#[test]
+fn script_faults(rt: HostRuntime) -> Result<(), Fail> {
+    assert_eq!(rt; fault(&rt, b"open 1\n"), Some((1, ScriptCause::Place)));
+    assert_eq!(rt;
+        fault(&rt, b"begin\ndeposit 1\ncommit\n"),
+        Some((2, ScriptCause::Words))
+    );
+    assert_eq!(rt;
+        fault(&rt, b"begin\nif has 4 9 is yes\n"),
+        Some((2, ScriptCause::Unfinished))
+    );
+    let unended = b"begin\nneed read 7 is 1\ncommit";
+    assert!(rt; is_solo(&rt, unended, b"is 0\naborted\n")?);
+    Ok(())
+}
+
+/// `begin` and so many spaces, and then an LF.
+fn spaced_begin(rt: &HostRuntime, spaces: usize) -> Result<Vec<u8>, Fail> {
+    let mut text = Vec::new(rt.alloc());
+    text.extend_from_slice(b"begin")?;
+    for _ in 0..spaces {
+        text.push(b' ')?;
+    }
+    text.push(b'\n')?;
+    Ok(text)
+}
+
+#[test]
+fn line_limits(rt: HostRuntime) -> Result<(), Fail> {
+    let longest = spaced_begin(&rt, 195)?;
+    assert_eq!(rt; fault(&rt, &longest), Some((1, ScriptCause::Unfinished)));
+    let longer = spaced_begin(&rt, 196)?;
+    assert_eq!(rt; fault(&rt, &longer), Some((1, ScriptCause::Line)));
+    assert!(rt; is_solo(&rt, b"#\xFF\n", b"")?);
+    assert_eq!(rt; fault(&rt, b"open \xFF\n"), Some((1, ScriptCause::Line)));
+    Ok(())
+}
+
+#[test]
+fn one_byte_writer(rt: HostRuntime) {
+    let mut input = FIRST_RUN;
+    let mut writer = OneByte::new(5);
+    let result = solo(rt.alloc(), &mut input, &mut writer);
+    assert_eq!(rt; result, Err(Refusal::Io));
+    assert_eq!(rt; writer.written(), b"opene".as_slice());
+}
+
+#[test]
+fn failing_flush(rt: HostRuntime) {
+    let flushes = [
+        (io::ErrorKind::BrokenPipe, Err(Refusal::Io)),
+        (io::ErrorKind::Interrupted, Ok(())),
+    ];
+    for (kind, wanted) in flushes {
+        let mut input = FIRST_RUN;
+        let mut writer = OneByte::new(64);
+        writer.flush = Some(kind);
+        assert_eq!(rt; solo(rt.alloc(), &mut input, &mut writer), wanted);
+        assert_eq!(rt; writer.written(), FIRST_TEXT);
+        assert!(rt; writer.flush.is_none());
+    }
+}
+
+#[test]
+fn failing_reader(rt: HostRuntime) {
+    let mut reader = Failing { rest: FIRST_RUN };
+    let mut writer = OneByte::new(64);
+    let result = solo(rt.alloc(), &mut reader, &mut writer);
+    assert_eq!(rt; result, Err(Refusal::Io));
+    assert_eq!(rt; writer.written(), b"".as_slice());
+}
+
+/// Whatever growth is refused, the answer is a refusal with nothing written, or the script's own refusal
+/// behind some of its replies, or the whole text.
+#[test]
+fn refused_growths(rt: HostRuntime) {
+    let mut input = FIRST_RUN;
+    let mut writer = OneByte::new(64);
+    let result = solo(rt.alloc(), &mut input, &mut writer);
+    let written = writer.written();
+    match result {
+        Ok(()) => {
+            let marked: [&[u8]; 4] = [
+                b"refused 1 OutOfMemory\naborted\n",
+                b"opened\nrefused 1 OutOfMemory\naborted\n",
+                b"opened\ndone\nrefused 1 OutOfMemory\naborted\n",
+                b"opened\ndone\nis 50\nrefused 1 OutOfMemory\naborted\n",
+            ];
+            assert!(rt; written == FIRST_TEXT || marked.iter().any(|text| *text == written));
+        }
+        Err(refusal) => {
+            assert_eq!(rt; refusal, Refusal::OutOfMemory);
+            assert_eq!(rt; written, b"".as_slice());
+        }
+    }
+}

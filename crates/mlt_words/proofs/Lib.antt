@@ -1,0 +1,4 @@
+pub mod Splitting
+pub mod Cutting
+pub mod Numerals
+pub mod Pieces

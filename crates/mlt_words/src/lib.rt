@@ -1,0 +1,13 @@
+//! The text level of scripts: lines, words, and what a word is.
+#![tactic(auto)]
+
+mod keyword;
+mod letter;
+mod line;
+mod number;
+mod words;
+
+pub use keyword::{Keyword, Word};
+pub use letter::Letter;
+pub use line::{first_line, is_allowed_line, is_comment_line, trimmed};
+pub use words::next_word;

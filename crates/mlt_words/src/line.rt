@@ -1,0 +1,55 @@
+//! The lines of a text.
+
+ghost use Rattle.std.specs.Prelude.{◌≡◌, ◌<◌, ◌∷◌, length};
+ghost use Rattle.std.specs.List.{list_all, position};
+ghost use Rattle.mlt_words.specs.Lines.{lines, is_lf, is_comment, is_allowed, without_cr};
+
+fn find_lf(text: &[u8]) -> Option<usize>
+    ensures { result ≡ position is_lf text.now }
+{
+    text.iter().position(|byte| *byte == b'\n')
+}
+
+/// The first line without its LF, whether an LF ends it, and the text after it.
+pub fn first_line(text: &[u8]) -> (&[u8], bool, &[u8])
+    requires { 0 < length text.now }
+    ensures first { lines text.now
+        ≡ record { bytes = result.0.now; ended = result.1 } ∷ lines result.2.now }
+    ensures less { length result.2.now < length text.now }
+{
+    match find_lf(text) {
+        Some(end) => (&text[..end], true, &text[end + 1..]),
+        None => (text, false, &[]),
+    }
+}
+
+/// The line without a CR at its end.
+pub fn trimmed(bytes: &[u8]) -> &[u8]
+    ensures { result.now ≡ without_cr bytes.now }
+{
+    if !bytes.is_empty() && bytes[bytes.len() - 1] == b'\r' {
+        &bytes[..bytes.len() - 1]
+    } else {
+        bytes
+    }
+}
+
+/// Whether the first byte after spaces and tabs is a `#`.
+pub fn is_comment_line(line: &[u8]) -> bool
+    ensures { result ≡ is_comment line.now }
+{
+    for byte in line {
+        if *byte != b' ' && *byte != b'\t' {
+            return *byte == b'#';
+        }
+    }
+    false
+}
+
+/// Whether each byte is a tab or from 0x20 to 0x7E.
+pub fn is_allowed_line(line: &[u8]) -> bool
+    ensures { result ≡ list_all is_allowed line.now }
+{
+    line.iter()
+        .all(|byte| *byte == b'\t' || (*byte >= 0x20 && *byte <= 0x7E))
+}

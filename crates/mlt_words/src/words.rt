@@ -1,0 +1,31 @@
+//! The words of a line.
+
+ghost use Rattle.std.specs.Prelude.{◌≡◌, option_map};
+ghost use Rattle.std.specs.List.{position};
+ghost use Rattle.mlt_words.specs.Words.{words_of, word_at, is_blank, is_black};
+
+use crate::keyword::{Word, classify};
+
+fn find_word(text: &[u8]) -> Option<usize>
+    ensures { result ≡ position is_black text.now }
+{
+    text.iter().position(|byte| *byte != b' ' && *byte != b'\t')
+}
+
+fn find_blank(text: &[u8]) -> Option<usize>
+    ensures { result ≡ position is_blank text.now }
+{
+    text.iter().position(|byte| *byte == b' ' || *byte == b'\t')
+}
+
+/// The first word of a text, and the text after it. Words are parted by spaces and tabs.
+pub fn next_word(text: &[u8]) -> Option<(Word, &[u8])>
+    ensures { option_map (λ x. (x.0, words_of x.1.now)) result ≡ word_at (words_of text.now) }
+{
+    let start = find_word(text)?;
+    let front = &text[start..];
+    match find_blank(front) {
+        Some(end) => Some((classify(&front[..end]), &front[end..])),
+        None => Some((classify(front), &[])),
+    }
+}
