@@ -1,0 +1,3 @@
+pub mod BegunLaws
+pub mod ItemLaws
+pub mod RoomLaws

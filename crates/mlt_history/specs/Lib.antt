@@ -1,0 +1,4 @@
+pub mod Items
+pub mod Entries
+pub mod Numbers
+pub mod Rooms

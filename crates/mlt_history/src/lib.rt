@@ -1,0 +1,19 @@
+//! Histories: the items that a manager of transactions tells of, in order, with room for those to come.
+//!
+//! The laws say what one more item makes of a history's entries and numbers, and what the rooms of its
+//! transactions add up to. Each law is the contract of a function that does nothing.
+#![tactic(auto)]
+
+mod history;
+mod laws;
+mod rooms;
+
+pub use history::History;
+pub use laws::{
+    begun_numbers_are_those_up_to_the_count, commits_stay_counted, items_begin_in_order,
+    items_count_the_committed, items_grow_by_entries,
+};
+pub use rooms::{Rooms, rooms_add_up};
+
+#[cfg(test)]
+mod tests;
