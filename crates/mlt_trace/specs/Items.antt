@@ -1,5 +1,6 @@
--- The texts of the items of a history: the lines of a trace, without their ends.
-use Rattle.std.specs.Prelude.{ℕ, List, ◌∷◌, ◌++◌, codes}
+-- The texts of the items of a history: the lines of a trace.
+use Rattle.std.specs.Prelude.{ℕ, List, [], ◌∷◌, ◌++◌, codes}
+use Rattle.std.specs.List.{flat_map}
 use Rattle.mlt_kinds.specs.Texts.{with_number, done_text}
 use Rattle.mlt_trace.specs.declared.item.TraceItem.{TraceItem}
 use Rattle.mlt_trace.specs.declared.item.TraceItem.TheVariants.{Begin, Op, Back, Commit, Abort}
@@ -10,3 +11,11 @@ item_text (Op tx done) = with_number (codes "op") tx ++ 32 ∷ done_text done
 item_text (Back tx) = with_number (codes "back") tx
 item_text (Commit tx n) = with_number (with_number (codes "commit") tx) n
 item_text (Abort tx) = with_number (codes "abort") tx
+
+-- the text of the item and the end of its line
+abbrev pub item_line : TraceItem → List ℕ
+item_line item = item_text item ++ 10 ∷ []
+
+-- a line for each item, in order
+abbrev pub trace_text : List TraceItem → List ℕ
+trace_text items = flat_map item_line items
