@@ -1,6 +1,6 @@
 //! Walks.
 
-ghost use Rattle.std.specs.Prelude.{◌≡◌, ◌≤◌, ◌↔◌, ℕ, Option, None};
+ghost use Rattle.std.specs.Prelude.{◌≡◌, ◌≤◌, ◌↔◌, ℕ, IsTrue, Option, None};
 ghost use Rattle.std.specs.FinMap as map;
 ghost use Rattle.mlt_held.specs.Moments.{moment};
 ghost use Rattle.mlt_held.specs.PageSteps.{HasNoPageLeft, Leaves};
@@ -66,6 +66,13 @@ impl Walk {
             phase: Phase::Start,
             split: None,
         }
+    }
+
+    /// Whether it is in its first pass, which splits nothing.
+    pub fn is_first(&self) -> bool
+        ensures { IsTrue result ↔ (self.now.pass ≡ Pass.First) }
+    {
+        matches!(self.pass, Pass::First)
     }
 
     /// Starts the pass that follows one whose bucket had no room, once that one was rolled back.

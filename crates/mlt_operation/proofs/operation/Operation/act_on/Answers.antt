@@ -1,0 +1,105 @@
+use Rattle.std.proofs.Common.{◌≡◌, Option, Some, refl, sym, ap, subst, ◌∙◌, inl, inr}
+use Rattle.std.proofs.lemmas.Bool.{false≢true}
+use Rattle.mlt_base.specs.declared.record.RecChange.{RecChange}
+use Rattle.mlt_held.specs.Moments.{Moment, moment}
+use Rattle.mlt_hash.specs.Walks.{Basis, WalkFields, basis_by}
+use Rattle.mlt_hash.specs.Changes.{HasOwnGhost, MayChange, WritesIfChanged, page_of}
+use Rattle.mlt_hash.specs.declared.answer.WalkAnswer.TheVariants as answer
+use Rattle.mlt_base.specs.Records.{CanChange}
+use Rattle.mlt_held.specs.Views.{view_of}
+use Rattle.mlt_operation.specs.Operating.{OperationFields}
+use Rattle.mlt_operation.specs.Performing.{IsMade, TellsOfDecision}
+use Rattle.mlt_operation.specs.Requests.{decision}
+use Rattle.mlt_operation.specs.PageTurns.{IsRolledBack}
+use Rattle.mlt_operation.proofs.AtBucket.{absent_to_add, begins_again, change_finishes, first_restarts, ghost_is_there, splits_in_pass, may_change, narrow_restarts, rolls_back, told_finishes}
+use Rattle.mlt_operation.proofs.operation.Operation.act_on.Goals.{in-NeedSplit+else-not-is_first, in-Widen-1}
+use Rattle.mlt_operation.proofs.operation.Operation.act_on.Goals as goal
+
+pub returns-in_default : goal.returns-in_default
+returns-in_default g c =
+    let basis : Basis = basis_by g.P.Pseudo.bits_of c.args.root.now c.args.opens.now c.args.subtx.now.tx in
+    let m : Moment = moment c.args.subtx.now c.args.pages.now in
+    let before : OperationFields = c.args.self.now in
+    let reply = c.decide-reply.result.0 in
+    let is : decision before.request c.args.found ≡ c.decide-reply.result = sym (c.decide-reply.ensures.told ∙ ap (λ (o : OperationFields). decision o.request c.args.found) c.self.view_is) in
+    let none = is ∙ ap (λ d. (reply, d)) c.in_default.is in
+    record { tells = inl (told_finishes basis m before _ c.args.found reply c.requires.ready none (ap (λ (o : OperationFields). record o { reply = Some reply }) c.self.view_is)) }
+
+pub perform-requires-clause-ready : goal.perform-requires-clause-ready
+perform-requires-clause-ready g c =
+    let basis : Basis = basis_by g.P.Pseudo.bits_of c.args.root.now c.args.opens.now c.args.subtx.now.tx in
+    let m : Moment = moment c.args.subtx.now c.args.pages.now in
+    let before : OperationFields = c.args.self.now in
+    let reply = c.decide-reply.result.0 in
+    let is : decision before.request c.args.found ≡ c.decide-reply.result = sym (c.decide-reply.ensures.told ∙ ap (λ (o : OperationFields). decision o.request c.args.found) c.self.view_is) in
+    let some = is ∙ ap (λ d. (reply, d)) c.in-Some.is in
+    subst (λ (w : WalkFields). MayChange basis m w) (sym (ap (λ (o : OperationFields). o.walk) c.self.view_is)) (may_change basis m before c.args.found reply c.in-Some.change c.requires.ready some)
+
+pub perform-requires-clause-ghost_found : goal.perform-requires-clause-ghost_found
+perform-requires-clause-ghost_found g c revives =
+    let basis : Basis = basis_by g.P.Pseudo.bits_of c.args.root.now c.args.opens.now c.args.subtx.now.tx in
+    let m : Moment = moment c.args.subtx.now c.args.pages.now in
+    let before : OperationFields = c.args.self.now in
+    let walk_is : c.self.inside.walk ≡ before.walk = ap (λ (o : OperationFields). o.walk) c.self.view_is in
+    let reply = c.decide-reply.result.0 in
+    let is : decision before.request c.args.found ≡ c.decide-reply.result = sym (c.decide-reply.ensures.told ∙ ap (λ (o : OperationFields). decision o.request c.args.found) c.self.view_is) in
+    let some = is ∙ ap (λ d. (reply, d)) c.in-Some.is in
+    subst (λ (w : WalkFields). HasOwnGhost c.args.subtx.now.tx w (view_of m)) (sym walk_is) (ghost_is_there basis m before c.args.found reply c.in-Some.change c.requires.ready some revives)
+
+pub returns-in-Changed : goal.returns-in-Changed
+returns-in-Changed g c =
+    let basis : Basis = basis_by g.P.Pseudo.bits_of c.args.root.now c.args.opens.now c.args.subtx.now.tx in
+    let m : Moment = moment c.args.subtx.now c.args.pages.now in
+    let before : OperationFields = c.args.self.now in
+    let walk_is : c.self.inside.walk ≡ before.walk = ap (λ (o : OperationFields). o.walk) c.self.view_is in
+    let reply = c.decide-reply.result.0 in
+    let is : decision before.request c.args.found ≡ c.decide-reply.result = sym (c.decide-reply.ensures.told ∙ ap (λ (o : OperationFields). decision o.request c.args.found) c.self.view_is) in
+    let some = is ∙ ap (λ d. (reply, d)) c.in-Some.is in
+    let new : Moment = moment c.perform.new.subtx c.perform.new.pages in
+    let writes : WritesIfChanged m new (page_of before.walk.phase) answer.Changed = subst (λ (w : WalkFields). WritesIfChanged m new (page_of w.phase) answer.Changed) walk_is c.in-Changed.ensures.writes in
+    let made : IsMade basis new before.walk c.perform.new.walk c.in-Some.change c.args.found = subst (λ (w : WalkFields). IsMade basis new w c.perform.new.walk c.in-Some.change c.args.found) walk_is c.in-Changed.ensures.tells in
+    record { tells = inl (change_finishes basis m new before _ c.args.found reply c.in-Some.change c.requires.ready some c.in-Changed.ensures.leaves writes made (ap (λ (o : OperationFields). o.request) c.self.view_is) refl) }
+
+pub returns-in-NeedSplit : goal.returns-in-NeedSplit
+returns-in-NeedSplit g c =
+    let basis : Basis = basis_by g.P.Pseudo.bits_of c.args.root.now c.args.opens.now c.args.subtx.now.tx in
+    let m : Moment = moment c.args.subtx.now c.args.pages.now in
+    let before : OperationFields = c.args.self.now in
+    let walk_is : c.self.inside.walk ≡ before.walk = ap (λ (o : OperationFields). o.walk) c.self.view_is in
+    let reply = c.decide-reply.result.0 in
+    let is : decision before.request c.args.found ≡ c.decide-reply.result = sym (c.decide-reply.ensures.told ∙ ap (λ (o : OperationFields). decision o.request c.args.found) c.self.view_is) in
+    let some = is ∙ ap (λ d. (reply, d)) c.in-Some.is in
+    let new : Moment = moment c.perform.new.subtx c.perform.new.pages in
+    let tells : TellsOfDecision basis new before.walk c.perform.new.walk c.in-Some.change c.args.found answer.NeedSplit = subst (λ (w : WalkFields). TellsOfDecision basis new w c.perform.new.walk c.in-Some.change c.args.found answer.NeedSplit) walk_is c.in-NeedSplit.ensures.tells in
+    let can : CanChange (Some c.in-Some.change) c.args.found = subst (λ (d : Option RecChange). CanChange d c.args.found) c.in-Some.is c.decide-reply.ensures.fits in
+    record { tells = inr (inl (splits_in_pass basis m new before _ c.in-Some.change c.args.found reply c.requires.ready some can c.in-NeedSplit.ensures.writes tells (λ first. false≢true (sym c.if-not-is_first.true ∙ c.is_first.ensures.1 first)) (ap (λ (o : OperationFields). o.request) c.self.view_is) (ap (λ (o : OperationFields). o.reply) c.self.view_is))) }
+
+pub returns-in-NeedSplit-2 : goal.returns-in-NeedSplit-2
+returns-in-NeedSplit-2 g c =
+    let basis : Basis = basis_by g.P.Pseudo.bits_of c.args.root.now c.args.opens.now c.args.subtx.now.tx in
+    let m : Moment = moment c.args.subtx.now c.args.pages.now in
+    let before : OperationFields = c.args.self.now in
+    let walk_is : c.self.inside.walk ≡ before.walk = ap (λ (o : OperationFields). o.walk) c.self.view_is in
+    let reply = c.decide-reply.result.0 in
+    let is : decision before.request c.args.found ≡ c.decide-reply.result = sym (c.decide-reply.ensures.told ∙ ap (λ (o : OperationFields). decision o.request c.args.found) c.self.view_is) in
+    let some = is ∙ ap (λ d. (reply, d)) c.in-Some.is in
+    let old : Moment = moment c.perform.new.subtx c.perform.new.pages in
+    let new : Moment = moment c.roll_back-in-NeedSplit-2.new.self (record { store = c.roll_back-in-NeedSplit-2.new.store; locks = c.roll_back-in-NeedSplit-2.new.locks }) in
+    let full : WalkFields = c.perform.new.walk in
+    let request = ap (λ (o : OperationFields). o.request) c.self.view_is in
+    let same = ap (λ (o : OperationFields). o.reply) c.self.view_is in
+    let can : CanChange (Some c.in-Some.change) c.args.found = subst (λ (d : Option RecChange). CanChange d c.args.found) c.in-Some.is c.decide-reply.ensures.fits in
+    let rolled : (stays : old ≡ m) → IsRolledBack m new = λ stays. rolls_back m old new stays c.roll_back-in-NeedSplit-2.ensures.store c.roll_back-in-NeedSplit-2.ensures.locks c.roll_back-in-NeedSplit-2.ensures.images in
+    elim c.in-NeedSplit-2-1.branch [
+      | in-NeedSplit+else-not-is_first w ↦
+          let tells : TellsOfDecision basis old before.walk full c.in-Some.change c.args.found answer.NeedSplit = subst (λ (w : WalkFields). TellsOfDecision basis old w full c.in-Some.change c.args.found answer.NeedSplit) walk_is w.in-NeedSplit.ensures.tells in
+          let stays : old ≡ m = w.in-NeedSplit.ensures.writes in
+          let first = w.is_first.ensures.0 w.if-not-is_first.false in
+          let restarts = first_restarts basis m before.walk full c.in-Some.change (subst (λ (n : Moment). TellsOfDecision basis n before.walk full c.in-Some.change c.args.found answer.NeedSplit) stays tells) first in
+          record { tells = inr (inr (begins_again basis m new before _ c.args.found full c.requires.ready (absent_to_add basis m before c.args.found c.in-Some.change _ c.requires.ready can tells) (rolled stays) restarts.0 restarts.1 c.again.ensures request same)) }
+      | in-Widen-1 w ↦
+          let tells : TellsOfDecision basis old before.walk full c.in-Some.change c.args.found answer.Widen = subst (λ (w : WalkFields). TellsOfDecision basis old w full c.in-Some.change c.args.found answer.Widen) walk_is w.enum_told-in-NeedSplit-2-1.ensures.tells in
+          let stays : old ≡ m = w.enum_told-in-NeedSplit-2-1.ensures.writes in
+          let restarts = narrow_restarts basis m before.walk full c.in-Some.change (subst (λ (n : Moment). TellsOfDecision basis n before.walk full c.in-Some.change c.args.found answer.Widen) stays tells) in
+          record { tells = inr (inr (begins_again basis m new before _ c.args.found full c.requires.ready (absent_to_add basis m before c.args.found c.in-Some.change _ c.requires.ready can tells) (rolled stays) restarts.0 restarts.1 c.again.ensures request same)) }
+    ]

@@ -1,0 +1,6 @@
+pub mod Requests
+pub mod Performing
+pub mod Operating
+pub mod PageTurns
+pub mod Answers
+pub mod AtBucket

@@ -1,0 +1,16 @@
+//! Operations of objects, run on pages: an operation walks to its record, learns there what it is told, and changes the
+//! record in place, one page per step. So does an inverse, which takes an operation back.
+//!
+//! An operation is a subtransaction of its transaction (Weikum, ACM TODS 16(1), 1991, section 3). What it is told is
+//! known once the bucket is read; whether it may stand beside what other transactions hold is asked at its end, by the
+//! manager.
+#![tactic(auto)]
+
+mod answer;
+mod operation;
+mod perform;
+mod request;
+
+pub use answer::StepAnswer;
+pub use operation::Operation;
+pub use request::Request;
