@@ -32,11 +32,14 @@ use Rattle.mlt_hash.specs.declared.answer.WalkAnswer.TheVariants as answer
 use Rattle.mlt_hash.specs.declared.pass.Pass.TheVariants as pass
 use Rattle.mlt_hash.proofs.Laws.{at_start, found_there}
 use Rattle.mlt_hash.proofs.Standings.{found_still}
+use Rattle.mlt_types.specs.declared.refusal.Refusal.{Refusal}
+use Rattle.mlt_types.specs.declared.refusal.Refusal.TheVariants as refusal
+use Rattle.mlt_operation.specs.declared.answer.StepAnswer.TheVariants as step
 use Rattle.mlt_operation.specs.declared.request.Request.{Request}
 use Rattle.mlt_operation.specs.declared.request.Request.TheVariants.{Do, TakeBack}
 use Rattle.mlt_operation.specs.Answers.{HasToRestart}
-use Rattle.mlt_operation.specs.AtBucket.{BeginsAgain, FindsNoRoom, Finishes, SplitsInPass, IsThereFor, MayDecide}
-use Rattle.mlt_operation.specs.Operating.{FitsPhase, HasPerformed, IsToAdd, IsTold, OperationFields}
+use Rattle.mlt_operation.specs.AtBucket.{BeginsAgain, FindsNoRoom, Finishes, SplitsInPass, IsThereFor, MayDecide, TellsAtBucket}
+use Rattle.mlt_operation.specs.Operating.{AsksToAdd, FitsPhase, HasPerformed, IsToAdd, IsTold, OperationFields}
 use Rattle.mlt_operation.specs.PageTurns.{IsRolledBack}
 use Rattle.mlt_operation.specs.Performing.{IsMade, OfAddition, TellsOfDecision}
 use Rattle.mlt_operation.specs.Requests.{decision, target_of}
@@ -147,6 +150,11 @@ absent_at : (p : Phase) (found : Option ℕ) → HasFound p found → found ≡ 
 absent_at (at.AtBucket bucket depth f) found is none = is ∙ none
 absent_at other found is none = absurd is
 
+pub asks_to_add : (request : Request) (found : Option ℕ) (reply : ObjReply) (change : RecChange) (Is : ℕ → Type 0) → decision request found ≡ (reply, Some change)
+    → CanChange (Some change) found → OfAddition change Is → (value : ℕ) × AsksToAdd request value
+asks_to_add request found reply (Add value) Is is can of = (value, (reply, subst (λ (f : Option ℕ). decision request f ≡ (reply, Some (Add value))) can is))
+asks_to_add request found reply other Is is can of = absurd of
+
 pub absent_to_add : (basis : Basis) (m : Moment) (o : OperationFields) (found : Option ℕ) (change : RecChange) (Is : ℕ → Type 0) → MayDecide basis m o found
     → CanChange (Some change) found → OfAddition change Is → HasFound o.walk.phase None
 absent_to_add basis m o found (Add value) Is may can of = absent_at o.walk.phase found may.at_bucket can
@@ -201,10 +209,10 @@ nothing_held old new back =
 
 -- **A pass that is rolled back begins again.**
 pub begins_again : (basis : Basis) (old new : Moment) (before after : OperationFields) (found : Option ℕ) (full : WalkFields)
-    → MayDecide basis old before found → HasFound before.walk.phase None → IsRolledBack old new → HasToRestart basis old before.walk full → IsSameWalk before.walk full
+    → MayDecide basis old before found → HasFound before.walk.phase None → (value : ℕ) × AsksToAdd before.request value → IsRolledBack old new → HasToRestart basis old before.walk full → IsSameWalk before.walk full
     → after.walk ≡ record full { pass = next_of full.phase; phase = at.Start; split = None }
     → after.request ≡ before.request → after.reply ≡ before.reply → BeginsAgain basis old new before after
-begins_again basis old new before after found full may absent back restarts alike again request same =
+begins_again basis old new before after found full may absent adds back restarts alike again request same =
     let key : after.walk.key ≡ before.walk.key = ap (λ (w : WalkFields). w.key) again ∙ alike.key in
     let mode : after.walk.mode ≡ before.walk.mode = ap (λ (w : WalkFields). w.mode) again ∙ alike.mode in
     let phase : after.walk.phase ≡ at.Start = ap (λ (w : WalkFields). w.phase) again in
@@ -217,6 +225,7 @@ begins_again basis old new before after found full may absent back restarts alik
         fits = subst (λ (p : Phase). FitsPhase p basis after (view_of new)) (sym phase) (same ∙ may.untold);
       };
       absent = absent;
+      adds = adds;
       full = full;
       restarts = restarts;
       again = again;
@@ -234,14 +243,23 @@ narrow_restarts basis m walk full (Add value) widen = (inr widen, widen.same)
 narrow_restarts basis m walk full other widen = absurd widen
 
 -- **Where there is no room at all, all is rolled back.**
-pub finds_no_room : (basis : Basis) (old new : Moment) (before : OperationFields) (change : RecChange) (found : Option ℕ) (after : WalkFields)
-    → MayDecide basis old before found → CanChange (Some change) found → OfAddition change (λ value. HasNoRoom basis old before.walk after)
+pub finds_no_room : (basis : Basis) (old new : Moment) (before : OperationFields) (change : RecChange) (found : Option ℕ) (reply : ObjReply) (after : WalkFields)
+    → MayDecide basis old before found → decision before.request found ≡ (reply, Some change) → CanChange (Some change) found → OfAddition change (λ value. HasNoRoom basis old before.walk after)
     → IsRolledBack old new → FindsNoRoom basis old new before
-finds_no_room basis old new before (Add value) found after may can none back = record {
+finds_no_room basis old new before (Add value) found reply after may is can none back = record {
   back = back;
   later = none.later;
   absent = absent_at before.walk.phase found may.at_bucket can;
+  adds = (value, (reply, subst (λ (f : Option ℕ). decision before.request f ≡ (reply, Some (Add value))) can is));
   walk = after;
   none = none;
 }
-finds_no_room basis old new before other found after may can none back = absurd none
+finds_no_room basis old new before other found reply after may is can none back = absurd none
+
+-- what is told where the walk's change is refused
+pub refused_at_bucket : (basis : Basis) (old mid new : Moment) (before after : OperationFields) (change : RecChange) (found : Option ℕ) (reply : ObjReply) (walk : WalkFields) (reason : Refusal)
+    → MayDecide basis old before found → decision before.request found ≡ (reply, Some change) → CanChange (Some change) found → mid ≡ old
+    → TellsOfDecision basis mid before.walk walk change found (answer.Refused reason) → IsRolledBack old new → TellsAtBucket basis old new before after (step.Refused reason)
+refused_at_bucket basis old mid new before after change found reply walk refusal.NoRoom may is can stays tells back =
+    finds_no_room basis old new before change found reply walk may is can (subst (λ (m : Moment). TellsOfDecision basis m before.walk walk change found (answer.Refused refusal.NoRoom)) stays tells) back
+refused_at_bucket basis old mid new before after change found reply walk other may is can stays tells back = absurd tells

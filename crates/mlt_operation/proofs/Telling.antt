@@ -23,7 +23,7 @@ use Rattle.mlt_operation.specs.declared.request.Request.{Request}
 use Rattle.mlt_operation.specs.declared.request.Request.TheVariants.{Do, TakeBack}
 use Rattle.mlt_operation.specs.Answers.{AsksForAt, IsCauseOf, IsRefused, LacksPage, ReachesBucket, TellsOfStep, Waits}
 use Rattle.mlt_operation.specs.AtBucket.{IsThereFor, MayDecide, TellsAtBucket}
-use Rattle.mlt_operation.specs.Operating.{CanTakeBack, MayOperate, OperationFields, steps_left}
+use Rattle.mlt_operation.specs.Operating.{AsksToAdd, CanTakeBack, MayOperate, OperationFields, steps_left}
 use Rattle.mlt_operation.specs.PageTurns.{IsRolledBack, TakesTurn}
 use Rattle.mlt_operation.specs.Requests.{target_of}
 use Rattle.mlt_operation.proofs.Going.{put_on_way, same_target, untold_on_way}
@@ -169,6 +169,7 @@ found_tells basis old mid new before at after found told may leaves tells reques
           back = record { mid = mid; turn = turn; back = again.back };
           request = again.request ∙ request;
           operates = again.operates;
+          adds = (again.adds.0, subst (λ (r : Request). AsksToAdd r again.adds.0) request again.adds.1);
           walk = at.walk;
           reaches = reaches basis mid before at.walk found path.0 path.1 again.absent;
           full = again.full;
@@ -178,7 +179,7 @@ found_tells basis old mid new before at after found told may leaves tells reques
     by (step.Refused refusal.NoRoom) none = record {
       back = record { mid = mid; turn = turn; back = none.back };
       later = λ first. none.later (path.0.same.pass ∙ first);
-      cause = inl (record { walk = at.walk; after = none.walk; reaches = reaches basis mid before at.walk found path.0 path.1 none.absent; none = none.none });
+      cause = inl (record { adds = (none.adds.0, subst (λ (r : Request). AsksToAdd r none.adds.0) request none.adds.1); walk = at.walk; after = none.walk; reaches = reaches basis mid before at.walk found path.0 path.1 none.absent; none = none.none });
     }
     by other never = absurd never
 

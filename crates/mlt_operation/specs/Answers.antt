@@ -20,7 +20,7 @@ use Rattle.mlt_hash.specs.declared.pass.Phase.{Phase}
 use Rattle.mlt_hash.specs.declared.pass.Phase.TheVariants as at
 use Rattle.mlt_operation.specs.declared.answer.StepAnswer.{StepAnswer}
 use Rattle.mlt_operation.specs.declared.answer.StepAnswer.TheVariants as answer
-use Rattle.mlt_operation.specs.Operating.{IsOperating, OperationFields, steps_left}
+use Rattle.mlt_operation.specs.Operating.{AsksToAdd, IsOperating, OperationFields, steps_left}
 use Rattle.mlt_operation.specs.PageTurns.{TakesTurn, TurnsBack}
 
 -- it had split its bucket, and puts its record, where there may be room before it is split as far as it was meant to be
@@ -73,6 +73,7 @@ pub record Restarts (basis : Basis) (old new : Moment) (before after : Operation
   pub back : TurnsBack old new
   pub request : after.request ≡ before.request
   pub operates : IsOperating basis after (view_of new)
+  pub adds : (value : ℕ) × AsksToAdd before.request value
   pub walk : WalkFields
   pub reaches : ReachesBucket basis back.mid before walk
   pub full : WalkFields
@@ -104,6 +105,7 @@ pub record LacksPage (basis : Basis) (old : Moment) (before : OperationFields) :
 
 -- it has reached its bucket, and has no room at any depth
 pub record LacksRoom (basis : Basis) (m : Moment) (before : OperationFields) : Type 0 where
+  pub adds : (value : ℕ) × AsksToAdd before.request value
   pub walk : WalkFields
   pub after : WalkFields
   pub reaches : ReachesBucket basis m before walk

@@ -17,7 +17,7 @@ use Rattle.mlt_operation.specs.declared.request.Request.TheVariants.{Do, TakeBac
 use Rattle.mlt_operation.specs.declared.answer.StepAnswer.{StepAnswer}
 use Rattle.mlt_operation.specs.declared.answer.StepAnswer.TheVariants as answer
 use Rattle.mlt_operation.specs.Answers.{HasToRestart}
-use Rattle.mlt_operation.specs.Operating.{IsOperating, IsThere, OperationFields, steps_left}
+use Rattle.mlt_operation.specs.Operating.{AsksToAdd, IsOperating, IsThere, OperationFields, steps_left}
 use Rattle.mlt_operation.specs.PageTurns.{IsRolledBack}
 use Rattle.mlt_operation.specs.Requests.{target_of}
 
@@ -65,6 +65,7 @@ pub record BeginsAgain (basis : Basis) (old new : Moment) (before after : Operat
   pub request : after.request ≡ before.request
   pub operates : IsOperating basis after (view_of new)
   pub absent : HasFound before.walk.phase None
+  pub adds : (value : ℕ) × AsksToAdd before.request value
   pub full : WalkFields
   pub restarts : HasToRestart basis old before.walk full
   pub again : after.walk ≡ record full { pass = next_of full.phase; phase = at.Start; split = None }
@@ -74,6 +75,7 @@ pub record FindsNoRoom (basis : Basis) (old new : Moment) (before : OperationFie
   pub back : IsRolledBack old new
   pub later : before.walk.pass ≡ pass.First → ⊥
   pub absent : HasFound before.walk.phase None
+  pub adds : (value : ℕ) × AsksToAdd before.request value
   pub walk : WalkFields
   pub none : HasNoRoom basis old before.walk walk
 

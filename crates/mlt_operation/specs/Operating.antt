@@ -14,6 +14,7 @@ use Rattle.mlt_hash.specs.Changes.{HasOwnGhost}
 use Rattle.mlt_hash.specs.Steps.{steps_to_bucket}
 use Rattle.mlt_hash.specs.StepsLeft.{steps_to_put}
 use Rattle.mlt_hash.specs.declared.pass.Change.{Change}
+use Rattle.mlt_hash.specs.declared.pass.Pass.TheVariants as pass
 use Rattle.mlt_hash.specs.declared.pass.Phase.{Phase}
 use Rattle.mlt_hash.specs.declared.pass.Phase.TheVariants as at
 use Rattle.mlt_operation.specs.declared.request.Request.{Request}
@@ -27,15 +28,32 @@ pub record OperationFields : Type 0 where
   pub reply : Option ObjReply
   pub walk : WalkFields
 
+-- one that has taken no step
+abbrev pub started_for : Request → OperationFields
+started_for request = record {
+  request = request;
+  reply = None;
+  walk = record {
+    key = (target_of request).0;
+    mode = (target_of request).1;
+    pass = pass.First;
+    phase = at.Start;
+    split = None;
+  };
+}
+
 -- it is told this reply, and what it found asks for no change
 abbrev pub IsTold : OperationFields → Option ℕ → Type 0
 IsTold o found =
     (reply : ObjReply) × (o.reply ≡ Some reply) × (decision o.request found ≡ (reply, None))
 
+-- where no record is found, it asks for one of this value
+abbrev pub AsksToAdd : Request → ℕ → Type 0
+AsksToAdd request value = (reply : ObjReply) × (decision request None ≡ (reply, Some (Add value)))
+
 -- a record of this value is to be added, since none was found
 abbrev pub IsToAdd : OperationFields → ℕ → Type 0
-IsToAdd o value = (o.reply ≡ None)
-    × ((reply : ObjReply) × (decision o.request None ≡ (reply, Some (Add value))))
+IsToAdd o value = (o.reply ≡ None) × AsksToAdd o.request value
 
 -- what it found asked for the change that is written
 pub record HasPerformed (basis : Basis) (o : OperationFields) (view : View) (done : Change)

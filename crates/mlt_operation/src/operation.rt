@@ -1,15 +1,12 @@
 //! Operations.
 
-ghost use Rattle.std.specs.Prelude.{◌≡◌, None};
+ghost use Rattle.std.specs.Prelude.{◌≡◌};
 ghost use Rattle.mlt_held.specs.Moments.{moment};
 ghost use Rattle.mlt_hash.specs.Walks.{basis_by};
 ghost use Rattle.mlt_hash.specs.Splitting.{IsUnderWay};
-ghost use Rattle.mlt_hash.specs.declared.pass.Pass.{Pass};
-ghost use Rattle.mlt_hash.specs.declared.pass.Phase.{Phase};
 ghost use Rattle.mlt_operation.specs.Answers.{TellsOfStep};
 ghost use Rattle.mlt_operation.specs.AtBucket.{MayDecide, TellsAtBucket};
-ghost use Rattle.mlt_operation.specs.Operating.{MayOperate};
-ghost use Rattle.mlt_operation.specs.Requests.{target_of};
+ghost use Rattle.mlt_operation.specs.Operating.{MayOperate, started_for};
 
 use crate::answer::StepAnswer;
 use crate::perform::perform;
@@ -43,15 +40,7 @@ impl Model for Operation {
 impl Operation {
     /// An operation that has taken no step. Only a pass that splits its bucket takes memory.
     pub fn start(alloc: Global, request: Request) -> Operation
-        ensures request { result.request ≡ request }
-        ensures reply { result.reply ≡ None }
-        ensures walk { result.walk ≡ record {
-          key = (target_of request).0;
-          mode = (target_of request).1;
-          pass = Pass.First;
-          phase = Phase.Start;
-          split = None;
-        } }
+        ensures { result ≡ started_for request }
     {
         let (key, mode) = request.target();
         Operation {

@@ -7,11 +7,13 @@ use Rattle.mlt_hash.specs.Changes.{HasOwnGhost, MayChange, WritesIfChanged, page
 use Rattle.mlt_hash.specs.declared.answer.WalkAnswer.TheVariants as answer
 use Rattle.mlt_base.specs.Records.{CanChange}
 use Rattle.mlt_held.specs.Views.{view_of}
+use Rattle.mlt_operation.specs.declared.answer.StepAnswer.TheVariants as step
+use Rattle.mlt_operation.specs.AtBucket.{TellsAtBucket}
 use Rattle.mlt_operation.specs.Operating.{OperationFields}
 use Rattle.mlt_operation.specs.Performing.{IsMade, TellsOfDecision}
 use Rattle.mlt_operation.specs.Requests.{decision}
 use Rattle.mlt_operation.specs.PageTurns.{IsRolledBack}
-use Rattle.mlt_operation.proofs.AtBucket.{absent_to_add, begins_again, change_finishes, first_restarts, ghost_is_there, splits_in_pass, may_change, narrow_restarts, rolls_back, told_finishes}
+use Rattle.mlt_operation.proofs.AtBucket.{absent_to_add, asks_to_add, begins_again, change_finishes, first_restarts, ghost_is_there, splits_in_pass, may_change, narrow_restarts, refused_at_bucket, rolls_back, told_finishes}
 use Rattle.mlt_operation.proofs.operation.Operation.act_on.Goals.{in-NeedSplit+else-not-is_first, in-Widen-1}
 use Rattle.mlt_operation.proofs.operation.Operation.act_on.Goals as goal
 
@@ -74,6 +76,23 @@ returns-in-NeedSplit g c =
     let can : CanChange (Some c.in-Some.change) c.args.found = subst (λ (d : Option RecChange). CanChange d c.args.found) c.in-Some.is c.decide-reply.ensures.fits in
     record { tells = inr (inl (splits_in_pass basis m new before _ c.in-Some.change c.args.found reply c.requires.ready some can c.in-NeedSplit.ensures.writes tells (λ first. false≢true (sym c.if-not-is_first.true ∙ c.is_first.ensures.1 first)) (ap (λ (o : OperationFields). o.request) c.self.view_is) (ap (λ (o : OperationFields). o.reply) c.self.view_is))) }
 
+pub returns-in-Refused : goal.returns-in-Refused
+returns-in-Refused g c =
+    let basis : Basis = basis_by g.P.Pseudo.bits_of c.args.root.now c.args.opens.now c.args.subtx.now.tx in
+    let m : Moment = moment c.args.subtx.now c.args.pages.now in
+    let before : OperationFields = c.args.self.now in
+    let walk_is : c.self.inside.walk ≡ before.walk = ap (λ (o : OperationFields). o.walk) c.self.view_is in
+    let reply = c.decide-reply.result.0 in
+    let is : decision before.request c.args.found ≡ c.decide-reply.result = sym (c.decide-reply.ensures.told ∙ ap (λ (o : OperationFields). decision o.request c.args.found) c.self.view_is) in
+    let some = is ∙ ap (λ d. (reply, d)) c.in-Some.is in
+    let old : Moment = moment c.perform.new.subtx c.perform.new.pages in
+    let new : Moment = moment c.roll_back.new.self (record { store = c.roll_back.new.store; locks = c.roll_back.new.locks }) in
+    let tells : TellsOfDecision basis old before.walk c.perform.new.walk c.in-Some.change c.args.found (answer.Refused c.in-Refused.refusal) =
+    subst (λ (w : WalkFields). TellsOfDecision basis old w c.perform.new.walk c.in-Some.change c.args.found (answer.Refused c.in-Refused.refusal)) walk_is c.in-Refused.ensures.tells in
+    let can : CanChange (Some c.in-Some.change) c.args.found = subst (λ (d : Option RecChange). CanChange d c.args.found) c.in-Some.is c.decide-reply.ensures.fits in
+    let back = rolls_back m old new c.in-Refused.ensures.writes c.roll_back.ensures.store c.roll_back.ensures.locks c.roll_back.ensures.images in
+    let refuses : TellsAtBucket basis m new before before (step.Refused c.in-Refused.refusal) = refused_at_bucket basis m old new before before c.in-Some.change c.args.found reply c.perform.new.walk c.in-Refused.refusal c.requires.ready some can c.in-Refused.ensures.writes tells back in record { tells = refuses }
+
 pub returns-in-NeedSplit-2 : goal.returns-in-NeedSplit-2
 returns-in-NeedSplit-2 g c =
     let basis : Basis = basis_by g.P.Pseudo.bits_of c.args.root.now c.args.opens.now c.args.subtx.now.tx in
@@ -96,10 +115,10 @@ returns-in-NeedSplit-2 g c =
           let stays : old ≡ m = w.in-NeedSplit.ensures.writes in
           let first = w.is_first.ensures.0 w.if-not-is_first.false in
           let restarts = first_restarts basis m before.walk full c.in-Some.change (subst (λ (n : Moment). TellsOfDecision basis n before.walk full c.in-Some.change c.args.found answer.NeedSplit) stays tells) first in
-          record { tells = inr (inr (begins_again basis m new before _ c.args.found full c.requires.ready (absent_to_add basis m before c.args.found c.in-Some.change _ c.requires.ready can tells) (rolled stays) restarts.0 restarts.1 c.again.ensures request same)) }
+          record { tells = inr (inr (begins_again basis m new before _ c.args.found full c.requires.ready (absent_to_add basis m before c.args.found c.in-Some.change _ c.requires.ready can tells) (asks_to_add before.request c.args.found reply c.in-Some.change _ some can tells) (rolled stays) restarts.0 restarts.1 c.again.ensures request same)) }
       | in-Widen-1 w ↦
           let tells : TellsOfDecision basis old before.walk full c.in-Some.change c.args.found answer.Widen = subst (λ (w : WalkFields). TellsOfDecision basis old w full c.in-Some.change c.args.found answer.Widen) walk_is w.enum_told-in-NeedSplit-2-1.ensures.tells in
           let stays : old ≡ m = w.enum_told-in-NeedSplit-2-1.ensures.writes in
           let restarts = narrow_restarts basis m before.walk full c.in-Some.change (subst (λ (n : Moment). TellsOfDecision basis n before.walk full c.in-Some.change c.args.found answer.Widen) stays tells) in
-          record { tells = inr (inr (begins_again basis m new before _ c.args.found full c.requires.ready (absent_to_add basis m before c.args.found c.in-Some.change _ c.requires.ready can tells) (rolled stays) restarts.0 restarts.1 c.again.ensures request same)) }
+          record { tells = inr (inr (begins_again basis m new before _ c.args.found full c.requires.ready (absent_to_add basis m before c.args.found c.in-Some.change _ c.requires.ready can tells) (asks_to_add before.request c.args.found reply c.in-Some.change _ some can tells) (rolled stays) restarts.0 restarts.1 c.again.ensures request same)) }
     ]

@@ -1,0 +1,51 @@
+-- An inverse adds no record, so it splits nothing, stays in its first pass, and is never refused
+use Rattle.std.proofs.Common.{◌≡◌, ℕ, Bool, true, false, None, Option, Some, refl, sym, ap, ◌∙◌, inl, inr}
+use Rattle.std.proofs.lemmas.Bool.{false≢true}
+use Rattle.mlt_kinds.specs.declared.account.AccountOp.TheVariants.{Open, Close, Deposit, Withdraw, Balance}
+use Rattle.mlt_kinds.specs.declared.counter.CounterOp.TheVariants.{Up, Down, Read}
+use Rattle.mlt_kinds.specs.declared.element.ElementOp.TheVariants as element
+use Rattle.mlt_kinds.specs.declared.operation.ObjOp.{ObjOp}
+use Rattle.mlt_kinds.specs.declared.operation.ObjOp.TheVariants.{Account, Element, Counter}
+use Rattle.mlt_kinds.specs.declared.operation.ObjReply.{ObjReply}
+use Rattle.mlt_kinds.specs.declared.operation.ObjReply.TheVariants as told
+use Rattle.mlt_base.specs.declared.record.RecChange.{RecChange}
+use Rattle.mlt_base.specs.declared.record.RecChange.TheVariants.{Add}
+use Rattle.mlt_base.specs.Plans.{inverse_of}
+use Rattle.mlt_held.specs.Moments.{Moment}
+use Rattle.mlt_hash.specs.Walks.{Basis}
+use Rattle.mlt_hash.specs.declared.pass.Pass.TheVariants as pass
+use Rattle.mlt_operation.specs.declared.answer.StepAnswer.TheVariants as step
+use Rattle.mlt_operation.specs.declared.request.Request.{Request}
+use Rattle.mlt_operation.specs.declared.request.Request.TheVariants.{TakeBack}
+use Rattle.mlt_operation.specs.Answers.{StepsOn, TellsOfStep}
+use Rattle.mlt_operation.specs.Operating.{AsksToAdd, OperationFields}
+use Rattle.mlt_operation.specs.Requests.{decision}
+use Rattle.mlt_transaction.specs.Steps.{IsInverting}
+
+abbrev is_addition : Option RecChange → Bool
+is_addition (Some (Add v)) = true
+is_addition other = false
+
+never_adds : (item : ObjOp × ObjReply) → is_addition (inverse_of item) ≡ false
+never_adds (Account a Open, told.Opened) = refl
+never_adds (Account a Close, told.Closed) = refl
+never_adds (Account a (Deposit n), told.Done) = refl
+never_adds (Account a (Withdraw n), told.Done) = refl
+never_adds (Account a op, other) = refl
+never_adds (Element s e element.Add, told.Added) = refl
+never_adds (Element s e element.Remove, told.Removed) = refl
+never_adds (Element s e op, other) = refl
+never_adds (Counter c (Up n), told.Done) = refl
+never_adds (Counter c (Down n), told.Done) = refl
+never_adds (Counter c op, other) = refl
+
+no_addition : (item : ObjOp × ObjReply) (request : Request) (value : ℕ) → request ≡ TakeBack item → AsksToAdd request value → ⊥
+no_addition item request value is adds =
+    false≢true (sym (never_adds item) ∙ ap (λ (d : ObjReply × Option RecChange). is_addition d.1) (ap (λ (r : Request). decision r None) (sym is) ∙ adds.1))
+
+-- **An inverse that goes on stays in its pass.**
+pub inverse_goes_on : (basis : Basis) (old new : Moment) (item : ObjOp × ObjReply) (before after : OperationFields) → IsInverting item before
+    → TellsOfStep basis old new before after step.Going → StepsOn basis old new before after × IsInverting item after
+inverse_goes_on basis old new item before after is (inl goes) = (goes, record { asked = goes.request ∙ is.asked; first = goes.in_pass ∙ is.first })
+inverse_goes_on basis old new item before after is (inr (inl splits)) = absurd (splits.later is.first)
+inverse_goes_on basis old new item before after is (inr (inr again)) = absurd (no_addition item before.request again.adds.0 is.asked again.adds.1)

@@ -1,0 +1,4 @@
+pub mod Backing
+pub mod Inverses
+pub mod Pending
+pub mod Ready

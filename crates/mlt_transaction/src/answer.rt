@@ -1,0 +1,23 @@
+//! What a step of a transaction answers.
+
+use mlt_kinds::ObjReply;
+use mlt_types::{PageNo, Refusal, TxId};
+
+/// The answer to a step of a transaction.
+#[derive(Clone, Copy, Debug, PartialEq, Eq)]
+pub enum Answer {
+    /// Its operation, or inverse, goes on.
+    Going,
+    /// The page is held by this transaction, the lowest whose lock stands against the one asked for. Nothing has changed.
+    Waiting { page: PageNo, by: TxId },
+    /// This transaction holds an operation that clashes, the lowest that does. The operation is to be run anew.
+    Blocked { by: TxId },
+    /// The operation is done, and was told this.
+    Done(ObjReply),
+    /// The last operation that stood is taken back, and others stand.
+    Undone,
+    /// The last operation that stood is taken back, and the transaction is closed.
+    Aborted,
+    /// There is no room (`NoRoom`) or no memory (`OutOfMemory`). The operation is dropped.
+    Refused(Refusal),
+}

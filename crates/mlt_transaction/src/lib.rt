@@ -1,0 +1,13 @@
+//! One transaction of a manager: its subtransaction, its undo list, and what it is at; and what each of its steps does to
+//! the pages, the object locks and the history, which all transactions share.
+#![tactic(auto)]
+
+mod answer;
+mod commons;
+mod ending;
+mod stepping;
+mod transaction;
+
+pub use answer::Answer;
+pub use commons::Commons;
+pub use transaction::{At, Transaction};

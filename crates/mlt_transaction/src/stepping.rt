@@ -1,0 +1,133 @@
+//! The steps of a pending operation, and of an abort.
+
+ghost use Rattle.std.specs.Prelude.{◌≡◌, ◌≤◌, ◌+◌, ◌++◌, [], ◌∷◌, List};
+ghost use Rattle.mlt_held.specs.Moments.{moment};
+ghost use Rattle.mlt_hash.specs.Walks.{basis_by};
+ghost use Rattle.mlt_operation.specs.Operating.{MayOperate, started_for};
+ghost use Rattle.mlt_kinds.specs.declared.operation.ObjOp.{ObjOp};
+ghost use Rattle.mlt_kinds.specs.declared.operation.ObjReply.{ObjReply};
+ghost use Rattle.mlt_transaction.specs.Steps.{MayStepBack, MayStepOn, TakesBack, TellsOfBack, TellsOfPending, TellsOfStart, answer_of};
+
+use crate::answer::Answer;
+use crate::commons::Commons;
+use crate::ending::finish;
+use mlt_base::inverse;
+use mlt_hash_form::Root;
+use mlt_kinds::Done;
+use mlt_operation::{Operation, Request, StepAnswer};
+use mlt_subtx::Subtx;
+use mlt_trace::TraceItem;
+use mlt_types::{OpenSet, Pseudo, TxId};
+use mlt_undo::UndoList;
+
+fn answer_of(told: StepAnswer) -> Answer
+    ensures { result ≡ answer_of told }
+{
+    match told {
+        StepAnswer::Going => Answer::Going,
+        StepAnswer::Waiting(page, by) => Answer::Waiting { page, by },
+        StepAnswer::Refused(refusal) => Answer::Refused(refusal),
+    }
+}
+
+/// One step of a pending operation: of its walk, or its end. Where its end is blocked, it is to be run anew.
+pub(crate) fn step_on<P: Pseudo>(
+    operation: &mut Operation,
+    subtx: &mut Subtx,
+    undo: &mut UndoList,
+    commons: &mut Commons,
+    root: &Root<P>,
+    opens: &OpenSet,
+) -> Answer
+    requires ready { MayStepOn (basis_by P.bits_of root.now opens.now subtx.old.tx)
+        operation.old subtx.old undo.old commons.old }
+    ensures tells { TellsOfPending (basis_by P.bits_of root.now opens.now subtx.old.tx)
+        operation.old operation.new subtx.old subtx.new undo.old undo.new
+        commons.old commons.new result }
+{
+    match (operation.request(), operation.reply()) {
+        (_, None) => answer_of(operation.step(root, subtx, &mut commons.pages, opens)),
+        (Request::Do(op), Some(reply)) => {
+            let answer = finish(Done::new(op, reply), subtx, undo, commons);
+            if let Answer::Blocked { .. } = answer {
+                *operation = Operation::start(commons.alloc, Request::Do(op));
+            }
+            answer
+        }
+        (Request::TakeBack(_), Some(_)) => unreachable!(),
+    }
+}
+
+/// Takes the last operation off, once its inverse is done, or where it has none.
+fn take_back(tx: TxId, undo: &mut UndoList, commons: &mut Commons) -> Answer
+    requires entry { (front : List (ObjOp × ObjReply)) × (last : ObjOp × ObjReply)
+        × (undo.old.entries ≡ front ++ last ∷ []) }
+    requires room { 2 ≤ commons.old.history.room }
+    ensures tells { TakesBack tx undo.old undo.new commons.old commons.new result }
+{
+    undo.pop();
+    commons.history.push(TraceItem::Back(tx));
+    if undo.last().is_some() {
+        return Answer::Undone;
+    }
+    commons.objects.release_all(tx);
+    commons.history.push(TraceItem::Abort(tx));
+    Answer::Aborted
+}
+
+/// One step of an abort: of the inverse that runs, or its end; or the first step of the next one, of the last operation
+/// that stands. One without an inverse is taken back at once. It takes no memory.
+pub(crate) fn step_back<P: Pseudo>(
+    inverting: &mut Option<Operation>,
+    subtx: &mut Subtx,
+    undo: &mut UndoList,
+    commons: &mut Commons,
+    root: &Root<P>,
+    opens: &OpenSet,
+) -> Answer
+    requires ready { MayStepBack (basis_by P.bits_of root.now opens.now subtx.old.tx)
+        inverting.old subtx.old undo.old commons.old }
+    ensures tells { TellsOfBack (basis_by P.bits_of root.now opens.now subtx.old.tx)
+        inverting.old inverting.new subtx.old subtx.new undo.old undo.new
+        commons.old commons.new result }
+{
+    match inverting {
+        Some(operation) => match operation.reply() {
+            None => answer_of(operation.step(root, subtx, &mut commons.pages, opens)),
+            Some(_) => {
+                subtx.end(&mut commons.pages.locks);
+                *inverting = None;
+                take_back(subtx.tx(), undo, commons)
+            }
+        },
+        None => {
+            let Some(last) = undo.last() else {
+                unreachable!()
+            };
+            match inverse(&last) {
+                None => take_back(subtx.tx(), undo, commons),
+                Some(_) => begin_inverse(last, inverting, subtx, commons, root, opens),
+            }
+        }
+    }
+}
+
+/// Begins to take an operation back, and takes the first step.
+fn begin_inverse<P: Pseudo>(
+    last: Done,
+    inverting: &mut Option<Operation>,
+    subtx: &mut Subtx,
+    commons: &mut Commons,
+    root: &Root<P>,
+    opens: &OpenSet,
+) -> Answer
+    requires ready { MayOperate (basis_by P.bits_of root.now opens.now subtx.old.tx)
+        (moment subtx.old commons.old.pages) (started_for (Request.TakeBack last)) }
+    ensures tells { TellsOfStart (basis_by P.bits_of root.now opens.now subtx.old.tx) last
+        inverting.new subtx.old subtx.new commons.old commons.new result }
+{
+    let mut operation = Operation::start(commons.alloc, Request::TakeBack(last));
+    let told = operation.step(root, subtx, &mut commons.pages, opens);
+    *inverting = Some(operation);
+    answer_of(told)
+}

@@ -1,0 +1,113 @@
+//! Transactions.
+
+ghost use Rattle.std.specs.Prelude.{◌≡◌, ◌≤◌, ◌+◌, [], None};
+ghost use Rattle.mlt_hash.specs.Walks.{basis_by};
+ghost use Rattle.mlt_subtx.specs.Images.{AreThere, started};
+ghost use Rattle.mlt_transaction.specs.Transactions.{IsPending, MayStepIn, TellsOfCancel, TellsOfTransaction};
+
+use crate::answer::Answer;
+use crate::commons::Commons;
+use crate::stepping::{step_back, step_on};
+use mlt_hash_form::Root;
+use mlt_operation::Operation;
+use mlt_subtx::Subtx;
+use mlt_types::{OpenSet, Pseudo, TxId};
+use mlt_undo::UndoList;
+use std::alloc::Global;
+
+/// What an open transaction is at.
+#[derive(Drop)]
+pub enum At {
+    /// Nothing is pending.
+    Idle,
+    /// An operation that was called and not told its reply, or was told to run anew.
+    Pending(Operation),
+    /// Its abort has begun: the inverse that runs, if one does.
+    Undoing(Option<Operation>),
+}
+
+/// An open transaction.
+#[derive(Drop)]
+pub struct Transaction {
+    /// Its subtransaction, which has written nothing where none runs.
+    pub subtx: Subtx,
+    /// What it did and has not taken back.
+    pub undo: UndoList,
+    /// What it is at.
+    pub at: At,
+}
+
+impl Transaction {
+    /// A transaction of this number that has done nothing. It takes no memory.
+    pub fn begin(alloc: Global, tx: TxId) -> Transaction
+        ensures subtx { result.subtx ≡ started tx }
+        ensures entries { result.undo.entries ≡ [] }
+        ensures at { result.at ≡ At.Idle }
+    {
+        Transaction {
+            subtx: Subtx::start(alloc, tx),
+            undo: UndoList::new(alloc),
+            at: At::Idle,
+        }
+    }
+
+    /// One step of its pending operation, or of its abort. An operation that is done or refused is pending no more, and
+    /// one that is refused gives up the room that it had in the history. A step of a first pass, or of an abort, takes no
+    /// memory.
+    pub fn step<P: Pseudo>(
+        &mut self,
+        commons: &mut Commons,
+        root: &Root<P>,
+        opens: &OpenSet,
+    ) -> Answer
+        requires ready { MayStepIn (basis_by P.bits_of root.now opens.now self.old.subtx.tx)
+            self.old commons.old }
+        ensures tells { TellsOfTransaction (basis_by P.bits_of root.now opens.now self.old.subtx.tx)
+            self.old self.new commons.old commons.new result }
+    {
+        match &mut self.at {
+            At::Idle => unreachable!(),
+            At::Pending(operation) => {
+                let answer = step_on(
+                    operation,
+                    &mut self.subtx,
+                    &mut self.undo,
+                    commons,
+                    root,
+                    opens,
+                );
+                match answer {
+                    Answer::Done(_) => self.at = At::Idle,
+                    Answer::Refused(_) => {
+                        self.at = At::Idle;
+                        commons.history.release(2);
+                    }
+                    _ => {}
+                }
+                answer
+            }
+            At::Undoing(inverting) => step_back(
+                inverting,
+                &mut self.subtx,
+                &mut self.undo,
+                commons,
+                root,
+                opens,
+            ),
+        }
+    }
+
+    /// Drops the pending operation, rolls its pages back, and gives up the room that it had in the history. It takes no
+    /// memory.
+    pub fn cancel(&mut self, commons: &mut Commons)
+        requires pending { IsPending self.old.at }
+        requires there { AreThere self.old.subtx.images commons.old.pages.store.pages }
+        requires room { 2 ≤ commons.old.history.room }
+        ensures tells { TellsOfCancel self.old self.new commons.old commons.new }
+    {
+        self.subtx
+            .roll_back(&mut commons.pages.store, &mut commons.pages.locks);
+        self.at = At::Idle;
+        commons.history.release(2);
+    }
+}
