@@ -17,7 +17,7 @@ use Rattle.mlt_base.specs.Meaning.{Means}
 use Rattle.mlt_base.specs.Records.{IsRecord, state_of_record}
 
 -- different cells have different keys
-same_cell : (c d : Cell) → IsInRange c → IsInRange d → key_number c ≡ key_number d → c ≡ d
+pub same_cell : (c d : Cell) → IsInRange c → IsInRange d → key_number c ≡ key_number d → c ≡ d
 same_cell (Account a) (Account b) h k e = let same : a ≡ b = omega arith in ap Account same
 same_cell (Counter a) (Counter b) h k e = let same : a ≡ b = omega arith in ap Counter same
 same_cell (Element s e) (Element t f) h k is =

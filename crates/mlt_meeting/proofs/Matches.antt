@@ -1,0 +1,79 @@
+-- The match of clean pages and a history in two parts: what the pages mean, and what the lists of the history ask of them.
+use Rattle.std.proofs.Common.{◌≡◌, ◌↔◌, ℕ, ◌<◌, ◌≤◌, true, List, [], ◌∷◌, ◌++◌, Contains, sym, subst, ap, ◌∙◌}
+use Rattle.std.specs.FinMap as map
+use Rattle.std.specs.FinSet as set
+use Rattle.mlt_types.specs.Cells.{IsInRange}
+use Rattle.mlt_kinds.specs.Bases.{Base, Step, empty_base}
+use Rattle.mlt_kinds.specs.Operations.{cell_of}
+use Rattle.mlt_kinds.specs.declared.operation.ObjOp.{ObjOp}
+use Rattle.mlt_kinds.specs.declared.operation.ObjReply.{ObjReply}
+use Rattle.mlt_order.specs.Histories.{Entry, IsHistory, Lists, MayCome, after_entry, lists_of, no_lists}
+use Rattle.mlt_order.specs.Histories.Stage.{Fresh, Running}
+use Rattle.mlt_order.proofs.Growing.{after_entries-push, follow_push}
+use Rattle.mlt_order.proofs.Keeping.{Kept, kept_by_history}
+use Rattle.mlt_base.specs.Meaning.{Means}
+use Rattle.mlt_base.specs.Records.{HasWhatIsUndone}
+use Rattle.mlt_commute.proofs.BaseOrder.{base_functional, base_injective}
+use Rattle.mlt_hash_form.specs.File.{GivesPseudokeys, HasForm, depth_of}
+use Rattle.mlt_hash_form.specs.Records.{live_records}
+use Rattle.mlt_ghosts.specs.Ghosts.{PagesMatchOperations}
+use Rattle.mlt_ghosts.specs.Ledgers.{Ledger}
+use Rattle.mlt_meeting.specs.Presences.{standing_of}
+use Rattle.mlt_meeting.specs.Worlds.{PagesMeanHistory, World, ledger_of, lists_in, record_of}
+
+-- the pages are a hash file that means the base
+pub record MeansBase (world : World) : Type 0 where
+  pub bounded : GivesPseudokeys world.bits
+  pub small : world.max_depth ≤ 16
+  pub form : HasForm world.bits (map.get world.pages) world.root
+  pub shallow : depth_of (map.get world.pages) world.root ≤ world.max_depth
+  pub means : Means (live_records world.pages) world.base
+
+-- the ledger, with the operations that stand by these lists
+abbrev pub ledger_by : World → Lists (ObjOp × ObjReply) → Ledger
+ledger_by world lists = record (ledger_of world) { standing = standing_of lists.transcripts }
+
+-- what lists ask of the rest
+pub record FitsLists (world : World) (lists : Lists (ObjOp × ObjReply)) : Type 0 where
+  pub running : (i : ℕ) → (set.contains world.opens i ≡ true) ↔ (lists.stage i ≡ Running)
+  pub fresh : (i : ℕ) → world.begun < i → lists.stage i ≡ Fresh
+  pub ghosts : PagesMatchOperations (ledger_by world lists)
+  pub in_range : (i : ℕ) (item : ObjOp × ObjReply) → Contains (lists.held i) item → IsInRange (cell_of item.0)
+  pub counted : (i : ℕ) (item : ObjOp × ObjReply) → Contains (lists.transcripts i) item → HasWhatIsUndone item (record_of world item.0)
+
+pub means_base : (world : World) → PagesMeanHistory world → MeansBase world
+means_base world h = record { bounded = h.bounded; small = h.small; form = h.form; shallow = h.shallow; means = h.means }
+
+pub both : (world : World) → MeansBase world → IsHistory Step empty_base world.history world.base → FitsLists world (lists_in world) → PagesMeanHistory world
+both world means history fits = record {
+  bounded = means.bounded;
+  small = means.small;
+  form = means.form;
+  shallow = means.shallow;
+  means = means.means;
+  history = history;
+  running = fits.running;
+  fresh = fits.fresh;
+  ghosts = fits.ghosts;
+  in_range = fits.in_range;
+  counted = fits.counted;
+}
+
+-- a history that has grown by an entry
+pub grown : (world : World) (history : List (Entry (ObjOp × ObjReply))) (entry : Entry (ObjOp × ObjReply)) (before : Base) → world.history ≡ history ++ entry ∷ []
+    → MeansBase world → IsHistory Step empty_base history before → MayCome Step (lists_of history) before entry world.base
+    → FitsLists world (after_entry (lists_of history) entry) → PagesMeanHistory world
+grown world history entry before is means leads comes fits =
+    let lists : lists_in world ≡ after_entry (lists_of history) entry = ap lists_of is ∙ after_entries-push history no_lists entry in
+    let whole : IsHistory Step empty_base world.history world.base =
+    subst (λ (h : List (Entry (ObjOp × ObjReply))). IsHistory Step empty_base h world.base) (sym is) (follow_push Step history no_lists empty_base before world.base entry leads comes)
+    in
+    both world means whole (subst (FitsLists world) (sym lists) fits)
+
+-- what every history keeps of its lists
+pub lists_kept : (world : World) → PagesMeanHistory world → Kept Step empty_base (lists_in world) world.base
+lists_kept world h = kept_by_history Step empty_base base_functional base_injective world.history world.base h.history
+
+-- an open transaction runs
+pub runs : (world : World) → PagesMeanHistory world → (tx : ℕ) → set.contains world.opens tx ≡ true → (lists_in world).stage tx ≡ Running
+runs world h tx is_open = (h.running tx).0 is_open

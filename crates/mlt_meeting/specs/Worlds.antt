@@ -1,0 +1,163 @@
+-- Clean pages and a history of transactions, and what it is that they match.
+use Rattle.std.specs.Prelude.{ℕ, ◌≡◌, ◌≢◌, ◌≤◌, ◌<◌, ◌+◌, ◌↔◌, Bool, true, false, List, [], ◌∷◌, ◌++◌, Contains, Option}
+use Rattle.std.specs.Ordering.{nat_cmp}
+use Rattle.std.specs.FinMap as map
+use Rattle.std.specs.FinSet as set
+use Rattle.mlt_types.specs.Cells.{IsInRange}
+use Rattle.mlt_page.specs.declared.page.Page.{Page}
+use Rattle.mlt_kinds.specs.Bases.{Base, Step, empty_base}
+use Rattle.mlt_kinds.specs.Operations.{cell_of}
+use Rattle.mlt_kinds.specs.declared.operation.ObjOp.{ObjOp}
+use Rattle.mlt_kinds.specs.declared.operation.ObjReply.{ObjReply}
+use Rattle.mlt_order.specs.Histories.{Entry, IsHistory, Lists, lists_of}
+use Rattle.mlt_order.specs.Histories.Entry.{Begun, Did, TookBack, Committed, Closed}
+use Rattle.mlt_order.specs.Histories.Stage.{Fresh, Running}
+use Rattle.mlt_base.specs.Meaning.{Means}
+use Rattle.mlt_base.specs.Records.{HasWhatIsUndone}
+use Rattle.mlt_commute.specs.Clashes.{clashes}
+use Rattle.mlt_hash_form.specs.File.{GivesPseudokeys, HasForm, depth_of}
+use Rattle.mlt_hash_form.specs.Records.{live_records}
+use Rattle.mlt_hash.specs.Walks.{Basis}
+use Rattle.mlt_ghosts.specs.Ghosts.{PagesMatchOperations}
+use Rattle.mlt_ghosts.specs.Ledgers.{Ledger}
+use Rattle.mlt_meeting.specs.Presences.{IsOpInRange, op_key, standing_of}
+
+pub record World : Type 0 where
+  -- the hash file: the function from keys to pseudokeys, the page of the header, how deep the directory may get, and
+  -- the clean pages
+  pub bits : ℕ → ℕ
+  pub root : ℕ
+  pub max_depth : ℕ
+  pub pages : map.FinMap nat_cmp Page
+  -- The transactions: the numbers up to `begun` were given out, `opens` are open, and `undoing` tells those whose
+  -- abort has begun.
+  pub begun : ℕ
+  pub opens : set.FinSet nat_cmp
+  pub undoing : ℕ → Bool
+  -- what they did, and the base that it leads to
+  pub history : List (Entry (ObjOp × ObjReply))
+  pub base : Base
+
+-- what the history tells of
+abbrev pub lists_in : World → Lists (ObjOp × ObjReply)
+lists_in world = lists_of world.history
+
+-- what the laws of ghosts are about
+abbrev pub ledger_of : World → Ledger
+ledger_of world = record {
+  bits = world.bits;
+  root = world.root;
+  pages = map.get world.pages;
+  begun = world.begun;
+  opens = world.opens;
+  undoing = world.undoing;
+  standing = standing_of (lists_in world).transcripts;
+}
+
+-- what a walk of transaction tx goes by
+abbrev pub basis_of : World → ℕ → Basis
+basis_of world tx = record {
+  bits = world.bits;
+  opens = world.opens;
+  root = world.root;
+  max_depth = world.max_depth;
+  tx = tx;
+}
+
+-- the record of the cell that an operation is on, on the clean pages
+abbrev pub record_of : World → ObjOp → Option ℕ
+record_of world op = map.get (live_records world.pages) (op_key op)
+
+-- The clean pages are a hash file that means the base to which the history leads, and they have what its open
+-- transactions may take back.
+pub record PagesMeanHistory (world : World) : Type 0 where
+  -- the pages are a hash file, and its directory is no deeper than it may get
+  pub bounded : GivesPseudokeys world.bits
+  pub small : world.max_depth ≤ 16
+  pub form : HasForm world.bits (map.get world.pages) world.root
+  pub shallow : depth_of (map.get world.pages) world.root ≤ world.max_depth
+  -- its records mean the base
+  pub means : Means (live_records world.pages) world.base
+  -- the history leads to the base from the empty one
+  pub history : IsHistory Step empty_base world.history world.base
+  -- the open transactions are those that run, and what was not given out has not begun
+  pub running : (i : ℕ) → (set.contains world.opens i ≡ true) ↔ ((lists_in world).stage i ≡ Running)
+  pub fresh : (i : ℕ) → world.begun < i → (lists_in world).stage i ≡ Fresh
+  -- ghosts are where removals that stand ask for them
+  pub ghosts : PagesMatchOperations (ledger_of world)
+  -- all that is held is on cells that there can be, and counters that are to be counted back have their records
+  pub in_range : (i : ℕ) (item : ObjOp × ObjReply) → Contains ((lists_in world).held i) item → IsInRange (cell_of item.0)
+  pub counted : (i : ℕ) (item : ObjOp × ObjReply) → Contains ((lists_in world).transcripts i) item
+      → HasWhatIsUndone item (record_of world item.0)
+
+-- nothing has begun
+abbrev pub new_world : (ℕ → ℕ) → ℕ → ℕ → map.FinMap nat_cmp Page → (ℕ → Bool) → World
+new_world bits root max_depth pages undoing = record {
+  bits = bits;
+  root = root;
+  max_depth = max_depth;
+  pages = pages;
+  begun = 0;
+  opens = set.empty;
+  undoing = undoing;
+  history = [];
+  base = empty_base;
+}
+
+-- the next number is given out
+abbrev pub after_begin : World → (ℕ → Bool) → World
+after_begin world undoing = record world {
+  begun = world.begun + 1;
+  opens = set.insert world.opens (world.begun + 1);
+  undoing = undoing;
+  history = world.history ++ Begun (world.begun + 1) ∷ [];
+}
+
+-- transaction tx commits, or is closed
+abbrev pub after_commit : World → ℕ → (ℕ → Bool) → World
+after_commit world tx undoing = record world {
+  opens = set.remove world.opens tx;
+  undoing = undoing;
+  history = world.history ++ Committed tx ∷ [];
+}
+
+abbrev pub after_close : World → ℕ → (ℕ → Bool) → World
+after_close world tx undoing = record world {
+  opens = set.remove world.opens tx;
+  undoing = undoing;
+  history = world.history ++ Closed tx ∷ [];
+}
+
+-- transaction tx did the item
+abbrev pub after_done : World → ℕ → ObjOp × ObjReply → map.FinMap nat_cmp Page → Base → World
+after_done world tx item pages base = record world {
+  pages = pages;
+  history = world.history ++ Did tx item ∷ [];
+  base = base;
+}
+
+-- the last item of transaction tx is taken back
+abbrev pub after_undone : World → ℕ → map.FinMap nat_cmp Page → Base → World
+after_undone world tx pages base = record world {
+  pages = pages;
+  history = world.history ++ TookBack tx ∷ [];
+  base = base;
+}
+
+-- the transaction is open
+abbrev pub IsOpenAt : World → ℕ → Type 0
+IsOpenAt world tx = set.contains world.opens tx ≡ true
+
+-- transaction tx may do the item: it is open, its abort has not begun, and nobody else holds a clash
+pub record MayDo (world : World) (tx : ℕ) (item : ObjOp × ObjReply) : Type 0 where
+  pub is_open : IsOpenAt world tx
+  pub forward : world.undoing tx ≡ false
+  pub in_range : IsOpInRange item.0
+  pub free : (j : ℕ) (held : ObjOp × ObjReply) → j ≢ tx → Contains ((lists_in world).held j) held → clashes held item ≡ false
+
+-- the item is the next one that transaction tx takes back
+pub record MayUndo (world : World) (tx : ℕ) (item : ObjOp × ObjReply) : Type 0 where
+  pub is_open : IsOpenAt world tx
+  pub backward : world.undoing tx ≡ true
+  pub rest : List (ObjOp × ObjReply)
+  pub last : (lists_in world).transcripts tx ≡ rest ++ item ∷ []
