@@ -1,9 +1,9 @@
 pub mod Changes
 pub mod GhostLookup
 mod InStep
-mod Lists
+pub mod Lists
 pub mod Moves
 mod PathEnds
-mod SlotTests
+pub mod SlotTests
 mod Slots
 pub mod Transactions

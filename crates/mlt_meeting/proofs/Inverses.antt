@@ -26,7 +26,7 @@ use Rattle.mlt_meeting.specs.Presences.{account_presence, element_presence, pres
 -- ---- the step that is taken back
 
 -- a change of a record takes the state of its cell back to the one before, can be made, and leaves a record
-abbrev GoesBack : {S : Type 0} → (Option ℕ → S) → (Option ℕ → Type 0) → S → Option RecChange → Option ℕ → Type 0
+abbrev pub GoesBack : {S : Type 0} → (Option ℕ → S) → (Option ℕ → Type 0) → S → Option RecChange → Option ℕ → Type 0
 GoesBack state can before change live = (state (record_after change live) ≡ before) × can (record_after change live) × CanChange change live
 
 account_back : (op : AccountOp) (reply : ObjReply) (before live : Option ℕ) → IsAccount live → AccountStep before op reply live

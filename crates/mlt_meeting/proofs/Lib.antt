@@ -1,8 +1,17 @@
+pub mod DoneGhosts
+pub mod Fixed
 pub mod Inverses
 pub mod Matches
 pub mod Opening
+pub mod Operations
 pub mod OpenNumbers
 pub mod Opposites
+pub mod RecordsAfter
 pub mod Replies
+pub mod Standings
 pub mod Transactions
 pub mod Transcripts
+pub mod Undoing
+pub mod UndoneGhosts
+pub mod WalkEnds
+pub mod Walks

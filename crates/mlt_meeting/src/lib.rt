@@ -3,11 +3,19 @@
 //! contract of a function that does nothing.
 #![tactic(auto)]
 
+mod base_laws;
+mod operation_laws;
 mod range;
 mod transaction_laws;
+mod walk_laws;
 
+pub use base_laws::{pages_and_history_fix_the_base, record_fixes_the_reply};
+pub use operation_laws::{operation_keeps_the_match, undoing_keeps_the_match};
 pub use range::operation_is_in_range;
 pub use transaction_laws::{
     abort_keeps_the_match, begin_keeps_the_match, end_keeps_the_match,
     opening_file_matches_the_empty_history,
+};
+pub use walk_laws::{
+    walks_find_the_record, walks_stand_while_others_begin_and_end, what_an_inverse_changes_is_there,
 };

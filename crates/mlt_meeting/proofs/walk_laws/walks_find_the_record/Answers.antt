@@ -1,0 +1,8 @@
+use Rattle.mlt_meeting.proofs.Walks.{found_is_record, record_looked_up}
+use Rattle.mlt_meeting.proofs.walk_laws.walks_find_the_record.Goals as goal
+
+pub returns-clause-look_up : goal.returns-clause-look_up
+returns-clause-look_up c = record_looked_up
+
+pub returns-clause-found : goal.returns-clause-found
+returns-clause-found c = found_is_record

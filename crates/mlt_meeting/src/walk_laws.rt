@@ -1,0 +1,55 @@
+//! What walks find on pages that match a history, and where they stand when other transactions begin and end.
+
+ghost use Rattle.std.specs.Prelude.{◌≡◌, ℕ, Bool, Option, Some};
+ghost use Rattle.std.specs.FinMap as map;
+ghost use Rattle.std.specs.FinSet as set;
+ghost use Rattle.mlt_kinds.specs.declared.operation.ObjOp.{ObjOp};
+ghost use Rattle.mlt_kinds.specs.declared.operation.ObjReply.{ObjReply};
+ghost use Rattle.mlt_base.specs.Plans.{inverse_of};
+ghost use Rattle.mlt_base.specs.Records.{CanChange};
+ghost use Rattle.mlt_base.specs.declared.record.RecChange.TheVariants.{Revive};
+ghost use Rattle.mlt_hash_form.specs.File.{look_up};
+ghost use Rattle.mlt_hash_form.specs.Held.{Agrees};
+ghost use Rattle.mlt_held.specs.Views.{View};
+ghost use Rattle.mlt_hash.specs.Changes.{HasOwnGhost};
+ghost use Rattle.mlt_hash.specs.Walks.{HasPassed, IsStanding, WalkFields};
+ghost use Rattle.mlt_hash.specs.declared.pass.Phase.TheVariants.{AtBucket};
+ghost use Rattle.mlt_meeting.specs.Presences.{op_key};
+ghost use Rattle.mlt_meeting.specs.Worlds.{MayUndo, PagesMeanHistory, World, after_begin, basis_of, record_of};
+
+/// The record of an operation's cell is what is looked up of its key, and what a walk to the key has found, up to the
+/// walk's end.
+pub fn walks_find_the_record()
+    ensures look_up { (world : World) (op : ObjOp) → PagesMeanHistory world
+        → record_of world op ≡ look_up world.bits (map.get world.pages) world.root (op_key op) }
+    ensures found { (world : World) (tx : ℕ) (op : ObjOp) (walk : WalkFields) (view : View)
+        (found : Option ℕ)
+        → PagesMeanHistory world → HasPassed (basis_of world tx) walk view found
+        → walk.key ≡ op_key op → Agrees view.seen (map.get world.pages)
+        → found ≡ record_of world op }
+{}
+
+/// A walk for the inverse of a transaction's last item finds at its bucket what the inverse changes: a record, or
+/// none and the transaction's own ghost.
+pub fn what_an_inverse_changes_is_there()
+    ensures { (world : World) (tx : ℕ) (item : ObjOp × ObjReply) (walk : WalkFields) (view : View)
+        (bucket depth : ℕ) (found : Option ℕ)
+        → PagesMeanHistory world → MayUndo world tx item
+        → walk.phase ≡ AtBucket bucket depth found → walk.key ≡ op_key item.0
+        → IsStanding (basis_of world tx) walk view → Agrees view.seen (map.get world.pages)
+        → CanChange (inverse_of item) found
+        × (inverse_of item ≡ Some Revive → HasOwnGhost tx walk view) }
+{}
+
+/// A walk stands where it stood when another transaction begins, and when one commits or is closed.
+pub fn walks_stand_while_others_begin_and_end()
+    ensures begins { (world : World) (undoing : ℕ → Bool) (tx : ℕ) (walk : WalkFields) (view : View)
+        → PagesMeanHistory world
+        → IsStanding (basis_of world tx) walk view → Agrees view.seen (map.get world.pages)
+        → IsStanding (basis_of (after_begin world undoing) tx) walk view }
+    ensures ends { (world : World) (tx other : ℕ) (walk : WalkFields) (view : View)
+        → PagesMeanHistory world
+        → IsStanding (basis_of world tx) walk view → Agrees view.seen (map.get world.pages)
+        → let opens = set.remove world.opens other in
+        IsStanding (record (basis_of world tx) { opens = opens }) walk view }
+{}
