@@ -8,6 +8,7 @@ pub mod OpenNumbers
 pub mod Opposites
 pub mod RecordsAfter
 pub mod Replies
+pub mod SlotGhosts
 pub mod Standings
 pub mod Transactions
 pub mod Transcripts

@@ -1,35 +1,27 @@
--- What the end of a walk makes of the clean pages: their form, one slot, and the map of their records.
+-- What the end of a walk makes of the clean pages: their form, their depth, and the map of their records.
 use Rattle.std.proofs.Common.{◌≡◌, ℕ, ◌≤◌, Option, Some, None, refl, sym, subst, ap, ◌∙◌, inl, inr}
-use Rattle.std.specs.Prelude.{slice_index_or, unwrap_or}
+use Rattle.std.specs.Prelude.{unwrap_or}
 use Rattle.std.specs.FinMap as map
 use Rattle.std.specs.Ordering.{nat_cmp}
 use Rattle.std.specs.Cmp.{nat_cmp_total}
 use Rattle.std.proofs.lemmas.Bool.{cases_eq}
 use Rattle.mlt_page.specs.declared.page.Page.{Page}
 use Rattle.mlt_page.specs.declared.page.Page.TheVariants as page
-use Rattle.mlt_page.specs.declared.slot.Slot.TheVariants.{Free}
 use Rattle.mlt_kinds.specs.declared.operation.ObjOp.{ObjOp}
 use Rattle.mlt_kinds.specs.Bases.{with_entry}
 use Rattle.mlt_kinds.specs.BaseLaws.{entry_beside, entry_here}
 use Rattle.mlt_base.specs.declared.record.RecChange.{RecChange}
 use Rattle.mlt_base.specs.declared.record.RecChange.TheVariants as rec
 use Rattle.mlt_base.specs.Records.{record_after}
-use Rattle.mlt_hash_form.specs.Changes.{Spot}
-use Rattle.mlt_hash_form.specs.File.{FilePages, HasForm, depth_of, header_of}
-use Rattle.mlt_hash_form.specs.Held.{over, own_or}
+use Rattle.mlt_hash_form.specs.File.{HasForm, depth_of, header_of}
+use Rattle.mlt_hash_form.specs.Held.{own_or}
 use Rattle.mlt_hash_form.specs.Records.{live_records, with_record}
 use Rattle.mlt_hash_form.proofs.MapChanges.{changed_file_map}
 use Rattle.mlt_hash.specs.Passes.{slot_after, value_after}
-use Rattle.mlt_hash.specs.Walks.{StoodBefore}
 use Rattle.mlt_hash.specs.declared.pass.Change.{Change}
-use Rattle.mlt_ghosts.specs.Events.{ChangesSlot}
-use Rattle.mlt_ghosts.specs.Ghosts.{PagesMatchOperations}
-use Rattle.mlt_ghosts.specs.Ledgers.{Ledger}
-use Rattle.mlt_ghosts.specs.Operations.{Standing}
-use Rattle.mlt_ghosts.proofs.Moves.{kept_moved, same_matched}
-use Rattle.mlt_meeting.specs.Ends.{ChangesPages, Ends, Performs}
+use Rattle.mlt_meeting.specs.Ends.{ChangesPages, Ends, KeepsPages, Performs}
 use Rattle.mlt_meeting.specs.Presences.{op_key}
-use Rattle.mlt_meeting.specs.Worlds.{PagesMeanHistory, World, basis_of, ledger_of, record_of}
+use Rattle.mlt_meeting.specs.Worlds.{PagesMeanHistory, World, record_of}
 
 -- a walk's change leaves the value that the change of the record asks for
 performed : (change : RecChange) (live : Option ℕ) (done : Change) → Performs change live done → value_after done ≡ record_after (Some change) live
@@ -81,51 +73,22 @@ module _ (world : World) (tx : ℕ) (op : ObjOp) (change : RecChange) (pages : m
             ∙ ap (with_entry (live_records world.pages) (op_key op)) (performed change (record_of world op) e.done e.performs);
       }
 
-  -- ---- one slot changes, where slots were rearranged before
-
-  abbrev pub rested : Ledger
-  rested = record (ledger_of world) { pages = over (map.get world.pages) e.changed.rest }
-
-  abbrev pub written : FilePages
-  written = over (map.get world.pages) e.view.own
-
-  abbrev pub spot : Spot
-  spot = record { number = e.bucket; at = e.changed.slot; bucket = e.changed.fields }
-
-  pub rested_matches : PagesMatchOperations rested
-  rested_matches = kept_moved (ledger_of world) e.view.seen e.changed.rest h.ghosts h.form e.agrees e.changed.changes.keeps
-
-  -- what stood in the slot, and what comes to stand there, where the walk has made this change
-  abbrev pub ChangesSlotBy : Change → Type 0
-  ChangesSlotBy done = StoodBefore done (basis_of world tx) (op_key op) e.changed.fields.slots (slice_index_or e.changed.fields.slots e.changed.slot Free)
-      × ChangesSlot rested written spot (op_key op) (value_after done) (slot_after done (op_key op) tx)
-
-  pub slot_changes : (done : Change) → e.done ≡ done → ChangesSlotBy done
-  slot_changes done is =
-      let one : StoodBefore e.done (basis_of world tx) e.walk.key e.changed.fields.slots (slice_index_or e.changed.fields.slots e.changed.slot Free)
-      × ChangesSlot rested written spot e.walk.key (value_after e.done) (slot_after e.done e.walk.key tx)
-      = (
-        e.changed.was,
-        record {
-          at_home = record { home = e.changed.home (map.get world.pages) e.agrees h.form; within = e.changed.within };
-          changes = e.changed.changes.changes (map.get world.pages) e.agrees h.form;
-        },
-      ) in
-      let keyed = subst (λ (key : ℕ). StoodBefore e.done (basis_of world tx) key e.changed.fields.slots (slice_index_or e.changed.fields.slots e.changed.slot Free)
-      × ChangesSlot rested written spot key (value_after e.done) (slot_after e.done key tx)) e.key_is one in
-      subst ChangesSlotBy is keyed
-
-  -- what holds of the pages as they were written holds of the clean pages
-  pub settle : (standing : Standing) → PagesMatchOperations (record rested { standing = standing; pages = written })
-      → PagesMatchOperations (record (ledger_of world) { standing = standing; pages = map.get pages })
-  settle standing matches = same_matched (record rested { standing = standing; pages = written }) (map.get pages) matches e.ends
+-- pages that are the same, number by number, are the same pages
+pub kept_pages : (world : World) (pages : map.FinMap nat_cmp Page) → KeepsPages world pages → pages ≡ world.pages
+kept_pages world pages same = map.same_map nat_cmp_total map.nat_cmp-IsAntisymmetric pages world.pages same
 
 -- whatever the change of the record is, and where there is none
 pub pages_become : (world : World) (tx : ℕ) (op : ObjOp) (change : Option RecChange) (pages : map.FinMap nat_cmp Page) → PagesMeanHistory world → ChangesPages world tx op change pages
     → BecomesFile world pages (with_entry (live_records world.pages) (op_key op) (record_after change (record_of world op)))
-pages_become world tx op None pages h same = record {
-  form = subst (λ (p : map.FinMap nat_cmp Page). HasForm world.bits (map.get p) world.root) (sym same) h.form;
-  shallow = subst (λ (p : map.FinMap nat_cmp Page). depth_of (map.get p) world.root ≤ world.max_depth) (sym same) h.shallow;
-  records_are = ap live_records same ∙ same_entry (live_records world.pages) (op_key op);
-}
+pages_become world tx op None pages h keeps =
+    let same = kept_pages world pages keeps in
+    record {
+      form = subst (λ (p : map.FinMap nat_cmp Page). HasForm world.bits (map.get p) world.root) (sym same) h.form;
+      shallow = subst (λ (p : map.FinMap nat_cmp Page). depth_of (map.get p) world.root ≤ world.max_depth) (sym same) h.shallow;
+      records_are = ap live_records same ∙ same_entry (live_records world.pages) (op_key op);
+    }
 pages_become world tx op (Some change) pages h e = ends_in_file world tx op change pages h e
+
+-- the match is about the pages as they are
+pub same_pages_match : (world : World) (pages : map.FinMap nat_cmp Page) → PagesMeanHistory world → KeepsPages world pages → PagesMeanHistory (record world { pages = pages })
+same_pages_match world pages h keeps = subst (λ (p : map.FinMap nat_cmp Page). PagesMeanHistory (record world { pages = p })) (sym (kept_pages world pages keeps)) h

@@ -38,7 +38,11 @@ pub record Ends (world : World) (tx : ℕ) (op : ObjOp) (change : RecChange)
   pub performs : Performs change (record_of world op) done
   pub ends : (q : ℕ) → map.get pages q ≡ over (map.get world.pages) view.own q
 
+-- the clean pages are as they were
+abbrev pub KeepsPages : World → map.FinMap nat_cmp Page → Type 0
+KeepsPages world pages = (q : ℕ) → map.get pages q ≡ map.get world.pages q
+
 -- what the change of a record leaves of the clean pages; where there is no change, they stay
 abbrev pub ChangesPages : World → ℕ → ObjOp → Option RecChange → map.FinMap nat_cmp Page → Type 0
-ChangesPages world tx op None pages = pages ≡ world.pages
+ChangesPages world tx op None pages = KeepsPages world pages
 ChangesPages world tx op (Some change) pages = Ends world tx op change pages

@@ -14,7 +14,7 @@ pub use operation_laws::{operation_keeps_the_match, undoing_keeps_the_match};
 pub use range::operation_is_in_range;
 pub use transaction_laws::{
     abort_keeps_the_match, begin_keeps_the_match, end_keeps_the_match,
-    opening_file_matches_the_empty_history,
+    opening_file_matches_the_empty_history, same_pages_keep_the_match,
 };
 pub use walk_laws::{
     walks_find_the_record, walks_stand_while_others_begin_and_end, what_an_inverse_changes_is_there,

@@ -7,6 +7,7 @@ ghost use Rattle.mlt_page.specs.declared.page.Page.{Page};
 ghost use Rattle.mlt_order.specs.Tables.{SameElsewhere};
 ghost use Rattle.mlt_hash_form.specs.Changes.{IsOpening};
 ghost use Rattle.mlt_hash_form.specs.File.{GivesPseudokeys};
+ghost use Rattle.mlt_meeting.specs.Ends.{KeepsPages};
 ghost use Rattle.mlt_meeting.specs.Worlds.{IsOpenAt, PagesMeanHistory, World, after_begin, after_close, after_commit, lists_in, new_world};
 
 /// The pages of a file as it is opened match the history in which nothing has begun.
@@ -15,6 +16,13 @@ pub fn opening_file_matches_the_empty_history()
         (undoing : ℕ → Bool) (dir bucket : ℕ)
         → GivesPseudokeys bits → max_depth ≤ 16 → IsOpening (map.get pages) root dir bucket
         → PagesMeanHistory (new_world bits root max_depth pages undoing) }
+{}
+
+/// The match is about the clean pages, number by number, so it stays where they do.
+pub fn same_pages_keep_the_match()
+    ensures { (world : World) (pages : map.FinMap nat_cmp Page)
+        → PagesMeanHistory world → KeepsPages world pages
+        → PagesMeanHistory (record world { pages = pages }) }
 {}
 
 /// They match on when the next number is given out. Of all other numbers it stays as it was whether they are being
