@@ -20,7 +20,8 @@ use Rattle.mlt_hash_form.specs.Records.{live_records}
 use Rattle.mlt_hash_form.proofs.MapChanges.{opening_map}
 use Rattle.mlt_hash_form.proofs.OpeningFile.{opening_has_form, opening_is_free}
 use Rattle.mlt_ghosts.proofs.Transactions.{free_file}
-use Rattle.mlt_meeting.specs.Worlds.{PagesMeanHistory, ledger_of, new_world}
+use Rattle.mlt_meeting.specs.Events.{new_world}
+use Rattle.mlt_meeting.specs.Worlds.{PagesMeanHistory, ledger_of}
 
 -- the record of an absent key can be there, and means what the empty base has
 absent_can_be : (c : Cell) → IsRecord c None

@@ -23,7 +23,8 @@ use Rattle.mlt_order.proofs.Tables.{changed}
 use Rattle.mlt_hash_form.specs.Records.{live_records}
 use Rattle.mlt_meeting.specs.Ends.{ChangesPages}
 use Rattle.mlt_meeting.specs.Presences.{op_key, presence_of, standing_of}
-use Rattle.mlt_meeting.specs.Worlds.{MayDo, PagesMeanHistory, World, after_done, lists_in, record_of}
+use Rattle.mlt_meeting.specs.Events.{MayDo, with_done}
+use Rattle.mlt_meeting.specs.Worlds.{PagesMeanHistory, World, lists_in, record_of}
 use Rattle.mlt_meeting.proofs.DoneGhosts.{done_keeps_ghosts}
 use Rattle.mlt_meeting.proofs.Matches.{FitsLists, grown, lists_kept, runs}
 use Rattle.mlt_meeting.proofs.RecordsAfter.{counted_after, record_now}
@@ -82,7 +83,7 @@ module _ (world : World) (tx : ℕ) (op : ObjOp) (pages : map.FinMap nat_cmp Pag
         counted_after world pages op (record_after change live) file.records_are x (h.in_range i x ((lists_kept world h).covers i x there)) may.in_range.cell (h.counted i x there)
         (λ same has. reply_keeps_counters x op live same has)
 
-    done_fits : (base : Base) → FitsLists (after_done world tx item pages base) (after_entry lists (Did tx item))
+    done_fits : (base : Base) → FitsLists (with_done world tx item pages base) (after_entry lists (Did tx item))
     done_fits base = record {
       running = h.running;
       fresh = h.fresh;
@@ -94,12 +95,12 @@ module _ (world : World) (tx : ℕ) (op : ObjOp) (pages : map.FinMap nat_cmp Pag
           (subst (HasWhatIsUndone item) (sym (record_now world pages op (record_after change live) file.records_are)) (reply_leaves_counters op live));
     }
 
-    pub operation_keeps : (base : Base) × Step world.base item base × PagesMeanHistory (after_done world tx item pages base)
+    pub operation_keeps : (base : Base) × Step world.base item base × PagesMeanHistory (with_done world tx item pages base)
     operation_keeps =
         let step = steps in (
           step.0,
           step.1,
-          grown (after_done world tx item pages step.0) world.history (Did tx item) world.base refl
+          grown (with_done world tx item pages step.0) world.history (Did tx item) world.base refl
               (record { bounded = h.bounded; small = h.small; form = file.form; shallow = file.shallow; means = step.2 })
               h.history (did_may_come lists world.base step.0 tx item (runs world h tx may.is_open) step.1 may.free) (done_fits step.0),
         )

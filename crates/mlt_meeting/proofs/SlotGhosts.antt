@@ -23,11 +23,12 @@ use Rattle.mlt_ghosts.specs.Operations.{Added, Appends, Removed, Standing}
 use Rattle.mlt_ghosts.proofs.Changes.{ghost_addition_law, plain_put_law, plain_update_law, put_addition_law, removal_law, undone_addition_law, undone_removal_law}
 use Rattle.mlt_ghosts.proofs.Moves.{kept_moved, same_matched}
 use Rattle.mlt_ghosts.proofs.SlotTests.{ghost_from}
-use Rattle.mlt_meeting.specs.Ends.{Ends}
+use Rattle.mlt_meeting.specs.Ends.{EndsWalk}
 use Rattle.mlt_meeting.specs.Presences.{op_key}
-use Rattle.mlt_meeting.specs.Worlds.{IsOpenAt, PagesMeanHistory, World, basis_of, ledger_of}
+use Rattle.mlt_meeting.specs.Events.{IsOpenAt}
+use Rattle.mlt_meeting.specs.Worlds.{PagesMeanHistory, World, basis_of, ledger_of}
 
-module _ (world : World) (tx : ℕ) (op : ObjOp) (change : RecChange) (pages : map.FinMap nat_cmp Page) (h : PagesMeanHistory world) (e : Ends world tx op change pages) where
+module _ (world : World) (tx : ℕ) (op : ObjOp) (change : RecChange) (pages : map.FinMap nat_cmp Page) (h : PagesMeanHistory world) (e : EndsWalk world tx op change pages) where
   -- the clean pages with the slots rearranged, and with all that is written
   abbrev rested : Ledger
   rested = record (ledger_of world) { pages = over (map.get world.pages) e.changed.rest }

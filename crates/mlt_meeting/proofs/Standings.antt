@@ -12,7 +12,8 @@ use Rattle.mlt_order.specs.Tables.{Gains}
 use Rattle.mlt_ghosts.specs.Ledgers.{Ledger, NoOtherLast, last_by}
 use Rattle.mlt_ghosts.specs.Operations.{Appends, Presence, Standing}
 use Rattle.mlt_meeting.specs.Presences.{op_key, presence_of, standing_of}
-use Rattle.mlt_meeting.specs.Worlds.{MayDo, PagesMeanHistory, World, ledger_of, lists_in}
+use Rattle.mlt_meeting.specs.Events.{MayDo}
+use Rattle.mlt_meeting.specs.Worlds.{PagesMeanHistory, World, ledger_of, lists_in}
 use Rattle.mlt_meeting.proofs.Matches.{lists_kept}
 use Rattle.mlt_meeting.proofs.Opposites.{opposites_clash}
 use Rattle.mlt_meeting.proofs.Replies.{IsOnCounter}

@@ -14,7 +14,8 @@ use Rattle.mlt_ghosts.specs.Ghosts.{PagesMatchOperations}
 use Rattle.mlt_ghosts.specs.Ledgers.{IsOpenIn, Ledger}
 use Rattle.mlt_ghosts.proofs.Transactions.{begin_law, close_law}
 use Rattle.mlt_meeting.specs.Presences.{presences_on, standing_of}
-use Rattle.mlt_meeting.specs.Worlds.{IsOpenAt, PagesMeanHistory, World, after_begin, after_close, after_commit, ledger_of, lists_in}
+use Rattle.mlt_meeting.specs.Events.{IsOpenAt, with_begun, with_closed, with_committed}
+use Rattle.mlt_meeting.specs.Worlds.{PagesMeanHistory, World, ledger_of, lists_in}
 use Rattle.mlt_meeting.proofs.Matches.{FitsLists, both, grown, lists_kept, means_base, runs}
 use Rattle.mlt_meeting.proofs.OpenNumbers.{inserted_beside, inserted_here, removed_beside, removed_here}
 
@@ -64,7 +65,7 @@ module _ (world : World) (undoing : ℕ → Bool) (h : PagesMeanHistory world) (
             (λ o. stage.1 i n ∙ (h.running i).0 (sym there ∙ o), λ r. there ∙ (h.running i).1 (sym (stage.1 i n) ∙ r))
       ]
 
-  begun_fits : FitsLists (after_begin world undoing) (after_entry lists (Begun (world.begun + 1)))
+  begun_fits : FitsLists (with_begun world undoing) (after_entry lists (Begun (world.begun + 1)))
   begun_fits = record {
     running = begun_runs;
     fresh = λ i above. (changed lists.stage (world.begun + 1) Running).1 i (λ e. absurd (omega (arith, above, e))) ∙ h.fresh i (omega (arith, above));
@@ -75,10 +76,10 @@ module _ (world : World) (undoing : ℕ → Bool) (h : PagesMeanHistory world) (
     counted = h.counted;
   }
 
-  pub begin_keeps : PagesMeanHistory (after_begin world undoing)
+  pub begin_keeps : PagesMeanHistory (with_begun world undoing)
   begin_keeps =
       let m = means_base world h in
-      grown (after_begin world undoing) world.history (Begun (world.begun + 1)) world.base refl
+      grown (with_begun world undoing) world.history (Begun (world.begun + 1)) world.base refl
       (record { bounded = m.bounded; small = m.small; form = m.form; shallow = m.shallow; means = m.means })
       h.history (new_is_fresh, refl) begun_fits
 
@@ -143,18 +144,18 @@ module _ (world : World) (tx : ℕ) (undoing : ℕ → Bool) (h : PagesMeanHisto
     counted = λ i item there. h.counted i item (still old.transcripts i item there);
   }
 
-  pub commit_keeps : PagesMeanHistory (after_commit world tx undoing)
+  pub commit_keeps : PagesMeanHistory (with_committed world tx undoing)
   commit_keeps =
       let fits = ended_fits in
-      grown (after_commit world tx undoing) world.history (Committed tx) world.base refl
+      grown (with_committed world tx undoing) world.history (Committed tx) world.base refl
       (record { bounded = h.bounded; small = h.small; form = h.form; shallow = h.shallow; means = h.means })
       h.history (runs world h tx is_open, refl)
       (record { running = fits.running; fresh = fits.fresh; ghosts = fits.ghosts; in_range = fits.in_range; counted = fits.counted })
 
-  pub close_keeps : old.transcripts tx ≡ [] → PagesMeanHistory (after_close world tx undoing)
+  pub close_keeps : old.transcripts tx ≡ [] → PagesMeanHistory (with_closed world tx undoing)
   close_keeps none =
       let fits = ended_fits in
-      grown (after_close world tx undoing) world.history (Closed tx) world.base refl
+      grown (with_closed world tx undoing) world.history (Closed tx) world.base refl
       (record { bounded = h.bounded; small = h.small; form = h.form; shallow = h.shallow; means = h.means })
       h.history (runs world h tx is_open, none, refl)
       (record { running = fits.running; fresh = fits.fresh; ghosts = fits.ghosts; in_range = fits.in_range; counted = fits.counted })

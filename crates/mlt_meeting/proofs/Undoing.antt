@@ -26,7 +26,8 @@ use Rattle.mlt_order.proofs.Tables.{changed}
 use Rattle.mlt_hash_form.specs.Records.{live_records}
 use Rattle.mlt_meeting.specs.Ends.{ChangesPages}
 use Rattle.mlt_meeting.specs.Presences.{op_key, presence_of, standing_of}
-use Rattle.mlt_meeting.specs.Worlds.{MayUndo, PagesMeanHistory, World, after_undone, lists_in, record_of}
+use Rattle.mlt_meeting.specs.Events.{MayUndo, with_undone}
+use Rattle.mlt_meeting.specs.Worlds.{PagesMeanHistory, World, lists_in, record_of}
 use Rattle.mlt_meeting.proofs.Inverses.{GoesBack, inverse_back, inverse_keeps_counters}
 use Rattle.mlt_meeting.proofs.Matches.{FitsLists, grown, lists_kept}
 use Rattle.mlt_meeting.proofs.RecordsAfter.{counted_after}
@@ -90,7 +91,7 @@ module _ (world : World) (tx : ℕ) (item : ObjOp × ObjReply) (h : PagesMeanHis
           | inr n ↦ subst InList (elsewhere i n) there
         ]
 
-    undone_fits : (base : Base) → FitsLists (after_undone world tx pages base) left
+    undone_fits : (base : Base) → FitsLists (with_undone world tx pages base) left
     undone_fits base = record {
       running = h.running;
       fresh = h.fresh;
@@ -103,12 +104,12 @@ module _ (world : World) (tx : ℕ) (item : ObjOp × ObjReply) (h : PagesMeanHis
           (λ same has. inverse_keeps_counters x item live same has);
     }
 
-    pub undoing_keeps : (base : Base) × Step base item world.base × PagesMeanHistory (after_undone world tx pages base)
+    pub undoing_keeps : (base : Base) × Step base item world.base × PagesMeanHistory (with_undone world tx pages base)
     undoing_keeps =
         let step = step_back in (
           step.0,
           step.1,
-          grown (after_undone world tx pages step.0) world.history (TookBack tx) world.base refl
+          grown (with_undone world tx pages step.0) world.history (TookBack tx) world.base refl
               (record { bounded = h.bounded; small = h.small; form = file.form; shallow = file.shallow; means = step.2 })
               h.history (may.rest, item, may.last, step.1) (undone_fits step.0),
         )

@@ -15,7 +15,8 @@ use Rattle.mlt_ghosts.specs.Operations.{Added, Presence, Removed, Standing}
 use Rattle.mlt_ghosts.proofs.Moves.{same_matched}
 use Rattle.mlt_meeting.specs.Ends.{ChangesPages, Performs}
 use Rattle.mlt_meeting.specs.Presences.{op_key, presence_of}
-use Rattle.mlt_meeting.specs.Worlds.{IsOpenAt, PagesMeanHistory, World, ledger_of, record_of}
+use Rattle.mlt_meeting.specs.Events.{IsOpenAt}
+use Rattle.mlt_meeting.specs.Worlds.{PagesMeanHistory, World, ledger_of, record_of}
 use Rattle.mlt_meeting.proofs.Inverses.{by_inverse}
 use Rattle.mlt_meeting.proofs.SlotGhosts.{sets, takes_addition_back, takes_removal_back}
 use Rattle.mlt_meeting.proofs.Standings.{Says}

@@ -19,7 +19,7 @@ use Rattle.mlt_hash_form.specs.Records.{live_records, with_record}
 use Rattle.mlt_hash_form.proofs.MapChanges.{changed_file_map}
 use Rattle.mlt_hash.specs.Passes.{slot_after, value_after}
 use Rattle.mlt_hash.specs.declared.pass.Change.{Change}
-use Rattle.mlt_meeting.specs.Ends.{ChangesPages, Ends, KeepsPages, Performs}
+use Rattle.mlt_meeting.specs.Ends.{ChangesPages, EndsWalk, KeepsPages, Performs}
 use Rattle.mlt_meeting.specs.Presences.{op_key}
 use Rattle.mlt_meeting.specs.Worlds.{PagesMeanHistory, World, record_of}
 
@@ -54,7 +54,7 @@ pub record BecomesFile (world : World) (pages : map.FinMap nat_cmp Page) (record
   pub shallow : depth_of (map.get pages) world.root ≤ world.max_depth
   pub records_are : live_records pages ≡ records
 
-module _ (world : World) (tx : ℕ) (op : ObjOp) (change : RecChange) (pages : map.FinMap nat_cmp Page) (h : PagesMeanHistory world) (e : Ends world tx op change pages) where
+module _ (world : World) (tx : ℕ) (op : ObjOp) (change : RecChange) (pages : map.FinMap nat_cmp Page) (h : PagesMeanHistory world) (e : EndsWalk world tx op change pages) where
   header_now : map.get pages world.root ≡ Some (page.Head e.changed.header)
   header_now =
       let passed = e.changed.passed in

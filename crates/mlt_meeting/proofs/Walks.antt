@@ -34,7 +34,8 @@ use Rattle.mlt_ghosts.specs.Ledgers.{last_by}
 use Rattle.mlt_ghosts.specs.Operations.{Presence, Removed, last_of}
 use Rattle.mlt_ghosts.proofs.GhostLookup.{undone_found}
 use Rattle.mlt_meeting.specs.Presences.{op_key, presence_of, presences_on}
-use Rattle.mlt_meeting.specs.Worlds.{MayUndo, PagesMeanHistory, World, basis_of, ledger_of, record_of}
+use Rattle.mlt_meeting.specs.Events.{MayUndo}
+use Rattle.mlt_meeting.specs.Worlds.{PagesMeanHistory, World, basis_of, ledger_of, record_of}
 use Rattle.mlt_meeting.proofs.Inverses.{by_inverse}
 use Rattle.mlt_meeting.proofs.OpenNumbers.{inserted_beside, removed_was}
 use Rattle.mlt_meeting.proofs.Transcripts.{last_is}

@@ -26,7 +26,7 @@ Performs (rec.Minus n) (Some v) done = done ≡ Set ((v + (2 ^ 64 - n)) % 2 ^ 64
 Performs _ None done = ⊥
 
 -- A walk of transaction tx to the operation's key has made the change, and ends: what it has written becomes clean.
-pub record Ends (world : World) (tx : ℕ) (op : ObjOp) (change : RecChange)
+pub record EndsWalk (world : World) (tx : ℕ) (op : ObjOp) (change : RecChange)
     (pages : map.FinMap nat_cmp Page) : Type 0 where
   pub walk : WalkFields
   pub view : View
@@ -45,4 +45,4 @@ KeepsPages world pages = (q : ℕ) → map.get pages q ≡ map.get world.pages q
 -- what the change of a record leaves of the clean pages; where there is no change, they stay
 abbrev pub ChangesPages : World → ℕ → ObjOp → Option RecChange → map.FinMap nat_cmp Page → Type 0
 ChangesPages world tx op None pages = KeepsPages world pages
-ChangesPages world tx op (Some change) pages = Ends world tx op change pages
+ChangesPages world tx op (Some change) pages = EndsWalk world tx op change pages

@@ -1,5 +1,5 @@
 -- Clean pages and a history of transactions, and what it is that they match.
-use Rattle.std.specs.Prelude.{ℕ, ◌≡◌, ◌≢◌, ◌≤◌, ◌<◌, ◌+◌, ◌↔◌, Bool, true, false, List, [], ◌∷◌, ◌++◌, Contains, Option}
+use Rattle.std.specs.Prelude.{ℕ, ◌≡◌, ◌≤◌, ◌<◌, ◌↔◌, Bool, true, List, Contains, Option}
 use Rattle.std.specs.Ordering.{nat_cmp}
 use Rattle.std.specs.FinMap as map
 use Rattle.std.specs.FinSet as set
@@ -10,17 +10,15 @@ use Rattle.mlt_kinds.specs.Operations.{cell_of}
 use Rattle.mlt_kinds.specs.declared.operation.ObjOp.{ObjOp}
 use Rattle.mlt_kinds.specs.declared.operation.ObjReply.{ObjReply}
 use Rattle.mlt_order.specs.Histories.{Entry, IsHistory, Lists, lists_of}
-use Rattle.mlt_order.specs.Histories.Entry.{Begun, Did, TookBack, Committed, Closed}
 use Rattle.mlt_order.specs.Histories.Stage.{Fresh, Running}
 use Rattle.mlt_base.specs.Meaning.{Means}
 use Rattle.mlt_base.specs.Records.{HasWhatIsUndone}
-use Rattle.mlt_commute.specs.Clashes.{clashes}
 use Rattle.mlt_hash_form.specs.File.{GivesPseudokeys, HasForm, depth_of}
 use Rattle.mlt_hash_form.specs.Records.{live_records}
 use Rattle.mlt_hash.specs.Walks.{Basis}
 use Rattle.mlt_ghosts.specs.Ghosts.{PagesMatchOperations}
 use Rattle.mlt_ghosts.specs.Ledgers.{Ledger}
-use Rattle.mlt_meeting.specs.Presences.{IsOpInRange, op_key, standing_of}
+use Rattle.mlt_meeting.specs.Presences.{op_key, standing_of}
 
 pub record World : Type 0 where
   -- the hash file: the function from keys to pseudokeys, the page of the header, how deep the directory may get, and
@@ -89,75 +87,3 @@ pub record PagesMeanHistory (world : World) : Type 0 where
   pub in_range : (i : ℕ) (item : ObjOp × ObjReply) → Contains ((lists_in world).held i) item → IsInRange (cell_of item.0)
   pub counted : (i : ℕ) (item : ObjOp × ObjReply) → Contains ((lists_in world).transcripts i) item
       → HasWhatIsUndone item (record_of world item.0)
-
--- nothing has begun
-abbrev pub new_world : (ℕ → ℕ) → ℕ → ℕ → map.FinMap nat_cmp Page → (ℕ → Bool) → World
-new_world bits root max_depth pages undoing = record {
-  bits = bits;
-  root = root;
-  max_depth = max_depth;
-  pages = pages;
-  begun = 0;
-  opens = set.empty;
-  undoing = undoing;
-  history = [];
-  base = empty_base;
-}
-
--- the next number is given out
-abbrev pub after_begin : World → (ℕ → Bool) → World
-after_begin world undoing = record world {
-  begun = world.begun + 1;
-  opens = set.insert world.opens (world.begun + 1);
-  undoing = undoing;
-  history = world.history ++ Begun (world.begun + 1) ∷ [];
-}
-
--- transaction tx commits, or is closed
-abbrev pub after_commit : World → ℕ → (ℕ → Bool) → World
-after_commit world tx undoing = record world {
-  opens = set.remove world.opens tx;
-  undoing = undoing;
-  history = world.history ++ Committed tx ∷ [];
-}
-
-abbrev pub after_close : World → ℕ → (ℕ → Bool) → World
-after_close world tx undoing = record world {
-  opens = set.remove world.opens tx;
-  undoing = undoing;
-  history = world.history ++ Closed tx ∷ [];
-}
-
--- transaction tx did the item
-abbrev pub after_done : World → ℕ → ObjOp × ObjReply → map.FinMap nat_cmp Page → Base → World
-after_done world tx item pages base = record world {
-  pages = pages;
-  history = world.history ++ Did tx item ∷ [];
-  base = base;
-}
-
--- the last item of transaction tx is taken back
-abbrev pub after_undone : World → ℕ → map.FinMap nat_cmp Page → Base → World
-after_undone world tx pages base = record world {
-  pages = pages;
-  history = world.history ++ TookBack tx ∷ [];
-  base = base;
-}
-
--- the transaction is open
-abbrev pub IsOpenAt : World → ℕ → Type 0
-IsOpenAt world tx = set.contains world.opens tx ≡ true
-
--- transaction tx may do the item: it is open, its abort has not begun, and nobody else holds a clash
-pub record MayDo (world : World) (tx : ℕ) (item : ObjOp × ObjReply) : Type 0 where
-  pub is_open : IsOpenAt world tx
-  pub forward : world.undoing tx ≡ false
-  pub in_range : IsOpInRange item.0
-  pub free : (j : ℕ) (held : ObjOp × ObjReply) → j ≢ tx → Contains ((lists_in world).held j) held → clashes held item ≡ false
-
--- the item is the next one that transaction tx takes back
-pub record MayUndo (world : World) (tx : ℕ) (item : ObjOp × ObjReply) : Type 0 where
-  pub is_open : IsOpenAt world tx
-  pub backward : world.undoing tx ≡ true
-  pub rest : List (ObjOp × ObjReply)
-  pub last : (lists_in world).transcripts tx ≡ rest ++ item ∷ []

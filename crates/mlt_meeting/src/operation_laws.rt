@@ -9,7 +9,8 @@ ghost use Rattle.mlt_kinds.specs.declared.operation.ObjOp.{ObjOp};
 ghost use Rattle.mlt_kinds.specs.declared.operation.ObjReply.{ObjReply};
 ghost use Rattle.mlt_base.specs.Plans.{inverse_of, reply_of};
 ghost use Rattle.mlt_meeting.specs.Ends.{ChangesPages};
-ghost use Rattle.mlt_meeting.specs.Worlds.{MayDo, MayUndo, PagesMeanHistory, World, after_done, after_undone, record_of};
+ghost use Rattle.mlt_meeting.specs.Events.{MayDo, MayUndo, with_done, with_undone};
+ghost use Rattle.mlt_meeting.specs.Worlds.{PagesMeanHistory, World, record_of};
 
 /// Where an operation ends, the base makes its step, with the reply that the record of its cell asks for, and the
 /// match is kept. It asks that the walk has made the change that goes with that reply, and that nobody else holds
@@ -20,7 +21,7 @@ pub fn operation_keeps_the_match()
         PagesMeanHistory world → MayDo world tx (op, done.0)
         → ChangesPages world tx op done.1 pages
         → (base : Base) × Step world.base (op, done.0) base
-        × PagesMeanHistory (after_done world tx (op, done.0) pages base) }
+        × PagesMeanHistory (with_done world tx (op, done.0) pages base) }
 {}
 
 /// Where the inverse of the last item of a transaction ends, the base is one from which the item leads to what it
@@ -30,5 +31,5 @@ pub fn undoing_keeps_the_match()
         → PagesMeanHistory world → MayUndo world tx item
         → ChangesPages world tx item.0 (inverse_of item) pages
         → (base : Base) × Step base item world.base
-        × PagesMeanHistory (after_undone world tx pages base) }
+        × PagesMeanHistory (with_undone world tx pages base) }
 {}

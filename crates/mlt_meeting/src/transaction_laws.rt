@@ -8,7 +8,8 @@ ghost use Rattle.mlt_order.specs.Tables.{SameElsewhere};
 ghost use Rattle.mlt_hash_form.specs.Changes.{IsOpening};
 ghost use Rattle.mlt_hash_form.specs.File.{GivesPseudokeys};
 ghost use Rattle.mlt_meeting.specs.Ends.{KeepsPages};
-ghost use Rattle.mlt_meeting.specs.Worlds.{IsOpenAt, PagesMeanHistory, World, after_begin, after_close, after_commit, lists_in, new_world};
+ghost use Rattle.mlt_meeting.specs.Events.{IsOpenAt, with_begun, with_closed, with_committed, new_world};
+ghost use Rattle.mlt_meeting.specs.Worlds.{PagesMeanHistory, World, lists_in};
 
 /// The pages of a file as it is opened match the history in which nothing has begun.
 pub fn opening_file_matches_the_empty_history()
@@ -30,7 +31,7 @@ pub fn same_pages_keep_the_match()
 pub fn begin_keeps_the_match()
     ensures { (world : World) (undoing : ℕ → Bool)
         → PagesMeanHistory world → SameElsewhere world.undoing undoing (world.begun + 1)
-        → PagesMeanHistory (after_begin world undoing) }
+        → PagesMeanHistory (with_begun world undoing) }
 {}
 
 /// And when aborts begin.
@@ -44,9 +45,9 @@ pub fn abort_keeps_the_match()
 pub fn end_keeps_the_match()
     ensures commit { (world : World) (tx : ℕ) (undoing : ℕ → Bool)
         → PagesMeanHistory world → IsOpenAt world tx → SameElsewhere world.undoing undoing tx
-        → PagesMeanHistory (after_commit world tx undoing) }
+        → PagesMeanHistory (with_committed world tx undoing) }
     ensures close { (world : World) (tx : ℕ) (undoing : ℕ → Bool)
         → PagesMeanHistory world → IsOpenAt world tx → SameElsewhere world.undoing undoing tx
         → (lists_in world).transcripts tx ≡ []
-        → PagesMeanHistory (after_close world tx undoing) }
+        → PagesMeanHistory (with_closed world tx undoing) }
 {}

@@ -15,7 +15,8 @@ ghost use Rattle.mlt_hash.specs.Changes.{HasOwnGhost};
 ghost use Rattle.mlt_hash.specs.Walks.{HasPassed, IsStanding, WalkFields};
 ghost use Rattle.mlt_hash.specs.declared.pass.Phase.TheVariants.{AtBucket};
 ghost use Rattle.mlt_meeting.specs.Presences.{op_key};
-ghost use Rattle.mlt_meeting.specs.Worlds.{MayUndo, PagesMeanHistory, World, after_begin, basis_of, record_of};
+ghost use Rattle.mlt_meeting.specs.Events.{MayUndo, with_begun};
+ghost use Rattle.mlt_meeting.specs.Worlds.{PagesMeanHistory, World, basis_of, record_of};
 
 /// The record of an operation's cell is what is looked up of its key, and what a walk to the key has found, up to the
 /// walk's end.
@@ -46,7 +47,7 @@ pub fn walks_stand_while_others_begin_and_end()
     ensures begins { (world : World) (undoing : ℕ → Bool) (tx : ℕ) (walk : WalkFields) (view : View)
         → PagesMeanHistory world
         → IsStanding (basis_of world tx) walk view → Agrees view.seen (map.get world.pages)
-        → IsStanding (basis_of (after_begin world undoing) tx) walk view }
+        → IsStanding (basis_of (with_begun world undoing) tx) walk view }
     ensures ends { (world : World) (tx other : ℕ) (walk : WalkFields) (view : View)
         → PagesMeanHistory world
         → IsStanding (basis_of world tx) walk view → Agrees view.seen (map.get world.pages)
