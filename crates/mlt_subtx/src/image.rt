@@ -10,7 +10,7 @@ use mlt_store::Store;
 use mlt_types::PageNo;
 
 /// What a page had before a subtransaction first wrote it: nothing, where it was made then.
-#[derive(Clone, Copy, Debug)]
+#[derive(Clone, Copy)]
 pub(crate) struct Image {
     pub page: PageNo,
     pub first: Option<Page>,
