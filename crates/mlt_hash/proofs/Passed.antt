@@ -16,8 +16,7 @@ use Rattle.mlt_hash_form.specs.Held.{Agrees, own_or}
 use Rattle.mlt_held.specs.Moments.{MayStep, Moment}
 use Rattle.mlt_held.specs.PageSteps.{TouchesOnePage}
 use Rattle.mlt_held.specs.Views.{MakesPage, View, WritesPage, view_of}
-use Rattle.mlt_held.proofs.Others.{step_keeps_tx}
-use Rattle.mlt_held.proofs.OwnSteps.{own_step_sees_more}
+use Rattle.mlt_held.proofs.OwnSteps.{own_step_sees_more, step_keeps_tx}
 use Rattle.mlt_held.proofs.Views.{mode_of_others, mode_of_page}
 use Rattle.mlt_split.specs.Rests.{Aim}
 use Rattle.mlt_split.specs.Splits.{IsUnderWay, SplitFields}
@@ -233,7 +232,7 @@ module _ (basis : Basis) (walk : WalkFields) (old new : Moment) (room_depth : �
     steps_by_split = record {
       before = λ q first sees. own_step_sees_more old new q first may touches sees;
       modes = λ q.
-          let tx = step_keeps_tx old new may touches in
+          let tx = step_keeps_tx old new touches in
           let now : map.get (view_of new).modes q ≡ mode_held new.locks old.running.tx q = ap (λ t. mode_held new.locks t q) tx in
           elim (locks_its_page_alone split_answer.Going aim old new split q done) [
             | inl same ↦ inl (now ∙ same)

@@ -14,7 +14,7 @@ use Rattle.mlt_page_locks.specs.Requests.{granted}
 use Rattle.mlt_held.specs.Moments.{HasCleanFile, MayStep, Moment}
 use Rattle.mlt_held.specs.PageSteps.{LocksAtMost, TouchesOnePage, WritesAtMost}
 use Rattle.mlt_held.specs.Views.{view_of}
-use Rattle.mlt_held.proofs.Others.{step_keeps_tx}
+use Rattle.mlt_held.proofs.OwnSteps.{step_keeps_tx}
 use Rattle.mlt_held.proofs.Views.{agrees, holds_exclusively, may_write}
 use Rattle.mlt_split.specs.Splits.{IsUnderWay, SplitFields, steps_left}
 use Rattle.mlt_split.specs.Rests.{Aim}
@@ -54,7 +54,7 @@ step_keeps_right old new root (q, inr make) held = granted_keeps old.locks new.l
 pub stays_exclusive_in_step : (old new : Moment) (root : ℕ) → MayStep old → TouchesOnePage old new → map.get (view_of old).modes root ≡ Some Exclusive → map.get (view_of new).modes root ≡ Some Exclusive
 stays_exclusive_in_step old new root may touches held =
     let right : can_write new.locks old.running.tx root ≡ true = step_keeps_right old new root touches (may_write old root held) in
-    holds_exclusively new root (ap (λ tx. can_write new.locks tx root) (step_keeps_tx old new may touches) ∙ right)
+    holds_exclusively new root (ap (λ tx. can_write new.locks tx root) (step_keeps_tx old new touches) ∙ right)
 
 -- where a walk that splits stands
 splitting_at : (basis : Basis) (walk : WalkFields) (old : Moment) (value room_depth : ℕ) → walk.phase ≡ at.Splitting value room_depth → IsStanding basis walk (view_of old) → IsSplitting basis walk (view_of old) room_depth

@@ -1,6 +1,5 @@
 pub mod Leaving
 pub mod Moments
-pub mod Others
 pub mod OwnSteps
 pub mod Results
 pub mod Views

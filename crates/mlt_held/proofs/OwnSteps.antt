@@ -4,6 +4,7 @@ use Rattle.std.proofs.lemmas.Bool.{cases_eq, false≢true}
 use Rattle.mlt_types.specs.declared.mode.Mode.{Mode}
 use Rattle.mlt_page.specs.declared.page.Page.{Page}
 use Rattle.mlt_store.specs.Stores.{page_at}
+use Rattle.mlt_subtx.specs.Images.{Running}
 use Rattle.mlt_held.specs.Moments.{MayStep, Moment}
 use Rattle.mlt_held.specs.PageSteps.{LocksAtMost, LocksPage, TouchesOnePage, WritesAtMost}
 use Rattle.mlt_held.specs.Views.{MakesPage, ReadsPage, View, view_of}
@@ -45,3 +46,16 @@ make_sees old new q page makes p first sees =
 pub own_step_sees_more : (old new : Moment) (q : ℕ) (first : Option Page) → MayStep old → TouchesOnePage old new → (view_of old).seen q ≡ Some first → (view_of new).seen q ≡ Some first
 own_step_sees_more old new q first may (p, inl step) sees = write_sees step.0 new p step.2 q first (lock_sees old step.0 p may step.1 q first sees)
 own_step_sees_more old new q first may (p, inr make) sees = make_sees (view_of old) (view_of new) p make.0 (make_makes old new p make.0 may make.1) q first sees
+
+lock_keeps_tx : (old new : Moment) (q : ℕ) → LocksAtMost old new q → new.running.tx ≡ old.running.tx
+lock_keeps_tx old new q (inl same) = ap (λ (m : Moment). m.running.tx) same
+lock_keeps_tx old new q (inr lock) = ap (λ (r : Running). r.tx) lock.1.running
+
+write_keeps_tx : (old new : Moment) (q : ℕ) → WritesAtMost old new q → new.running.tx ≡ old.running.tx
+write_keeps_tx old new q (inl same) = ap (λ (m : Moment). m.running.tx) same
+write_keeps_tx old new q (inr write) = ap (λ (r : Running). r.tx) write.1.running
+
+-- its transaction stays the one that it is
+pub step_keeps_tx : (old new : Moment) → TouchesOnePage old new → new.running.tx ≡ old.running.tx
+step_keeps_tx old new (q, inl step) = write_keeps_tx step.0 new q step.2 ∙ lock_keeps_tx old step.0 q step.1
+step_keeps_tx old new (q, inr make) = ap (λ (r : Running). r.tx) make.1.running

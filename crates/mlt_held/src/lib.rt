@@ -8,7 +8,4 @@ mod view_laws;
 
 pub use locked_store::LockedStore;
 pub use pages::{lock, make_page, read_held, write_held, write_slot};
-pub use view_laws::{
-    others_leave_the_view, others_leave_what_was_written, own_steps_see_more,
-    view_agrees_with_clean_pages,
-};
+pub use view_laws::{own_steps_see_more, view_agrees_with_clean_pages};

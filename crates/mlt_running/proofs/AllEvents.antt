@@ -14,18 +14,19 @@ use Rattle.mlt_page_locks.specs.Requests.{granted, released, with_page}
 use Rattle.mlt_page_locks.proofs.LockLaws.{can_write-granted, compatible_released, no_holder-released, page_count-granted, pages_of-released, released_keeps_others, writer_reads}
 use Rattle.mlt_page_locks.proofs.Maps.{get_inserted, get_removed, same_entries}
 use Rattle.mlt_subtx.specs.Images.{Images, Running, image_of, or_image, put_back, with_image}
-use Rattle.mlt_running.specs.CleanPages.{DropsImages, ImagesAreApart, ImagesAreLocked, ImagesAreThere, RunningImages, clean_pages, image_at}
-use Rattle.mlt_running.proofs.CleanLaws.{clean_page-end, clean_pages-roll_back, clean_pages-write, drops_cleared, drops_removed, image_at-insert, images_are_apart, others_stay, same_clean_pages}
 use Rattle.mlt_subtx.proofs.ImageLaws.{fresh_has_no_image, not_there, not_true, page_at-put_back, with_image-absent}
-use Rattle.mlt_running.proofs.RunningLaws.{images_locked-granted, images_locked-released, images_there-ended, images_there-rolled_back, locks_there-released, locks_there-rolled_back}
 use Rattle.mlt_hash_form.specs.Held.{Agrees, own_or, over}
 use Rattle.mlt_held.specs.Moments.{MayStep, Moment, page_before}
 use Rattle.mlt_held.specs.PageSteps.{LocksAtMost, TouchesOnePage, WritesAtMost}
-use Rattle.mlt_running.specs.Running.{AllMayStep, AllRunning, HoldsNothing, KeepsRunning, after_begin, after_close, after_end, after_roll_back, after_step, clean_of, images_by, is_open, moment_of}
 use Rattle.mlt_held.specs.Views.{View, own_at, page_written, seen_at, view_of}
-use Rattle.mlt_running.proofs.AllRunning.{agrees_with_each, each_may_step}
 use Rattle.mlt_held.proofs.Moments.{may_after_lock_at_most, may_after_step}
-use Rattle.mlt_held.proofs.Others.{same_where_held, step_drops_no_page, step_keeps_held_pages, step_keeps_others, step_keeps_tx}
+use Rattle.mlt_held.proofs.OwnSteps.{step_keeps_tx}
+use Rattle.mlt_running.specs.CleanPages.{DropsImages, ImagesAreApart, ImagesAreLocked, ImagesAreThere, RunningImages, clean_pages, image_at}
+use Rattle.mlt_running.specs.Running.{AllMayStep, AllRunning, HoldsNothing, KeepsRunning, after_begin, after_close, after_end, after_roll_back, after_step, clean_of, images_by, is_open, moment_of}
+use Rattle.mlt_running.proofs.AllRunning.{agrees_with_each, each_may_step}
+use Rattle.mlt_running.proofs.CleanLaws.{clean_page-end, clean_pages-roll_back, clean_pages-write, drops_cleared, drops_removed, image_at-insert, images_are_apart, others_stay, same_clean_pages}
+use Rattle.mlt_running.proofs.Others.{same_where_held, step_drops_no_page, step_keeps_held_pages, step_keeps_others}
+use Rattle.mlt_running.proofs.RunningLaws.{images_locked-granted, images_locked-released, images_there-ended, images_there-rolled_back, locks_there-released, locks_there-rolled_back}
 
 -- a transaction that keeps its images, its locks and the pages that it holds has the view that it had
 same_view_of : (old new : AllRunning) (u : ℕ) → map.get new.images u ≡ map.get old.images u → pages_of new.locks u ≡ pages_of old.locks u
@@ -255,7 +256,7 @@ step_clean all tx images locks store may opened step =
 -- the moment that a step leads to is one of the transaction that made it
 is_at : (all : AllRunning) (tx : ℕ) (new : Moment) → AllMayStep all → is_open all tx ≡ true → TouchesOnePage (moment_of all tx) new → at tx new.running.images new.locks new.store ≡ new
 is_at all tx new may opened step i = record {
-  running = record { tx = sym (step_keeps_tx (moment_of all tx) new (each_may_step all tx may opened) step) i; images = new.running.images };
+  running = record { tx = sym (step_keeps_tx (moment_of all tx) new step) i; images = new.running.images };
   locks = new.locks;
   store = new.store;
 }

@@ -1,4 +1,5 @@
 pub mod AllEvents
 pub mod AllRunning
 pub mod CleanLaws
+pub mod Others
 pub mod RunningLaws

@@ -109,12 +109,9 @@ step_keeps_others old new may step = (step_leaves old new may step).locks
 pub step_keeps_held_pages : (old new : Moment) → MayStep old → TouchesOnePage old new → (u p : ℕ) → u ≢ old.running.tx → can_read old.locks u p ≡ true → page_at new.store.pages p ≡ page_at old.store.pages p
 step_keeps_held_pages old new may step = (step_leaves old new may step).pages
 
--- and each page in its place; and its own transaction stays the one that it is.
+-- and each page in its place.
 pub step_drops_no_page : (old new : Moment) → MayStep old → TouchesOnePage old new → (p : ℕ) → is_some (page_at old.store.pages p) ≡ true → is_some (page_at new.store.pages p) ≡ true
 step_drops_no_page old new may step = (step_leaves old new may step).there
-
-pub step_keeps_tx : (old new : Moment) → MayStep old → TouchesOnePage old new → new.running.tx ≡ old.running.tx
-step_keeps_tx old new may step = (step_leaves old new may step).running
 
 pub same_where_held : {X : Type 0} (b c : Bool) (x y z : X) → c ≡ b → (b ≡ true → y ≡ x) → cond c y z ≡ cond b x z
 same_where_held true c x y z same is = ap (λ b. cond b y z) same ∙ is refl
