@@ -120,16 +120,6 @@ pub others_have_none : (running : RunningImages) (locks : LockTable) (tx q : ℕ
 others_have_none running locks tx q ok locked reads u ne =
     not_there (image_at running u q) (not_true _ (λ some. ne (ok u tx q (locked u q some) reads)))
 
--- who holds a page sees, with its own image put back, the clean page
-pub clean_page_held : (running : RunningImages) (locks : LockTable) (pages : Pages) (tx q : ℕ) → AreCompatible locks → ImagesAreLocked running locks → can_read locks tx q ≡ true
-    → page_at (clean_pages running pages) q ≡ or_image (image_at running tx q) (page_at pages q)
-clean_page_held running locks pages tx q ok locked reads = clean_page_of running pages tx q (others_have_none running locks tx q ok locked reads)
-
--- a page that nobody may write is clean
-pub clean_page_free : (running : RunningImages) (locks : LockTable) (pages : Pages) (q : ℕ) → ImagesAreLocked running locks → ((tx : ℕ) → can_write locks tx q ≡ false) → page_at (clean_pages running pages) q ≡ page_at pages q
-clean_page_free running locks pages q locked free =
-    clean_page_unwritten running pages q (λ tx. not_there (image_at running tx q) (not_true _ (λ some. false≢true (sym (free tx) ∙ locked tx q some))))
-
 -- each subtransaction's view: wherever no other may write, its own images put back give the clean pages
 pub clean_view : (running : RunningImages) (locks : LockTable) (pages : Pages) (tx q : ℕ) → ImagesAreLocked running locks → ((u : ℕ) → u ≢ tx → can_write locks u q ≡ false)
     → page_at (clean_pages running pages) q ≡ page_at (put_back (unwrap_or (map.get running tx) map.empty) pages) q
