@@ -1,5 +1,6 @@
 //! Operations on a base, its text, and records read as objects.
 
+use crate::checks::{same, same_at};
 use mlt_base::{Base, RecChange, inverse, plan, records_mean_bases, reply, write_base};
 use mlt_kinds::{AccountOp, CounterOp, Done, ElementOp, ObjOp, ObjReply};
 use mlt_types::{Cell, Key, Mode, Refusal, Value};
@@ -31,9 +32,9 @@ fn operations_in_order(rt: HostRuntime) -> Result<(), Fail> {
         (AccountOp::Withdraw(0), ObjReply::Missing, None),
     ];
     for (op, reply, balance) in asked {
-        assert_eq!(rt; base.apply(&ObjOp::Account(7, op)), Ok(reply), "{op:?}");
-        assert_eq!(rt; base.balance(7), balance, "after {op:?}");
-        assert_eq!(rt; base.balance(8), None, "after {op:?}");
+        same_at(&rt, &op, &base.apply(&ObjOp::Account(7, op)), &Ok(reply));
+        same_at(&rt, &op, &base.balance(7), &balance);
+        same_at(&rt, &op, &base.balance(8), &None);
     }
     Ok(())
 }
@@ -51,9 +52,9 @@ fn elements_in_order(rt: HostRuntime) -> Result<(), Fail> {
         (ElementOp::Has, ObjReply::No, false),
     ];
     for (op, reply, present) in asked {
-        assert_eq!(rt; base.apply(&ObjOp::Element(4, 9, op)), Ok(reply), "{op:?}");
-        assert_eq!(rt; base.has(4, 9), present, "after {op:?}");
-        assert_eq!(rt; base.has(9, 4), false, "after {op:?}");
+        same_at(&rt, &op, &base.apply(&ObjOp::Element(4, 9, op)), &Ok(reply));
+        same_at(&rt, &op, &base.has(4, 9), &present);
+        same_at(&rt, &op, &base.has(9, 4), &false);
     }
     Ok(())
 }
@@ -72,9 +73,9 @@ fn counters_in_order(rt: HostRuntime) -> Result<(), Fail> {
         (CounterOp::Down(6), ObjReply::Done, u64::MAX),
     ];
     for (op, reply, value) in asked {
-        assert_eq!(rt; base.apply(&ObjOp::Counter(7, op)), Ok(reply), "{op:?}");
-        assert_eq!(rt; base.value(7), value, "after {op:?}");
-        assert_eq!(rt; base.value(8), 0, "after {op:?}");
+        same_at(&rt, &op, &base.apply(&ObjOp::Counter(7, op)), &Ok(reply));
+        same_at(&rt, &op, &base.value(7), &value);
+        same_at(&rt, &op, &base.value(8), &0);
     }
     Ok(())
 }
@@ -115,10 +116,10 @@ counter 1 2\ncounter 4294967295 18446744073709551615\n";
 #[test]
 fn text_of_a_base(rt: HostRuntime) -> Result<(), Fail> {
     let mut text = Vec::new(rt.alloc());
-    assert_eq!(rt; write_base(&Base::new(rt.alloc()), &mut text), Ok(()));
+    same(&rt, &write_base(&Base::new(rt.alloc()), &mut text), &Ok(()));
     assert!(rt; text.is_empty());
-    assert_eq!(rt; write_base(&some_base(&rt)?, &mut text), Ok(()));
-    assert!(rt; text.as_slice() == TEXT);
+    same(&rt, &write_base(&some_base(&rt)?, &mut text), &Ok(()));
+    same(&rt, &text.as_slice(), &TEXT);
     Ok(())
 }
 
@@ -153,22 +154,22 @@ fn write_fault_leaves_a_front(rt: HostRuntime) -> Result<(), Fail> {
             bytes: Vec::new(rt.alloc()),
             room,
         };
-        assert_eq!(rt; write_base(&base, &mut writer), Err(Refusal::Io));
-        assert!(rt; writer.bytes.as_slice() == &TEXT[..room]);
+        same(&rt, &write_base(&base, &mut writer), &Err(Refusal::Io));
+        same(&rt, &writer.bytes.as_slice(), &&TEXT[..room]);
     }
     let mut writer = Full {
         bytes: Vec::new(rt.alloc()),
         room: TEXT.len(),
     };
-    assert_eq!(rt; write_base(&base, &mut writer), Ok(()));
-    assert!(rt; writer.bytes.as_slice() == TEXT);
+    same(&rt, &write_base(&base, &mut writer), &Ok(()));
+    same(&rt, &writer.bytes.as_slice(), &TEXT);
     Ok(())
 }
 
 fn planned(rt: &impl Abort, op: ObjOp, cell: Cell, mode: Mode) {
     let (key, planned) = plan(&op);
-    assert_eq!(rt; key, Key::of(&cell), "{op:?}");
-    assert_eq!(rt; planned, mode, "{op:?}");
+    same_at(rt, &op, &key, &Key::of(&cell));
+    same_at(rt, &op, &planned, &mode);
 }
 
 #[test]
@@ -219,8 +220,8 @@ fn told(
     wanted_change: Option<RecChange>,
 ) {
     let (reply, change) = reply(&op, live);
-    assert_eq!(rt; reply, wanted, "{op:?} at {live:?}");
-    assert_eq!(rt; change, wanted_change, "{op:?} at {live:?}");
+    same_at(rt, &(op, live), &reply, &wanted);
+    same_at(rt, &(op, live), &change, &wanted_change);
 }
 
 fn account(op: AccountOp) -> ObjOp {
@@ -334,11 +335,7 @@ fn replies_from_records_of_counters(rt: HostRuntime) {
 }
 
 fn undone(rt: &impl Abort, op: ObjOp, reply: ObjReply, change: Option<RecChange>) {
-    assert_eq!(rt;
-        inverse(&Done::new(op, reply)),
-        change,
-        "{op:?} told {reply:?}"
-    );
+    same_at(rt, &(op, reply), &inverse(&Done::new(op, reply)), &change);
 }
 
 #[test]

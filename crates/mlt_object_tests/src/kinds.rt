@@ -2,6 +2,7 @@
 
 ghost use Rattle.mlt_kinds.specs.Accounts.{IsAccount};
 
+use crate::checks::{same, same_at};
 use mlt_kinds::{
     Account, AccountOp, Counter, CounterOp, Done, Element, ElementOp, Kind, MAX_BALANCE, ObjOp,
     ObjReply, steps_of_bases_are_fixed, steps_of_bases_pass,
@@ -12,53 +13,44 @@ use std::process::Abort;
 
 #[test]
 fn texts_of_operations(rt: HostRuntime) -> Result<(), AllocError> {
+    let most = u32::MAX;
     let table = [
-        (AccountOp::Open, "open 4294967295"),
-        (AccountOp::Close, "close 4294967295"),
-        (AccountOp::Deposit(0), "deposit 4294967295 0"),
+        (ObjOp::Account(most, AccountOp::Open), "open 4294967295"),
+        (ObjOp::Account(most, AccountOp::Close), "close 4294967295"),
         (
-            AccountOp::Withdraw(u64::MAX),
+            ObjOp::Account(most, AccountOp::Deposit(0)),
+            "deposit 4294967295 0",
+        ),
+        (
+            ObjOp::Account(most, AccountOp::Withdraw(u64::MAX)),
             "withdraw 4294967295 18446744073709551615",
         ),
-        (AccountOp::Balance, "balance 4294967295"),
-    ];
-    for (op, text) in table {
-        let op = ObjOp::Account(u32::MAX, op);
-        let printed = format!(in rt.alloc(); "{op}")?;
-        assert!(rt; printed.as_str() == text, "{printed}");
-    }
-    Ok(())
-}
-
-#[test]
-fn texts_of_operations_on_elements(rt: HostRuntime) -> Result<(), AllocError> {
-    let table = [
-        (ElementOp::Add, "add 65535 4294967295"),
-        (ElementOp::Remove, "remove 65535 4294967295"),
-        (ElementOp::Has, "has 65535 4294967295"),
-    ];
-    for (op, text) in table {
-        let op = ObjOp::Element(u16::MAX, u32::MAX, op);
-        let printed = format!(in rt.alloc(); "{op}")?;
-        assert!(rt; printed.as_str() == text, "{printed}");
-    }
-    Ok(())
-}
-
-#[test]
-fn texts_of_operations_on_counters(rt: HostRuntime) -> Result<(), AllocError> {
-    let table = [
-        (CounterOp::Up(0), "up 4294967295 0"),
         (
-            CounterOp::Down(u64::MAX),
+            ObjOp::Account(most, AccountOp::Balance),
+            "balance 4294967295",
+        ),
+        (
+            ObjOp::Element(u16::MAX, most, ElementOp::Add),
+            "add 65535 4294967295",
+        ),
+        (
+            ObjOp::Element(u16::MAX, most, ElementOp::Remove),
+            "remove 65535 4294967295",
+        ),
+        (
+            ObjOp::Element(u16::MAX, most, ElementOp::Has),
+            "has 65535 4294967295",
+        ),
+        (ObjOp::Counter(most, CounterOp::Up(0)), "up 4294967295 0"),
+        (
+            ObjOp::Counter(most, CounterOp::Down(u64::MAX)),
             "down 4294967295 18446744073709551615",
         ),
-        (CounterOp::Read, "read 4294967295"),
+        (ObjOp::Counter(most, CounterOp::Read), "read 4294967295"),
     ];
     for (op, text) in table {
-        let op = ObjOp::Counter(u32::MAX, op);
         let printed = format!(in rt.alloc(); "{op}")?;
-        assert!(rt; printed.as_str() == text, "{printed}");
+        same(&rt, &printed.as_str(), &text);
     }
     Ok(())
 }
@@ -84,7 +76,7 @@ fn texts_of_replies(rt: HostRuntime) -> Result<(), AllocError> {
     ];
     for (reply, text) in table {
         let printed = format!(in rt.alloc(); "{reply}")?;
-        assert!(rt; printed.as_str() == text, "{printed}");
+        same(&rt, &printed.as_str(), &text);
     }
     Ok(())
 }
@@ -93,19 +85,19 @@ fn texts_of_replies(rt: HostRuntime) -> Result<(), AllocError> {
 fn parts_of_what_was_done(rt: HostRuntime) -> Result<(), AllocError> {
     let op = ObjOp::Account(7, AccountOp::Withdraw(20));
     let done = Done::new(op, ObjReply::Short);
-    assert_eq!(rt; done.op(), op);
-    assert_eq!(rt; done.reply(), ObjReply::Short);
-    assert_eq!(rt; done.cell(), Cell::Account(7));
-    assert_eq!(rt; op.cell(), Cell::Account(7));
+    same(&rt, &done.op(), &op);
+    same(&rt, &done.reply(), &ObjReply::Short);
+    same(&rt, &done.cell(), &Cell::Account(7));
+    same(&rt, &op.cell(), &Cell::Account(7));
     let printed = format!(in rt.alloc(); "{done}")?;
-    assert!(rt; printed.as_str() == "withdraw 7 20 short", "{printed}");
+    same(&rt, &printed.as_str(), &"withdraw 7 20 short");
     Ok(())
 }
 
 #[test]
 fn steps_of_an_account(rt: HostRuntime) {
     let most = 1_000_000_000_000_000_000;
-    assert_eq!(rt; MAX_BALANCE, most);
+    same(&rt, &MAX_BALANCE, &most);
     steps(&rt, None, AccountOp::Open, ObjReply::Opened, Some(0));
     steps(&rt, Some(0), AccountOp::Open, ObjReply::Exists, Some(0));
     steps(&rt, None, AccountOp::Close, ObjReply::Missing, None);
@@ -170,9 +162,9 @@ fn steps(rt: &impl Abort, before: Option<u64>, op: AccountOp, reply: ObjReply, a
     requires { IsAccount before }
 {
     let (state, told) = Account::apply(&before, &op);
-    assert_eq!(rt; told, reply, "{op:?}");
-    assert_eq!(rt; state, after, "{op:?}");
-    assert_eq!(rt; Account::undo(&state, &op, &told), before, "{op:?}");
+    same_at(rt, &op, &told, &reply);
+    same_at(rt, &op, &state, &after);
+    same_at(rt, &op, &Account::undo(&state, &op, &told), &before);
 }
 
 #[test]
@@ -188,9 +180,9 @@ fn steps_of_an_element(rt: HostRuntime) {
 // The operation is told the reply and leads to the state after, and its inverse leads back.
 fn element_steps(rt: &impl Abort, before: bool, op: ElementOp, reply: ObjReply, after: bool) {
     let (state, told) = Element::apply(&before, &op);
-    assert_eq!(rt; told, reply, "{op:?}");
-    assert_eq!(rt; state, after, "{op:?}");
-    assert_eq!(rt; Element::undo(&state, &op, &told), before, "{op:?}");
+    same_at(rt, &op, &told, &reply);
+    same_at(rt, &op, &state, &after);
+    same_at(rt, &op, &Element::undo(&state, &op, &told), &before);
 }
 
 #[test]
@@ -212,9 +204,9 @@ fn steps_of_a_counter(rt: HostRuntime) {
 // The operation is told the reply and leads to the state after, and its inverse leads back.
 fn counter_steps(rt: &impl Abort, before: u64, op: CounterOp, reply: ObjReply, after: u64) {
     let (state, told) = Counter::apply(&before, &op);
-    assert_eq!(rt; told, reply, "{op:?}");
-    assert_eq!(rt; state, after, "{op:?}");
-    assert_eq!(rt; Counter::undo(&state, &op, &told), before, "{op:?}");
+    same_at(rt, &op, &told, &reply);
+    same_at(rt, &op, &state, &after);
+    same_at(rt, &op, &Counter::undo(&state, &op, &told), &before);
 }
 
 #[test]
@@ -226,11 +218,12 @@ fn laws_of_bases() {
 #[test]
 fn cells_of_operations(rt: HostRuntime) {
     let element = ObjOp::Element(4, 9, ElementOp::Has);
-    assert_eq!(rt; element.cell(), Cell::Element(4, 9));
+    same(&rt, &element.cell(), &Cell::Element(4, 9));
     let counter = ObjOp::Counter(7, CounterOp::Read);
-    assert_eq!(rt; counter.cell(), Cell::Counter(7));
-    assert_eq!(rt;
-        Done::new(element, ObjReply::No).cell(),
-        Cell::Element(4, 9)
+    same(&rt, &counter.cell(), &Cell::Counter(7));
+    same(
+        &rt,
+        &Done::new(element, ObjReply::No).cell(),
+        &Cell::Element(4, 9),
     );
 }

@@ -5,6 +5,8 @@
 #[cfg(test)]
 mod bases;
 #[cfg(test)]
+mod checks;
+#[cfg(test)]
 mod histories;
 #[cfg(test)]
 mod kinds;

@@ -2,6 +2,7 @@
 
 ghost use Rattle.std.specs.Prelude.{◌≡◌};
 
+use crate::checks::{same, same_at};
 use mlt_commute::{
     AccountClass, CounterClass, ElementClass, Example, Table, clash, clashes_are_exact,
     every_history_of_bases_is_serializable, operation_without_clash_may_come,
@@ -39,19 +40,19 @@ const COUNTER_CLASSES: [CounterClass; 2] = [CounterClass::Counted, CounterClass:
 #[test]
 fn accounts_mark_28_pairs(rt: HostRuntime) {
     let marked = shown::<Account>(&rt, &ACCOUNT_CLASSES);
-    assert_eq!(rt; marked, 28);
+    same(&rt, &marked, &28);
 }
 
 #[test]
 fn elements_mark_10_pairs(rt: HostRuntime) {
     let marked = shown::<Element>(&rt, &ELEMENT_CLASSES);
-    assert_eq!(rt; marked, 10);
+    same(&rt, &marked, &10);
 }
 
 #[test]
 fn counters_mark_2_pairs(rt: HostRuntime) {
     let marked = shown::<Counter>(&rt, &COUNTER_CLASSES);
-    assert_eq!(rt; marked, 2);
+    same(&rt, &marked, &2);
 }
 
 // How many pairs of the classes are marked; each has an example that shows its conflict, and no other has one.
@@ -65,7 +66,7 @@ where
     for held in classes {
         for requested in classes {
             let example = K::example(*held, *requested);
-            assert!(rt; example.is_some() == K::conflicts(*held, *requested));
+            same(rt, &example.is_some(), &K::conflicts(*held, *requested));
             if let Some(example) = example {
                 shows::<K>(rt, &example);
                 marked = marked.saturating_add(1);
@@ -99,19 +100,25 @@ fn clashes_need_one_cell_and_marked_classes(rt: HostRuntime) {
     let withdrawn = account(7, AccountOp::Withdraw(5), ObjReply::Done);
     let short = account(7, AccountOp::Withdraw(5), ObjReply::Short);
     let deposited = account(7, AccountOp::Deposit(3), ObjReply::Done);
-    assert!(rt; clash(&short, &deposited));
-    assert!(rt; !clash(&deposited, &short));
-    assert!(rt; clash(&deposited, &withdrawn));
-    assert!(rt; clash(&withdrawn, &deposited));
-    assert!(rt; !clash(&deposited, &deposited));
-    assert!(rt; !clash(&short, &account(8, AccountOp::Deposit(3), ObjReply::Done)));
-    assert!(rt; !clash(&short, &account(7, AccountOp::Deposit(3), ObjReply::Opened)));
+    let elsewhere = account(8, AccountOp::Deposit(3), ObjReply::Done);
+    let without_class = account(7, AccountOp::Deposit(3), ObjReply::Opened);
     let up = Done::new(ObjOp::Counter(7, CounterOp::Up(5)), ObjReply::Done);
     let down = Done::new(ObjOp::Counter(7, CounterOp::Down(5)), ObjReply::Done);
     let read = Done::new(ObjOp::Counter(7, CounterOp::Read), ObjReply::Is(5));
-    assert!(rt; !clash(&up, &down));
-    assert!(rt; clash(&down, &read));
-    assert!(rt; !clash(&short, &up));
+    for (held, requested, wanted) in [
+        (short, deposited, true),
+        (deposited, short, false),
+        (deposited, withdrawn, true),
+        (withdrawn, deposited, true),
+        (deposited, deposited, false),
+        (short, elsewhere, false),
+        (short, without_class, false),
+        (up, down, false),
+        (down, read, true),
+        (short, up, false),
+    ] {
+        same_at(&rt, &(held, requested), &clash(&held, &requested), &wanted);
+    }
 }
 
 #[test]
@@ -120,10 +127,14 @@ fn clashes_of_elements_need_one_set_and_one_element(rt: HostRuntime) {
     let yes = Done::new(ObjOp::Element(1, 2, ElementOp::Has), ObjReply::Yes);
     let beside = Done::new(ObjOp::Element(1, 3, ElementOp::Has), ObjReply::Yes);
     let elsewhere = Done::new(ObjOp::Element(2, 2, ElementOp::Has), ObjReply::Yes);
-    assert!(rt; clash(&added, &yes));
-    assert!(rt; !clash(&yes, &added));
-    assert!(rt; !clash(&added, &beside));
-    assert!(rt; !clash(&added, &elsewhere));
+    for (held, requested, wanted) in [
+        (added, yes, true),
+        (yes, added, false),
+        (added, beside, false),
+        (added, elsewhere, false),
+    ] {
+        same_at(&rt, &(held, requested), &clash(&held, &requested), &wanted);
+    }
 }
 
 #[test]

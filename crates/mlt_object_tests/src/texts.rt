@@ -1,5 +1,6 @@
 //! Readers that give little, fail or have too much, and a writer that fails.
 
+use crate::checks::same;
 use mlt_text::{MAX_INPUT, flush, read_input, write_text};
 use mlt_types::Refusal;
 use std::alloc::Global;
@@ -148,7 +149,7 @@ fn one_byte_reads(rt: HostRuntime) -> Result<(), Fail> {
     ];
     let mut reader = Slow { turns: &turns };
     let bytes = read_input(rt.alloc(), &mut reader)?;
-    assert_eq!(rt; bytes.as_slice(), b"done".as_slice());
+    same(&rt, &bytes.as_slice(), &b"done".as_slice());
     Ok(())
 }
 
@@ -165,8 +166,8 @@ fn failed_read(rt: HostRuntime) -> Result<(), Fail> {
     let turns = [Turn::Give(b'd'), Turn::Fail, Turn::Give(b'o')];
     let mut reader = Slow { turns: &turns };
     let read = read_input(rt.alloc(), &mut reader);
-    assert_eq!(rt; read.err(), Some(Refusal::Io));
-    assert_eq!(rt; reader.turns.len(), 1);
+    same(&rt, &read.err(), &Some(Refusal::Io));
+    same(&rt, &reader.turns.len(), &1);
     Ok(())
 }
 
@@ -174,9 +175,9 @@ fn failed_read(rt: HostRuntime) -> Result<(), Fail> {
 fn longest_input(rt: HostRuntime) -> Result<(), Fail> {
     let mut reader = Zeros { left: 16_777_216 };
     let bytes = read_input(rt.alloc(), &mut reader)?;
-    assert_eq!(rt; bytes.len(), 16_777_216);
-    assert_eq!(rt; bytes.len(), MAX_INPUT);
-    assert_eq!(rt; reader.left, 0);
+    same(&rt, &bytes.len(), &16_777_216);
+    same(&rt, &bytes.len(), &MAX_INPUT);
+    same(&rt, &reader.left, &0);
     Ok(())
 }
 
@@ -187,8 +188,8 @@ fn input_past_the_limit(rt: HostRuntime) -> Result<(), Fail> {
             left: 16_777_216 + more,
         };
         let read = read_input(rt.alloc(), &mut reader);
-        assert_eq!(rt; read.err(), Some(Refusal::Io));
-        assert_eq!(rt; reader.left, unread);
+        same(&rt, &read.err(), &Some(Refusal::Io));
+        same(&rt, &reader.left, &unread);
     }
     Ok(())
 }
@@ -197,19 +198,23 @@ fn input_past_the_limit(rt: HostRuntime) -> Result<(), Fail> {
 fn known_bytes(rt: HostRuntime) -> Result<(), Fail> {
     let mut reader = b"begin\ncommit\n".as_slice();
     let bytes = read_input(rt.alloc(), &mut reader)?;
-    assert_eq!(rt; bytes.as_slice(), b"begin\ncommit\n".as_slice());
+    same(&rt, &bytes.as_slice(), &b"begin\ncommit\n".as_slice());
     let mut copy = Vec::new(rt.alloc());
     write_text(&mut copy, bytes.as_slice())?;
-    assert_eq!(rt; copy.as_slice(), b"begin\ncommit\n".as_slice());
+    same(&rt, &copy.as_slice(), &b"begin\ncommit\n".as_slice());
     Ok(())
 }
 
 #[test]
 fn one_byte_writer(rt: HostRuntime) -> Result<(), Fail> {
     let mut writer = Narrow::new(rt.alloc(), 5);
-    assert_eq!(rt; write_text(&mut writer, b"opened\n"), Err(Refusal::Io));
-    assert_eq!(rt; writer.taken.as_slice(), b"opene".as_slice());
-    assert_eq!(rt; writer.flushes, 0);
+    same(
+        &rt,
+        &write_text(&mut writer, b"opened\n"),
+        &Err(Refusal::Io),
+    );
+    same(&rt, &writer.taken.as_slice(), &b"opene".as_slice());
+    same(&rt, &writer.flushes, &0);
     Ok(())
 }
 
@@ -217,15 +222,15 @@ fn one_byte_writer(rt: HostRuntime) -> Result<(), Fail> {
 fn narrow_writer_takes_all(rt: HostRuntime) -> Result<(), Fail> {
     let mut writer = Narrow::new(rt.alloc(), 100);
     write_text(&mut writer, b"opened\n")?;
-    assert_eq!(rt; writer.taken.as_slice(), b"opened\n".as_slice());
-    assert_eq!(rt; writer.flushes, 1);
+    same(&rt, &writer.taken.as_slice(), &b"opened\n".as_slice());
+    same(&rt, &writer.flushes, &1);
     Ok(())
 }
 
 #[test]
 fn full_writer(rt: HostRuntime) {
-    assert_eq!(rt; write_text(&mut Full, b"opened\n"), Err(Refusal::Io));
-    assert_eq!(rt; write_text(&mut Full, b""), Ok(()));
+    same(&rt, &write_text(&mut Full, b"opened\n"), &Err(Refusal::Io));
+    same(&rt, &write_text(&mut Full, b""), &Ok(()));
 }
 
 #[test]
@@ -234,10 +239,10 @@ fn failed_flush(rt: HostRuntime) {
         taken: Vec::new(rt.alloc()),
         kinds: &[ErrorKind::BrokenPipe],
     };
-    assert_eq!(rt; write_text(&mut writer, b"done\n"), Err(Refusal::Io));
-    assert_eq!(rt; writer.taken.as_slice(), b"done\n".as_slice());
+    same(&rt, &write_text(&mut writer, b"done\n"), &Err(Refusal::Io));
+    same(&rt, &writer.taken.as_slice(), &b"done\n".as_slice());
     assert!(rt; writer.kinds.is_empty());
-    assert_eq!(rt; flush(&mut writer), Ok(()));
+    same(&rt, &flush(&mut writer), &Ok(()));
 }
 
 #[test]
@@ -246,7 +251,7 @@ fn interrupted_flush(rt: HostRuntime) {
         taken: Vec::new(rt.alloc()),
         kinds: &[ErrorKind::Interrupted, ErrorKind::Interrupted],
     };
-    assert_eq!(rt; write_text(&mut writer, b"done\n"), Ok(()));
-    assert_eq!(rt; writer.taken.as_slice(), b"done\n".as_slice());
+    same(&rt, &write_text(&mut writer, b"done\n"), &Ok(()));
+    same(&rt, &writer.taken.as_slice(), &b"done\n".as_slice());
     assert!(rt; writer.kinds.is_empty());
 }

@@ -1,5 +1,6 @@
 //! Limits, keys and pseudokeys, refusals, and a full set of open transactions.
 
+use crate::checks::{same, same_at};
 use mlt_types::{
     Cell, Key, Limits, Low, Mult, OpenSet, Pseudo, Refusal, ScriptCause, TraceCause, TxId,
 };
@@ -19,15 +20,16 @@ fn limits_out_of_range(rt: HostRuntime) {
     ];
     for (open, ids, pages, depth, ops) in refused {
         let limits = Limits::checked(open, ids, pages, depth, ops);
-        assert_eq!(rt;
-            limits,
-            Err(Refusal::BadLimits),
-            "{open} {ids} {pages} {depth} {ops}"
+        same_at(
+            &rt,
+            &(open, ids, pages, depth, ops),
+            &limits,
+            &Err(Refusal::BadLimits),
         );
     }
-    assert!(rt; Limits::checked(1, 1, 3, 0, 1).is_ok());
+    same(&rt, &Limits::checked(1, 1, 3, 0, 1).is_ok(), &true);
     let greatest = Limits::checked(64, 4_294_967_296, 70_000, 16, 1_024);
-    assert_eq!(rt; greatest, Ok(Limits::program()));
+    same(&rt, &greatest, &Ok(Limits::program()));
 }
 
 #[test]
@@ -41,7 +43,7 @@ fn key_numbers(rt: HostRuntime) {
         (Cell::Element(u16::MAX, u32::MAX), 1_125_899_906_842_623),
     ];
     for (cell, number) in table {
-        assert_eq!(rt; Key::of(&cell).number(), number, "{cell:?}");
+        same_at(&rt, &cell, &Key::of(&cell).number(), &number);
     }
 }
 
@@ -49,7 +51,7 @@ fn key_numbers(rt: HostRuntime) {
 fn pseudokeys(rt: HostRuntime) {
     let mult = [(0, 0x7C15_0000_0000_0000), (1, 0x1A4C_79B9_7F4A_7C15)];
     for (account, bits) in mult {
-        assert_eq!(rt; bits_of(&Mult, account), bits, "account {account}");
+        same_at(&rt, &account, &bits_of(&Mult, account), &bits);
     }
     let low = [
         (0, 0),
@@ -58,7 +60,7 @@ fn pseudokeys(rt: HostRuntime) {
         (65_536, 0),
     ];
     for (account, bits) in low {
-        assert_eq!(rt; bits_of(&Low, account), bits, "account {account}");
+        same_at(&rt, &account, &bits_of(&Low, account), &bits);
     }
 }
 
@@ -89,8 +91,8 @@ fn refusals_by_number(rt: HostRuntime) {
     let mut number = 0u8;
     for (refusal, name) in table {
         number = number.wrapping_add(1);
-        assert_eq!(rt; refusal.number(), number, "{name}");
-        assert!(rt; refusal.name() == name, "{name}");
+        same_at(&rt, &name, &refusal.number(), &number);
+        same(&rt, &refusal.name(), &name);
     }
 }
 
@@ -113,7 +115,7 @@ fn names_of_causes(rt: HostRuntime) {
         (ScriptCause::Unfinished, "Unfinished"),
     ];
     for (cause, name) in script {
-        assert!(rt; cause.name() == name, "{name}");
+        same(&rt, &cause.name(), &name);
     }
     let trace = [
         (TraceCause::Line, "Line"),
@@ -123,31 +125,31 @@ fn names_of_causes(rt: HostRuntime) {
         (TraceCause::Reply, "Reply"),
     ];
     for (cause, name) in trace {
-        assert!(rt; cause.name() == name, "{name}");
+        same(&rt, &cause.name(), &name);
     }
 }
 
 #[test]
 fn set_of_64(rt: HostRuntime) {
     let mut open = OpenSet::new();
-    assert!(rt; open.is_empty());
+    same(&rt, &open.is_empty(), &true);
     for number in 1..=64 {
         assert!(rt; !open.is_full());
         open.insert(TxId(number));
     }
-    assert!(rt; open.is_full());
-    assert_eq!(rt; open.len(), 64);
+    same(&rt, &open.is_full(), &true);
+    same(&rt, &open.len(), &64);
     assert!(rt; open.contains(TxId(64)));
     open.insert(TxId(64));
-    assert_eq!(rt; open.len(), 64);
+    same(&rt, &open.len(), &64);
     open.remove(TxId(65));
-    assert_eq!(rt; open.len(), 64);
+    same(&rt, &open.len(), &64);
     for number in 1..=63 {
         open.remove(TxId(number));
-        assert!(rt; !open.contains(TxId(number)));
+        same(&rt, &open.contains(TxId(number)), &false);
     }
-    assert_eq!(rt; open.len(), 1);
-    assert!(rt; open.contains(TxId(64)));
+    same(&rt, &open.len(), &1);
+    same(&rt, &open.contains(TxId(64)), &true);
     open.remove(TxId(64));
-    assert!(rt; open.is_empty());
+    same(&rt, &open.is_empty(), &true);
 }

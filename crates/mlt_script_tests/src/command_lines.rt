@@ -1,5 +1,6 @@
 //! Command lines, help, statuses and fault lines.
 
+use crate::checks::same;
 use clap::Error;
 use mlt_server::{
     FaultLine, Job, command_line_status, read_words, report_command_line, report_fault, status,
@@ -145,7 +146,7 @@ fn jobs(rt: HostRuntime) -> Result<(), Fail> {
     for (line, wanted) in lines {
         let words = words_of(alloc, line)?;
         let Job::Solo { file } = read_words(alloc, words.as_slice())?;
-        assert_eq!(rt; file.as_str(), wanted);
+        same(&rt, &file.as_str(), &wanted);
     }
     Ok(())
 }
@@ -163,9 +164,9 @@ fn help_and_version(rt: HostRuntime) -> Result<(), Fail> {
     ];
     for (line, wanted) in lines {
         let said = what_is_said(rt.alloc(), line)?.ok_or("a job")?;
-        assert_eq!(rt; said.status, 0);
-        assert_eq!(rt; said.output.as_str(), wanted);
-        assert_eq!(rt; said.errors.as_str(), "");
+        same(&rt, &said.status, &0);
+        same(&rt, &said.output.as_str(), &wanted);
+        same(&rt, &said.errors.as_str(), &"");
     }
     Ok(())
 }
@@ -185,8 +186,8 @@ fn wrong_command_lines(rt: HostRuntime) -> Result<(), Fail> {
     ];
     for (line, text) in lines {
         let said = what_is_said(rt.alloc(), line)?.ok_or("a job")?;
-        assert_eq!(rt; said.status, 2);
-        assert_eq!(rt; said.output.as_str(), "");
+        same(&rt, &said.status, &2);
+        same(&rt, &said.output.as_str(), &"");
         assert!(rt; said.errors.contains(text), "{}", said.errors);
     }
     Ok(())
@@ -197,21 +198,24 @@ fn closed_outputs(rt: HostRuntime) -> Result<(), Fail> {
     let alloc = rt.alloc();
     let mut errors = Vec::new(alloc);
     let asked = error_of(alloc, "--help")?;
-    assert_eq!(rt;
-        report_command_line(&asked, &mut Closed, &mut errors),
-        Err(Refusal::Io)
+    same(
+        &rt,
+        &report_command_line(&asked, &mut Closed, &mut errors),
+        &Err(Refusal::Io),
     );
     assert!(rt; errors.is_empty());
     let mut output = Vec::new(alloc);
     let wrong = error_of(alloc, "play")?;
-    assert_eq!(rt;
-        report_command_line(&wrong, &mut output, &mut Closed),
-        Ok(2)
+    same(
+        &rt,
+        &report_command_line(&wrong, &mut output, &mut Closed),
+        &Ok(2),
     );
     assert!(rt; output.is_empty());
-    assert_eq!(rt;
-        report_fault(&Refusal::Audit, &mut Closed),
-        Err(Refusal::Io)
+    same(
+        &rt,
+        &report_fault(&Refusal::Audit, &mut Closed),
+        &Err(Refusal::Io),
     );
     Ok(())
 }
@@ -221,24 +225,31 @@ fn failed_flushes(rt: HostRuntime) -> Result<(), Fail> {
     let alloc = rt.alloc();
     let broken = [ErrorKind::BrokenPipe];
     let mut errors = Unflushed::new(alloc, &broken);
-    assert_eq!(rt;
-        report_fault(&Refusal::Audit, &mut errors),
-        Err(Refusal::Io)
+    same(
+        &rt,
+        &report_fault(&Refusal::Audit, &mut errors),
+        &Err(Refusal::Io),
     );
-    assert_eq!(rt; errors.taken.as_slice(), b"mltx: 15 Audit\n".as_slice());
+    same(
+        &rt,
+        &errors.taken.as_slice(),
+        &b"mltx: 15 Audit\n".as_slice(),
+    );
     let asked = error_of(alloc, "--version")?;
     let mut output = Unflushed::new(alloc, &broken);
     let mut errors = Unflushed::new(alloc, &broken);
-    assert_eq!(rt;
-        report_command_line(&asked, &mut output, &mut errors),
-        Err(Refusal::Io)
+    same(
+        &rt,
+        &report_command_line(&asked, &mut output, &mut errors),
+        &Err(Refusal::Io),
     );
-    assert_eq!(rt; output.taken.as_slice(), b"mltx 0.1.0\n".as_slice());
+    same(&rt, &output.taken.as_slice(), &b"mltx 0.1.0\n".as_slice());
     let wrong = error_of(alloc, "play")?;
     let mut output = Unflushed::new(alloc, &broken);
-    assert_eq!(rt;
-        report_command_line(&wrong, &mut output, &mut errors),
-        Ok(2)
+    same(
+        &rt,
+        &report_command_line(&wrong, &mut output, &mut errors),
+        &Ok(2),
     );
     assert!(rt; output.taken.is_empty());
     assert!(rt; errors.kinds.is_empty());
@@ -250,16 +261,21 @@ fn interrupted_flushes(rt: HostRuntime) -> Result<(), Fail> {
     let alloc = rt.alloc();
     let interrupted = [ErrorKind::Interrupted];
     let mut errors = Unflushed::new(alloc, &interrupted);
-    assert_eq!(rt; report_fault(&Refusal::Audit, &mut errors), Ok(()));
-    assert_eq!(rt; errors.taken.as_slice(), b"mltx: 15 Audit\n".as_slice());
+    same(&rt, &report_fault(&Refusal::Audit, &mut errors), &Ok(()));
+    same(
+        &rt,
+        &errors.taken.as_slice(),
+        &b"mltx: 15 Audit\n".as_slice(),
+    );
     assert!(rt; errors.kinds.is_empty());
     let asked = error_of(alloc, "--version")?;
     let mut output = Unflushed::new(alloc, &interrupted);
-    assert_eq!(rt;
-        report_command_line(&asked, &mut output, &mut errors),
-        Ok(0)
+    same(
+        &rt,
+        &report_command_line(&asked, &mut output, &mut errors),
+        &Ok(0),
     );
-    assert_eq!(rt; output.taken.as_slice(), b"mltx 0.1.0\n".as_slice());
+    same(&rt, &output.taken.as_slice(), &b"mltx 0.1.0\n".as_slice());
     assert!(rt; output.kinds.is_empty());
     Ok(())
 }
@@ -269,10 +285,11 @@ fn command_line_without_memory(rt: HostRuntime) {
     let mut output = Vec::new(rt.alloc());
     let mut errors = Vec::new(rt.alloc());
     let error = Error::from(AllocError);
-    assert_eq!(rt; command_line_status(&error), 1);
-    assert_eq!(rt;
-        report_command_line(&error, &mut output, &mut errors),
-        Err(Refusal::OutOfMemory)
+    same(&rt, &command_line_status(&error), &1);
+    same(
+        &rt,
+        &report_command_line(&error, &mut output, &mut errors),
+        &Err(Refusal::OutOfMemory),
     );
     assert!(rt; output.is_empty());
     assert!(rt; errors.is_empty());
@@ -309,16 +326,16 @@ fn fault_lines(rt: HostRuntime) -> Result<(), Fail> {
     for (refusal, wanted) in faults {
         let mut errors = Vec::new(rt.alloc());
         report_fault(&refusal, &mut errors)?;
-        assert_eq!(rt; errors.as_slice(), wanted.as_bytes());
+        same(&rt, &errors.as_slice(), &wanted.as_bytes());
         let line = format!(in rt.alloc(); "{}", FaultLine(refusal))?;
-        assert_eq!(rt; line.as_str(), wanted);
+        same(&rt, &line.as_str(), &wanted);
     }
     Ok(())
 }
 
 #[test]
 fn statuses(rt: HostRuntime) {
-    assert_eq!(rt; status(&Ok(())), 0);
-    assert_eq!(rt; status(&Err(Refusal::Io)), 1);
-    assert_eq!(rt; status(&Err(Refusal::OutOfMemory)), 1);
+    same(&rt, &status(&Ok(())), &0);
+    same(&rt, &status(&Err(Refusal::Io)), &1);
+    same(&rt, &status(&Err(Refusal::OutOfMemory)), &1);
 }

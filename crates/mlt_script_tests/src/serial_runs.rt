@@ -1,5 +1,6 @@
 //! Runs one after another, and texts of reports.
 
+use crate::checks::same;
 use mlt_kinds::ObjReply;
 use mlt_script::parse;
 use mlt_serial::{
@@ -20,7 +21,7 @@ fn scripts_run_in_order(rt: HostRuntime) -> Result<(), Fail> {
     let text =
         "begin\nopen 1\nneed deposit 1 5 is done\ncommit\nbegin\nneed withdraw 1 9 is done\nclose 1\ncommit\nbegin\nbalance 1\nabort\n";
     let wanted = "opened\ndone\ncommitted 1\nshort\naborted\nis 5\naborted\n";
-    assert_eq!(rt; report(&rt, text, Form::Solo)?.as_str(), wanted);
+    same(&rt, &report(&rt, text, Form::Solo)?.as_str(), &wanted);
     Ok(())
 }
 
@@ -31,7 +32,7 @@ fn if_else_script(rt: HostRuntime) -> Result<(), Fail> {
     let scripts = parse(rt.alloc(), text)?;
     let report = serial(rt.alloc(), scripts.as_slice())?;
     let outcomes = report.outcomes.as_slice();
-    assert_eq!(rt; outcomes.len(), 1);
+    assert!(rt; outcomes.len() == 1);
     let wanted = [
         ObjReply::Opened,
         ObjReply::Done,
@@ -40,11 +41,11 @@ fn if_else_script(rt: HostRuntime) -> Result<(), Fail> {
         ObjReply::Closed,
     ];
     let told = outcomes[0].done.as_slice();
-    assert_eq!(rt; told.len(), wanted.len());
+    same(&rt, &told.len(), &wanted.len());
     for (done, reply) in told.iter().zip(wanted) {
-        assert_eq!(rt; done.reply(), reply);
+        same(&rt, &done.reply(), &reply);
     }
-    assert!(rt; outcomes[0].end == End::Committed(1));
+    same(&rt, &outcomes[0].end, &End::Committed(1));
     Ok(())
 }
 
@@ -53,7 +54,7 @@ fn reports_name_scripts_by_client(rt: HostRuntime) -> Result<(), Fail> {
     let text = "begin 3\nopen 1\ncommit\nbegin\ndeposit 1 5\ncommit\nbegin 3\nclose 1\nabort\n";
     let wanted =
         "client 3 script 1\nopened\ncommitted 1\nclient 0 script 1\ndone\ncommitted 2\nclient 3 script 2\nnotempty\naborted\naccount 1 5\n";
-    assert_eq!(rt; report(&rt, text, Form::Run)?.as_str(), wanted);
+    same(&rt, &report(&rt, text, Form::Run)?.as_str(), &wanted);
     Ok(())
 }
 
@@ -64,14 +65,14 @@ fn aborted_scripts_leave_nothing(rt: HostRuntime) -> Result<(), Fail> {
         b"begin\nopen 1\nopen 2\nabort\nbegin\nopen 2\ncommit\n",
     )?;
     let report = serial_with_marks(rt.alloc(), scripts.as_slice())?;
-    assert_eq!(rt; report.base.balance(1), None);
-    assert_eq!(rt; report.base.balance(2), Some(0));
-    assert_eq!(rt; report.events, 0);
+    same(&rt, &report.base.balance(1), &None);
+    same(&rt, &report.base.balance(2), &Some(0));
+    same(&rt, &report.events, &0);
     let outcomes = report.outcomes.as_slice();
-    assert_eq!(rt; outcomes.len(), 2);
-    assert!(rt; outcomes[0].end == End::Aborted);
-    assert!(rt; outcomes[1].end == End::Committed(1));
-    assert_eq!(rt; outcomes[1].tx, 0);
+    assert!(rt; outcomes.len() == 2);
+    same(&rt, &outcomes[0].end, &End::Aborted);
+    same(&rt, &outcomes[1].end, &End::Committed(1));
+    same(&rt, &outcomes[1].tx, &0);
     Ok(())
 }
 
@@ -94,9 +95,10 @@ fn refused_scripts_are_told_so(rt: HostRuntime) -> Result<(), Fail> {
     };
     let mut written = Vec::new(rt.alloc());
     write_report(rt.alloc(), &report, Form::Solo, &mut written)?;
-    assert_eq!(rt;
-        written.as_slice(),
-        b"refused 7 TooManyOpen\naborted\n".as_slice()
+    same(
+        &rt,
+        &written.as_slice(),
+        &b"refused 7 TooManyOpen\naborted\n".as_slice(),
     );
     Ok(())
 }

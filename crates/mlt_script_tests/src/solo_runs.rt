@@ -2,6 +2,7 @@
 
 ghost use Rattle.std.specs.Prelude.{◌≤◌};
 
+use crate::checks::same;
 use mlt_server::solo;
 use mlt_types::{Refusal, ScriptCause};
 use std::io;
@@ -139,7 +140,7 @@ fn if_else_script(rt: HostRuntime) -> Result<(), Fail> {
     assert!(rt; is_solo(&rt, IF_ELSE, wanted)?);
     let scripts = mlt_script::parse(rt.alloc(), IF_ELSE)?;
     let text = mlt_print::print(rt.alloc(), scripts.as_slice())?;
-    assert_eq!(rt; text.as_bytes(), IF_ELSE);
+    same(&rt, &text.as_bytes(), &IF_ELSE);
     Ok(())
 }
 
@@ -154,14 +155,20 @@ fn sets_and_counters(rt: HostRuntime) -> Result<(), Fail> {
 
 #[test]
 fn script_faults(rt: HostRuntime) -> Result<(), Fail> {
-    assert_eq!(rt; fault(&rt, b"open 1\n"), Some((1, ScriptCause::Place)));
-    assert_eq!(rt;
-        fault(&rt, b"begin\ndeposit 1\ncommit\n"),
-        Some((2, ScriptCause::Words))
+    same(
+        &rt,
+        &fault(&rt, b"open 1\n"),
+        &Some((1, ScriptCause::Place)),
     );
-    assert_eq!(rt;
-        fault(&rt, b"begin\nif has 4 9 is yes\n"),
-        Some((2, ScriptCause::Unfinished))
+    same(
+        &rt,
+        &fault(&rt, b"begin\ndeposit 1\ncommit\n"),
+        &Some((2, ScriptCause::Words)),
+    );
+    same(
+        &rt,
+        &fault(&rt, b"begin\nif has 4 9 is yes\n"),
+        &Some((2, ScriptCause::Unfinished)),
     );
     let unended = b"begin\nneed read 7 is 1\ncommit";
     assert!(rt; is_solo(&rt, unended, b"is 0\naborted\n")?);
@@ -182,11 +189,19 @@ fn spaced_begin(rt: &HostRuntime, spaces: usize) -> Result<Vec<u8>, Fail> {
 #[test]
 fn line_limits(rt: HostRuntime) -> Result<(), Fail> {
     let longest = spaced_begin(&rt, 195)?;
-    assert_eq!(rt; fault(&rt, &longest), Some((1, ScriptCause::Unfinished)));
+    same(
+        &rt,
+        &fault(&rt, &longest),
+        &Some((1, ScriptCause::Unfinished)),
+    );
     let longer = spaced_begin(&rt, 196)?;
-    assert_eq!(rt; fault(&rt, &longer), Some((1, ScriptCause::Line)));
+    same(&rt, &fault(&rt, &longer), &Some((1, ScriptCause::Line)));
     assert!(rt; is_solo(&rt, b"#\xFF\n", b"")?);
-    assert_eq!(rt; fault(&rt, b"open \xFF\n"), Some((1, ScriptCause::Line)));
+    same(
+        &rt,
+        &fault(&rt, b"open \xFF\n"),
+        &Some((1, ScriptCause::Line)),
+    );
     Ok(())
 }
 
@@ -195,8 +210,8 @@ fn one_byte_writer(rt: HostRuntime) {
     let mut input = FIRST_RUN;
     let mut writer = OneByte::new(5);
     let result = solo(rt.alloc(), &mut input, &mut writer);
-    assert_eq!(rt; result, Err(Refusal::Io));
-    assert_eq!(rt; writer.written(), b"opene".as_slice());
+    same(&rt, &result, &Err(Refusal::Io));
+    same(&rt, &writer.written(), &b"opene".as_slice());
 }
 
 #[test]
@@ -209,8 +224,8 @@ fn failing_flush(rt: HostRuntime) {
         let mut input = FIRST_RUN;
         let mut writer = OneByte::new(64);
         writer.flush = Some(kind);
-        assert_eq!(rt; solo(rt.alloc(), &mut input, &mut writer), wanted);
-        assert_eq!(rt; writer.written(), FIRST_TEXT);
+        same(&rt, &solo(rt.alloc(), &mut input, &mut writer), &wanted);
+        same(&rt, &writer.written(), &FIRST_TEXT);
         assert!(rt; writer.flush.is_none());
     }
 }
@@ -220,8 +235,8 @@ fn failing_reader(rt: HostRuntime) {
     let mut reader = Failing { rest: FIRST_RUN };
     let mut writer = OneByte::new(64);
     let result = solo(rt.alloc(), &mut reader, &mut writer);
-    assert_eq!(rt; result, Err(Refusal::Io));
-    assert_eq!(rt; writer.written(), b"".as_slice());
+    same(&rt, &result, &Err(Refusal::Io));
+    same(&rt, &writer.written(), &b"".as_slice());
 }
 
 /// Whatever growth is refused, the answer is a refusal with nothing written, or the script's own refusal
@@ -243,8 +258,8 @@ fn refused_growths(rt: HostRuntime) {
             assert!(rt; written == FIRST_TEXT || marked.iter().any(|text| *text == written));
         }
         Err(refusal) => {
-            assert_eq!(rt; refusal, Refusal::OutOfMemory);
-            assert_eq!(rt; written, b"".as_slice());
+            same(&rt, &refusal, &Refusal::OutOfMemory);
+            same(&rt, &written, &b"".as_slice());
         }
     }
 }
