@@ -11,27 +11,29 @@ use std::test::Fail;
 
 const MOST: u64 = 1_000_000_000_000_000_000;
 
+// Operations on one account in turn, with the replies and the balances after them.
+const ON_AN_ACCOUNT: [(AccountOp, ObjReply, Option<u64>); 15] = [
+    (AccountOp::Balance, ObjReply::Missing, None),
+    (AccountOp::Deposit(0), ObjReply::Missing, None),
+    (AccountOp::Open, ObjReply::Opened, Some(0)),
+    (AccountOp::Open, ObjReply::Exists, Some(0)),
+    (AccountOp::Deposit(u64::MAX), ObjReply::Over, Some(0)),
+    (AccountOp::Deposit(MOST), ObjReply::Done, Some(MOST)),
+    (AccountOp::Deposit(1), ObjReply::Over, Some(MOST)),
+    (AccountOp::Close, ObjReply::NotEmpty, Some(MOST)),
+    (AccountOp::Balance, ObjReply::Is(MOST), Some(MOST)),
+    (AccountOp::Withdraw(MOST - 5), ObjReply::Done, Some(5)),
+    (AccountOp::Withdraw(6), ObjReply::Short, Some(5)),
+    (AccountOp::Withdraw(5), ObjReply::Done, Some(0)),
+    (AccountOp::Close, ObjReply::Closed, None),
+    (AccountOp::Close, ObjReply::Missing, None),
+    (AccountOp::Withdraw(0), ObjReply::Missing, None),
+];
+
 #[test]
 fn operations_in_order(rt: HostRuntime) -> Result<(), Fail> {
     let mut base = Base::new(rt.alloc());
-    let asked = [
-        (AccountOp::Balance, ObjReply::Missing, None),
-        (AccountOp::Deposit(0), ObjReply::Missing, None),
-        (AccountOp::Open, ObjReply::Opened, Some(0)),
-        (AccountOp::Open, ObjReply::Exists, Some(0)),
-        (AccountOp::Deposit(u64::MAX), ObjReply::Over, Some(0)),
-        (AccountOp::Deposit(MOST), ObjReply::Done, Some(MOST)),
-        (AccountOp::Deposit(1), ObjReply::Over, Some(MOST)),
-        (AccountOp::Close, ObjReply::NotEmpty, Some(MOST)),
-        (AccountOp::Balance, ObjReply::Is(MOST), Some(MOST)),
-        (AccountOp::Withdraw(MOST - 5), ObjReply::Done, Some(5)),
-        (AccountOp::Withdraw(6), ObjReply::Short, Some(5)),
-        (AccountOp::Withdraw(5), ObjReply::Done, Some(0)),
-        (AccountOp::Close, ObjReply::Closed, None),
-        (AccountOp::Close, ObjReply::Missing, None),
-        (AccountOp::Withdraw(0), ObjReply::Missing, None),
-    ];
-    for (op, reply, balance) in asked {
+    for (op, reply, balance) in ON_AN_ACCOUNT {
         same_at(&rt, &op, &base.apply(&ObjOp::Account(7, op)), &Ok(reply));
         same_at(&rt, &op, &base.balance(7), &balance);
         same_at(&rt, &op, &base.balance(8), &None);
@@ -39,19 +41,21 @@ fn operations_in_order(rt: HostRuntime) -> Result<(), Fail> {
     Ok(())
 }
 
+// Operations on one element in turn, with the replies, and whether it is there after them.
+const ON_AN_ELEMENT: [(ElementOp, ObjReply, bool); 7] = [
+    (ElementOp::Has, ObjReply::No, false),
+    (ElementOp::Remove, ObjReply::Absent, false),
+    (ElementOp::Add, ObjReply::Added, true),
+    (ElementOp::Add, ObjReply::Present, true),
+    (ElementOp::Has, ObjReply::Yes, true),
+    (ElementOp::Remove, ObjReply::Removed, false),
+    (ElementOp::Has, ObjReply::No, false),
+];
+
 #[test]
 fn elements_in_order(rt: HostRuntime) -> Result<(), Fail> {
     let mut base = Base::new(rt.alloc());
-    let asked = [
-        (ElementOp::Has, ObjReply::No, false),
-        (ElementOp::Remove, ObjReply::Absent, false),
-        (ElementOp::Add, ObjReply::Added, true),
-        (ElementOp::Add, ObjReply::Present, true),
-        (ElementOp::Has, ObjReply::Yes, true),
-        (ElementOp::Remove, ObjReply::Removed, false),
-        (ElementOp::Has, ObjReply::No, false),
-    ];
-    for (op, reply, present) in asked {
+    for (op, reply, present) in ON_AN_ELEMENT {
         same_at(&rt, &op, &base.apply(&ObjOp::Element(4, 9, op)), &Ok(reply));
         same_at(&rt, &op, &base.has(4, 9), &present);
         same_at(&rt, &op, &base.has(9, 4), &false);
@@ -59,20 +63,22 @@ fn elements_in_order(rt: HostRuntime) -> Result<(), Fail> {
     Ok(())
 }
 
+// Operations on one counter in turn, with the replies and the values after them.
+const ON_A_COUNTER: [(CounterOp, ObjReply, u64); 8] = [
+    (CounterOp::Read, ObjReply::Is(0), 0),
+    (CounterOp::Up(0), ObjReply::Done, 0),
+    (CounterOp::Down(1), ObjReply::Done, u64::MAX),
+    (CounterOp::Read, ObjReply::Is(u64::MAX), u64::MAX),
+    (CounterOp::Up(1), ObjReply::Done, 0),
+    (CounterOp::Up(u64::MAX), ObjReply::Done, u64::MAX),
+    (CounterOp::Up(6), ObjReply::Done, 5),
+    (CounterOp::Down(6), ObjReply::Done, u64::MAX),
+];
+
 #[test]
 fn counters_in_order(rt: HostRuntime) -> Result<(), Fail> {
     let mut base = Base::new(rt.alloc());
-    let asked = [
-        (CounterOp::Read, ObjReply::Is(0), 0),
-        (CounterOp::Up(0), ObjReply::Done, 0),
-        (CounterOp::Down(1), ObjReply::Done, u64::MAX),
-        (CounterOp::Read, ObjReply::Is(u64::MAX), u64::MAX),
-        (CounterOp::Up(1), ObjReply::Done, 0),
-        (CounterOp::Up(u64::MAX), ObjReply::Done, u64::MAX),
-        (CounterOp::Up(6), ObjReply::Done, 5),
-        (CounterOp::Down(6), ObjReply::Done, u64::MAX),
-    ];
-    for (op, reply, value) in asked {
+    for (op, reply, value) in ON_A_COUNTER {
         same_at(&rt, &op, &base.apply(&ObjOp::Counter(7, op)), &Ok(reply));
         same_at(&rt, &op, &base.value(7), &value);
         same_at(&rt, &op, &base.value(8), &0);

@@ -11,70 +11,79 @@ use mlt_types::Cell;
 use std::alloc::AllocError;
 use std::process::Abort;
 
+// Operations and their texts.
+const OPERATIONS: [(ObjOp, &str); 11] = [
+    (ObjOp::Account(u32::MAX, AccountOp::Open), "open 4294967295"),
+    (
+        ObjOp::Account(u32::MAX, AccountOp::Close),
+        "close 4294967295",
+    ),
+    (
+        ObjOp::Account(u32::MAX, AccountOp::Deposit(0)),
+        "deposit 4294967295 0",
+    ),
+    (
+        ObjOp::Account(u32::MAX, AccountOp::Withdraw(u64::MAX)),
+        "withdraw 4294967295 18446744073709551615",
+    ),
+    (
+        ObjOp::Account(u32::MAX, AccountOp::Balance),
+        "balance 4294967295",
+    ),
+    (
+        ObjOp::Element(u16::MAX, u32::MAX, ElementOp::Add),
+        "add 65535 4294967295",
+    ),
+    (
+        ObjOp::Element(u16::MAX, u32::MAX, ElementOp::Remove),
+        "remove 65535 4294967295",
+    ),
+    (
+        ObjOp::Element(u16::MAX, u32::MAX, ElementOp::Has),
+        "has 65535 4294967295",
+    ),
+    (
+        ObjOp::Counter(u32::MAX, CounterOp::Up(0)),
+        "up 4294967295 0",
+    ),
+    (
+        ObjOp::Counter(u32::MAX, CounterOp::Down(u64::MAX)),
+        "down 4294967295 18446744073709551615",
+    ),
+    (ObjOp::Counter(u32::MAX, CounterOp::Read), "read 4294967295"),
+];
+
 #[test]
 fn texts_of_operations(rt: HostRuntime) -> Result<(), AllocError> {
-    let most = u32::MAX;
-    let table = [
-        (ObjOp::Account(most, AccountOp::Open), "open 4294967295"),
-        (ObjOp::Account(most, AccountOp::Close), "close 4294967295"),
-        (
-            ObjOp::Account(most, AccountOp::Deposit(0)),
-            "deposit 4294967295 0",
-        ),
-        (
-            ObjOp::Account(most, AccountOp::Withdraw(u64::MAX)),
-            "withdraw 4294967295 18446744073709551615",
-        ),
-        (
-            ObjOp::Account(most, AccountOp::Balance),
-            "balance 4294967295",
-        ),
-        (
-            ObjOp::Element(u16::MAX, most, ElementOp::Add),
-            "add 65535 4294967295",
-        ),
-        (
-            ObjOp::Element(u16::MAX, most, ElementOp::Remove),
-            "remove 65535 4294967295",
-        ),
-        (
-            ObjOp::Element(u16::MAX, most, ElementOp::Has),
-            "has 65535 4294967295",
-        ),
-        (ObjOp::Counter(most, CounterOp::Up(0)), "up 4294967295 0"),
-        (
-            ObjOp::Counter(most, CounterOp::Down(u64::MAX)),
-            "down 4294967295 18446744073709551615",
-        ),
-        (ObjOp::Counter(most, CounterOp::Read), "read 4294967295"),
-    ];
-    for (op, text) in table {
+    for (op, text) in OPERATIONS {
         let printed = format!(in rt.alloc(); "{op}")?;
         same(&rt, &printed.as_str(), &text);
     }
     Ok(())
 }
 
+// Replies and their texts.
+const REPLIES: [(ObjReply, &str); 15] = [
+    (ObjReply::Opened, "opened"),
+    (ObjReply::Exists, "exists"),
+    (ObjReply::Closed, "closed"),
+    (ObjReply::NotEmpty, "notempty"),
+    (ObjReply::Done, "done"),
+    (ObjReply::Over, "over"),
+    (ObjReply::Short, "short"),
+    (ObjReply::Missing, "missing"),
+    (ObjReply::Added, "added"),
+    (ObjReply::Present, "present"),
+    (ObjReply::Removed, "removed"),
+    (ObjReply::Absent, "absent"),
+    (ObjReply::Yes, "yes"),
+    (ObjReply::No, "no"),
+    (ObjReply::Is(50), "is 50"),
+];
+
 #[test]
 fn texts_of_replies(rt: HostRuntime) -> Result<(), AllocError> {
-    let table = [
-        (ObjReply::Opened, "opened"),
-        (ObjReply::Exists, "exists"),
-        (ObjReply::Closed, "closed"),
-        (ObjReply::NotEmpty, "notempty"),
-        (ObjReply::Done, "done"),
-        (ObjReply::Over, "over"),
-        (ObjReply::Short, "short"),
-        (ObjReply::Missing, "missing"),
-        (ObjReply::Added, "added"),
-        (ObjReply::Present, "present"),
-        (ObjReply::Removed, "removed"),
-        (ObjReply::Absent, "absent"),
-        (ObjReply::Yes, "yes"),
-        (ObjReply::No, "no"),
-        (ObjReply::Is(50), "is 50"),
-    ];
-    for (reply, text) in table {
+    for (reply, text) in REPLIES {
         let printed = format!(in rt.alloc(); "{reply}")?;
         same(&rt, &printed.as_str(), &text);
     }

@@ -5,20 +5,22 @@ use mlt_types::{
     Cell, Key, Limits, Low, Mult, OpenSet, Pseudo, Refusal, ScriptCause, TraceCause, TxId,
 };
 
+// Limits of which one is out of its range.
+const OUT_OF_RANGE: [(u32, u64, u32, u32, u32); 9] = [
+    (0, 1, 3, 0, 1),
+    (65, 1, 3, 0, 1),
+    (1, 0, 3, 0, 1),
+    (1, 4_294_967_297, 3, 0, 1),
+    (1, 1, 2, 0, 1),
+    (1, 1, 70_001, 0, 1),
+    (1, 1, 3, 17, 1),
+    (1, 1, 3, 0, 0),
+    (1, 1, 3, 0, 1_025),
+];
+
 #[test]
 fn limits_out_of_range(rt: HostRuntime) {
-    let refused = [
-        (0, 1, 3, 0, 1),
-        (65, 1, 3, 0, 1),
-        (1, 0, 3, 0, 1),
-        (1, 4_294_967_297, 3, 0, 1),
-        (1, 1, 2, 0, 1),
-        (1, 1, 70_001, 0, 1),
-        (1, 1, 3, 17, 1),
-        (1, 1, 3, 0, 0),
-        (1, 1, 3, 0, 1_025),
-    ];
-    for (open, ids, pages, depth, ops) in refused {
+    for (open, ids, pages, depth, ops) in OUT_OF_RANGE {
         let limits = Limits::checked(open, ids, pages, depth, ops);
         same_at(
             &rt,
@@ -32,17 +34,19 @@ fn limits_out_of_range(rt: HostRuntime) {
     same(&rt, &greatest, &Ok(Limits::program()));
 }
 
+// Cells and their key numbers.
+const KEYS: [(Cell, u64); 6] = [
+    (Cell::Account(0), 281_474_976_710_656),
+    (Cell::Account(u32::MAX), 281_479_271_677_951),
+    (Cell::Counter(7), 562_949_953_421_319),
+    (Cell::Element(0, 0), 844_424_930_131_968),
+    (Cell::Element(2, 5), 844_433_520_066_565),
+    (Cell::Element(u16::MAX, u32::MAX), 1_125_899_906_842_623),
+];
+
 #[test]
 fn key_numbers(rt: HostRuntime) {
-    let table = [
-        (Cell::Account(0), 281_474_976_710_656),
-        (Cell::Account(u32::MAX), 281_479_271_677_951),
-        (Cell::Counter(7), 562_949_953_421_319),
-        (Cell::Element(0, 0), 844_424_930_131_968),
-        (Cell::Element(2, 5), 844_433_520_066_565),
-        (Cell::Element(u16::MAX, u32::MAX), 1_125_899_906_842_623),
-    ];
-    for (cell, number) in table {
+    for (cell, number) in KEYS {
         same_at(&rt, &cell, &Key::of(&cell).number(), &number);
     }
 }
@@ -68,63 +72,71 @@ fn bits_of<P: Pseudo>(pseudo: &P, account: u32) -> u64 {
     pseudo.bits(&Key::of(&Cell::Account(account)))
 }
 
+const SCRIPT_FAULT: Refusal = Refusal::ScriptFault {
+    line: 2,
+    cause: ScriptCause::Words,
+};
+
+const TRACE_FAULT: Refusal = Refusal::TraceFault {
+    line: 2,
+    cause: TraceCause::Words,
+};
+
+// The refusals in the order of their numbers, from 1.
+const REFUSALS: [(Refusal, &str); 16] = [
+    (Refusal::OutOfMemory, "OutOfMemory"),
+    (Refusal::NoRoom, "NoRoom"),
+    (Refusal::NoSuchTx, "NoSuchTx"),
+    (Refusal::Undoing, "Undoing"),
+    (Refusal::Running, "Running"),
+    (Refusal::NotRunning, "NotRunning"),
+    (Refusal::TooManyOpen, "TooManyOpen"),
+    (Refusal::LogFull, "LogFull"),
+    (Refusal::IdsSpent, "IdsSpent"),
+    (SCRIPT_FAULT, "ScriptFault"),
+    (TRACE_FAULT, "TraceFault"),
+    (Refusal::LineTooLong, "LineTooLong"),
+    (Refusal::Io, "Io"),
+    (Refusal::GaveUp, "GaveUp"),
+    (Refusal::Audit, "Audit"),
+    (Refusal::BadLimits, "BadLimits"),
+];
+
 #[test]
 fn refusals_by_number(rt: HostRuntime) {
-    let table = [
-        (Refusal::OutOfMemory, "OutOfMemory"),
-        (Refusal::NoRoom, "NoRoom"),
-        (Refusal::NoSuchTx, "NoSuchTx"),
-        (Refusal::Undoing, "Undoing"),
-        (Refusal::Running, "Running"),
-        (Refusal::NotRunning, "NotRunning"),
-        (Refusal::TooManyOpen, "TooManyOpen"),
-        (Refusal::LogFull, "LogFull"),
-        (Refusal::IdsSpent, "IdsSpent"),
-        (script_fault(ScriptCause::Words), "ScriptFault"),
-        (trace_fault(TraceCause::Words), "TraceFault"),
-        (Refusal::LineTooLong, "LineTooLong"),
-        (Refusal::Io, "Io"),
-        (Refusal::GaveUp, "GaveUp"),
-        (Refusal::Audit, "Audit"),
-        (Refusal::BadLimits, "BadLimits"),
-    ];
     let mut number = 0u8;
-    for (refusal, name) in table {
+    for (refusal, name) in REFUSALS {
         number = number.wrapping_add(1);
         same_at(&rt, &name, &refusal.number(), &number);
         same(&rt, &refusal.name(), &name);
     }
 }
 
-fn script_fault(cause: ScriptCause) -> Refusal {
-    Refusal::ScriptFault { line: 2, cause }
-}
+// Causes of faults of scripts, and their names.
+const SCRIPT_CAUSES: [(ScriptCause, &str); 6] = [
+    (ScriptCause::Line, "Line"),
+    (ScriptCause::Words, "Words"),
+    (ScriptCause::Place, "Place"),
+    (ScriptCause::Deep, "Deep"),
+    (ScriptCause::Long, "Long"),
+    (ScriptCause::Unfinished, "Unfinished"),
+];
 
-fn trace_fault(cause: TraceCause) -> Refusal {
-    Refusal::TraceFault { line: 2, cause }
-}
+// Causes of faults of traces, and their names.
+const TRACE_CAUSES: [(TraceCause, &str); 5] = [
+    (TraceCause::Line, "Line"),
+    (TraceCause::Cut, "Cut"),
+    (TraceCause::Words, "Words"),
+    (TraceCause::Place, "Place"),
+    (TraceCause::Reply, "Reply"),
+];
 
 #[test]
 fn names_of_causes(rt: HostRuntime) {
-    let script = [
-        (ScriptCause::Line, "Line"),
-        (ScriptCause::Words, "Words"),
-        (ScriptCause::Place, "Place"),
-        (ScriptCause::Deep, "Deep"),
-        (ScriptCause::Long, "Long"),
-        (ScriptCause::Unfinished, "Unfinished"),
-    ];
-    for (cause, name) in script {
+    for (cause, name) in SCRIPT_CAUSES {
         same(&rt, &cause.name(), &name);
     }
-    let trace = [
-        (TraceCause::Line, "Line"),
-        (TraceCause::Cut, "Cut"),
-        (TraceCause::Words, "Words"),
-        (TraceCause::Place, "Place"),
-        (TraceCause::Reply, "Reply"),
-    ];
-    for (cause, name) in trace {
+    for (cause, name) in TRACE_CAUSES {
         same(&rt, &cause.name(), &name);
     }
 }
