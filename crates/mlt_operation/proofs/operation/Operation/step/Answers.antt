@@ -3,7 +3,7 @@ use Rattle.mlt_held.specs.Moments.{Moment, moment}
 use Rattle.mlt_hash.specs.Walks.{Basis, WalkFields, basis_by}
 use Rattle.mlt_hash.specs.Splitting.{HasToMake, TellsAt}
 use Rattle.mlt_held.specs.PageSteps.{HasNoPageLeft}
-use Rattle.mlt_held.proofs.Others.{step_keeps_tx}
+use Rattle.mlt_held.proofs.OwnSteps.{step_keeps_tx}
 use Rattle.mlt_types.specs.declared.refusal.Refusal.TheVariants as refusal
 use Rattle.mlt_kinds.specs.declared.operation.ObjReply.{ObjReply}
 use Rattle.mlt_base.specs.declared.record.RecChange.{RecChange}
