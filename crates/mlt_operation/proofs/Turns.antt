@@ -68,7 +68,7 @@ pub two_steps_turn : (basis : Basis) (old mid new : Moment) (walk at : WalkField
     → Leaves mid new → (q : ℕ) × WritesAtMost mid new q → TakesTurn old new
 two_steps_turn basis old mid new walk at may leaves may_mid none more writes =
     let stored : mid.store ≡ old.store = touch_keeps_store old mid may.may leaves.touches none in
-    let tx : mid.running.tx ≡ old.running.tx = step_keeps_tx old mid may.may leaves.touches in
+    let tx : mid.running.tx ≡ old.running.tx = step_keeps_tx old mid leaves.touches in
     record {
       mid = mid;
       first = leaves.touches;

@@ -27,7 +27,7 @@ act_on-requires g c =
     let same = ap (λ (o : OperationFields). o.reply) c.self.view_is in
     let tells : TellsAt before.walk.phase basis old mid before.walk c.advance.new.self (answer.Found c.in-Found.found) =
     subst (λ (w : WalkFields). TellsAt w.phase basis old mid w c.advance.new.self (answer.Found c.in-Found.found)) walk_is c.in-Found.ensures.tells in
-    let tx : mid.running.tx ≡ old.running.tx = step_keeps_tx old mid c.requires.ready.walks.may c.in-Found.ensures.leaves.touches in
+    let tx : mid.running.tx ≡ old.running.tx = step_keeps_tx old mid c.in-Found.ensures.leaves.touches in
     let at : OperationFields = record { request = c.self.inside.request; reply = c.self.inside.reply; walk = c.advance.new.self } in
     let decides = may_decide basis old mid before at c.in-Found.found c.requires.ready c.in-Found.ensures.leaves tells request same in
     record { ready = subst (λ (t : ℕ). MayDecide (basis_by g.P.Pseudo.bits_of c.args.root.now c.args.opens.now t) mid at c.in-Found.found) (sym tx) decides }
@@ -70,7 +70,7 @@ returns-in-Found g c =
     let tells : TellsAt before.walk.phase basis old mid before.walk c.advance.new.self (answer.Found c.in-Found.found) =
     subst (λ (w : WalkFields). TellsAt w.phase basis old mid w c.advance.new.self (answer.Found c.in-Found.found)) walk_is c.in-Found.ensures.tells in
     let new : Moment = moment c.act_on.new.subtx c.act_on.new.pages in
-    let tx : mid.running.tx ≡ old.running.tx = step_keeps_tx old mid c.requires.ready.walks.may c.in-Found.ensures.leaves.touches in
+    let tx : mid.running.tx ≡ old.running.tx = step_keeps_tx old mid c.in-Found.ensures.leaves.touches in
     let at : OperationFields = record { request = c.self.inside.request; reply = c.self.inside.reply; walk = c.advance.new.self } in
     let at_bucket : TellsAtBucket basis mid new at c.act_on.new.self c.act_on.result =
     subst (λ (t : ℕ). TellsAtBucket (basis_by g.P.Pseudo.bits_of c.args.root.now c.args.opens.now t) mid new at c.act_on.new.self c.act_on.result) tx c.act_on.ensures.tells in
