@@ -1,0 +1,4 @@
+pub mod Splitting
+pub mod Growing
+pub mod Knowing
+pub mod Going

@@ -1,0 +1,6 @@
+pub mod Words
+pub mod Readings
+pub mod Traces
+pub mod Replaying
+pub mod Checkers
+pub mod Answering

@@ -1,0 +1,11 @@
+//! The check of a trace: whether its committed transactions, run alone in the order of their commits, give
+//! the replies that they were told.
+#![tactic(auto)]
+
+mod checker;
+mod open_tx;
+mod reading;
+mod trace_check;
+mod words;
+
+pub use trace_check::{Order, check};

@@ -1,0 +1,88 @@
+//! What a line of a trace says.
+
+ghost use Rattle.std.specs.Prelude.{◌≡◌};
+ghost use Rattle.mlt_check.specs.Readings.{alone, item_of, item_or_fault, item_with, reading};
+ghost use Rattle.mlt_check.specs.Words.{raw_words};
+
+use crate::words::{done, next_word, positive};
+use mlt_trace::TraceItem;
+use mlt_types::{TraceCause, TxId};
+use mlt_words::{is_allowed_line, trimmed};
+
+/// What a line is by itself.
+#[derive(Clone, Copy)]
+pub enum Reading {
+    /// A fault, which is Line, Cut or Words.
+    Bad(TraceCause),
+    /// An item.
+    Says(TraceItem),
+}
+
+// The item, where no word is left.
+fn last(item: TraceItem, rest: &[u8]) -> Option<TraceItem>
+    ensures { result ≡ alone item (raw_words rest.now) }
+{
+    match next_word(rest) {
+        None => Some(item),
+        Some(_) => None,
+    }
+}
+
+// The item of a line whose first word is this, and which goes on with a transaction's number.
+#[tactic(auto, unfolding(crate::specs::Readings::item_with, mlt_words::specs::Words::words_of))]
+fn item_after(word: &[u8], tx: TxId, rest: &[u8]) -> Option<TraceItem>
+    ensures { result ≡ item_with word.now tx (raw_words rest.now) }
+{
+    if word == b"begin".as_slice() {
+        last(TraceItem::Begin(tx), rest)
+    } else if word == b"op".as_slice() {
+        Some(TraceItem::Op(tx, done(rest)?))
+    } else if word == b"back".as_slice() {
+        last(TraceItem::Back(tx), rest)
+    } else if word == b"commit".as_slice() {
+        let (number, rest) = positive(rest)?;
+        last(TraceItem::Commit(tx, number), rest)
+    } else if word == b"abort".as_slice() {
+        last(TraceItem::Abort(tx), rest)
+    } else {
+        None
+    }
+}
+
+// The item of a line of one of the five forms.
+#[tactic(auto, unfolding(crate::specs::Readings::item_of))]
+fn read_item(line: &[u8]) -> Option<TraceItem>
+    ensures { result ≡ item_of (raw_words line.now) }
+{
+    let (word, rest) = next_word(line)?;
+    let (tx, rest) = positive(rest)?;
+    item_after(word, TxId(tx), rest)
+}
+
+// What the bytes of a line say, without its end.
+fn read_words(line: &[u8]) -> Reading
+    ensures { result ≡ item_or_fault (item_of (raw_words line.now)) }
+{
+    match read_item(line) {
+        Some(item) => Reading::Says(item),
+        None => Reading::Bad(TraceCause::Words),
+    }
+}
+
+/// What a line is, given its bytes before the LF and whether an LF ends it.
+#[tactic(auto, unfolding(crate::specs::Readings::reading))]
+pub fn read_line(bytes: &[u8], ended: bool) -> Reading
+    ensures { result ≡ reading record { bytes = bytes.now; ended = ended } }
+{
+    if bytes.len() > 200 {
+        return Reading::Bad(TraceCause::Line);
+    }
+    let line = if ended { trimmed(bytes) } else { bytes };
+    if !is_allowed_line(line) {
+        return Reading::Bad(TraceCause::Line);
+    }
+    if !ended {
+        return Reading::Bad(TraceCause::Cut);
+    }
+    read_words(line)
+}

@@ -1,0 +1,94 @@
+//! The check of a trace.
+
+ghost use Rattle.std.specs.Prelude.{◌≡◌, ◌≤◌, ◌<◌, ◌⊎◌, ℕ, List, length, Err, IfErr, IfOk, IfSome, IsErrAnd};
+ghost use Rattle.std.specs.Io.KnownBytes.{Consumes, IsAtEnd};
+ghost use Rattle.mlt_types.specs.declared.refusal.TraceCause.{TraceCause};
+ghost use Rattle.mlt_check.specs.Answering.{Answers, TakesLine};
+ghost use Rattle.mlt_check.specs.Traces.{GivesWhole, IsAcceptedTrace, IsFirstFault};
+
+use crate::checker::Checker;
+use crate::reading::{Reading, read_line};
+use mlt_base::Base;
+use mlt_text::read_input;
+use mlt_types::{Refusal, TxId};
+use mlt_words::first_line;
+use std::alloc::Global;
+use std::io::Read;
+
+/// The transactions of a trace that committed, in the order of their commits, and the base that they lead to.
+#[derive(Drop)]
+pub struct Order {
+    /// The transactions, in the order of their commits.
+    pub txs: Vec<TxId>,
+    /// The base after the last of them.
+    pub base: Base,
+}
+
+// Goes over a line.
+fn take_line(
+    checker: &mut Checker,
+    alloc: Global,
+    line: u64,
+    bytes: &[u8],
+    ended: bool,
+) -> Result<(), Refusal>
+    ensures { TakesLine result checker.old checker.new line
+        record { bytes = bytes.now; ended = ended } }
+{
+    match read_line(bytes, ended) {
+        Reading::Bad(cause) => Err(Refusal::TraceFault { line, cause }),
+        Reading::Says(item) => checker.take(alloc, &item, line),
+    }
+}
+
+// The committed order and the base of a text, or its first fault, line by line.
+pub(crate) fn check_text(alloc: Global, text: &[u8]) -> Result<Order, Refusal>
+    ensures { Answers result text.now }
+{
+    let mut checker = Checker::new(alloc);
+    let mut rest = text;
+    let mut line = 0u64;
+    while !rest.is_empty() {
+        let (bytes, ended, after) = first_line(rest);
+        line += 1;
+        take_line(&mut checker, alloc, line, bytes, ended)?;
+        rest = after;
+    }
+    let Checker {
+        running: _,
+        begun: _,
+        txs,
+        base,
+    } = checker;
+    Ok(Order { txs, base })
+}
+
+/// Reads a trace to the end of the input, and answers the committed order and the base that its commits lead
+/// to.
+///
+/// # Errors
+/// `TraceFault` for an input that is no accepted trace, with its first fault; `Io` where a read fails, or the
+/// input has more than 16,777,216 bytes, of which none past the first too many is read; `OutOfMemory` where a
+/// growth was refused.
+pub fn check<R: Read>(alloc: Global, reader: &mut R) -> Result<Order, Refusal>
+    // what is answered is the order and the base of the trace read
+    ensures accepted { IfOk result (λ order. (input : List ℕ)
+        × GivesWhole (R.remaining reader.old) (R.remaining reader.new) input
+        × IsAcceptedTrace input order.txs.items order.base) }
+    // a fault is the first one of the input
+    ensures fault { (line : ℕ) (cause : TraceCause) → result ≡ Err (Refusal.TraceFault line cause)
+        → (input : List ℕ) × GivesWhole (R.remaining reader.old) (R.remaining reader.new) input
+        × IsFirstFault input line cause }
+    // an input that is too long is refused, and not read on
+    ensures long { IfSome (R.remaining reader.old) (λ input. 16777216 < length input
+        → IsErrAnd result (λ refusal. (refusal ≡ Refusal.OutOfMemory) ⊎ (refusal ≡ Refusal.Io))) }
+    ensures bounded { (taken : List ℕ)
+        × Consumes (R.remaining reader.old) (R.remaining reader.new) taken
+        × (length taken ≤ 16777217) }
+    ensures refusals { IfErr result
+        (λ refusal. (refusal ≡ Refusal.OutOfMemory) ⊎ (refusal ≡ Refusal.Io)
+        ⊎ ((line : ℕ) × (cause : TraceCause) × (refusal ≡ Refusal.TraceFault line cause))) }
+{
+    let input = read_input(alloc, reader)?;
+    check_text(alloc, input.as_slice())
+}
