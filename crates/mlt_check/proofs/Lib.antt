@@ -2,3 +2,5 @@ pub mod Splitting
 pub mod Growing
 pub mod Knowing
 pub mod Going
+pub mod Fronts
+pub mod Deciding

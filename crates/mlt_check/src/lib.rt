@@ -3,9 +3,11 @@
 #![tactic(auto)]
 
 mod checker;
+mod laws;
 mod open_tx;
 mod reading;
 mod trace_check;
 mod words;
 
+pub use laws::accepted_traces_have_one_answer;
 pub use trace_check::{Order, check};

@@ -1,0 +1,15 @@
+//! What a text can be answered.
+
+ghost use Rattle.std.specs.Prelude.{◌≡◌, ℕ, List};
+ghost use Rattle.mlt_kinds.specs.Bases.{Base};
+ghost use Rattle.mlt_types.specs.declared.refusal.TraceCause.{TraceCause};
+ghost use Rattle.mlt_check.specs.Traces.{IsAcceptedTrace, IsFirstFault};
+
+/// A text that is an accepted trace is one of one order and one base, and has no fault.
+pub fn accepted_traces_have_one_answer()
+    ensures one { (text txs others : List ℕ) (base other : Base)
+        → IsAcceptedTrace text txs base → IsAcceptedTrace text others other
+        → (txs ≡ others) × (base ≡ other) }
+    ensures no_fault { (text txs : List ℕ) (base : Base) (line : ℕ) (fault : TraceCause)
+        → IsAcceptedTrace text txs base → IsFirstFault text line fault → ⊥ }
+{}
