@@ -1,5 +1,5 @@
 -- A text that is an accepted trace has one answer, and no fault.
-use Rattle.std.proofs.Common.{◌≡◌, ℕ, ◌+◌, List, [], ◌∷◌, ◌++◌, length, refl, sym, ap, subst, ◌∙◌, arith}
+use Rattle.std.proofs.Common.{◌≡◌, ℕ, List, ◌∷◌, ◌++◌, sym, subst, ◌∙◌}
 use Rattle.mlt_types.specs.declared.refusal.TraceCause.{TraceCause}
 use Rattle.mlt_types.specs.declared.refusal.TraceCause.TheVariants as cause
 use Rattle.mlt_kinds.specs.declared.operation.ObjOp.{ObjOp}
@@ -7,13 +7,11 @@ use Rattle.mlt_kinds.specs.declared.operation.ObjReply.{ObjReply}
 use Rattle.mlt_kinds.specs.Bases.{Base, Step}
 use Rattle.mlt_order.specs.Runs.{Runs}
 use Rattle.mlt_order.proofs.RunLemmas.{runs_split, runs_to_one}
-use Rattle.mlt_words.specs.Lines.{Raw, lines}
+use Rattle.mlt_words.specs.Lines.{Raw}
 use Rattle.mlt_trace.specs.declared.item.TraceItem.{TraceItem}
-use Rattle.mlt_trace.specs.declared.item.TraceItem.TheVariants.{Commit}
-use Rattle.mlt_history.specs.Numbers.{committed_txs}
 use Rattle.mlt_check.specs.declared.reading.Reading.TheVariants.{Bad, Says}
 use Rattle.mlt_check.specs.Readings.{reading}
-use Rattle.mlt_check.specs.Traces.{HasFalseReply, HasPlace, IsAcceptedTrace, IsFirstFault, IsFirstFaultOf, IsItemFault, IsLineFault, IsTrace, told}
+use Rattle.mlt_check.specs.Traces.{HasFalseReply, HasPlace, IsFirstFaultOf, IsItemFault, IsLineFault, IsTrace, told}
 use Rattle.mlt_check.proofs.Fronts.{RunsOn, base_functional, one_trace, trace_up_to}
 
 -- no run goes past an operation that is false where it stands

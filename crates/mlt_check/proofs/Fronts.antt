@@ -1,5 +1,5 @@
 -- The front of a trace up to one of its lines.
-use Rattle.std.proofs.Common.{◌≡◌, ℕ, ◌+◌, List, [], ◌∷◌, ◌++◌, length, map, refl, sym, ap, subst, ◌∙◌, append_assoc, arith}
+use Rattle.std.proofs.Common.{◌≡◌, ℕ, List, [], ◌∷◌, ◌++◌, map, refl, sym, ap, subst, ◌∙◌, append_assoc}
 use Rattle.mlt_kinds.specs.declared.operation.ObjOp.{ObjOp}
 use Rattle.mlt_kinds.specs.declared.operation.ObjReply.{ObjReply}
 use Rattle.mlt_kinds.specs.Bases.{Base, Step, empty_base}
@@ -10,12 +10,11 @@ use Rattle.mlt_order.proofs.RunLemmas.{serial_to_one}
 use Rattle.mlt_words.specs.Lines.{Raw}
 use Rattle.mlt_trace.specs.declared.item.TraceItem.{TraceItem}
 use Rattle.mlt_trace.specs.declared.item.TraceItem.TheVariants.{Begin, Op, Back, Commit, Abort}
-use Rattle.mlt_history.specs.Entries.{entries_of, entry_of}
+use Rattle.mlt_history.specs.Entries.{entries_of}
 use Rattle.mlt_history.proofs.ItemLaws.{entries_of-append}
-use Rattle.mlt_check.specs.declared.reading.Reading.{Reading}
-use Rattle.mlt_check.specs.declared.reading.Reading.TheVariants.{Bad, Says}
+use Rattle.mlt_check.specs.declared.reading.Reading.TheVariants.{Says}
 use Rattle.mlt_check.specs.Readings.{reading}
-use Rattle.mlt_check.specs.Traces.{ArePlaced, HasPlace, IsTrace, told}
+use Rattle.mlt_check.specs.Traces.{HasPlace, IsTrace, told}
 use Rattle.mlt_check.proofs.Growing.{append_nil}
 
 pub base_functional : IsFunctional Step
@@ -84,7 +83,7 @@ front_serial : (front rest : List TraceItem) (base : Base) → IsSerialBase Step
 front_serial front rest base h =
     let more = committed_more rest (told front) in
     let parts = serial_split (told front).committed more.0 empty_base base
-        (subst (λ ts. IsSerialBase Step empty_base ts base) (ap (λ (l : Lists (ObjOp × ObjReply)). l.committed) (told-append front rest) ∙ more.1) h) in
+    (subst (λ ts. IsSerialBase Step empty_base ts base) (ap (λ (l : Lists (ObjOp × ObjReply)). l.committed) (told-append front rest) ∙ more.1) h) in
     (parts.0, parts.1)
 
 commit_runs : (front rest : List TraceItem) (tx number : ℕ) (base middle : Base) → IsSerialBase Step empty_base (told (front ++ Commit tx number ∷ rest)).committed base
@@ -92,8 +91,8 @@ commit_runs : (front rest : List TraceItem) (tx number : ℕ) (base middle : Bas
 commit_runs front rest tx number base middle h serial =
     let more = committed_more rest (after_entry (told front) (Entry.Committed tx)) in
     let parts = serial_split (told front).committed ((told front).transcripts tx ∷ more.0) empty_base base
-        (subst (λ ts. IsSerialBase Step empty_base ts base)
-        (ap (λ (l : Lists (ObjOp × ObjReply)). l.committed) (told-append front (Commit tx number ∷ rest)) ∙ more.1 ∙ append_assoc (told front).committed ((told front).transcripts tx ∷ []) more.0) h) in
+    (subst (λ ts. IsSerialBase Step empty_base ts base)
+    (ap (λ (l : Lists (ObjOp × ObjReply)). l.committed) (told-append front (Commit tx number ∷ rest)) ∙ more.1 ∙ append_assoc (told front).committed ((told front).transcripts tx ∷ []) more.0) h) in
     let same : parts.0 ≡ middle = serial_to_one Step base_functional (told front).committed empty_base parts.0 middle parts.1 serial in
     let F : Base → Type 0 = λ b. Runs Step b ((told front).transcripts tx) (parts.2).0 in
     ((parts.2).0, subst F same (parts.2).1)
@@ -107,7 +106,9 @@ trace_up_to before after raw items base trace =
     let said = said_up_to before after raw items trace.said in
     let whole : IsSerialBase Step empty_base (told (said.0 ++ said.1 ∷ said.2)).committed base = subst (λ is. IsSerialBase Step empty_base (told is).committed base) said.3 trace.serial in
     let serial = front_serial said.0 (said.1 ∷ said.2) base whole in (
-      said.0, said.1, serial.0,
+      said.0,
+      said.1,
+      serial.0,
       record {
         said = said.4;
         placed = λ b l one e. trace.placed b (l ++ said.1 ∷ said.2) one (said.3 ∙ ap (λ fs. fs ++ said.1 ∷ said.2) e ∙ append_assoc b (one ∷ l) (said.1 ∷ said.2));

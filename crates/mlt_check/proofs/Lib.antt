@@ -4,3 +4,5 @@ pub mod Knowing
 pub mod Going
 pub mod Fronts
 pub mod Deciding
+pub mod Lasting
+pub mod Faults

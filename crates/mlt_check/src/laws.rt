@@ -13,3 +13,10 @@ pub fn accepted_traces_have_one_answer()
     ensures no_fault { (text txs : List ℕ) (base : Base) (line : ℕ) (fault : TraceCause)
         → IsAcceptedTrace text txs base → IsFirstFault text line fault → ⊥ }
 {}
+
+/// A text has one first fault at most.
+pub fn texts_have_one_first_fault()
+    ensures { (text : List ℕ) (line other : ℕ) (fault another : TraceCause)
+        → IsFirstFault text line fault → IsFirstFault text other another
+        → (line ≡ other) × (fault ≡ another) }
+{}

@@ -9,5 +9,5 @@ mod reading;
 mod trace_check;
 mod words;
 
-pub use laws::accepted_traces_have_one_answer;
+pub use laws::{accepted_traces_have_one_answer, texts_have_one_first_fault};
 pub use trace_check::{Order, check};
