@@ -48,7 +48,7 @@ said_up_to (r ∷ before) after raw (item ∷ items) e =
     let head : reading r ≡ Says item = cc e in
     let tails : map reading (before ++ raw ∷ after) ≡ map Says items = cc e in
     let rest = said_up_to before after raw items tails in
-    (item ∷ rest.0, rest.1, rest.2, ap (λ is. item ∷ is) rest.3, (let same = rest.4 in λ i. head i ∷ same i), rest.5)
+    (item ∷ rest.0, rest.1, rest.2, (let cut = rest.3 in λ i. item ∷ cut i), (let same = rest.4 in λ i. head i ∷ same i), rest.5)
 
 -- ---- the commits of items
 

@@ -1,10 +1,11 @@
 //! The check of a trace.
 
-ghost use Rattle.std.specs.Prelude.{◌≡◌, ◌≤◌, ◌<◌, ◌⊎◌, ℕ, List, length, Err, IfErr, IfOk, IfSome, IsErrAnd};
+ghost use Rattle.std.specs.Prelude.{◌≡◌, ◌≤◌, ◌<◌, ◌⊎◌, ℕ, List, length, Err, IfErr, IfOk, IfSome, IsErrAnd, MatchResult, Some};
 ghost use Rattle.std.specs.Io.KnownBytes.{Consumes, IsAtEnd};
 ghost use Rattle.mlt_types.specs.declared.refusal.TraceCause.{TraceCause};
 ghost use Rattle.mlt_check.specs.Answering.{Answers, TakesLine};
-ghost use Rattle.mlt_check.specs.Traces.{GivesWhole, IsAcceptedTrace, IsFirstFault};
+ghost use Rattle.mlt_kinds.specs.Bases.{Base as ObjectBase};
+ghost use Rattle.mlt_check.specs.Traces.{GivesWhole, IsAcceptedTrace, IsFirstFault, IsWant};
 
 use crate::checker::Checker;
 use crate::reading::{Reading, read_line};
@@ -79,14 +80,22 @@ pub fn check<R: Read>(alloc: Global, reader: &mut R) -> Result<Order, Refusal>
     ensures fault { (line : ℕ) (cause : TraceCause) → result ≡ Err (Refusal.TraceFault line cause)
         → (input : List ℕ) × GivesWhole (R.remaining reader.old) (R.remaining reader.new) input
         × IsFirstFault input line cause }
+    // of a trace nothing else is answered
+    ensures only_accepted { (input txs : List ℕ) (base : ObjectBase)
+        → R.remaining reader.old ≡ Some input → IsAcceptedTrace input txs base
+        → MatchResult result (λ order. (order.txs.items ≡ txs) × (order.base ≡ base)) IsWant }
+    // nor of a text that is faulty
+    ensures only_faulty { (input : List ℕ) (line : ℕ) (cause : TraceCause)
+        → R.remaining reader.old ≡ Some input → IsFirstFault input line cause
+        → IsErrAnd result (λ refusal. (refusal ≡ Refusal.TraceFault line cause)
+        ⊎ IsWant refusal) }
     // an input that is too long is refused, and not read on
-    ensures long { IfSome (R.remaining reader.old) (λ input. 16777216 < length input
-        → IsErrAnd result (λ refusal. (refusal ≡ Refusal.OutOfMemory) ⊎ (refusal ≡ Refusal.Io))) }
+    ensures long { IfSome (R.remaining reader.old)
+        (λ input. 16777216 < length input → IsErrAnd result IsWant) }
     ensures bounded { (taken : List ℕ)
         × Consumes (R.remaining reader.old) (R.remaining reader.new) taken
         × (length taken ≤ 16777217) }
-    ensures refusals { IfErr result
-        (λ refusal. (refusal ≡ Refusal.OutOfMemory) ⊎ (refusal ≡ Refusal.Io)
+    ensures refusals { IfErr result (λ refusal. IsWant refusal
         ⊎ ((line : ℕ) × (cause : TraceCause) × (refusal ≡ Refusal.TraceFault line cause))) }
 {
     let input = read_input(alloc, reader)?;
