@@ -1,6 +1,5 @@
 -- Which traces are accepted, and where the first fault of any other text stands.
-use Rattle.std.specs.Prelude.{◌≡◌, ◌≢◌, ◌⊎◌, ℕ, ◌+◌, ◌<◌, ◌≤◌, Option, List, [], ◌∷◌, ◌++◌, length, map, Contains}
-use Rattle.std.specs.Io.KnownBytes.{Consumes, IsAtEnd}
+use Rattle.std.specs.Prelude.{◌≡◌, ◌≢◌, ◌⊎◌, ℕ, ◌+◌, ◌<◌, List, [], ◌∷◌, ◌++◌, length, map, Contains}
 use Rattle.mlt_types.specs.declared.refusal.Refusal.{Refusal}
 use Rattle.mlt_types.specs.declared.refusal.Refusal.TheVariants.{OutOfMemory, Io}
 use Rattle.mlt_types.specs.declared.refusal.TraceCause.{TraceCause}
@@ -85,10 +84,6 @@ IsFirstFaultOf raws line fault =
 
 abbrev pub IsFirstFault : List ℕ → ℕ → TraceCause → Type 0
 IsFirstFault text line fault = IsFirstFaultOf (lines text) line fault
-
--- from what a reader had before and has after: it gave the input, which is not too long, and is at its end
-abbrev pub GivesWhole : Option (List ℕ) → Option (List ℕ) → List ℕ → Type 0
-GivesWhole before after input = Consumes before after input × IsAtEnd after × (length input ≤ 16777216)
 
 -- the refusal says nothing of the input: memory ran out, or a read failed
 abbrev pub IsWant : Refusal → Type 0

@@ -3,9 +3,10 @@
 ghost use Rattle.std.specs.Prelude.{◌≡◌, ◌≤◌, ◌<◌, ◌⊎◌, ℕ, List, length, Err, IfErr, IfOk, IfSome, IsErrAnd, MatchResult, Some};
 ghost use Rattle.std.specs.Io.KnownBytes.{Consumes, IsAtEnd};
 ghost use Rattle.mlt_types.specs.declared.refusal.TraceCause.{TraceCause};
+ghost use Rattle.mlt_text.specs.Inputs.{GivesWhole};
 ghost use Rattle.mlt_check.specs.Answering.{Answers, TakesLine};
 ghost use Rattle.mlt_kinds.specs.Bases.{Base as ObjectBase};
-ghost use Rattle.mlt_check.specs.Traces.{GivesWhole, IsAcceptedTrace, IsFirstFault, IsWant};
+ghost use Rattle.mlt_check.specs.Traces.{IsAcceptedTrace, IsFirstFault, IsWant};
 
 use crate::checker::Checker;
 use crate::reading::{Reading, read_line};

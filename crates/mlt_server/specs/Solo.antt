@@ -1,8 +1,8 @@
 -- What `solo` writes for an input.
-use Rattle.std.specs.Prelude.{◌≡◌, ℕ, ◌≤◌, List, length, Option}
-use Rattle.std.specs.Io.KnownBytes.{Consumes, IsAtEnd}
+use Rattle.std.specs.Prelude.{◌≡◌, ℕ, List, Option}
 use Rattle.mlt_types.specs.declared.refusal.Refusal.{Refusal}
 use Rattle.mlt_types.specs.declared.refusal.Refusal.TheVariants.{OutOfMemory}
+use Rattle.mlt_text.specs.Inputs.{GivesWhole}
 use Rattle.mlt_kinds.specs.Bases.{Base}
 use Rattle.mlt_script.specs.Grammar.{Spells}
 use Rattle.mlt_tree.specs.Scripts.{ScriptForm}
@@ -19,11 +19,6 @@ IsSoloText input text =
     × (outcomes : List Outcome) × (base : Base)
     × Spells input scripts × IsSerialRun scripts marks outcomes base × AreMarksOf OutOfMemory marks
     × (text ≡ report_text Solo outcomes base)
-
--- From what a reader had before and has after: it gave the input, which is not too long, and is at its end.
-abbrev pub GivesWhole : Option (List ℕ) → Option (List ℕ) → List ℕ → Type 0
-GivesWhole before after input =
-    Consumes before after input × IsAtEnd after × (length input ≤ 16777216)
 
 -- a reader gave the input whole, and the text is that of its scripts
 abbrev pub IsSoloOf : Option (List ℕ) → Option (List ℕ) → List ℕ → List ℕ → Type 0

@@ -3,9 +3,10 @@
 ghost use Rattle.std.specs.Prelude.{◌≡◌, ◌≤◌, ◌<◌, ◌⊎◌, ℕ, List, length, Err, IfErr, IfSome, IsErrAnd, OnOk};
 ghost use Rattle.std.specs.Io.KnownBytes.{Appends, Consumes, Keeps};
 ghost use Rattle.mlt_types.specs.declared.refusal.ScriptCause.{ScriptCause};
+ghost use Rattle.mlt_text.specs.Inputs.{GivesWhole};
 ghost use Rattle.mlt_text.specs.Texts.{AppendsFront};
 ghost use Rattle.mlt_script.specs.Grammar.{IsFirstFault};
-ghost use Rattle.mlt_server.specs.Solo.{GivesWhole, IsSoloOf};
+ghost use Rattle.mlt_server.specs.Solo.{IsSoloOf};
 
 use mlt_script::parse;
 use mlt_serial::{Form, serial_with_marks, write_report};

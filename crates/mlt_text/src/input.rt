@@ -3,6 +3,7 @@
 ghost use Rattle.std.specs.Prelude.{◌≡◌, ◌≤◌, ◌<◌, ◌⊎◌, ℕ, List, length, IfOk, IfErr, OnErr, IfSome, IsErr, take, vec_len, true, [], ◌++◌, ◌+◌};
 ghost use Rattle.std.specs.Io.{ReadsAtMost};
 ghost use Rattle.std.specs.Io.KnownBytes.{Consumes, IsAtEnd, Keeps, ReadConsumes};
+ghost use Rattle.mlt_text.specs.Inputs.{GivesWhole};
 
 use mlt_types::Refusal;
 use std::alloc::Global;
@@ -22,8 +23,7 @@ const PIECE: usize = 65_536;
 pub fn read_input<R: Read>(alloc: Global, reader: &mut R) -> Result<Vec<u8>, Refusal>
     // all that the reader had, which fits
     ensures ok { IfOk result
-        (λ bytes. Consumes (R.remaining reader.old) (R.remaining reader.new) bytes.items
-        × IsAtEnd (R.remaining reader.new) × length bytes.items ≤ 16777216) }
+        (λ bytes. GivesWhole (R.remaining reader.old) (R.remaining reader.new) bytes.items) }
     // a longer input is refused
     ensures long { IfSome (R.remaining reader.old)
         (λ input. 16777216 < length input → IsErr result) }
