@@ -8,6 +8,7 @@ use Rattle.mlt_types.specs.declared.refusal.TraceCause.{TraceCause}
 use Rattle.mlt_types.specs.declared.refusal.TraceCause.TheVariants as cause
 use Rattle.mlt_kinds.specs.Bases.{Base}
 use Rattle.mlt_words.specs.Lines.{Raw, lines, content, is_allowed}
+use Rattle.mlt_words.specs.Words.{raw_words}
 use Rattle.mlt_trace.specs.declared.item.TraceItem.{TraceItem}
 use Rattle.mlt_check.specs.declared.checker.Checker.{Checker}
 use Rattle.mlt_check.specs.declared.reading.Reading.{Reading}
@@ -16,7 +17,6 @@ use Rattle.mlt_check.specs.Answering.{Answers, TakesLine, WentOver}
 use Rattle.mlt_check.specs.Checkers.{Knows}
 use Rattle.mlt_check.specs.Readings.{item_of, item_or_fault, reading}
 use Rattle.mlt_check.specs.Traces.{ArePlaced, HasPlace, IsAcceptedTrace, IsLineFault}
-use Rattle.mlt_check.specs.Words.{raw_words}
 use Rattle.mlt_check.proofs.Growing.{append_nil, no_cut, split_last}
 
 -- ---- a line that is faulty by itself

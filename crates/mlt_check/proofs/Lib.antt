@@ -1,4 +1,3 @@
-pub mod Splitting
 pub mod Growing
 pub mod Knowing
 pub mod Going

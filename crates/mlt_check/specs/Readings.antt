@@ -5,12 +5,12 @@ use Rattle.std.specs.Str.{bytes_eq}
 use Rattle.mlt_types.specs.declared.refusal.TraceCause.TheVariants as cause
 use Rattle.mlt_script.specs.Forms.{◌>>=◌}
 use Rattle.mlt_words.specs.Lines.{Raw, content, is_allowed}
-use Rattle.mlt_words.specs.Words.{word_of}
+use Rattle.mlt_words.specs.Words.{first_word, raw_words, word_of}
 use Rattle.mlt_trace.specs.declared.item.TraceItem.{TraceItem}
 use Rattle.mlt_trace.specs.declared.item.TraceItem.TheVariants.{Begin, Op, Back, Commit, Abort}
 use Rattle.mlt_check.specs.declared.reading.Reading.{Reading}
 use Rattle.mlt_check.specs.declared.reading.Reading.TheVariants.{Bad, Says}
-use Rattle.mlt_check.specs.Words.{done_at, first_word, no_more, positive_at, raw_words}
+use Rattle.mlt_check.specs.Words.{done_at, no_more, positive_at}
 
 abbrev pub alone : TraceItem → List (List ℕ) → Option TraceItem
 alone item words = no_more item words

@@ -5,16 +5,7 @@ use Rattle.mlt_kinds.specs.declared.operation.ObjReply.{ObjReply}
 use Rattle.mlt_words.specs.declared.keyword.Word.{Word}
 use Rattle.mlt_script.specs.Forms.{◌>>=◌, op_at, reply_at}
 use Rattle.mlt_words.specs.Numbers.{number_of}
-use Rattle.mlt_words.specs.Words.{words_from}
-
--- the words of a line, which spaces and tabs part
-abbrev pub raw_words : List ℕ → List (List ℕ)
-raw_words line = words_from [] line
-
--- the first word, and those after it
-abbrev pub first_word : List (List ℕ) → Option (List ℕ × List (List ℕ))
-first_word [] = None
-first_word (word ∷ words) = Some (word, words)
+use Rattle.mlt_words.specs.Words.{first_word}
 
 abbrev pub if_positive : ℕ → List (List ℕ) → Option (ℕ × List (List ℕ))
 if_positive number words = if number == 0 then None else Some (number, words)

@@ -2,12 +2,12 @@
 
 ghost use Rattle.std.specs.Prelude.{◌≡◌};
 ghost use Rattle.mlt_check.specs.Readings.{alone, item_of, item_or_fault, item_with, reading};
-ghost use Rattle.mlt_check.specs.Words.{raw_words};
+ghost use Rattle.mlt_words.specs.Words.{raw_words};
 
-use crate::words::{done, next_word, positive};
+use crate::words::{done, positive};
 use mlt_trace::TraceItem;
 use mlt_types::{TraceCause, TxId};
-use mlt_words::{is_allowed_line, trimmed};
+use mlt_words::{is_allowed_line, next_raw_word, trimmed};
 
 /// What a line is by itself.
 #[derive(Clone, Copy)]
@@ -22,7 +22,7 @@ pub enum Reading {
 fn last(item: TraceItem, rest: &[u8]) -> Option<TraceItem>
     ensures { result ≡ alone item (raw_words rest.now) }
 {
-    match next_word(rest) {
+    match next_raw_word(rest) {
         None => Some(item),
         Some(_) => None,
     }
@@ -54,7 +54,7 @@ fn item_after(word: &[u8], tx: TxId, rest: &[u8]) -> Option<TraceItem>
 fn read_item(line: &[u8]) -> Option<TraceItem>
     ensures { result ≡ item_of (raw_words line.now) }
 {
-    let (word, rest) = next_word(line)?;
+    let (word, rest) = next_raw_word(line)?;
     let (tx, rest) = positive(rest)?;
     item_after(word, TxId(tx), rest)
 }

@@ -1,12 +1,11 @@
 -- The first word of a text.
-use Rattle.std.proofs.Common.{◌≡◌, ℕ, suc, zero, ◌+◌, ◌-◌, ◌<◌, ◌≤◌, List, [], ◌∷◌, ◌++◌, length, take, drop, get_or, map, not, Bool, true, false, cond, ltb, Some, None, refl, sym, ap, subst, ◌∙◌, append_assoc, arith}
+use Rattle.std.proofs.Common.{◌≡◌, ℕ, suc, zero, ◌+◌, ◌-◌, ◌<◌, ◌≤◌, List, [], ◌∷◌, ◌++◌, length, take, drop, get_or, map, option_map, not, Bool, true, false, cond, ltb, Option, Some, None, refl, sym, ap, subst, ◌∙◌, append_assoc, arith}
 use Rattle.std.specs.List.{position, position_or_len}
 use Rattle.std.proofs.lemmas.List.{append-nil, get_or-drop, length-drop, take_all}
 use Rattle.std.proofs.lemmas.List.Sums.{fails_before_first}
 use Rattle.std.proofs.lemmas.List.Quantifiers.{position-Some}
 use Rattle.std.proofs.lemmas.Bool.{ltb-false}
-use Rattle.mlt_words.specs.declared.keyword.Word.{Word}
-use Rattle.mlt_words.specs.Words.{words_of, words_from, word_of, word_at, word_if, is_blank, is_black}
+use Rattle.mlt_words.specs.Words.{words_from, word_if, word_at, word_of, words_of, raw_words, first_word, is_blank, is_black}
 
 blank_of : (b : Bool) → not b ≡ false → b ≡ true
 blank_of true h = refl
@@ -65,17 +64,15 @@ none_of f text e k l =
     let h : length text ≤ position_or_len f text = ltb-false _ _ (none_found (ltb (position_or_len f text) (length text)) _ e) in
     fails_before_first f text k 0 (omega arith)
 
-pub no_word : (text : List ℕ) → position is_black text ≡ None → words_of text ≡ []
-unfolding words_of
-no_word text e = ap (map word_of) (blanks text (none_of is_black text e))
+pub no_word : (text : List ℕ) → position is_black text ≡ None → raw_words text ≡ []
+no_word text e = blanks text (none_of is_black text e)
 
-pub at_word : (text : List ℕ) (start : ℕ) → position is_black text ≡ Some start
-    → (words_of text ≡ words_of (drop start text)) × (start < length text) × (is_blank (get_or (drop start text) 0 0) ≡ false)
-unfolding words_of
+at_word : (text : List ℕ) (start : ℕ) → position is_black text ≡ Some start
+    → (raw_words text ≡ raw_words (drop start text)) × (start < length text) × (is_blank (get_or (drop start text) 0 0) ≡ false)
 at_word text start e =
     let h = position-Some is_black text start 0 e in
     let z : start + 0 ≡ start = omega arith in
-    (ap (map word_of) (skips text start h.0 h.2), h.0, rw (get_or-drop, z) (black_of (is_blank (get_or text start 0)) h.1))
+    (skips text start h.0 h.2, h.0, rw (get_or-drop, z) (black_of (is_blank (get_or text start 0)) h.1))
 
 later : (front : List ℕ) (i : ℕ) → is_blank (get_or front 0 0) ≡ false → is_blank (get_or front i 0) ≡ true → 0 < i
 later front zero b e = absurd (let h : false ≡ true = sym b ∙ e in cc h)
@@ -86,37 +83,46 @@ taken [] i h l = absurd (omega arith)
 taken (b ∷ bs) zero h l = absurd (omega arith)
 taken (b ∷ bs) (suc i) h l = omega arith
 
-pub cut : (front : List ℕ) (end : ℕ) → is_blank (get_or front 0 0) ≡ false → position is_blank front ≡ Some end
-    → words_of front ≡ word_of (take end front) ∷ words_of (drop end front)
-unfolding words_of
+cut : (front : List ℕ) (end : ℕ) → is_blank (get_or front 0 0) ≡ false → position is_blank front ≡ Some end
+    → raw_words front ≡ take end front ∷ raw_words (drop end front)
 cut front end b e =
     let h = position-Some is_blank front end 0 e in
     let w = is_word (take end front) (taken front end (later front end b h.1) h.0) in
-    ap (map word_of) (up_to front [] end h.0 h.1 h.2 ∙ ap (λ (ws : List (List ℕ)). ws ++ words_from [] (drop end front)) w)
+    up_to front [] end h.0 h.1 h.2 ∙ ap (λ (ws : List (List ℕ)). ws ++ words_from [] (drop end front)) w
 
-pub only : (front : List ℕ) → 0 < length front → position is_blank front ≡ None → words_of front ≡ word_of front ∷ words_of []
-unfolding words_of words_from
-only front l e = ap (map word_of) (to_end front [] (none_of is_blank front e) ∙ is_word front l)
+only : (front : List ℕ) → 0 < length front → position is_blank front ≡ None → raw_words front ≡ front ∷ raw_words []
+unfolding words_from
+only front l e = to_end front [] (none_of is_blank front e) ∙ is_word front l
 
 to_the_end : (text : List ℕ) (start : ℕ) → take (length text - start) (drop start text) ≡ drop start text
 to_the_end text start = take_all (length text - start) (drop start text) (rw length-drop (omega arith))
 
 -- the first word with a blank behind it, and the text from the blank on
-pub first_of_more : (text front : List ℕ) (start end : ℕ) (word : Word) → front ≡ take (length text - start) (drop start text) → position is_black text ≡ Some start
-    → position is_blank front ≡ Some end → word ≡ word_of (take end front) → Some (word, words_of (take (length front - end) (drop end front))) ≡ word_at (words_of text)
-first_of_more text front start end word f s e w =
+pub first_of_more : (text front : List ℕ) (start end : ℕ) → front ≡ take (length text - start) (drop start text) → position is_black text ≡ Some start
+    → position is_blank front ≡ Some end → Some (take end front, raw_words (take (length front - end) (drop end front))) ≡ first_word (raw_words text)
+first_of_more text front start end f s e =
     let a = at_word text start s in
     let same : drop start text ≡ front = sym (to_the_end text start) ∙ sym f in
     let b : is_blank (get_or front 0 0) ≡ false = ap (λ (xs : List ℕ). is_blank (get_or xs 0 0)) (sym same) ∙ a.2 in
     let k = cut front end b e in
-    rw (to_the_end front end, w) (ap word_at (sym (a.0 ∙ ap words_of same ∙ k)))
+    rw (to_the_end front end) (ap first_word (sym (a.0 ∙ ap raw_words same ∙ k)))
 
 -- the only word of a text
-pub first_of_one : (text front : List ℕ) (start : ℕ) (word : Word) → front ≡ take (length text - start) (drop start text) → position is_black text ≡ Some start
-    → position is_blank front ≡ None → word ≡ word_of front → Some (word, words_of []) ≡ word_at (words_of text)
-first_of_one text front start word f s e w =
+pub first_of_one : (text front : List ℕ) (start : ℕ) → front ≡ take (length text - start) (drop start text) → position is_black text ≡ Some start
+    → position is_blank front ≡ None → Some (front, raw_words []) ≡ first_word (raw_words text)
+first_of_one text front start f s e =
     let a = at_word text start s in
     let same : drop start text ≡ front = sym (to_the_end text start) ∙ sym f in
     let l : 0 < length front = subst (λ (xs : List ℕ). 0 < length xs) same (rw length-drop (let h = a.1 in omega (arith, h))) in
     let k = only front l e in
-    rw w (ap word_at (sym (a.0 ∙ ap words_of same ∙ k)))
+    ap first_word (sym (a.0 ∙ ap raw_words same ∙ k))
+
+as_what_it_is : (words : List (List ℕ)) → option_map (λ x. (word_of x.0, map word_of x.1)) (first_word words) ≡ word_at (map word_of words)
+as_what_it_is [] = refl
+as_what_it_is (w ∷ ws) = refl
+
+-- what the first word is, from its bytes
+pub first_as_what_it_is : (text : List ℕ) (first : Option (List ℕ × List (List ℕ))) → first ≡ first_word (raw_words text)
+    → option_map (λ x. (word_of x.0, map word_of x.1)) first ≡ word_at (words_of text)
+unfolding words_of
+first_as_what_it_is text first e = ap (option_map (λ x. (word_of x.0, map word_of x.1))) e ∙ as_what_it_is (raw_words text)

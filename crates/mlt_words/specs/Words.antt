@@ -97,8 +97,17 @@ unfoldable pub words_from : List ℕ → List ℕ → List (List ℕ)
 words_from begun [] = word_if begun
 words_from begun (b ∷ bs) = if is_blank b then word_if begun ++ words_from [] bs else words_from (begun ++ b ∷ []) bs
 
+-- the words of a line as their bytes
+abbrev pub raw_words : List ℕ → List (List ℕ)
+raw_words line = words_from [] line
+
+-- of words as their bytes the first, and those after it
+abbrev pub first_word : List (List ℕ) → Option (List ℕ × List (List ℕ))
+first_word [] = None
+first_word (word ∷ words) = Some (word, words)
+
 unfoldable pub words_of : List ℕ → List Word
-words_of line = map word_of (words_from [] line)
+words_of line = map word_of (raw_words line)
 
 -- the first word, and those after it
 abbrev pub word_at : List Word → Option (Word × List Word)

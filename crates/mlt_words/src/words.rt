@@ -2,7 +2,7 @@
 
 ghost use Rattle.std.specs.Prelude.{◌≡◌, option_map};
 ghost use Rattle.std.specs.List.{position};
-ghost use Rattle.mlt_words.specs.Words.{words_of, word_at, is_blank, is_black};
+ghost use Rattle.mlt_words.specs.Words.{words_of, word_at, raw_words, first_word, is_blank, is_black};
 
 use crate::keyword::{Word, classify};
 
@@ -18,14 +18,23 @@ fn find_blank(text: &[u8]) -> Option<usize>
     text.iter().position(|byte| *byte == b' ' || *byte == b'\t')
 }
 
-/// The first word of a text, and the text after it. Words are parted by spaces and tabs.
-pub fn next_word(text: &[u8]) -> Option<(Word, &[u8])>
-    ensures { option_map (λ x. (x.0, words_of x.1.now)) result ≡ word_at (words_of text.now) }
+/// The bytes of the first word of a text, and the text after it. Words are parted by spaces and tabs.
+pub fn next_raw_word(text: &[u8]) -> Option<(&[u8], &[u8])>
+    ensures { option_map (λ x. (x.0.now, raw_words x.1.now)) result
+        ≡ first_word (raw_words text.now) }
 {
     let start = find_word(text)?;
     let front = &text[start..];
     match find_blank(front) {
-        Some(end) => Some((classify(&front[..end]), &front[end..])),
-        None => Some((classify(front), &[])),
+        Some(end) => Some((&front[..end], &front[end..])),
+        None => Some((front, &[])),
     }
+}
+
+/// The first word of a text as what it is, and the text after it.
+pub fn next_word(text: &[u8]) -> Option<(Word, &[u8])>
+    ensures { option_map (λ x. (x.0, words_of x.1.now)) result ≡ word_at (words_of text.now) }
+{
+    let (word, rest) = next_raw_word(text)?;
+    Some((classify(word), rest))
 }

@@ -1,13 +1,11 @@
-use Rattle.std.proofs.Common.{refl, sym, ap}
-use Rattle.mlt_words.specs.Words.{word_at}
-use Rattle.mlt_words.proofs.Splitting.{no_word, first_of_more, first_of_one}
+use Rattle.std.proofs.Common.{Some, None}
+use Rattle.mlt_words.specs.Words.{words_of, raw_words}
+use Rattle.mlt_words.proofs.Splitting.{first_as_what_it_is}
 use Rattle.mlt_words.proofs.words.next_word.Goals as goal
 
-pub returns-in_err-start : goal.returns-in_err-start
-returns-in_err-start c = rw c.from_residual.ensures (ap word_at (sym (no_word c.args.text.now (sym c.in_err-start.ensures))))
+pub returns-in_err-word : goal.returns-in_err-word
+returns-in_err-word c = rw c.from_residual.ensures (first_as_what_it_is c.args.text.now None c.in_err-word.ensures)
 
-pub returns-in-Some : goal.returns-in-Some
-returns-in-Some c = first_of_more c.args.text.now _ c.in_ok-start.start c.in-Some.end c.classify.result refl (sym c.in_ok-start.ensures) (sym c.in-Some.ensures) c.classify.ensures
-
-pub returns-in-None : goal.returns-in-None
-returns-in-None c = first_of_one c.args.text.now _ c.in_ok-start.start c.classify-in-None.result refl (sym c.in_ok-start.ensures) (sym c.in-None.ensures) c.classify-in-None.ensures
+pub returns : goal.returns
+unfolding words_of
+returns c = rw c.classify.ensures (first_as_what_it_is c.args.text.now (Some (c.in_ok-word.word.now, raw_words c.in_ok-word.rest.now)) c.in_ok-word.ensures)

@@ -1,7 +1,7 @@
 use Rattle.std.proofs.Common.{refl, sym, ap}
-use Rattle.mlt_check.specs.Words.{first_word}
-use Rattle.mlt_check.proofs.Splitting.{no_word, first_of_more, first_of_one}
-use Rattle.mlt_check.proofs.words.next_word.Goals as goal
+use Rattle.mlt_words.specs.Words.{first_word}
+use Rattle.mlt_words.proofs.Splitting.{no_word, first_of_more, first_of_one}
+use Rattle.mlt_words.proofs.words.next_raw_word.Goals as goal
 
 pub returns-in_err-start : goal.returns-in_err-start
 returns-in_err-start c = rw c.from_residual.ensures (ap first_word (sym (no_word c.args.text.now (sym c.in_err-start.ensures))))
