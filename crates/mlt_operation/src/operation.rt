@@ -128,9 +128,9 @@ impl Operation {
                 self.walk.again();
                 StepAnswer::Going
             }
-            WalkAnswer::Refused(refusal) => {
+            WalkAnswer::Refused(reason) => {
                 subtx.roll_back(&mut pages.store, &mut pages.locks);
-                StepAnswer::Refused(refusal)
+                StepAnswer::Refused(reason)
             }
             WalkAnswer::Going | WalkAnswer::Waiting(_, _) | WalkAnswer::Found(_) => unreachable!(),
         }

@@ -87,11 +87,11 @@ returns-in-Refused g c =
     let some = is ∙ ap (λ d. (reply, d)) c.in-Some.is in
     let old : Moment = moment c.perform.new.subtx c.perform.new.pages in
     let new : Moment = moment c.roll_back.new.self (record { store = c.roll_back.new.store; locks = c.roll_back.new.locks }) in
-    let tells : TellsOfDecision basis old before.walk c.perform.new.walk c.in-Some.change c.args.found (answer.Refused c.in-Refused.refusal) =
-    subst (λ (w : WalkFields). TellsOfDecision basis old w c.perform.new.walk c.in-Some.change c.args.found (answer.Refused c.in-Refused.refusal)) walk_is c.in-Refused.ensures.tells in
+    let tells : TellsOfDecision basis old before.walk c.perform.new.walk c.in-Some.change c.args.found (answer.Refused c.in-Refused.reason) =
+    subst (λ (w : WalkFields). TellsOfDecision basis old w c.perform.new.walk c.in-Some.change c.args.found (answer.Refused c.in-Refused.reason)) walk_is c.in-Refused.ensures.tells in
     let can : CanChange (Some c.in-Some.change) c.args.found = subst (λ (d : Option RecChange). CanChange d c.args.found) c.in-Some.is c.decide-reply.ensures.fits in
     let back = rolls_back m old new c.in-Refused.ensures.writes c.roll_back.ensures.store c.roll_back.ensures.locks c.roll_back.ensures.images in
-    let refuses : TellsAtBucket basis m new before before (step.Refused c.in-Refused.refusal) = refused_at_bucket basis m old new before before c.in-Some.change c.args.found reply c.perform.new.walk c.in-Refused.refusal c.requires.ready some can c.in-Refused.ensures.writes tells back in record { tells = refuses }
+    let refuses : TellsAtBucket basis m new before before (step.Refused c.in-Refused.reason) = refused_at_bucket basis m old new before before c.in-Some.change c.args.found reply c.perform.new.walk c.in-Refused.reason c.requires.ready some can c.in-Refused.ensures.writes tells back in record { tells = refuses }
 
 pub returns-in-NeedSplit-2 : goal.returns-in-NeedSplit-2
 returns-in-NeedSplit-2 g c =
