@@ -13,7 +13,8 @@ use Rattle.mlt_hash.specs.declared.pass.Change.TheVariants.{Set}
 use Rattle.mlt_ghosts.specs.Ghosts.{PagesMatchOperations}
 use Rattle.mlt_ghosts.specs.Operations.{Added, Presence, Removed, Standing}
 use Rattle.mlt_ghosts.proofs.Moves.{same_matched}
-use Rattle.mlt_meeting.specs.Ends.{ChangesPages, Performs}
+use Rattle.mlt_operation.specs.Performing.{Performs}
+use Rattle.mlt_meeting.specs.Ends.{ChangesPages}
 use Rattle.mlt_meeting.specs.Presences.{op_key, presence_of}
 use Rattle.mlt_meeting.specs.Events.{IsOpenAt}
 use Rattle.mlt_meeting.specs.Worlds.{PagesMeanHistory, World, ledger_of, record_of}

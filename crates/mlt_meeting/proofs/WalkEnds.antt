@@ -19,7 +19,8 @@ use Rattle.mlt_hash_form.specs.Records.{live_records, with_record}
 use Rattle.mlt_hash_form.proofs.MapChanges.{changed_file_map}
 use Rattle.mlt_hash.specs.Passes.{slot_after, value_after}
 use Rattle.mlt_hash.specs.declared.pass.Change.{Change}
-use Rattle.mlt_meeting.specs.Ends.{ChangesPages, EndsWalk, KeepsPages, Performs}
+use Rattle.mlt_operation.specs.Performing.{Performs}
+use Rattle.mlt_meeting.specs.Ends.{ChangesPages, EndsWalk, KeepsPages}
 use Rattle.mlt_meeting.specs.Presences.{op_key}
 use Rattle.mlt_meeting.specs.Worlds.{PagesMeanHistory, World, record_of}
 

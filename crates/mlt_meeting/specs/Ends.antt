@@ -1,29 +1,17 @@
 -- How the end of an operation, or of an inverse, changes the clean pages.
-use Rattle.std.specs.Prelude.{ℕ, ◌≡◌, ◌+◌, ◌-◌, ◌%◌, ◌^◌, ◌⊎◌, Option, Some, None}
+use Rattle.std.specs.Prelude.{ℕ, ◌≡◌, Option, Some, None}
 use Rattle.std.specs.Ordering.{nat_cmp}
 use Rattle.std.specs.FinMap as map
 use Rattle.mlt_page.specs.declared.page.Page.{Page}
 use Rattle.mlt_kinds.specs.declared.operation.ObjOp.{ObjOp}
 use Rattle.mlt_base.specs.declared.record.RecChange.{RecChange}
-use Rattle.mlt_base.specs.declared.record.RecChange.TheVariants as rec
 use Rattle.mlt_hash_form.specs.Held.{Agrees, over}
 use Rattle.mlt_held.specs.Views.{View}
 use Rattle.mlt_hash.specs.Walks.{IsChanged, WalkFields}
 use Rattle.mlt_hash.specs.declared.pass.Change.{Change}
-use Rattle.mlt_hash.specs.declared.pass.Change.TheVariants.{Put, Revive, Set, Remove}
+use Rattle.mlt_operation.specs.Performing.{Performs}
 use Rattle.mlt_meeting.specs.Presences.{op_key}
 use Rattle.mlt_meeting.specs.Worlds.{World, basis_of, record_of}
-
--- The change of a walk that makes this change of a record, where the record is this. A record is added in a slot with
--- room, or in the place of the transaction's own ghost.
-abbrev pub Performs : RecChange → Option ℕ → Change → Type 0
-Performs (rec.Add v) live done = (done ≡ Put v) ⊎ (done ≡ Revive v)
-Performs (rec.Set v) live done = done ≡ Set v
-Performs rec.ToGhost live done = done ≡ Remove
-Performs rec.Revive live done = done ≡ Revive 0
-Performs (rec.Plus n) (Some v) done = done ≡ Set ((v + n) % 2 ^ 64)
-Performs (rec.Minus n) (Some v) done = done ≡ Set ((v + (2 ^ 64 - n)) % 2 ^ 64)
-Performs _ None done = ⊥
 
 -- A walk of transaction tx to the operation's key has made the change, and ends: what it has written becomes clean.
 pub record EndsWalk (world : World) (tx : ℕ) (op : ObjOp) (change : RecChange)
