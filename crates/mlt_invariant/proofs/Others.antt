@@ -1,0 +1,55 @@
+-- What an event of one transaction leaves of another
+use Rattle.std.proofs.Common.{◌≡◌, ◌≢◌, ℕ, ◌<◌, length, None, Some, sym, subst, ◌∙◌}
+use Rattle.mlt_held.specs.Views.{View, view_of}
+use Rattle.mlt_object_locks.specs.Locks.{SameReservations}
+use Rattle.mlt_running.specs.Running.{AllRunning, HoldsNothing, KeepsRunning, moment_of}
+use Rattle.mlt_operation.specs.Operating.{IsOperating, OperationFields}
+use Rattle.mlt_meeting.specs.Worlds.{basis_of}
+use Rattle.mlt_transaction.specs.declared.transaction.At.{At}
+use Rattle.mlt_transaction.specs.declared.transaction.At.TheVariants as at
+use Rattle.mlt_transaction.specs.declared.transaction.Transaction.{Transaction}
+use Rattle.mlt_hash.specs.Walks.{Basis}
+use Rattle.mlt_invariant.specs.Sound.{FitsAt}
+use Rattle.mlt_invariant.specs.States.{State, all_of, world_of}
+
+-- another transaction that holds nothing still holds nothing
+pub still_nothing : (i j : ℕ) (old new : AllRunning) → KeepsRunning i old new → j ≢ i → HoldsNothing old j → HoldsNothing new j
+still_nothing i j old new keeps ne none = record {
+  no_images = keeps.images j ne ∙ none.no_images;
+  no_locks = keeps.holders j ne ∙ none.no_locks;
+}
+
+-- what stays between two states for another transaction j: what its walks go by, and how many operations it may have
+pub record StaysFor (i j : ℕ) (s s' : State) : Type 0 where
+  pub other : j ≢ i
+  pub runs : KeepsRunning i (all_of s) (all_of s')
+  pub basis : basis_of (world_of s') j ≡ basis_of (world_of s) j
+  pub reserved : SameReservations s.commons.objects.reserved s'.commons.objects.reserved i
+  pub max_ops : s'.max_ops ≡ s.max_ops
+
+operates_still : (i j : ℕ) (s s' : State) (o : OperationFields) → StaysFor i j s s' → IsOperating (basis_of (world_of s) j) o (view_of (moment_of (all_of s) j)) → IsOperating (basis_of (world_of s') j) o (view_of (moment_of (all_of s') j))
+operates_still i j s s' o stays operates =
+    subst (λ (b : Basis). IsOperating b o (view_of (moment_of (all_of s') j))) (sym stays.basis)
+    (subst (λ (v : View). IsOperating (basis_of (world_of s) j) o v) (sym (stays.runs.views j stays.other)) operates)
+
+-- **Another transaction is where it was.**
+pub still_fits : (a : At) (i j : ℕ) (s s' : State) (t : Transaction) → StaysFor i j s s' → FitsAt a s j t → FitsAt a s' j t
+still_fits at.Idle i j s s' t stays fits = still_nothing i j (all_of s) (all_of s') stays.runs stays.other fits
+still_fits (at.Pending o) i j s s' t stays fits = record {
+  op = fits.op;
+  asked = fits.asked;
+  in_range = fits.in_range;
+  operates = operates_still i j s s' o stays fits.operates;
+  reserved = stays.reserved j stays.other ∙ fits.reserved;
+  spare = fits.spare;
+  fewer = subst (λ (n : ℕ). length t.undo.entries < n) (sym stays.max_ops) fits.fewer;
+}
+still_fits (at.Undoing None) i j s s' t stays fits = (still_nothing i j (all_of s) (all_of s') stays.runs stays.other fits.0, fits.1)
+still_fits (at.Undoing (Some o)) i j s s' t stays fits = record {
+  front = fits.front;
+  last = fits.last;
+  entries = fits.entries;
+  inverts = fits.inverts;
+  has = fits.has;
+  operates = operates_still i j s s' o stays fits.operates;
+}

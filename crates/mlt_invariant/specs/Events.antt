@@ -1,0 +1,34 @@
+-- Events of one transaction
+use Rattle.std.specs.Prelude.{ℕ, ◌≡◌, ◌+◌, Some}
+use Rattle.std.specs.FinMap as map
+use Rattle.mlt_running.specs.CleanPages.{RunningImages}
+use Rattle.mlt_object_locks.specs.Locks.{SameReservations}
+use Rattle.mlt_running.specs.Running.{KeepsRunning, clean_of}
+use Rattle.mlt_transaction.specs.declared.commons.Commons.{Commons}
+use Rattle.mlt_transaction.specs.declared.transaction.Transaction.{Transaction}
+use Rattle.mlt_invariant.specs.Sound.{FitsAt}
+use Rattle.mlt_invariant.specs.States.{State, all_of, is_undoing, room_of}
+
+-- transaction i is now this one, and the pages, the locks and the history are these
+abbrev pub with_transaction : State → ℕ → Transaction → Commons → RunningImages → State
+with_transaction s i t commons images = record s {
+  commons = commons;
+  txs = map.insert s.txs i t;
+  images = images;
+}
+
+-- The clean pages, the items of the history and what is held stay, and so does all that others see, hold and reserve. The
+-- transaction keeps what it may take back, and whether its abort has begun, and is where it may be.
+pub record KeepsClean (s : State) (i : ℕ) (before after : Transaction) (commons : Commons)
+    (images : RunningImages) : Type 0 where
+  pub runs : KeepsRunning i (all_of s) (all_of (with_transaction s i after commons images))
+  pub clean : clean_of (all_of (with_transaction s i after commons images)) ≡ clean_of (all_of s)
+  pub own : map.get images i ≡ Some after.subtx.images
+  pub number : after.subtx.tx ≡ i
+  pub held : commons.objects.held ≡ s.commons.objects.held
+  pub reserved : SameReservations s.commons.objects.reserved commons.objects.reserved i
+  pub items : commons.history.items ≡ s.commons.history.items
+  pub room : commons.history.room + room_of before ≡ s.commons.history.room + room_of after
+  pub entries : after.undo.entries ≡ before.undo.entries
+  pub undoing : is_undoing after.at ≡ is_undoing before.at
+  pub fits : FitsAt after.at (with_transaction s i after commons images) i after

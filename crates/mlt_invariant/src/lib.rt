@@ -1,0 +1,6 @@
+//! What is always true of a manager of transactions, and the laws by which each of its events keeps it.
+#![tactic(auto)]
+
+mod step_laws;
+
+pub use step_laws::event_that_keeps_clean_pages;
