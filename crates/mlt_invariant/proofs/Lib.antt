@@ -1,3 +1,4 @@
+pub mod Found
 pub mod Others
 pub mod Stays
 pub mod Tables

@@ -3,7 +3,13 @@ use Rattle.std.specs.Prelude.{ℕ, ◌≡◌, ◌+◌, Some}
 use Rattle.std.specs.FinMap as map
 use Rattle.mlt_running.specs.CleanPages.{RunningImages}
 use Rattle.mlt_object_locks.specs.Locks.{SameReservations}
+use Rattle.mlt_kinds.specs.Bases.{Base}
+use Rattle.mlt_kinds.specs.declared.operation.ObjReply.{ObjReply}
 use Rattle.mlt_running.specs.Running.{KeepsRunning, clean_of}
+use Rattle.mlt_operation.specs.Operating.{OperationFields}
+use Rattle.mlt_transaction.specs.declared.answer.Answer.TheVariants as answer
+use Rattle.mlt_transaction.specs.declared.transaction.At.TheVariants as at
+use Rattle.mlt_transaction.specs.Steps.{Ends}
 use Rattle.mlt_transaction.specs.declared.commons.Commons.{Commons}
 use Rattle.mlt_transaction.specs.declared.transaction.Transaction.{Transaction}
 use Rattle.mlt_invariant.specs.Sound.{FitsAt}
@@ -32,3 +38,17 @@ pub record KeepsClean (s : State) (i : ℕ) (before after : Transaction) (common
   pub entries : after.undo.entries ≡ before.undo.entries
   pub undoing : is_undoing after.at ≡ is_undoing before.at
   pub fits : FitsAt after.at (with_transaction s i after commons images) i after
+
+-- The subtransaction of transaction i ends: what it has written is clean, and leads to this base.
+abbrev pub with_end : State → ℕ → Transaction → Commons → Base → State
+with_end s i t commons base = record (with_transaction s i t commons (map.insert s.images i map.empty)) {
+  base = base;
+}
+
+-- what the pending operation of transaction i leaves that is done
+pub record EndsPending (s : State) (i : ℕ) (o : OperationFields) (before after : Transaction)
+    (commons : Commons) (told : ObjReply) : Type 0 where
+  pub pending : before.at ≡ at.Pending o
+  pub ends : Ends o before.subtx after.subtx before.undo after.undo s.commons commons
+      (answer.Done told)
+  pub idle : after.at ≡ at.Idle

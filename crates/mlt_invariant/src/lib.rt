@@ -1,6 +1,8 @@
 //! What is always true of a manager of transactions, and the laws by which each of its events keeps it.
 #![tactic(auto)]
 
+mod end_laws;
 mod step_laws;
 
+pub use end_laws::operation_that_is_done;
 pub use step_laws::event_that_keeps_clean_pages;
