@@ -1,4 +1,6 @@
+pub mod Done
 pub mod Found
+pub mod Grants
 pub mod Others
 pub mod Stays
 pub mod Tables
