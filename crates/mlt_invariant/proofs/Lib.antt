@@ -1,6 +1,7 @@
 pub mod Done
 pub mod Found
 pub mod Grants
+pub mod MaySteps
 pub mod Others
 pub mod Stays
 pub mod Tables

@@ -2,7 +2,9 @@
 #![tactic(auto)]
 
 mod end_laws;
+mod may_laws;
 mod step_laws;
 
 pub use end_laws::operation_that_is_done;
+pub use may_laws::transactions_may_step;
 pub use step_laws::event_that_keeps_clean_pages;
