@@ -5,3 +5,4 @@ pub mod MaySteps
 pub mod Others
 pub mod Stays
 pub mod Tables
+pub mod Turned
