@@ -3,6 +3,7 @@ pub mod Found
 pub mod Grants
 pub mod MaySteps
 pub mod Others
+pub mod Pending
 pub mod Stays
 pub mod Tables
 pub mod Turned

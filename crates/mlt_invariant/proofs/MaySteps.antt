@@ -12,7 +12,7 @@ use Rattle.mlt_page_locks.specs.LockTables.{Modes, pages_of}
 use Rattle.mlt_subtx.specs.Images.{AreThere, Images}
 use Rattle.mlt_held.specs.Moments.{Moment, moment}
 use Rattle.mlt_held.specs.Views.{view_of}
-use Rattle.mlt_running.specs.Running.{HoldsNothing, clean_of, is_open, moment_of}
+use Rattle.mlt_running.specs.Running.{AllRunning, HoldsNothing, clean_of, is_open, moment_of}
 use Rattle.mlt_running.proofs.AllRunning.{clean_for_each, each_may_step}
 use Rattle.mlt_hash.specs.Walks.{IsStanding, MayWalk, Stands, WalkFields}
 use Rattle.mlt_hash.proofs.Laws.{at_start}
@@ -36,6 +36,14 @@ last_of_some (x ∷ []) some = ([], x, refl)
 last_of_some (x ∷ y ∷ ys) some =
     let rest = last_of_some (y ∷ ys) (λ none. absurd cc) in
     (x ∷ rest.0, rest.1, ap (λ l. x ∷ l) rest.2)
+
+holds_none : (o : Option Modes) → is_some o ≡ false → unwrap_or o map.empty ≡ map.empty
+holds_none None none = refl
+holds_none (Some modes) none = absurd (false≢true (sym none))
+
+-- who holds nothing holds no page
+pub unheld : (all : AllRunning) (i : ℕ) → HoldsNothing all i → pages_of all.locks i ≡ map.empty
+unheld all i none = holds_none (map.get all.locks.held i) none.no_locks
 
 module _ (s : State) (i : ℕ) (t : Transaction) (sound : IsSound s) (is : map.get s.txs i ≡ Some t) where
   own : Fits s i t
@@ -109,12 +117,7 @@ module _ (s : State) (i : ℕ) (t : Transaction) (sound : IsSound s) (is : map.g
   starts_inverse : (front : List (ObjOp × ObjReply)) (last : ObjOp × ObjReply) → is_undoing t.at ≡ true → t.undo.entries ≡ front ++ last ∷ [] → HoldsNothing (all_of s) i
       → MayOperate (basis_of (world_of s) i) (moment t.subtx s.commons.pages) (started_for (TakeBack last))
   starts_inverse front last undoing entries none =
-      let unheld : pages_of s.commons.pages.locks i ≡ map.empty = holds_none (map.get s.commons.pages.locks.held i) none.no_locks in
-      may_operate (started_for (TakeBack last)) (record { target = refl; stands = at_start (moment_of (all_of s) i) unheld; fits = refl }) (can_take_back front last undoing entries)
-    where
-      holds_none : (o : Option Modes) → is_some o ≡ false → unwrap_or o map.empty ≡ map.empty
-      holds_none None none = refl
-      holds_none (Some modes) none = absurd (false≢true (sym none))
+      may_operate (started_for (TakeBack last)) (record { target = refl; stands = at_start (moment_of (all_of s) i) (unheld (all_of s) i none); fits = refl }) (can_take_back front last undoing entries)
 
   may_step_back : (inverting : Option OperationFields) → t.at ≡ at.Undoing inverting → FitsAt (at.Undoing inverting) s i t → MayStepBack (basis_of (world_of s) i) inverting t.subtx t.undo s.commons
   may_step_back None back_at fits =

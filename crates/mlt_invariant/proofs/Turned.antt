@@ -1,17 +1,14 @@
 -- What a turn of one transaction, and a roll back, leave of all running subtransactions
-use Rattle.std.proofs.Common.{◌≡◌, ◌≢◌, ℕ, ◌≤◌, Option, Some, is_some, true, unwrap_or, refl, sym, ap, subst, ◌∙◌}
+use Rattle.std.proofs.Common.{◌≡◌, ℕ, ◌≤◌, Option, is_some, true, unwrap_or, sym, ap, subst, ◌∙◌}
 use Rattle.std.specs.FinMap as map
-use Rattle.mlt_page.specs.declared.page.Page.{Page}
-use Rattle.mlt_store.specs.Stores.{PageStore}
-use Rattle.mlt_page_locks.specs.LockTables.{LockTable, page_count}
-use Rattle.mlt_page_locks.specs.Requests.{released}
-use Rattle.mlt_subtx.specs.Images.{Images, Running, put_back, started}
+use Rattle.mlt_page_locks.specs.LockTables.{page_count}
+use Rattle.mlt_subtx.specs.Images.{Images}
 use Rattle.mlt_held.specs.Moments.{Moment}
 use Rattle.mlt_held.specs.PageSteps.{TouchesOnePage}
 use Rattle.mlt_held.proofs.OwnSteps.{step_keeps_tx}
 use Rattle.mlt_running.specs.Running.{AllMayStep, AllRunning, KeepsRunning, after_roll_back, after_step, clean_of, is_open, moment_of}
 use Rattle.mlt_running.proofs.AllEvents.{roll_back_clean, roll_back_keeps, step_leaves_clean, step_leaves_views}
-use Rattle.mlt_operation.specs.PageTurns.{IsRolledBack, TakesTurn, TurnsBack}
+use Rattle.mlt_operation.specs.PageTurns.{TakesTurn, TurnsBack}
 use Rattle.mlt_invariant.proofs.Tables.{inserted_here}
 
 -- two events of one transaction
@@ -24,7 +21,7 @@ keeps_both i one two three first second = record {
 }
 
 -- what the next step of the transaction works on, after one that led here
-stepped : (all : AllRunning) (i : ℕ) (m : Moment) → m.running.tx ≡ i → moment_of (after_step all m) i ≡ m
+pub stepped : (all : AllRunning) (i : ℕ) (m : Moment) → m.running.tx ≡ i → moment_of (after_step all m) i ≡ m
 stepped all i m tx p = record {
   running = record {
     tx = sym tx p;

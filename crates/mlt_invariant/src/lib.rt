@@ -3,8 +3,10 @@
 
 mod end_laws;
 mod may_laws;
+mod pending_laws;
 mod step_laws;
 
 pub use end_laws::operation_that_is_done;
 pub use may_laws::transactions_may_step;
+pub use pending_laws::operation_that_is_not_done;
 pub use step_laws::event_that_keeps_clean_pages;

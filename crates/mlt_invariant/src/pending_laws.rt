@@ -1,0 +1,28 @@
+//! Steps of a pending operation that is not done.
+
+ghost use Rattle.std.specs.Prelude.{ℕ, ◌≡◌, Some};
+ghost use Rattle.std.specs.FinMap as map;
+ghost use Rattle.mlt_running.specs.CleanPages.{RunningImages};
+ghost use Rattle.mlt_kinds.specs.declared.operation.ObjReply.{ObjReply};
+ghost use Rattle.mlt_meeting.specs.Worlds.{basis_of};
+ghost use Rattle.mlt_operation.specs.Operating.{OperationFields};
+ghost use Rattle.mlt_transaction.specs.declared.answer.Answer.{Answer};
+ghost use Rattle.mlt_transaction.specs.declared.answer.Answer.TheVariants as answer;
+ghost use Rattle.mlt_transaction.specs.declared.commons.Commons.{Commons};
+ghost use Rattle.mlt_transaction.specs.declared.transaction.At.TheVariants as at;
+ghost use Rattle.mlt_transaction.specs.declared.transaction.Transaction.{Transaction};
+ghost use Rattle.mlt_transaction.specs.Transactions.{StepsPending};
+ghost use Rattle.mlt_invariant.specs.Events.{with_transaction};
+ghost use Rattle.mlt_invariant.specs.Sound.{IsSound};
+ghost use Rattle.mlt_invariant.specs.States.{State, world_of};
+
+/// Where a pending operation goes on, waits, is blocked or is refused, all that is always true stays true: the clean
+/// pages, the history and what is held are as they were.
+pub fn operation_that_is_not_done()
+    ensures { (s : State) (i : ℕ) (o : OperationFields) (before after : Transaction)
+        (commons : Commons) (told : Answer)
+        → IsSound s → map.get s.txs i ≡ Some before → before.at ≡ at.Pending o
+        → StepsPending (basis_of (world_of s) i) o before after s.commons commons told
+        → ((reply : ObjReply) → told ≡ answer.Done reply → ⊥)
+        → (images : RunningImages) × IsSound (with_transaction s i after commons images) }
+{}
