@@ -2,8 +2,14 @@ pub mod Done
 pub mod Found
 pub mod Grants
 pub mod MaySteps
+pub mod Aborting
+pub mod Closing
+pub mod FewerOpen
+pub mod InverseEnds
+pub mod LastBack
 pub mod Others
 pub mod Pending
 pub mod Stays
 pub mod Tables
 pub mod Turned
+pub mod Undoing

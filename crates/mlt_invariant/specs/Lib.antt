@@ -1,3 +1,4 @@
 pub mod Events
 pub mod Sound
 pub mod States
+pub mod Undoing
