@@ -7,6 +7,7 @@ pub mod Closing
 pub mod FewerOpen
 pub mod InverseEnds
 pub mod LastBack
+pub mod Aborts
 pub mod Others
 pub mod Pending
 pub mod Stays

@@ -1,0 +1,16 @@
+//! Beginnings and ends of transactions, and of aborts.
+
+ghost use Rattle.std.specs.Prelude.{ℕ, ◌≡◌, Some};
+ghost use Rattle.std.specs.FinMap as map;
+ghost use Rattle.mlt_transaction.specs.declared.transaction.Transaction.{Transaction};
+ghost use Rattle.mlt_invariant.specs.Events.{with_transaction};
+ghost use Rattle.mlt_invariant.specs.Sound.{IsSound};
+ghost use Rattle.mlt_invariant.specs.States.{State};
+ghost use Rattle.mlt_invariant.specs.Transactions.{BeginsAbort};
+
+/// The beginning of an abort keeps all that is always true.
+pub fn abort_that_begins()
+    ensures { (s : State) (i : ℕ) (before after : Transaction)
+        → IsSound s → map.get s.txs i ≡ Some before → BeginsAbort before after
+        → IsSound (with_transaction s i after s.commons s.images) }
+{}
