@@ -8,6 +8,8 @@ pub mod FewerOpen
 pub mod InverseEnds
 pub mod LastBack
 pub mod Aborts
+pub mod Begins
+pub mod Openness
 pub mod Others
 pub mod Pending
 pub mod Stays

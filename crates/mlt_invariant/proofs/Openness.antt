@@ -1,0 +1,88 @@
+-- What is left of another transaction by an event that changes who is open
+use Rattle.std.proofs.Common.{◌≡◌, ◌≢◌, ℕ, ◌<◌, length, None, Some, is_some, sym, subst, ap, ◌∙◌}
+use Rattle.std.specs.Ordering.{nat_cmp}
+use Rattle.std.specs.FinMap as map
+use Rattle.std.specs.FinSet as set
+use Rattle.mlt_hash.specs.Walks.{Basis, IsStanding, WalkFields}
+use Rattle.mlt_hash.specs.declared.pass.Phase.{Phase}
+use Rattle.mlt_hash.specs.declared.pass.Phase.TheVariants as phase
+use Rattle.mlt_hash.proofs.Passed.{passed_as}
+use Rattle.mlt_hash_form.specs.Held.{Agrees}
+use Rattle.mlt_held.specs.Views.{View, view_of}
+use Rattle.mlt_object_locks.specs.Locks.{SameReservations}
+use Rattle.mlt_running.specs.Running.{KeepsRunning, clean_of, moment_of}
+use Rattle.mlt_running.proofs.AllRunning.{agrees_with_each}
+use Rattle.mlt_operation.specs.Operating.{FitsPhase, IsOperating, OperationFields}
+use Rattle.mlt_meeting.specs.Worlds.{basis_of}
+use Rattle.mlt_transaction.specs.declared.transaction.At.{At}
+use Rattle.mlt_transaction.specs.declared.transaction.At.TheVariants as at
+use Rattle.mlt_transaction.specs.declared.transaction.Transaction.{Transaction}
+use Rattle.mlt_invariant.specs.Sound.{FitsAt, IsSound}
+use Rattle.mlt_invariant.specs.States.{State, all_of, images_kept, world_of}
+use Rattle.mlt_invariant.proofs.Others.{still_nothing}
+
+-- what a walk's phase says of a reply does not name who is open
+fits_for : (p : Phase) (basis : Basis) (opens : set.FinSet nat_cmp) (o : OperationFields) (view : View) → FitsPhase p basis o view → FitsPhase p (record basis { opens = opens }) o view
+fits_for phase.Start basis opens o view fits = fits
+fits_for (phase.Headed dir row depth) basis opens o view fits = fits
+fits_for (phase.Placed bucket depth) basis opens o view fits = fits
+fits_for (phase.AtBucket bucket depth found) basis opens o view fits = fits
+fits_for (phase.Full next) basis opens o view fits = fits
+fits_for (phase.Adding value bucket room_depth unsplit) basis opens o view fits = fits
+fits_for (phase.Splitting value room_depth) basis opens o view fits = fits
+fits_for (phase.Changed bucket done) basis opens o view fits = record {
+  found = fits.found;
+  reply = fits.reply;
+  decided = fits.decided;
+  passed = passed_as basis opens o.walk o.walk.phase o.walk.split view fits.found fits.passed;
+  told = fits.told;
+  asked = fits.asked;
+  performs = fits.performs;
+}
+
+-- what stays between two states for another transaction j, where a walk stands on by those who are open now
+pub record OpensFor (i j : ℕ) (s s' : State) : Type 0 where
+  pub other : j ≢ i
+  pub runs : KeepsRunning i (all_of s) (all_of s')
+  pub basis : basis_of (world_of s') j ≡ record (basis_of (world_of s) j) { opens = s'.opens }
+  pub agrees : Agrees (view_of (moment_of (all_of s) j)).seen (clean_of (all_of s))
+  pub walks : (walk : WalkFields) (view : View) → IsStanding (basis_of (world_of s) j) walk view → Agrees view.seen (clean_of (all_of s)) → IsStanding (record (basis_of (world_of s) j) { opens = s'.opens }) walk view
+  pub reserved : SameReservations s.commons.objects.reserved s'.commons.objects.reserved i
+  pub max_ops : s'.max_ops ≡ s.max_ops
+
+operates_on : (i j : ℕ) (s s' : State) (o : OperationFields) → OpensFor i j s s' → IsOperating (basis_of (world_of s) j) o (view_of (moment_of (all_of s) j)) → IsOperating (basis_of (world_of s') j) o (view_of (moment_of (all_of s') j))
+operates_on i j s s' o stays operates =
+    let view = view_of (moment_of (all_of s) j) in
+    let here : IsOperating (record (basis_of (world_of s) j) { opens = s'.opens }) o view = record {
+      target = operates.target;
+      stands = stays.walks o.walk view operates.stands stays.agrees;
+      fits = fits_for o.walk.phase (basis_of (world_of s) j) s'.opens o view operates.fits;
+    } in
+    subst (λ (b : Basis). IsOperating b o (view_of (moment_of (all_of s') j))) (sym stays.basis)
+    (subst (λ (v : View). IsOperating (record (basis_of (world_of s) j) { opens = s'.opens }) o v) (sym (stays.runs.views j stays.other)) here)
+
+-- **Another transaction is where it was.**
+pub opens_fits : (a : At) (i j : ℕ) (s s' : State) (t : Transaction) → OpensFor i j s s' → FitsAt a s j t → FitsAt a s' j t
+opens_fits at.Idle i j s s' t stays fits = still_nothing i j (all_of s) (all_of s') stays.runs stays.other fits
+opens_fits (at.Pending o) i j s s' t stays fits = record {
+  op = fits.op;
+  asked = fits.asked;
+  in_range = fits.in_range;
+  operates = operates_on i j s s' o stays fits.operates;
+  reserved = stays.reserved j stays.other ∙ fits.reserved;
+  spare = fits.spare;
+  fewer = subst (λ (n : ℕ). length t.undo.entries < n) (sym stays.max_ops) fits.fewer;
+}
+opens_fits (at.Undoing None) i j s s' t stays fits = (still_nothing i j (all_of s) (all_of s') stays.runs stays.other fits.0, fits.1)
+opens_fits (at.Undoing (Some o)) i j s s' t stays fits = record {
+  front = fits.front;
+  last = fits.last;
+  entries = fits.entries;
+  inverts = fits.inverts;
+  has = fits.has;
+  operates = operates_on i j s s' o stays fits.operates;
+}
+
+-- what an open transaction has read is clean
+pub agrees_in : (s : State) (j : ℕ) (t : Transaction) → IsSound s → map.get s.txs j ≡ Some t → Agrees (view_of (moment_of (all_of s) j)).seen (clean_of (all_of s))
+agrees_in s j t sound is = agrees_with_each (all_of s) j sound.running (ap is_some (sound.kept j ∙ ap images_kept is))
