@@ -9,6 +9,7 @@ pub mod InverseEnds
 pub mod LastBack
 pub mod Aborts
 pub mod Begins
+pub mod Ends
 pub mod Openness
 pub mod Others
 pub mod Pending

@@ -15,3 +15,4 @@ pub use step_laws::event_that_keeps_clean_pages;
 pub use undo_laws::{last_undone_operation_keeps_all, undone_operation_keeps_all};
 pub use transaction_laws::abort_that_begins;
 pub use transaction_laws::{abort_that_begins, transaction_that_begins};
+pub use transaction_laws::{abort_that_begins, transaction_that_begins, transaction_that_ends};
