@@ -34,10 +34,11 @@ use Rattle.mlt_transaction.specs.declared.transaction.Transaction.{Transaction}
 use Rattle.mlt_invariant.specs.Sound.{Fits, FitsAt, IsSound}
 use Rattle.mlt_invariant.specs.States.{State, all_of, images_kept, is_undoing_at, pending_room, room_of, undoing_of, world_of}
 use Rattle.mlt_invariant.specs.Transactions.{Begins, with_next}
+use Rattle.mlt_invariant.proofs.Lengths.{as_many_images}
 use Rattle.mlt_invariant.proofs.Openness.{agrees_in, opens_fits}
 use Rattle.mlt_invariant.proofs.Tables.{inserted_elsewhere, inserted_here}
 
-module _ (s : State) (t : Transaction) (commons : Commons) (sound : IsSound s) (few : map.len s.images < s.commons.pages.locks.max_open) (k : Begins s t commons) where
+module _ (s : State) (t : Transaction) (commons : Commons) (sound : IsSound s) (few : map.len s.txs < s.commons.pages.locks.max_open) (k : Begins s t commons) where
   abbrev i : ℕ
   i = s.begun + 1
 
@@ -56,8 +57,11 @@ module _ (s : State) (t : Transaction) (commons : Commons) (sound : IsSound s) (
   same_all : all_of now ≡ after_begin (all_of s) i
   same_all = ap (λ (p : LockedStore). let all : AllRunning = record { images = map.insert s.images i map.empty; locks = p.locks; store = p.store } in all) k.pages
 
+  fewer : map.len s.images < s.commons.pages.locks.max_open
+  fewer = let same = as_many_images s sound in omega (arith, same, few)
+
   keeps : KeepsRunning i (all_of s) (all_of now)
-  keeps = subst (λ (all : AllRunning). KeepsRunning i (all_of s) all) (sym same_all) (begin_keeps (all_of s) i sound.running few)
+  keeps = subst (λ (all : AllRunning). KeepsRunning i (all_of s) all) (sym same_all) (begin_keeps (all_of s) i sound.running fewer)
 
   same_clean : clean_of (all_of now) ≡ clean_of (all_of s)
   same_clean = ap clean_of same_all ∙ begin_clean (all_of s) i sound.running closed

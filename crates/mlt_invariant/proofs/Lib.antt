@@ -10,6 +10,7 @@ pub mod LastBack
 pub mod Aborts
 pub mod Begins
 pub mod Ends
+pub mod Lengths
 pub mod Openness
 pub mod Others
 pub mod Pending

@@ -14,7 +14,7 @@ ghost use Rattle.mlt_invariant.specs.Transactions.{Begins, BeginsAbort, Ends, wi
 /// The beginning of a transaction, where one more may be open, keeps all that is always true.
 pub fn transaction_that_begins()
     ensures { (s : State) (t : Transaction) (commons : Commons)
-        → IsSound s → map.len s.images < s.commons.pages.locks.max_open → Begins s t commons
+        → IsSound s → map.len s.txs < s.commons.pages.locks.max_open → Begins s t commons
         → IsSound (with_next s t commons) }
 {}
 
