@@ -170,16 +170,19 @@ module _ (s : State) (i : ℕ) (o : OperationFields) (before after : Transaction
   done_sound =
       let rooms = total_room-insert room_of s.txs i before after was in
       let two : pending_room before.at ≡ 2 = ap pending_room e.pending in
-      let zero_now : pending_room after.at ≡ 0 = ap pending_room e.idle in
-      (goes.0, goes.1, record {
-        match = match;
-        running = runs.may;
-        kept = kept_after s i after sound.kept (ap (λ (r : Running). r.images) e.ends.tells.1.ends.running);
-        opened = opened_after s i before after was sound.opened;
-        fits = fits_after s (with_end s i after commons goes.0) i after refl own_fits other_fits;
-        held = held_now;
-        begun = subst AreBegunInOrder (sym new_items) (subst (CountsFrom 1) (sym (no_begin s.commons.history.items (trace.Op i (e.ends.op, e.ends.reply)) refl)) sound.begun);
-        count = sound.count ∙ sym (ap begin_count new_items ∙ ap length (no_begin s.commons.history.items (trace.Op i (e.ends.op, e.ends.reply)) refl));
-        commits = subst AreCounted (sym new_items) (subst (CountsFrom 1) (sym (no_commit s.commons.history.items (trace.Op i (e.ends.op, e.ends.reply)) refl)) sound.commits);
-        room = omega (arith, e.ends.tells.1.room, sound.room, rooms, longer, two, zero_now);
-      })
+      let zero_now : pending_room after.at ≡ 0 = ap pending_room e.idle in (
+        goes.0,
+        goes.1,
+        record {
+          match = match;
+          running = runs.may;
+          kept = kept_after s i after sound.kept (ap (λ (r : Running). r.images) e.ends.tells.1.ends.running);
+          opened = opened_after s i before after was sound.opened;
+          fits = fits_after s (with_end s i after commons goes.0) i after refl own_fits other_fits;
+          held = held_now;
+          begun = subst AreBegunInOrder (sym new_items) (subst (CountsFrom 1) (sym (no_begin s.commons.history.items (trace.Op i (e.ends.op, e.ends.reply)) refl)) sound.begun);
+          count = sound.count ∙ sym (ap begin_count new_items ∙ ap length (no_begin s.commons.history.items (trace.Op i (e.ends.op, e.ends.reply)) refl));
+          commits = subst AreCounted (sym new_items) (subst (CountsFrom 1) (sym (no_commit s.commons.history.items (trace.Op i (e.ends.op, e.ends.reply)) refl)) sound.commits);
+          room = omega (arith, e.ends.tells.1.room, sound.room, rooms, longer, two, zero_now);
+        },
+      )

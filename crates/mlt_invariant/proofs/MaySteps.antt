@@ -86,18 +86,20 @@ module _ (s : State) (i : ℕ) (t : Transaction) (sound : IsSound s) (is : map.g
   may_step_on o pending_at =
       let pending : HasPending s i t o = subst (λ (a : At). FitsAt a s i t) pending_at own.where_at in
       let two : pending_room t.at ≡ 2 = ap pending_room pending_at in
-      let back : CanTakeBack (basis_of (world_of s) i) (clean_of (all_of s)) o.request = subst (CanTakeBack (basis_of (world_of s) i) (clean_of (all_of s))) (sym pending.asked) tt in
-      (record {
-        op = pending.op;
-        asked = pending.asked;
-        goes = λ none. may_operate o pending.operates back;
-        ends = λ reply told. record {
-          reserved = ap (reservation_of s.commons.objects.reserved) own.number ∙ pending.reserved;
-          spare = pending.spare;
-          room = omega (arith, room_there, two);
-          there = there;
-        };
-      }, omega (arith, room_there, two))
+      let back : CanTakeBack (basis_of (world_of s) i) (clean_of (all_of s)) o.request = subst (CanTakeBack (basis_of (world_of s) i) (clean_of (all_of s))) (sym pending.asked) tt in (
+        record {
+          op = pending.op;
+          asked = pending.asked;
+          goes = λ none. may_operate o pending.operates back;
+          ends = λ reply told. record {
+            reserved = ap (reservation_of s.commons.objects.reserved) own.number ∙ pending.reserved;
+            spare = pending.spare;
+            room = omega (arith, room_there, two);
+            there = there;
+          };
+        },
+        omega (arith, room_there, two),
+      )
 
   may_undo : (front : List (ObjOp × ObjReply)) (last : ObjOp × ObjReply) → is_undoing t.at ≡ true → t.undo.entries ≡ front ++ last ∷ [] → MayUndo (world_of s) i last
   may_undo front last undoing entries = record {
@@ -110,7 +112,7 @@ module _ (s : State) (i : ℕ) (t : Transaction) (sound : IsSound s) (is : map.g
   can_take_back : (front : List (ObjOp × ObjReply)) (last : ObjOp × ObjReply) → is_undoing t.at ≡ true → t.undo.entries ≡ front ++ last ∷ [] → CanTakeBack (basis_of (world_of s) i) (clean_of (all_of s)) (TakeBack last)
   can_take_back front last undoing entries walk view bucket depth found key phase here agree =
       let both = undone_is_there (world_of s) i last walk view bucket depth found sound.match (may_undo front last undoing entries) phase key
-          (subst (λ p. Stands p (basis_of (world_of s) i) walk view) (sym phase) here) agree in
+      (subst (λ p. Stands p (basis_of (world_of s) i) walk view) (sym phase) here) agree in
       record { fits = both.0; ghost = both.1 }
 
   -- one that holds nothing is at the start of an inverse

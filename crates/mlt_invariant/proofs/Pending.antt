@@ -74,20 +74,22 @@ module _ (s : State) (i : ℕ) (o : OperationFields) (before after : Transaction
       → commons.history.items ≡ s.commons.history.items → commons.history.room + room_of before ≡ s.commons.history.room + room_of after
       → is_undoing after.at ≡ is_undoing before.at → FitsAt after.at (with_transaction s i after commons all.images) i after
       → (images : RunningImages) × IsSound (with_transaction s i after commons images)
-  sound_after all leaves same own tx undo objects items room undoing fits =
-      (all.images, stays_sound s i before after commons all.images sound was (record {
-        runs = subst (KeepsRunning i (all_of s)) (sym same) leaves.keeps;
-        clean = ap clean_of same ∙ leaves.clean;
-        own = own;
-        number = tx;
-        held = ap (λ (l : Locks). l.held) objects;
-        reserved = λ j ne. ap (λ (l : Locks). reservation_of l.reserved j) objects;
-        items = items;
-        room = room;
-        entries = ap (λ (u : Undo). u.entries) undo;
-        undoing = undoing;
-        fits = fits;
-      }))
+  sound_after all leaves same own tx undo objects items room undoing fits = (
+    all.images,
+    stays_sound s i before after commons all.images sound was (record {
+      runs = subst (KeepsRunning i (all_of s)) (sym same) leaves.keeps;
+      clean = ap clean_of same ∙ leaves.clean;
+      own = own;
+      number = tx;
+      held = ap (λ (l : Locks). l.held) objects;
+      reserved = λ j ne. ap (λ (l : Locks). reservation_of l.reserved j) objects;
+      items = items;
+      room = room;
+      entries = ap (λ (u : Undo). u.entries) undo;
+      undoing = undoing;
+      fits = fits;
+    }),
+  )
 
   same_room : (next : OperationFields) → after.at ≡ at.Pending next → after.undo ≡ before.undo → commons.history ≡ s.commons.history
       → commons.history.room + room_of before ≡ s.commons.history.room + room_of after
@@ -119,9 +121,10 @@ module _ (s : State) (i : ℕ) (o : OperationFields) (before after : Transaction
   back_to : (all : AllRunning) → LeavesAll i (all_of s) (after_roll_back all i) → after.subtx ≡ started i → commons.pages.locks ≡ released all.locks i
       → commons.pages.store ≡ record all.store { pages = put_back (images_by all i) all.store.pages }
       → (all_of (with_transaction s i after commons (after_roll_back all i).images) ≡ after_roll_back all i) × (map.get (after_roll_back all i).images i ≡ Some after.subtx.images)
-  back_to all leaves running locks store =
-      ((λ p. record { images = map.insert all.images i map.empty; locks = locks p; store = store p }),
-       inserted_here all.images i map.empty ∙ sym (ap (λ (r : Running). Some r.images) running))
+  back_to all leaves running locks store = (
+    (λ p. record { images = map.insert all.images i map.empty; locks = locks p; store = store p }),
+    inserted_here all.images i map.empty ∙ sym (ap (λ (r : Running). Some r.images) running),
+  )
 
   -- all that a turn did is rolled back
   rolled : (back : TurnsBack (moment_of (all_of s) i) (moment after.subtx commons.pages))

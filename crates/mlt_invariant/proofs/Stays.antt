@@ -25,7 +25,6 @@ use Rattle.mlt_invariant.proofs.Tables.{inserted_elsewhere, inserted_here, same_
 
 module _ (s : State) (i : ℕ) (before after : Transaction) (commons : Commons) (images : RunningImages)
     (sound : IsSound s) (was : map.get s.txs i ≡ Some before) (k : KeepsClean s i before after commons images) where
-
   same_lists : lists_in (world_of (with_transaction s i after commons images)) ≡ lists_in (world_of s)
   same_lists = ap (λ (items : List TraceItem). lists_of (entries_of items)) k.items
 

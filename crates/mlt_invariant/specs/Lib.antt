@@ -1,5 +1,5 @@
 pub mod Events
 pub mod Sound
 pub mod States
-pub mod Undoing
 pub mod Transactions
+pub mod Undoing

@@ -5,14 +5,12 @@ mod end_laws;
 mod may_laws;
 mod pending_laws;
 mod step_laws;
-mod undo_laws;
 mod transaction_laws;
+mod undo_laws;
 
 pub use end_laws::operation_that_is_done;
 pub use may_laws::transactions_may_step;
 pub use pending_laws::operation_that_is_not_done;
 pub use step_laws::event_that_keeps_clean_pages;
-pub use undo_laws::{last_undone_operation_keeps_all, undone_operation_keeps_all};
-pub use transaction_laws::abort_that_begins;
-pub use transaction_laws::{abort_that_begins, transaction_that_begins};
 pub use transaction_laws::{abort_that_begins, transaction_that_begins, transaction_that_ends};
+pub use undo_laws::{last_undone_operation_keeps_all, undone_operation_keeps_all};
