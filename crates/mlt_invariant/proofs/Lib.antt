@@ -11,6 +11,7 @@ pub mod InverseEnds
 pub mod LastBack
 pub mod Lengths
 pub mod MaySteps
+pub mod Opening
 pub mod Openness
 pub mod Others
 pub mod Pending

@@ -1,4 +1,5 @@
 pub mod Events
+pub mod Opening
 pub mod Sound
 pub mod States
 pub mod Transactions

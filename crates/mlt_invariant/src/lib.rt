@@ -3,6 +3,7 @@
 
 mod end_laws;
 mod may_laws;
+mod opening_law;
 mod pending_laws;
 mod step_laws;
 mod transaction_laws;
@@ -10,6 +11,7 @@ mod undo_laws;
 
 pub use end_laws::operation_that_is_done;
 pub use may_laws::transactions_may_step;
+pub use opening_law::opening_state_is_sound;
 pub use pending_laws::operation_that_is_not_done;
 pub use step_laws::event_that_keeps_clean_pages;
 pub use transaction_laws::{abort_that_begins, transaction_that_begins, transaction_that_ends};
