@@ -33,6 +33,7 @@ use Rattle.mlt_meeting.specs.Worlds.{PagesMeanHistory, lists_in}
 use Rattle.mlt_meeting.proofs.OpenNumbers.{removed_beside, removed_here as closed_here}
 use Rattle.mlt_meeting.proofs.Transactions.{close_keeps as close_keeps_match}
 use Rattle.mlt_meeting.proofs.WalkEnds.{same_pages_match}
+use Rattle.mlt_meeting.proofs.Walks.{stands_by_end}
 use Rattle.mlt_operation.specs.Operating.{OperationFields}
 use Rattle.mlt_transaction.specs.declared.answer.Answer.TheVariants as answer
 use Rattle.mlt_transaction.specs.declared.commons.Commons.{Commons}
@@ -41,11 +42,11 @@ use Rattle.mlt_transaction.specs.Steps.{TakesLast}
 use Rattle.mlt_invariant.specs.Sound.{Fits, IsSound}
 use Rattle.mlt_invariant.specs.States.{State, all_of, images_kept, is_undoing_at, room_of, undoing_of, world_of}
 use Rattle.mlt_invariant.specs.Undoing.{LedBack, TakesLastBack, with_aborted}
-use Rattle.mlt_invariant.proofs.Closing.{all_of_others, nothing_of, one_after_another, removed_elsewhere, removed_here, removed_inserted}
-use Rattle.mlt_invariant.proofs.FewerOpen.{fits_with_fewer, without_open}
+use Rattle.mlt_invariant.proofs.Closing.{all_of_others, nothing_of, one_after_another}
 use Rattle.mlt_invariant.proofs.InverseEnds.{cleared}
 use Rattle.mlt_invariant.proofs.LastBack.{IsLeft, led_back, left, may_undo, pages_now, room_before}
-use Rattle.mlt_invariant.proofs.Others.{still_fits}
+use Rattle.mlt_invariant.proofs.Openness.{agrees_in, opens_fits}
+use Rattle.mlt_invariant.proofs.Tables.{removed_elsewhere, removed_here, removed_inserted}
 
 module _ (s : State) (i : ℕ) (inverting : Option OperationFields) (before after : Transaction) (commons : Commons)
     (sound : IsSound s) (was : map.get s.txs i ≡ Some before) (takes : TakesLastBack s inverting before after commons answer.Aborted) where
@@ -158,7 +159,15 @@ module _ (s : State) (i : ℕ) (inverting : Option OperationFields) (before afte
         number = fits.number;
         stands = fits.stands ∙ sym same ∙ ap (λ (l : Lists (ObjOp × ObjReply)). l.transcripts j) (sym lists_now);
         few = fits.few;
-        where_at = still_fits t.at i j (without_open s i) now t (record { other = ne; runs = runs; basis = refl; reserved = reserved; max_ops = refl }) (fits_with_fewer s i j t sound is t.at fits.where_at);
+        where_at = opens_fits t.at i j s now t (record {
+          other = ne;
+          runs = runs;
+          basis = refl;
+          agrees = agrees_in s j t sound is;
+          walks = λ walk view stands agree. stands_by_end (world_of s) j walk view sound.match stands agree i;
+          reserved = reserved;
+          max_ops = refl;
+        }) fits.where_at;
       }
 
   fits_all : (j : ℕ) (t : Transaction) → map.get now.txs j ≡ Some t → Fits now j t

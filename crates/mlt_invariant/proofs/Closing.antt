@@ -1,25 +1,10 @@
--- What a table, what is held and what runs are once a transaction is closed
-use Rattle.std.proofs.Common.{◌≡◌, ◌≢◌, ℕ, List, [], ◌∷◌, None, true, false, not, nat_eq, cond, refl, ap, ◌∙◌, arith}
-use Rattle.std.specs.FinMap as map
+-- What is held and what runs once a transaction is closed
+use Rattle.std.proofs.Common.{◌≡◌, ◌≢◌, ℕ, List, [], ◌∷◌, true, false, not, nat_eq, cond, refl, ap, ◌∙◌}
 use Rattle.std.specs.List.{filter}
-use Rattle.std.specs.Ordering.{nat_cmp}
-use Rattle.std.proofs.lemmas.Bool.{cases_eq}
-use Rattle.std.proofs.lemmas.Bool.Decides.{nat_tests}
 use Rattle.mlt_order.specs.Interleavings.{items_of}
 use Rattle.mlt_order.proofs.Parts.{items_of-without_other, items_of-without_same, without}
 use Rattle.mlt_object_locks.specs.Locks.{is_of_other}
-use Rattle.mlt_page_locks.proofs.Maps.{get_inserted, get_removed, same_entries}
 use Rattle.mlt_running.specs.Running.{AllRunning, KeepsRunning}
-
-module _ {X : Type 0} (m : map.FinMap nat_cmp X) (i : ℕ) where
-  pub removed_here : map.get (map.remove m i) i ≡ None
-  removed_here = grind (arith, nat_tests, get_removed m i i)
-
-  pub removed_elsewhere : (j : ℕ) → j ≢ i → map.get (map.remove m i) j ≡ map.get m j
-  removed_elsewhere j ne = grind (arith, nat_tests, get_removed m i j)
-
-  pub removed_inserted : (x : X) → map.remove (map.insert m i x) i ≡ map.remove m i
-  removed_inserted x = same_entries _ _ (λ q. grind (arith, nat_tests, cases_eq q i, get_removed (map.insert m i x) i q, get_removed m i q, get_inserted m i x q))
 
 filter_is_without : {P : Type 0} (i : ℕ) (xs : List (ℕ × P)) → filter (is_of_other i) xs ≡ without i xs
 filter_is_without i [] = refl

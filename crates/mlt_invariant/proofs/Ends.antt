@@ -3,10 +3,7 @@ use Rattle.std.proofs.Common.{◌≡◌, ◌≢◌, ℕ, ◌+◌, List, [], ◌�
 use Rattle.std.specs.FinMap as map
 use Rattle.std.specs.FinSet as set
 use Rattle.std.specs.List.{filter}
-use Rattle.std.specs.Ordering.{nat_cmp}
 use Rattle.std.proofs.lemmas.Bool.{cases_eq}
-use Rattle.std.proofs.lemmas.Bool.Decides.{nat_tests}
-use Rattle.mlt_page_locks.proofs.Maps.{get_removed}
 use Rattle.mlt_kinds.specs.declared.operation.ObjOp.{ObjOp}
 use Rattle.mlt_kinds.specs.declared.operation.ObjReply.{ObjReply}
 use Rattle.mlt_order.specs.Histories.{Entry, Lists, after_entry, lists_of, no_lists}
@@ -16,7 +13,7 @@ use Rattle.mlt_order.proofs.Growing.{after_entries-push}
 use Rattle.mlt_order.proofs.Tables.{changed}
 use Rattle.mlt_trace.specs.declared.item.TraceItem.{TraceItem}
 use Rattle.mlt_trace.specs.declared.item.TraceItem.TheVariants as trace
-use Rattle.mlt_object_locks.specs.Locks.{Held, is_of_other}
+use Rattle.mlt_object_locks.specs.Locks.{is_of_other}
 use Rattle.mlt_history.specs.Entries.{entries_of, entry_of}
 use Rattle.mlt_history.specs.Numbers.{AreCounted, CountsFrom, begun_txs, commit_count}
 use Rattle.mlt_history.proofs.ItemLaws.{commit_keeps_counted, entries_of-append, no_begin, no_commit}
@@ -37,23 +34,9 @@ use Rattle.mlt_transaction.specs.declared.transaction.Transaction.{Transaction}
 use Rattle.mlt_invariant.specs.Sound.{Fits, FitsAt, IsSound}
 use Rattle.mlt_invariant.specs.States.{State, all_of, images_kept, is_undoing_at, room_of, undoing_of, world_of}
 use Rattle.mlt_invariant.specs.Transactions.{Ends, without_transaction}
+use Rattle.mlt_invariant.proofs.Closing.{all_of_others, nothing_of}
 use Rattle.mlt_invariant.proofs.Openness.{agrees_in, opens_fits}
-
-module _ {X : Type 0} (m : map.FinMap nat_cmp X) (i : ℕ) where
-  removed_here : map.get (map.remove m i) i ≡ None
-  removed_here = grind (arith, nat_tests, get_removed m i i)
-
-  removed_elsewhere : (j : ℕ) → j ≢ i → map.get (map.remove m i) j ≡ map.get m j
-  removed_elsewhere j ne = grind (arith, nat_tests, get_removed m i j)
-
--- nothing is held any more by who was left out, and by others what was
-none_held : (held : List Held) (i : ℕ) → items_of i (filter (is_of_other i) held) ≡ []
-none_held [] i = refl
-none_held (entry ∷ held) i = let rest = none_held held i in first_of (grind arith, cc)
-
-others_held : (held : List Held) (i j : ℕ) → j ≢ i → items_of j (filter (is_of_other i) held) ≡ items_of j held
-others_held [] i j ne = refl
-others_held (entry ∷ held) i j ne = let rest = others_held held i j ne in first_of (grind arith, cc)
+use Rattle.mlt_invariant.proofs.Tables.{removed_elsewhere, removed_here}
 
 -- the world in which transaction i is open no more, and that has this entry of it
 abbrev ended_world : State → ℕ → Entry (ObjOp × ObjReply) → World
@@ -152,9 +135,9 @@ module _ (s : State) (i : ℕ) (before : Transaction) (commons : Commons) (item 
       let list = changed (lists_in (world_of s)).held i [] in
       ap (items_of j) k.held ∙ elim (cases_eq j i) [
         | inl here ↦
-            ap (λ n. items_of n (filter (is_of_other i) s.commons.objects.held)) here ∙ none_held s.commons.objects.held i
+            ap (λ n. items_of n (filter (is_of_other i) s.commons.objects.held)) here ∙ nothing_of i s.commons.objects.held
             ∙ sym (ap (with_entry (lists_in (world_of s)).held i []) here ∙ list.0)
-        | inr differ ↦ others_held s.commons.objects.held i j differ ∙ sound.held j ∙ sym (list.1 j differ)
+        | inr differ ↦ all_of_others i j s.commons.objects.held differ ∙ sound.held j ∙ sym (list.1 j differ)
       ] ∙ sym (ap (λ f. f j) held_now)
 
   begun_still : begun_txs commons.history.items ≡ begun_txs s.commons.history.items

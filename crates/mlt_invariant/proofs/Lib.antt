@@ -4,7 +4,6 @@ pub mod Begins
 pub mod Closing
 pub mod Done
 pub mod Ends
-pub mod FewerOpen
 pub mod Found
 pub mod Grants
 pub mod InverseEnds

@@ -1,5 +1,5 @@
 -- What is left of another transaction by an event that changes who is open
-use Rattle.std.proofs.Common.{◌≡◌, ◌≢◌, ℕ, ◌<◌, length, None, Some, is_some, sym, subst, ap, ◌∙◌}
+use Rattle.std.proofs.Common.{◌≡◌, ◌≢◌, ℕ, ◌<◌, length, None, Some, sym, subst, ◌∙◌}
 use Rattle.std.specs.Ordering.{nat_cmp}
 use Rattle.std.specs.FinMap as map
 use Rattle.std.specs.FinSet as set
@@ -18,7 +18,8 @@ use Rattle.mlt_transaction.specs.declared.transaction.At.{At}
 use Rattle.mlt_transaction.specs.declared.transaction.At.TheVariants as at
 use Rattle.mlt_transaction.specs.declared.transaction.Transaction.{Transaction}
 use Rattle.mlt_invariant.specs.Sound.{FitsAt, IsSound}
-use Rattle.mlt_invariant.specs.States.{State, all_of, images_kept, world_of}
+use Rattle.mlt_invariant.specs.States.{State, all_of, world_of}
+use Rattle.mlt_invariant.proofs.InverseEnds.{open_there}
 use Rattle.mlt_invariant.proofs.Others.{still_nothing}
 
 -- what a walk's phase says of a reply does not name who is open
@@ -85,4 +86,4 @@ opens_fits (at.Undoing (Some o)) i j s s' t stays fits = record {
 
 -- what an open transaction has read is clean
 pub agrees_in : (s : State) (j : ℕ) (t : Transaction) → IsSound s → map.get s.txs j ≡ Some t → Agrees (view_of (moment_of (all_of s) j)).seen (clean_of (all_of s))
-agrees_in s j t sound is = agrees_with_each (all_of s) j sound.running (ap is_some (sound.kept j ∙ ap images_kept is))
+agrees_in s j t sound is = agrees_with_each (all_of s) j sound.running (open_there s j t sound is)

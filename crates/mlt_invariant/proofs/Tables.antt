@@ -1,11 +1,11 @@
--- The table of open transactions, with one of them changed
-use Rattle.std.proofs.Common.{is_some, subst, ◌≡◌, ◌≢◌, ℕ, Some, sym, ap, ◌∙◌, inl, inr, arith}
+-- The table of open transactions, with one of them changed or left out
+use Rattle.std.proofs.Common.{is_some, subst, ◌≡◌, ◌≢◌, ℕ, None, Some, sym, ap, ◌∙◌, inl, inr, arith}
 use Rattle.std.specs.FinMap as map
 use Rattle.std.specs.FinSet as set
 use Rattle.std.specs.Ordering.{nat_cmp}
 use Rattle.std.proofs.lemmas.Bool.{cases_eq}
 use Rattle.std.proofs.lemmas.Bool.Decides.{nat_tests}
-use Rattle.mlt_page_locks.proofs.Maps.{get_inserted}
+use Rattle.mlt_page_locks.proofs.Maps.{get_inserted, get_removed, same_entries}
 use Rattle.mlt_transaction.specs.declared.transaction.Transaction.{Transaction}
 use Rattle.mlt_invariant.specs.Sound.{Fits}
 use Rattle.mlt_invariant.specs.States.{State, images_kept, is_undoing, is_undoing_at, undoing_of}
@@ -16,6 +16,16 @@ module _ {X : Type 0} (m : map.FinMap nat_cmp X) (i : ℕ) (x : X) where
 
   pub inserted_elsewhere : (j : ℕ) → j ≢ i → map.get (map.insert m i x) j ≡ map.get m j
   inserted_elsewhere j ne = grind (arith, nat_tests, get_inserted m i x j)
+
+module _ {X : Type 0} (m : map.FinMap nat_cmp X) (i : ℕ) where
+  pub removed_here : map.get (map.remove m i) i ≡ None
+  removed_here = grind (arith, nat_tests, get_removed m i i)
+
+  pub removed_elsewhere : (j : ℕ) → j ≢ i → map.get (map.remove m i) j ≡ map.get m j
+  removed_elsewhere j ne = grind (arith, nat_tests, get_removed m i j)
+
+  pub removed_inserted : (x : X) → map.remove (map.insert m i x) i ≡ map.remove m i
+  removed_inserted x = same_entries _ _ (λ q. grind (arith, nat_tests, cases_eq q i, get_removed (map.insert m i x) i q, get_removed m i q, get_inserted m i x q))
 
 -- who is being undone stays, where the one that changes stays so
 pub same_undoing : (txs : map.FinMap nat_cmp Transaction) (i : ℕ) (before after : Transaction) → map.get txs i ≡ Some before → is_undoing after.at ≡ is_undoing before.at
