@@ -1,7 +1,6 @@
 -- An abort takes the last operation back
 use Rattle.std.specs.Prelude.{ℕ, ◌≡◌, ◌++◌, ◌∷◌, [], Option, None}
 use Rattle.std.specs.FinMap as map
-use Rattle.std.specs.FinSet as set
 use Rattle.mlt_kinds.specs.Bases.{Base, Step}
 use Rattle.mlt_kinds.specs.declared.operation.ObjOp.{ObjOp}
 use Rattle.mlt_kinds.specs.declared.operation.ObjReply.{ObjReply}
@@ -11,27 +10,20 @@ use Rattle.mlt_transaction.specs.declared.commons.Commons.{Commons}
 use Rattle.mlt_transaction.specs.declared.transaction.At.TheVariants as at
 use Rattle.mlt_transaction.specs.declared.transaction.Transaction.{Transaction}
 use Rattle.mlt_transaction.specs.Steps.{EndsBack}
+use Rattle.mlt_invariant.specs.Events.{with_transaction}
 use Rattle.mlt_invariant.specs.Sound.{IsSound}
 use Rattle.mlt_invariant.specs.States.{State}
+use Rattle.mlt_invariant.specs.Transactions.{without_transaction}
 
 -- transaction i is now this one and keeps no image, and the pages, the locks, the history and the base are these
 abbrev pub with_undone : State → ℕ → Transaction → Commons → Base → State
-with_undone s i t commons base = record s {
-  commons = commons;
-  txs = map.insert s.txs i t;
-  images = map.insert s.images i map.empty;
-  base = base;
-}
+with_undone s i t commons base =
+    let images = map.insert s.images i map.empty in
+    record (with_transaction s i t commons images) { base = base }
 
 -- transaction i is closed, and the pages, the locks, the history and the base are these
 abbrev pub with_aborted : State → ℕ → Commons → Base → State
-with_aborted s i commons base = record s {
-  commons = commons;
-  txs = map.remove s.txs i;
-  images = map.remove s.images i;
-  opens = set.remove s.opens i;
-  base = base;
-}
+with_aborted s i commons base = record (without_transaction s i commons) { base = base }
 
 -- the abort of a transaction takes its last operation back, with this inverse or none, and is told this
 pub record TakesLastBack (s : State) (inverting : Option OperationFields) (before after : Transaction)
