@@ -1,0 +1,29 @@
+-- What the calls of one transaction make of a table of open ones
+use Rattle.std.specs.Prelude.{ℕ, ◌≡◌, Some}
+use Rattle.std.specs.Ordering.{nat_cmp}
+use Rattle.std.specs.FinMap as map
+use Rattle.std.specs.FinSet as set
+use Rattle.mlt_hash_form.specs.declared.root.Root.{Root}
+use Rattle.mlt_hash.specs.Walks.{basis_by}
+use Rattle.mlt_transaction.specs.declared.answer.Answer.{Answer}
+use Rattle.mlt_transaction.specs.declared.commons.Commons.{Commons}
+use Rattle.mlt_transaction.specs.declared.transaction.Transaction.{Transaction}
+use Rattle.mlt_transaction.specs.Transactions.{TellsOfTransaction}
+
+-- the open transactions, by their numbers
+abbrev pub Table : Type 0
+Table = map.FinMap nat_cmp Transaction
+
+-- the transaction of this number, and no other, is changed
+pub record ChangesOne (tx : ℕ) (old new : Table) : Type 0 where
+  pub before : Transaction
+  pub after : Transaction
+  pub was : map.get old tx ≡ Some before
+  pub is : new ≡ map.insert old tx after
+
+-- the transaction of this number takes a step
+pub record StepsOne {P : Type 0} (bits_of : P → ℕ → ℕ) (root : Root P) (opens : set.FinSet nat_cmp)
+    (tx : ℕ) (old new : Table) (commons commons' : Commons) (told : Answer) : Type 0 where
+  pub changes : ChangesOne tx old new
+  pub tells : TellsOfTransaction (basis_by bits_of root opens changes.before.subtx.tx)
+      changes.before changes.after commons commons' told

@@ -1,0 +1,6 @@
+//! The open transactions of a manager, by their numbers.
+#![tactic(auto)]
+
+mod table;
+
+pub use table::OpenTransactions;

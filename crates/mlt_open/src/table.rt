@@ -1,0 +1,101 @@
+//! The table of open transactions.
+
+ghost use Rattle.std.specs.Prelude.{◌≡◌, None, Some, OnOk, OnErr, IfErr, option_copied};
+ghost use Rattle.std.specs.FinMap as map;
+ghost use Rattle.mlt_hash.specs.Walks.{basis_by};
+ghost use Rattle.mlt_transaction.specs.declared.transaction.Transaction.{Transaction as TransactionFields};
+ghost use Rattle.mlt_transaction.specs.Transactions.{MayStepIn};
+ghost use Rattle.mlt_kinds.specs.Bases.{with_entry};
+ghost use Rattle.mlt_open.specs.Tables.{StepsOne};
+
+use mlt_hash_form::Root;
+use mlt_transaction::{Answer, Commons, Transaction};
+use mlt_types::{OpenSet, Pseudo, Refusal, TxId};
+use std::alloc::Global;
+use std::collections::BTreeMap;
+use std::marker::Model;
+
+/// The open transactions. A contract sees a finite map from their numbers.
+#[derive(Drop)]
+pub struct OpenTransactions {
+    txs: BTreeMap<u64, Transaction>,
+}
+
+impl Model for OpenTransactions {
+    ghost use Rattle.std.specs.FinMap as map;
+    ghost use Rattle.std.specs.Ordering.{nat_cmp};
+    ghost use Rattle.std.specs.Coded.{coded_ℕ};
+    ghost use Rattle.mlt_transaction.specs.declared.transaction.Transaction.{Transaction};
+    ghost use Rattle.mlt_transaction.specs.contracts.transaction.Transaction.{the_row};
+
+    ghost Value = { map.FinMap nat_cmp Transaction };
+
+    ghost coded = { map.code coded_ℕ the_row.coded };
+
+    ghost view = { λ table. map.from_entries table.txs.entries };
+}
+
+#[tactic(auto, using(crate::proofs::Tables::entry_in_map, crate::proofs::Tables::entries_updated))]
+impl OpenTransactions {
+    /// No transaction. It takes no memory.
+    pub fn new(alloc: Global) -> OpenTransactions
+        ensures { result ≡ map.empty }
+    {
+        OpenTransactions {
+            txs: BTreeMap::new(alloc),
+        }
+    }
+
+    /// How many are open.
+    pub fn len(&self) -> usize
+        ensures { result ≡ map.len self.now }
+    {
+        self.txs.len()
+    }
+
+    /// The transaction of a number, if it is open.
+    pub fn get(&self, tx: TxId) -> Option<&Transaction>
+        ensures { option_copied result ≡ map.get self.now tx }
+    {
+        self.txs.get(&tx.0)
+    }
+
+    /// Adds a transaction under a number.
+    ///
+    /// # Errors
+    /// `OutOfMemory`, where a growth was refused; the table is then as before.
+    pub fn insert(&mut self, tx: TxId, transaction: Transaction) -> Result<(), Refusal>
+        ensures inserted { OnOk result (self.new ≡ with_entry self.old tx (Some transaction)) }
+        ensures err { OnErr result (self.new ≡ self.old) }
+        ensures refusal { IfErr result (λ refusal. refusal ≡ Refusal.OutOfMemory) }
+    {
+        self.txs.insert(tx.0, transaction)?;
+        Ok(())
+    }
+
+    /// Takes the transaction of a number out, if it is open.
+    pub fn remove(&mut self, tx: TxId)
+        ensures { self.new ≡ with_entry self.old tx None }
+    {
+        self.txs.remove(&tx.0);
+    }
+
+    /// One step of the transaction of a number, which is open and not idle.
+    pub fn step<P: Pseudo>(
+        &mut self,
+        tx: TxId,
+        commons: &mut Commons,
+        root: &Root<P>,
+        opens: &OpenSet,
+    ) -> Answer
+        requires is_open { (t : TransactionFields) × (map.get self.old tx ≡ Some t)
+            × MayStepIn (basis_by P.bits_of root.now opens.now t.subtx.tx) t commons.old }
+        ensures steps { StepsOne P.bits_of root.now opens.now tx self.old self.new
+            commons.old commons.new result }
+    {
+        match self.txs.get_mut(&tx.0) {
+            Some(transaction) => transaction.step(commons, root, opens),
+            None => unreachable!(),
+        }
+    }
+}
