@@ -1,12 +1,14 @@
 pub mod Aborting
 pub mod Aborts
 pub mod Begins
+pub mod Calls
 pub mod Closing
 pub mod Done
 pub mod Ends
 pub mod Found
 pub mod Grants
 pub mod InverseEnds
+pub mod Inverting
 pub mod LastBack
 pub mod Lengths
 pub mod MaySteps
@@ -17,4 +19,5 @@ pub mod Pending
 pub mod Stays
 pub mod Tables
 pub mod Turned
+pub mod Turning
 pub mod Undoing

@@ -1,18 +1,18 @@
 -- Steps of a pending operation that is not done
-use Rattle.std.proofs.Common.{◌≡◌, ℕ, ◌+◌, ◌≤◌, false, ◌<◌, length, Option, Some, unwrap_or, refl, sym, ap, subst, ◌∙◌, inl, inr, arith}
+use Rattle.std.proofs.Common.{◌≡◌, ℕ, ◌+◌, ◌≤◌, false, ◌<◌, length, Some, refl, sym, ap, subst, ◌∙◌, inl, inr, arith}
 use Rattle.std.specs.FinMap as map
 use Rattle.mlt_kinds.specs.declared.operation.ObjOp.{ObjOp}
 use Rattle.mlt_kinds.specs.declared.operation.ObjReply.{ObjReply}
 use Rattle.mlt_page_locks.specs.Requests.{released}
 use Rattle.mlt_object_locks.specs.Locks.{Locks, reservation_of}
 use Rattle.mlt_history.specs.Items.{ItemsWithRoom}
-use Rattle.mlt_subtx.specs.Images.{Images, Running, put_back, started}
+use Rattle.mlt_subtx.specs.Images.{Running, put_back, started}
 use Rattle.mlt_undo.specs.Undo.{Undo}
 use Rattle.mlt_held.specs.declared.locked_store.LockedStore.{LockedStore}
 use Rattle.mlt_held.specs.Moments.{Moment, moment}
 use Rattle.mlt_held.specs.Views.{view_of}
 use Rattle.mlt_running.specs.CleanPages.{RunningImages}
-use Rattle.mlt_running.specs.Running.{AllRunning, HoldsNothing, KeepsRunning, after_roll_back, after_step, clean_of, images_by, moment_of}
+use Rattle.mlt_running.specs.Running.{AllRunning, HoldsNothing, after_roll_back, after_step, images_by, moment_of}
 use Rattle.mlt_running.proofs.AllEvents.{nothing_after_roll_back}
 use Rattle.mlt_meeting.specs.Worlds.{basis_of}
 use Rattle.mlt_operation.specs.declared.answer.StepAnswer.TheVariants as step
@@ -31,20 +31,11 @@ use Rattle.mlt_hash.proofs.Laws.{at_start}
 use Rattle.mlt_transaction.specs.Transactions.{GivesUpRoom, LeavesRoom, StepsPending, pending_after}
 use Rattle.mlt_invariant.specs.Events.{with_transaction}
 use Rattle.mlt_invariant.specs.Sound.{FitsAt, HasPending, IsSound}
-use Rattle.mlt_invariant.specs.States.{State, all_of, images_kept, is_undoing, pending_room, room_of, world_of}
+use Rattle.mlt_invariant.specs.States.{State, all_of, is_undoing, pending_room, room_of, world_of}
 use Rattle.mlt_invariant.proofs.MaySteps.{is_open_now, same_moment, unheld}
-use Rattle.mlt_invariant.proofs.Stays.{stays_sound}
+use Rattle.mlt_invariant.proofs.Turning.{moment_now, sound_after, stays_all, turns_all}
 use Rattle.mlt_invariant.proofs.Tables.{inserted_here}
 use Rattle.mlt_invariant.proofs.Turned.{LeavesAll, after_turn, rolled_back, stepped, turn_back_leaves, turn_leaves}
-
--- what the transaction works on after an event
-moment_now : (s : State) (i : ℕ) (after : Transaction) (commons : Commons) (images : RunningImages) → map.get images i ≡ Some after.subtx.images → after.subtx.tx ≡ i
-    → moment_of (all_of (with_transaction s i after commons images)) i ≡ moment after.subtx commons.pages
-moment_now s i after commons images own tx p = record {
-  running = record { tx = sym tx p; images = ap (λ (o : Option Images). unwrap_or o map.empty) own p };
-  locks = commons.pages.locks;
-  store = commons.pages.store;
-}
 
 module _ (s : State) (i : ℕ) (o : OperationFields) (before after : Transaction) (commons : Commons)
     (sound : IsSound s) (was : map.get s.txs i ≡ Some before) (pending_at : before.at ≡ at.Pending o) where
@@ -68,29 +59,6 @@ module _ (s : State) (i : ℕ) (o : OperationFields) (before after : Transaction
     fewer = subst (λ (u : Undo). length u.entries < s.max_ops) (sym undo) pending.fewer;
   }
 
-  -- an event that leaves the rest
-  sound_after : (all : AllRunning) → LeavesAll i (all_of s) all → all_of (with_transaction s i after commons all.images) ≡ all
-      → map.get all.images i ≡ Some after.subtx.images → after.subtx.tx ≡ i → after.undo ≡ before.undo → commons.objects ≡ s.commons.objects
-      → commons.history.items ≡ s.commons.history.items → commons.history.room + room_of before ≡ s.commons.history.room + room_of after
-      → is_undoing after.at ≡ is_undoing before.at → FitsAt after.at (with_transaction s i after commons all.images) i after
-      → (images : RunningImages) × IsSound (with_transaction s i after commons images)
-  sound_after all leaves same own tx undo objects items room undoing fits = (
-    all.images,
-    stays_sound s i before after commons all.images sound was (record {
-      runs = subst (KeepsRunning i (all_of s)) (sym same) leaves.keeps;
-      clean = ap clean_of same ∙ leaves.clean;
-      own = own;
-      number = tx;
-      held = ap (λ (l : Locks). l.held) objects;
-      reserved = λ j ne. ap (λ (l : Locks). reservation_of l.reserved j) objects;
-      items = items;
-      room = room;
-      entries = ap (λ (u : Undo). u.entries) undo;
-      undoing = undoing;
-      fits = fits;
-    }),
-  )
-
   same_room : (next : OperationFields) → after.at ≡ at.Pending next → after.undo ≡ before.undo → commons.history ≡ s.commons.history
       → commons.history.room + room_of before ≡ s.commons.history.room + room_of after
   same_room next is undo history =
@@ -109,16 +77,12 @@ module _ (s : State) (i : ℕ) (o : OperationFields) (before after : Transaction
       → next.request ≡ o.request → IsOperating (basis_of (world_of s) i) next (view_of (moment after.subtx commons.pages))
       → (images : RunningImages) × IsSound (with_transaction s i after commons images)
   turned next is rest turn request operates =
-      let m : Moment = moment after.subtx commons.pages in
-      let turn_here : TakesTurn (moment_of (all_of s) i) m = subst (λ (n : Moment). TakesTurn n m) (sym (same_moment s i before sound was)) turn in
-      let leaves = turn_leaves (all_of s) i m sound.running (is_open_now s i before sound was) turn_here in
-      let all = after_turn (all_of s) turn_here.mid m in
-      let own : map.get all.images i ≡ Some after.subtx.images = ap (λ (n : ℕ). map.get all.images n) (sym leaves.1) ∙ inserted_here (map.insert s.images turn_here.mid.running.tx turn_here.mid.running.images) after.subtx.tx after.subtx.images in
-      sound_after all leaves.0 refl own leaves.1 rest.undo_kept rest.objects (ap (λ (h : ItemsWithRoom). h.items) rest.history) (same_room next is rest.undo_kept rest.history) (still_forward (at.Pending next) is refl)
-      (subst (λ (a : At). FitsAt a (with_transaction s i after commons all.images) i after) (sym is) (still all.images next own leaves.1 request operates rest.undo_kept rest.objects))
+      let t = turns_all s i before after commons sound was turn in
+      sound_after s i before after commons sound was t.0 t.1.leaves t.1.same t.1.own t.1.number rest.undo_kept rest.objects (ap (λ (h : ItemsWithRoom). h.items) rest.history) (same_room next is rest.undo_kept rest.history) (still_forward (at.Pending next) is refl)
+      (subst (λ (a : At). FitsAt a (with_transaction s i after commons t.0.images) i after) (sym is) (still t.0.images next t.1.own t.1.number request operates rest.undo_kept rest.objects))
 
   -- it is rolled back from here, and holds nothing
-  back_to : (all : AllRunning) → LeavesAll i (all_of s) (after_roll_back all i) → after.subtx ≡ started i → commons.pages.locks ≡ released all.locks i
+  pub back_to : (all : AllRunning) → LeavesAll i (all_of s) (after_roll_back all i) → after.subtx ≡ started i → commons.pages.locks ≡ released all.locks i
       → commons.pages.store ≡ record all.store { pages = put_back (images_by all i) all.store.pages }
       → (all_of (with_transaction s i after commons (after_roll_back all i).images) ≡ after_roll_back all i) × (map.get (after_roll_back all i).images i ≡ Some after.subtx.images)
   back_to all leaves running locks store = (
@@ -158,7 +122,7 @@ module _ (s : State) (i : ℕ) (o : OperationFields) (before after : Transaction
   restarted next is rest back request operates =
       let r = rolled (back_here back) in
       let tx : after.subtx.tx ≡ i = ap (λ (t : Running). t.tx) r.2 in
-      sound_after (after_roll_back r.0 i) r.1 r.3 r.4 tx rest.undo_kept rest.objects (ap (λ (h : ItemsWithRoom). h.items) rest.history) (same_room next is rest.undo_kept rest.history) (still_forward (at.Pending next) is refl)
+      sound_after s i before after commons sound was (after_roll_back r.0 i) r.1 r.3 r.4 tx rest.undo_kept rest.objects (ap (λ (h : ItemsWithRoom). h.items) rest.history) (same_room next is rest.undo_kept rest.history) (still_forward (at.Pending next) is refl)
       (subst (λ (a : At). FitsAt a (with_transaction s i after commons (after_roll_back r.0 i).images) i after) (sym is) (still (after_roll_back r.0 i).images next r.4 tx request operates rest.undo_kept rest.objects))
 
   -- it is idle, and holds nothing
@@ -176,23 +140,18 @@ module _ (s : State) (i : ℕ) (o : OperationFields) (before after : Transaction
       let none : pending_room after.at ≡ 0 = ap pending_room is in
       let rooms : between.history.room ≡ s.commons.history.room = ap (λ (h : ItemsWithRoom). h.room) rest.history in
       let lengths : length after.undo.entries ≡ length before.undo.entries = ap (λ (u : Undo). length u.entries) rest.undo_kept in
-      sound_after (after_roll_back r.0 i) r.1 r.3 r.4 tx rest.undo_kept (gives.objects ∙ rest.objects) (gives.items ∙ ap (λ (h : ItemsWithRoom). h.items) rest.history)
+      sound_after s i before after commons sound was (after_roll_back r.0 i) r.1 r.3 r.4 tx rest.undo_kept (gives.objects ∙ rest.objects) (gives.items ∙ ap (λ (h : ItemsWithRoom). h.items) rest.history)
       (omega (arith, gives.room, two, none, rooms, lengths)) (still_forward at.Idle is refl) (idle_now r.0 r.3 is)
 
   -- it waits, and nothing has changed
   waited : (next : OperationFields) → after.at ≡ at.Pending next → KeepsRest before.undo after.undo s.commons commons
       → moment after.subtx commons.pages ≡ moment before.subtx s.commons.pages → next ≡ o → (images : RunningImages) × IsSound (with_transaction s i after commons images)
   waited next is rest same stays =
-      let fits = sound.fits i before was in
-      let running : after.subtx ≡ before.subtx = ap (λ (m : Moment). m.running) same in
-      let tx : after.subtx.tx ≡ i = ap (λ (t : Running). t.tx) running ∙ fits.number in
-      let own : map.get s.images i ≡ Some after.subtx.images = sound.kept i ∙ ap images_kept was ∙ sym (ap (λ (t : Running). Some t.images) running) in
-      let alike : all_of (with_transaction s i after commons s.images) ≡ all_of s = (λ p. record { images = s.images; locks = (same p).locks; store = (same p).store }) in
+      let t = stays_all s i before after commons sound was same in
       let operates : IsOperating (basis_of (world_of s) i) next (view_of (moment after.subtx commons.pages)) =
       subst (λ (m : Moment). IsOperating (basis_of (world_of s) i) next (view_of m)) (same_moment s i before sound was ∙ sym same) (subst (λ (p : OperationFields). IsOperating (basis_of (world_of s) i) p (view_of (moment_of (all_of s) i))) (sym stays) pending.operates) in
-      sound_after (all_of s) (record { keeps = record { may = sound.running; views = λ u ne. refl; images = λ u ne. refl; holders = λ u ne. refl }; clean = refl }) alike own tx rest.undo_kept rest.objects (ap (λ (h : ItemsWithRoom). h.items) rest.history)
-      (same_room next is rest.undo_kept rest.history) (still_forward (at.Pending next) is refl)
-      (subst (λ (a : At). FitsAt a (with_transaction s i after commons s.images) i after) (sym is) (still s.images next own tx (ap (λ (p : OperationFields). p.request) stays) operates rest.undo_kept rest.objects))
+      sound_after s i before after commons sound was (all_of s) t.leaves t.same t.own t.number rest.undo_kept rest.objects (ap (λ (h : ItemsWithRoom). h.items) rest.history) (same_room next is rest.undo_kept rest.history) (still_forward (at.Pending next) is refl)
+      (subst (λ (a : At). FitsAt a (with_transaction s i after commons s.images) i after) (sym is) (still s.images next t.own t.number (ap (λ (p : OperationFields). p.request) stays) operates rest.undo_kept rest.objects))
 
   -- it is blocked, and to be run anew
   blocked : (next : OperationFields) (by : ℕ) → after.at ≡ at.Pending next → next ≡ started_for o.request
@@ -214,7 +173,7 @@ module _ (s : State) (i : ℕ) (o : OperationFields) (before after : Transaction
       subst (λ (m : Moment). IsAtStart (view_of m)) (moment_now s i after commons images both.1 tx) (at_start (moment_of (all_of (with_transaction s i after commons images)) i) (unheld (all_of (with_transaction s i after commons images)) i nothing)) in
       let operates : IsOperating (basis_of (world_of s) i) next (view_of (moment after.subtx commons.pages)) =
       subst (λ (p : OperationFields). IsOperating (basis_of (world_of s) i) p (view_of (moment after.subtx commons.pages))) (sym anew) (record { target = refl; stands = starts; fits = refl }) in
-      sound_after (after_roll_back all i) leaves both.0 both.1 tx b.kept b.objects (ap (λ (h : ItemsWithRoom). h.items) b.history) (same_room next is b.kept b.history) (still_forward (at.Pending next) is refl)
+      sound_after s i before after commons sound was (after_roll_back all i) leaves both.0 both.1 tx b.kept b.objects (ap (λ (h : ItemsWithRoom). h.items) b.history) (same_room next is b.kept b.history) (still_forward (at.Pending next) is refl)
       (subst (λ (a : At). FitsAt a (with_transaction s i after commons images) i after) (sym is) (still images next both.1 tx (ap (λ (p : OperationFields). p.request) anew) operates b.kept b.objects))
 
   by_answer : (told : Answer) (next : OperationFields) (between : Commons) → TellsOfPending (basis_of (world_of s) i) o next before.subtx after.subtx before.undo after.undo s.commons between told

@@ -1,12 +1,16 @@
 -- Events of one transaction
-use Rattle.std.specs.Prelude.{ℕ, ◌≡◌, ◌+◌, Some}
+use Rattle.std.specs.Prelude.{length, ◌<◌, ◌≤◌, ℕ, ◌≡◌, ◌+◌, Some}
 use Rattle.std.specs.FinMap as map
 use Rattle.mlt_running.specs.CleanPages.{RunningImages}
-use Rattle.mlt_object_locks.specs.Locks.{SameReservations}
+use Rattle.mlt_kinds.specs.declared.operation.ObjOp.{ObjOp}
+use Rattle.mlt_kinds.specs.Operations.{cell_of}
+use Rattle.mlt_meeting.specs.Presences.{IsOpInRange}
+use Rattle.mlt_operation.specs.declared.request.Request.TheVariants.{Do}
+use Rattle.mlt_object_locks.specs.Locks.{SameReservations, reservation_of}
 use Rattle.mlt_kinds.specs.Bases.{Base}
 use Rattle.mlt_kinds.specs.declared.operation.ObjReply.{ObjReply}
 use Rattle.mlt_running.specs.Running.{KeepsRunning, clean_of}
-use Rattle.mlt_operation.specs.Operating.{OperationFields}
+use Rattle.mlt_operation.specs.Operating.{OperationFields, started_for}
 use Rattle.mlt_transaction.specs.declared.answer.Answer.TheVariants as answer
 use Rattle.mlt_transaction.specs.declared.transaction.At.TheVariants as at
 use Rattle.mlt_transaction.specs.Steps.{Ends}
@@ -52,3 +56,21 @@ pub record EndsPending (s : State) (i : ℕ) (o : OperationFields) (before after
   pub ends : Ends o before.subtx after.subtx before.undo after.undo s.commons commons
       (answer.Done told)
   pub idle : after.at ≡ at.Idle
+
+-- An idle transaction is called: its operation is pending, its cell is reserved, and there is room for its undo entry and
+-- for its items of the history.
+pub record Calls (s : State) (i : ℕ) (before after : Transaction) (commons : Commons) : Type 0 where
+  pub op : ObjOp
+  pub in_range : IsOpInRange op
+  pub idle : before.at ≡ at.Idle
+  pub fewer : length before.undo.entries < s.max_ops
+  pub pending : after.at ≡ at.Pending (started_for (Do op))
+  pub subtx_kept : after.subtx ≡ before.subtx
+  pub entries : after.undo.entries ≡ before.undo.entries
+  pub spare : 1 ≤ after.undo.spare
+  pub pages : commons.pages ≡ s.commons.pages
+  pub held : commons.objects.held ≡ s.commons.objects.held
+  pub reserved : reservation_of commons.objects.reserved i ≡ Some (cell_of op)
+  pub others : SameReservations s.commons.objects.reserved commons.objects.reserved i
+  pub items : commons.history.items ≡ s.commons.history.items
+  pub room : commons.history.room ≡ s.commons.history.room + 2

@@ -1,0 +1,29 @@
+//! Calls, and the cancels of what was called.
+
+ghost use Rattle.std.specs.Prelude.{ℕ, ◌≡◌, Some};
+ghost use Rattle.std.specs.FinMap as map;
+ghost use Rattle.mlt_running.specs.CleanPages.{RunningImages};
+ghost use Rattle.mlt_operation.specs.Operating.{OperationFields};
+ghost use Rattle.mlt_transaction.specs.declared.commons.Commons.{Commons};
+ghost use Rattle.mlt_transaction.specs.declared.transaction.At.TheVariants as at;
+ghost use Rattle.mlt_transaction.specs.declared.transaction.Transaction.{Transaction};
+ghost use Rattle.mlt_transaction.specs.Transactions.{TellsOfCancel};
+ghost use Rattle.mlt_invariant.specs.Events.{Calls, with_transaction};
+ghost use Rattle.mlt_invariant.specs.Sound.{IsSound};
+ghost use Rattle.mlt_invariant.specs.States.{State};
+
+/// A call of an idle transaction, which makes an operation pending, keeps all that is always true.
+pub fn operation_that_is_called()
+    ensures { (s : State) (i : ℕ) (before after : Transaction) (commons : Commons)
+        → IsSound s → map.get s.txs i ≡ Some before → Calls s i before after commons
+        → IsSound (with_transaction s i after commons s.images) }
+{}
+
+/// So does the cancel of a pending operation.
+pub fn operation_that_is_cancelled()
+    ensures { (s : State) (i : ℕ) (o : OperationFields) (before after : Transaction)
+        (commons : Commons)
+        → IsSound s → map.get s.txs i ≡ Some before → before.at ≡ at.Pending o
+        → TellsOfCancel before after s.commons commons
+        → (images : RunningImages) × IsSound (with_transaction s i after commons images) }
+{}
