@@ -16,6 +16,15 @@ pub(crate) struct Image {
     pub first: Option<Page>,
 }
 
+impl Default for Image {
+    fn default() -> Image {
+        Image {
+            page: PageNo(0),
+            first: None,
+        }
+    }
+}
+
 impl Image {
     /// Gives the page what it had at first, or drops it.
     pub fn put_back(&self, store: &mut Store)

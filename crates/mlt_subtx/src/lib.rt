@@ -4,7 +4,6 @@
 #![tactic(auto)]
 
 mod image;
-mod near_images;
 mod subtx;
 
 pub use subtx::Subtx;

@@ -11,7 +11,7 @@ ghost use Rattle.mlt_subtx.specs.ImageLists.{images_of, IsKept};
 ghost use Rattle.mlt_subtx.specs.Locking.{LocksPagesThere, HasRoomForOneMore};
 
 use crate::image::{Image, has_image};
-use crate::near_images::NearImages;
+use arrayvec::ArrayVec;
 use mlt_page::{Page, Slot};
 use mlt_page_locks::{Grant, PageLocks};
 use mlt_store::Store;
@@ -26,7 +26,7 @@ use std::marker::Model;
 #[derive(Drop)]
 pub struct Subtx {
     tx: TxId,
-    near: NearImages,
+    near: ArrayVec<Image, 2>,
     far: Vec<Image>,
 }
 
@@ -39,9 +39,9 @@ impl Model for Subtx {
 
     ghost coded = { coded_running };
 
-    ghost view = { λ s. record { tx = s.tx; images = images_of (s.near ++ s.far.items) } };
+    ghost view = { λ s. record { tx = s.tx; images = images_of (s.near.items ++ s.far.items) } };
 
-    ghost invariant = { λ s. IsKept s.near s.far.items };
+    ghost invariant = { λ s. IsKept s.near.items s.far.items };
 }
 
 impl Subtx {
@@ -51,7 +51,7 @@ impl Subtx {
     {
         Subtx {
             tx,
-            near: NearImages::new(),
+            near: ArrayVec::new(),
             far: Vec::new(alloc),
         }
     }
@@ -189,7 +189,7 @@ impl Subtx {
     fn has_image(&self, page: PageNo) -> bool
         ensures { result ≡ is_some (image_of self.now.images page) }
     {
-        self.near.has(page) || has_image(&self.far, page)
+        has_image(&self.near, page) || has_image(&self.far, page)
     }
 
     // Keeps a page as it is, if it has no image yet.
@@ -228,13 +228,13 @@ impl Subtx {
     }
 }
 
-fn put_all_back(far: &mut Vec<Image>, near: &mut NearImages, store: &mut Store)
-    requires kept { IsKept near.old far.old.items }
-    requires there { AreThere (images_of (near.old ++ far.old.items)) store.old.pages }
-    ensures store { let images = images_of (near.old ++ far.old.items) in
+fn put_all_back(far: &mut Vec<Image>, near: &mut ArrayVec<Image, 2>, store: &mut Store)
+    requires kept { IsKept near.old.items far.old.items }
+    requires there { AreThere (images_of (near.old.items ++ far.old.items)) store.old.pages }
+    ensures store { let images = images_of (near.old.items ++ far.old.items) in
         store.new ≡ record store.old { pages = put_back images store.old.pages } }
     ensures far { far.new.items ≡ [] }
-    ensures near { near.new ≡ [] }
+    ensures near { near.new.items ≡ [] }
 {
     while let Some(image) = far.pop() {
         image.put_back(store);

@@ -6,17 +6,17 @@ use Rattle.mlt_subtx.specs.ImageLists.{images_of}
 use Rattle.mlt_subtx.proofs.Lists.{KeptOneMore, kept_near, kept_far}
 use Rattle.mlt_subtx.proofs.subtx.Subtx.keep.Goals as goal
 
-behind : (c : goal.In_ok-push) → KeptOneMore c.self.inside.near c.self.inside.far.items c.self.inside.near c.push.new.self.items (record { page = c.args.page; first = c.args.first })
+behind : (c : goal.In_ok-push) → KeptOneMore c.self.inside.near.items c.self.inside.far.items c.self.inside.near.items c.push.new.self.items (record { page = c.args.page; first = c.args.first })
 behind c =
-    let none : image_of (images_of (c.self.inside.near ++ c.self.inside.far.items)) c.args.page ≡ None = ap (λ (r : Running). image_of r.images c.args.page) c.self.view_is ∙ c.requires in
-    let full : length c.self.inside.near ≡ 2 = grind (arith, nat_tests, c.if-is_full.ensures.value) in
-    kept_far c.self.inside.near c.self.inside.far.items c.push.new.self.items (record { page = c.args.page; first = c.args.first }) c.self.invariant none full c.in_ok-push.ensures.items
+    let none : image_of (images_of (c.self.inside.near.items ++ c.self.inside.far.items)) c.args.page ≡ None = ap (λ (r : Running). image_of r.images c.args.page) c.self.view_is ∙ c.requires in
+    let full : length c.self.inside.near.items ≡ 2 = grind (arith, nat_tests, c.if-is_full.ensures.value) in
+    kept_far c.self.inside.near.items c.self.inside.far.items c.push.new.self.items (record { page = c.args.page; first = c.args.first }) c.self.invariant none full c.in_ok-push.ensures.items
 
-in_front : (c : goal.After-push-else-is_full) → KeptOneMore c.self.inside.near c.self.inside.far.items c.push-else-is_full.new.self c.self.inside.far.items (record { page = c.args.page; first = c.args.first })
+in_front : (c : goal.After-push-else-is_full) → KeptOneMore c.self.inside.near.items c.self.inside.far.items c.push-else-is_full.new.self.items c.self.inside.far.items (record { page = c.args.page; first = c.args.first })
 in_front c =
-    let none : image_of (images_of (c.self.inside.near ++ c.self.inside.far.items)) c.args.page ≡ None = ap (λ (r : Running). image_of r.images c.args.page) c.self.view_is ∙ c.requires in
-    kept_near c.self.inside.near c.self.inside.far.items c.push-else-is_full.new.self (record { page = c.args.page; first = c.args.first }) c.self.invariant none
-    (grind (arith, nat_tests, c.if-is_full.ensures.value, c.if-is_full.ensures.fits)) c.push-else-is_full.ensures
+    let none : image_of (images_of (c.self.inside.near.items ++ c.self.inside.far.items)) c.args.page ≡ None = ap (λ (r : Running). image_of r.images c.args.page) c.self.view_is ∙ c.requires in
+    kept_near c.self.inside.near.items c.self.inside.far.items c.push-else-is_full.new.self.items (record { page = c.args.page; first = c.args.first }) c.self.invariant none
+    (grind (arith, nat_tests, c.if-is_full.ensures.value, c.if-is_full.ensures.fits)) c.push-else-is_full.ensures.items
 
 pub invariant_of-self : goal.invariant_of-self
 invariant_of-self c = (behind c).kept
