@@ -16,6 +16,7 @@ pub(crate) struct Image {
     pub first: Option<Page>,
 }
 
+/// What the room of an array holds where no image stands.
 impl Default for Image {
     fn default() -> Image {
         Image {
