@@ -7,8 +7,9 @@ use Rattle.mlt_hash_form.specs.declared.root.Root.{Root}
 use Rattle.mlt_hash.specs.Walks.{basis_by}
 use Rattle.mlt_transaction.specs.declared.answer.Answer.{Answer}
 use Rattle.mlt_transaction.specs.declared.commons.Commons.{Commons}
+use Rattle.mlt_transaction.specs.declared.transaction.At.{At}
 use Rattle.mlt_transaction.specs.declared.transaction.Transaction.{Transaction}
-use Rattle.mlt_transaction.specs.Transactions.{TellsOfTransaction}
+use Rattle.mlt_transaction.specs.Transactions.{TellsOfCancel, TellsOfTransaction}
 
 -- the open transactions, by their numbers
 abbrev pub Table : Type 0
@@ -27,3 +28,14 @@ pub record StepsOne {P : Type 0} (bits_of : P → ℕ → ℕ) (root : Root P) (
   pub changes : ChangesOne tx old new
   pub tells : TellsOfTransaction (basis_by bits_of root opens changes.before.subtx.tx)
       changes.before changes.after commons commons' told
+
+-- the pending operation of the transaction of this number is dropped
+pub record CancelsOne (tx : ℕ) (old new : Table) (commons commons' : Commons) : Type 0 where
+  pub changes : ChangesOne tx old new
+  pub tells : TellsOfCancel changes.before changes.after commons commons'
+
+-- the transaction of this number is at this from now on, and keeps all else
+pub record PutsOneAt (tx : ℕ) (at : At) (old new : Table) : Type 0 where
+  pub changes : ChangesOne tx old new
+  pub put : changes.after
+      ≡ record { subtx = changes.before.subtx; undo = changes.before.undo; at = at }

@@ -1,15 +1,16 @@
 //! The table of open transactions.
 
-ghost use Rattle.std.specs.Prelude.{◌≡◌, None, Some, OnOk, OnErr, IfErr, option_copied};
+ghost use Rattle.std.specs.Prelude.{◌≡◌, ◌≤◌, None, Some, IsSome, OnOk, OnErr, IfErr, option_copied};
 ghost use Rattle.std.specs.FinMap as map;
+ghost use Rattle.mlt_subtx.specs.Images.{AreThere};
 ghost use Rattle.mlt_hash.specs.Walks.{basis_by};
 ghost use Rattle.mlt_transaction.specs.declared.transaction.Transaction.{Transaction as TransactionFields};
-ghost use Rattle.mlt_transaction.specs.Transactions.{MayStepIn};
+ghost use Rattle.mlt_transaction.specs.Transactions.{IsPending, MayStepIn};
 ghost use Rattle.mlt_kinds.specs.Bases.{with_entry};
-ghost use Rattle.mlt_open.specs.Tables.{StepsOne};
+ghost use Rattle.mlt_open.specs.Tables.{CancelsOne, PutsOneAt, StepsOne};
 
 use mlt_hash_form::Root;
-use mlt_transaction::{Answer, Commons, Transaction};
+use mlt_transaction::{Answer, At, Commons, Transaction};
 use mlt_types::{OpenSet, Pseudo, Refusal, TxId};
 use std::alloc::Global;
 use std::collections::BTreeMap;
@@ -97,5 +98,30 @@ impl OpenTransactions {
             Some(transaction) => transaction.step(commons, root, opens),
             None => unreachable!(),
         }
+    }
+
+    /// Drops the pending operation of the transaction of a number, which is open and has one. It takes no memory.
+    pub fn cancel(&mut self, tx: TxId, commons: &mut Commons)
+        requires is_open { (t : TransactionFields) × (map.get self.old tx ≡ Some t)
+            × IsPending t.at × AreThere t.subtx.images commons.old.pages.store.pages
+            × (2 ≤ commons.old.history.room) }
+        ensures cancels { CancelsOne tx self.old self.new commons.old commons.new }
+    {
+        let Some(transaction) = self.txs.get_mut(&tx.0) else {
+            unreachable!()
+        };
+        transaction.cancel(commons);
+    }
+
+    /// Puts the transaction of a number, which is open, at something else: at an operation that it is called with, or at
+    /// its abort. It takes no memory.
+    pub fn put_at(&mut self, tx: TxId, at: At)
+        requires is_open { IsSome (map.get self.old tx) }
+        ensures puts { PutsOneAt tx at self.old self.new }
+    {
+        let Some(transaction) = self.txs.get_mut(&tx.0) else {
+            unreachable!()
+        };
+        transaction.at = at;
     }
 }
