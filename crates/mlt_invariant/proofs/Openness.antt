@@ -1,5 +1,5 @@
 -- What is left of another transaction by an event that changes who is open
-use Rattle.std.proofs.Common.{◌≡◌, ◌≢◌, ℕ, ◌<◌, length, None, Some, sym, subst, ◌∙◌}
+use Rattle.std.proofs.Common.{◌≡◌, ◌≢◌, ℕ, Some, sym, subst}
 use Rattle.std.specs.Ordering.{nat_cmp}
 use Rattle.std.specs.FinMap as map
 use Rattle.std.specs.FinSet as set
@@ -15,12 +15,11 @@ use Rattle.mlt_running.proofs.AllRunning.{agrees_with_each}
 use Rattle.mlt_operation.specs.Operating.{FitsPhase, IsOperating, OperationFields}
 use Rattle.mlt_meeting.specs.Worlds.{basis_of}
 use Rattle.mlt_transaction.specs.declared.transaction.At.{At}
-use Rattle.mlt_transaction.specs.declared.transaction.At.TheVariants as at
 use Rattle.mlt_transaction.specs.declared.transaction.Transaction.{Transaction}
 use Rattle.mlt_invariant.specs.Sound.{FitsAt, IsSound}
 use Rattle.mlt_invariant.specs.States.{State, all_of, world_of}
 use Rattle.mlt_invariant.proofs.InverseEnds.{open_there}
-use Rattle.mlt_invariant.proofs.Others.{still_nothing}
+use Rattle.mlt_invariant.proofs.Others.{fits_with}
 
 -- what a walk's phase says of a reply does not name who is open
 fits_for : (p : Phase) (basis : Basis) (opens : set.FinSet nat_cmp) (o : OperationFields) (view : View) → FitsPhase p basis o view → FitsPhase p (record basis { opens = opens }) o view
@@ -64,25 +63,7 @@ operates_on i j s s' o stays operates =
 
 -- **Another transaction is where it was.**
 pub opens_fits : (a : At) (i j : ℕ) (s s' : State) (t : Transaction) → OpensFor i j s s' → FitsAt a s j t → FitsAt a s' j t
-opens_fits at.Idle i j s s' t stays fits = still_nothing i j (all_of s) (all_of s') stays.runs stays.other fits
-opens_fits (at.Pending o) i j s s' t stays fits = record {
-  op = fits.op;
-  asked = fits.asked;
-  in_range = fits.in_range;
-  operates = operates_on i j s s' o stays fits.operates;
-  reserved = stays.reserved j stays.other ∙ fits.reserved;
-  spare = fits.spare;
-  fewer = subst (λ (n : ℕ). length t.undo.entries < n) (sym stays.max_ops) fits.fewer;
-}
-opens_fits (at.Undoing None) i j s s' t stays fits = (still_nothing i j (all_of s) (all_of s') stays.runs stays.other fits.0, fits.1)
-opens_fits (at.Undoing (Some o)) i j s s' t stays fits = record {
-  front = fits.front;
-  last = fits.last;
-  entries = fits.entries;
-  inverts = fits.inverts;
-  has = fits.has;
-  operates = operates_on i j s s' o stays fits.operates;
-}
+opens_fits a i j s s' t stays = fits_with a i j s s' t stays.other stays.runs stays.reserved stays.max_ops (λ o. operates_on i j s s' o stays)
 
 -- what an open transaction has read is clean
 pub agrees_in : (s : State) (j : ℕ) (t : Transaction) → IsSound s → map.get s.txs j ≡ Some t → Agrees (view_of (moment_of (all_of s) j)).seen (clean_of (all_of s))

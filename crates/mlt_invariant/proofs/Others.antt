@@ -32,24 +32,31 @@ operates_still i j s s' o stays operates =
     subst (λ (b : Basis). IsOperating b o (view_of (moment_of (all_of s') j))) (sym stays.basis)
     (subst (λ (v : View). IsOperating (basis_of (world_of s) j) o v) (sym (stays.runs.views j stays.other)) operates)
 
--- **Another transaction is where it was.**
-pub still_fits : (a : At) (i j : ℕ) (s s' : State) (t : Transaction) → StaysFor i j s s' → FitsAt a s j t → FitsAt a s' j t
-still_fits at.Idle i j s s' t stays fits = still_nothing i j (all_of s) (all_of s') stays.runs stays.other fits
-still_fits (at.Pending o) i j s s' t stays fits = record {
+-- another transaction is where it was, from what its operations are at
+pub fits_with : (a : At) (i j : ℕ) (s s' : State) (t : Transaction) → j ≢ i → KeepsRunning i (all_of s) (all_of s')
+    → SameReservations s.commons.objects.reserved s'.commons.objects.reserved i → s'.max_ops ≡ s.max_ops
+    → ((o : OperationFields) → IsOperating (basis_of (world_of s) j) o (view_of (moment_of (all_of s) j)) → IsOperating (basis_of (world_of s') j) o (view_of (moment_of (all_of s') j)))
+    → FitsAt a s j t → FitsAt a s' j t
+fits_with at.Idle i j s s' t other runs reserved max_ops still fits = still_nothing i j (all_of s) (all_of s') runs other fits
+fits_with (at.Pending o) i j s s' t other runs reserved max_ops still fits = record {
   op = fits.op;
   asked = fits.asked;
   in_range = fits.in_range;
-  operates = operates_still i j s s' o stays fits.operates;
-  reserved = stays.reserved j stays.other ∙ fits.reserved;
+  operates = still o fits.operates;
+  reserved = reserved j other ∙ fits.reserved;
   spare = fits.spare;
-  fewer = subst (λ (n : ℕ). length t.undo.entries < n) (sym stays.max_ops) fits.fewer;
+  fewer = subst (λ (n : ℕ). length t.undo.entries < n) (sym max_ops) fits.fewer;
 }
-still_fits (at.Undoing None) i j s s' t stays fits = (still_nothing i j (all_of s) (all_of s') stays.runs stays.other fits.0, fits.1)
-still_fits (at.Undoing (Some o)) i j s s' t stays fits = record {
+fits_with (at.Undoing None) i j s s' t other runs reserved max_ops still fits = (still_nothing i j (all_of s) (all_of s') runs other fits.0, fits.1)
+fits_with (at.Undoing (Some o)) i j s s' t other runs reserved max_ops still fits = record {
   front = fits.front;
   last = fits.last;
   entries = fits.entries;
   inverts = fits.inverts;
   has = fits.has;
-  operates = operates_still i j s s' o stays fits.operates;
+  operates = still o fits.operates;
 }
+
+-- **Another transaction is where it was.**
+pub still_fits : (a : At) (i j : ℕ) (s s' : State) (t : Transaction) → StaysFor i j s s' → FitsAt a s j t → FitsAt a s' j t
+still_fits a i j s s' t stays = fits_with a i j s s' t stays.other stays.runs stays.reserved stays.max_ops (λ o. operates_still i j s s' o stays)
