@@ -35,7 +35,7 @@ use Rattle.mlt_meeting.proofs.Transactions.{close_keeps as close_keeps_match}
 use Rattle.mlt_meeting.proofs.WalkEnds.{same_pages_match}
 use Rattle.mlt_meeting.proofs.Walks.{stands_by_end}
 use Rattle.mlt_operation.specs.Operating.{OperationFields}
-use Rattle.mlt_transaction.specs.declared.answer.Answer.TheVariants as answer
+use Rattle.mlt_event.specs.declared.answer.Answer.TheVariants as answer
 use Rattle.mlt_transaction.specs.declared.commons.Commons.{Commons}
 use Rattle.mlt_transaction.specs.declared.transaction.Transaction.{Transaction}
 use Rattle.mlt_transaction.specs.Steps.{TakesLast}

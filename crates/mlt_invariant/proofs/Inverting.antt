@@ -15,8 +15,8 @@ use Rattle.mlt_hash.proofs.Laws.{at_start}
 use Rattle.mlt_meeting.specs.Worlds.{basis_of}
 use Rattle.mlt_operation.specs.Answers.{StepsOn, Waits}
 use Rattle.mlt_operation.specs.Operating.{IsOperating, OperationFields}
-use Rattle.mlt_transaction.specs.declared.answer.Answer.{Answer}
-use Rattle.mlt_transaction.specs.declared.answer.Answer.TheVariants as answer
+use Rattle.mlt_event.specs.declared.answer.Answer.{Answer}
+use Rattle.mlt_event.specs.declared.answer.Answer.TheVariants as answer
 use Rattle.mlt_transaction.specs.declared.commons.Commons.{Commons}
 use Rattle.mlt_transaction.specs.declared.transaction.At.{At}
 use Rattle.mlt_transaction.specs.declared.transaction.At.TheVariants as at

@@ -13,7 +13,7 @@ use Rattle.mlt_meeting.specs.Events.{MayUndo, with_undone}
 use Rattle.mlt_meeting.specs.Worlds.{PagesMeanHistory}
 use Rattle.mlt_meeting.proofs.Undoing.{undoing_keeps}
 use Rattle.mlt_operation.specs.Operating.{OperationFields}
-use Rattle.mlt_transaction.specs.declared.answer.Answer.{Answer}
+use Rattle.mlt_event.specs.declared.answer.Answer.{Answer}
 use Rattle.mlt_transaction.specs.declared.commons.Commons.{Commons}
 use Rattle.mlt_transaction.specs.declared.transaction.At.{At}
 use Rattle.mlt_transaction.specs.declared.transaction.At.TheVariants as at

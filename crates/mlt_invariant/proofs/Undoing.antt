@@ -22,7 +22,7 @@ use Rattle.mlt_history.proofs.RoomLaws.{total_room-insert}
 use Rattle.mlt_meeting.specs.Events.{with_undone as world_undone}
 use Rattle.mlt_meeting.specs.Worlds.{PagesMeanHistory, lists_in}
 use Rattle.mlt_operation.specs.Operating.{OperationFields}
-use Rattle.mlt_transaction.specs.declared.answer.Answer.TheVariants as answer
+use Rattle.mlt_event.specs.declared.answer.Answer.TheVariants as answer
 use Rattle.mlt_transaction.specs.declared.commons.Commons.{Commons}
 use Rattle.mlt_transaction.specs.declared.transaction.At.{At}
 use Rattle.mlt_transaction.specs.declared.transaction.Transaction.{Transaction}

@@ -11,7 +11,7 @@ use Rattle.mlt_kinds.specs.Bases.{Base}
 use Rattle.mlt_kinds.specs.declared.operation.ObjReply.{ObjReply}
 use Rattle.mlt_running.specs.Running.{KeepsRunning, clean_of}
 use Rattle.mlt_operation.specs.Operating.{OperationFields, started_for}
-use Rattle.mlt_transaction.specs.declared.answer.Answer.TheVariants as answer
+use Rattle.mlt_event.specs.declared.answer.Answer.TheVariants as answer
 use Rattle.mlt_transaction.specs.declared.transaction.At.TheVariants as at
 use Rattle.mlt_transaction.specs.Steps.{Ends}
 use Rattle.mlt_transaction.specs.declared.commons.Commons.{Commons}

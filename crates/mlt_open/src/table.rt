@@ -9,8 +9,9 @@ ghost use Rattle.mlt_transaction.specs.Transactions.{IsPending, MayStepIn};
 ghost use Rattle.mlt_kinds.specs.Bases.{with_entry};
 ghost use Rattle.mlt_open.specs.Tables.{CancelsOne, PutsOneAt, StepsOne};
 
+use mlt_event::Answer;
 use mlt_hash_form::Root;
-use mlt_transaction::{Answer, At, Commons, Transaction};
+use mlt_transaction::{At, Commons, Transaction};
 use mlt_types::{OpenSet, Pseudo, Refusal, TxId};
 use std::alloc::Global;
 use std::collections::BTreeMap;

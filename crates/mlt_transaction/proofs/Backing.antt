@@ -7,8 +7,8 @@ use Rattle.mlt_subtx.specs.Images.{Running}
 use Rattle.mlt_undo.specs.Undo.{Undo}
 use Rattle.mlt_hash.specs.Walks.{Basis}
 use Rattle.mlt_operation.specs.Operating.{OperationFields}
-use Rattle.mlt_transaction.specs.declared.answer.Answer.{Answer}
-use Rattle.mlt_transaction.specs.declared.answer.Answer.TheVariants as answer
+use Rattle.mlt_event.specs.declared.answer.Answer.{Answer}
+use Rattle.mlt_event.specs.declared.answer.Answer.TheVariants as answer
 use Rattle.mlt_transaction.specs.declared.commons.Commons.{Commons}
 use Rattle.mlt_transaction.specs.Steps.{EndsBack, TellsOfBack}
 

@@ -3,8 +3,8 @@ use Rattle.std.proofs.Common.{◌≡◌, refl}
 use Rattle.mlt_types.specs.declared.refusal.Refusal.{Refusal}
 use Rattle.mlt_kinds.specs.declared.operation.ObjReply.{ObjReply}
 use Rattle.mlt_operation.specs.Operating.{OperationFields}
-use Rattle.mlt_transaction.specs.declared.answer.Answer.{Answer}
-use Rattle.mlt_transaction.specs.declared.answer.Answer.TheVariants as answer
+use Rattle.mlt_event.specs.declared.answer.Answer.{Answer}
+use Rattle.mlt_event.specs.declared.answer.Answer.TheVariants as answer
 use Rattle.mlt_transaction.specs.declared.commons.Commons.{Commons}
 use Rattle.mlt_transaction.specs.declared.transaction.At.TheVariants as at
 use Rattle.mlt_transaction.specs.Transactions.{LeavesRoom, pending_after}

@@ -8,8 +8,8 @@ use Rattle.mlt_subtx.specs.Images.{Running, put_back, started}
 use Rattle.mlt_undo.specs.Undo.{Undo}
 use Rattle.mlt_object_locks.specs.Locks.{HoldsClash, IsLowestClash, SameReservations, reservation_of}
 use Rattle.mlt_trace.specs.declared.item.TraceItem.TheVariants as trace
-use Rattle.mlt_transaction.specs.declared.answer.Answer.{Answer}
-use Rattle.mlt_transaction.specs.declared.answer.Answer.TheVariants as answer
+use Rattle.mlt_event.specs.declared.answer.Answer.{Answer}
+use Rattle.mlt_event.specs.declared.answer.Answer.TheVariants as answer
 use Rattle.mlt_transaction.specs.declared.commons.Commons.{Commons}
 
 -- a subtransaction ends, and what it has written stays

@@ -18,8 +18,8 @@ use Rattle.mlt_operation.specs.Answers.{StepsOn, TellsOfStep, Waits}
 use Rattle.mlt_operation.specs.Operating.{MayOperate, OperationFields, started_for}
 use Rattle.mlt_trace.specs.declared.item.TraceItem.{TraceItem}
 use Rattle.mlt_trace.specs.declared.item.TraceItem.TheVariants as trace
-use Rattle.mlt_transaction.specs.declared.answer.Answer.{Answer}
-use Rattle.mlt_transaction.specs.declared.answer.Answer.TheVariants as answer
+use Rattle.mlt_event.specs.declared.answer.Answer.{Answer}
+use Rattle.mlt_event.specs.declared.answer.Answer.TheVariants as answer
 use Rattle.mlt_transaction.specs.declared.commons.Commons.{Commons}
 use Rattle.mlt_transaction.specs.Endings.{EndsSubtx, IsBlocked, IsDone, TellsOfEnd}
 

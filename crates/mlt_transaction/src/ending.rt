@@ -6,8 +6,8 @@ ghost use Rattle.mlt_object_locks.specs.Locks.{reservation_of};
 ghost use Rattle.mlt_subtx.specs.Images.{AreThere};
 ghost use Rattle.mlt_transaction.specs.Endings.{TellsOfEnd};
 
-use crate::answer::Answer;
 use crate::commons::Commons;
+use mlt_event::Answer;
 use mlt_kinds::Done;
 use mlt_subtx::Subtx;
 use mlt_trace::TraceItem;

@@ -2,12 +2,10 @@
 //! the pages, the object locks and the history, which all transactions share.
 #![tactic(auto)]
 
-mod answer;
 mod commons;
 mod ending;
 mod stepping;
 mod transaction;
 
-pub use answer::Answer;
 pub use commons::Commons;
 pub use transaction::{At, Transaction};

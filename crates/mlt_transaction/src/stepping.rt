@@ -8,10 +8,10 @@ ghost use Rattle.mlt_kinds.specs.declared.operation.ObjOp.{ObjOp};
 ghost use Rattle.mlt_kinds.specs.declared.operation.ObjReply.{ObjReply};
 ghost use Rattle.mlt_transaction.specs.Steps.{MayStepBack, MayStepOn, TakesBack, TellsOfBack, TellsOfPending, TellsOfStart, answer_of};
 
-use crate::answer::Answer;
 use crate::commons::Commons;
 use crate::ending::finish;
 use mlt_base::inverse;
+use mlt_event::Answer;
 use mlt_hash_form::Root;
 use mlt_kinds::Done;
 use mlt_operation::{Operation, Request, StepAnswer};

@@ -5,9 +5,9 @@ ghost use Rattle.mlt_hash.specs.Walks.{basis_by};
 ghost use Rattle.mlt_subtx.specs.Images.{AreThere, started};
 ghost use Rattle.mlt_transaction.specs.Transactions.{IsPending, MayStepIn, TellsOfCancel, TellsOfTransaction};
 
-use crate::answer::Answer;
 use crate::commons::Commons;
 use crate::stepping::{step_back, step_on};
+use mlt_event::Answer;
 use mlt_hash_form::Root;
 use mlt_operation::Operation;
 use mlt_subtx::Subtx;
