@@ -20,7 +20,7 @@ use Rattle.mlt_transaction.specs.declared.transaction.At.{At}
 use Rattle.mlt_transaction.specs.declared.transaction.At.TheVariants as at
 use Rattle.mlt_transaction.specs.declared.transaction.Transaction.{Transaction}
 use Rattle.mlt_transaction.specs.Transactions.{TellsOfCancel}
-use Rattle.mlt_invariant.specs.Events.{Calls, with_transaction}
+use Rattle.mlt_invariant.specs.Events.{Calls, KeepsCleanPages, with_transaction}
 use Rattle.mlt_invariant.specs.Sound.{FitsAt, HasPending, IsSound}
 use Rattle.mlt_invariant.specs.States.{State, all_of, images_kept, is_undoing, pending_room, world_of}
 use Rattle.mlt_invariant.proofs.MaySteps.{is_open_now, same_moment, unheld}
@@ -64,7 +64,7 @@ called_sound s i before after commons sound was c =
 
 -- **So does a cancel.**
 pub cancelled_sound : (s : State) (i : ℕ) (o : OperationFields) (before after : Transaction) (commons : Commons) → IsSound s → map.get s.txs i ≡ Some before → before.at ≡ at.Pending o
-    → TellsOfCancel before after s.commons commons → (images : RunningImages) × IsSound (with_transaction s i after commons images)
+    → TellsOfCancel before after s.commons commons → KeepsCleanPages s i before after commons
 cancelled_sound s i o before after commons sound was pending_at c =
     let fits = sound.fits i before was in
     let all = all_of s in

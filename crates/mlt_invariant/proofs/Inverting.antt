@@ -23,7 +23,7 @@ use Rattle.mlt_transaction.specs.declared.transaction.At.TheVariants as at
 use Rattle.mlt_transaction.specs.declared.transaction.Transaction.{Transaction}
 use Rattle.mlt_transaction.specs.Steps.{InverseSteps, inverse_from}
 use Rattle.mlt_transaction.specs.Transactions.{StepsBack}
-use Rattle.mlt_invariant.specs.Events.{with_transaction}
+use Rattle.mlt_invariant.specs.Events.{KeepsCleanPages, with_transaction}
 use Rattle.mlt_invariant.specs.Sound.{FitsAt, HasInverse, IsSound}
 use Rattle.mlt_invariant.specs.States.{State, all_of, is_undoing, pending_room, room_of, world_of}
 use Rattle.mlt_invariant.proofs.MaySteps.{same_moment, unheld}
@@ -77,14 +77,14 @@ module _ (s : State) (i : ℕ) (inverting next : Option OperationFields) (before
   still_backward = ap is_undoing now_at ∙ sym (ap is_undoing back_at)
 
   steps_on : InverseSteps inverting next before.undo after.undo s.commons commons (λ o o'. StepsOn (basis_of (world_of s) i) (moment before.subtx s.commons.pages) (moment after.subtx commons.pages) o o')
-      → (images : RunningImages) × IsSound (with_transaction s i after commons images)
+      → KeepsCleanPages s i before after commons
   steps_on step =
       let t = turns_all s i before after commons sound was step.tells.turn in
       sound_after s i before after commons sound was t.0 t.1.leaves t.1.same t.1.own t.1.number step.rest.undo_kept step.rest.objects (ap (λ (h : ItemsWithRoom). h.items) step.rest.history) (rooms _ step) still_backward
       (goes _ step t.0 t.1.own t.1.number step.tells.operates)
 
   waits : (page by : ℕ) → InverseSteps inverting next before.undo after.undo s.commons commons (λ o o'. Waits (basis_of (world_of s) i) (moment before.subtx s.commons.pages) (moment after.subtx commons.pages) o o' page by)
-      → (images : RunningImages) × IsSound (with_transaction s i after commons images)
+      → KeepsCleanPages s i before after commons
   waits page by step =
       let same = step.tells.pages in
       let t = stays_all s i before after commons sound was same in
@@ -96,7 +96,7 @@ module _ (s : State) (i : ℕ) (inverting next : Option OperationFields) (before
 -- **A step of an inverse before its end keeps all that is always true.**
 pub inverse_sound : (s : State) (i : ℕ) (inverting : Option OperationFields) (before after : Transaction) (commons : Commons) (told : Answer) → IsSound s → map.get s.txs i ≡ Some before → before.at ≡ at.Undoing inverting
     → StepsBack (basis_of (world_of s) i) inverting before after s.commons commons told → ((told ≡ answer.Undone) → ⊥) → ((told ≡ answer.Aborted) → ⊥)
-    → (images : RunningImages) × IsSound (with_transaction s i after commons images)
+    → KeepsCleanPages s i before after commons
 inverse_sound s i inverting before after commons answer.Going sound was back_at steps undone aborted = steps_on s i inverting steps.next before after commons sound was back_at steps.now_at steps.tells
 inverse_sound s i inverting before after commons (answer.Waiting page by) sound was back_at steps undone aborted = waits s i inverting steps.next before after commons sound was back_at steps.now_at page by steps.tells
 inverse_sound s i inverting before after commons answer.Undone sound was back_at steps undone aborted = absurd (undone refl)

@@ -16,6 +16,7 @@ pub mod Opening
 pub mod Openness
 pub mod Others
 pub mod Pending
+pub mod Replied
 pub mod Stays
 pub mod Tables
 pub mod Turned

@@ -29,7 +29,7 @@ use Rattle.mlt_transaction.specs.Endings.{IsBlocked}
 use Rattle.mlt_hash.specs.Walks.{IsAtStart}
 use Rattle.mlt_hash.proofs.Laws.{at_start}
 use Rattle.mlt_transaction.specs.Transactions.{GivesUpRoom, LeavesRoom, StepsPending, pending_after}
-use Rattle.mlt_invariant.specs.Events.{with_transaction}
+use Rattle.mlt_invariant.specs.Events.{KeepsCleanPages, with_transaction}
 use Rattle.mlt_invariant.specs.Sound.{FitsAt, HasPending, IsSound}
 use Rattle.mlt_invariant.specs.States.{State, all_of, is_undoing, pending_room, room_of, world_of}
 use Rattle.mlt_invariant.proofs.MaySteps.{is_open_now, same_moment, unheld}
@@ -75,7 +75,7 @@ module _ (s : State) (i : ℕ) (o : OperationFields) (before after : Transaction
   turned : (next : OperationFields) → after.at ≡ at.Pending next → KeepsRest before.undo after.undo s.commons commons
       → TakesTurn (moment before.subtx s.commons.pages) (moment after.subtx commons.pages)
       → next.request ≡ o.request → IsOperating (basis_of (world_of s) i) next (view_of (moment after.subtx commons.pages))
-      → (images : RunningImages) × IsSound (with_transaction s i after commons images)
+      → KeepsCleanPages s i before after commons
   turned next is rest turn request operates =
       let t = turns_all s i before after commons sound was turn in
       sound_after s i before after commons sound was t.0 t.1.leaves t.1.same t.1.own t.1.number rest.undo_kept rest.objects (ap (λ (h : ItemsWithRoom). h.items) rest.history) (same_room next is rest.undo_kept rest.history) (still_forward (at.Pending next) is refl)
@@ -118,7 +118,7 @@ module _ (s : State) (i : ℕ) (o : OperationFields) (before after : Transaction
   restarted : (next : OperationFields) → after.at ≡ at.Pending next → KeepsRest before.undo after.undo s.commons commons
       → TurnsBack (moment before.subtx s.commons.pages) (moment after.subtx commons.pages)
       → next.request ≡ o.request → IsOperating (basis_of (world_of s) i) next (view_of (moment after.subtx commons.pages))
-      → (images : RunningImages) × IsSound (with_transaction s i after commons images)
+      → KeepsCleanPages s i before after commons
   restarted next is rest back request operates =
       let r = rolled (back_here back) in
       let tx : after.subtx.tx ≡ i = ap (λ (t : Running). t.tx) r.2 in
@@ -131,7 +131,7 @@ module _ (s : State) (i : ℕ) (o : OperationFields) (before after : Transaction
 
   -- it is refused, and idle
   refused : (between : Commons) → TurnsBack (moment before.subtx s.commons.pages) (moment after.subtx between.pages) → KeepsRest before.undo after.undo s.commons between
-      → GivesUpRoom 2 between commons → after.at ≡ at.Idle → (images : RunningImages) × IsSound (with_transaction s i after commons images)
+      → GivesUpRoom 2 between commons → after.at ≡ at.Idle → KeepsCleanPages s i before after commons
   refused between back rest gives is =
       let back_now : TurnsBack (moment before.subtx s.commons.pages) (moment after.subtx commons.pages) = subst (λ (l : LockedStore). TurnsBack (moment before.subtx s.commons.pages) (moment after.subtx l)) (sym gives.pages) back in
       let r = rolled (back_here back_now) in
@@ -145,7 +145,7 @@ module _ (s : State) (i : ℕ) (o : OperationFields) (before after : Transaction
 
   -- it waits, and nothing has changed
   waited : (next : OperationFields) → after.at ≡ at.Pending next → KeepsRest before.undo after.undo s.commons commons
-      → moment after.subtx commons.pages ≡ moment before.subtx s.commons.pages → next ≡ o → (images : RunningImages) × IsSound (with_transaction s i after commons images)
+      → moment after.subtx commons.pages ≡ moment before.subtx s.commons.pages → next ≡ o → KeepsCleanPages s i before after commons
   waited next is rest same stays =
       let t = stays_all s i before after commons sound was same in
       let operates : IsOperating (basis_of (world_of s) i) next (view_of (moment after.subtx commons.pages)) =
@@ -156,7 +156,7 @@ module _ (s : State) (i : ℕ) (o : OperationFields) (before after : Transaction
   -- it is blocked, and to be run anew
   blocked : (next : OperationFields) (by : ℕ) → after.at ≡ at.Pending next → next ≡ started_for o.request
       → (item : ObjOp × ObjReply) → IsBlocked item before.subtx after.subtx before.undo after.undo s.commons commons by
-      → (images : RunningImages) × IsSound (with_transaction s i after commons images)
+      → KeepsCleanPages s i before after commons
   blocked next by is anew item b =
       let fits = sound.fits i before was in
       let all = all_of s in
@@ -178,7 +178,7 @@ module _ (s : State) (i : ℕ) (o : OperationFields) (before after : Transaction
 
   by_answer : (told : Answer) (next : OperationFields) (between : Commons) → TellsOfPending (basis_of (world_of s) i) o next before.subtx after.subtx before.undo after.undo s.commons between told
       → after.at ≡ pending_after told next → LeavesRoom told between commons → ((reply : ObjReply) → told ≡ answer.Done reply → ⊥)
-      → (images : RunningImages) × IsSound (with_transaction s i after commons images)
+      → KeepsCleanPages s i before after commons
   by_answer answer.Going next between tells is same not =
       let w = subst (λ (b : Commons). Walks (basis_of (world_of s) i) o next before.subtx after.subtx before.undo after.undo s.commons b step.Going) (sym same) tells in
       elim w.tells [
@@ -199,6 +199,6 @@ module _ (s : State) (i : ℕ) (o : OperationFields) (before after : Transaction
 -- **A step of a pending operation that is not done keeps all that is always true.**
 pub not_done_sound : (s : State) (i : ℕ) (o : OperationFields) (before after : Transaction) (commons : Commons) (told : Answer) → IsSound s → map.get s.txs i ≡ Some before → before.at ≡ at.Pending o
     → StepsPending (basis_of (world_of s) i) o before after s.commons commons told → ((reply : ObjReply) → told ≡ answer.Done reply → ⊥)
-    → (images : RunningImages) × IsSound (with_transaction s i after commons images)
+    → KeepsCleanPages s i before after commons
 not_done_sound s i o before after commons told sound was pending_at steps not =
     by_answer s i o before after commons sound was pending_at told steps.next steps.between steps.tells steps.now_at steps.leaves not

@@ -10,7 +10,7 @@ use Rattle.mlt_running.specs.Running.{AllRunning, KeepsRunning, clean_of, moment
 use Rattle.mlt_operation.specs.PageTurns.{TakesTurn}
 use Rattle.mlt_transaction.specs.declared.commons.Commons.{Commons}
 use Rattle.mlt_transaction.specs.declared.transaction.Transaction.{Transaction}
-use Rattle.mlt_invariant.specs.Events.{with_transaction}
+use Rattle.mlt_invariant.specs.Events.{KeepsCleanPages, with_transaction}
 use Rattle.mlt_invariant.specs.Sound.{FitsAt, IsSound}
 use Rattle.mlt_invariant.specs.States.{State, all_of, images_kept, is_undoing, room_of}
 use Rattle.mlt_invariant.proofs.MaySteps.{is_open_now, same_moment}
@@ -34,10 +34,10 @@ module _ (s : State) (i : ℕ) (before after : Transaction) (commons : Commons)
       → map.get all.images i ≡ Some after.subtx.images → after.subtx.tx ≡ i → after.undo ≡ before.undo → commons.objects ≡ s.commons.objects
       → commons.history.items ≡ s.commons.history.items → commons.history.room + room_of before ≡ s.commons.history.room + room_of after
       → is_undoing after.at ≡ is_undoing before.at → FitsAt after.at (with_transaction s i after commons all.images) i after
-      → (images : RunningImages) × IsSound (with_transaction s i after commons images)
+      → KeepsCleanPages s i before after commons
   sound_after all leaves same own tx undo objects items room undoing fits = (
     all.images,
-    stays_sound s i before after commons all.images sound was (record {
+    record {
       runs = subst (KeepsRunning i (all_of s)) (sym same) leaves.keeps;
       clean = ap clean_of same ∙ leaves.clean;
       own = own;
@@ -49,7 +49,7 @@ module _ (s : State) (i : ℕ) (before after : Transaction) (commons : Commons)
       entries = ap (λ (u : Undo). u.entries) undo;
       undoing = undoing;
       fits = fits;
-    }),
+    },
   )
 
   -- what a turn leaves

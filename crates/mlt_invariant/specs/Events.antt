@@ -43,6 +43,11 @@ pub record KeepsClean (s : State) (i : ℕ) (before after : Transaction) (common
   pub undoing : is_undoing after.at ≡ is_undoing before.at
   pub fits : FitsAt after.at (with_transaction s i after commons images) i after
 
+-- the event is one that leaves the clean pages, with some first images
+abbrev pub KeepsCleanPages : State → ℕ → Transaction → Transaction → Commons → Type 0
+KeepsCleanPages s i before after commons =
+    (images : RunningImages) × KeepsClean s i before after commons images
+
 -- The subtransaction of transaction i ends: what it has written is clean, and leads to this base.
 abbrev pub with_end : State → ℕ → Transaction → Commons → Base → State
 with_end s i t commons base = record (with_transaction s i t commons (map.insert s.images i map.empty)) {

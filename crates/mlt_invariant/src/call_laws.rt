@@ -2,13 +2,12 @@
 
 ghost use Rattle.std.specs.Prelude.{ℕ, ◌≡◌, Some};
 ghost use Rattle.std.specs.FinMap as map;
-ghost use Rattle.mlt_running.specs.CleanPages.{RunningImages};
 ghost use Rattle.mlt_operation.specs.Operating.{OperationFields};
 ghost use Rattle.mlt_transaction.specs.declared.commons.Commons.{Commons};
 ghost use Rattle.mlt_transaction.specs.declared.transaction.At.TheVariants as at;
 ghost use Rattle.mlt_transaction.specs.declared.transaction.Transaction.{Transaction};
 ghost use Rattle.mlt_transaction.specs.Transactions.{TellsOfCancel};
-ghost use Rattle.mlt_invariant.specs.Events.{Calls, with_transaction};
+ghost use Rattle.mlt_invariant.specs.Events.{Calls, KeepsCleanPages, with_transaction};
 ghost use Rattle.mlt_invariant.specs.Sound.{IsSound};
 ghost use Rattle.mlt_invariant.specs.States.{State};
 
@@ -19,11 +18,11 @@ pub fn operation_that_is_called()
         → IsSound (with_transaction s i after commons s.images) }
 {}
 
-/// So does the cancel of a pending operation.
+/// The cancel of a pending operation leaves the clean pages, the history and what is held as they were.
 pub fn operation_that_is_cancelled()
     ensures { (s : State) (i : ℕ) (o : OperationFields) (before after : Transaction)
         (commons : Commons)
         → IsSound s → map.get s.txs i ≡ Some before → before.at ≡ at.Pending o
         → TellsOfCancel before after s.commons commons
-        → (images : RunningImages) × IsSound (with_transaction s i after commons images) }
+        → KeepsCleanPages s i before after commons }
 {}

@@ -2,9 +2,11 @@
 
 ghost use Rattle.std.specs.Prelude.{ℕ, ◌≡◌, Some};
 ghost use Rattle.std.specs.FinMap as map;
-ghost use Rattle.mlt_running.specs.CleanPages.{RunningImages};
+ghost use Rattle.mlt_kinds.specs.Bases.{Base, Step};
+ghost use Rattle.mlt_kinds.specs.declared.operation.ObjOp.{ObjOp};
 ghost use Rattle.mlt_kinds.specs.declared.operation.ObjReply.{ObjReply};
 ghost use Rattle.mlt_meeting.specs.Worlds.{basis_of};
+ghost use Rattle.mlt_operation.specs.declared.request.Request.TheVariants.{Do};
 ghost use Rattle.mlt_operation.specs.Operating.{OperationFields};
 ghost use Rattle.mlt_event.specs.declared.answer.Answer.{Answer};
 ghost use Rattle.mlt_event.specs.declared.answer.Answer.TheVariants as answer;
@@ -12,17 +14,27 @@ ghost use Rattle.mlt_transaction.specs.declared.commons.Commons.{Commons};
 ghost use Rattle.mlt_transaction.specs.declared.transaction.At.TheVariants as at;
 ghost use Rattle.mlt_transaction.specs.declared.transaction.Transaction.{Transaction};
 ghost use Rattle.mlt_transaction.specs.Transactions.{StepsPending};
-ghost use Rattle.mlt_invariant.specs.Events.{with_transaction};
+ghost use Rattle.mlt_invariant.specs.Events.{KeepsCleanPages};
 ghost use Rattle.mlt_invariant.specs.Sound.{IsSound};
 ghost use Rattle.mlt_invariant.specs.States.{State, world_of};
 
-/// Where a pending operation goes on, waits, is blocked or is refused, all that is always true stays true: the clean
-/// pages, the history and what is held are as they were.
+/// Where a pending operation goes on, waits, is blocked or is refused, the clean pages, the history and what is held are
+/// as they were, and so all that is always true stays true.
 pub fn operation_that_is_not_done()
     ensures { (s : State) (i : ℕ) (o : OperationFields) (before after : Transaction)
         (commons : Commons) (told : Answer)
         → IsSound s → map.get s.txs i ≡ Some before → before.at ≡ at.Pending o
         → StepsPending (basis_of (world_of s) i) o before after s.commons commons told
         → ((reply : ObjReply) → told ≡ answer.Done reply → ⊥)
-        → (images : RunningImages) × IsSound (with_transaction s i after commons images) }
+        → KeepsCleanPages s i before after commons }
+{}
+
+/// The reply that a pending operation was told, once its next step is its end, is the one with which it is a step of the
+/// base.
+pub fn reply_of_a_pending_operation()
+    ensures { (s : State) (i : ℕ) (o : OperationFields) (before : Transaction) (op : ObjOp)
+        (reply : ObjReply)
+        → IsSound s → map.get s.txs i ≡ Some before → before.at ≡ at.Pending o
+        → o.request ≡ Do op → o.reply ≡ Some reply
+        → (base : Base) × Step s.base (op, reply) base }
 {}

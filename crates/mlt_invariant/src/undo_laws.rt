@@ -4,14 +4,13 @@ ghost use Rattle.std.specs.Prelude.{ℕ, ◌≡◌, Option, Some};
 ghost use Rattle.std.specs.FinMap as map;
 ghost use Rattle.mlt_operation.specs.Operating.{OperationFields};
 ghost use Rattle.mlt_meeting.specs.Worlds.{basis_of};
-ghost use Rattle.mlt_running.specs.CleanPages.{RunningImages};
 ghost use Rattle.mlt_event.specs.declared.answer.Answer.{Answer};
 ghost use Rattle.mlt_event.specs.declared.answer.Answer.TheVariants as answer;
 ghost use Rattle.mlt_transaction.specs.declared.commons.Commons.{Commons};
 ghost use Rattle.mlt_transaction.specs.declared.transaction.At.TheVariants as at;
 ghost use Rattle.mlt_transaction.specs.declared.transaction.Transaction.{Transaction};
 ghost use Rattle.mlt_transaction.specs.Transactions.{StepsBack};
-ghost use Rattle.mlt_invariant.specs.Events.{with_transaction};
+ghost use Rattle.mlt_invariant.specs.Events.{KeepsCleanPages};
 ghost use Rattle.mlt_invariant.specs.Sound.{IsSound};
 ghost use Rattle.mlt_invariant.specs.States.{State, world_of};
 ghost use Rattle.mlt_invariant.specs.Undoing.{LedBack, TakesLastBack, with_aborted, with_undone};
@@ -35,12 +34,13 @@ pub fn last_undone_operation_keeps_all()
         → LedBack s before after (with_aborted s i commons) }
 {}
 
-/// A step of an inverse before its end, or one that waits, keeps all that is always true: the clean pages stay.
+/// A step of an inverse before its end, or one that waits, leaves the clean pages, the history and what is held as they
+/// were.
 pub fn inverse_that_is_not_done()
     ensures { (s : State) (i : ℕ) (inverting : Option OperationFields) (before after : Transaction)
         (commons : Commons) (told : Answer)
         → IsSound s → map.get s.txs i ≡ Some before → before.at ≡ at.Undoing inverting
         → StepsBack (basis_of (world_of s) i) inverting before after s.commons commons told
         → (told ≡ answer.Undone → ⊥) → (told ≡ answer.Aborted → ⊥)
-        → (images : RunningImages) × IsSound (with_transaction s i after commons images) }
+        → KeepsCleanPages s i before after commons }
 {}

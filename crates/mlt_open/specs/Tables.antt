@@ -3,13 +3,14 @@ use Rattle.std.specs.Prelude.{ℕ, ◌≡◌, Some}
 use Rattle.std.specs.Ordering.{nat_cmp}
 use Rattle.std.specs.FinMap as map
 use Rattle.std.specs.FinSet as set
+use Rattle.mlt_kinds.specs.declared.operation.ObjOp.{ObjOp}
 use Rattle.mlt_hash_form.specs.declared.root.Root.{Root}
 use Rattle.mlt_hash.specs.Walks.{basis_by}
 use Rattle.mlt_event.specs.declared.answer.Answer.{Answer}
 use Rattle.mlt_transaction.specs.declared.commons.Commons.{Commons}
 use Rattle.mlt_transaction.specs.declared.transaction.At.{At}
 use Rattle.mlt_transaction.specs.declared.transaction.Transaction.{Transaction}
-use Rattle.mlt_transaction.specs.Transactions.{TellsOfCancel, TellsOfTransaction}
+use Rattle.mlt_transaction.specs.Transactions.{IsNotCalled, TellsOfCall, TellsOfCancel, TellsOfTransaction}
 
 -- the open transactions, by their numbers
 abbrev pub Table : Type 0
@@ -21,6 +22,17 @@ pub record ChangesOne (tx : ℕ) (old new : Table) : Type 0 where
   pub after : Transaction
   pub was : map.get old tx ≡ Some before
   pub is : new ≡ map.insert old tx after
+
+-- the transaction of this number is called with an operation
+pub record CallsOne (tx : ℕ) (op : ObjOp) (old new : Table) (commons commons' : Commons)
+    : Type 0 where
+  pub changes : ChangesOne tx old new
+  pub tells : TellsOfCall op changes.before changes.after commons commons'
+
+-- it is not, for want of memory
+pub record CallsNone (tx : ℕ) (old new : Table) (commons commons' : Commons) : Type 0 where
+  pub changes : ChangesOne tx old new
+  pub tells : IsNotCalled changes.before changes.after commons commons'
 
 -- the transaction of this number takes a step
 pub record StepsOne {P : Type 0} (bits_of : P → ℕ → ℕ) (root : Root P) (opens : set.FinSet nat_cmp)

@@ -7,10 +7,11 @@ ghost use Rattle.mlt_hash.specs.Walks.{basis_by};
 ghost use Rattle.mlt_transaction.specs.declared.transaction.Transaction.{Transaction as TransactionFields};
 ghost use Rattle.mlt_transaction.specs.Transactions.{IsPending, MayStepIn};
 ghost use Rattle.mlt_kinds.specs.Bases.{with_entry};
-ghost use Rattle.mlt_open.specs.Tables.{CancelsOne, PutsOneAt, StepsOne};
+ghost use Rattle.mlt_open.specs.Tables.{CallsNone, CallsOne, CancelsOne, PutsOneAt, StepsOne};
 
 use mlt_event::Answer;
 use mlt_hash_form::Root;
+use mlt_kinds::ObjOp;
 use mlt_transaction::{At, Commons, Transaction};
 use mlt_types::{OpenSet, Pseudo, Refusal, TxId};
 use std::alloc::Global;
@@ -80,6 +81,23 @@ impl OpenTransactions {
         ensures { self.new ≡ with_entry self.old tx None }
     {
         self.txs.remove(&tx.0);
+    }
+
+    /// Calls the transaction of a number, which is open and at nothing, with an operation.
+    ///
+    /// # Errors
+    /// `OutOfMemory`, where a growth was refused; the transaction is then still at nothing.
+    pub fn call(&mut self, tx: TxId, commons: &mut Commons, op: ObjOp) -> Result<(), Refusal>
+        requires is_open { (t : TransactionFields) × (map.get self.old tx ≡ Some t)
+            × (t.at ≡ At.Idle) }
+        ensures calls { OnOk result (CallsOne tx op self.old self.new commons.old commons.new) }
+        ensures err { OnErr result (CallsNone tx self.old self.new commons.old commons.new) }
+        ensures refusal { IfErr result (λ refusal. refusal ≡ Refusal.OutOfMemory) }
+    {
+        let Some(transaction) = self.txs.get_mut(&tx.0) else {
+            unreachable!()
+        };
+        transaction.call(commons, op)
     }
 
     /// One step of the transaction of a number, which is open and not idle.

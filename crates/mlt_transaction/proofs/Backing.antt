@@ -1,8 +1,5 @@
 -- The ends of inverses
-use Rattle.std.proofs.Common.{◌≡◌, ℕ, List, [], ◌∷◌, ◌++◌, length, None, Option, Some, IsSome, refl, sym, ap, subst, ◌∙◌}
-use Rattle.mlt_kinds.specs.declared.operation.ObjOp.{ObjOp}
-use Rattle.mlt_kinds.specs.declared.operation.ObjReply.{ObjReply}
-use Rattle.mlt_base.specs.Plans.{inverse_of}
+use Rattle.std.proofs.Common.{◌≡◌, List, [], ◌∷◌, ◌++◌, Option, Some, refl, sym, ap, ◌∙◌}
 use Rattle.mlt_subtx.specs.Images.{Running}
 use Rattle.mlt_undo.specs.Undo.{Undo}
 use Rattle.mlt_hash.specs.Walks.{Basis}

@@ -1,8 +1,8 @@
 -- An inverse adds no record, so it splits nothing, stays in its first pass, and is never refused
 use Rattle.std.proofs.Common.{◌≡◌, ℕ, Bool, true, false, None, Option, Some, refl, sym, ap, ◌∙◌, inl, inr}
 use Rattle.std.proofs.lemmas.Bool.{false≢true}
-use Rattle.mlt_kinds.specs.declared.account.AccountOp.TheVariants.{Open, Close, Deposit, Withdraw, Balance}
-use Rattle.mlt_kinds.specs.declared.counter.CounterOp.TheVariants.{Up, Down, Read}
+use Rattle.mlt_kinds.specs.declared.account.AccountOp.TheVariants.{Open, Close, Deposit, Withdraw}
+use Rattle.mlt_kinds.specs.declared.counter.CounterOp.TheVariants.{Up, Down}
 use Rattle.mlt_kinds.specs.declared.element.ElementOp.TheVariants as element
 use Rattle.mlt_kinds.specs.declared.operation.ObjOp.{ObjOp}
 use Rattle.mlt_kinds.specs.declared.operation.ObjOp.TheVariants.{Account, Element, Counter}
@@ -13,7 +13,6 @@ use Rattle.mlt_base.specs.declared.record.RecChange.TheVariants.{Add}
 use Rattle.mlt_base.specs.Plans.{inverse_of}
 use Rattle.mlt_held.specs.Moments.{Moment}
 use Rattle.mlt_hash.specs.Walks.{Basis}
-use Rattle.mlt_hash.specs.declared.pass.Pass.TheVariants as pass
 use Rattle.mlt_operation.specs.declared.answer.StepAnswer.TheVariants as step
 use Rattle.mlt_operation.specs.declared.request.Request.{Request}
 use Rattle.mlt_operation.specs.declared.request.Request.TheVariants.{TakeBack}

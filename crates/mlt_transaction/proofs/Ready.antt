@@ -1,13 +1,12 @@
 -- An operation whose reply is not known has a next step
-use Rattle.std.proofs.Common.{◌≡◌, ℕ, None, Option, Some, sym, ◌∙◌}
+use Rattle.std.proofs.Common.{◌≡◌, None, sym, ◌∙◌}
 use Rattle.std.proofs.lemmas.Option.{none-some}
 use Rattle.mlt_held.specs.Views.{View}
-use Rattle.mlt_kinds.specs.declared.operation.ObjReply.{ObjReply}
 use Rattle.mlt_hash.specs.Splitting.{IsUnderWay}
 use Rattle.mlt_hash.specs.Walks.{Basis}
 use Rattle.mlt_hash.specs.declared.pass.Phase.{Phase}
 use Rattle.mlt_hash.specs.declared.pass.Phase.TheVariants as at
-use Rattle.mlt_operation.specs.Operating.{FitsPhase, IsOperating, OperationFields}
+use Rattle.mlt_operation.specs.Operating.{FitsPhase, OperationFields}
 
 pub under_way : (p : Phase) (basis : Basis) (o : OperationFields) (view : View) → FitsPhase p basis o view → o.reply ≡ None → IsUnderWay p
 under_way at.Start basis o view fits none = tt

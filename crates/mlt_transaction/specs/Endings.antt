@@ -1,12 +1,11 @@
 -- What the end of an operation does to the pages, the object locks, the undo list and the history
-use Rattle.std.specs.Prelude.{ℕ, ◌≡◌, ◌≤◌, ◌+◌, List, [], ◌∷◌, ◌++◌, None}
-use Rattle.std.specs.FinMap as map
+use Rattle.std.specs.Prelude.{ℕ, ◌≡◌, ◌+◌, [], ◌∷◌, ◌++◌}
 use Rattle.mlt_kinds.specs.declared.operation.ObjOp.{ObjOp}
 use Rattle.mlt_kinds.specs.declared.operation.ObjReply.{ObjReply}
 use Rattle.mlt_page_locks.specs.Requests.{released}
 use Rattle.mlt_subtx.specs.Images.{Running, put_back, started}
 use Rattle.mlt_undo.specs.Undo.{Undo}
-use Rattle.mlt_object_locks.specs.Locks.{HoldsClash, IsLowestClash, SameReservations, reservation_of}
+use Rattle.mlt_object_locks.specs.Locks.{HoldsClash, IsLowestClash, SameReservations}
 use Rattle.mlt_trace.specs.declared.item.TraceItem.TheVariants as trace
 use Rattle.mlt_event.specs.declared.answer.Answer.{Answer}
 use Rattle.mlt_event.specs.declared.answer.Answer.TheVariants as answer

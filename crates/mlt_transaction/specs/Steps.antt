@@ -16,12 +16,11 @@ use Rattle.mlt_operation.specs.declared.answer.StepAnswer.TheVariants as step
 use Rattle.mlt_operation.specs.declared.request.Request.TheVariants.{Do, TakeBack}
 use Rattle.mlt_operation.specs.Answers.{StepsOn, TellsOfStep, Waits}
 use Rattle.mlt_operation.specs.Operating.{MayOperate, OperationFields, started_for}
-use Rattle.mlt_trace.specs.declared.item.TraceItem.{TraceItem}
 use Rattle.mlt_trace.specs.declared.item.TraceItem.TheVariants as trace
 use Rattle.mlt_event.specs.declared.answer.Answer.{Answer}
 use Rattle.mlt_event.specs.declared.answer.Answer.TheVariants as answer
 use Rattle.mlt_transaction.specs.declared.commons.Commons.{Commons}
-use Rattle.mlt_transaction.specs.Endings.{EndsSubtx, IsBlocked, IsDone, TellsOfEnd}
+use Rattle.mlt_transaction.specs.Endings.{EndsSubtx, TellsOfEnd}
 
 -- the answer to a step, as its transaction gives it
 abbrev pub answer_of : StepAnswer → Answer

@@ -1,7 +1,11 @@
 -- What the events of one transaction ask and tell
-use Rattle.std.specs.Prelude.{ℕ, ◌≡◌, ◌≤◌, ◌+◌, Option}
+use Rattle.std.specs.Prelude.{ℕ, ◌≡◌, ◌≤◌, ◌+◌, Option, Some}
+use Rattle.mlt_kinds.specs.declared.operation.ObjOp.{ObjOp}
+use Rattle.mlt_kinds.specs.Operations.{cell_of}
+use Rattle.mlt_object_locks.specs.Locks.{SameReservations, reservation_of}
 use Rattle.mlt_hash.specs.Walks.{Basis}
-use Rattle.mlt_operation.specs.Operating.{OperationFields}
+use Rattle.mlt_operation.specs.declared.request.Request.TheVariants.{Do}
+use Rattle.mlt_operation.specs.Operating.{OperationFields, started_for}
 use Rattle.mlt_event.specs.declared.answer.Answer.{Answer}
 use Rattle.mlt_event.specs.declared.answer.Answer.TheVariants as answer
 use Rattle.mlt_transaction.specs.declared.commons.Commons.{Commons}
@@ -74,6 +78,30 @@ TellsAt (at.Undoing inverting) basis before after old new told =
 abbrev pub TellsOfTransaction : Basis → Transaction → Transaction → Commons → Commons → Answer
     → Type 0
 TellsOfTransaction basis before after old new told = TellsAt before.at basis before after old new told
+
+-- Room is made, for the undo entry and the object lock of one operation. The transaction stays what it was, but for what
+-- it is at; and so do the pages, what is held, the items of the history, and what others reserved.
+pub record MakesRoom (before after : Transaction) (old new : Commons) : Type 0 where
+  pub subtx_kept : after.subtx ≡ before.subtx
+  pub entries : after.undo.entries ≡ before.undo.entries
+  pub pages : new.pages ≡ old.pages
+  pub held : new.objects.held ≡ old.objects.held
+  pub others : SameReservations old.objects.reserved new.objects.reserved before.subtx.tx
+  pub items : new.history.items ≡ old.history.items
+
+-- an operation is pending, and has room for all that its end, and its being taken back, add
+pub record TellsOfCall (op : ObjOp) (before after : Transaction) (old new : Commons) : Type 0 where
+  pub makes : MakesRoom before after old new
+  pub pending : after.at ≡ at.Pending (started_for (Do op))
+  pub spare : 1 ≤ after.undo.spare
+  pub reserved : reservation_of new.objects.reserved before.subtx.tx ≡ Some (cell_of op)
+  pub room : new.history.room ≡ old.history.room + 2
+
+-- none is pending, and the history has the room that it had
+pub record IsNotCalled (before after : Transaction) (old new : Commons) : Type 0 where
+  pub makes : MakesRoom before after old new
+  pub idle : after.at ≡ before.at
+  pub room : new.history.room ≡ old.history.room
 
 -- a pending operation is dropped
 pub record TellsOfCancel (before after : Transaction) (old new : Commons) : Type 0 where

@@ -1,17 +1,18 @@
 //! Transactions.
 
-ghost use Rattle.std.specs.Prelude.{◌≡◌, ◌≤◌, ◌+◌, [], None};
+ghost use Rattle.std.specs.Prelude.{◌≡◌, ◌≤◌, ◌+◌, [], None, OnOk, OnErr, IfErr};
 ghost use Rattle.mlt_hash.specs.Walks.{basis_by};
 ghost use Rattle.mlt_subtx.specs.Images.{AreThere, started};
-ghost use Rattle.mlt_transaction.specs.Transactions.{IsPending, MayStepIn, TellsOfCancel, TellsOfTransaction};
+ghost use Rattle.mlt_transaction.specs.Transactions.{IsNotCalled, IsPending, MayStepIn, TellsOfCall, TellsOfCancel, TellsOfTransaction};
 
 use crate::commons::Commons;
 use crate::stepping::{step_back, step_on};
 use mlt_event::Answer;
 use mlt_hash_form::Root;
-use mlt_operation::Operation;
+use mlt_kinds::ObjOp;
+use mlt_operation::{Operation, Request};
 use mlt_subtx::Subtx;
-use mlt_types::{OpenSet, Pseudo, TxId};
+use mlt_types::{OpenSet, Pseudo, Refusal, TxId};
 use mlt_undo::UndoList;
 use std::alloc::Global;
 
@@ -49,6 +50,24 @@ impl Transaction {
             undo: UndoList::new(alloc),
             at: At::Idle,
         }
+    }
+
+    /// Calls the transaction, which is at nothing, with an operation, which is pending from then on. Room is made for its
+    /// undo entry, its object lock, and its two items of the history: that it is done, and that it is taken back.
+    ///
+    /// # Errors
+    /// `OutOfMemory`, where a growth was refused; the transaction is then still at nothing.
+    pub fn call(&mut self, commons: &mut Commons, op: ObjOp) -> Result<(), Refusal>
+        requires idle { self.old.at ≡ At.Idle }
+        ensures calls { OnOk result (TellsOfCall op self.old self.new commons.old commons.new) }
+        ensures err { OnErr result (IsNotCalled self.old self.new commons.old commons.new) }
+        ensures refusal { IfErr result (λ refusal. refusal ≡ Refusal.OutOfMemory) }
+    {
+        self.undo.reserve()?;
+        commons.objects.reserve(self.subtx.tx(), &op.cell())?;
+        commons.history.reserve(2)?;
+        self.at = At::Pending(Operation::start(commons.alloc, Request::Do(op)));
+        Ok(())
     }
 
     /// One step of its pending operation, or of its abort. An operation that is done or refused is pending no more, and

@@ -1,6 +1,6 @@
 //! The undo list.
 
-ghost use Rattle.std.specs.Prelude.{◌≡◌, ◌≤◌, ◌+◌, [], ◌∷◌, ◌++◌, Some, None, OnOk, OnErr, IfErr};
+ghost use Rattle.std.specs.Prelude.{◌≡◌, ◌≤◌, ◌+◌, [], ◌∷◌, ◌++◌, length, Some, None, OnOk, OnErr, IfErr};
 ghost use Rattle.mlt_undo.specs.Undo.{IsLast, IsPopped};
 
 use mlt_kinds::Done;
@@ -58,6 +58,13 @@ impl UndoList {
         ensures spare { self.new.spare + 1 ≡ self.old.spare }
     {
         self.done.push_reserved(done);
+    }
+
+    /// How many entries stand.
+    pub fn len(&self) -> usize
+        ensures { result ≡ length self.now.entries }
+    {
+        self.done.len()
     }
 
     /// The entry that was added last, of those that stand.

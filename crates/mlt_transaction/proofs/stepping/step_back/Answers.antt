@@ -1,8 +1,7 @@
-use Rattle.std.proofs.Common.{◌≡◌, ℕ, List, [], ◌∷◌, ◌++◌, None, Option, Some, IsSome, is_some, true, refl, sym, ap, subst, ◌∙◌}
+use Rattle.std.proofs.Common.{◌≡◌, ℕ, None, Some, IsSome, refl, sym, ap, subst, ◌∙◌}
 use Rattle.std.proofs.lemmas.Option.{none-some}
 use Rattle.mlt_kinds.specs.declared.operation.ObjOp.{ObjOp}
 use Rattle.mlt_kinds.specs.declared.operation.ObjReply.{ObjReply}
-use Rattle.mlt_base.specs.declared.record.RecChange.{RecChange}
 use Rattle.mlt_base.specs.Plans.{inverse_of}
 use Rattle.mlt_held.specs.Moments.{Moment, moment}
 use Rattle.mlt_held.specs.Views.{view_of}
@@ -14,7 +13,6 @@ use Rattle.mlt_subtx.specs.Images.{Running}
 use Rattle.mlt_undo.specs.Undo.{IsLast}
 use Rattle.mlt_transaction.specs.Steps.{TakesBack}
 use Rattle.mlt_transaction.proofs.Backing.{end_tells, one_last, same_some}
-use Rattle.mlt_transaction.proofs.Inverses.{inverse_goes_on}
 use Rattle.mlt_transaction.proofs.Ready.{under_way}
 use Rattle.mlt_transaction.proofs.stepping.step_back.Goals as goal
 

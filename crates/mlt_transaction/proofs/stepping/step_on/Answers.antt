@@ -1,4 +1,4 @@
-use Rattle.std.proofs.Common.{◌≡◌, sym, ◌∙◌}
+use Rattle.std.proofs.Common.{sym, ◌∙◌}
 use Rattle.mlt_held.specs.Moments.{moment}
 use Rattle.mlt_held.specs.Views.{view_of}
 use Rattle.mlt_hash.specs.Walks.{basis_by}

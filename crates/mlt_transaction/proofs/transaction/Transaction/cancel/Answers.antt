@@ -1,5 +1,4 @@
-use Rattle.std.proofs.Common.{◌≡◌, refl}
-use Rattle.mlt_transaction.specs.declared.commons.Commons.{Commons}
+use Rattle.std.proofs.Common.{refl}
 use Rattle.mlt_transaction.proofs.transaction.Transaction.cancel.Goals as goal
 
 pub returns : goal.returns

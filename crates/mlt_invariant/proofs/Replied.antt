@@ -1,0 +1,48 @@
+-- The reply of a pending operation, before its end
+use Rattle.std.proofs.Common.{◌≡◌, ℕ, true, Option, Some, is_some, ap, subst, sym, ◌∙◌}
+use Rattle.std.specs.FinMap as map
+use Rattle.mlt_page.specs.declared.page.Page.{Page}
+use Rattle.mlt_kinds.specs.Bases.{Base, Step}
+use Rattle.mlt_kinds.specs.declared.operation.ObjOp.{ObjOp}
+use Rattle.mlt_kinds.specs.declared.operation.ObjReply.{ObjReply}
+use Rattle.mlt_base.specs.Plans.{reply_of}
+use Rattle.mlt_held.specs.Views.{view_of}
+use Rattle.mlt_hash_form.specs.Held.{over}
+use Rattle.mlt_running.specs.CleanPages.{clean_pages}
+use Rattle.mlt_running.specs.Running.{clean_of, is_open, moment_of}
+use Rattle.mlt_running.proofs.AllRunning.{agrees_with_each}
+use Rattle.mlt_running.proofs.AllEvents.{end_clean}
+use Rattle.mlt_operation.specs.declared.request.Request.TheVariants.{Do}
+use Rattle.mlt_operation.specs.Operating.{OperationFields}
+use Rattle.mlt_meeting.specs.Worlds.{record_of}
+use Rattle.mlt_meeting.proofs.Fixed.{step_there}
+use Rattle.mlt_meeting.specs.Presences.{IsOpInRange}
+use Rattle.mlt_transaction.specs.declared.transaction.At.{At}
+use Rattle.mlt_transaction.specs.declared.transaction.At.TheVariants as at
+use Rattle.mlt_transaction.specs.declared.transaction.Transaction.{Transaction}
+use Rattle.mlt_invariant.specs.Sound.{FitsAt, HasPending, IsSound}
+use Rattle.mlt_invariant.specs.States.{State, all_of, images_kept, world_of}
+use Rattle.mlt_invariant.proofs.Found.{IsAnswered, is_answered}
+
+module _ (s : State) (i : ℕ) (o : OperationFields) (before : Transaction) (op : ObjOp) (reply : ObjReply)
+    (sound : IsSound s) (was : map.get s.txs i ≡ Some before) (is_pending : before.at ≡ at.Pending o) (asked : o.request ≡ Do op) (told : o.reply ≡ Some reply) where
+  pending : HasPending s i before o
+  pending = subst (λ (a : At). FitsAt a s i before) is_pending (sound.fits i before was).where_at
+
+  is_open_here : is_open (all_of s) i ≡ true
+  is_open_here = ap is_some (sound.kept i ∙ ap images_kept was)
+
+  -- what its end would leave
+  answered : IsAnswered (world_of s) i op reply (clean_pages (map.insert s.images i map.empty) s.commons.pages.store.pages)
+  answered =
+      is_answered (world_of s) i o (view_of (moment_of (all_of s) i)) op reply (clean_pages (map.insert s.images i map.empty) s.commons.pages.store.pages)
+      sound.match pending.operates asked told (agrees_with_each (all_of s) i sound.running is_open_here) (λ q. ap (λ (f : ℕ → Option Page). f q) (end_clean (all_of s) i sound.running))
+
+  in_range : IsOpInRange op
+  in_range = let same : Do pending.op ≡ Do op = sym pending.asked ∙ asked in subst IsOpInRange (let one : pending.op ≡ op = cc in one) pending.in_range
+
+  -- **The reply is the one with which it is a step of the base.**
+  pub reply_is_step : (base : Base) × Step s.base (op, reply) base
+  reply_is_step =
+      let there = step_there (world_of s) op sound.match in_range in
+      (there.0, subst (λ (r : ObjReply). Step s.base (op, r) there.0) answered.told there.1)
