@@ -1,0 +1,31 @@
+-- What a transaction that ends has room for, and leaves
+use Rattle.std.proofs.Common.{◌≡◌, ◌≤◌, ℕ, ◌+◌, length, refl, ap, subst, sym, ◌∙◌, arith}
+use Rattle.std.specs.FinMap as map
+use Rattle.mlt_trace.specs.declared.item.TraceItem.{TraceItem}
+use Rattle.mlt_history.proofs.RoomLaws.{room_within_total}
+use Rattle.mlt_transaction.specs.declared.transaction.At.{At}
+use Rattle.mlt_invariant.specs.States.{pending_room, room_of}
+use Rattle.mlt_manager.specs.Answers.{HasEnded, IsIdleWith}
+use Rattle.mlt_manager.specs.Managers.{IsManager, ManagerFields}
+
+-- the history has room for the end of one that is idle, and for each of its operations
+pub room_to_end : {P : Type 0} (bits_of : P → ℕ → ℕ) (m : ManagerFields P) (tx count : ℕ) → IsManager bits_of m → IsIdleWith m.txs tx count → 1 + count ≤ m.commons.history.room
+room_to_end bits_of m tx count h idle =
+    let within = room_within_total room_of m.txs tx idle.one idle.there in
+    let none : pending_room idle.one.at ≡ 0 = ap pending_room idle.idle in
+    omega (arith, within, none, idle.counts, h.sound.room)
+
+-- an end does not depend on the counts of commits and events
+pub ended_at : {P : Type 0} (m m' : ManagerFields P) (events commits' tx : ℕ) (item : TraceItem) → HasEnded (record m { events = events }) m' tx item → HasEnded m (record m' { commits = commits' }) tx item
+ended_at m m' events commits' tx item e = record {
+  one = e.one;
+  there = e.there;
+  idle = e.idle;
+  pages = e.pages;
+  held = e.held;
+  reserved = e.reserved;
+  items = e.items;
+  room = e.room;
+  txs = e.txs;
+  opens = e.opens;
+}

@@ -1,0 +1,35 @@
+-- What an open transaction is at
+use Rattle.std.proofs.Common.{◌≡◌, ℕ, Option, Some, Bor, sym, ap, subst, ◌∙◌}
+use Rattle.std.specs.FinMap as map
+use Rattle.std.specs.Option.{option_copied}
+use Rattle.mlt_operation.specs.Operating.{OperationFields}
+use Rattle.mlt_transaction.specs.declared.transaction.At.{At}
+use Rattle.mlt_transaction.specs.declared.transaction.At.TheVariants as at
+use Rattle.mlt_transaction.specs.declared.transaction.Transaction.{Transaction}
+use Rattle.mlt_transaction.specs.Transactions.{IsPending}
+use Rattle.mlt_manager.specs.Answers.{IsBusy, IsIdle, IsIdleWith, IsOpenAt, IsUndoing}
+use Rattle.mlt_open.specs.Tables.{Table}
+
+-- one that was found is open at what it is at
+pub open_at : (txs : Table) (tx : ℕ) (got : Option (Bor Transaction)) (one : Bor Transaction) (where_at : At) (Is : At → Type 0)
+    → option_copied got ≡ map.get txs tx → got ≡ Some one → one.now.at ≡ where_at → Is where_at → IsOpenAt txs tx Is
+open_at txs tx got one where_at Is found is at_it fits = record { one = one.now; there = sym found ∙ ap option_copied is; is_at = subst Is (sym at_it) fits }
+
+pub idle_at : (txs : Table) (tx count : ℕ) → IsIdleWith txs tx count → IsOpenAt txs tx IsIdle
+idle_at txs tx count h = record { one = h.one; there = h.there; is_at = subst IsIdle (sym h.idle) tt }
+
+busy_if : (a : At) → IsPending a → IsBusy a
+busy_if at.Idle none = absurd none
+busy_if (at.Pending o) is = tt
+busy_if (at.Undoing inverting) none = absurd none
+
+busy_if_undoing : (a : At) → IsUndoing a → IsBusy a
+busy_if_undoing at.Idle none = absurd none
+busy_if_undoing (at.Pending o) none = absurd none
+busy_if_undoing (at.Undoing inverting) is = tt
+
+pub pending_is_busy : (txs : Table) (tx : ℕ) → IsOpenAt txs tx IsPending → IsOpenAt txs tx IsBusy
+pending_is_busy txs tx h = record { one = h.one; there = h.there; is_at = busy_if h.one.at h.is_at }
+
+pub undoing_is_busy : (txs : Table) (tx : ℕ) → IsOpenAt txs tx IsUndoing → IsOpenAt txs tx IsBusy
+undoing_is_busy txs tx h = record { one = h.one; there = h.there; is_at = busy_if_undoing h.one.at h.is_at }

@@ -1,0 +1,38 @@
+use Rattle.std.proofs.Common.{refl, ap, subst, sym, ◌∙◌, ◌≡◌, ◌≤◌, ◌+◌, ℕ, arith}
+use Rattle.std.proofs.lemmas.Result.{err_from_is_err_and}
+use Rattle.mlt_manager.specs.Answers.{IsIdleWith}
+use Rattle.mlt_trace.specs.declared.item.TraceItem.TheVariants as trace
+use Rattle.mlt_manager.specs.Parts.{fields_of}
+use Rattle.mlt_manager.proofs.Ending.{ended_at, room_to_end}
+use Rattle.mlt_manager.proofs.Refusing.{one_more}
+use Rattle.mlt_manager.proofs.parts.Parts.abort.Goals as goal
+
+pub returns-in_err-count : goal.returns-in_err-count
+returns-in_err-count g c =
+    let p = err_from_is_err_and c.from_residual.result c.from_residual.ensures.1 in
+    record { answers = rw (p.1, p.2) (c.in_err-count.ensures.refusal, one_more (fields_of c.args.self.now) c.saturating_add-self.result c.saturating_add-self.ensures) }
+
+pub close-requires-clause-room : goal.close-requires-clause-room
+close-requires-clause-room g c =
+    let zero_left : c.in_ok-count.count ≡ 0 = c.if-count-eq0.true in
+    subst (λ (n : ℕ). 1 + n ≤ c.args.self.now.commons.history.room) zero_left (room_to_end g.P.Pseudo.bits_of (fields_of c.args.self.now) c.args.tx c.in_ok-count.count c.requires.sound c.in_ok-count.ensures.idle)
+
+pub returns-then-count-eq0 : goal.returns-then-count-eq0
+returns-then-count-eq0 g c = record {
+  answers = record {
+    nothing = subst (IsIdleWith c.args.self.now.txs c.args.tx) c.if-count-eq0.true c.in_ok-count.ensures.idle;
+    ends = ended_at (fields_of c.args.self.now) (fields_of c.close.new.self) c.saturating_add-self.result c.close.new.self.commits c.args.tx (trace.Abort c.args.tx) c.close.ensures.ends;
+    rest = ap fields_of c.close.ensures.rest ∙ (λ i. record (fields_of c.args.self.now) { commons = c.close.new.self.commons; txs = c.close.new.self.txs; opens = c.close.new.self.opens; events = c.saturating_add-self.ensures i });
+  };
+}
+
+pub returns : goal.returns
+returns g c = record {
+  answers = record {
+    count = c.in_ok-count.count;
+    idle = c.in_ok-count.ensures.idle;
+    some = omega (arith, c.if-count-eq0.false);
+    puts = c.put_at.ensures.puts;
+    rest = λ i. record (fields_of c.args.self.now) { txs = c.put_at.new.self; events = c.saturating_add-self.ensures i };
+  };
+}

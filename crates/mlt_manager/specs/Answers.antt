@@ -1,0 +1,221 @@
+-- What each event of a manager answers, why, and what it leaves
+use Rattle.std.specs.Prelude.{ℕ, ◌≡◌, ◌<◌, ◌≤◌, ◌+◌, ◌-◌, ◌^◌, Bool, true, false, [], ◌∷◌, ◌++◌, length, min, None, Some, Result, Ok, Err}
+use Rattle.std.specs.Ordering.{nat_cmp}
+use Rattle.std.specs.FinMap as map
+use Rattle.std.specs.FinSet as set
+use Rattle.std.specs.List.{filter}
+use Rattle.mlt_types.specs.declared.refusal.Refusal.{Refusal}
+use Rattle.mlt_types.specs.declared.refusal.Refusal.TheVariants as refusal
+use Rattle.mlt_kinds.specs.declared.operation.ObjOp.{ObjOp}
+use Rattle.mlt_object_locks.specs.Locks.{SameReservations, is_of_other}
+use Rattle.mlt_subtx.specs.Images.{started}
+use Rattle.mlt_trace.specs.declared.item.TraceItem.{TraceItem}
+use Rattle.mlt_trace.specs.declared.item.TraceItem.TheVariants as trace
+use Rattle.mlt_event.specs.declared.answer.Answer.{Answer}
+use Rattle.mlt_event.specs.declared.answer.Answer.TheVariants as answer
+use Rattle.mlt_transaction.specs.declared.commons.Commons.{Commons}
+use Rattle.mlt_transaction.specs.declared.transaction.At.{At}
+use Rattle.mlt_transaction.specs.declared.transaction.At.TheVariants as at
+use Rattle.mlt_transaction.specs.declared.transaction.Transaction.{Transaction}
+use Rattle.mlt_transaction.specs.Transactions.{IsPending}
+use Rattle.mlt_open.specs.Tables.{CallsNone, CallsOne, CancelsOne, PutsOneAt, StepsOne, Table}
+use Rattle.mlt_meeting.specs.Presences.{IsOpInRange}
+use Rattle.mlt_manager.specs.Managers.{ManagerFields}
+
+-- the number of events after one more; it stays at the greatest that there is
+abbrev pub next_count : ℕ → ℕ
+next_count events = min (events + 1) (2 ^ 64 - 1)
+
+-- one more event, and nothing else
+abbrev pub counted : {P : Type 0} → ManagerFields P → ManagerFields P
+counted m = record m { events = next_count m.events }
+
+-- what a transaction may be at
+abbrev pub IsIdle : At → Type 0
+IsIdle at.Idle = Unit {0}
+IsIdle other = ⊥
+
+abbrev pub IsUndoing : At → Type 0
+IsUndoing (at.Undoing inverting) = Unit {0}
+IsUndoing other = ⊥
+
+abbrev pub IsBusy : At → Type 0
+IsBusy at.Idle = ⊥
+IsBusy other = Unit {0}
+
+-- the transaction of this number is open, and this is so of what it is at
+pub record IsOpenAt (txs : Table) (tx : ℕ) (Is : At → Type 0) : Type 0 where
+  pub one : Transaction
+  pub there : map.get txs tx ≡ Some one
+  pub is_at : Is one.at
+
+-- no transaction of this number is open
+abbrev pub IsNotOpen : Table → ℕ → Type 0
+IsNotOpen txs tx = map.get txs tx ≡ None
+
+-- it is open and at nothing, and has done this many operations that stand
+pub record IsIdleWith (txs : Table) (tx count : ℕ) : Type 0 where
+  pub one : Transaction
+  pub there : map.get txs tx ≡ Some one
+  pub idle : one.at ≡ at.Idle
+  pub counts : length one.undo.entries ≡ count
+
+-- why no transaction begins: as many are open as may be; else all numbers are given out; else there is no memory
+abbrev pub IsCauseAtBegin : {P : Type 0} → Refusal → ManagerFields P → Type 0
+IsCauseAtBegin refusal.TooManyOpen m = m.max_open ≤ map.len m.txs
+IsCauseAtBegin refusal.IdsSpent m = (map.len m.txs < m.max_open) × (m.max_ids ≤ m.begun)
+IsCauseAtBegin refusal.OutOfMemory m = (map.len m.txs < m.max_open) × (m.begun < m.max_ids)
+IsCauseAtBegin other m = ⊥
+
+-- A transaction begins: it has the next number and has done nothing. The history has it, and room for its end.
+pub record HasBegun {P : Type 0} (old new : ManagerFields P) (tx : ℕ) : Type 0 where
+  pub free : map.len old.txs < old.max_open
+  pub left : old.begun < old.max_ids
+  pub number : tx ≡ old.begun + 1
+  pub one : Transaction
+  pub subtx : one.subtx ≡ started tx
+  pub entries : one.undo.entries ≡ []
+  pub idle : one.at ≡ at.Idle
+  pub pages : new.commons.pages ≡ old.commons.pages
+  pub objects : new.commons.objects ≡ old.commons.objects
+  pub items : new.commons.history.items ≡ old.commons.history.items ++ trace.Begin tx ∷ []
+  pub room : new.commons.history.room ≡ old.commons.history.room + 1
+  pub rest : new ≡ record (counted old) {
+    commons = new.commons;
+    txs = map.insert old.txs tx one;
+    opens = set.insert old.opens tx;
+    begun = tx;
+  }
+
+abbrev pub AnswersBegin : {P : Type 0} → ManagerFields P → ManagerFields P → Result ℕ Refusal → Type 0
+AnswersBegin old new (Ok tx) = HasBegun old new tx
+AnswersBegin old new (Err reason) = IsCauseAtBegin reason old × (new ≡ counted old)
+
+-- why a transaction is not idle: there is none of this number; or its abort has begun; or an operation is pending
+abbrev pub IsNotIdle : Refusal → Table → ℕ → Type 0
+IsNotIdle refusal.NoSuchTx txs tx = IsNotOpen txs tx
+IsNotIdle refusal.Undoing txs tx = IsOpenAt txs tx IsUndoing
+IsNotIdle refusal.Running txs tx = IsOpenAt txs tx IsPending
+IsNotIdle other txs tx = ⊥
+
+-- it may be called: it is idle, and may have one more operation
+abbrev pub MayCall : {P : Type 0} → ManagerFields P → ℕ → Type 0
+MayCall m tx = (count : ℕ) × IsIdleWith m.txs tx count × (count < m.max_ops)
+
+-- why it is not called: it is not idle; or it has as many operations as it may have
+abbrev pub IsCauseAtCall : {P : Type 0} → Refusal → ManagerFields P → ℕ → Type 0
+IsCauseAtCall refusal.LogFull m tx = (count : ℕ) × IsIdleWith m.txs tx count × (m.max_ops ≤ count)
+IsCauseAtCall reason m tx = IsNotIdle reason m.txs tx
+
+-- one transaction and what all share have changed, and nothing else
+abbrev pub ChangesOpen : {P : Type 0} → ManagerFields P → ManagerFields P → Type 0
+ChangesOpen old new = new ≡ record (counted old) { commons = new.commons; txs = new.txs }
+
+-- a transaction is called with an operation
+pub record HasCalled {P : Type 0} (old new : ManagerFields P) (tx : ℕ) (op : ObjOp) : Type 0 where
+  pub may : MayCall old tx
+  pub in_range : IsOpInRange op
+  pub calls : CallsOne tx op old.txs new.txs old.commons new.commons
+  pub rest : ChangesOpen old new
+
+abbrev pub AnswersCall : {P : Type 0} → ManagerFields P → ManagerFields P → ℕ → ObjOp → Result (Unit {0}) Refusal
+    → Type 0
+AnswersCall old new tx op (Ok done) = HasCalled old new tx op
+AnswersCall old new tx op (Err refusal.OutOfMemory) =
+    MayCall old tx × CallsNone tx old.txs new.txs old.commons new.commons × ChangesOpen old new
+AnswersCall old new tx op (Err reason) = IsCauseAtCall reason old tx × (new ≡ counted old)
+
+-- a transaction that is told `Aborted` is open no more
+abbrev pub txs_after : Answer → ℕ → Table → Table
+txs_after answer.Aborted tx txs = map.remove txs tx
+txs_after other tx txs = txs
+
+abbrev pub opens_after : Answer → ℕ → set.FinSet nat_cmp → set.FinSet nat_cmp
+opens_after answer.Aborted tx opens = set.remove opens tx
+opens_after other tx opens = opens
+
+-- a transaction takes a step, and is open no more if it is told `Aborted`
+pub record HasStepped {P : Type 0} (bits_of : P → ℕ → ℕ) (old new : ManagerFields P) (tx : ℕ) (told : Answer)
+    : Type 0 where
+  pub busy : IsOpenAt old.txs tx IsBusy
+  pub txs : Table
+  pub steps : StepsOne bits_of old.root old.opens tx old.txs txs old.commons new.commons told
+  pub rest : new ≡ record (counted old) {
+    commons = new.commons;
+    txs = txs_after told tx txs;
+    opens = opens_after told tx old.opens;
+  }
+
+-- why it takes none: there is none of this number, or it is at nothing
+abbrev pub IsCauseAtStep : Refusal → Table → ℕ → Type 0
+IsCauseAtStep refusal.NoSuchTx txs tx = IsNotOpen txs tx
+IsCauseAtStep refusal.NotRunning txs tx = IsOpenAt txs tx IsIdle
+IsCauseAtStep other txs tx = ⊥
+
+abbrev pub AnswersStep : {P : Type 0} → (P → ℕ → ℕ) → ManagerFields P → ManagerFields P → ℕ → Result Answer Refusal
+    → Type 0
+AnswersStep bits_of old new tx (Ok told) = HasStepped bits_of old new tx told
+AnswersStep bits_of old new tx (Err reason) = IsCauseAtStep reason old.txs tx × (new ≡ counted old)
+
+-- why no operation is cancelled: there is none of this number; or its abort has begun; or it is at nothing
+abbrev pub IsCauseAtCancel : Refusal → Table → ℕ → Type 0
+IsCauseAtCancel refusal.NoSuchTx txs tx = IsNotOpen txs tx
+IsCauseAtCancel refusal.Undoing txs tx = IsOpenAt txs tx IsUndoing
+IsCauseAtCancel refusal.NotRunning txs tx = IsOpenAt txs tx IsIdle
+IsCauseAtCancel other txs tx = ⊥
+
+abbrev pub AnswersCancel : {P : Type 0} → ManagerFields P → ManagerFields P → ℕ → Result (Unit {0}) Refusal → Type 0
+AnswersCancel old new tx (Ok done) =
+    IsOpenAt old.txs tx IsPending × CancelsOne tx old.txs new.txs old.commons new.commons × ChangesOpen old new
+AnswersCancel old new tx (Err reason) = IsCauseAtCancel reason old.txs tx × (new ≡ counted old)
+
+-- A transaction at nothing is open no more: it gives up what it holds and reserves, and the history tells it by this item.
+pub record HasEnded {P : Type 0} (old new : ManagerFields P) (tx : ℕ) (item : TraceItem) : Type 0 where
+  pub one : Transaction
+  pub there : map.get old.txs tx ≡ Some one
+  pub idle : one.at ≡ at.Idle
+  pub pages : new.commons.pages ≡ old.commons.pages
+  pub held : new.commons.objects.held ≡ filter (is_of_other tx) old.commons.objects.held
+  pub reserved : SameReservations old.commons.objects.reserved new.commons.objects.reserved tx
+  pub items : new.commons.history.items ≡ old.commons.history.items ++ item ∷ []
+  pub room : new.commons.history.room + (1 + length one.undo.entries) ≡ old.commons.history.room
+  pub txs : new.txs ≡ map.remove old.txs tx
+  pub opens : new.opens ≡ set.remove old.opens tx
+
+-- a transaction commits, under the next number
+pub record HasCommitted {P : Type 0} (old new : ManagerFields P) (tx number : ℕ) : Type 0 where
+  pub next : number ≡ old.commits + 1
+  pub ends : HasEnded old new tx (trace.Commit tx number)
+  pub rest : new ≡ record (counted old) {
+    commons = new.commons;
+    txs = new.txs;
+    opens = new.opens;
+    commits = number;
+  }
+
+abbrev pub AnswersCommit : {P : Type 0} → ManagerFields P → ManagerFields P → ℕ → Result ℕ Refusal → Type 0
+AnswersCommit old new tx (Ok number) = HasCommitted old new tx number
+AnswersCommit old new tx (Err reason) = IsNotIdle reason old.txs tx × (new ≡ counted old)
+
+-- a transaction that has nothing to take back is closed
+pub record HasClosed {P : Type 0} (old new : ManagerFields P) (tx : ℕ) : Type 0 where
+  pub nothing : IsIdleWith old.txs tx 0
+  pub ends : HasEnded old new tx (trace.Abort tx)
+  pub rest : new ≡ record (counted old) {
+    commons = new.commons;
+    txs = new.txs;
+    opens = new.opens;
+  }
+
+-- a transaction that has something to take back is to do so
+pub record HasBegunAbort {P : Type 0} (old new : ManagerFields P) (tx : ℕ) : Type 0 where
+  pub count : ℕ
+  pub idle : IsIdleWith old.txs tx count
+  pub some : 0 < count
+  pub puts : PutsOneAt tx (at.Undoing None) old.txs new.txs
+  pub rest : new ≡ record (counted old) { txs = new.txs }
+
+abbrev pub AnswersAbort : {P : Type 0} → ManagerFields P → ManagerFields P → ℕ → Result Bool Refusal → Type 0
+AnswersAbort old new tx (Ok true) = HasClosed old new tx
+AnswersAbort old new tx (Ok false) = HasBegunAbort old new tx
+AnswersAbort old new tx (Err reason) = IsNotIdle reason old.txs tx × (new ≡ counted old)

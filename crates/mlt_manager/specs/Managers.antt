@@ -1,0 +1,68 @@
+-- What a contract sees of a manager, and what is always true of it
+use Rattle.std.specs.Prelude.{ℕ, ◌≡◌, ◌≤◌, ◌+◌, ◌^◌}
+use Rattle.std.specs.Ordering.{nat_cmp}
+use Rattle.std.specs.FinMap as map
+use Rattle.std.specs.FinSet as set
+use Rattle.mlt_kinds.specs.Bases.{Base}
+use Rattle.mlt_history.specs.Numbers.{commit_count}
+use Rattle.mlt_hash_form.specs.declared.root.Root.{Root}
+use Rattle.mlt_running.specs.CleanPages.{RunningImages}
+use Rattle.mlt_transaction.specs.declared.commons.Commons.{Commons}
+use Rattle.mlt_open.specs.Tables.{Table}
+use Rattle.mlt_invariant.specs.Sound.{IsSound}
+use Rattle.mlt_invariant.specs.States.{State}
+
+pub record ManagerFields (P : Type 0) : Type 0 where
+  -- how many transactions may be open, how many numbers are given out in all, how many pages there may be, and how many
+  -- operations a transaction may have
+  pub max_open : ℕ
+  pub max_ids : ℕ
+  pub max_pages : ℕ
+  pub max_ops : ℕ
+  -- where the hash file begins, how deep its directory may get, and the function from keys to pseudokeys
+  pub root : Root P
+  -- the pages with their locks, the object locks, and the history
+  pub commons : Commons
+  -- the open transactions, and their numbers
+  pub txs : Table
+  pub opens : set.FinSet nat_cmp
+  -- how many numbers were given out, how many transactions committed, and how many events there were
+  pub begun : ℕ
+  pub commits : ℕ
+  pub events : ℕ
+
+-- the state of the laws, with these first images and this base
+abbrev pub state_of : {P : Type 0} → (P → ℕ → ℕ) → ManagerFields P → RunningImages → Base → State
+state_of bits_of m images base = record {
+  bits = bits_of m.root.pseudo;
+  root = m.root.page;
+  max_depth = m.root.max_depth;
+  max_ops = m.max_ops;
+  commons = m.commons;
+  txs = m.txs;
+  images = images;
+  opens = m.opens;
+  begun = m.begun;
+  base = base;
+}
+
+-- it is within its limits, and it counts its commits
+pub record IsWithinLimits {P : Type 0} (m : ManagerFields P) : Type 0 where
+  pub locks_for : m.commons.pages.locks.max_open ≡ m.max_open
+  pub pages_for : m.commons.pages.store.max_pages ≡ m.max_pages
+  pub few_open : map.len m.txs ≤ m.max_open
+  pub open_in_set : set.len m.opens ≡ map.len m.txs
+  pub set_holds : m.max_open ≤ 64
+  pub few_ids : m.begun ≤ m.max_ids
+  pub ids_fit : m.max_ids ≤ 2 ^ 32
+  pub ops_fit : m.max_ops ≤ 1024
+  pub ended : m.commits + map.len m.txs ≤ m.begun
+  pub counted : m.commits ≡ commit_count m.commons.history.items
+
+-- What is always true of a manager. The first images are those that its transactions keep, and the base is the one to
+-- which its history leads.
+pub record IsManager {P : Type 0} (bits_of : P → ℕ → ℕ) (m : ManagerFields P) : Type 0 where
+  pub images : RunningImages
+  pub base : Base
+  pub sound : IsSound (state_of bits_of m images base)
+  pub limits : IsWithinLimits m

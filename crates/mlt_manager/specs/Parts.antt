@@ -1,0 +1,31 @@
+-- The parts of a manager, as a contract sees them
+use Rattle.std.specs.Prelude.{ℕ}
+use Rattle.mlt_transaction.specs.Transactions.{IsPending}
+use Rattle.mlt_manager.specs.declared.parts.Parts.{Parts}
+use Rattle.mlt_manager.specs.declared.parts.Stage.{Stage}
+use Rattle.mlt_manager.specs.declared.parts.Stage.TheVariants as stage
+use Rattle.mlt_manager.specs.Answers.{IsIdleWith, IsNotOpen, IsOpenAt, IsUndoing}
+use Rattle.mlt_open.specs.Tables.{Table}
+use Rattle.mlt_manager.specs.Managers.{ManagerFields}
+
+abbrev pub fields_of : {P : Type 0} → Parts P → ManagerFields P
+fields_of parts = record {
+  max_open = parts.limits.max_open;
+  max_ids = parts.limits.max_ids;
+  max_pages = parts.limits.max_pages;
+  max_ops = parts.limits.max_ops;
+  root = parts.root;
+  commons = parts.commons;
+  txs = parts.txs;
+  opens = parts.opens;
+  begun = parts.begun;
+  commits = parts.commits;
+  events = parts.events;
+}
+
+-- what the transaction of this number is at
+abbrev pub IsStageOf : Stage → Table → ℕ → Type 0
+IsStageOf stage.NotOpen txs tx = IsNotOpen txs tx
+IsStageOf (stage.Idle count) txs tx = IsIdleWith txs tx count
+IsStageOf stage.Pending txs tx = IsOpenAt txs tx IsPending
+IsStageOf stage.Undoing txs tx = IsOpenAt txs tx IsUndoing

@@ -1,0 +1,4 @@
+//! The manager of transactions: any number of them side by side, one page step at a time.
+#![tactic(auto)]
+
+mod parts;
