@@ -1,8 +1,9 @@
 -- A history passes the checker.
-use Rattle.std.proofs.Common.{◌≡◌, ℕ, List, [], refl, sym, subst}
+use Rattle.std.proofs.Common.{◌≡◌, ◌≢◌, ℕ, List, [], refl, sym, subst}
 use Rattle.mlt_kinds.specs.Bases.{Base, Step, empty_base}
 use Rattle.mlt_kinds.specs.BaseLaws.{base_one_start}
 use Rattle.mlt_order.specs.Histories.{IsCommitOrderSerializable, IsHistory}
+use Rattle.mlt_order.specs.Histories.Stage.{Running}
 use Rattle.mlt_order.specs.Interleavings.{UndoneTo}
 use Rattle.mlt_order.specs.Runs.{IsInjective, IsSerialBase}
 use Rattle.mlt_order.proofs.Keeping.{kept_by_history}
@@ -39,3 +40,7 @@ accepted_where_nothing_is_open items state writable placed h none =
     let base = serializable items state h in
     let same : base.0 ≡ state = base.2 [] (λ tx. sym (none tx)) in
     accepted items state writable placed (subst (IsSerialBase Step empty_base (told items).committed) same base.1)
+
+-- of a transaction that does not run nothing is open
+pub nothing_of_others : (items : List TraceItem) (state : Base) → IsHistory Step empty_base (entries_of items) state → (tx : ℕ) → (told items).stage tx ≢ Running → (told items).transcripts tx ≡ []
+nothing_of_others items state h tx apart = let none = (kept_by_history Step empty_base base_functional base_injective (entries_of items) state h).only tx apart in none.0

@@ -20,7 +20,7 @@ whole_more items item tx other whole back = elim (earlier_or_last items item (Ba
 
 -- ---- an item stands somewhere
 
-first_or_later : {X : Type 0} (x : X) (xs : List X) (y : X) → Contains (x ∷ xs) y → (x ≡ y) ⊎ Contains xs y
+pub first_or_later : {X : Type 0} (x : X) (xs : List X) (y : X) → Contains (x ∷ xs) y → (x ≡ y) ⊎ Contains xs y
 first_or_later x xs y h = elim (Contains-append_cases (x ∷ []) xs y h) [
   | inl first ↦ elim (earlier_or_last [] x y first) [ inl none ↦ absurd (contains-nothing y none) | inr same ↦ inl same ]
   | inr later ↦ inr later
