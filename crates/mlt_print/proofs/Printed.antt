@@ -29,7 +29,8 @@ at_other : (b : ℕ) (bs : List ℕ) → is_lf b ≡ false → lines (b ∷ bs) 
 unfolding lines
 at_other b bs h = rw h refl
 
-line_cut : (t rest : List ℕ) → list_all is_printable t ≡ true → lines (t ++ 10 ∷ rest) ≡ record { bytes = t; ended = true } ∷ lines rest
+-- a printable text and its LF are a line of their own
+pub line_cut : (t rest : List ℕ) → list_all is_printable t ≡ true → lines (t ++ 10 ∷ rest) ≡ record { bytes = t; ended = true } ∷ lines rest
 line_cut [] rest h = at_lf rest
 line_cut (b ∷ t) rest h =
     let p = first_and (is_printable b) (list_all is_printable t) h in
@@ -134,7 +135,7 @@ script_again s h k =
           (reads_both (block_text s.block) (as_line (ending_text s.ending)) (map Says (written s.block)) (Closes s.ending ∷ []) (reads_block s.block k) en),
     )
 
-no_lines : lines [] ≡ []
+pub no_lines : lines [] ≡ []
 unfolding lines
 no_lines = refl
 

@@ -33,7 +33,7 @@ use Rattle.mlt_tree.specs.declared.statement.Line.{Line}
 use Rattle.mlt_tree.specs.declared.statement.Line.TheVariants as line
 use Rattle.mlt_tree.specs.declared.statement.Ending.{Ending}
 use Rattle.mlt_tree.specs.declared.statement.Ending.TheVariants.{Commit, Abort}
-use Rattle.mlt_script.specs.Forms.{form_of, key_form, key_at, asking_at, account_at, element_at, counter_at, deposit_at, withdraw_at, up_at, down_at, number_below, amount_at, reply_word, wanted_at, asking_is_at, begin_form, let_form, letter_at, source_at, need_form, if_form, ask_form}
+use Rattle.mlt_script.specs.Forms.{form_of, key_form, key_at, asking_at, account_at, element_at, counter_at, deposit_at, withdraw_at, up_at, down_at, number_below, amount_at, op_at, reply_word, wanted_at, asking_is_at, begin_form, let_form, letter_at, source_at, need_form, if_form, ask_form}
 use Rattle.mlt_words.specs.Lines.{without_cr, is_comment, is_allowed}
 use Rattle.mlt_words.specs.Letters.{letter_text}
 use Rattle.mlt_tree.specs.LineTexts.{amount_op_text, asking_text, wanted_text, reply_wanted, source_text, line_text, ending_text}
@@ -60,7 +60,7 @@ and_false : (a : Bool) → (a && false) ≡ false
 and_false true = refl
 and_false false = refl
 
-keeps_its_end : (t : List ℕ) → list_all is_printable t ≡ true → without_cr t ≡ t
+pub keeps_its_end : (t : List ℕ) → list_all is_printable t ≡ true → without_cr t ≡ t
 keeps_its_end [] h = refl
 keeps_its_end (b ∷ t) h =
     let e : (get_or (b ∷ t) (length (b ∷ t) - 1) 0 == 13) ≡ false = no_cr _ (printable_at (b ∷ t) (length (b ∷ t) - 1) h (omega arith)) in
@@ -72,7 +72,7 @@ allowed_by b h = rw h (or_true (b == 9)) where
   or_true true = refl
   or_true false = refl
 
-all_allowed : (t : List ℕ) → list_all is_printable t ≡ true → list_all is_allowed t ≡ true
+pub all_allowed : (t : List ℕ) → list_all is_printable t ≡ true → list_all is_allowed t ≡ true
 all_allowed [] h = refl
 all_allowed (b ∷ t) h = both_of (is_printable b) b t refl h (λ k. all_allowed t k) where
   both_of : (c : Bool) (b : ℕ) (t : List ℕ) → is_printable b ≡ c → (c && list_all is_printable t) ≡ true → (list_all is_printable t ≡ true → list_all is_allowed t ≡ true) → list_all is_allowed (b ∷ t) ≡ true
@@ -132,7 +132,11 @@ abbrev asking_rest : Asking → List Word
 asking_rest (Fixed op) = op_rest op
 asking_rest (By op l) = amount_rest op ++ Variable l ∷ []
 
-op_is : (op : ObjOp) → FitsOp op → TextIs (op_text op) (Key (op_key op) ∷ op_rest op) 60
+-- all of them
+abbrev pub op_words : ObjOp → List Word
+op_words op = Key (op_key op) ∷ op_rest op
+
+pub op_is : (op : ObjOp) → FitsOp op → TextIs (op_text op) (op_words op) 60
 op_is (Account a account.Open) h = at_most _ _ 29 60 (omega arith) (beside (spelling key.Open) (decimal a) (Key key.Open ∷ []) (Number a ∷ []) 8 20 (key_text key.Open) (number_is a (let p = h.0 in omega (arith, p))))
 op_is (Account a account.Close) h = at_most _ _ 29 60 (omega arith) (beside (spelling key.Close) (decimal a) (Key key.Close ∷ []) (Number a ∷ []) 8 20 (key_text key.Close) (number_is a (let p = h.0 in omega (arith, p))))
 op_is (Account a (account.Deposit n)) h = at_most _ _ 50 60 (omega arith) (beside (spelling key.Deposit ++ 32 ∷ decimal a) (decimal n) (Key key.Deposit ∷ Number a ∷ []) (Number n ∷ []) 29 20 (beside (spelling key.Deposit) (decimal a) (Key key.Deposit ∷ []) (Number a ∷ []) 8 20 (key_text key.Deposit) (number_is a (let p = h.0 in omega (arith, p)))) (number_is n (let p = h.1 in omega (arith, p))))
@@ -215,6 +219,10 @@ asking_again (By (amount.Deposit a) l) more h = rw (lt-ltb a (2 ^ 32) h) refl
 asking_again (By (amount.Withdraw a) l) more h = rw (lt-ltb a (2 ^ 32) h) refl
 asking_again (By (amount.Up c) l) more h = rw (lt-ltb c (2 ^ 32) h) refl
 asking_again (By (amount.Down c) l) more h = rw (lt-ltb c (2 ^ 32) h) refl
+
+pub op_again : (op : ObjOp) (more : List Word) → FitsOp op → op_at (op_words op ++ more) ≡ Some (op, more)
+unfolding op_at key_at
+op_again op more h = rw (asking_again (Fixed op) more h) refl
 
 wanted_again : (w : Wanted) (more : List Word) → wanted_at (wanted_of w ∷ more) ≡ Some (w, more)
 unfolding wanted_at reply_word

@@ -5,3 +5,4 @@ mod printer;
 mod ranges;
 
 pub use printer::print;
+pub use ranges::{op_fits, reply_fits};

@@ -38,7 +38,8 @@ fn counter_fits(op: CounterOp)
     }
 }
 
-fn op_fits(op: ObjOp)
+/// Each number of the operation is one of its type. It does nothing.
+pub fn op_fits(op: ObjOp)
     ensures { FitsOp op }
 {
     match op {
@@ -77,7 +78,8 @@ fn asking_fits(asking: Asking)
     }
 }
 
-fn reply_fits(reply: ObjReply)
+/// The value of the reply, if it has one, is one of its type. It does nothing.
+pub fn reply_fits(reply: ObjReply)
     ensures { FitsReply reply }
 {
     match reply {

@@ -14,7 +14,7 @@ use Rattle.mlt_words.specs.declared.letter.Letter.{Letter}
 use Rattle.mlt_words.specs.declared.letter.Letter.TheVariants as letter
 use Rattle.mlt_words.specs.Letters.{byte_of, letter_of}
 use Rattle.mlt_words.specs.Numbers.{is_digit, number_of}
-use Rattle.mlt_words.specs.Words.{spelling, spelled_among, keyword_of, letter_word, word_of, word_if, words_from, words_of, is_blank, all_keywords}
+use Rattle.mlt_words.specs.Words.{spelling, spelled_among, keyword_of, letter_word, word_of, word_if, raw_words, words_from, words_of, is_blank, all_keywords}
 use Rattle.mlt_words.proofs.Splitting.{at_other}
 
 -- 0x20 to 0x7E
@@ -33,14 +33,15 @@ at_space : (begun u : List ℕ) → words_from begun (32 ∷ u) ≡ word_if begu
 unfolding words_from
 at_space begun u = refl
 
-words_apart : (t begun u : List ℕ) → words_from begun (t ++ 32 ∷ u) ≡ words_from begun t ++ words_from [] u
+-- the words of two pieces with a space between them
+pub words_apart : (t begun u : List ℕ) → words_from begun (t ++ 32 ∷ u) ≡ words_from begun t ++ words_from [] u
 unfolding words_from
 words_apart [] begun u = at_space begun u
 words_apart (b ∷ t) begun u =
     both (is_blank b) (word_if begun) (words_from [] (t ++ 32 ∷ u)) (words_from [] t) (words_from (begun ++ b ∷ []) (t ++ 32 ∷ u)) (words_from (begun ++ b ∷ []) t) (words_from [] u)
     (words_apart t [] u) (words_apart t (begun ++ b ∷ []) u)
 
-all_append : (xs ys : List ℕ) → list_all is_printable xs ≡ true → list_all is_printable ys ≡ true → list_all is_printable (xs ++ ys) ≡ true
+pub all_append : (xs ys : List ℕ) → list_all is_printable xs ≡ true → list_all is_printable ys ≡ true → list_all is_printable (xs ++ ys) ≡ true
 all_append [] ys h k = k
 all_append (x ∷ xs) ys h k = all_more (is_printable x) xs ys h (λ l. all_append xs ys l k) where
   all_more : (b : Bool) (xs ys : List ℕ) → (b && list_all is_printable xs) ≡ true → (list_all is_printable xs ≡ true → list_all is_printable (xs ++ ys) ≡ true) → (b && list_all is_printable (xs ++ ys)) ≡ true
@@ -236,7 +237,7 @@ word_is_number (d ∷ ds) n l h e =
     let p = first_and (is_digit d) (list_all is_digit ds) h in
     rw (none_among all_keywords d ds p.0, not_letter_word d ds p.0, e) refl
 
-number_again : (n : ℕ) → n < 2 ^ 64 → number_of (decimal n) ≡ Some n
+pub number_again : (n : ℕ) → n < 2 ^ 64 → number_of (decimal n) ≡ Some n
 unfolding number_of
 number_again n h =
     let v = (decimal_is_IsNumeral n h).1 in
@@ -247,13 +248,17 @@ word_alone : (w : List ℕ) → 0 < length w → word_if w ≡ w ∷ []
 word_alone [] h = absurd (omega (arith, h))
 word_alone (b ∷ bs) h = refl
 
+-- a number is one word
+pub number_alone : (n : ℕ) → n < 2 ^ 64 → raw_words (decimal n) ≡ decimal n ∷ []
+number_alone n h = digits_word (decimal n) [] (all_digits n h) ∙ word_alone (decimal n) (decimal_nonempty n h)
+
 -- a number
 pub number_is : (n : ℕ) → n < 2 ^ 64 → TextIs (decimal n) (Number n ∷ []) 20
 unfolding words_of
 number_is n h =
     let d = all_digits n h in
     let l = decimal_nonempty n h in (
-      ap (map word_of) (digits_word (decimal n) [] d ∙ word_alone (decimal n) l) ∙ ap (λ (w : Word). w ∷ []) (word_is_number (decimal n) n l d (number_again n h)),
+      ap (map word_of) (number_alone n h) ∙ ap (λ (w : Word). w ∷ []) (word_is_number (decimal n) n l d (number_again n h)),
       digits_printable (decimal n) d,
       length-decimal-le 20 n (omega arith) (omega (arith, h)) h,
     )

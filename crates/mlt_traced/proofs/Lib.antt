@@ -1,0 +1,4 @@
+pub mod Places
+pub mod Wholes
+pub mod Items
+pub mod Stays
