@@ -1,6 +1,9 @@
+pub mod Called
 pub mod Counts
+pub mod Ended
 pub mod Ending
 pub mod Finding
 pub mod Keeping
 pub mod Refusing
+pub mod Stepped
 pub mod Stepping

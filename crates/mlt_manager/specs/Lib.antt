@@ -1,3 +1,4 @@
 pub mod Answers
-pub mod Parts
+pub mod Bases
 pub mod Managers
+pub mod Parts

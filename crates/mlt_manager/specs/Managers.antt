@@ -11,6 +11,7 @@ use Rattle.mlt_transaction.specs.declared.commons.Commons.{Commons}
 use Rattle.mlt_open.specs.Tables.{Table}
 use Rattle.mlt_invariant.specs.Sound.{IsSound}
 use Rattle.mlt_invariant.specs.States.{State}
+use Rattle.mlt_traced.specs.Traced.{IsTraced}
 
 pub record ManagerFields (P : Type 0) : Type 0 where
   -- how many transactions may be open, how many numbers are given out in all, how many pages there may be, and how many
@@ -65,4 +66,5 @@ pub record IsManager {P : Type 0} (bits_of : P → ℕ → ℕ) (m : ManagerFiel
   pub images : RunningImages
   pub base : Base
   pub sound : IsSound (state_of bits_of m images base)
+  pub traced : IsTraced (state_of bits_of m images base)
   pub limits : IsWithinLimits m

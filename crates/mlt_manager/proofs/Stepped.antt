@@ -1,0 +1,219 @@
+-- A step keeps what is always true of a manager
+use Rattle.std.proofs.Common.{◌≡◌, ℕ, ◌+◌, true, List, [], ◌∷◌, ◌++◌, Option, None, Some, is_some, refl, sym, ap, subst, ◌∙◌, arith}
+use Rattle.std.specs.FinMap as map
+use Rattle.std.specs.Ordering.{nat_cmp}
+use Rattle.std.specs.Cmp.{nat_cmp_total}
+use Rattle.mlt_page.specs.declared.page.Page.{Page}
+use Rattle.mlt_store.specs.Stores.{page_at}
+use Rattle.mlt_kinds.specs.Bases.{Base, Step, empty_base}
+use Rattle.mlt_kinds.specs.declared.operation.ObjOp.{ObjOp}
+use Rattle.mlt_kinds.specs.declared.operation.ObjReply.{ObjReply}
+use Rattle.mlt_order.specs.Histories.{IsHistory}
+use Rattle.mlt_history.specs.Entries.{entries_of}
+use Rattle.mlt_trace.specs.declared.item.TraceItem.{TraceItem}
+use Rattle.mlt_trace.specs.declared.item.TraceItem.TheVariants as trace
+use Rattle.mlt_subtx.specs.Images.{Images}
+use Rattle.mlt_running.specs.CleanPages.{RunningImages, clean_pages}
+use Rattle.mlt_running.specs.Running.{clean_of}
+use Rattle.mlt_hash.specs.Walks.{Basis, basis_by}
+use Rattle.mlt_operation.specs.Operating.{OperationFields}
+use Rattle.mlt_operation.specs.declared.request.Request.{Request}
+use Rattle.mlt_operation.specs.declared.request.Request.TheVariants.{Do}
+use Rattle.mlt_meeting.specs.Worlds.{basis_of}
+use Rattle.mlt_meeting.proofs.Fixed.{history_fixes}
+use Rattle.mlt_event.specs.declared.answer.Answer.{Answer}
+use Rattle.mlt_event.specs.declared.answer.Answer.TheVariants as answer
+use Rattle.mlt_transaction.specs.declared.commons.Commons.{Commons}
+use Rattle.mlt_transaction.specs.declared.transaction.At.{At}
+use Rattle.mlt_transaction.specs.declared.transaction.At.TheVariants as at
+use Rattle.mlt_transaction.specs.declared.transaction.Transaction.{Transaction}
+use Rattle.mlt_transaction.specs.Steps.{EndsBack, Ends, TellsOfPending}
+use Rattle.mlt_transaction.specs.Transactions.{StepsBack, StepsPending, TellsAt}
+use Rattle.mlt_open.specs.Tables.{Table}
+use Rattle.mlt_invariant.specs.Events.{EndsPending, KeepsClean, KeepsCleanPages, with_end, with_transaction}
+use Rattle.mlt_invariant.specs.Sound.{Fits, IsSound}
+use Rattle.mlt_invariant.specs.States.{State, all_of, images_kept, world_of}
+use Rattle.mlt_invariant.specs.Undoing.{LedBack, TakesLastBack, with_aborted, with_undone}
+use Rattle.mlt_invariant.proofs.Aborting.{aborted_sound}
+use Rattle.mlt_invariant.proofs.Done.{done_sound}
+use Rattle.mlt_invariant.proofs.Inverting.{inverse_sound}
+use Rattle.mlt_invariant.proofs.Pending.{not_done_sound}
+use Rattle.mlt_invariant.proofs.Replied.{reply_is_step}
+use Rattle.mlt_invariant.proofs.Stays.{stays_sound}
+use Rattle.mlt_invariant.proofs.Tables.{removed_inserted}
+use Rattle.mlt_invariant.proofs.Undoing.{undone_sound}
+use Rattle.mlt_traced.proofs.Items.{done_traced, last_undone_traced, undone_traced}
+use Rattle.mlt_traced.proofs.Stays.{clean_traced}
+use Rattle.mlt_traced.specs.Traced.{IsTraced}
+use Rattle.mlt_manager.specs.Answers.{HasStepped, IsOpenAt, counted, opens_after, txs_after}
+use Rattle.mlt_manager.specs.Bases.{HasBase, HasCleanPages, IsPendingWith, IsStepOfBase, KeepsWhatCounts, LeavesBase, MakesStep, TakesStepBack}
+use Rattle.mlt_manager.specs.Managers.{IsManager, ManagerFields, state_of}
+use Rattle.mlt_manager.proofs.Counts.{KeepsCounts, step_counts}
+use Rattle.mlt_manager.proofs.Keeping.{IsStill, changed_keeps, removed_keeps, same_manager}
+
+module _ {P : Type 0} (bits_of : P → ℕ → ℕ) (m : ManagerFields P) (h : IsManager bits_of m) (tx : ℕ) where
+  abbrev pub now : State
+  now = state_of bits_of m h.images h.base
+
+  -- one base is what the history leads to
+  pub same_base : (base : Base) → HasBase m base → base ≡ h.base
+  same_base base leads = history_fixes (world_of now) base h.sound.match leads
+
+  -- the first images that the transactions keep are one map
+  same_images : (images : RunningImages) → ((i : ℕ) → map.get images i ≡ images_kept (map.get m.txs i)) → images ≡ h.images
+  same_images images kept = map.same_map nat_cmp_total map.nat_cmp-IsAntisymmetric images h.images (λ i. kept i ∙ sym (h.sound.kept i))
+
+  module _ (before after : Transaction) (commons : Commons) (was : map.get m.txs tx ≡ Some before) where
+    -- an event that keeps the clean pages
+    pub still : KeepsCleanPages now tx before after commons → IsStill bits_of (record m { commons = commons; txs = map.insert m.txs tx after })
+    still (images, keeps) = record {
+      images = images;
+      base = h.base;
+      sound = stays_sound now tx before after commons images h.sound was keeps;
+      traced = clean_traced now tx before after commons images h.traced was keeps;
+    }
+
+    pub keeps_what_counts : (m' : ManagerFields P) → m'.commons ≡ commons → m'.txs ≡ map.insert m.txs tx after → KeepsCleanPages now tx before after commons → KeepsWhatCounts m m'
+    keeps_what_counts m' same_commons same_txs (images, keeps) = record {
+      clean = λ clean has. record {
+        images = images;
+        kept = λ i. (stays_sound now tx before after commons images h.sound was keeps).kept i ∙ sym (ap (λ (t : Table). images_kept (map.get t i)) same_txs);
+        put_back = λ q. has.put_back q ∙ ap (λ (r : RunningImages). page_at (clean_pages r m.commons.pages.store.pages) q) (same_images has.images has.kept)
+            ∙ sym (ap (λ (f : ℕ → Option Page). f q) keeps.clean) ∙ sym (ap (λ (k : Commons). page_at (clean_pages images k.pages.store.pages) q) same_commons);
+      };
+      items = ap (λ (k : Commons). k.history.items) same_commons ∙ keeps.items;
+      held = ap (λ (k : Commons). k.objects.held) same_commons ∙ keeps.held;
+    }
+
+    -- what the manager is then, where this was told
+    abbrev pub core : Answer → ManagerFields P
+    core told = record (counted m) { commons = commons; txs = txs_after told tx (map.insert m.txs tx after); opens = opens_after told tx m.opens }
+
+    abbrev StillBy : Answer → Type 0
+    StillBy told = IsStill bits_of (record m { commons = commons; txs = txs_after told tx (map.insert m.txs tx after); opens = opens_after told tx m.opens })
+
+    -- the operation that is pending
+    asked_here : (o : OperationFields) (op : ObjOp) → before.at ≡ at.Pending o → o.request ≡ Do op → IsOpenAt m.txs tx (IsPendingWith op)
+    asked_here o op pending_at asked = record { one = before; there = was; is_at = subst (IsPendingWith op) (sym pending_at) asked }
+
+    done : (o : OperationFields) (reply : ObjReply) → EndsPending now tx o before after commons reply → StillBy (answer.Done reply) × LeavesBase (answer.Done reply) m (core (answer.Done reply)) tx
+    done o reply e =
+        let d = done_sound now tx o before after commons reply h.sound was e in
+        let number = (h.sound.fits tx before was).number in
+        let makes : MakesStep m (core (answer.Done reply)) tx (e.ends.op, e.ends.reply) = record {
+          pending = asked_here o e.ends.op e.pending e.ends.asked;
+          items = e.ends.tells.1.items ∙ ap (λ (n : ℕ). m.commons.history.items ++ trace.Op n (e.ends.op, e.ends.reply) ∷ []) number;
+          leads = λ base leads. (d.0, subst (λ (b : Base). Step b (e.ends.op, e.ends.reply) d.0) (sym (same_base base leads)) d.1, d.2.match.history);
+        } in (
+          record { images = map.insert h.images tx map.empty; base = d.0; sound = d.2; traced = done_traced now tx o before after commons reply d.0 h.sound h.traced was e },
+          (e.ends.op, subst (λ (r : ObjReply). MakesStep m (core (answer.Done reply)) tx (e.ends.op, r)) (sym e.ends.tells.0) makes),
+        )
+
+    ends_pending : (o next : OperationFields) (reply : ObjReply) (between : Commons) → before.at ≡ at.Pending o → after.at ≡ at.Idle → commons ≡ between
+        → Ends o before.subtx after.subtx before.undo after.undo m.commons between (answer.Done reply) → EndsPending now tx o before after commons reply
+    ends_pending o next reply between pending_at idle same ends = record {
+      pending = pending_at;
+      ends = subst (λ (k : Commons). Ends o before.subtx after.subtx before.undo after.undo m.commons k (answer.Done reply)) (sym same) ends;
+      idle = idle;
+    }
+
+    -- it is not done, and this may be told
+    not_done : (o : OperationFields) (told : Answer) → before.at ≡ at.Pending o → StepsPending (basis_of (world_of now) tx) o before after m.commons commons told
+        → ((reply : ObjReply) → told ≡ answer.Done reply → ⊥) → KeepsCleanPages now tx before after commons
+    not_done o told pending_at steps not = not_done_sound now tx o before after commons told h.sound was pending_at steps not
+
+    by_pending : (o : OperationFields) (told : Answer) → before.at ≡ at.Pending o → StepsPending (basis_of (world_of now) tx) o before after m.commons commons told → StillBy told × LeavesBase told m (core told) tx
+    by_pending o answer.Going pending_at steps =
+        let k = not_done o answer.Going pending_at steps (λ reply is. cc) in (still k, keeps_what_counts (core answer.Going) refl refl k)
+    by_pending o (answer.Waiting page by) pending_at steps =
+        let k = not_done o (answer.Waiting page by) pending_at steps (λ reply is. cc) in (still k, keeps_what_counts (core (answer.Waiting page by)) refl refl k)
+    by_pending o (answer.Refused reason) pending_at steps =
+        let k = not_done o (answer.Refused reason) pending_at steps (λ reply is. cc) in (still k, keeps_what_counts (core (answer.Refused reason)) refl refl k)
+    by_pending o (answer.Blocked by) pending_at steps =
+        let k = not_done o (answer.Blocked by) pending_at steps (λ reply is. cc) in
+        let ends = steps.tells.0 in
+        let there = reply_is_step now tx o before ends.op ends.reply h.sound was pending_at ends.asked ends.ready in (
+          still k,
+          (
+            keeps_what_counts (core (answer.Blocked by)) refl refl k,
+            ((ends.op, ends.reply), record {
+              pending = asked_here o ends.op pending_at ends.asked;
+              steps = λ base leads. (there.0, subst (λ (b : Base). Step b (ends.op, ends.reply) there.0) (sym (same_base base leads)) there.1);
+            }),
+          ),
+        )
+    by_pending o (answer.Done reply) pending_at steps = done o reply (ends_pending o steps.next reply steps.between pending_at steps.now_at steps.leaves steps.tells)
+    by_pending o answer.Undone pending_at steps = absurd steps.tells
+    by_pending o answer.Aborted pending_at steps = absurd steps.tells
+
+    -- the last operation is taken back
+    takes_back : (inverting next : Option OperationFields) (told : Answer) → before.at ≡ at.Undoing inverting → after.at ≡ at.Undoing next
+        → EndsBack inverting next before.subtx after.subtx before.undo after.undo m.commons commons told → TakesLastBack now inverting before after commons told
+    takes_back inverting next told back_at now_at ends = record {
+      was_at = back_at;
+      is_at = now_at ∙ ap at.Undoing ends.none;
+      ends = subst (λ (n : Option OperationFields). EndsBack inverting n before.subtx after.subtx before.undo after.undo m.commons commons told) ends.none ends;
+    }
+
+    led_back : (told : Answer) (of_base : Base → State) (led : LedBack now before after of_base) → HasBase (core told) led.base → TakesStepBack m (core told) tx led.last
+    led_back told of_base led leads_to = record {
+      one = before;
+      there = was;
+      front = after.undo.entries;
+      entries = led.entries;
+      leads = λ base leads. (led.base, subst (λ (b : Base). Step led.base led.last b) (sym (same_base base leads)) led.step, leads_to);
+    }
+
+    undone : (inverting : Option OperationFields) → TakesLastBack now inverting before after commons answer.Undone → StillBy answer.Undone × LeavesBase answer.Undone m (core answer.Undone) tx
+    undone inverting takes =
+        let led = undone_sound now tx inverting before after commons h.sound was takes in (
+          record { images = map.insert h.images tx map.empty; base = led.base; sound = led.sound; traced = undone_traced now tx inverting before after commons led.base h.sound h.traced was takes },
+          (led.last, led_back answer.Undone (with_undone now tx after commons) led led.sound.match.history),
+        )
+
+    aborted : (inverting : Option OperationFields) → TakesLastBack now inverting before after commons answer.Aborted → StillBy answer.Aborted × LeavesBase answer.Aborted m (core answer.Aborted) tx
+    aborted inverting takes =
+        let led = aborted_sound now tx inverting before after commons h.sound was takes in (
+          subst (λ (t : Table). IsStill bits_of (record m { commons = commons; txs = t; opens = opens_after answer.Aborted tx m.opens })) (sym (removed_inserted m.txs tx after))
+          (record { images = map.remove h.images tx; base = led.base; sound = led.sound; traced = last_undone_traced now tx inverting before after commons led.base h.sound h.traced was takes }),
+          (led.last, led_back answer.Aborted (with_aborted now tx commons) led led.sound.match.history),
+        )
+
+    by_undoing : (inverting : Option OperationFields) (told : Answer) → before.at ≡ at.Undoing inverting → StepsBack (basis_of (world_of now) tx) inverting before after m.commons commons told
+        → StillBy told × LeavesBase told m (core told) tx
+    by_undoing inverting answer.Going back_at steps =
+        let k = inverse_sound now tx inverting before after commons answer.Going h.sound was back_at steps (λ is. cc) (λ is. cc) in (still k, keeps_what_counts (core answer.Going) refl refl k)
+    by_undoing inverting (answer.Waiting page by) back_at steps =
+        let k = inverse_sound now tx inverting before after commons (answer.Waiting page by) h.sound was back_at steps (λ is. cc) (λ is. cc) in
+        (still k, keeps_what_counts (core (answer.Waiting page by)) refl refl k)
+    by_undoing inverting answer.Undone back_at steps = undone inverting (takes_back inverting steps.next answer.Undone back_at steps.now_at steps.tells)
+    by_undoing inverting answer.Aborted back_at steps = aborted inverting (takes_back inverting steps.next answer.Aborted back_at steps.now_at steps.tells)
+    by_undoing inverting other back_at steps = absurd steps.tells
+
+    by_at : (a : At) (told : Answer) → before.at ≡ a → TellsAt a (basis_of (world_of now) tx) before after m.commons commons told → StillBy told × LeavesBase told m (core told) tx
+    by_at at.Idle told is tells = absurd tells
+    by_at (at.Pending o) told is tells = by_pending o told is tells
+    by_at (at.Undoing inverting) told is tells = by_undoing inverting told is tells
+
+    -- it is a manager again
+    manager_by : (told : Answer) → KeepsCounts m.commons commons → StillBy told → IsManager bits_of (core told)
+    manager_by answer.Aborted counts is =
+        let same = removed_inserted m.txs tx after in
+        subst (λ (t : Table). IsManager bits_of (record (counted m) { commons = commons; txs = t; opens = opens_after answer.Aborted tx m.opens })) (sym same)
+        (removed_keeps bits_of m h tx m.commits before commons was counts.locks counts.pages (h.limits.counted ∙ sym counts.commits) (omega arith)
+        (subst (λ (t : Table). IsStill bits_of (record m { commons = commons; txs = t; opens = opens_after answer.Aborted tx m.opens })) same is))
+    manager_by other counts is = changed_keeps bits_of m h tx before after commons was counts is
+
+    pub all_by : (told : Answer) → TellsAt before.at (basis_by bits_of m.root m.opens before.subtx.tx) before after m.commons commons told → IsManager bits_of (core told) × LeavesBase told m (core told) tx
+    all_by told tells =
+        let number = (h.sound.fits tx before was).number in
+        let here = by_at before.at told refl (subst (λ (n : ℕ). TellsAt before.at (basis_by bits_of m.root m.opens n) before after m.commons commons told) number tells) in
+        (manager_by told (step_counts before.at (basis_by bits_of m.root m.opens before.subtx.tx) before after m.commons commons told tells) here.0, here.1)
+
+  -- **A step keeps what is always true, and does to the base what its answer says.**
+  pub step_keeps : (m' : ManagerFields P) (told : Answer) → HasStepped bits_of m m' tx told → IsManager bits_of m' × LeavesBase told m m' tx
+  step_keeps m' told d =
+      let c = d.steps.changes in
+      let all = all_by c.before c.after m'.commons c.was told d.steps.tells in
+      let same : m' ≡ core c.before c.after m'.commons c.was told = d.rest ∙ (λ p. record (counted m) { commons = m'.commons; txs = txs_after told tx (c.is p); opens = opens_after told tx m.opens }) in
+      (same_manager bits_of m' (core c.before c.after m'.commons c.was told) same all.0, subst (λ (n : ManagerFields P). LeavesBase told m n tx) (sym same) all.1)

@@ -1,0 +1,70 @@
+-- The base to which the history of a manager leads, its clean pages, and what a step does to them
+use Rattle.std.specs.Prelude.{ℕ, ◌≡◌, List, [], ◌∷◌, ◌++◌, Option, Some}
+use Rattle.std.specs.FinMap as map
+use Rattle.mlt_page.specs.declared.page.Page.{Page}
+use Rattle.mlt_store.specs.Stores.{page_at}
+use Rattle.mlt_kinds.specs.Bases.{Base, Step, empty_base}
+use Rattle.mlt_kinds.specs.declared.operation.ObjOp.{ObjOp}
+use Rattle.mlt_kinds.specs.declared.operation.ObjReply.{ObjReply}
+use Rattle.mlt_order.specs.Histories.{IsHistory}
+use Rattle.mlt_history.specs.Entries.{entries_of}
+use Rattle.mlt_trace.specs.declared.item.TraceItem.TheVariants as trace
+use Rattle.mlt_running.specs.CleanPages.{RunningImages, clean_pages}
+use Rattle.mlt_operation.specs.declared.request.Request.TheVariants.{Do}
+use Rattle.mlt_event.specs.declared.answer.Answer.{Answer}
+use Rattle.mlt_event.specs.declared.answer.Answer.TheVariants as answer
+use Rattle.mlt_transaction.specs.declared.transaction.At.{At}
+use Rattle.mlt_transaction.specs.declared.transaction.At.TheVariants as at
+use Rattle.mlt_transaction.specs.declared.transaction.Transaction.{Transaction}
+use Rattle.mlt_invariant.specs.States.{images_kept}
+use Rattle.mlt_manager.specs.Answers.{IsOpenAt}
+use Rattle.mlt_manager.specs.Managers.{ManagerFields}
+
+-- the history leads to this base from the empty one
+abbrev pub HasBase : {P : Type 0} → ManagerFields P → Base → Type 0
+HasBase m base = IsHistory Step empty_base (entries_of m.commons.history.items) base
+
+-- these pages are clean: those of the store, with the first images that the open transactions keep put back
+pub record HasCleanPages {P : Type 0} (m : ManagerFields P) (clean : ℕ → Option Page) : Type 0 where
+  pub images : RunningImages
+  pub kept : (i : ℕ) → map.get images i ≡ images_kept (map.get m.txs i)
+  pub put_back : (q : ℕ) → clean q ≡ page_at (clean_pages images m.commons.pages.store.pages) q
+
+-- what is clean stays clean, and the history and what is held stay
+pub record KeepsWhatCounts {P : Type 0} (old new : ManagerFields P) : Type 0 where
+  pub clean : (clean : ℕ → Option Page) → HasCleanPages old clean → HasCleanPages new clean
+  pub items : new.commons.history.items ≡ old.commons.history.items
+  pub held : new.commons.objects.held ≡ old.commons.objects.held
+
+-- this operation is pending
+abbrev pub IsPendingWith : ObjOp → At → Type 0
+IsPendingWith op (at.Pending o) = o.request ≡ Do op
+IsPendingWith op other = ⊥
+
+-- the pending operation is a step of the base with this reply
+pub record IsStepOfBase {P : Type 0} (m : ManagerFields P) (tx : ℕ) (item : ObjOp × ObjReply) : Type 0 where
+  pub pending : IsOpenAt m.txs tx (IsPendingWith item.0)
+  pub steps : (base : Base) → HasBase m base → (next : Base) × Step base item next
+
+-- it is done: the base has made its step, and the history has it
+pub record MakesStep {P : Type 0} (old new : ManagerFields P) (tx : ℕ) (item : ObjOp × ObjReply) : Type 0 where
+  pub pending : IsOpenAt old.txs tx (IsPendingWith item.0)
+  pub items : new.commons.history.items ≡ old.commons.history.items ++ trace.Op tx item ∷ []
+  pub leads : (base : Base) → HasBase old base → (next : Base) × Step base item next × HasBase new next
+
+-- the last operation of the transaction is taken back: the base is one from which it leads to what it was
+pub record TakesStepBack {P : Type 0} (old new : ManagerFields P) (tx : ℕ) (last : ObjOp × ObjReply) : Type 0 where
+  pub one : Transaction
+  pub there : map.get old.txs tx ≡ Some one
+  pub front : List (ObjOp × ObjReply)
+  pub entries : one.undo.entries ≡ front ++ last ∷ []
+  pub leads : (base : Base) → HasBase old base → (before : Base) × Step before last base × HasBase new before
+
+-- what a step that was told this does to the base, the clean pages and the history
+abbrev pub LeavesBase : {P : Type 0} → Answer → ManagerFields P → ManagerFields P → ℕ → Type 0
+LeavesBase (answer.Done reply) old new tx = (op : ObjOp) × MakesStep old new tx (op, reply)
+LeavesBase (answer.Blocked by) old new tx =
+    KeepsWhatCounts old new × ((item : ObjOp × ObjReply) × IsStepOfBase old tx item)
+LeavesBase answer.Undone old new tx = (last : ObjOp × ObjReply) × TakesStepBack old new tx last
+LeavesBase answer.Aborted old new tx = (last : ObjOp × ObjReply) × TakesStepBack old new tx last
+LeavesBase other old new tx = KeepsWhatCounts old new
