@@ -18,7 +18,7 @@ use Rattle.mlt_invariant.specs.Sound.{FitsAt, IsSound}
 use Rattle.mlt_invariant.specs.States.{all_of, images_kept, is_undoing, pending_room}
 use Rattle.mlt_invariant.proofs.Calls.{called_sound, cancelled_sound}
 use Rattle.mlt_traced.proofs.Stays.{called_traced}
-use Rattle.mlt_manager.specs.Answers.{ChangesOpen, HasCalled, IsIdleWith, IsOpenAt, MayCall, counted}
+use Rattle.mlt_manager.specs.Answers.{ChangesOpen, HasCalled, IsIdleWith, IsOpenAt, MayCall}
 use Rattle.mlt_manager.specs.Bases.{KeepsWhatCounts}
 use Rattle.mlt_manager.specs.Managers.{IsManager, ManagerFields, state_of}
 use Rattle.mlt_manager.proofs.Counts.{cancel_counts, same_counts}
@@ -42,8 +42,8 @@ pending_of (at.Undoing inverting) none = absurd none
 
 module _ {P : Type 0} (bits_of : P → ℕ → ℕ) (m : ManagerFields P) (h : IsManager bits_of m) (tx : ℕ) (m' : ManagerFields P) (rest : ChangesOpen m m') where
   -- the manager, where the table has this one changed
-  changed_core : (after : Transaction) → m'.txs ≡ map.insert m.txs tx after → m' ≡ record (counted m) { commons = m'.commons; txs = map.insert m.txs tx after }
-  changed_core after is = rest ∙ (λ p. record (counted m) { commons = m'.commons; txs = is p })
+  changed_core : (after : Transaction) → m'.txs ≡ map.insert m.txs tx after → m' ≡ record m { commons = m'.commons; txs = map.insert m.txs tx after }
+  changed_core after is = rest ∙ (λ p. record m { commons = m'.commons; txs = is p })
 
   pub called_keeps : (op : ObjOp) → HasCalled m m' tx op → IsManager bits_of m'
   called_keeps op c =
@@ -73,7 +73,7 @@ module _ {P : Type 0} (bits_of : P → ℕ → ℕ) (m : ManagerFields P) (h : I
         sound = called_sound (state_of bits_of m h.images h.base) tx ch.before ch.after m'.commons h.sound ch.was calls;
         traced = called_traced (state_of bits_of m h.images h.base) tx ch.before ch.after m'.commons h.images h.traced ch.was calls;
       } in
-      same_manager bits_of m' (record (counted m) { commons = m'.commons; txs = map.insert m.txs tx ch.after }) (changed_core ch.after ch.is)
+      same_manager bits_of m' (record m { commons = m'.commons; txs = map.insert m.txs tx ch.after }) (changed_core ch.after ch.is)
       (changed_keeps bits_of m h tx ch.before ch.after m'.commons ch.was (same_counts m.commons m'.commons t.makes.pages t.makes.items) again)
 
   -- a call that there was no memory for
@@ -109,7 +109,7 @@ module _ {P : Type 0} (bits_of : P → ℕ → ℕ) (m : ManagerFields P) (h : I
   not_called_keeps may none =
       let ch = none.changes in
       let clean = not_called_clean may.0 may.1 none in (
-        same_manager bits_of m' (record (counted m) { commons = m'.commons; txs = map.insert m.txs tx ch.after }) (changed_core ch.after ch.is)
+        same_manager bits_of m' (record m { commons = m'.commons; txs = map.insert m.txs tx ch.after }) (changed_core ch.after ch.is)
         (changed_keeps bits_of m h tx ch.before ch.after m'.commons ch.was (same_counts m.commons m'.commons none.tells.makes.pages none.tells.makes.items) (still bits_of m h tx ch.before ch.after m'.commons ch.was clean)),
         keeps_what_counts bits_of m h tx ch.before ch.after m'.commons ch.was m' refl ch.is clean,
       )
@@ -120,7 +120,7 @@ module _ {P : Type 0} (bits_of : P → ℕ → ℕ) (m : ManagerFields P) (h : I
       let o = pending_of there.one.at there.is_at in
       let was_at : ch.before.at ≡ at.Pending o.0 = ap (λ (t : Transaction). t.at) (one_there m.txs tx ch.before there.one ch.was there.there) ∙ o.1 in
       let clean = cancelled_sound (state_of bits_of m h.images h.base) tx o.0 ch.before ch.after m'.commons h.sound ch.was was_at c.tells in (
-        same_manager bits_of m' (record (counted m) { commons = m'.commons; txs = map.insert m.txs tx ch.after }) (changed_core ch.after ch.is)
+        same_manager bits_of m' (record m { commons = m'.commons; txs = map.insert m.txs tx ch.after }) (changed_core ch.after ch.is)
         (changed_keeps bits_of m h tx ch.before ch.after m'.commons ch.was (cancel_counts ch.before ch.after m.commons m'.commons c.tells) (still bits_of m h tx ch.before ch.after m'.commons ch.was clean)),
         keeps_what_counts bits_of m h tx ch.before ch.after m'.commons ch.was m' refl ch.is clean,
       )

@@ -22,7 +22,7 @@ use Rattle.mlt_invariant.proofs.Begins.{begin_sound}
 use Rattle.mlt_invariant.proofs.Ends.{close_sound, commit_sound}
 use Rattle.mlt_traced.proofs.Items.{begin_traced, close_traced, commit_traced}
 use Rattle.mlt_traced.proofs.Stays.{abort_traced}
-use Rattle.mlt_manager.specs.Answers.{HasBegun, HasBegunAbort, HasClosed, HasCommitted, HasEnded, counted}
+use Rattle.mlt_manager.specs.Answers.{HasBegun, HasBegunAbort, HasClosed, HasCommitted, HasEnded}
 use Rattle.mlt_manager.specs.Managers.{IsManager, ManagerFields, state_of}
 use Rattle.mlt_manager.proofs.Called.{one_there, was_idle, was_with}
 use Rattle.mlt_manager.proofs.Counts.{KeepsCounts, items_counts, no_more_commits}
@@ -45,9 +45,9 @@ module _ {P : Type 0} (bits_of : P → ℕ → ℕ) (m : ManagerFields P) (h : I
         room = omega (arith, none, e.room);
       }
 
-  same_ends : (commits : ℕ) (item : TraceItem) (e : HasEnded m m' tx item) → m' ≡ record (counted m) { commons = m'.commons; txs = m'.txs; opens = m'.opens; commits = commits }
-      → m' ≡ record (counted m) { commons = m'.commons; txs = map.remove m.txs tx; opens = set.remove m.opens tx; commits = commits }
-  same_ends commits item e rest = rest ∙ (λ p. record (counted m) { commons = m'.commons; txs = e.txs p; opens = e.opens p; commits = commits })
+  same_ends : (commits : ℕ) (item : TraceItem) (e : HasEnded m m' tx item) → m' ≡ record m { commons = m'.commons; txs = m'.txs; opens = m'.opens; commits = commits }
+      → m' ≡ record m { commons = m'.commons; txs = map.remove m.txs tx; opens = set.remove m.opens tx; commits = commits }
+  same_ends commits item e rest = rest ∙ (λ p. record m { commons = m'.commons; txs = e.txs p; opens = e.opens p; commits = commits })
 
   pub committed_keeps : (number : ℕ) → HasCommitted m m' tx number → IsManager bits_of m'
   committed_keeps number c =
@@ -55,7 +55,7 @@ module _ {P : Type 0} (bits_of : P → ℕ → ℕ) (m : ManagerFields P) (h : I
       let next : number ≡ commit_count m.commons.history.items + 1 = c.next ∙ ap (λ n. n + 1) h.limits.counted in
       let ends = subst (λ (n : ℕ). Ends now tx e.one m'.commons (trace.Commit tx n)) next (ends_by (trace.Commit tx number) e) in
       let count : number ≡ commit_count m'.commons.history.items = next ∙ sym (ap commit_count e.items ∙ commits_counted m.commons.history.items tx number) in
-      same_manager bits_of m' (record (counted m) { commons = m'.commons; txs = map.remove m.txs tx; opens = set.remove m.opens tx; commits = number }) (same_ends number (trace.Commit tx number) e c.rest)
+      same_manager bits_of m' (record m { commons = m'.commons; txs = map.remove m.txs tx; opens = set.remove m.opens tx; commits = number }) (same_ends number (trace.Commit tx number) e c.rest)
       (removed_keeps bits_of m h tx number e.one m'.commons e.there (λ i. (e.pages i).locks.max_open) (λ i. (e.pages i).store.max_pages) count (omega (arith, c.next)) (record {
         images = map.remove h.images tx;
         base = h.base;
@@ -73,7 +73,7 @@ module _ {P : Type 0} (bits_of : P → ℕ → ℕ) (m : ManagerFields P) (h : I
       let ends = ends_by (trace.Abort tx) e in
       let none : e.one.undo.entries ≡ [] = nothing_left e.one.undo.entries (was_with m.txs tx 0 e.one c.nothing e.there) in
       let count = h.limits.counted ∙ sym (ap commit_count e.items ∙ no_more_commits m.commons.history.items (trace.Abort tx ∷ []) refl) in
-      same_manager bits_of m' (record (counted m) { commons = m'.commons; txs = map.remove m.txs tx; opens = set.remove m.opens tx; commits = m.commits }) (same_ends m.commits (trace.Abort tx) e c.rest)
+      same_manager bits_of m' (record m { commons = m'.commons; txs = map.remove m.txs tx; opens = set.remove m.opens tx; commits = m.commits }) (same_ends m.commits (trace.Abort tx) e c.rest)
       (removed_keeps bits_of m h tx m.commits e.one m'.commons e.there (λ i. (e.pages i).locks.max_open) (λ i. (e.pages i).store.max_pages) count (omega arith) (record {
         images = map.remove h.images tx;
         base = h.base;
@@ -95,7 +95,7 @@ module _ {P : Type 0} (bits_of : P → ℕ → ℕ) (m : ManagerFields P) (h : I
         undo = ap (λ (t : Transaction). t.undo) put;
         undoing = ap (λ (t : Transaction). t.at) put;
       } in
-      same_manager bits_of m' (record (counted m) { commons = m.commons; txs = map.insert m.txs tx ch.after }) (a.rest ∙ (λ p. record (counted m) { txs = ch.is p }))
+      same_manager bits_of m' (record m { commons = m.commons; txs = map.insert m.txs tx ch.after }) (a.rest ∙ (λ p. record m { txs = ch.is p }))
       (changed_keeps bits_of m h tx ch.before ch.after m.commons ch.was (record { locks = refl; pages = refl; commits = refl }) (record {
         images = h.images;
         base = h.base;
@@ -118,8 +118,8 @@ module _ {P : Type 0} (bits_of : P → ℕ → ℕ) (m : ManagerFields P) (h : I
       let not_open : set.contains m.opens (m.begun + 1) ≡ false = not_true (set.contains m.opens (m.begun + 1)) (λ is. let low = h.sound.match.ghosts.opened (m.begun + 1) is in absurd (omega (arith, low))) in
       let more : map.len (map.insert m.txs (m.begun + 1) b.one) ≡ map.len m.txs + 1 = len_added m.txs (m.begun + 1) b.one (sym (h.sound.opened (m.begun + 1)) ∙ not_open) in
       let more_open : set.len (set.insert m.opens (m.begun + 1)) ≡ set.len m.opens + 1 = set_added m.opens (m.begun + 1) not_open in
-      same_manager bits_of m' (record (counted m) { commons = m'.commons; txs = map.insert m.txs (m.begun + 1) b.one; opens = set.insert m.opens (m.begun + 1); begun = m.begun + 1 })
-      (b.rest ∙ (λ p. record (counted m) { commons = m'.commons; txs = map.insert m.txs (b.number p) b.one; opens = set.insert m.opens (b.number p); begun = b.number p }))
+      same_manager bits_of m' (record m { commons = m'.commons; txs = map.insert m.txs (m.begun + 1) b.one; opens = set.insert m.opens (m.begun + 1); begun = m.begun + 1 })
+      (b.rest ∙ (λ p. record m { commons = m'.commons; txs = map.insert m.txs (b.number p) b.one; opens = set.insert m.opens (b.number p); begun = b.number p }))
       (record {
         images = map.insert h.images (m.begun + 1) map.empty;
         base = h.base;

@@ -15,9 +15,9 @@ room_to_end bits_of m tx count h idle =
     let none : pending_room idle.one.at ≡ 0 = ap pending_room idle.idle in
     omega (arith, within, none, idle.counts, h.sound.room)
 
--- an end does not depend on the counts of commits and events
-pub ended_at : {P : Type 0} (m m' : ManagerFields P) (events commits' tx : ℕ) (item : TraceItem) → HasEnded (record m { events = events }) m' tx item → HasEnded m (record m' { commits = commits' }) tx item
-ended_at m m' events commits' tx item e = record {
+-- an end does not depend on the count of commits
+pub ended_at : {P : Type 0} (m m' : ManagerFields P) (commits' tx : ℕ) (item : TraceItem) → HasEnded m m' tx item → HasEnded m (record m' { commits = commits' }) tx item
+ended_at m m' commits' tx item e = record {
   one = e.one;
   there = e.there;
   idle = e.idle;

@@ -15,7 +15,7 @@ use Rattle.mlt_open.specs.Tables.{Table}
 use Rattle.mlt_invariant.specs.Sound.{IsSound}
 use Rattle.mlt_traced.specs.Traced.{IsTraced}
 use Rattle.mlt_manager.specs.Managers.{IsManager, IsWithinLimits, ManagerFields, state_of}
-use Rattle.mlt_manager.specs.Answers.{counted, next_count}
+use Rattle.mlt_manager.specs.Answers.{counted}
 use Rattle.mlt_manager.proofs.Counts.{KeepsCounts}
 
 -- a table with one entry more, changed or fewer
@@ -85,7 +85,7 @@ module _ {P : Type 0} (bits_of : P → ℕ → ℕ) (m : ManagerFields P) (h : I
     same_len : map.len (map.insert m.txs tx after) ≡ map.len m.txs
     same_len = len_changed m.txs tx after (ap is_some was)
 
-    pub changed_keeps : IsStill bits_of (record m { commons = commons; txs = map.insert m.txs tx after }) → IsManager bits_of (record (counted m) { commons = commons; txs = map.insert m.txs tx after })
+    pub changed_keeps : IsStill bits_of (record m { commons = commons; txs = map.insert m.txs tx after }) → IsManager bits_of (record m { commons = commons; txs = map.insert m.txs tx after })
     changed_keeps still = record {
       images = still.images;
       base = still.base;
@@ -119,7 +119,7 @@ module _ {P : Type 0} (bits_of : P → ℕ → ℕ) (m : ManagerFields P) (h : I
     pub removed_keeps : commons.pages.locks.max_open ≡ m.commons.pages.locks.max_open → commons.pages.store.max_pages ≡ m.commons.pages.store.max_pages
         → commits ≡ commit_count commons.history.items → commits ≤ m.commits + 1
         → IsStill bits_of (record m { commons = commons; txs = map.remove m.txs tx; opens = set.remove m.opens tx })
-        → IsManager bits_of (record (counted m) { commons = commons; txs = map.remove m.txs tx; opens = set.remove m.opens tx; commits = commits })
+        → IsManager bits_of (record m { commons = commons; txs = map.remove m.txs tx; opens = set.remove m.opens tx; commits = commits })
     removed_keeps locks pages count few still = record {
       images = still.images;
       base = still.base;

@@ -4,6 +4,7 @@ pub mod Ended
 pub mod Ending
 pub mod Finding
 pub mod Keeping
+pub mod Kept
 pub mod Refusing
 pub mod Stepped
 pub mod Stepping

@@ -5,12 +5,8 @@ use Rattle.mlt_types.specs.declared.refusal.Refusal.TheVariants as refusal
 use Rattle.mlt_kinds.specs.declared.operation.ObjOp.{ObjOp}
 use Rattle.mlt_meeting.specs.Presences.{IsOpInRange}
 use Rattle.mlt_open.specs.Tables.{CallsNone, CallsOne}
-use Rattle.mlt_manager.specs.Answers.{AnswersCall, ChangesOpen, IsNotIdle, MayCall, counted, next_count}
+use Rattle.mlt_manager.specs.Answers.{AnswersCall, ChangesOpen, IsNotIdle, MayCall}
 use Rattle.mlt_manager.specs.Managers.{ManagerFields}
-
--- one more event, and nothing else
-pub one_more : {P : Type 0} (m : ManagerFields P) (n : ℕ) → n ≡ next_count m.events → record m { events = n } ≡ counted m
-one_more m n is i = record m { events = is i }
 
 -- what is so on Ok, where there is no error
 pub told_ok : {A E Q : Type 0} (r : Result A E) → ((reason : E) → r ≡ Err reason → ⊥) → OnOk r Q → Q
@@ -18,7 +14,7 @@ told_ok (Ok a) not is = is
 told_ok (Err reason) not is = absurd (not reason refl)
 
 -- a transaction that is not idle is not called
-pub not_called : {P : Type 0} (reason : Refusal) (m m' : ManagerFields P) (tx : ℕ) (op : ObjOp) → m' ≡ counted m → IsNotIdle reason m.txs tx → AnswersCall m m' tx op (Err reason)
+pub not_called : {P : Type 0} (reason : Refusal) (m m' : ManagerFields P) (tx : ℕ) (op : ObjOp) → m' ≡ m → IsNotIdle reason m.txs tx → AnswersCall m m' tx op (Err reason)
 not_called refusal.OutOfMemory m m' tx op same why = absurd why
 not_called refusal.LogFull m m' tx op same why = absurd why
 not_called other m m' tx op same why = (why, same)

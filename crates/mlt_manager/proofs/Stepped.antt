@@ -45,7 +45,7 @@ use Rattle.mlt_invariant.proofs.Undoing.{undone_sound}
 use Rattle.mlt_traced.proofs.Items.{done_traced, last_undone_traced, undone_traced}
 use Rattle.mlt_traced.proofs.Stays.{clean_traced}
 use Rattle.mlt_traced.specs.Traced.{IsTraced}
-use Rattle.mlt_manager.specs.Answers.{HasStepped, IsOpenAt, counted, opens_after, txs_after}
+use Rattle.mlt_manager.specs.Answers.{HasStepped, IsOpenAt, opens_after, txs_after}
 use Rattle.mlt_manager.specs.Bases.{HasBase, HasCleanPages, IsPendingWith, IsStepOfBase, KeepsWhatCounts, LeavesBase, MakesStep, TakesStepBack}
 use Rattle.mlt_manager.specs.Managers.{IsManager, ManagerFields, state_of}
 use Rattle.mlt_manager.proofs.Counts.{KeepsCounts, step_counts}
@@ -87,7 +87,7 @@ module _ {P : Type 0} (bits_of : P → ℕ → ℕ) (m : ManagerFields P) (h : I
 
     -- what the manager is then, where this was told
     abbrev pub core : Answer → ManagerFields P
-    core told = record (counted m) { commons = commons; txs = txs_after told tx (map.insert m.txs tx after); opens = opens_after told tx m.opens }
+    core told = record m { commons = commons; txs = txs_after told tx (map.insert m.txs tx after); opens = opens_after told tx m.opens }
 
     abbrev StillBy : Answer → Type 0
     StillBy told = IsStill bits_of (record m { commons = commons; txs = txs_after told tx (map.insert m.txs tx after); opens = opens_after told tx m.opens })
@@ -199,7 +199,7 @@ module _ {P : Type 0} (bits_of : P → ℕ → ℕ) (m : ManagerFields P) (h : I
     manager_by : (told : Answer) → KeepsCounts m.commons commons → StillBy told → IsManager bits_of (core told)
     manager_by answer.Aborted counts is =
         let same = removed_inserted m.txs tx after in
-        subst (λ (t : Table). IsManager bits_of (record (counted m) { commons = commons; txs = t; opens = opens_after answer.Aborted tx m.opens })) (sym same)
+        subst (λ (t : Table). IsManager bits_of (record m { commons = commons; txs = t; opens = opens_after answer.Aborted tx m.opens })) (sym same)
         (removed_keeps bits_of m h tx m.commits before commons was counts.locks counts.pages (h.limits.counted ∙ sym counts.commits) (omega arith)
         (subst (λ (t : Table). IsStill bits_of (record m { commons = commons; txs = t; opens = opens_after answer.Aborted tx m.opens })) same is))
     manager_by other counts is = changed_keeps bits_of m h tx before after commons was counts is
@@ -215,5 +215,5 @@ module _ {P : Type 0} (bits_of : P → ℕ → ℕ) (m : ManagerFields P) (h : I
   step_keeps m' told d =
       let c = d.steps.changes in
       let all = all_by c.before c.after m'.commons c.was told d.steps.tells in
-      let same : m' ≡ core c.before c.after m'.commons c.was told = d.rest ∙ (λ p. record (counted m) { commons = m'.commons; txs = txs_after told tx (c.is p); opens = opens_after told tx m.opens }) in
+      let same : m' ≡ core c.before c.after m'.commons c.was told = d.rest ∙ (λ p. record m { commons = m'.commons; txs = txs_after told tx (c.is p); opens = opens_after told tx m.opens }) in
       (same_manager bits_of m' (core c.before c.after m'.commons c.was told) same all.0, subst (λ (n : ManagerFields P). LeavesBase told m n tx) (sym same) all.1)

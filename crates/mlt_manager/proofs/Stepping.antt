@@ -18,7 +18,7 @@ use Rattle.mlt_event.specs.declared.answer.Answer.{Answer}
 use Rattle.mlt_event.specs.declared.answer.Answer.TheVariants as answer
 use Rattle.mlt_transaction.specs.declared.commons.Commons.{Commons}
 use Rattle.mlt_open.specs.Tables.{StepsOne, Table}
-use Rattle.mlt_manager.specs.Answers.{HasStepped, IsBusy, IsOpenAt, next_count, opens_after, txs_after}
+use Rattle.mlt_manager.specs.Answers.{HasStepped, IsBusy, IsOpenAt, opens_after, txs_after}
 use Rattle.mlt_manager.specs.Managers.{IsManager, ManagerFields, state_of}
 
 not_idle : (a : At) → IsBusy a → a ≢ at.Idle
@@ -54,16 +54,15 @@ may_cancel bits_of m tx h pending =
     )
 
 -- a step that is told `Aborted`, and any other
-module _ {P : Type 0} (bits_of : P → ℕ → ℕ) (m : ManagerFields P) (tx : ℕ) (commons : Commons) (txs : Table) (events : ℕ) (busy : IsOpenAt m.txs tx IsBusy)
-    (one_more_event : events ≡ next_count m.events) where
+module _ {P : Type 0} (bits_of : P → ℕ → ℕ) (m : ManagerFields P) (tx : ℕ) (commons : Commons) (txs : Table) (busy : IsOpenAt m.txs tx IsBusy) where
   pub stepped_last : (txs' : Table) (opens' : set.FinSet nat_cmp) (told : Answer) → told ≡ answer.Aborted → txs' ≡ map.remove txs tx → opens' ≡ set.remove m.opens tx
       → StepsOne bits_of m.root m.opens tx m.txs txs m.commons commons told
-      → HasStepped bits_of m (record m { commons = commons; txs = txs'; opens = opens'; events = events }) tx told
+      → HasStepped bits_of m (record m { commons = commons; txs = txs'; opens = opens' }) tx told
   stepped_last txs' opens' told is out out_of steps = record {
     busy = busy;
     txs = txs;
     steps = steps;
-    rest = λ i. record m { commons = commons; txs = (out ∙ sym (ap (λ t. txs_after t tx txs) is)) i; opens = (out_of ∙ sym (ap (λ t. opens_after t tx m.opens) is)) i; events = one_more_event i };
+    rest = λ i. record m { commons = commons; txs = (out ∙ sym (ap (λ t. txs_after t tx txs) is)) i; opens = (out_of ∙ sym (ap (λ t. opens_after t tx m.opens) is)) i };
   }
 
   stays : (told : Answer) → (told ≡ answer.Aborted → ⊥) → txs ≡ txs_after told tx txs
@@ -75,10 +74,10 @@ module _ {P : Type 0} (bits_of : P → ℕ → ℕ) (m : ManagerFields P) (tx : 
   stays_open other not = refl
 
   pub stepped_on : (told : Answer) → (told ≡ answer.Aborted → ⊥) → StepsOne bits_of m.root m.opens tx m.txs txs m.commons commons told
-      → HasStepped bits_of m (record m { commons = commons; txs = txs; events = events }) tx told
+      → HasStepped bits_of m (record m { commons = commons; txs = txs }) tx told
   stepped_on told not steps = record {
     busy = busy;
     txs = txs;
     steps = steps;
-    rest = λ i. record m { commons = commons; txs = stays told not i; opens = stays_open told not i; events = one_more_event i };
+    rest = λ i. record m { commons = commons; txs = stays told not i; opens = stays_open told not i };
   }

@@ -80,7 +80,7 @@ pub record HasBegun {P : Type 0} (old new : ManagerFields P) (tx : ℕ) : Type 0
   pub objects : new.commons.objects ≡ old.commons.objects
   pub items : new.commons.history.items ≡ old.commons.history.items ++ trace.Begin tx ∷ []
   pub room : new.commons.history.room ≡ old.commons.history.room + 1
-  pub rest : new ≡ record (counted old) {
+  pub rest : new ≡ record old {
     commons = new.commons;
     txs = map.insert old.txs tx one;
     opens = set.insert old.opens tx;
@@ -89,7 +89,7 @@ pub record HasBegun {P : Type 0} (old new : ManagerFields P) (tx : ℕ) : Type 0
 
 abbrev pub AnswersBegin : {P : Type 0} → ManagerFields P → ManagerFields P → Result ℕ Refusal → Type 0
 AnswersBegin old new (Ok tx) = HasBegun old new tx
-AnswersBegin old new (Err reason) = IsCauseAtBegin reason old × (new ≡ counted old)
+AnswersBegin old new (Err reason) = IsCauseAtBegin reason old × (new ≡ old)
 
 -- why a transaction is not idle: there is none of this number; or its abort has begun; or an operation is pending
 abbrev pub IsNotIdle : Refusal → Table → ℕ → Type 0
@@ -109,7 +109,7 @@ IsCauseAtCall reason m tx = IsNotIdle reason m.txs tx
 
 -- one transaction and what all share have changed, and nothing else
 abbrev pub ChangesOpen : {P : Type 0} → ManagerFields P → ManagerFields P → Type 0
-ChangesOpen old new = new ≡ record (counted old) { commons = new.commons; txs = new.txs }
+ChangesOpen old new = new ≡ record old { commons = new.commons; txs = new.txs }
 
 -- a transaction is called with an operation
 pub record HasCalled {P : Type 0} (old new : ManagerFields P) (tx : ℕ) (op : ObjOp) : Type 0 where
@@ -123,7 +123,7 @@ abbrev pub AnswersCall : {P : Type 0} → ManagerFields P → ManagerFields P �
 AnswersCall old new tx op (Ok done) = HasCalled old new tx op
 AnswersCall old new tx op (Err refusal.OutOfMemory) =
     MayCall old tx × CallsNone tx old.txs new.txs old.commons new.commons × ChangesOpen old new
-AnswersCall old new tx op (Err reason) = IsCauseAtCall reason old tx × (new ≡ counted old)
+AnswersCall old new tx op (Err reason) = IsCauseAtCall reason old tx × (new ≡ old)
 
 -- a transaction that is told `Aborted` is open no more
 abbrev pub txs_after : Answer → ℕ → Table → Table
@@ -140,7 +140,7 @@ pub record HasStepped {P : Type 0} (bits_of : P → ℕ → ℕ) (old new : Mana
   pub busy : IsOpenAt old.txs tx IsBusy
   pub txs : Table
   pub steps : StepsOne bits_of old.root old.opens tx old.txs txs old.commons new.commons told
-  pub rest : new ≡ record (counted old) {
+  pub rest : new ≡ record old {
     commons = new.commons;
     txs = txs_after told tx txs;
     opens = opens_after told tx old.opens;
@@ -155,7 +155,7 @@ IsCauseAtStep other txs tx = ⊥
 abbrev pub AnswersStep : {P : Type 0} → (P → ℕ → ℕ) → ManagerFields P → ManagerFields P → ℕ → Result Answer Refusal
     → Type 0
 AnswersStep bits_of old new tx (Ok told) = HasStepped bits_of old new tx told
-AnswersStep bits_of old new tx (Err reason) = IsCauseAtStep reason old.txs tx × (new ≡ counted old)
+AnswersStep bits_of old new tx (Err reason) = IsCauseAtStep reason old.txs tx × (new ≡ old)
 
 -- why no operation is cancelled: there is none of this number; or its abort has begun; or it is at nothing
 abbrev pub IsCauseAtCancel : Refusal → Table → ℕ → Type 0
@@ -167,7 +167,7 @@ IsCauseAtCancel other txs tx = ⊥
 abbrev pub AnswersCancel : {P : Type 0} → ManagerFields P → ManagerFields P → ℕ → Result (Unit {0}) Refusal → Type 0
 AnswersCancel old new tx (Ok done) =
     IsOpenAt old.txs tx IsPending × CancelsOne tx old.txs new.txs old.commons new.commons × ChangesOpen old new
-AnswersCancel old new tx (Err reason) = IsCauseAtCancel reason old.txs tx × (new ≡ counted old)
+AnswersCancel old new tx (Err reason) = IsCauseAtCancel reason old.txs tx × (new ≡ old)
 
 -- A transaction at nothing is open no more: it gives up what it holds and reserves, and the history tells it by this item.
 pub record HasEnded {P : Type 0} (old new : ManagerFields P) (tx : ℕ) (item : TraceItem) : Type 0 where
@@ -186,7 +186,7 @@ pub record HasEnded {P : Type 0} (old new : ManagerFields P) (tx : ℕ) (item : 
 pub record HasCommitted {P : Type 0} (old new : ManagerFields P) (tx number : ℕ) : Type 0 where
   pub next : number ≡ old.commits + 1
   pub ends : HasEnded old new tx (trace.Commit tx number)
-  pub rest : new ≡ record (counted old) {
+  pub rest : new ≡ record old {
     commons = new.commons;
     txs = new.txs;
     opens = new.opens;
@@ -195,13 +195,13 @@ pub record HasCommitted {P : Type 0} (old new : ManagerFields P) (tx number : �
 
 abbrev pub AnswersCommit : {P : Type 0} → ManagerFields P → ManagerFields P → ℕ → Result ℕ Refusal → Type 0
 AnswersCommit old new tx (Ok number) = HasCommitted old new tx number
-AnswersCommit old new tx (Err reason) = IsNotIdle reason old.txs tx × (new ≡ counted old)
+AnswersCommit old new tx (Err reason) = IsNotIdle reason old.txs tx × (new ≡ old)
 
 -- a transaction that has nothing to take back is closed
 pub record HasClosed {P : Type 0} (old new : ManagerFields P) (tx : ℕ) : Type 0 where
   pub nothing : IsIdleWith old.txs tx 0
   pub ends : HasEnded old new tx (trace.Abort tx)
-  pub rest : new ≡ record (counted old) {
+  pub rest : new ≡ record old {
     commons = new.commons;
     txs = new.txs;
     opens = new.opens;
@@ -213,9 +213,9 @@ pub record HasBegunAbort {P : Type 0} (old new : ManagerFields P) (tx : ℕ) : T
   pub idle : IsIdleWith old.txs tx count
   pub some : 0 < count
   pub puts : PutsOneAt tx (at.Undoing None) old.txs new.txs
-  pub rest : new ≡ record (counted old) { txs = new.txs }
+  pub rest : new ≡ record old { txs = new.txs }
 
 abbrev pub AnswersAbort : {P : Type 0} → ManagerFields P → ManagerFields P → ℕ → Result Bool Refusal → Type 0
 AnswersAbort old new tx (Ok true) = HasClosed old new tx
 AnswersAbort old new tx (Ok false) = HasBegunAbort old new tx
-AnswersAbort old new tx (Err reason) = IsNotIdle reason old.txs tx × (new ≡ counted old)
+AnswersAbort old new tx (Err reason) = IsNotIdle reason old.txs tx × (new ≡ old)

@@ -1,4 +1,5 @@
 pub mod Answers
 pub mod Bases
 pub mod Managers
+pub mod Openings
 pub mod Parts

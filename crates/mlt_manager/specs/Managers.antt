@@ -1,5 +1,6 @@
 -- What a contract sees of a manager, and what is always true of it
-use Rattle.std.specs.Prelude.{ℕ, ◌≡◌, ◌≤◌, ◌+◌, ◌^◌}
+use Rattle.std.specs.Prelude.{ℕ, ◌≡◌, ◌≤◌, ◌+◌, ◌^◌, refl}
+use Rattle.std.specs.Coded.{Coded, code_by, coded×, coded_ℕ}
 use Rattle.std.specs.Ordering.{nat_cmp}
 use Rattle.std.specs.FinMap as map
 use Rattle.std.specs.FinSet as set
@@ -8,6 +9,8 @@ use Rattle.mlt_history.specs.Numbers.{commit_count}
 use Rattle.mlt_hash_form.specs.declared.root.Root.{Root}
 use Rattle.mlt_running.specs.CleanPages.{RunningImages}
 use Rattle.mlt_transaction.specs.declared.commons.Commons.{Commons}
+use Rattle.mlt_transaction.specs.contracts.commons.Commons.{the_row as commons_row}
+use Rattle.mlt_transaction.specs.contracts.transaction.Transaction.{the_row as transaction_row}
 use Rattle.mlt_open.specs.Tables.{Table}
 use Rattle.mlt_invariant.specs.Sound.{IsSound}
 use Rattle.mlt_invariant.specs.States.{State}
@@ -68,3 +71,27 @@ pub record IsManager {P : Type 0} (bits_of : P → ℕ → ℕ) (m : ManagerFiel
   pub sound : IsSound (state_of bits_of m images base)
   pub traced : IsTraced (state_of bits_of m images base)
   pub limits : IsWithinLimits m
+
+-- a manager is stored as the tuple of its parts
+abbrev pub manager_code : {P : Type 0} → Coded P → Coded (ManagerFields P)
+manager_code {P = P} pseudo =
+    code_by (ℕ × (ℕ × (ℕ × (ℕ × (ℕ × (ℕ × (P × (Commons × (Table × (set.FinSet nat_cmp × (ℕ × (ℕ × ℕ))))))))))))
+    (coded× coded_ℕ (coded× coded_ℕ (coded× coded_ℕ (coded× coded_ℕ (coded× coded_ℕ (coded× coded_ℕ (coded× pseudo
+    (coded× commons_row.coded (coded× (map.code coded_ℕ transaction_row.coded) (coded× (set.code coded_ℕ)
+    (coded× coded_ℕ (coded× coded_ℕ coded_ℕ))))))))))))
+    (λ m. (m.max_open, (m.max_ids, (m.max_pages, (m.max_ops, (m.root.page, (m.root.max_depth, (m.root.pseudo,
+    (m.commons, (m.txs, (m.opens, (m.begun, (m.commits, m.events)))))))))))))
+    (λ p. record {
+      max_open = p.0;
+      max_ids = p.1.0;
+      max_pages = p.1.1.0;
+      max_ops = p.1.1.1.0;
+      root = record { page = p.1.1.1.1.0; max_depth = p.1.1.1.1.1.0; pseudo = p.1.1.1.1.1.1.0 };
+      commons = p.1.1.1.1.1.1.1.0;
+      txs = p.1.1.1.1.1.1.1.1.0;
+      opens = p.1.1.1.1.1.1.1.1.1.0;
+      begun = p.1.1.1.1.1.1.1.1.1.1.0;
+      commits = p.1.1.1.1.1.1.1.1.1.1.1.0;
+      events = p.1.1.1.1.1.1.1.1.1.1.1.1;
+    })
+    (λ _. refl)

@@ -1,19 +1,27 @@
 //! The parts of a manager, and what each event does to them.
 
 ghost use Rattle.std.specs.Prelude.{◌≡◌, ◌≤◌, ◌+◌, IfErr, IfOk, OnOk};
-ghost use Rattle.mlt_manager.specs.Answers.{AnswersAbort, AnswersBegin, AnswersCall, AnswersCancel, AnswersCommit, AnswersStep, HasEnded, IsBusy, IsCauseAtCancel, IsCauseAtStep, IsIdleWith, IsNotIdle, IsOpenAt};
+ghost use Rattle.mlt_manager.specs.Answers.{AnswersAbort, AnswersBegin, AnswersCall, AnswersCancel, AnswersCommit, AnswersStep, HasEnded, IsBusy, IsCauseAtCancel, IsCauseAtStep, IsIdleWith, IsNotIdle, IsOpenAt, counted};
+ghost use Rattle.mlt_manager.specs.Openings.{IsNew};
 ghost use Rattle.mlt_transaction.specs.Transactions.{IsPending};
 ghost use Rattle.mlt_manager.specs.Parts.{IsStageOf, fields_of};
 ghost use Rattle.mlt_manager.specs.Managers.{IsManager};
 
 use mlt_event::Answer;
+use mlt_hash::open_file;
 use mlt_hash_form::Root;
+use mlt_held::LockedStore;
+use mlt_history::History;
 use mlt_kinds::ObjOp;
 use mlt_meeting::operation_is_in_range;
+use mlt_object_locks::ObjectLocks;
 use mlt_open::OpenTransactions;
+use mlt_page_locks::PageLocks;
+use mlt_store::Store;
 use mlt_trace::TraceItem;
 use mlt_transaction::{At, Commons, Transaction};
 use mlt_types::{Limits, OpenSet, Pseudo, Refusal, TxId};
+use std::alloc::Global;
 
 /// What a manager holds.
 #[derive(Drop)]
@@ -38,6 +46,43 @@ enum Stage {
 }
 
 impl<P: Pseudo> Parts<P> {
+    pub(crate) fn new(alloc: Global, limits: Limits, pseudo: P) -> Result<Parts<P>, Refusal>
+    where
+        P: Drop,
+        ensures opening { IfOk result (λ parts. IsNew (fields_of parts) limits pseudo) }
+        ensures refusal { IfErr result (λ refusal. refusal ≡ Refusal.OutOfMemory) }
+    {
+        let mut store = Store::new(alloc, &limits);
+        let page = open_file(&mut store)?;
+        let locks = PageLocks::new(alloc, &limits)?;
+        Ok(Parts {
+            limits,
+            root: Root {
+                page,
+                max_depth: limits.max_depth as u8,
+                pseudo,
+            },
+            commons: Commons {
+                alloc,
+                pages: LockedStore { store, locks },
+                objects: ObjectLocks::new(alloc),
+                history: History::new(alloc),
+            },
+            txs: OpenTransactions::new(alloc),
+            opens: OpenSet::new(),
+            begun: 0,
+            commits: 0,
+            events: 0,
+        })
+    }
+
+    /// One more event; at the greatest number they are counted no more.
+    pub(crate) fn count(&mut self)
+        ensures { fields_of self.new ≡ counted (fields_of self.old) }
+    {
+        self.events = self.events.saturating_add(1);
+    }
+
     /// What the transaction of a number is at.
     fn stage(&self, tx: TxId) -> Stage
         ensures { IsStageOf result self.now.txs tx }
@@ -104,7 +149,6 @@ impl<P: Pseudo> Parts<P> {
         requires sound { IsManager P.bits_of (fields_of self.old) }
         ensures answers { AnswersBegin (fields_of self.old) (fields_of self.new) result }
     {
-        self.events = self.events.saturating_add(1);
         if self.txs.len() >= self.limits.max_open as usize {
             return Err(Refusal::TooManyOpen);
         }
@@ -127,7 +171,6 @@ impl<P: Pseudo> Parts<P> {
     pub(crate) fn call(&mut self, tx: TxId, op: ObjOp) -> Result<(), Refusal>
         ensures answers { AnswersCall (fields_of self.old) (fields_of self.new) tx op result }
     {
-        self.events = self.events.saturating_add(1);
         if self.idle(tx)? >= self.limits.max_ops as usize {
             return Err(Refusal::LogFull);
         }
@@ -139,7 +182,6 @@ impl<P: Pseudo> Parts<P> {
         requires sound { IsManager P.bits_of (fields_of self.old) }
         ensures answers { AnswersStep P.bits_of (fields_of self.old) (fields_of self.new) tx result }
     {
-        self.events = self.events.saturating_add(1);
         self.busy(tx)?;
         let answer = self
             .txs
@@ -155,7 +197,6 @@ impl<P: Pseudo> Parts<P> {
         requires sound { IsManager P.bits_of (fields_of self.old) }
         ensures answers { AnswersCancel (fields_of self.old) (fields_of self.new) tx result }
     {
-        self.events = self.events.saturating_add(1);
         self.pending(tx)?;
         self.txs.cancel(tx, &mut self.commons);
         Ok(())
@@ -165,7 +206,6 @@ impl<P: Pseudo> Parts<P> {
         requires sound { IsManager P.bits_of (fields_of self.old) }
         ensures answers { AnswersCommit (fields_of self.old) (fields_of self.new) tx result }
     {
-        self.events = self.events.saturating_add(1);
         let count = self.idle(tx)?;
         let number = self.commits + 1;
         self.close(tx, count, TraceItem::Commit(tx, number));
@@ -177,7 +217,6 @@ impl<P: Pseudo> Parts<P> {
         requires sound { IsManager P.bits_of (fields_of self.old) }
         ensures answers { AnswersAbort (fields_of self.old) (fields_of self.new) tx result }
     {
-        self.events = self.events.saturating_add(1);
         let count = self.idle(tx)?;
         if count == 0 {
             self.close(tx, 0, TraceItem::Abort(tx));

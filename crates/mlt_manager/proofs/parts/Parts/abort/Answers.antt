@@ -4,13 +4,12 @@ use Rattle.mlt_manager.specs.Answers.{IsIdleWith}
 use Rattle.mlt_trace.specs.declared.item.TraceItem.TheVariants as trace
 use Rattle.mlt_manager.specs.Parts.{fields_of}
 use Rattle.mlt_manager.proofs.Ending.{ended_at, room_to_end}
-use Rattle.mlt_manager.proofs.Refusing.{one_more}
 use Rattle.mlt_manager.proofs.parts.Parts.abort.Goals as goal
 
 pub returns-in_err-count : goal.returns-in_err-count
 returns-in_err-count g c =
     let p = err_from_is_err_and c.from_residual.result c.from_residual.ensures.1 in
-    record { answers = rw (p.1, p.2) (c.in_err-count.ensures.refusal, one_more (fields_of c.args.self.now) c.saturating_add-self.result c.saturating_add-self.ensures) }
+    record { answers = rw (p.1, p.2) (c.in_err-count.ensures.refusal, refl) }
 
 pub close-requires-clause-room : goal.close-requires-clause-room
 close-requires-clause-room g c =
@@ -21,8 +20,8 @@ pub returns-then-count-eq0 : goal.returns-then-count-eq0
 returns-then-count-eq0 g c = record {
   answers = record {
     nothing = subst (IsIdleWith c.args.self.now.txs c.args.tx) c.if-count-eq0.true c.in_ok-count.ensures.idle;
-    ends = ended_at (fields_of c.args.self.now) (fields_of c.close.new.self) c.saturating_add-self.result c.close.new.self.commits c.args.tx (trace.Abort c.args.tx) c.close.ensures.ends;
-    rest = ap fields_of c.close.ensures.rest ∙ (λ i. record (fields_of c.args.self.now) { commons = c.close.new.self.commons; txs = c.close.new.self.txs; opens = c.close.new.self.opens; events = c.saturating_add-self.ensures i });
+    ends = ended_at (fields_of c.args.self.now) (fields_of c.close.new.self) c.close.new.self.commits c.args.tx (trace.Abort c.args.tx) c.close.ensures.ends;
+    rest = ap fields_of c.close.ensures.rest;
   };
 }
 
@@ -33,6 +32,6 @@ returns g c = record {
     idle = c.in_ok-count.ensures.idle;
     some = omega (arith, c.if-count-eq0.false);
     puts = c.put_at.ensures.puts;
-    rest = λ i. record (fields_of c.args.self.now) { txs = c.put_at.new.self; events = c.saturating_add-self.ensures i };
+    rest = refl;
   };
 }

@@ -24,7 +24,6 @@ returns g c = record {
       txs = told_ok c.insert.result c.in_default.not-Err c.insert.ensures.inserted i;
       opens = c.insert-2.ensures i;
       begun = c.args.self.now.begun + 1;
-      events = c.saturating_add-self.ensures i;
     };
   };
 }

@@ -2,18 +2,17 @@ use Rattle.std.proofs.Common.{refl, ap, subst, sym, ◌∙◌}
 use Rattle.std.proofs.lemmas.Result.{err_from_is_err_and}
 use Rattle.mlt_manager.specs.Parts.{fields_of}
 use Rattle.mlt_manager.proofs.Stepping.{may_cancel}
-use Rattle.mlt_manager.proofs.Refusing.{one_more}
 use Rattle.mlt_manager.proofs.parts.Parts.cancel.Goals as goal
 
 pub returns-in_err-pending : goal.returns-in_err-pending
 returns-in_err-pending g c =
     let p = err_from_is_err_and c.from_residual.result c.from_residual.ensures.1 in
-    record { answers = rw (p.1, p.2) (c.in_err-pending.ensures.refusal, one_more (fields_of c.args.self.now) c.saturating_add-self.result c.saturating_add-self.ensures) }
+    record { answers = rw (p.1, p.2) (c.in_err-pending.ensures.refusal, refl) }
 
 pub cancel-requires : goal.cancel-requires
 cancel-requires g c = record { is_open = may_cancel g.P.Pseudo.bits_of (fields_of c.args.self.now) c.args.tx c.requires.sound c.in_ok-pending.ensures.pending }
 
 pub returns : goal.returns
 returns g c = record {
-  answers = (c.in_ok-pending.ensures.pending, c.cancel.ensures.cancels, λ i. record (fields_of c.args.self.now) { commons = c.cancel.new.commons; txs = c.cancel.new.self; events = c.saturating_add-self.ensures i });
+  answers = (c.in_ok-pending.ensures.pending, c.cancel.ensures.cancels, refl);
 }

@@ -3,13 +3,12 @@ use Rattle.std.proofs.lemmas.Result.{err_from_is_err_and}
 use Rattle.mlt_trace.specs.declared.item.TraceItem.TheVariants as trace
 use Rattle.mlt_manager.specs.Parts.{fields_of}
 use Rattle.mlt_manager.proofs.Ending.{ended_at, room_to_end}
-use Rattle.mlt_manager.proofs.Refusing.{one_more}
 use Rattle.mlt_manager.proofs.parts.Parts.commit.Goals as goal
 
 pub returns-in_err-count : goal.returns-in_err-count
 returns-in_err-count g c =
     let p = err_from_is_err_and c.from_residual.result c.from_residual.ensures.1 in
-    record { answers = rw (p.1, p.2) (c.in_err-count.ensures.refusal, one_more (fields_of c.args.self.now) c.saturating_add-self.result c.saturating_add-self.ensures) }
+    record { answers = rw (p.1, p.2) (c.in_err-count.ensures.refusal, refl) }
 
 pub close-requires-clause-room : goal.close-requires-clause-room
 close-requires-clause-room g c = room_to_end g.P.Pseudo.bits_of (fields_of c.args.self.now) c.args.tx c.in_ok-count.count c.requires.sound c.in_ok-count.ensures.idle
@@ -18,8 +17,7 @@ pub returns : goal.returns
 returns g c = record {
   answers = record {
     next = refl;
-    ends = ended_at (fields_of c.args.self.now) (fields_of c.close.new.self) c.saturating_add-self.result (c.args.self.now.commits + 1) c.args.tx (trace.Commit c.args.tx (c.args.self.now.commits + 1)) c.close.ensures.ends;
-    rest = (λ i. record (fields_of ((c.close.ensures.rest) i)) { commits = c.args.self.now.commits + 1 })
-        ∙ (λ i. record (fields_of c.args.self.now) { commons = c.close.new.self.commons; txs = c.close.new.self.txs; opens = c.close.new.self.opens; commits = c.args.self.now.commits + 1; events = c.saturating_add-self.ensures i });
+    ends = ended_at (fields_of c.args.self.now) (fields_of c.close.new.self) (c.args.self.now.commits + 1) c.args.tx (trace.Commit c.args.tx (c.args.self.now.commits + 1)) c.close.ensures.ends;
+    rest = λ i. record (fields_of ((c.close.ensures.rest) i)) { commits = c.args.self.now.commits + 1 };
   };
 }

@@ -1,0 +1,107 @@
+-- What each event answers keeps what is always true of a manager
+use Rattle.std.proofs.Common.{◌≡◌, ◌≤◌, ℕ, ◌^◌, ◌<◌, Bool, true, false, Result, Ok, Err, IfOk, refl, sym, ap, subst, ◌∙◌, arith}
+use Rattle.std.specs.FinMap as map
+use Rattle.std.specs.FinSet as set
+use Rattle.mlt_types.specs.declared.limits.Limits.{Limits}
+use Rattle.mlt_types.specs.declared.refusal.Refusal.{Refusal}
+use Rattle.mlt_types.specs.declared.refusal.Refusal.TheVariants as refusal
+use Rattle.mlt_kinds.specs.Bases.{empty_base}
+use Rattle.mlt_kinds.specs.declared.operation.ObjOp.{ObjOp}
+use Rattle.mlt_history.specs.Numbers.{commit_count}
+use Rattle.mlt_hash_form.specs.File.{GivesPseudokeys}
+use Rattle.mlt_event.specs.declared.answer.Answer.{Answer}
+use Rattle.mlt_invariant.specs.States.{State}
+use Rattle.mlt_invariant.specs.Sound.{IsSound}
+use Rattle.std.specs.Ordering.{nat_cmp}
+use Rattle.mlt_transaction.specs.declared.transaction.Transaction.{Transaction}
+use Rattle.mlt_invariant.specs.Opening.{opening_state}
+use Rattle.mlt_invariant.proofs.Opening.{opening_sound}
+use Rattle.mlt_traced.specs.Traced.{IsTraced}
+use Rattle.mlt_traced.proofs.Stays.{opening_traced}
+use Rattle.mlt_manager.specs.Answers.{AnswersAbort, AnswersBegin, AnswersCall, AnswersCancel, AnswersCommit, AnswersStep}
+use Rattle.mlt_manager.specs.Bases.{LeavesBase}
+use Rattle.mlt_manager.specs.Managers.{IsManager, ManagerFields, state_of}
+use Rattle.mlt_manager.specs.Openings.{IsNew}
+use Rattle.mlt_manager.proofs.Called.{called_keeps, cancelled_keeps, not_called_keeps}
+use Rattle.mlt_manager.proofs.Ended.{abort_begun_keeps, begun_keeps, closed_keeps, committed_keeps}
+use Rattle.mlt_manager.proofs.Keeping.{counted_keeps, same_manager}
+use Rattle.mlt_manager.proofs.Stepped.{step_keeps}
+
+module _ {P : Type 0} (bits_of : P → ℕ → ℕ) (m m' : ManagerFields P) (h : IsManager bits_of m) where
+  pub begin_kept : (r : Result ℕ Refusal) → AnswersBegin m m' r → IsManager bits_of m'
+  begin_kept (Ok tx) a = begun_keeps bits_of m h tx m' a
+  begin_kept (Err reason) a = same_manager bits_of m' m a.1 h
+
+  pub call_kept : (tx : ℕ) (op : ObjOp) (r : Result (Unit {0}) Refusal) → AnswersCall m m' tx op r → IsManager bits_of m'
+  call_kept tx op (Ok done) a = called_keeps bits_of m h tx m' a.rest op a
+  call_kept tx op (Err refusal.OutOfMemory) a = (not_called_keeps bits_of m h tx m' a.2 a.0 a.1).0
+  call_kept tx op (Err reason) a = same_manager bits_of m' m a.1 h
+
+  pub step_kept : (tx : ℕ) (r : Result Answer Refusal) → AnswersStep bits_of m m' tx r → IsManager bits_of m'
+  step_kept tx (Ok told) a = (step_keeps bits_of m h tx m' told a).0
+  step_kept tx (Err reason) a = same_manager bits_of m' m a.1 h
+
+  pub step_leads : (tx : ℕ) (r : Result Answer Refusal) → AnswersStep bits_of m m' tx r → IfOk r (λ told. LeavesBase told m m' tx)
+  step_leads tx (Ok told) a = (step_keeps bits_of m h tx m' told a).1
+  step_leads tx (Err reason) a = tt
+
+  pub cancel_kept : (tx : ℕ) (r : Result (Unit {0}) Refusal) → AnswersCancel m m' tx r → IsManager bits_of m'
+  cancel_kept tx (Ok done) a = (cancelled_keeps bits_of m h tx m' a.2 a.0 a.1).0
+  cancel_kept tx (Err reason) a = same_manager bits_of m' m a.1 h
+
+  pub commit_kept : (tx : ℕ) (r : Result ℕ Refusal) → AnswersCommit m m' tx r → IsManager bits_of m'
+  commit_kept tx (Ok number) a = committed_keeps bits_of m h tx m' number a
+  commit_kept tx (Err reason) a = same_manager bits_of m' m a.1 h
+
+  pub abort_kept : (tx : ℕ) (r : Result Bool Refusal) → AnswersAbort m m' tx r → IsManager bits_of m'
+  abort_kept tx (Ok true) a = closed_keeps bits_of m h tx m' a
+  abort_kept tx (Ok false) a = abort_begun_keeps bits_of m h tx m' a
+  abort_kept tx (Err reason) a = same_manager bits_of m' m a.1 h
+
+-- a manager as it is made
+module _ {P : Type 0} (bits_of : P → ℕ → ℕ) (m : ManagerFields P) (limits : Limits) (pseudo : P) (keys : GivesPseudokeys (bits_of m.root.pseudo)) (new : IsNew m limits pseudo) where
+  same_state : state_of bits_of m map.empty empty_base ≡ opening_state (bits_of m.root.pseudo) m.root.page m.root.max_depth m.max_ops m.commons
+  same_state i = record {
+    bits = bits_of m.root.pseudo;
+    root = m.root.page;
+    max_depth = m.root.max_depth;
+    max_ops = m.max_ops;
+    commons = m.commons;
+    txs = new.txs i;
+    images = map.empty;
+    opens = new.opens i;
+    begun = new.begun i;
+    base = empty_base;
+  }
+
+  small : m.root.max_depth ≤ 16
+  small = subst (λ (n : ℕ). n ≤ 16) (sym new.within.depth) limits.in_range.depth_most
+
+  sound : IsSound (opening_state (bits_of m.root.pseudo) m.root.page m.root.max_depth m.max_ops m.commons)
+  sound = opening_sound (bits_of m.root.pseudo) m.root.page m.root.max_depth m.max_ops limits.max_open new.dir new.bucket m.commons keys small new.file new.page_locks new.object_locks new.items new.room
+
+  traced : IsTraced (opening_state (bits_of m.root.pseudo) m.root.page m.root.max_depth m.max_ops m.commons)
+  traced = opening_traced (bits_of m.root.pseudo) m.root.page m.root.max_depth m.max_ops m.commons new.items
+
+  none_open : map.len m.txs ≡ 0
+  none_open = ap map.len new.txs ∙ map.len-empty nat_cmp Transaction
+
+  pub new_kept : IsManager bits_of m
+  new_kept = record {
+    images = map.empty;
+    base = empty_base;
+    sound = subst IsSound (sym same_state) sound;
+    traced = subst IsTraced (sym same_state) traced;
+    limits = record {
+      locks_for = (λ i. (new.page_locks i).max_open) ∙ sym new.within.open_at_most;
+      pages_for = new.page_limit ∙ sym new.within.pages;
+      few_open = omega (arith, none_open);
+      open_in_set = ap set.len new.opens ∙ set.len-empty nat_cmp ∙ sym none_open;
+      set_holds = subst (λ (n : ℕ). n ≤ 64) (sym new.within.open_at_most) limits.in_range.open_most;
+      few_ids = omega (arith, new.begun);
+      ids_fit = subst (λ (n : ℕ). n ≤ 2 ^ 32) (sym new.within.ids) limits.in_range.ids_most;
+      ops_fit = subst (λ (n : ℕ). n ≤ 1024) (sym new.within.ops) limits.in_range.ops_most;
+      ended = omega (arith, none_open, new.commits);
+      counted = new.commits ∙ sym (ap commit_count new.items);
+    };
+  }

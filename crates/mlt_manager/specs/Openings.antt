@@ -1,0 +1,36 @@
+-- A manager as it is made
+use Rattle.std.specs.Prelude.{ℕ, ◌≡◌, []}
+use Rattle.std.specs.FinMap as map
+use Rattle.std.specs.FinSet as set
+use Rattle.mlt_types.specs.declared.limits.Limits.{Limits}
+use Rattle.mlt_store.specs.Stores.{page_at}
+use Rattle.mlt_page_locks.specs.LockTables.{no_locks}
+use Rattle.mlt_object_locks.specs.Locks as objects
+use Rattle.mlt_hash_form.specs.Changes.{IsOpening}
+use Rattle.mlt_manager.specs.Managers.{ManagerFields}
+
+-- its limits are these
+pub record HasLimits {P : Type 0} (m : ManagerFields P) (limits : Limits) : Type 0 where
+  pub open_at_most : m.max_open ≡ limits.max_open
+  pub ids : m.max_ids ≡ limits.max_ids
+  pub pages : m.max_pages ≡ limits.max_pages
+  pub depth : m.root.max_depth ≡ limits.max_depth
+  pub ops : m.max_ops ≡ limits.max_ops
+
+-- Nothing has begun, nothing is locked, and the pages are a file without records.
+pub record IsNew {P : Type 0} (m : ManagerFields P) (limits : Limits) (pseudo : P) : Type 0 where
+  pub within : HasLimits m limits
+  pub keys : m.root.pseudo ≡ pseudo
+  pub dir : ℕ
+  pub bucket : ℕ
+  pub file : IsOpening (page_at m.commons.pages.store.pages) m.root.page dir bucket
+  pub page_limit : m.commons.pages.store.max_pages ≡ limits.max_pages
+  pub page_locks : m.commons.pages.locks ≡ no_locks limits.max_open
+  pub object_locks : m.commons.objects ≡ objects.no_locks
+  pub items : m.commons.history.items ≡ []
+  pub room : m.commons.history.room ≡ 0
+  pub txs : m.txs ≡ map.empty
+  pub opens : m.opens ≡ set.empty
+  pub begun : m.begun ≡ 0
+  pub commits : m.commits ≡ 0
+  pub events : m.events ≡ 0

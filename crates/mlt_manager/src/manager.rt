@@ -1,0 +1,147 @@
+//! The manager of transactions.
+
+ghost use Rattle.std.specs.Prelude.{◌≡◌, IfErr, IfOk};
+ghost use Rattle.mlt_manager.specs.Answers.{AnswersAbort, AnswersBegin, AnswersCall, AnswersCancel, AnswersCommit, AnswersStep, counted};
+ghost use Rattle.mlt_manager.specs.Bases.{LeavesBase};
+ghost use Rattle.mlt_manager.specs.Openings.{IsNew};
+
+use crate::parts::Parts;
+use mlt_event::Answer;
+use mlt_kinds::ObjOp;
+use mlt_store::Store;
+use mlt_trace::TraceItem;
+use mlt_types::{Limits, Pseudo, Refusal, TxId};
+use std::alloc::Global;
+use std::marker::Model;
+
+/// A manager of transactions, with the pages that they work on. Each of its calls is one event.
+#[derive(Drop)]
+pub struct Manager<P: Pseudo> {
+    parts: Parts<P>,
+}
+
+impl<P: Pseudo> Model for Manager<P> {
+    ghost use Rattle.mlt_manager.specs.Managers.{IsManager, ManagerFields, manager_code};
+    ghost use Rattle.mlt_manager.specs.Parts.{fields_of};
+
+    ghost Value = { ManagerFields P };
+
+    ghost coded = { manager_code P.code };
+
+    ghost view = { λ m. fields_of m.parts };
+
+    ghost invariant = { λ m. IsManager P.bits_of (fields_of m.parts) };
+}
+
+impl<P: Pseudo> Manager<P> {
+    /// A manager without transactions, with a file without records: three pages, with a directory of depth 0.
+    ///
+    /// # Errors
+    /// `OutOfMemory`, where a growth was refused.
+    pub fn new(alloc: Global, limits: Limits, pseudo: P) -> Result<Manager<P>, Refusal>
+    where
+        P: Drop,
+        ensures opening { IfOk result (λ manager. IsNew manager limits pseudo) }
+        ensures refusal { IfErr result (λ refusal. refusal ≡ Refusal.OutOfMemory) }
+    {
+        Ok(Manager {
+            parts: Parts::new(alloc, limits, pseudo)?,
+        })
+    }
+
+    /// Begins a transaction, under the next number, from 1.
+    ///
+    /// # Errors
+    /// `TooManyOpen`, where as many are open as may be; else `IdsSpent`, where all numbers were given out; else
+    /// `OutOfMemory`, where a growth was refused. Nothing is begun then.
+    pub fn begin(&mut self) -> Result<TxId, Refusal>
+        ensures answers { AnswersBegin (counted self.old) self.new result }
+    {
+        self.parts.count();
+        self.parts.begin()
+    }
+
+    /// Calls a transaction with an operation, which is pending from then on.
+    ///
+    /// # Errors
+    /// `NoSuchTx`, where no transaction of this number is open; `Undoing`, where its abort has begun; `Running`, where an
+    /// operation is pending; `LogFull`, where it has as many operations as it may have; else `OutOfMemory`, where a
+    /// growth was refused. No operation is pending then that was not before.
+    pub fn call(&mut self, tx: TxId, op: ObjOp) -> Result<(), Refusal>
+        ensures answers { AnswersCall (counted self.old) self.new tx op result }
+    {
+        self.parts.count();
+        self.parts.call(tx, op)
+    }
+
+    /// One step of the pending operation of a transaction, or of its abort: at most one page is locked, read and written.
+    /// In a first pass, and in an abort, it takes no memory.
+    ///
+    /// # Errors
+    /// `NoSuchTx`, where no transaction of this number is open; `NotRunning`, where it is at nothing.
+    pub fn step(&mut self, tx: TxId) -> Result<Answer, Refusal>
+        ensures answers { AnswersStep P.bits_of (counted self.old) self.new tx result }
+        ensures base { IfOk result (λ told. LeavesBase told (counted self.old) self.new tx) }
+    {
+        self.parts.count();
+        self.parts.step(tx)
+    }
+
+    /// Drops the pending operation of a transaction, and puts back the pages that it wrote. It takes no memory.
+    ///
+    /// # Errors
+    /// `NoSuchTx`, where no transaction of this number is open; `Undoing`, where its abort has begun; `NotRunning`, where
+    /// it is at nothing.
+    pub fn cancel(&mut self, tx: TxId) -> Result<(), Refusal>
+        ensures answers { AnswersCancel (counted self.old) self.new tx result }
+    {
+        self.parts.count();
+        self.parts.cancel(tx)
+    }
+
+    /// Commits a transaction, and answers the number of its commit, from 1. It takes no memory.
+    ///
+    /// # Errors
+    /// `NoSuchTx`, where no transaction of this number is open; `Undoing`, where its abort has begun; `Running`, where an
+    /// operation is pending.
+    pub fn commit(&mut self, tx: TxId) -> Result<u64, Refusal>
+        ensures answers { AnswersCommit (counted self.old) self.new tx result }
+    {
+        self.parts.count();
+        self.parts.commit(tx)
+    }
+
+    /// Begins the abort of a transaction. One that has nothing to take back is closed at once, and then the answer is
+    /// `true`; any other is to take its operations back, by steps. It takes no memory.
+    ///
+    /// # Errors
+    /// `NoSuchTx`, where no transaction of this number is open; `Undoing`, where its abort has begun; `Running`, where an
+    /// operation is pending.
+    pub fn abort(&mut self, tx: TxId) -> Result<bool, Refusal>
+        ensures answers { AnswersAbort (counted self.old) self.new tx result }
+    {
+        self.parts.count();
+        self.parts.abort(tx)
+    }
+
+    /// What transactions did, in order.
+    pub fn history(&self) -> &[TraceItem]
+        ensures { result.now ≡ self.now.commons.history.items }
+    {
+        self.parts.commons.history.items()
+    }
+
+    /// The pages, with what running operations have written.
+    pub fn pages(&self) -> &Store
+        ensures { result.now ≡ self.now.commons.pages.store }
+    {
+        &self.parts.commons.pages.store
+    }
+
+    /// How many events there were; it stays at 2^64 - 1.
+    pub fn events(&self) -> u64
+        ensures { result ≡ self.now.events }
+    {
+        self.parts.events
+    }
+}
