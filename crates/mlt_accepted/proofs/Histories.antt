@@ -23,7 +23,8 @@ accepted items base writable placed serial = (items, record { said = lines_say_i
 base_injective : IsInjective Step
 base_injective one other after item h k = base_one_start one other after item.0 item.1 h k
 
-serializable : (items : List TraceItem) (state : Base) → IsHistory Step empty_base (entries_of items) state → IsCommitOrderSerializable Step empty_base (told items) state
+-- the committed transcripts of a history lead to a base, and that is left when the open ones are undone
+pub serializable : (items : List TraceItem) (state : Base) → IsHistory Step empty_base (entries_of items) state → IsCommitOrderSerializable Step empty_base (told items) state
 serializable items state h = (kept_by_history Step empty_base base_functional base_injective (entries_of items) state h).serializable
 
 abbrev AcceptedWithOpen : List TraceItem → Base → Type 0

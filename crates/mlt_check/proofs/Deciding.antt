@@ -38,7 +38,8 @@ item_fault items base raw item line cause.Words is h = absurd (let g : Says item
 item_fault items base raw item line cause.Place is h = subst (λ one. IsItemFault items base one line cause.Place) (same_said raw h.0 item h.1 is) h.2
 item_fault items base raw item line cause.Reply is h = subst (λ one. IsItemFault items base one line cause.Reply) (same_said raw h.0 item h.1 is) h.2
 
-no_item_fault : (items : List TraceItem) (base : Base) (item : TraceItem) (line : ℕ) (fault : TraceCause) → HasPlace items item → RunsOn items base item → IsItemFault items base item line fault → ⊥
+-- what has its place and runs on is no fault
+pub no_item_fault : (items : List TraceItem) (base : Base) (item : TraceItem) (line : ℕ) (fault : TraceCause) → HasPlace items item → RunsOn items base item → IsItemFault items base item line fault → ⊥
 no_item_fault items base item line cause.Line place runs h = h
 no_item_fault items base item line cause.Cut place runs h = h
 no_item_fault items base item line cause.Words place runs h = h

@@ -86,7 +86,7 @@ front_serial front rest base h =
     (subst (λ ts. IsSerialBase Step empty_base ts base) (ap (λ (l : Lists (ObjOp × ObjReply)). l.committed) (told-append front rest) ∙ more.1) h) in
     (parts.0, parts.1)
 
-commit_runs : (front rest : List TraceItem) (tx number : ℕ) (base middle : Base) → IsSerialBase Step empty_base (told (front ++ Commit tx number ∷ rest)).committed base
+pub commit_runs : (front rest : List TraceItem) (tx number : ℕ) (base middle : Base) → IsSerialBase Step empty_base (told (front ++ Commit tx number ∷ rest)).committed base
     → IsSerialBase Step empty_base (told front).committed middle → (next : Base) × Runs Step middle ((told front).transcripts tx) next
 commit_runs front rest tx number base middle h serial =
     let more = committed_more rest (after_entry (told front) (Entry.Committed tx)) in

@@ -287,7 +287,7 @@ false_where_other before after op reply done same step other next false_step =
     other (base_one_answer before after next done.0 reply done.1 (subst (λ o. Step before (o, reply) after) same step) false_step).0
 
 -- a list, cut at the element at a place
-cut_at : {A : Type 0} (xs : List A) (i : ℕ) (x : A) → i < length xs → x ≡ get_or xs i x → xs ≡ take i xs ++ x ∷ drop (suc i) xs
+pub cut_at : {A : Type 0} (xs : List A) (i : ℕ) (x : A) → i < length xs → x ≡ get_or xs i x → xs ≡ take i xs ++ x ∷ drop (suc i) xs
 cut_at [] i x within is = absurd (omega arith)
 cut_at (y ∷ xs) zero x within is = ap (λ z. z ∷ xs) (sym is)
 cut_at (y ∷ xs) (suc i) x within is = ap (λ zs. y ∷ zs) (cut_at xs i x (omega arith) is)

@@ -6,3 +6,4 @@ pub mod Deciding
 pub mod Lasting
 pub mod Faults
 pub mod Exactness
+pub mod AcceptedItems

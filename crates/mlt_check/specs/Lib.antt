@@ -3,4 +3,5 @@ pub mod Readings
 pub mod Traces
 pub mod Replaying
 pub mod Checkers
+pub mod AcceptedItems
 pub mod Answering

@@ -3,11 +3,13 @@
 #![tactic(auto)]
 
 mod checker;
+mod committed;
 mod laws;
 mod open_tx;
 mod reading;
 mod trace_check;
 mod words;
 
+pub use committed::committed_base;
 pub use laws::{accepted_traces_have_one_answer, texts_have_one_first_fault};
 pub use trace_check::{Order, check};

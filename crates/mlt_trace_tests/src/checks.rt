@@ -1,6 +1,6 @@
 //! Texts of traces and what their check answers.
 
-use mlt_check::check;
+use mlt_check::{check, committed_base};
 use mlt_kinds::{AccountOp, Done, ObjOp, ObjReply};
 use mlt_trace::{TraceItem, write_trace};
 use mlt_types::{Refusal, TraceCause, TxId};
@@ -64,6 +64,62 @@ fn trace_of_an_abort(rt: HostRuntime) -> Result<(), Refusal> {
     assert!(rt; order.txs.as_slice() == txs.as_slice());
     assert_eq!(rt; order.base.balance(1), Some(7));
     Ok(())
+}
+
+// Transactions 1 and 4 commit 10 and 3; 2 takes its 5 back, and 3 is open with its 7.
+#[test]
+fn base_of_what_committed(rt: HostRuntime) -> Result<(), Refusal> {
+    let open = Done::new(ObjOp::Account(1, AccountOp::Open), ObjReply::Opened);
+    let ten = Done::new(ObjOp::Account(1, AccountOp::Deposit(10)), ObjReply::Done);
+    let five = Done::new(ObjOp::Account(1, AccountOp::Deposit(5)), ObjReply::Done);
+    let seven = Done::new(ObjOp::Account(1, AccountOp::Deposit(7)), ObjReply::Done);
+    let three = Done::new(ObjOp::Account(1, AccountOp::Deposit(3)), ObjReply::Done);
+    let items = [
+        TraceItem::Begin(TxId(1)),
+        TraceItem::Op(TxId(1), open),
+        TraceItem::Op(TxId(1), ten),
+        TraceItem::Commit(TxId(1), 1),
+        TraceItem::Begin(TxId(2)),
+        TraceItem::Begin(TxId(3)),
+        TraceItem::Begin(TxId(4)),
+        TraceItem::Op(TxId(2), five),
+        TraceItem::Op(TxId(3), seven),
+        TraceItem::Op(TxId(4), three),
+        TraceItem::Back(TxId(2)),
+        TraceItem::Abort(TxId(2)),
+        TraceItem::Commit(TxId(4), 2),
+    ];
+    let base = committed_base(rt.alloc(), &items)?;
+    assert_eq!(rt; base.balance(1), Some(13));
+    Ok(())
+}
+
+const MISPLACED: [TraceItem; 2] = [TraceItem::Begin(TxId(2)), TraceItem::Begin(TxId(1))];
+
+const SECOND_HAS_NO_PLACE: Refusal = Refusal::TraceFault {
+    line: 2,
+    cause: TraceCause::Place,
+};
+
+const SECOND_IS_FALSE: Refusal = Refusal::TraceFault {
+    line: 2,
+    cause: TraceCause::Reply,
+};
+
+// A begin of a number below one begun before; and a balance where there is no account, which is found at the
+// commit.
+#[test]
+fn items_with_faults(rt: HostRuntime) {
+    let place = committed_base(rt.alloc(), &MISPLACED).err();
+    assert!(rt; place == Some(SECOND_HAS_NO_PLACE));
+    let balance = Done::new(ObjOp::Account(1, AccountOp::Balance), ObjReply::Is(7));
+    let items = [
+        TraceItem::Begin(TxId(1)),
+        TraceItem::Op(TxId(1), balance),
+        TraceItem::Commit(TxId(1), 1),
+    ];
+    let reply = committed_base(rt.alloc(), &items).err();
+    assert!(rt; reply == Some(SECOND_IS_FALSE));
 }
 
 // Texts with the line and the cause of their first fault.

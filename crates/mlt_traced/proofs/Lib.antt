@@ -2,3 +2,4 @@ pub mod Places
 pub mod Wholes
 pub mod Items
 pub mod Stays
+pub mod CommittedBases

@@ -106,7 +106,7 @@ text_accepted s sound traced fit =
     let items = s.commons.history.items in
     accepted_history items s.base (writable items traced.placed sound.begun fit) traced.placed sound.match.history
 
-nobody_runs : (s : State) → IsSound s → ((i : ℕ) → map.get s.txs i ≡ None) → (i : ℕ) → (told s.commons.history.items).stage i ≢ Running
+pub nobody_runs : (s : State) → IsSound s → ((i : ℕ) → map.get s.txs i ≡ None) → (i : ℕ) → (told s.commons.history.items).stage i ≢ Running
 nobody_runs s sound none i running =
     let opened = (sound.match.running i).1 running in
     let f : true ≡ false = sym opened ∙ sound.opened i ∙ ap is_some (none i) in
