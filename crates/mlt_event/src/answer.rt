@@ -2,6 +2,7 @@
 
 use mlt_kinds::ObjReply;
 use mlt_types::{PageNo, Refusal, TxId};
+use std::fmt;
 
 /// The answer to a step of a transaction.
 #[derive(Clone, Copy, Debug, PartialEq, Eq)]
@@ -20,4 +21,27 @@ pub enum Answer {
     Aborted,
     /// There is no room (`NoRoom`) or no memory (`OutOfMemory`). The operation is dropped.
     Refused(Refusal),
+}
+
+impl fmt::Display for Answer {
+    ghost use Rattle.std.specs.Prelude.{Some};
+    ghost use Rattle.mlt_event.specs.Texts.{answer_text};
+
+    ghost output = { λ answer. Some (answer_text answer) };
+
+    fn fmt<W: fmt::Write>(&self, f: &mut fmt::Formatter<W>) -> fmt::Result {
+        match *self {
+            Answer::Going => write!(f, "going"),
+            Answer::Waiting { by: TxId(tx), .. } => write!(f, "waiting by {tx}"),
+            Answer::Blocked { by: TxId(tx) } => write!(f, "blocked by {tx}"),
+            Answer::Done(reply) => write!(f, "done {reply}"),
+            Answer::Undone => write!(f, "undone"),
+            Answer::Aborted => write!(f, "aborted"),
+            Answer::Refused(refusal) => {
+                let number = refusal.number();
+                let name = refusal.name();
+                write!(f, "refused {number} {name}")
+            }
+        }
+    }
 }

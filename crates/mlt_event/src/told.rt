@@ -2,6 +2,7 @@
 
 use crate::answer::Answer;
 use mlt_types::{Refusal, TxId};
+use std::fmt;
 
 /// What an event is told.
 #[derive(Clone, Copy, Debug, PartialEq, Eq)]
@@ -20,4 +21,27 @@ pub enum Told {
     Aborting(bool),
     /// The event is refused, and nothing is done.
     Refused(Refusal),
+}
+
+impl fmt::Display for Told {
+    ghost use Rattle.std.specs.Prelude.{Some};
+    ghost use Rattle.mlt_event.specs.Texts.{tell_text};
+
+    ghost output = { λ told. Some (tell_text told) };
+
+    fn fmt<W: fmt::Write>(&self, f: &mut fmt::Formatter<W>) -> fmt::Result {
+        match *self {
+            Told::Begun(TxId(tx)) => write!(f, "begun {tx}"),
+            Told::Called => write!(f, "called"),
+            Told::Answered(answer) => write!(f, "{answer}"),
+            Told::Cancelled => write!(f, "cancelled"),
+            Told::Committed(number) => write!(f, "committed {number}"),
+            Told::Aborting(true) => write!(f, "aborted"),
+            Told::Aborting(false) => write!(f, "aborting"),
+            Told::Refused(refusal) => {
+                let answer = Answer::Refused(refusal);
+                write!(f, "{answer}")
+            }
+        }
+    }
 }

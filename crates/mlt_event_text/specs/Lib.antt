@@ -1,0 +1,5 @@
+pub mod Forms
+pub mod Readings
+pub mod Grammar
+pub mod Answering
+pub mod TellTexts
