@@ -1,5 +1,5 @@
 -- Calls and cancels keep what is always true of a manager
-use Rattle.std.proofs.Common.{◌≡◌, ◌<◌, ℕ, ◌+◌, length, Option, Some, refl, sym, ap, subst, ◌∙◌, arith}
+use Rattle.std.proofs.Common.{◌≡◌, ℕ, length, Some, refl, sym, ap, subst, ◌∙◌, arith}
 use Rattle.std.specs.FinMap as map
 use Rattle.mlt_kinds.specs.declared.operation.ObjOp.{ObjOp}
 use Rattle.mlt_kinds.specs.Operations.{cell_of}
@@ -7,14 +7,13 @@ use Rattle.mlt_object_locks.specs.Locks.{SameReservations, reservation_of}
 use Rattle.mlt_subtx.specs.Images.{Running}
 use Rattle.mlt_running.specs.Running.{AllRunning, HoldsNothing, KeepsRunning, clean_of}
 use Rattle.mlt_operation.specs.Operating.{OperationFields}
-use Rattle.mlt_transaction.specs.declared.commons.Commons.{Commons}
 use Rattle.mlt_transaction.specs.declared.transaction.At.{At}
 use Rattle.mlt_transaction.specs.declared.transaction.At.TheVariants as at
 use Rattle.mlt_transaction.specs.declared.transaction.Transaction.{Transaction}
-use Rattle.mlt_transaction.specs.Transactions.{IsPending, MakesRoom}
+use Rattle.mlt_transaction.specs.Transactions.{IsPending}
 use Rattle.mlt_open.specs.Tables.{CallsNone, CancelsOne, Table}
 use Rattle.mlt_invariant.specs.Events.{Calls, KeepsCleanPages, with_transaction}
-use Rattle.mlt_invariant.specs.Sound.{FitsAt, IsSound}
+use Rattle.mlt_invariant.specs.Sound.{FitsAt}
 use Rattle.mlt_invariant.specs.States.{all_of, images_kept, is_undoing, pending_room}
 use Rattle.mlt_invariant.proofs.Calls.{called_sound, cancelled_sound}
 use Rattle.mlt_traced.proofs.Stays.{called_traced}

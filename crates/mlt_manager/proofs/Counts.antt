@@ -1,18 +1,13 @@
 -- No step changes for how many transactions there are locks, how many pages there may be, or how many have committed
-use Rattle.std.proofs.Common.{◌≡◌, ℕ, ◌⊎◌, ◌+◌, List, [], ◌∷◌, ◌++◌, length, arith, Option, None, Some, inl, inr, refl, ap, ◌∙◌}
-use Rattle.mlt_types.specs.declared.mode.Mode.{Mode}
-use Rattle.mlt_page.specs.declared.page.Page.{Page}
-use Rattle.mlt_store.specs.Stores.{PageStore}
-use Rattle.mlt_page_locks.specs.LockTables.{LockTable}
+use Rattle.std.proofs.Common.{◌≡◌, ℕ, List, [], ◌∷◌, ◌++◌, length, arith, Option, None, Some, inl, inr, refl, ap, ◌∙◌}
 use Rattle.mlt_subtx.specs.Images.{Running}
 use Rattle.mlt_undo.specs.Undo.{Undo}
 use Rattle.mlt_held.specs.Moments.{Moment, moment}
-use Rattle.mlt_held.specs.PageSteps.{LocksAtMost, LocksPage, MakesLockedPage, TouchesOnePage, WritesAtMost, WritesHeldPage}
-use Rattle.mlt_held.specs.declared.locked_store.LockedStore.{LockedStore}
+use Rattle.mlt_held.specs.PageSteps.{LocksAtMost, TouchesOnePage, WritesAtMost}
 use Rattle.mlt_hash.specs.Walks.{Basis}
 use Rattle.mlt_operation.specs.declared.answer.StepAnswer.{StepAnswer}
 use Rattle.mlt_operation.specs.declared.answer.StepAnswer.TheVariants as step
-use Rattle.mlt_operation.specs.Answers.{BeginsToSplit, Restarts, StepsOn, TellsOfStep}
+use Rattle.mlt_operation.specs.Answers.{TellsOfStep}
 use Rattle.mlt_operation.specs.Operating.{OperationFields}
 use Rattle.mlt_operation.specs.PageTurns.{IsRolledBack, TakesTurn}
 use Rattle.mlt_kinds.specs.declared.operation.ObjOp.{ObjOp}

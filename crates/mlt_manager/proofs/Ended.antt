@@ -1,8 +1,7 @@
 -- Beginnings and ends of transactions keep what is always true of a manager
-use Rattle.std.proofs.Common.{◌≡◌, ◌≤◌, ◌<◌, ℕ, ◌+◌, ◌-◌, true, false, List, [], ◌∷◌, ◌++◌, length, Option, None, Some, is_some, refl, sym, ap, subst, ◌∙◌, arith}
+use Rattle.std.proofs.Common.{◌≡◌, ◌<◌, ℕ, ◌+◌, false, List, [], ◌∷◌, ◌++◌, length, refl, sym, ap, subst, ◌∙◌, arith}
 use Rattle.std.specs.FinMap as map
 use Rattle.std.specs.FinSet as set
-use Rattle.std.specs.Ordering.{nat_cmp}
 use Rattle.mlt_subtx.proofs.ImageLaws.{not_true}
 use Rattle.mlt_kinds.specs.declared.operation.ObjOp.{ObjOp}
 use Rattle.mlt_kinds.specs.declared.operation.ObjReply.{ObjReply}
@@ -11,12 +10,9 @@ use Rattle.mlt_trace.specs.declared.item.TraceItem.TheVariants as trace
 use Rattle.mlt_history.specs.Numbers.{commit_count}
 use Rattle.mlt_history.proofs.ItemLaws.{commits_counted}
 use Rattle.mlt_subtx.specs.Images.{started}
-use Rattle.mlt_transaction.specs.declared.transaction.At.{At}
-use Rattle.mlt_transaction.specs.declared.transaction.At.TheVariants as at
 use Rattle.mlt_transaction.specs.declared.transaction.Transaction.{Transaction}
-use Rattle.mlt_open.specs.Tables.{Table}
 use Rattle.mlt_invariant.specs.States.{State, pending_room}
-use Rattle.mlt_invariant.specs.Transactions.{Begins, BeginsAbort, Ends, with_next, without_transaction}
+use Rattle.mlt_invariant.specs.Transactions.{Begins, BeginsAbort, Ends}
 use Rattle.mlt_invariant.proofs.Aborts.{abort_sound}
 use Rattle.mlt_invariant.proofs.Begins.{begin_sound}
 use Rattle.mlt_invariant.proofs.Ends.{close_sound, commit_sound}
@@ -24,9 +20,9 @@ use Rattle.mlt_traced.proofs.Items.{begin_traced, close_traced, commit_traced}
 use Rattle.mlt_traced.proofs.Stays.{abort_traced}
 use Rattle.mlt_manager.specs.Answers.{HasBegun, HasBegunAbort, HasClosed, HasCommitted, HasEnded}
 use Rattle.mlt_manager.specs.Managers.{IsManager, ManagerFields, state_of}
-use Rattle.mlt_manager.proofs.Called.{one_there, was_idle, was_with}
-use Rattle.mlt_manager.proofs.Counts.{KeepsCounts, items_counts, no_more_commits}
-use Rattle.mlt_manager.proofs.Keeping.{IsStill, changed_keeps, len_added, removed_keeps, same_manager, set_added}
+use Rattle.mlt_manager.proofs.Called.{was_idle, was_with}
+use Rattle.mlt_manager.proofs.Counts.{no_more_commits}
+use Rattle.mlt_manager.proofs.Keeping.{changed_keeps, len_added, removed_keeps, same_manager, set_added}
 
 module _ {P : Type 0} (bits_of : P → ℕ → ℕ) (m : ManagerFields P) (h : IsManager bits_of m) (tx : ℕ) (m' : ManagerFields P) where
   abbrev pub now : State

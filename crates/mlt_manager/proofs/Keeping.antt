@@ -1,7 +1,7 @@
 -- What is always true of a manager stays so, where one transaction changes
 use Prim.Native.Nat.{zero}
 use Rattle.std.proofs.lemmas.Bool.{false≢true}
-use Rattle.std.proofs.Common.{suc, ◌≡◌, ◌≤◌, ◌<◌, ℕ, ◌+◌, ◌-◌, true, false, length, Option, Some, is_some, refl, sym, ap, subst, ◌∙◌, arith}
+use Rattle.std.proofs.Common.{suc, ◌≡◌, ◌≤◌, ℕ, ◌+◌, ◌-◌, true, false, Some, is_some, refl, sym, ap, subst, ◌∙◌, arith}
 use Rattle.std.specs.FinMap as map
 use Rattle.std.specs.FinSet as set
 use Rattle.std.specs.Ordering.{nat_cmp}
@@ -11,10 +11,9 @@ use Rattle.mlt_history.specs.Numbers.{commit_count}
 use Rattle.mlt_running.specs.CleanPages.{RunningImages}
 use Rattle.mlt_transaction.specs.declared.commons.Commons.{Commons}
 use Rattle.mlt_transaction.specs.declared.transaction.Transaction.{Transaction}
-use Rattle.mlt_open.specs.Tables.{Table}
 use Rattle.mlt_invariant.specs.Sound.{IsSound}
 use Rattle.mlt_traced.specs.Traced.{IsTraced}
-use Rattle.mlt_manager.specs.Managers.{IsManager, IsWithinLimits, ManagerFields, state_of}
+use Rattle.mlt_manager.specs.Managers.{IsManager, ManagerFields, state_of}
 use Rattle.mlt_manager.specs.Answers.{counted}
 use Rattle.mlt_manager.proofs.Counts.{KeepsCounts}
 

@@ -1,5 +1,5 @@
 -- What each event answers keeps what is always true of a manager
-use Rattle.std.proofs.Common.{◌≡◌, ◌≤◌, ℕ, ◌^◌, ◌<◌, Bool, true, false, Result, Ok, Err, IfOk, refl, sym, ap, subst, ◌∙◌, arith}
+use Rattle.std.proofs.Common.{◌≡◌, ◌≤◌, ℕ, ◌^◌, Bool, true, false, Result, Ok, Err, IfOk, sym, ap, subst, ◌∙◌, arith}
 use Rattle.std.specs.FinMap as map
 use Rattle.std.specs.FinSet as set
 use Rattle.mlt_types.specs.declared.limits.Limits.{Limits}
@@ -10,7 +10,6 @@ use Rattle.mlt_kinds.specs.declared.operation.ObjOp.{ObjOp}
 use Rattle.mlt_history.specs.Numbers.{commit_count}
 use Rattle.mlt_hash_form.specs.File.{GivesPseudokeys}
 use Rattle.mlt_event.specs.declared.answer.Answer.{Answer}
-use Rattle.mlt_invariant.specs.States.{State}
 use Rattle.mlt_invariant.specs.Sound.{IsSound}
 use Rattle.std.specs.Ordering.{nat_cmp}
 use Rattle.mlt_transaction.specs.declared.transaction.Transaction.{Transaction}
@@ -24,7 +23,7 @@ use Rattle.mlt_manager.specs.Managers.{IsManager, ManagerFields, state_of}
 use Rattle.mlt_manager.specs.Openings.{IsNew}
 use Rattle.mlt_manager.proofs.Called.{called_keeps, cancelled_keeps, not_called_keeps}
 use Rattle.mlt_manager.proofs.Ended.{abort_begun_keeps, begun_keeps, closed_keeps, committed_keeps}
-use Rattle.mlt_manager.proofs.Keeping.{counted_keeps, same_manager}
+use Rattle.mlt_manager.proofs.Keeping.{same_manager}
 use Rattle.mlt_manager.proofs.Stepped.{step_keeps}
 
 module _ {P : Type 0} (bits_of : P → ℕ → ℕ) (m m' : ManagerFields P) (h : IsManager bits_of m) where

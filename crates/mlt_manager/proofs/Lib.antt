@@ -5,6 +5,7 @@ pub mod Ending
 pub mod Finding
 pub mod Keeping
 pub mod Kept
+pub mod Promises
 pub mod Refusing
 pub mod Stepped
 pub mod Stepping

@@ -1,23 +1,15 @@
 -- A step keeps what is always true of a manager
-use Rattle.std.proofs.Common.{◌≡◌, ℕ, ◌+◌, true, List, [], ◌∷◌, ◌++◌, Option, None, Some, is_some, refl, sym, ap, subst, ◌∙◌, arith}
+use Rattle.std.proofs.Common.{◌≡◌, ℕ, [], ◌∷◌, ◌++◌, Option, Some, refl, sym, ap, subst, ◌∙◌, arith}
 use Rattle.std.specs.FinMap as map
-use Rattle.std.specs.Ordering.{nat_cmp}
 use Rattle.std.specs.Cmp.{nat_cmp_total}
 use Rattle.mlt_page.specs.declared.page.Page.{Page}
-use Rattle.mlt_store.specs.Stores.{page_at}
-use Rattle.mlt_kinds.specs.Bases.{Base, Step, empty_base}
+use Rattle.mlt_kinds.specs.Bases.{Base, Step}
 use Rattle.mlt_kinds.specs.declared.operation.ObjOp.{ObjOp}
 use Rattle.mlt_kinds.specs.declared.operation.ObjReply.{ObjReply}
-use Rattle.mlt_order.specs.Histories.{IsHistory}
-use Rattle.mlt_history.specs.Entries.{entries_of}
-use Rattle.mlt_trace.specs.declared.item.TraceItem.{TraceItem}
 use Rattle.mlt_trace.specs.declared.item.TraceItem.TheVariants as trace
-use Rattle.mlt_subtx.specs.Images.{Images}
 use Rattle.mlt_running.specs.CleanPages.{RunningImages, clean_pages}
-use Rattle.mlt_running.specs.Running.{clean_of}
-use Rattle.mlt_hash.specs.Walks.{Basis, basis_by}
+use Rattle.mlt_hash.specs.Walks.{basis_by}
 use Rattle.mlt_operation.specs.Operating.{OperationFields}
-use Rattle.mlt_operation.specs.declared.request.Request.{Request}
 use Rattle.mlt_operation.specs.declared.request.Request.TheVariants.{Do}
 use Rattle.mlt_meeting.specs.Worlds.{basis_of}
 use Rattle.mlt_meeting.proofs.Fixed.{history_fixes}
@@ -27,12 +19,11 @@ use Rattle.mlt_transaction.specs.declared.commons.Commons.{Commons}
 use Rattle.mlt_transaction.specs.declared.transaction.At.{At}
 use Rattle.mlt_transaction.specs.declared.transaction.At.TheVariants as at
 use Rattle.mlt_transaction.specs.declared.transaction.Transaction.{Transaction}
-use Rattle.mlt_transaction.specs.Steps.{EndsBack, Ends, TellsOfPending}
+use Rattle.mlt_transaction.specs.Steps.{EndsBack, Ends}
 use Rattle.mlt_transaction.specs.Transactions.{StepsBack, StepsPending, TellsAt}
 use Rattle.mlt_open.specs.Tables.{Table}
-use Rattle.mlt_invariant.specs.Events.{EndsPending, KeepsClean, KeepsCleanPages, with_end, with_transaction}
-use Rattle.mlt_invariant.specs.Sound.{Fits, IsSound}
-use Rattle.mlt_invariant.specs.States.{State, all_of, images_kept, world_of}
+use Rattle.mlt_invariant.specs.Events.{EndsPending, KeepsCleanPages}
+use Rattle.mlt_invariant.specs.States.{State, images_kept, world_of}
 use Rattle.mlt_invariant.specs.Undoing.{LedBack, TakesLastBack, with_aborted, with_undone}
 use Rattle.mlt_invariant.proofs.Aborting.{aborted_sound}
 use Rattle.mlt_invariant.proofs.Done.{done_sound}
@@ -44,9 +35,8 @@ use Rattle.mlt_invariant.proofs.Tables.{removed_inserted}
 use Rattle.mlt_invariant.proofs.Undoing.{undone_sound}
 use Rattle.mlt_traced.proofs.Items.{done_traced, last_undone_traced, undone_traced}
 use Rattle.mlt_traced.proofs.Stays.{clean_traced}
-use Rattle.mlt_traced.specs.Traced.{IsTraced}
 use Rattle.mlt_manager.specs.Answers.{HasStepped, IsOpenAt, opens_after, txs_after}
-use Rattle.mlt_manager.specs.Bases.{HasBase, HasCleanPages, IsPendingWith, IsStepOfBase, KeepsWhatCounts, LeavesBase, MakesStep, TakesStepBack}
+use Rattle.mlt_manager.specs.Bases.{HasBase, IsPendingWith, KeepsWhatCounts, LeavesBase, MakesStep, TakesStepBack}
 use Rattle.mlt_manager.specs.Managers.{IsManager, ManagerFields, state_of}
 use Rattle.mlt_manager.proofs.Counts.{KeepsCounts, step_counts}
 use Rattle.mlt_manager.proofs.Keeping.{IsStill, changed_keeps, removed_keeps, same_manager}
@@ -78,8 +68,8 @@ module _ {P : Type 0} (bits_of : P → ℕ → ℕ) (m : ManagerFields P) (h : I
       clean = λ clean has. record {
         images = images;
         kept = λ i. (stays_sound now tx before after commons images h.sound was keeps).kept i ∙ sym (ap (λ (t : Table). images_kept (map.get t i)) same_txs);
-        put_back = λ q. has.put_back q ∙ ap (λ (r : RunningImages). page_at (clean_pages r m.commons.pages.store.pages) q) (same_images has.images has.kept)
-            ∙ sym (ap (λ (f : ℕ → Option Page). f q) keeps.clean) ∙ sym (ap (λ (k : Commons). page_at (clean_pages images k.pages.store.pages) q) same_commons);
+        put_back = λ q. has.put_back q ∙ ap (λ (r : RunningImages). map.get (clean_pages r m.commons.pages.store.pages) q) (same_images has.images has.kept)
+            ∙ sym (ap (λ (f : ℕ → Option Page). f q) keeps.clean) ∙ sym (ap (λ (k : Commons). map.get (clean_pages images k.pages.store.pages) q) same_commons);
       };
       items = ap (λ (k : Commons). k.history.items) same_commons ∙ keeps.items;
       held = ap (λ (k : Commons). k.objects.held) same_commons ∙ keeps.held;

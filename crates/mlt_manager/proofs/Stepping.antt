@@ -1,16 +1,14 @@
 -- What a step and a cancel ask of a transaction
-use Rattle.std.proofs.Common.{◌≡◌, ◌≢◌, ◌≤◌, ℕ, ◌+◌, true, length, Option, Some, is_some, unwrap_or, refl, ap, subst, sym, ◌∙◌, arith}
+use Rattle.std.proofs.Common.{◌≡◌, ◌≢◌, ◌≤◌, ℕ, Option, Some, unwrap_or, refl, ap, subst, sym, ◌∙◌, arith}
 use Rattle.std.specs.FinMap as map
 use Rattle.mlt_history.proofs.RoomLaws.{room_within_total}
-use Rattle.mlt_hash.specs.Walks.{Basis, basis_by}
-use Rattle.mlt_store.specs.Stores.{page_at}
-use Rattle.mlt_subtx.specs.Images.{AreThere, Images, image_of}
-use Rattle.mlt_meeting.specs.Worlds.{basis_of}
+use Rattle.mlt_hash.specs.Walks.{basis_by}
+use Rattle.mlt_subtx.specs.Images.{AreThere, Images}
 use Rattle.mlt_transaction.specs.declared.transaction.At.{At}
 use Rattle.mlt_transaction.specs.declared.transaction.At.TheVariants as at
 use Rattle.mlt_transaction.specs.declared.transaction.Transaction.{Transaction}
 use Rattle.mlt_transaction.specs.Transactions.{IsPending, MayStepIn}
-use Rattle.mlt_invariant.specs.States.{images_kept, pending_room, room_of, world_of}
+use Rattle.mlt_invariant.specs.States.{images_kept, pending_room, room_of}
 use Rattle.mlt_invariant.proofs.MaySteps.{may_step}
 use Rattle.std.specs.FinSet as set
 use Rattle.std.specs.Ordering.{nat_cmp}

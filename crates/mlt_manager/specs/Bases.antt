@@ -1,8 +1,8 @@
 -- The base to which the history of a manager leads, its clean pages, and what a step does to them
-use Rattle.std.specs.Prelude.{ℕ, ◌≡◌, List, [], ◌∷◌, ◌++◌, Option, Some}
+use Rattle.std.specs.Prelude.{ℕ, ◌≡◌, List, [], ◌∷◌, ◌++◌, Some}
+use Rattle.std.specs.Ordering.{nat_cmp}
 use Rattle.std.specs.FinMap as map
 use Rattle.mlt_page.specs.declared.page.Page.{Page}
-use Rattle.mlt_store.specs.Stores.{page_at}
 use Rattle.mlt_kinds.specs.Bases.{Base, Step, empty_base}
 use Rattle.mlt_kinds.specs.declared.operation.ObjOp.{ObjOp}
 use Rattle.mlt_kinds.specs.declared.operation.ObjReply.{ObjReply}
@@ -25,14 +25,14 @@ abbrev pub HasBase : {P : Type 0} → ManagerFields P → Base → Type 0
 HasBase m base = IsHistory Step empty_base (entries_of m.commons.history.items) base
 
 -- these pages are clean: those of the store, with the first images that the open transactions keep put back
-pub record HasCleanPages {P : Type 0} (m : ManagerFields P) (clean : ℕ → Option Page) : Type 0 where
+pub record HasCleanPages {P : Type 0} (m : ManagerFields P) (clean : map.FinMap nat_cmp Page) : Type 0 where
   pub images : RunningImages
   pub kept : (i : ℕ) → map.get images i ≡ images_kept (map.get m.txs i)
-  pub put_back : (q : ℕ) → clean q ≡ page_at (clean_pages images m.commons.pages.store.pages) q
+  pub put_back : (q : ℕ) → map.get clean q ≡ map.get (clean_pages images m.commons.pages.store.pages) q
 
 -- what is clean stays clean, and the history and what is held stay
 pub record KeepsWhatCounts {P : Type 0} (old new : ManagerFields P) : Type 0 where
-  pub clean : (clean : ℕ → Option Page) → HasCleanPages old clean → HasCleanPages new clean
+  pub clean : (clean : map.FinMap nat_cmp Page) → HasCleanPages old clean → HasCleanPages new clean
   pub items : new.commons.history.items ≡ old.commons.history.items
   pub held : new.commons.objects.held ≡ old.commons.objects.held
 

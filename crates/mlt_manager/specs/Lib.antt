@@ -3,3 +3,4 @@ pub mod Bases
 pub mod Managers
 pub mod Openings
 pub mod Parts
+pub mod Promises

@@ -4,9 +4,14 @@ ghost use Rattle.std.specs.Prelude.{◌≡◌, IfErr, IfOk};
 ghost use Rattle.mlt_manager.specs.Answers.{AnswersAbort, AnswersBegin, AnswersCall, AnswersCancel, AnswersCommit, AnswersStep, counted};
 ghost use Rattle.mlt_manager.specs.Bases.{LeavesBase};
 ghost use Rattle.mlt_manager.specs.Openings.{IsNew};
+ghost use Rattle.mlt_manager.specs.Promises.{IsCommittedBaseOf, KeepsPromises, PassesTheChecker};
 
 use crate::parts::Parts;
+use mlt_accepted::{history_passes_the_checker, items_fit, placed_items_are_writable};
+use mlt_base::Base;
+use mlt_check::committed_base;
 use mlt_event::Answer;
+use mlt_hash_form::form_is_extendible_hashing;
 use mlt_kinds::ObjOp;
 use mlt_store::Store;
 use mlt_trace::TraceItem;
@@ -136,6 +141,40 @@ impl<P: Pseudo> Manager<P> {
         ensures { result.now ≡ self.now.commons.pages.store }
     {
         &self.parts.commons.pages.store
+    }
+
+    /// The base to which the committed transactions lead, run alone in commit order: what the pages mean, once running
+    /// operations are put back and open transactions are taken back.
+    ///
+    /// # Errors
+    /// `OutOfMemory`, where a growth was refused.
+    pub fn base(&self) -> Result<Base, Refusal>
+        ensures base { IfOk result (λ base. IsCommittedBaseOf self.now base) }
+        ensures refusal { IfErr result (λ refusal. refusal ≡ Refusal.OutOfMemory) }
+    {
+        committed_base(
+            self.parts.commons.alloc,
+            self.parts.commons.history.items(),
+        )
+    }
+
+    /// What is promised of every manager, between any two events.
+    pub fn keeps_its_promises(&self)
+        ensures { KeepsPromises P.bits_of self.now }
+    {
+        // What is always true of the parts is known where they are read.
+        let _parts = &self.parts;
+        form_is_extendible_hashing();
+    }
+
+    /// The text of the history passes the checker of traces, with the committed order and the base of what is committed.
+    /// It goes over the history and changes nothing.
+    pub fn passes_the_checker(&self)
+        ensures { PassesTheChecker self.now }
+    {
+        items_fit(self.parts.commons.history.items());
+        placed_items_are_writable();
+        history_passes_the_checker();
     }
 
     /// How many events there were; it stays at 2^64 - 1.

@@ -1,4 +1,4 @@
-use Rattle.std.proofs.Common.{refl, ap, subst, sym, ◌∙◌}
+use Rattle.std.proofs.Common.{refl}
 use Rattle.std.proofs.lemmas.Result.{err_from_is_err_and}
 use Rattle.mlt_manager.specs.Parts.{fields_of}
 use Rattle.mlt_manager.proofs.Stepping.{may_cancel}

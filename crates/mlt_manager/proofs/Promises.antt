@@ -1,0 +1,77 @@
+-- Every manager keeps its promises
+use Rattle.std.proofs.Common.{◌≡◌, ℕ, List, IfOk, IfErr, Result, refl, sym, subst}
+use Rattle.std.specs.FinMap as map
+use Rattle.std.proofs.lemmas.Result.{IfOk-weaker}
+use Rattle.mlt_types.specs.declared.refusal.Refusal.{Refusal}
+use Rattle.mlt_types.specs.declared.refusal.Refusal.TheVariants as refusal
+use Rattle.mlt_kinds.specs.Bases.{Base, Step, empty_base}
+use Rattle.mlt_order.specs.Interleavings.{UndoneTo}
+use Rattle.mlt_trace.specs.declared.item.TraceItem.{TraceItem}
+use Rattle.std.specs.FinSet as set
+use Rattle.std.specs.Ordering.{nat_cmp}
+use Rattle.mlt_hash_form.specs.File.{FilePages, GivesPseudokeys, HasForm}
+use Rattle.mlt_hash_form.specs.Prefixes.{IsExtendibleHashFile}
+use Rattle.mlt_ghosts.proofs.Transactions.{kept_by_match}
+use Rattle.mlt_running.specs.CleanPages.{clean_pages}
+use Rattle.mlt_check.specs.AcceptedItems.{AreAccepted}
+use Rattle.mlt_accepted.specs.Writable.{AllFit, AreWritable}
+use Rattle.mlt_order.specs.Runs.{IsSerialBase}
+use Rattle.mlt_trace.specs.Items.{trace_text}
+use Rattle.mlt_history.specs.Numbers.{AreBegunInOrder, committed_txs}
+use Rattle.mlt_check.specs.Traces.{ArePlaced, IsAcceptedTrace, told}
+use Rattle.mlt_accepted.proofs.Histories.{serializable}
+use Rattle.mlt_meeting.specs.Worlds.{ledger_of}
+use Rattle.mlt_invariant.specs.States.{world_of}
+use Rattle.mlt_traced.specs.Traced.{IsCommittedBase}
+use Rattle.mlt_traced.proofs.CommittedBases.{only_base, with_base}
+use Rattle.mlt_manager.specs.Managers.{IsManager, ManagerFields, state_of}
+use Rattle.mlt_manager.specs.Promises.{IsCommittedBaseOf, KeepsPromises, PassesTheChecker, lists_by}
+use Rattle.mlt_manager.proofs.Stepped.{same_base}
+
+module _ {P : Type 0} (bits_of : P → ℕ → ℕ) (m : ManagerFields P) (h : IsManager bits_of m) where
+  -- **Every manager keeps its promises.**
+  pub promises_kept : ((bits : ℕ → ℕ) (opens : set.FinSet nat_cmp) (pages : FilePages) (root : ℕ) → GivesPseudokeys bits → HasForm bits pages root → IsExtendibleHashFile bits opens pages root) → KeepsPromises bits_of m
+  promises_kept has_file = record {
+    clean = clean_pages h.images m.commons.pages.store.pages;
+    is_clean = record { images = h.images; kept = h.sound.kept; put_back = λ q. refl };
+    state = h.base;
+    means = h.sound.match.means;
+    serial = serializable m.commons.history.items h.base h.sound.match.history;
+    file = has_file (bits_of m.root.pseudo) m.opens (map.get (clean_pages h.images m.commons.pages.store.pages)) m.root.page h.sound.match.bounded h.sound.match.form;
+    ghosts = kept_by_match (ledger_of (world_of (state_of bits_of m h.images h.base))) h.sound.match.ghosts;
+    begun = h.sound.begun;
+    commits = h.sound.commits;
+  }
+
+  committed_of : (base : Base) → IsCommittedBase (state_of bits_of m h.images h.base) base → IsCommittedBaseOf m base
+  committed_of base c = record {
+    serial = c.serial;
+    undone = λ state leads. subst (λ (b : Base). UndoneTo Step base (lists_by m).transcripts b) (sym (same_base bits_of m h 0 state leads)) c.undone;
+  }
+
+  -- the base of what is committed, as it is read from the items
+  pub base_told : (r : Result Base Refusal) (items : List TraceItem) → items ≡ m.commons.history.items → IfOk r (λ base. AreAccepted items base) → IfOk r (λ base. IsCommittedBaseOf m base)
+  base_told r items is told =
+      IfOk-weaker r (λ base. AreAccepted m.commons.history.items base) (λ base. IsCommittedBaseOf m base)
+      (λ base accepted. committed_of base (only_base (state_of bits_of m h.images h.base) base h.sound accepted))
+      (subst (λ (l : List TraceItem). IfOk r (λ base. AreAccepted l base)) is told)
+
+  pub base_refused : (r : Result Base Refusal) (items : List TraceItem) → items ≡ m.commons.history.items
+      → ((base : Base) → AreAccepted items base → IfErr r (λ reason. reason ≡ refusal.OutOfMemory)) → IfErr r (λ reason. reason ≡ refusal.OutOfMemory)
+  base_refused r items is none =
+      let led = with_base (state_of bits_of m h.images h.base) h.sound h.traced in
+      none led.0 (subst (λ (l : List TraceItem). AreAccepted l led.0) (sym is) led.1)
+
+  -- the text of the history is an accepted trace
+  pub checker_passed : (items : List TraceItem) → items ≡ m.commons.history.items → AllFit items
+      → ((l : List TraceItem) → ArePlaced l → AreBegunInOrder l → AllFit l → AreWritable l)
+      → ((l : List TraceItem) (base : Base) → AreWritable l → ArePlaced l → IsSerialBase Step empty_base (told l).committed base → IsAcceptedTrace (trace_text l) (committed_txs l) base)
+      → PassesTheChecker m
+  checker_passed items is fit writable accepted =
+      let l = m.commons.history.items in
+      let led = with_base (state_of bits_of m h.images h.base) h.sound h.traced in
+      record {
+        base = led.0;
+        accepted = accepted l led.0 (writable l h.traced.placed h.sound.begun (subst AllFit is fit)) h.traced.placed led.1.serial;
+        committed = committed_of led.0 led.2;
+      }

@@ -1,0 +1,66 @@
+-- What is promised of a manager between any two events
+use Rattle.std.specs.Prelude.{ℕ}
+use Rattle.std.specs.Ordering.{nat_cmp}
+use Rattle.std.specs.FinMap as map
+use Rattle.mlt_page.specs.declared.page.Page.{Page}
+use Rattle.mlt_kinds.specs.Bases.{Base, Step, empty_base}
+use Rattle.mlt_kinds.specs.declared.operation.ObjOp.{ObjOp}
+use Rattle.mlt_kinds.specs.declared.operation.ObjReply.{ObjReply}
+use Rattle.mlt_base.specs.Meaning.{Means}
+use Rattle.mlt_order.specs.Histories.{IsCommitOrderSerializable, Lists, lists_of}
+use Rattle.mlt_order.specs.Interleavings.{UndoneTo}
+use Rattle.mlt_order.specs.Runs.{IsSerialBase}
+use Rattle.mlt_history.specs.Entries.{entries_of}
+use Rattle.mlt_history.specs.Numbers.{AreBegunInOrder, AreCounted, committed_txs}
+use Rattle.mlt_hash_form.specs.Prefixes.{IsExtendibleHashFile}
+use Rattle.mlt_hash_form.specs.Records.{live_records}
+use Rattle.mlt_ghosts.specs.Ghosts.{GhostsAreKept}
+use Rattle.mlt_ghosts.specs.Ledgers.{Ledger}
+use Rattle.mlt_trace.specs.Items.{trace_text}
+use Rattle.mlt_check.specs.Traces.{IsAcceptedTrace}
+use Rattle.mlt_meeting.specs.Presences.{standing_of}
+use Rattle.mlt_invariant.specs.States.{undoing_of}
+use Rattle.mlt_manager.specs.Bases.{HasBase, HasCleanPages}
+use Rattle.mlt_manager.specs.Managers.{ManagerFields}
+
+-- what the history tells of: what was committed, in the order of the commits, and what stands of each open transaction
+abbrev pub lists_by : {P : Type 0} → ManagerFields P → Lists (ObjOp × ObjReply)
+lists_by m = lists_of (entries_of m.commons.history.items)
+
+-- what the rule of ghosts is about
+abbrev pub ledger_by : {P : Type 0} → (P → ℕ → ℕ) → ManagerFields P → map.FinMap nat_cmp Page → Ledger
+ledger_by bits_of m clean = record {
+  bits = bits_of m.root.pseudo;
+  root = m.root.page;
+  pages = map.get clean;
+  begun = m.begun;
+  opens = m.opens;
+  undoing = undoing_of m.txs;
+  standing = standing_of (lists_by m).transcripts;
+}
+
+-- The committed transactions, run alone in commit order from the empty base, give exactly the replies that they were told;
+-- and the base so reached is what the clean pages mean, once the operations of open transactions are taken back. The
+-- clean pages are an extendible hash file, in which removals of open transactions have their ghosts.
+pub record KeepsPromises {P : Type 0} (bits_of : P → ℕ → ℕ) (m : ManagerFields P) : Type 0 where
+  pub clean : map.FinMap nat_cmp Page
+  pub is_clean : HasCleanPages m clean
+  pub state : Base
+  pub means : Means (live_records clean) state
+  pub serial : IsCommitOrderSerializable Step empty_base (lists_by m) state
+  pub file : IsExtendibleHashFile (bits_of m.root.pseudo) m.opens (map.get clean) m.root.page
+  pub ghosts : GhostsAreKept (ledger_by bits_of m clean)
+  pub begun : AreBegunInOrder m.commons.history.items
+  pub commits : AreCounted m.commons.history.items
+
+-- the base to which the committed transcripts lead, one after another; it is left when what is open is taken back
+pub record IsCommittedBaseOf {P : Type 0} (m : ManagerFields P) (base : Base) : Type 0 where
+  pub serial : IsSerialBase Step empty_base (lists_by m).committed base
+  pub undone : (state : Base) → HasBase m state → UndoneTo Step base (lists_by m).transcripts state
+
+-- the text of the history is an accepted trace, with the committed order and the base of what is committed
+pub record PassesTheChecker {P : Type 0} (m : ManagerFields P) : Type 0 where
+  pub base : Base
+  pub accepted : IsAcceptedTrace (trace_text m.commons.history.items)
+      (committed_txs m.commons.history.items) base
+  pub committed : IsCommittedBaseOf m base
