@@ -109,7 +109,7 @@ module _ {P : Type 0} (bits_of : P → ℕ → ℕ) (m : ManagerFields P) (h : I
       let ch = none.changes in
       let clean = not_called_clean may.0 may.1 none in (
         same_manager bits_of m' (record m { commons = m'.commons; txs = map.insert m.txs tx ch.after }) (changed_core ch.after ch.is)
-        (changed_keeps bits_of m h tx ch.before ch.after m'.commons ch.was (same_counts m.commons m'.commons none.tells.makes.pages none.tells.makes.items) (still bits_of m h tx ch.before ch.after m'.commons ch.was clean)),
+            (changed_keeps bits_of m h tx ch.before ch.after m'.commons ch.was (same_counts m.commons m'.commons none.tells.makes.pages none.tells.makes.items) (still bits_of m h tx ch.before ch.after m'.commons ch.was clean)),
         keeps_what_counts bits_of m h tx ch.before ch.after m'.commons ch.was m' refl ch.is clean,
       )
 
@@ -120,6 +120,6 @@ module _ {P : Type 0} (bits_of : P → ℕ → ℕ) (m : ManagerFields P) (h : I
       let was_at : ch.before.at ≡ at.Pending o.0 = ap (λ (t : Transaction). t.at) (one_there m.txs tx ch.before there.one ch.was there.there) ∙ o.1 in
       let clean = cancelled_sound (state_of bits_of m h.images h.base) tx o.0 ch.before ch.after m'.commons h.sound ch.was was_at c.tells in (
         same_manager bits_of m' (record m { commons = m'.commons; txs = map.insert m.txs tx ch.after }) (changed_core ch.after ch.is)
-        (changed_keeps bits_of m h tx ch.before ch.after m'.commons ch.was (cancel_counts ch.before ch.after m.commons m'.commons c.tells) (still bits_of m h tx ch.before ch.after m'.commons ch.was clean)),
+            (changed_keeps bits_of m h tx ch.before ch.after m'.commons ch.was (cancel_counts ch.before ch.after m.commons m'.commons c.tells) (still bits_of m h tx ch.before ch.after m'.commons ch.was clean)),
         keeps_what_counts bits_of m h tx ch.before ch.after m'.commons ch.was m' refl ch.is clean,
       )

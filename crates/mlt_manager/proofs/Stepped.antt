@@ -126,10 +126,13 @@ module _ {P : Type 0} (bits_of : P → ℕ → ℕ) (m : ManagerFields P) (h : I
           still k,
           (
             keeps_what_counts (core (answer.Blocked by)) refl refl k,
-            ((ends.op, ends.reply), record {
-              pending = asked_here o ends.op pending_at ends.asked;
-              steps = λ base leads. (there.0, subst (λ (b : Base). Step b (ends.op, ends.reply) there.0) (sym (same_base base leads)) there.1);
-            }),
+            (
+              (ends.op, ends.reply),
+              record {
+                pending = asked_here o ends.op pending_at ends.asked;
+                steps = λ base leads. (there.0, subst (λ (b : Base). Step b (ends.op, ends.reply) there.0) (sym (same_base base leads)) there.1);
+              },
+            ),
           ),
         )
     by_pending o (answer.Done reply) pending_at steps = done o reply (ends_pending o steps.next reply steps.between pending_at steps.now_at steps.leaves steps.tells)
@@ -165,7 +168,7 @@ module _ {P : Type 0} (bits_of : P → ℕ → ℕ) (m : ManagerFields P) (h : I
     aborted inverting takes =
         let led = aborted_sound now tx inverting before after commons h.sound was takes in (
           subst (λ (t : Table). IsStill bits_of (record m { commons = commons; txs = t; opens = opens_after answer.Aborted tx m.opens })) (sym (removed_inserted m.txs tx after))
-          (record { images = map.remove h.images tx; base = led.base; sound = led.sound; traced = last_undone_traced now tx inverting before after commons led.base h.sound h.traced was takes }),
+              (record { images = map.remove h.images tx; base = led.base; sound = led.sound; traced = last_undone_traced now tx inverting before after commons led.base h.sound h.traced was takes }),
           (led.last, led_back answer.Aborted (with_aborted now tx commons) led led.sound.match.history),
         )
 

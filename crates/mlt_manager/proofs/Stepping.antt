@@ -29,7 +29,7 @@ may_step_here bits_of m tx h busy = (
   busy.one,
   busy.there,
   subst (λ (n : ℕ). MayStepIn (basis_by bits_of m.root m.opens n) busy.one m.commons) (sym (h.sound.fits tx busy.one busy.there).number)
-  (may_step (state_of bits_of m h.images h.base) tx busy.one h.sound busy.there (not_idle busy.one.at busy.is_at)),
+      (may_step (state_of bits_of m h.images h.base) tx busy.one h.sound busy.there (not_idle busy.one.at busy.is_at)),
 )
 
 two_for : (a : At) → IsPending a → pending_room a ≡ 2

@@ -79,8 +79,28 @@ manager_code {P = P} pseudo =
     (coded× coded_ℕ (coded× coded_ℕ (coded× coded_ℕ (coded× coded_ℕ (coded× coded_ℕ (coded× coded_ℕ (coded× pseudo
     (coded× commons_row.coded (coded× (map.code coded_ℕ transaction_row.coded) (coded× (set.code coded_ℕ)
     (coded× coded_ℕ (coded× coded_ℕ coded_ℕ))))))))))))
-    (λ m. (m.max_open, (m.max_ids, (m.max_pages, (m.max_ops, (m.root.page, (m.root.max_depth, (m.root.pseudo,
-    (m.commons, (m.txs, (m.opens, (m.begun, (m.commits, m.events)))))))))))))
+    (λ m. (
+      m.max_open,
+      (
+        m.max_ids,
+        (
+          m.max_pages,
+          (
+            m.max_ops,
+            (
+              m.root.page,
+              (
+                m.root.max_depth,
+                (
+                  m.root.pseudo,
+                  (m.commons, (m.txs, (m.opens, (m.begun, (m.commits, m.events))))),
+                ),
+              ),
+            ),
+          ),
+        ),
+      ),
+    ))
     (λ p. record {
       max_open = p.0;
       max_ids = p.1.0;

@@ -152,10 +152,7 @@ impl<P: Pseudo> Manager<P> {
         ensures base { IfOk result (λ base. IsCommittedBaseOf self.now base) }
         ensures refusal { IfErr result (λ refusal. refusal ≡ Refusal.OutOfMemory) }
     {
-        committed_base(
-            self.parts.commons.alloc,
-            self.parts.commons.history.items(),
-        )
+        committed_base(self.parts.commons.alloc, self.parts.commons.history.items())
     }
 
     /// What is promised of every manager, between any two events.

@@ -18,9 +18,11 @@ pub returns : goal.returns
 returns g c =
     let m = fields_of c.args.self.now in
     let bits = g.P.Pseudo.bits_of in
-    record { answers = elim c.match-answer.branch [
-      | in-Aborted w ↦ subst (λ p. HasStepped bits m (fields_of p) c.args.tx c.step-answer.result) (sym w.self-is)
-          (stepped_last bits m c.args.tx c.step-answer.new.commons c.step-answer.new.self c.in_ok-busy.ensures.busy w.remove.new.self w.remove-in-Aborted.new.self c.step-answer.result w.in-Aborted.is w.remove.ensures w.remove-in-Aborted.ensures c.step-answer.ensures.steps)
-      | in_default w ↦ subst (λ p. HasStepped bits m (fields_of p) c.args.tx c.step-answer.result) (sym w.self-is)
-          (stepped_on bits m c.args.tx c.step-answer.new.commons c.step-answer.new.self c.in_ok-busy.ensures.busy c.step-answer.result w.in_default.not-Aborted c.step-answer.ensures.steps)
-    ] }
+    record {
+      answers = elim c.match-answer.branch [
+        | in-Aborted w ↦ subst (λ p. HasStepped bits m (fields_of p) c.args.tx c.step-answer.result) (sym w.self-is)
+            (stepped_last bits m c.args.tx c.step-answer.new.commons c.step-answer.new.self c.in_ok-busy.ensures.busy w.remove.new.self w.remove-in-Aborted.new.self c.step-answer.result w.in-Aborted.is w.remove.ensures w.remove-in-Aborted.ensures c.step-answer.ensures.steps)
+        | in_default w ↦ subst (λ p. HasStepped bits m (fields_of p) c.args.tx c.step-answer.result) (sym w.self-is)
+            (stepped_on bits m c.args.tx c.step-answer.new.commons c.step-answer.new.self c.in_ok-busy.ensures.busy c.step-answer.result w.in_default.not-Aborted c.step-answer.ensures.steps)
+      ];
+    }
