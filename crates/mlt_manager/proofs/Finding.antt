@@ -8,6 +8,7 @@ use Rattle.mlt_transaction.specs.declared.transaction.Transaction.{Transaction}
 use Rattle.mlt_transaction.specs.Transactions.{IsPending}
 use Rattle.mlt_manager.specs.Answers.{IsBusy, IsIdle, IsIdleWith, IsOpenAt, IsUndoing}
 use Rattle.mlt_open.specs.Tables.{Table}
+use Rattle.mlt_manager.specs.Undoings.{IsNotUndoing}
 
 -- one that was found is open at what it is at
 pub open_at : (txs : Table) (tx : ℕ) (got : Option (Bor Transaction)) (one : Bor Transaction) (where_at : At) (Is : At → Type 0)
@@ -32,3 +33,14 @@ pending_is_busy txs tx h = record { one = h.one; there = h.there; is_at = busy_i
 
 pub undoing_is_busy : (txs : Table) (tx : ℕ) → IsOpenAt txs tx IsUndoing → IsOpenAt txs tx IsBusy
 undoing_is_busy txs tx h = record { one = h.one; there = h.there; is_at = busy_if_undoing h.one.at h.is_at }
+
+not_undoing_if : (a : At) → IsPending a → IsNotUndoing a
+not_undoing_if at.Idle none = absurd none
+not_undoing_if (at.Pending o) is = tt
+not_undoing_if (at.Undoing inverting) none = absurd none
+
+pub pending_is_not_undoing : (txs : Table) (tx : ℕ) → IsOpenAt txs tx IsPending → IsOpenAt txs tx IsNotUndoing
+pending_is_not_undoing txs tx h = record { one = h.one; there = h.there; is_at = not_undoing_if h.one.at h.is_at }
+
+pub idle_is_not_undoing : (txs : Table) (tx count : ℕ) → IsIdleWith txs tx count → IsOpenAt txs tx IsNotUndoing
+idle_is_not_undoing txs tx count h = record { one = h.one; there = h.there; is_at = subst IsNotUndoing (sym h.idle) tt }

@@ -24,7 +24,9 @@ use Rattle.mlt_manager.specs.Openings.{IsNew}
 use Rattle.mlt_manager.proofs.Called.{called_keeps, cancelled_keeps, not_called_keeps}
 use Rattle.mlt_manager.proofs.Ended.{abort_begun_keeps, begun_keeps, closed_keeps, committed_keeps}
 use Rattle.mlt_manager.proofs.Keeping.{same_manager}
+use Rattle.mlt_manager.specs.Undoings.{AnswersWholeUndo}
 use Rattle.mlt_manager.proofs.Stepped.{step_keeps}
+use Rattle.mlt_manager.proofs.UndoingAll.{undoing_keeps}
 
 module _ {P : Type 0} (bits_of : P → ℕ → ℕ) (m m' : ManagerFields P) (h : IsManager bits_of m) where
   pub begin_kept : (r : Result ℕ Refusal) → AnswersBegin m m' r → IsManager bits_of m'
@@ -43,6 +45,10 @@ module _ {P : Type 0} (bits_of : P → ℕ → ℕ) (m m' : ManagerFields P) (h 
   pub step_leads : (tx : ℕ) (r : Result Answer Refusal) → AnswersStep bits_of m m' tx r → IfOk r (λ told. LeavesBase told m m' tx)
   step_leads tx (Ok told) a = (step_keeps bits_of m h tx m' told a).1
   step_leads tx (Err reason) a = tt
+
+  pub whole_undo_kept : (tx : ℕ) (r : Result Answer Refusal) → AnswersWholeUndo bits_of m m' tx r → IsManager bits_of m'
+  whole_undo_kept tx (Ok told) a = undoing_keeps bits_of m m' tx told h a.1
+  whole_undo_kept tx (Err reason) a = same_manager bits_of m' m a.1 h
 
   pub cancel_kept : (tx : ℕ) (r : Result (Unit {0}) Refusal) → AnswersCancel m m' tx r → IsManager bits_of m'
   cancel_kept tx (Ok done) a = (cancelled_keeps bits_of m h tx m' a.2 a.0 a.1).0

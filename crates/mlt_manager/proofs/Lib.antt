@@ -9,3 +9,4 @@ pub mod Promises
 pub mod Refusing
 pub mod Stepped
 pub mod Stepping
+pub mod UndoingAll

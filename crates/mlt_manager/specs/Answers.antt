@@ -86,7 +86,8 @@ pub record HasBegun {P : Type 0} (old new : ManagerFields P) (tx : ℕ) : Type 0
     begun = tx;
   }
 
-abbrev pub AnswersBegin : {P : Type 0} → ManagerFields P → ManagerFields P → Result ℕ Refusal → Type 0
+abbrev pub AnswersBegin : {P : Type 0} → ManagerFields P → ManagerFields P → Result ℕ Refusal
+    → Type 0
 AnswersBegin old new (Ok tx) = HasBegun old new tx
 AnswersBegin old new (Err reason) = IsCauseAtBegin reason old × (new ≡ old)
 
@@ -117,8 +118,8 @@ pub record HasCalled {P : Type 0} (old new : ManagerFields P) (tx : ℕ) (op : O
   pub calls : CallsOne tx op old.txs new.txs old.commons new.commons
   pub rest : ChangesOpen old new
 
-abbrev pub AnswersCall : {P : Type 0} → ManagerFields P → ManagerFields P → ℕ → ObjOp → Result (Unit {0}) Refusal
-    → Type 0
+abbrev pub AnswersCall : {P : Type 0} → ManagerFields P → ManagerFields P → ℕ → ObjOp
+    → Result (Unit {0}) Refusal → Type 0
 AnswersCall old new tx op (Ok done) = HasCalled old new tx op
 AnswersCall old new tx op (Err refusal.OutOfMemory) =
     MayCall old tx × CallsNone tx old.txs new.txs old.commons new.commons × ChangesOpen old new
@@ -134,8 +135,8 @@ opens_after answer.Aborted tx opens = set.remove opens tx
 opens_after other tx opens = opens
 
 -- a transaction takes a step, and is open no more if it is told `Aborted`
-pub record HasStepped {P : Type 0} (bits_of : P → ℕ → ℕ) (old new : ManagerFields P) (tx : ℕ) (told : Answer)
-    : Type 0 where
+pub record HasStepped {P : Type 0} (bits_of : P → ℕ → ℕ) (old new : ManagerFields P) (tx : ℕ)
+    (told : Answer) : Type 0 where
   pub busy : IsOpenAt old.txs tx IsBusy
   pub txs : Table
   pub steps : StepsOne bits_of old.root old.opens tx old.txs txs old.commons new.commons told
@@ -151,8 +152,8 @@ IsCauseAtStep refusal.NoSuchTx txs tx = IsNotOpen txs tx
 IsCauseAtStep refusal.NotRunning txs tx = IsOpenAt txs tx IsIdle
 IsCauseAtStep other txs tx = ⊥
 
-abbrev pub AnswersStep : {P : Type 0} → (P → ℕ → ℕ) → ManagerFields P → ManagerFields P → ℕ → Result Answer Refusal
-    → Type 0
+abbrev pub AnswersStep : {P : Type 0} → (P → ℕ → ℕ) → ManagerFields P → ManagerFields P → ℕ
+    → Result Answer Refusal → Type 0
 AnswersStep bits_of old new tx (Ok told) = HasStepped bits_of old new tx told
 AnswersStep bits_of old new tx (Err reason) = IsCauseAtStep reason old.txs tx × (new ≡ old)
 
@@ -163,13 +164,16 @@ IsCauseAtCancel refusal.Undoing txs tx = IsOpenAt txs tx IsUndoing
 IsCauseAtCancel refusal.NotRunning txs tx = IsOpenAt txs tx IsIdle
 IsCauseAtCancel other txs tx = ⊥
 
-abbrev pub AnswersCancel : {P : Type 0} → ManagerFields P → ManagerFields P → ℕ → Result (Unit {0}) Refusal → Type 0
+abbrev pub AnswersCancel : {P : Type 0} → ManagerFields P → ManagerFields P → ℕ
+    → Result (Unit {0}) Refusal → Type 0
 AnswersCancel old new tx (Ok done) =
-    IsOpenAt old.txs tx IsPending × CancelsOne tx old.txs new.txs old.commons new.commons × ChangesOpen old new
+    IsOpenAt old.txs tx IsPending × CancelsOne tx old.txs new.txs old.commons new.commons
+    × ChangesOpen old new
 AnswersCancel old new tx (Err reason) = IsCauseAtCancel reason old.txs tx × (new ≡ old)
 
 -- A transaction at nothing is open no more: it gives up what it holds and reserves, and the history tells it by this item.
-pub record HasEnded {P : Type 0} (old new : ManagerFields P) (tx : ℕ) (item : TraceItem) : Type 0 where
+pub record HasEnded {P : Type 0} (old new : ManagerFields P) (tx : ℕ) (item : TraceItem)
+    : Type 0 where
   pub one : Transaction
   pub there : map.get old.txs tx ≡ Some one
   pub idle : one.at ≡ at.Idle
@@ -192,7 +196,8 @@ pub record HasCommitted {P : Type 0} (old new : ManagerFields P) (tx number : �
     commits = number;
   }
 
-abbrev pub AnswersCommit : {P : Type 0} → ManagerFields P → ManagerFields P → ℕ → Result ℕ Refusal → Type 0
+abbrev pub AnswersCommit : {P : Type 0} → ManagerFields P → ManagerFields P → ℕ → Result ℕ Refusal
+    → Type 0
 AnswersCommit old new tx (Ok number) = HasCommitted old new tx number
 AnswersCommit old new tx (Err reason) = IsNotIdle reason old.txs tx × (new ≡ old)
 
@@ -214,7 +219,8 @@ pub record HasBegunAbort {P : Type 0} (old new : ManagerFields P) (tx : ℕ) : T
   pub puts : PutsOneAt tx (at.Undoing None) old.txs new.txs
   pub rest : new ≡ record old { txs = new.txs }
 
-abbrev pub AnswersAbort : {P : Type 0} → ManagerFields P → ManagerFields P → ℕ → Result Bool Refusal → Type 0
+abbrev pub AnswersAbort : {P : Type 0} → ManagerFields P → ManagerFields P → ℕ
+    → Result Bool Refusal → Type 0
 AnswersAbort old new tx (Ok true) = HasClosed old new tx
 AnswersAbort old new tx (Ok false) = HasBegunAbort old new tx
 AnswersAbort old new tx (Err reason) = IsNotIdle reason old.txs tx × (new ≡ old)

@@ -25,10 +25,12 @@ abbrev pub HasBase : {P : Type 0} → ManagerFields P → Base → Type 0
 HasBase m base = IsHistory Step empty_base (entries_of m.commons.history.items) base
 
 -- these pages are clean: those of the store, with the first images that the open transactions keep put back
-pub record HasCleanPages {P : Type 0} (m : ManagerFields P) (clean : map.FinMap nat_cmp Page) : Type 0 where
+pub record HasCleanPages {P : Type 0} (m : ManagerFields P) (clean : map.FinMap nat_cmp Page)
+    : Type 0 where
   pub images : RunningImages
   pub kept : (i : ℕ) → map.get images i ≡ images_kept (map.get m.txs i)
-  pub put_back : (q : ℕ) → map.get clean q ≡ map.get (clean_pages images m.commons.pages.store.pages) q
+  pub put_back : (q : ℕ)
+      → map.get clean q ≡ map.get (clean_pages images m.commons.pages.store.pages) q
 
 -- what is clean stays clean, and the history and what is held stay
 pub record KeepsWhatCounts {P : Type 0} (old new : ManagerFields P) : Type 0 where
@@ -42,23 +44,28 @@ IsPendingWith op (at.Pending o) = o.request ≡ Do op
 IsPendingWith op other = ⊥
 
 -- the pending operation is a step of the base with this reply
-pub record IsStepOfBase {P : Type 0} (m : ManagerFields P) (tx : ℕ) (item : ObjOp × ObjReply) : Type 0 where
+pub record IsStepOfBase {P : Type 0} (m : ManagerFields P) (tx : ℕ) (item : ObjOp × ObjReply)
+    : Type 0 where
   pub pending : IsOpenAt m.txs tx (IsPendingWith item.0)
   pub steps : (base : Base) → HasBase m base → (next : Base) × Step base item next
 
 -- it is done: the base has made its step, and the history has it
-pub record MakesStep {P : Type 0} (old new : ManagerFields P) (tx : ℕ) (item : ObjOp × ObjReply) : Type 0 where
+pub record MakesStep {P : Type 0} (old new : ManagerFields P) (tx : ℕ) (item : ObjOp × ObjReply)
+    : Type 0 where
   pub pending : IsOpenAt old.txs tx (IsPendingWith item.0)
   pub items : new.commons.history.items ≡ old.commons.history.items ++ trace.Op tx item ∷ []
-  pub leads : (base : Base) → HasBase old base → (next : Base) × Step base item next × HasBase new next
+  pub leads : (base : Base) → HasBase old base
+      → (next : Base) × Step base item next × HasBase new next
 
 -- the last operation of the transaction is taken back: the base is one from which it leads to what it was
-pub record TakesStepBack {P : Type 0} (old new : ManagerFields P) (tx : ℕ) (last : ObjOp × ObjReply) : Type 0 where
+pub record TakesStepBack {P : Type 0} (old new : ManagerFields P) (tx : ℕ) (last : ObjOp × ObjReply)
+    : Type 0 where
   pub one : Transaction
   pub there : map.get old.txs tx ≡ Some one
   pub front : List (ObjOp × ObjReply)
   pub entries : one.undo.entries ≡ front ++ last ∷ []
-  pub leads : (base : Base) → HasBase old base → (before : Base) × Step before last base × HasBase new before
+  pub leads : (base : Base) → HasBase old base
+      → (before : Base) × Step before last base × HasBase new before
 
 -- what a step that was told this does to the base, the clean pages and the history
 abbrev pub LeavesBase : {P : Type 0} → Answer → ManagerFields P → ManagerFields P → ℕ → Type 0

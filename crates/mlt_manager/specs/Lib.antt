@@ -4,3 +4,4 @@ pub mod Managers
 pub mod Openings
 pub mod Parts
 pub mod Promises
+pub mod Undoings

@@ -75,10 +75,12 @@ pub record IsManager {P : Type 0} (bits_of : P → ℕ → ℕ) (m : ManagerFiel
 -- a manager is stored as the tuple of its parts
 abbrev pub manager_code : {P : Type 0} → Coded P → Coded (ManagerFields P)
 manager_code {P = P} pseudo =
-    code_by (ℕ × (ℕ × (ℕ × (ℕ × (ℕ × (ℕ × (P × (Commons × (Table × (set.FinSet nat_cmp × (ℕ × (ℕ × ℕ))))))))))))
-    (coded× coded_ℕ (coded× coded_ℕ (coded× coded_ℕ (coded× coded_ℕ (coded× coded_ℕ (coded× coded_ℕ (coded× pseudo
-    (coded× commons_row.coded (coded× (map.code coded_ℕ transaction_row.coded) (coded× (set.code coded_ℕ)
-    (coded× coded_ℕ (coded× coded_ℕ coded_ℕ))))))))))))
+    code_by (ℕ × (ℕ × (ℕ × (ℕ × (ℕ × (ℕ × (P
+    × (Commons × (Table × (set.FinSet nat_cmp × (ℕ × (ℕ × ℕ))))))))))))
+    (coded× coded_ℕ (coded× coded_ℕ (coded× coded_ℕ (coded× coded_ℕ
+    (coded× coded_ℕ (coded× coded_ℕ (coded× pseudo
+    (coded× commons_row.coded (coded× (map.code coded_ℕ transaction_row.coded)
+    (coded× (set.code coded_ℕ) (coded× coded_ℕ (coded× coded_ℕ coded_ℕ))))))))))))
     (λ m. (
       m.max_open,
       (

@@ -28,7 +28,8 @@ abbrev pub lists_by : {P : Type 0} → ManagerFields P → Lists (ObjOp × ObjRe
 lists_by m = lists_of (entries_of m.commons.history.items)
 
 -- what the rule of ghosts is about
-abbrev pub ledger_by : {P : Type 0} → (P → ℕ → ℕ) → ManagerFields P → map.FinMap nat_cmp Page → Ledger
+abbrev pub ledger_by : {P : Type 0} → (P → ℕ → ℕ) → ManagerFields P → map.FinMap nat_cmp Page
+    → Ledger
 ledger_by bits_of m clean = record {
   bits = bits_of m.root.pseudo;
   root = m.root.page;

@@ -4,6 +4,7 @@ ghost use Rattle.std.specs.Prelude.{◌≡◌, IfErr, IfOk};
 ghost use Rattle.mlt_manager.specs.Answers.{AnswersAbort, AnswersBegin, AnswersCall, AnswersCancel, AnswersCommit, AnswersStep, counted};
 ghost use Rattle.mlt_manager.specs.Bases.{LeavesBase};
 ghost use Rattle.mlt_manager.specs.Openings.{IsNew};
+ghost use Rattle.mlt_manager.specs.Undoings.{AnswersWholeUndo};
 ghost use Rattle.mlt_manager.specs.Promises.{IsCommittedBaseOf, KeepsPromises, PassesTheChecker};
 
 use crate::parts::Parts;
@@ -127,6 +128,17 @@ impl<P: Pseudo> Manager<P> {
     {
         self.parts.count();
         self.parts.abort(tx)
+    }
+
+    /// The steps of an abort, up to its end or to one that waits, as one event. It takes no memory.
+    ///
+    /// # Errors
+    /// `NoSuchTx`, where no transaction of this number is open; `NotRunning`, where its abort has not begun.
+    pub fn whole_undo(&mut self, tx: TxId) -> Result<Answer, Refusal>
+        ensures answers { AnswersWholeUndo P.bits_of (counted self.old) self.new tx result }
+    {
+        self.parts.count();
+        self.parts.whole_undo(tx)
     }
 
     /// What transactions did, in order.

@@ -1,7 +1,8 @@
 //! The parts of a manager, and what each event does to them.
 
 ghost use Rattle.std.specs.Prelude.{◌≡◌, ◌≤◌, ◌+◌, IfErr, IfOk, OnOk};
-ghost use Rattle.mlt_manager.specs.Answers.{AnswersAbort, AnswersBegin, AnswersCall, AnswersCancel, AnswersCommit, AnswersStep, HasEnded, IsBusy, IsCauseAtCancel, IsCauseAtStep, IsIdleWith, IsNotIdle, IsOpenAt, counted};
+ghost use Rattle.mlt_manager.specs.Answers.{AnswersAbort, AnswersBegin, AnswersCall, AnswersCancel, AnswersCommit, AnswersStep, HasEnded, HasStepped, IsBusy, IsCauseAtCancel, IsCauseAtStep, IsIdleWith, IsNotIdle, IsOpenAt, IsUndoing, counted};
+ghost use Rattle.mlt_manager.specs.Undoings.{AnswersWholeUndo, IsCauseAtUndo, StepsBackUpTo};
 ghost use Rattle.mlt_manager.specs.Openings.{IsNew};
 ghost use Rattle.mlt_transaction.specs.Transactions.{IsPending};
 ghost use Rattle.mlt_manager.specs.Parts.{IsStageOf, fields_of};
@@ -145,6 +146,22 @@ impl<P: Pseudo> Parts<P> {
         }
     }
 
+    /// That the abort of a transaction has begun.
+    ///
+    /// # Errors
+    /// `NoSuchTx`, where it is not open; `NotRunning`, where its abort has not begun.
+    fn undoing(&self, tx: TxId) -> Result<(), Refusal>
+        ensures undoing { OnOk result (IsOpenAt self.now.txs tx IsUndoing) }
+        ensures refusal { IfErr result (λ reason. IsCauseAtUndo reason self.now.txs tx) }
+    {
+        match self.stage(tx) {
+            Stage::NotOpen => Err(Refusal::NoSuchTx),
+            Stage::Idle(_) => Err(Refusal::NotRunning),
+            Stage::Pending => Err(Refusal::NotRunning),
+            Stage::Undoing => Ok(()),
+        }
+    }
+
     pub(crate) fn begin(&mut self) -> Result<TxId, Refusal>
         requires sound { IsManager P.bits_of (fields_of self.old) }
         ensures answers { AnswersBegin (fields_of self.old) (fields_of self.new) result }
@@ -183,6 +200,15 @@ impl<P: Pseudo> Parts<P> {
         ensures answers { AnswersStep P.bits_of (fields_of self.old) (fields_of self.new) tx result }
     {
         self.busy(tx)?;
+        Ok(self.step_open(tx))
+    }
+
+    /// One step of a transaction that is not at nothing. One that is told `Aborted` is open no more.
+    fn step_open(&mut self, tx: TxId) -> Answer
+        requires sound { IsManager P.bits_of (fields_of self.old) }
+        requires busy { IsOpenAt self.old.txs tx IsBusy }
+        ensures steps { HasStepped P.bits_of (fields_of self.old) (fields_of self.new) tx result }
+    {
         let answer = self
             .txs
             .step(tx, &mut self.commons, &self.root, &self.opens);
@@ -190,7 +216,29 @@ impl<P: Pseudo> Parts<P> {
             self.txs.remove(tx);
             self.opens.remove(tx);
         }
-        Ok(answer)
+        answer
+    }
+
+    pub(crate) fn whole_undo(&mut self, tx: TxId) -> Result<Answer, Refusal>
+        requires sound { IsManager P.bits_of (fields_of self.old) }
+        ensures answers { AnswersWholeUndo P.bits_of (fields_of self.old) (fields_of self.new) tx result }
+    {
+        self.undoing(tx)?;
+        Ok(self.undo_all(tx))
+    }
+
+    /// The steps of an abort, up to one that waits or is the last.
+    fn undo_all(&mut self, tx: TxId) -> Answer
+        requires sound { IsManager P.bits_of (fields_of self.old) }
+        requires undoing { IsOpenAt self.old.txs tx IsUndoing }
+        ensures steps { StepsBackUpTo P.bits_of (fields_of self.old) (fields_of self.new) tx result }
+    {
+        loop {
+            match self.step_open(tx) {
+                Answer::Going | Answer::Undone => (),
+                answer => return answer,
+            }
+        }
     }
 
     pub(crate) fn cancel(&mut self, tx: TxId) -> Result<(), Refusal>
@@ -231,7 +279,11 @@ impl<P: Pseudo> Parts<P> {
         requires idle { IsIdleWith self.old.txs tx count }
         requires room { 1 + count ≤ self.old.commons.history.room }
         ensures ends { HasEnded (fields_of self.old) (fields_of self.new) tx item }
-        ensures rest { self.new ≡ record self.old { commons = self.new.commons; txs = self.new.txs; opens = self.new.opens } }
+        ensures rest { self.new ≡ record self.old {
+          commons = self.new.commons;
+          txs = self.new.txs;
+          opens = self.new.opens;
+        } }
     {
         self.commons.history.push(item);
         self.commons.history.release(count);

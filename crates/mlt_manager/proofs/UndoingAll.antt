@@ -1,0 +1,177 @@
+-- The steps of an abort, one after another, come to an end
+use Rattle.std.proofs.Common.{◌≡◌, ◌<◌, ℕ, ◌+◌, ◌*◌, List, [], ◌∷◌, ◌++◌, length, Option, None, Some, refl, sym, ap, subst, ◌∙◌, ◌⊎◌, inl, inr, arith}
+use Rattle.std.specs.FinMap as map
+use Rattle.std.proofs.lemmas.List.{length-append}
+use Rattle.mlt_undo.specs.Undo.{Undo}
+use Rattle.mlt_held.specs.Moments.{moment}
+use Rattle.mlt_held.specs.Views.{view_of}
+use Rattle.mlt_hash.specs.Walks.{Basis, basis_by}
+use Rattle.mlt_operation.specs.Operating.{OperationFields, steps_left}
+use Rattle.mlt_event.specs.declared.answer.Answer.{Answer}
+use Rattle.mlt_event.specs.declared.answer.Answer.TheVariants as answer
+use Rattle.mlt_transaction.specs.declared.commons.Commons.{Commons}
+use Rattle.mlt_transaction.specs.declared.transaction.At.{At}
+use Rattle.mlt_transaction.specs.declared.transaction.At.TheVariants as at
+use Rattle.mlt_transaction.specs.declared.transaction.Transaction.{Transaction}
+use Rattle.mlt_transaction.specs.Steps.{TellsOfBack}
+use Rattle.mlt_transaction.specs.Transactions.{StepsBack, TellsAt}
+use Rattle.mlt_open.specs.Tables.{Table}
+use Rattle.mlt_invariant.proofs.Tables.{inserted_here}
+use Rattle.mlt_manager.specs.Answers.{HasStepped, IsOpenAt, IsUndoing, txs_after}
+use Rattle.mlt_manager.specs.Managers.{IsManager, ManagerFields}
+use Rattle.mlt_manager.specs.Undoings.{GoesOnBack, StepsBackBy, StepsBackUpTo, StopsBack}
+use Rattle.mlt_manager.proofs.Called.{one_there}
+use Rattle.mlt_manager.proofs.Stepped.{step_keeps}
+
+-- how many steps an abort still takes at most, those that wait aside: six for each operation, but for what is done of the
+-- inverse that runs
+abbrev pub left_of : Option OperationFields → ℕ → Transaction → Commons → ℕ
+left_of None root t commons = 5
+left_of (Some o) root t commons = steps_left root o (view_of (moment t.subtx commons.pages))
+
+abbrev pub left_at : At → ℕ → Transaction → Commons → ℕ
+left_at (at.Undoing inverting) root t commons = 6 * length t.undo.entries + left_of inverting root t commons
+left_at other root t commons = 0
+
+abbrev pub left_for : Option Transaction → ℕ → Commons → ℕ
+left_for None root commons = 0
+left_for (Some t) root commons = left_at t.at root t commons
+
+abbrev pub back_left : {P : Type 0} → ManagerFields P → ℕ → ℕ
+back_left m tx = left_for (map.get m.txs tx) m.root.page m.commons
+
+-- the abort is under way, after these steps
+pub record IsBack {P : Type 0} (bits_of : P → ℕ → ℕ) (old m : ManagerFields P) (tx : ℕ) : Type 0 where
+  pub manager : IsManager bits_of m
+  pub undoing : IsOpenAt m.txs tx IsUndoing
+  pub steps : List (ManagerFields P × Answer)
+  pub goes : StepsBackBy bits_of old steps m tx
+
+one_more : {P : Type 0} (bits_of : P → ℕ → ℕ) (old m m' : ManagerFields P) (tx : ℕ) (told : Answer) (steps : List (ManagerFields P × Answer))
+    → StepsBackBy bits_of old steps m tx → HasStepped bits_of m m' tx told → GoesOnBack told → StepsBackBy bits_of old (steps ++ (m', told) ∷ []) m' tx
+one_more bits_of old m m' tx told [] same step goes = (subst (λ (n : ManagerFields _). HasStepped bits_of n m' tx told) same step, goes, refl)
+one_more bits_of old m m' tx told (one ∷ more) (first, on, rest) step goes = (first, on, one_more bits_of one.0 m m' tx told more rest step goes)
+
+undoing_of_at : (a : At) → IsUndoing a → (inverting : Option OperationFields) × (a ≡ at.Undoing inverting)
+undoing_of_at at.Idle none = absurd none
+undoing_of_at (at.Pending o) none = absurd none
+undoing_of_at (at.Undoing inverting) is = (inverting, refl)
+
+-- one step of an abort
+module _ {P : Type 0} (bits_of : P → ℕ → ℕ) (m m' : ManagerFields P) (tx : ℕ) (told : Answer) (undoing : IsOpenAt m.txs tx IsUndoing) (d : HasStepped bits_of m m' tx told) where
+  abbrev before : Transaction
+  before = d.steps.changes.before
+
+  abbrev after : Transaction
+  after = d.steps.changes.after
+
+  inverse_at : (inverting : Option OperationFields) × (before.at ≡ at.Undoing inverting)
+  inverse_at =
+      let u = undoing_of_at undoing.one.at undoing.is_at in
+      (u.0, ap (λ (t : Transaction). t.at) (one_there m.txs tx d.steps.changes.before undoing.one d.steps.changes.was undoing.there) ∙ u.1)
+
+  basis_here : Basis
+  basis_here = basis_by bits_of m.root m.opens d.steps.changes.before.subtx.tx
+
+  steps_back : StepsBack (basis_by bits_of m.root m.opens d.steps.changes.before.subtx.tx) inverse_at.0 d.steps.changes.before d.steps.changes.after m.commons m'.commons told
+  steps_back =
+      subst (λ (a : At). TellsAt a (basis_by bits_of m.root m.opens d.steps.changes.before.subtx.tx) d.steps.changes.before d.steps.changes.after m.commons m'.commons told) inverse_at.1 d.steps.tells
+
+  was_left : back_left m tx ≡ 6 * length d.steps.changes.before.undo.entries + left_of inverse_at.0 m.root.page d.steps.changes.before m.commons
+  was_left = ap (λ (o : Option Transaction). left_for o m.root.page m.commons) d.steps.changes.was ∙ ap (λ (a : At). left_at a m.root.page d.steps.changes.before m.commons) inverse_at.1
+
+  -- where it goes on, it is there still
+  on_txs : (t : Answer) → GoesOnBack t → txs_after t tx d.txs ≡ d.txs
+  on_txs answer.Going goes = refl
+  on_txs answer.Undone goes = refl
+  on_txs (answer.Waiting page by) none = absurd none
+  on_txs (answer.Blocked by) none = absurd none
+  on_txs (answer.Done reply) none = absurd none
+  on_txs answer.Aborted none = absurd none
+  on_txs (answer.Refused reason) none = absurd none
+
+  there_now : GoesOnBack told → map.get m'.txs tx ≡ Some d.steps.changes.after
+  there_now goes =
+      ap (λ (n : ManagerFields P). map.get n.txs tx) d.rest ∙ ap (λ (t : Table). map.get t tx) (on_txs told goes ∙ d.steps.changes.is)
+      ∙ inserted_here m.txs tx d.steps.changes.after
+
+  pub still_undoing : GoesOnBack told → IsOpenAt m'.txs tx IsUndoing
+  still_undoing goes = record { one = d.steps.changes.after; there = there_now goes; is_at = subst IsUndoing (sym steps_back.now_at) tt }
+
+  now_left : GoesOnBack told → back_left m' tx ≡ 6 * length d.steps.changes.after.undo.entries + left_of steps_back.next m.root.page d.steps.changes.after m'.commons
+  now_left goes =
+      ap (λ (o : Option Transaction). left_for o m'.root.page m'.commons) (there_now goes) ∙ ap (λ (a : At). left_at a m'.root.page d.steps.changes.after m'.commons) steps_back.now_at
+      ∙ ap (λ (n : ManagerFields P). 6 * length d.steps.changes.after.undo.entries + left_of steps_back.next n.root.page d.steps.changes.after m'.commons) d.rest
+
+  fewer_by : (inverting next : Option OperationFields) (t : Answer) → TellsOfBack (basis_by bits_of m.root m.opens d.steps.changes.before.subtx.tx) inverting next d.steps.changes.before.subtx d.steps.changes.after.subtx d.steps.changes.before.undo d.steps.changes.after.undo m.commons m'.commons t
+      → GoesOnBack t → 6 * length d.steps.changes.after.undo.entries + left_of next m.root.page d.steps.changes.after m'.commons < 6 * length d.steps.changes.before.undo.entries + left_of inverting m.root.page d.steps.changes.before m.commons
+  fewer_by None next answer.Going s goes =
+      let same : length d.steps.changes.after.undo.entries ≡ length d.steps.changes.before.undo.entries = ap (λ (u : Undo). length u.entries) s.rest.undo_kept in
+      let fewer = s.tells.fewer in
+      let here : left_of next m.root.page d.steps.changes.after m'.commons ≡ left_of (Some s.after) m.root.page d.steps.changes.after m'.commons = ap (λ (o : Option OperationFields). left_of o m.root.page d.steps.changes.after m'.commons) s.is in
+      omega (arith, same, fewer, here)
+  fewer_by (Some o) next answer.Going s goes =
+      let same : length d.steps.changes.after.undo.entries ≡ length d.steps.changes.before.undo.entries = ap (λ (u : Undo). length u.entries) s.rest.undo_kept in
+      let fewer = s.tells.fewer in
+      let here : left_of next m.root.page d.steps.changes.after m'.commons ≡ left_of (Some s.after) m.root.page d.steps.changes.after m'.commons = ap (λ (o : Option OperationFields). left_of o m.root.page d.steps.changes.after m'.commons) s.is in
+      omega (arith, same, fewer, here)
+  fewer_by inverting next answer.Undone s goes =
+      let off : length d.steps.changes.before.undo.entries ≡ length d.steps.changes.after.undo.entries + 1 = ap length s.takes.off.entries ∙ length-append d.steps.changes.after.undo.entries (s.takes.off.last ∷ []) in
+      let here : left_of next m.root.page d.steps.changes.after m'.commons ≡ 5 = ap (λ (o : Option OperationFields). left_of o m.root.page d.steps.changes.after m'.commons) s.none in
+      omega (arith, off, here)
+  fewer_by inverting next (answer.Waiting page by) s none = absurd none
+  fewer_by inverting next answer.Aborted s none = absurd none
+  fewer_by inverting next (answer.Blocked by) s none = absurd none
+  fewer_by inverting next (answer.Done reply) s none = absurd none
+  fewer_by inverting next (answer.Refused reason) s none = absurd none
+
+  -- **Fewer are left.**
+  pub fewer_left : GoesOnBack told → back_left m' tx < back_left m tx
+  fewer_left goes =
+      let was = was_left in
+      let is = now_left goes in
+      let fewer = fewer_by inverse_at.0 steps_back.next told steps_back.tells goes in
+      omega (arith, was, is, fewer)
+
+  stops_by : (inverting next : Option OperationFields) (t : Answer) → TellsOfBack (basis_by bits_of m.root m.opens d.steps.changes.before.subtx.tx) inverting next d.steps.changes.before.subtx d.steps.changes.after.subtx d.steps.changes.before.undo d.steps.changes.after.undo m.commons m'.commons t
+      → (t ≡ answer.Going → ⊥) → (t ≡ answer.Undone → ⊥) → StopsBack t
+  stops_by inverting next answer.Going s going undone = absurd (going refl)
+  stops_by inverting next answer.Undone s going undone = absurd (undone refl)
+  stops_by inverting next (answer.Waiting page by) s going undone = tt
+  stops_by inverting next answer.Aborted s going undone = tt
+  stops_by inverting next other s going undone = absurd s
+
+  -- **An abort that does not go on waits, or is at its end.**
+  pub stops_here : (told ≡ answer.Going → ⊥) → (told ≡ answer.Undone → ⊥) → StopsBack told
+  stops_here going undone = stops_by inverse_at.0 steps_back.next told steps_back.tells going undone
+
+-- **One more step.**
+pub back_on : {P : Type 0} (bits_of : P → ℕ → ℕ) (old m m' : ManagerFields P) (tx : ℕ) (told : Answer) → IsBack bits_of old m tx → HasStepped bits_of m m' tx told → GoesOnBack told → IsBack bits_of old m' tx
+back_on bits_of old m m' tx told b d goes = record {
+  manager = (step_keeps bits_of m b.manager tx m' told d).0;
+  undoing = still_undoing bits_of m m' tx told b.undoing d goes;
+  steps = b.steps ++ (m', told) ∷ [];
+  goes = one_more bits_of old m m' tx told b.steps b.goes d goes;
+}
+
+pub back_ends : {P : Type 0} (bits_of : P → ℕ → ℕ) (old m m' : ManagerFields P) (tx : ℕ) (told : Answer) → IsBack bits_of old m tx → HasStepped bits_of m m' tx told
+    → (told ≡ answer.Going → ⊥) → (told ≡ answer.Undone → ⊥) → StepsBackUpTo bits_of old m' tx told
+back_ends bits_of old m m' tx told b d going undone = record {
+  steps = b.steps;
+  before = m;
+  goes = b.goes;
+  ends = d;
+  stops = stops_here bits_of m m' tx told b.undoing d going undone;
+}
+
+pub goes_by : (told : Answer) → (told ≡ answer.Going) ⊎ (told ≡ answer.Undone) → GoesOnBack told
+goes_by told (inl is) = subst GoesOnBack (sym is) tt
+goes_by told (inr is) = subst GoesOnBack (sym is) tt
+
+steps_keep : {P : Type 0} (bits_of : P → ℕ → ℕ) (old last : ManagerFields P) (tx : ℕ) (steps : List (ManagerFields P × Answer)) → IsManager bits_of old → StepsBackBy bits_of old steps last tx → IsManager bits_of last
+steps_keep bits_of old last tx [] h same = subst (IsManager bits_of) (sym same) h
+steps_keep bits_of old last tx (one ∷ more) h (first, on, rest) = steps_keep bits_of one.0 last tx more (step_keeps bits_of old h tx one.0 one.1 first).0 rest
+
+-- **All of them together keep what is always true.**
+pub undoing_keeps : {P : Type 0} (bits_of : P → ℕ → ℕ) (old new : ManagerFields P) (tx : ℕ) (told : Answer) → IsManager bits_of old → StepsBackUpTo bits_of old new tx told → IsManager bits_of new
+undoing_keeps bits_of old new tx told h s = (step_keeps bits_of s.before (steps_keep bits_of old s.before tx s.steps h s.goes) tx new told s.ends).0

@@ -1,0 +1,8 @@
+use Rattle.std.proofs.Common.{refl}
+use Rattle.std.proofs.lemmas.Result.{err_from_is_err_and}
+use Rattle.mlt_manager.proofs.parts.Parts.whole_undo.Goals as goal
+
+pub returns-in_err-undoing : goal.returns-in_err-undoing
+returns-in_err-undoing g c =
+    let p = err_from_is_err_and c.from_residual.result c.from_residual.ensures.1 in
+    record { answers = rw (p.1, p.2) (c.in_err-undoing.ensures.refusal, refl) }

@@ -1,0 +1,57 @@
+-- A whole undoing: the steps of an abort, one after another
+use Rattle.std.specs.Prelude.{ℕ, ◌≡◌, List, [], ◌∷◌, Result, Ok, Err}
+use Rattle.mlt_types.specs.declared.refusal.Refusal.{Refusal}
+use Rattle.mlt_types.specs.declared.refusal.Refusal.TheVariants as refusal
+use Rattle.mlt_event.specs.declared.answer.Answer.{Answer}
+use Rattle.mlt_event.specs.declared.answer.Answer.TheVariants as answer
+use Rattle.mlt_transaction.specs.declared.transaction.At.{At}
+use Rattle.mlt_transaction.specs.declared.transaction.At.TheVariants as at
+use Rattle.mlt_open.specs.Tables.{Table}
+use Rattle.mlt_manager.specs.Answers.{HasStepped, IsNotOpen, IsOpenAt, IsUndoing}
+use Rattle.mlt_manager.specs.Managers.{ManagerFields}
+
+-- an abort goes on, with the same inverse or with the next one
+abbrev pub GoesOnBack : Answer → Type 0
+GoesOnBack answer.Going = Unit {0}
+GoesOnBack answer.Undone = Unit {0}
+GoesOnBack other = ⊥
+
+-- it waits, or is at its end
+abbrev pub StopsBack : Answer → Type 0
+StopsBack (answer.Waiting page by) = Unit {0}
+StopsBack answer.Aborted = Unit {0}
+StopsBack other = ⊥
+
+-- steps of an abort that goes on: what each leaves, and what it is told
+abbrev pub StepsBackBy : {P : Type 0} → (P → ℕ → ℕ) → ManagerFields P
+    → List (ManagerFields P × Answer) → ManagerFields P → ℕ → Type 0
+StepsBackBy bits_of old [] last tx = last ≡ old
+StepsBackBy bits_of old (one ∷ more) last tx =
+    HasStepped bits_of old one.0 tx one.1 × GoesOnBack one.1
+    × StepsBackBy bits_of one.0 more last tx
+
+-- the steps of an abort, up to one that waits or is the last
+pub record StepsBackUpTo {P : Type 0} (bits_of : P → ℕ → ℕ) (old new : ManagerFields P) (tx : ℕ)
+    (told : Answer) : Type 0 where
+  pub steps : List (ManagerFields P × Answer)
+  pub before : ManagerFields P
+  pub goes : StepsBackBy bits_of old steps before tx
+  pub ends : HasStepped bits_of before new tx told
+  pub stops : StopsBack told
+
+-- the abort of the transaction has not begun
+abbrev pub IsNotUndoing : At → Type 0
+IsNotUndoing (at.Undoing inverting) = ⊥
+IsNotUndoing other = Unit {0}
+
+-- why nothing is undone: there is none of this number, or its abort has not begun
+abbrev pub IsCauseAtUndo : Refusal → Table → ℕ → Type 0
+IsCauseAtUndo refusal.NoSuchTx txs tx = IsNotOpen txs tx
+IsCauseAtUndo refusal.NotRunning txs tx = IsOpenAt txs tx IsNotUndoing
+IsCauseAtUndo other txs tx = ⊥
+
+abbrev pub AnswersWholeUndo : {P : Type 0} → (P → ℕ → ℕ) → ManagerFields P → ManagerFields P → ℕ
+    → Result Answer Refusal → Type 0
+AnswersWholeUndo bits_of old new tx (Ok told) =
+    IsOpenAt old.txs tx IsUndoing × StepsBackUpTo bits_of old new tx told
+AnswersWholeUndo bits_of old new tx (Err reason) = IsCauseAtUndo reason old.txs tx × (new ≡ old)
