@@ -66,6 +66,7 @@ on_way basis old new before after may leaves goes more request same =
         stands = goes.stands;
         fits = fits_on_way after.walk.phase basis after (view_of new) more (same ∙ untold);
       };
+      nearer = omega (arith, goes.fewer);
       fewer = omega (arith, by_one);
       by_one = inl by_one;
     }
@@ -116,6 +117,7 @@ splits_on basis old new before after value may leaves tells alike stands was is 
         stands = stands;
         fits = fits_adding after.walk.phase basis after (view_of new) value is (still_adds before after value adds request same);
       };
+      nearer = omega (arith, none_to_bucket after.walk.phase value is);
       fewer = omega (arith, by_one);
       by_one = inl by_one;
     }
@@ -180,6 +182,7 @@ puts basis old new before after may leaves tells request told = by before.walk.p
             stands = makes.stands;
             fits = subst (λ (p : Phase). FitsPhase p basis after (view_of new)) (sym phase) performed;
           };
+          nearer = omega (arith, ap steps_to_bucket phase);
           fewer = omega (arith, last, left, put_is_left (depth - bucket_depth (view_of old) bucket) (bucket_depth (view_of old) bucket) (directory_depth (view_of old) basis.root));
           by_one = inr (record { value = value; bucket = bucket; room_depth = depth; was = behind; is = phase });
         }

@@ -149,6 +149,7 @@ found_tells basis old mid new before at after found told may leaves tells reques
           request = finishes.request ∙ request;
           in_pass = finishes.in_pass ∙ path.0.same.pass;
           operates = finishes.operates;
+          nearer = omega (arith, finishes.last);
           fewer = omega (arith, by_one);
           by_one = inl by_one;
         })
@@ -163,6 +164,7 @@ found_tells basis old mid new before at after found told may leaves tells reques
           reaches = subst (λ (m : Moment). ReachesBucket basis m before at.walk) (sym splits.stays) (reaches basis mid before at.walk found path.0 path.1 splits.absent);
           value = splits.value;
           needs = splits.needs;
+          at_bucket = ap steps_to_bucket (splits.needs.later splits.later).1;
         }))
     by step.Going (inr (inr again)) =
         inr (inr (record {

@@ -1,5 +1,5 @@
 -- What a step of an operation answers
-use Rattle.std.specs.Prelude.{ℕ, ◌≡◌, ◌<◌, ◌+◌, ◌⊎◌, false, None}
+use Rattle.std.specs.Prelude.{ℕ, ◌≡◌, ◌<◌, ◌≤◌, ◌+◌, ◌⊎◌, false, None}
 use Rattle.mlt_types.specs.declared.mode.Mode.{Mode}
 use Rattle.mlt_types.specs.declared.mode.Mode.TheVariants.{Exclusive}
 use Rattle.mlt_types.specs.declared.refusal.Refusal.{Refusal}
@@ -31,12 +31,14 @@ pub record PutsBehindSplits (before after : OperationFields) : Type 0 where
   pub was : before.walk.phase ≡ at.Adding value bucket room_depth false
   pub is : after.walk.phase ≡ at.Changed bucket (change.Put value)
 
--- It goes on within its pass, and one step fewer is left; or more, where there is room early.
+-- It goes on within its pass, and never back from its bucket. One step fewer is left, or still fewer, where there is room
+-- early.
 pub record StepsOn (basis : Basis) (old new : Moment) (before after : OperationFields) : Type 0 where
   pub turn : TakesTurn old new
   pub request : after.request ≡ before.request
   pub in_pass : after.walk.pass ≡ before.walk.pass
   pub operates : IsOperating basis after (view_of new)
+  pub nearer : steps_to_bucket after.walk.phase ≤ steps_to_bucket before.walk.phase
   pub fewer : steps_left basis.root after (view_of new) < steps_left basis.root before (view_of old)
   pub by_one : (steps_left basis.root after (view_of new) + 1
       ≡ steps_left basis.root before (view_of old)) ⊎ PutsBehindSplits before after
@@ -61,6 +63,7 @@ pub record BeginsToSplit (basis : Basis) (old new : Moment) (before after : Oper
   pub reaches : ReachesBucket basis new before walk
   pub value : ℕ
   pub needs : NeedsSplit basis new walk after.walk value
+  pub at_bucket : steps_to_bucket after.walk.phase ≡ 0
 
 -- a first pass has found no room, or a narrow one that it has to be wide
 abbrev pub HasToRestart : Basis → Moment → WalkFields → WalkFields → Type 0

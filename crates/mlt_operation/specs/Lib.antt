@@ -4,3 +4,4 @@ pub mod Operating
 pub mod PageTurns
 pub mod Answers
 pub mod AtBucket
+pub mod MostSteps

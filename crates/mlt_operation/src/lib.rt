@@ -7,10 +7,12 @@
 #![tactic(auto)]
 
 mod answer;
+mod end_law;
 mod operation;
 mod perform;
 mod request;
 
 pub use answer::StepAnswer;
+pub use end_law::operations_come_to_an_end;
 pub use operation::Operation;
 pub use request::Request;

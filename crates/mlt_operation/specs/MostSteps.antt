@@ -1,0 +1,25 @@
+-- How many steps an operation still takes at most, those aside that wait
+use Rattle.std.specs.Prelude.{ℕ, ◌+◌, ◌*◌, nat_eq, if◌then◌else◌}
+use Rattle.mlt_held.specs.Views.{View}
+use Rattle.mlt_hash.specs.Steps.{steps_to_bucket}
+use Rattle.mlt_hash.specs.declared.pass.Pass.{Pass}
+use Rattle.mlt_hash.specs.declared.pass.Pass.TheVariants.{First, Narrow, Wide}
+use Rattle.mlt_operation.specs.Operating.{OperationFields, steps_left}
+
+-- how many passes may still follow this one
+abbrev pub passes_after : Pass → ℕ
+passes_after First = 2
+passes_after Narrow = 1
+passes_after Wide = 0
+
+-- The most steps from a full bucket on, in a directory of depth 16 at most: those of its splits, the write of the record,
+-- and the end.
+abbrev pub most_from_bucket : ℕ
+most_from_bucket = 578
+
+-- The most steps up to the end, the end among them: once the bucket is reached those that are left of the pass, and before
+-- it the way there, in this pass and in those that may follow, and what a full bucket takes.
+abbrev pub most_steps : ℕ → OperationFields → View → ℕ
+most_steps root o view =
+    if nat_eq (steps_to_bucket o.walk.phase) 0 then steps_left root o view
+    else steps_to_bucket o.walk.phase + 3 * passes_after o.walk.pass + most_from_bucket

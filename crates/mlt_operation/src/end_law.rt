@@ -1,0 +1,22 @@
+//! How long an operation goes on.
+
+ghost use Rattle.std.specs.Prelude.{ℕ, ◌≡◌, ◌<◌, ◌≤◌};
+ghost use Rattle.mlt_held.specs.Moments.{Moment};
+ghost use Rattle.mlt_held.specs.Views.{View, view_of};
+ghost use Rattle.mlt_hash.specs.Walks.{Basis};
+ghost use Rattle.mlt_operation.specs.Answers.{TellsOfStep};
+ghost use Rattle.mlt_operation.specs.MostSteps.{most_steps};
+ghost use Rattle.mlt_operation.specs.Operating.{OperationFields, started_for};
+ghost use Rattle.mlt_operation.specs.declared.answer.StepAnswer.TheVariants as answer;
+ghost use Rattle.mlt_operation.specs.declared.request.Request.{Request};
+
+/// Each step of an operation that goes on leaves fewer up to its end. One that has taken none takes at most 587, its end
+/// among them, and those aside that wait.
+pub fn operations_come_to_an_end()
+    ensures fewer { (basis : Basis) (old new : Moment) (before after : OperationFields)
+        → basis.max_depth ≤ 16 → TellsOfStep basis old new before after answer.Going
+        → most_steps basis.root after (view_of new)
+        < most_steps basis.root before (view_of old) }
+    ensures in_all { (root : ℕ) (request : Request) (view : View)
+        → most_steps root (started_for request) view ≡ 587 }
+{}
