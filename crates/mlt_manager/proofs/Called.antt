@@ -34,7 +34,7 @@ was_idle txs tx count before idle was = ap (λ (t : Transaction). t.at) (one_the
 pub was_with : (txs : Table) (tx count : ℕ) (before : Transaction) → IsIdleWith txs tx count → map.get txs tx ≡ Some before → length before.undo.entries ≡ count
 was_with txs tx count before idle was = ap (λ (t : Transaction). length t.undo.entries) (one_there txs tx before idle.one was idle.there) ∙ idle.counts
 
-pending_of : (a : At) → IsPending a → (o : OperationFields) × (a ≡ at.Pending o)
+pub pending_of : (a : At) → IsPending a → (o : OperationFields) × (a ≡ at.Pending o)
 pending_of at.Idle none = absurd none
 pending_of (at.Pending o) is = (o, refl)
 pending_of (at.Undoing inverting) none = absurd none

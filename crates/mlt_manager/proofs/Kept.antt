@@ -25,6 +25,8 @@ use Rattle.mlt_manager.proofs.Called.{called_keeps, cancelled_keeps, not_called_
 use Rattle.mlt_manager.proofs.Ended.{abort_begun_keeps, begun_keeps, closed_keeps, committed_keeps}
 use Rattle.mlt_manager.proofs.Keeping.{same_manager}
 use Rattle.mlt_manager.specs.Undoings.{AnswersWholeUndo}
+use Rattle.mlt_manager.specs.Wholes.{AnswersWhole}
+use Rattle.mlt_manager.proofs.RunningOn.{run_keeps}
 use Rattle.mlt_manager.proofs.Stepped.{step_keeps}
 use Rattle.mlt_manager.proofs.UndoingAll.{undoing_keeps}
 
@@ -49,6 +51,10 @@ module _ {P : Type 0} (bits_of : P → ℕ → ℕ) (m m' : ManagerFields P) (h 
   pub whole_undo_kept : (tx : ℕ) (r : Result Answer Refusal) → AnswersWholeUndo bits_of m m' tx r → IsManager bits_of m'
   whole_undo_kept tx (Ok told) a = undoing_keeps bits_of m m' tx told h a.1
   whole_undo_kept tx (Err reason) a = same_manager bits_of m' m a.1 h
+
+  pub whole_kept : (tx : ℕ) (op : ObjOp) (r : Result Answer Refusal) → AnswersWhole bits_of m m' tx op r → IsManager bits_of m'
+  whole_kept tx op (Ok told) a = run_keeps bits_of m m' tx op told h a
+  whole_kept tx op (Err reason) a = call_kept tx op (Err reason) a
 
   pub cancel_kept : (tx : ℕ) (r : Result (Unit {0}) Refusal) → AnswersCancel m m' tx r → IsManager bits_of m'
   cancel_kept tx (Ok done) a = (cancelled_keeps bits_of m h tx m' a.2 a.0 a.1).0

@@ -10,3 +10,4 @@ pub mod Refusing
 pub mod Stepped
 pub mod Stepping
 pub mod UndoingAll
+pub mod RunningOn

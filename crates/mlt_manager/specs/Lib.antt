@@ -5,3 +5,4 @@ pub mod Openings
 pub mod Parts
 pub mod Promises
 pub mod Undoings
+pub mod Wholes

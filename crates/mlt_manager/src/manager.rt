@@ -5,6 +5,7 @@ ghost use Rattle.mlt_manager.specs.Answers.{AnswersAbort, AnswersBegin, AnswersC
 ghost use Rattle.mlt_manager.specs.Bases.{LeavesBase};
 ghost use Rattle.mlt_manager.specs.Openings.{IsNew};
 ghost use Rattle.mlt_manager.specs.Undoings.{AnswersWholeUndo};
+ghost use Rattle.mlt_manager.specs.Wholes.{AnswersWhole};
 ghost use Rattle.mlt_manager.specs.Promises.{IsCommittedBaseOf, KeepsPromises, PassesTheChecker};
 
 use crate::parts::Parts;
@@ -128,6 +129,17 @@ impl<P: Pseudo> Manager<P> {
     {
         self.parts.count();
         self.parts.abort(tx)
+    }
+
+    /// A call and its steps to the end, as one event. An operation that waits or is blocked is dropped.
+    ///
+    /// # Errors
+    /// Those of [`call`](Manager::call).
+    pub fn whole(&mut self, tx: TxId, op: ObjOp) -> Result<Answer, Refusal>
+        ensures answers { AnswersWhole P.bits_of (counted self.old) self.new tx op result }
+    {
+        self.parts.count();
+        self.parts.whole(tx, op)
     }
 
     /// The steps of an abort, up to its end or to one that waits, as one event. It takes no memory.

@@ -2,6 +2,7 @@
 
 ghost use Rattle.std.specs.Prelude.{◌≡◌, ◌≤◌, ◌+◌, IfErr, IfOk, OnOk};
 ghost use Rattle.mlt_manager.specs.Answers.{AnswersAbort, AnswersBegin, AnswersCall, AnswersCancel, AnswersCommit, AnswersStep, HasEnded, HasStepped, IsBusy, IsCauseAtCancel, IsCauseAtStep, IsIdleWith, IsNotIdle, IsOpenAt, IsUndoing, counted};
+ghost use Rattle.mlt_manager.specs.Wholes.{AnswersWhole, RunsToEnd, StandsIn, StepsOnUpTo};
 ghost use Rattle.mlt_manager.specs.Undoings.{AnswersWholeUndo, IsCauseAtUndo, StepsBackUpTo};
 ghost use Rattle.mlt_manager.specs.Openings.{IsNew};
 ghost use Rattle.mlt_transaction.specs.Transactions.{IsPending};
@@ -217,6 +218,47 @@ impl<P: Pseudo> Parts<P> {
             self.opens.remove(tx);
         }
         answer
+    }
+
+    pub(crate) fn whole(&mut self, tx: TxId, op: ObjOp) -> Result<Answer, Refusal>
+        requires sound { IsManager P.bits_of (fields_of self.old) }
+        ensures answers {
+            AnswersWhole P.bits_of (fields_of self.old) (fields_of self.new) tx op result }
+    {
+        self.call(tx, op)?;
+        Ok(self.run(tx))
+    }
+
+    /// The steps of a pending operation, which is dropped if it waits or is blocked.
+    fn run(&mut self, tx: TxId) -> Answer
+        requires sound { IsManager P.bits_of (fields_of self.old) }
+        requires pending { IsOpenAt self.old.txs tx IsPending }
+        ensures runs {
+            RunsToEnd P.bits_of (fields_of self.old) (fields_of self.new) tx result }
+    {
+        let answer = self.run_on(tx);
+        match answer {
+            Answer::Waiting { .. } => self.txs.cancel(tx, &mut self.commons),
+            Answer::Blocked { .. } => self.txs.cancel(tx, &mut self.commons),
+            _ => (),
+        }
+        answer
+    }
+
+    /// The steps of a pending operation, up to the first that does not go on.
+    fn run_on(&mut self, tx: TxId) -> Answer
+        requires sound { IsManager P.bits_of (fields_of self.old) }
+        requires pending { IsOpenAt self.old.txs tx IsPending }
+        ensures steps {
+            StepsOnUpTo P.bits_of (fields_of self.old) (fields_of self.new) tx result }
+        ensures pending { StandsIn (fields_of self.new) tx result }
+    {
+        loop {
+            match self.step_open(tx) {
+                Answer::Going => (),
+                answer => return answer,
+            }
+        }
     }
 
     pub(crate) fn whole_undo(&mut self, tx: TxId) -> Result<Answer, Refusal>

@@ -1,0 +1,178 @@
+-- The steps of a pending operation, one after another, come to an end
+use Rattle.std.proofs.Common.{◌≡◌, ◌<◌, ◌≤◌, ℕ, List, [], ◌∷◌, ◌++◌, Option, None, Some, Result, Ok, Err, refl, sym, ap, subst, ◌∙◌, arith}
+use Rattle.std.specs.FinMap as map
+use Rattle.mlt_types.specs.declared.refusal.Refusal.{Refusal}
+use Rattle.mlt_kinds.specs.declared.operation.ObjOp.{ObjOp}
+use Rattle.mlt_held.specs.Moments.{moment}
+use Rattle.mlt_held.specs.Views.{view_of}
+use Rattle.mlt_hash.specs.Walks.{basis_by}
+use Rattle.mlt_operation.specs.MostSteps.{most_steps}
+use Rattle.mlt_operation.specs.Operating.{OperationFields}
+use Rattle.mlt_operation.specs.declared.answer.StepAnswer.TheVariants as step
+use Rattle.mlt_operation.specs.Answers.{TellsOfStep}
+use Rattle.mlt_operation.proofs.MostSteps.{one_fewer_at_least}
+use Rattle.mlt_event.specs.declared.answer.Answer.{Answer}
+use Rattle.mlt_event.specs.declared.answer.Answer.TheVariants as answer
+use Rattle.mlt_transaction.specs.declared.commons.Commons.{Commons}
+use Rattle.mlt_transaction.specs.declared.transaction.At.{At}
+use Rattle.mlt_transaction.specs.declared.transaction.At.TheVariants as at
+use Rattle.mlt_transaction.specs.declared.transaction.Transaction.{Transaction}
+use Rattle.mlt_transaction.specs.Steps.{TellsOfPending}
+use Rattle.mlt_transaction.specs.Transactions.{IsPending, StepsPending, TellsAt, pending_after}
+use Rattle.mlt_open.specs.Tables.{Table}
+use Rattle.mlt_invariant.proofs.Tables.{inserted_here}
+use Rattle.mlt_manager.specs.Answers.{AnswersCall, HasCalled, HasStepped, IsOpenAt, txs_after}
+use Rattle.mlt_manager.specs.Managers.{IsManager, ManagerFields}
+use Rattle.mlt_manager.specs.Wholes.{AnswersWhole, DropsIfItStands, HasRun, IsDropped, RunsToEnd, StandsIn, StepsOnBy, StepsOnUpTo, Stops}
+use Rattle.mlt_manager.proofs.Called.{called_keeps, cancelled_keeps, not_called_keeps, one_there, pending_of}
+use Rattle.mlt_manager.proofs.Stepped.{step_keeps}
+
+-- how many steps the pending operation of the transaction still takes at most, those that wait aside
+abbrev pub most_at : At → ℕ → Transaction → Commons → ℕ
+most_at (at.Pending o) root t commons = most_steps root o (view_of (moment t.subtx commons.pages))
+most_at other root t commons = 0
+
+abbrev pub most_for : Option Transaction → ℕ → Commons → ℕ
+most_for None root commons = 0
+most_for (Some t) root commons = most_at t.at root t commons
+
+abbrev pub on_left : {P : Type 0} → ManagerFields P → ℕ → ℕ
+on_left m tx = most_for (map.get m.txs tx) m.root.page m.commons
+
+-- the operation is pending, after these steps
+pub record IsOn {P : Type 0} (bits_of : P → ℕ → ℕ) (old m : ManagerFields P) (tx : ℕ) : Type 0 where
+  pub manager : IsManager bits_of m
+  pub pending : IsOpenAt m.txs tx IsPending
+  pub steps : List (ManagerFields P)
+  pub goes : StepsOnBy bits_of old steps m tx
+
+one_more : {P : Type 0} (bits_of : P → ℕ → ℕ) (old m m' : ManagerFields P) (tx : ℕ) (steps : List (ManagerFields P))
+    → StepsOnBy bits_of old steps m tx → HasStepped bits_of m m' tx answer.Going → StepsOnBy bits_of old (steps ++ m' ∷ []) m' tx
+one_more bits_of old m m' tx [] same step = (subst (λ (n : ManagerFields _). HasStepped bits_of n m' tx answer.Going) same step, refl)
+one_more bits_of old m m' tx (next ∷ more) (first, rest) step = (first, one_more bits_of next m m' tx more rest step)
+
+-- one step of a pending operation
+module _ {P : Type 0} (bits_of : P → ℕ → ℕ) (m m' : ManagerFields P) (tx : ℕ) (told : Answer) (pending : IsOpenAt m.txs tx IsPending) (d : HasStepped bits_of m m' tx told) where
+  operation_at : (o : OperationFields) × (d.steps.changes.before.at ≡ at.Pending o)
+  operation_at =
+      let p = pending_of pending.one.at pending.is_at in
+      (p.0, ap (λ (t : Transaction). t.at) (one_there m.txs tx d.steps.changes.before pending.one d.steps.changes.was pending.there) ∙ p.1)
+
+  steps_pending : StepsPending (basis_by bits_of m.root m.opens d.steps.changes.before.subtx.tx) operation_at.0 d.steps.changes.before d.steps.changes.after m.commons m'.commons told
+  steps_pending =
+      subst (λ (a : At). TellsAt a (basis_by bits_of m.root m.opens d.steps.changes.before.subtx.tx) d.steps.changes.before d.steps.changes.after m.commons m'.commons told) operation_at.1 d.steps.tells
+
+  there_by : (t : Answer) → told ≡ t → txs_after t tx d.txs ≡ d.txs → map.get m'.txs tx ≡ Some d.steps.changes.after
+  there_by t is on =
+      ap (λ (n : ManagerFields P). map.get n.txs tx) d.rest ∙ ap (λ (t : Table). map.get t tx) (ap (λ (a : Answer). txs_after a tx d.txs) is ∙ on ∙ d.steps.changes.is)
+      ∙ inserted_here m.txs tx d.steps.changes.after
+
+  pending_by : (t : Answer) → told ≡ t → txs_after t tx d.txs ≡ d.txs → pending_after t steps_pending.next ≡ at.Pending steps_pending.next → IsOpenAt m'.txs tx IsPending
+  pending_by t is on stays = record {
+    one = d.steps.changes.after;
+    there = there_by t is on;
+    is_at = subst IsPending (sym (steps_pending.now_at ∙ ap (λ (a : Answer). pending_after a steps_pending.next) is ∙ stays)) tt;
+  }
+
+  pub still_pending : told ≡ answer.Going → IsOpenAt m'.txs tx IsPending
+  still_pending is = pending_by answer.Going is refl refl
+
+  pub waiting_is_pending : (page by : ℕ) → told ≡ answer.Waiting page by → IsOpenAt m'.txs tx IsPending
+  waiting_is_pending page by is = pending_by (answer.Waiting page by) is refl refl
+
+  pub blocked_is_pending : (by : ℕ) → told ≡ answer.Blocked by → IsOpenAt m'.txs tx IsPending
+  blocked_is_pending by is = pending_by (answer.Blocked by) is refl refl
+
+  stops_by : (t : Answer) (between : Commons) → TellsOfPending (basis_by bits_of m.root m.opens d.steps.changes.before.subtx.tx) operation_at.0 steps_pending.next d.steps.changes.before.subtx d.steps.changes.after.subtx d.steps.changes.before.undo d.steps.changes.after.undo m.commons between t
+      → (t ≡ answer.Going → ⊥) → Stops t
+  stops_by answer.Going between tells not = absurd (not refl)
+  stops_by (answer.Waiting page by) between tells not = tt
+  stops_by (answer.Blocked by) between tells not = tt
+  stops_by (answer.Done reply) between tells not = tt
+  stops_by (answer.Refused reason) between tells not = tt
+  stops_by answer.Undone between none not = absurd none
+  stops_by answer.Aborted between none not = absurd none
+
+  -- **An operation that does not go on is at its end, or stands.**
+  pub stops_here : (told ≡ answer.Going → ⊥) → Stops told
+  stops_here not = stops_by told steps_pending.between steps_pending.tells not
+
+-- **One that goes on has fewer steps left.**
+pub fewer_on : {P : Type 0} (bits_of : P → ℕ → ℕ) (m m' : ManagerFields P) (tx : ℕ) (pending : IsOpenAt m.txs tx IsPending) (d : HasStepped bits_of m m' tx answer.Going) → m.root.max_depth ≤ 16
+    → on_left m' tx < on_left m tx
+fewer_on bits_of m m' tx pending d small =
+    let before = d.steps.changes.before in
+    let after = d.steps.changes.after in
+    let o = operation_at bits_of m m' tx answer.Going pending d in
+    let s = steps_pending bits_of m m' tx answer.Going pending d in
+    let was : on_left m tx ≡ most_steps m.root.page o.0 (view_of (moment d.steps.changes.before.subtx m.commons.pages)) =
+        ap (λ (t : Option Transaction). most_for t m.root.page m.commons) d.steps.changes.was ∙ ap (λ (a : At). most_at a m.root.page d.steps.changes.before m.commons) o.1 in
+    let is : on_left m' tx ≡ most_steps m.root.page s.next (view_of (moment d.steps.changes.after.subtx s.between.pages)) =
+        ap (λ (t : Option Transaction). most_for t m'.root.page m'.commons) (there_by bits_of m m' tx answer.Going pending d answer.Going refl refl)
+        ∙ ap (λ (a : At). most_at a m'.root.page d.steps.changes.after m'.commons) s.now_at
+        ∙ ap (λ (n : ManagerFields _). most_steps n.root.page s.next (view_of (moment d.steps.changes.after.subtx m'.commons.pages))) d.rest
+        ∙ ap (λ (k : Commons). most_steps m.root.page s.next (view_of (moment d.steps.changes.after.subtx k.pages))) s.leaves in
+    let fewer = one_fewer_at_least (basis_by bits_of m.root m.opens d.steps.changes.before.subtx.tx) (moment d.steps.changes.before.subtx m.commons.pages) (moment d.steps.changes.after.subtx s.between.pages) o.0 s.next small s.tells.tells in
+    omega (arith, was, is, fewer)
+
+-- **One more step.**
+pub on_by_one : {P : Type 0} (bits_of : P → ℕ → ℕ) (old m m' : ManagerFields P) (tx : ℕ) → IsOn bits_of old m tx → HasStepped bits_of m m' tx answer.Going → IsOn bits_of old m' tx
+on_by_one bits_of old m m' tx on d = record {
+  manager = (step_keeps bits_of m on.manager tx m' answer.Going d).0;
+  pending = still_pending bits_of m m' tx answer.Going on.pending d refl;
+  steps = on.steps ++ m' ∷ [];
+  goes = one_more bits_of old m m' tx on.steps on.goes d;
+}
+
+pub on_ends : {P : Type 0} (bits_of : P → ℕ → ℕ) (old m m' : ManagerFields P) (tx : ℕ) (told : Answer) → IsOn bits_of old m tx → HasStepped bits_of m m' tx told → (told ≡ answer.Going → ⊥)
+    → StepsOnUpTo bits_of old m' tx told
+on_ends bits_of old m m' tx told on d not = record { steps = on.steps; before = m; goes = on.goes; ends = d; stops = stops_here bits_of m m' tx told on.pending d not }
+
+-- the depth of a manager's directory is at most 16
+pub is_small : {P : Type 0} (bits_of : P → ℕ → ℕ) (m : ManagerFields P) → IsManager bits_of m → m.root.max_depth ≤ 16
+is_small bits_of m h = h.sound.match.small
+
+-- what was called is pending
+pub called_is_pending : {P : Type 0} (m m' : ManagerFields P) (tx : ℕ) (op : ObjOp) → HasCalled m m' tx op → IsOpenAt m'.txs tx IsPending
+called_is_pending m m' tx op c = record {
+  one = c.calls.changes.after;
+  there = ap (λ (t : Table). map.get t tx) c.calls.changes.is ∙ inserted_here m.txs tx c.calls.changes.after;
+  is_at = subst IsPending (sym c.calls.tells.pending) tt;
+}
+
+steps_keep : {P : Type 0} (bits_of : P → ℕ → ℕ) (old last : ManagerFields P) (tx : ℕ) (steps : List (ManagerFields P)) → IsManager bits_of old → StepsOnBy bits_of old steps last tx → IsManager bits_of last
+steps_keep bits_of old last tx [] h same = subst (IsManager bits_of) (sym same) h
+steps_keep bits_of old last tx (next ∷ more) h (first, rest) = steps_keep bits_of next last tx more (step_keeps bits_of old h tx next answer.Going first).0 rest
+
+pub up_to_keeps : {P : Type 0} (bits_of : P → ℕ → ℕ) (old new : ManagerFields P) (tx : ℕ) (told : Answer) → IsManager bits_of old → StepsOnUpTo bits_of old new tx told → IsManager bits_of new
+up_to_keeps bits_of old new tx told h s = (step_keeps bits_of s.before (steps_keep bits_of old s.before tx s.steps h s.goes) tx new told s.ends).0
+
+drops_keep : {P : Type 0} (bits_of : P → ℕ → ℕ) (told : Answer) (old new : ManagerFields P) (tx : ℕ) → IsManager bits_of old → DropsIfItStands told old new tx → IsManager bits_of new
+drops_keep bits_of (answer.Waiting page by) old new tx h d = (cancelled_keeps bits_of old h tx new d.rest d.pending d.cancels).0
+drops_keep bits_of (answer.Blocked by) old new tx h d = (cancelled_keeps bits_of old h tx new d.rest d.pending d.cancels).0
+drops_keep bits_of other old new tx h same = subst (IsManager bits_of) (sym same) h
+
+-- **A whole operation keeps what is always true.**
+pub run_keeps : {P : Type 0} (bits_of : P → ℕ → ℕ) (old new : ManagerFields P) (tx : ℕ) (op : ObjOp) (told : Answer) → IsManager bits_of old → HasRun bits_of old new tx op told → IsManager bits_of new
+run_keeps bits_of old new tx op told h r =
+    drops_keep bits_of told r.runs.stopped new tx (up_to_keeps bits_of r.called r.runs.stopped tx told (called_keeps bits_of old h tx r.called r.calls.rest op r.calls) r.runs.steps) r.runs.drops
+
+-- **An operation that stands is pending.**
+pub stands_in : {P : Type 0} (bits_of : P → ℕ → ℕ) (m m' : ManagerFields P) (tx : ℕ) (told : Answer) → IsOpenAt m.txs tx IsPending → HasStepped bits_of m m' tx told → StandsIn m' tx told
+stands_in bits_of m m' tx answer.Going pending d = tt
+stands_in bits_of m m' tx (answer.Waiting page by) pending d = waiting_is_pending bits_of m m' tx (answer.Waiting page by) pending d page by refl
+stands_in bits_of m m' tx (answer.Blocked by) pending d = blocked_is_pending bits_of m m' tx (answer.Blocked by) pending d by refl
+stands_in bits_of m m' tx (answer.Done reply) pending d = tt
+stands_in bits_of m m' tx answer.Undone pending d = tt
+stands_in bits_of m m' tx answer.Aborted pending d = tt
+stands_in bits_of m m' tx (answer.Refused reason) pending d = tt
+
+-- one that does not stand is not dropped
+pub not_dropped : {P : Type 0} (told : Answer) (m : ManagerFields P) (tx : ℕ) → ((page by : ℕ) → told ≡ answer.Waiting page by → ⊥) → ((by : ℕ) → told ≡ answer.Blocked by → ⊥) → DropsIfItStands told m m tx
+not_dropped (answer.Waiting page by) m tx waiting blocked = absurd (waiting page by refl)
+not_dropped (answer.Blocked by) m tx waiting blocked = absurd (blocked by refl)
+not_dropped other m tx waiting blocked = refl
+
+-- **What a whole operation answers.**
+pub whole_answers : {P : Type 0} (bits_of : P → ℕ → ℕ) (m m' : ManagerFields P) (tx : ℕ) (op : ObjOp) (reason : Refusal) → AnswersCall m m' tx op (Err reason) → AnswersWhole bits_of m m' tx op (Err reason)
+whole_answers bits_of m m' tx op reason a = a

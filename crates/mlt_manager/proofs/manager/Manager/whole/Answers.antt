@@ -1,0 +1,15 @@
+use Rattle.mlt_manager.specs.Answers.{counted}
+use Rattle.mlt_manager.specs.Parts.{fields_of}
+use Rattle.mlt_manager.proofs.Keeping.{counted_keeps, same_manager}
+use Rattle.mlt_manager.proofs.Kept.{whole_kept}
+use Rattle.mlt_manager.proofs.manager.Manager.whole.Goals as goal
+
+pub whole-requires : goal.whole-requires
+whole-requires g c = record {
+  sound = same_manager g.P.Pseudo.bits_of (fields_of c.count.new.self) (counted (fields_of c.self.inside.parts)) c.count.ensures (counted_keeps g.P.Pseudo.bits_of (fields_of c.self.inside.parts) c.self.invariant);
+}
+
+pub invariant_of-self : goal.invariant_of-self
+invariant_of-self g c =
+    whole_kept g.P.Pseudo.bits_of (fields_of c.count.new.self) (fields_of c.whole.new.self)
+    (same_manager g.P.Pseudo.bits_of (fields_of c.count.new.self) (counted (fields_of c.self.inside.parts)) c.count.ensures (counted_keeps g.P.Pseudo.bits_of (fields_of c.self.inside.parts) c.self.invariant)) c.args.tx c.args.op c.whole.result c.whole.ensures.answers

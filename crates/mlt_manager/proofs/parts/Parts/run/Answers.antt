@@ -1,0 +1,48 @@
+use Rattle.std.proofs.Common.{refl, subst, sym}
+use Rattle.mlt_event.specs.declared.answer.Answer.TheVariants as answer
+use Rattle.mlt_manager.specs.Parts.{fields_of}
+use Rattle.mlt_manager.specs.Wholes.{RunsToEnd}
+use Rattle.mlt_manager.proofs.RunningOn.{not_dropped, up_to_keeps}
+use Rattle.mlt_manager.proofs.Stepping.{may_cancel}
+use Rattle.mlt_manager.proofs.parts.Parts.run.Goals as goal
+
+pub cancel-requires : goal.cancel-requires
+cancel-requires g c = record {
+  is_open = may_cancel g.P.Pseudo.bits_of (fields_of c.run_on-answer.new.self) c.args.tx
+      (up_to_keeps g.P.Pseudo.bits_of (fields_of c.args.self.now) (fields_of c.run_on-answer.new.self) c.args.tx c.run_on-answer.result c.requires.sound c.run_on-answer.ensures.steps) c.in-Waiting.ensures.pending;
+}
+
+pub cancel-requires-in-Blocked : goal.cancel-requires-in-Blocked
+cancel-requires-in-Blocked g c = record {
+  is_open = may_cancel g.P.Pseudo.bits_of (fields_of c.run_on-answer.new.self) c.args.tx
+      (up_to_keeps g.P.Pseudo.bits_of (fields_of c.args.self.now) (fields_of c.run_on-answer.new.self) c.args.tx c.run_on-answer.result c.requires.sound c.run_on-answer.ensures.steps) c.in-Blocked.ensures.pending;
+}
+
+pub returns-in-Waiting : goal.returns-in-Waiting
+returns-in-Waiting g c = record {
+  runs = subst (RunsToEnd g.P.Pseudo.bits_of (fields_of c.args.self.now) _ c.args.tx) (sym c.in-Waiting.is)
+      (record {
+        stopped = fields_of c.run_on-answer.new.self;
+        steps = c.in-Waiting.ensures.steps;
+        drops = record { pending = c.in-Waiting.ensures.pending; cancels = c.cancel.ensures.cancels; rest = refl };
+      });
+}
+
+pub returns-in-Blocked : goal.returns-in-Blocked
+returns-in-Blocked g c = record {
+  runs = subst (RunsToEnd g.P.Pseudo.bits_of (fields_of c.args.self.now) _ c.args.tx) (sym c.in-Blocked.is)
+      (record {
+        stopped = fields_of c.run_on-answer.new.self;
+        steps = c.in-Blocked.ensures.steps;
+        drops = record { pending = c.in-Blocked.ensures.pending; cancels = c.cancel-in-Blocked.ensures.cancels; rest = refl };
+      });
+}
+
+pub returns-in_default : goal.returns-in_default
+returns-in_default g c = record {
+  runs = record {
+    stopped = fields_of c.run_on-answer.new.self;
+    steps = c.run_on-answer.ensures.steps;
+    drops = not_dropped c.run_on-answer.result (fields_of c.run_on-answer.new.self) c.args.tx c.in_default.not-Waiting c.in_default.not-Blocked;
+  };
+}

@@ -1,0 +1,72 @@
+-- A whole operation: a call and its steps, one after another
+use Rattle.std.specs.Prelude.{ℕ, ◌≡◌, List, [], ◌∷◌, Result, Ok, Err}
+use Rattle.mlt_types.specs.declared.refusal.Refusal.{Refusal}
+use Rattle.mlt_kinds.specs.declared.operation.ObjOp.{ObjOp}
+use Rattle.mlt_event.specs.declared.answer.Answer.{Answer}
+use Rattle.mlt_event.specs.declared.answer.Answer.TheVariants as answer
+use Rattle.mlt_transaction.specs.Transactions.{IsPending}
+use Rattle.mlt_open.specs.Tables.{CancelsOne}
+use Rattle.mlt_manager.specs.Answers.{AnswersCall, ChangesOpen, HasCalled, HasStepped, IsOpenAt}
+use Rattle.mlt_manager.specs.Managers.{ManagerFields}
+
+-- steps of a pending operation that goes on, and what each leaves
+abbrev pub StepsOnBy : {P : Type 0} → (P → ℕ → ℕ) → ManagerFields P → List (ManagerFields P)
+    → ManagerFields P → ℕ → Type 0
+StepsOnBy bits_of old [] last tx = last ≡ old
+StepsOnBy bits_of old (next ∷ more) last tx =
+    HasStepped bits_of old next tx answer.Going × StepsOnBy bits_of next more last tx
+
+-- an operation is at its end, or stands
+abbrev pub Stops : Answer → Type 0
+Stops (answer.Waiting page by) = Unit {0}
+Stops (answer.Blocked by) = Unit {0}
+Stops (answer.Done reply) = Unit {0}
+Stops (answer.Refused reason) = Unit {0}
+Stops other = ⊥
+
+-- the steps of a pending operation, up to the first that does not go on
+pub record StepsOnUpTo {P : Type 0} (bits_of : P → ℕ → ℕ) (old new : ManagerFields P) (tx : ℕ)
+    (told : Answer) : Type 0 where
+  pub steps : List (ManagerFields P)
+  pub before : ManagerFields P
+  pub goes : StepsOnBy bits_of old steps before tx
+  pub ends : HasStepped bits_of before new tx told
+  pub stops : Stops told
+
+-- where it stands, it is pending
+abbrev pub StandsIn : {P : Type 0} → ManagerFields P → ℕ → Answer → Type 0
+StandsIn m tx (answer.Waiting page by) = IsOpenAt m.txs tx IsPending
+StandsIn m tx (answer.Blocked by) = IsOpenAt m.txs tx IsPending
+StandsIn m tx other = Unit {0}
+
+-- its pending operation is dropped
+pub record IsDropped {P : Type 0} (old new : ManagerFields P) (tx : ℕ) : Type 0 where
+  pub pending : IsOpenAt old.txs tx IsPending
+  pub cancels : CancelsOne tx old.txs new.txs old.commons new.commons
+  pub rest : ChangesOpen old new
+
+-- an operation that waits or is blocked is dropped
+abbrev pub DropsIfItStands : {P : Type 0} → Answer → ManagerFields P → ManagerFields P → ℕ → Type 0
+DropsIfItStands (answer.Waiting page by) old new tx = IsDropped old new tx
+DropsIfItStands (answer.Blocked by) old new tx = IsDropped old new tx
+DropsIfItStands other old new tx = new ≡ old
+
+-- its steps, and that it is dropped if it stands
+pub record RunsToEnd {P : Type 0} (bits_of : P → ℕ → ℕ) (old new : ManagerFields P) (tx : ℕ)
+    (told : Answer) : Type 0 where
+  pub stopped : ManagerFields P
+  pub steps : StepsOnUpTo bits_of old stopped tx told
+  pub drops : DropsIfItStands told stopped new tx
+
+-- a call, its steps, and that it is dropped if it stands
+pub record HasRun {P : Type 0} (bits_of : P → ℕ → ℕ) (old new : ManagerFields P) (tx : ℕ) (op : ObjOp)
+    (told : Answer) : Type 0 where
+  pub called : ManagerFields P
+  pub calls : HasCalled old called tx op
+  pub runs : RunsToEnd bits_of called new tx told
+
+-- a whole operation is refused as its call is
+abbrev pub AnswersWhole : {P : Type 0} → (P → ℕ → ℕ) → ManagerFields P → ManagerFields P → ℕ → ObjOp
+    → Result Answer Refusal → Type 0
+AnswersWhole bits_of old new tx op (Ok told) = HasRun bits_of old new tx op told
+AnswersWhole bits_of old new tx op (Err reason) = AnswersCall old new tx op (Err reason)
