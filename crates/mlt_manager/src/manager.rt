@@ -3,6 +3,7 @@
 ghost use Rattle.std.specs.Prelude.{◌≡◌, IfErr, IfOk};
 ghost use Rattle.mlt_manager.specs.Answers.{AnswersAbort, AnswersBegin, AnswersCall, AnswersCancel, AnswersCommit, AnswersStep, counted};
 ghost use Rattle.mlt_manager.specs.Bases.{LeavesBase};
+ghost use Rattle.mlt_manager.specs.Events.{Meets, told_of};
 ghost use Rattle.mlt_manager.specs.Openings.{IsNew};
 ghost use Rattle.mlt_manager.specs.Undoings.{AnswersWholeUndo};
 ghost use Rattle.mlt_manager.specs.Wholes.{AnswersWhole};
@@ -12,7 +13,7 @@ use crate::parts::Parts;
 use mlt_accepted::{history_passes_the_checker, items_fit, placed_items_are_writable};
 use mlt_base::Base;
 use mlt_check::committed_base;
-use mlt_event::Answer;
+use mlt_event::{Answer, Event, Told};
 use mlt_hash_form::form_is_extendible_hashing;
 use mlt_kinds::ObjOp;
 use mlt_store::Store;
@@ -153,6 +154,37 @@ impl<P: Pseudo> Manager<P> {
         self.parts.whole_undo(tx)
     }
 
+    /// One event: what is asked, and what it is told. Each event is one of the calls above.
+    pub fn act(&mut self, event: Event) -> Told
+        ensures meets { Meets P.bits_of event result (counted self.old) self.new }
+    {
+        match event {
+            Event::Begin => match self.begin() {
+                Ok(tx) => Told::Begun(tx),
+                Err(refusal) => Told::Refused(refusal),
+            },
+            Event::Call(tx, op) => match self.call(tx, op) {
+                Ok(()) => Told::Called,
+                Err(refusal) => Told::Refused(refusal),
+            },
+            Event::Step(tx) => answered(self.step(tx)),
+            Event::Cancel(tx) => match self.cancel(tx) {
+                Ok(()) => Told::Cancelled,
+                Err(refusal) => Told::Refused(refusal),
+            },
+            Event::Commit(tx) => match self.commit(tx) {
+                Ok(number) => Told::Committed(number),
+                Err(refusal) => Told::Refused(refusal),
+            },
+            Event::Abort(tx) => match self.abort(tx) {
+                Ok(closed) => Told::Aborting(closed),
+                Err(refusal) => Told::Refused(refusal),
+            },
+            Event::Whole(tx, op) => answered(self.whole(tx, op)),
+            Event::WholeUndo(tx) => answered(self.whole_undo(tx)),
+        }
+    }
+
     /// What transactions did, in order.
     pub fn history(&self) -> &[TraceItem]
         ensures { result.now ≡ self.now.commons.history.items }
@@ -203,5 +235,14 @@ impl<P: Pseudo> Manager<P> {
         ensures { result ≡ self.now.events }
     {
         self.parts.events
+    }
+}
+
+fn answered(answer: Result<Answer, Refusal>) -> Told
+    ensures { result ≡ told_of answer }
+{
+    match answer {
+        Ok(answer) => Told::Answered(answer),
+        Err(refusal) => Told::Refused(refusal),
     }
 }

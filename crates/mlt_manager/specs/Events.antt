@@ -1,0 +1,52 @@
+-- One event of a manager, and a list of events
+use Rattle.std.specs.Prelude.{ℕ, ◌≡◌, List, [], ◌∷◌, Result, Ok, Err}
+use Rattle.mlt_types.specs.declared.refusal.Refusal.{Refusal}
+use Rattle.mlt_event.specs.declared.answer.Answer.{Answer}
+use Rattle.mlt_event.specs.declared.event.Event.{Event}
+use Rattle.mlt_event.specs.declared.event.Event.TheVariants as event
+use Rattle.mlt_event.specs.declared.told.Told.{Told}
+use Rattle.mlt_event.specs.declared.told.Told.TheVariants as told
+use Rattle.mlt_manager.specs.Answers.{AnswersAbort, AnswersBegin, AnswersCall, AnswersCancel, AnswersCommit, AnswersStep, counted}
+use Rattle.mlt_manager.specs.Bases.{LeavesBase}
+use Rattle.mlt_manager.specs.Managers.{ManagerFields}
+use Rattle.mlt_manager.specs.Undoings.{AnswersWholeUndo}
+use Rattle.mlt_manager.specs.Wholes.{AnswersWhole}
+
+-- the answer to a step, or to the last of several, as an event is told it
+abbrev pub told_of : Result Answer Refusal → Told
+told_of (Ok answer) = told.Answered answer
+told_of (Err reason) = told.Refused reason
+
+-- an event that was told this meets the contract of its call, from this manager to that one
+abbrev pub Meets : {P : Type 0} → (P → ℕ → ℕ) → Event → Told → ManagerFields P → ManagerFields P → Type 0
+Meets bits_of event.Begin (told.Begun tx) old new = AnswersBegin old new (Ok tx)
+Meets bits_of event.Begin (told.Refused reason) old new = AnswersBegin old new (Err reason)
+Meets bits_of (event.Call tx op) told.Called old new = AnswersCall old new tx op (Ok tt)
+Meets bits_of (event.Call tx op) (told.Refused reason) old new = AnswersCall old new tx op (Err reason)
+Meets bits_of (event.Step tx) (told.Answered answer) old new =
+    AnswersStep bits_of old new tx (Ok answer) × LeavesBase answer old new tx
+Meets bits_of (event.Step tx) (told.Refused reason) old new = AnswersStep bits_of old new tx (Err reason)
+Meets bits_of (event.Cancel tx) told.Cancelled old new = AnswersCancel old new tx (Ok tt)
+Meets bits_of (event.Cancel tx) (told.Refused reason) old new = AnswersCancel old new tx (Err reason)
+Meets bits_of (event.Commit tx) (told.Committed number) old new = AnswersCommit old new tx (Ok number)
+Meets bits_of (event.Commit tx) (told.Refused reason) old new = AnswersCommit old new tx (Err reason)
+Meets bits_of (event.Abort tx) (told.Aborting closed) old new = AnswersAbort old new tx (Ok closed)
+Meets bits_of (event.Abort tx) (told.Refused reason) old new = AnswersAbort old new tx (Err reason)
+Meets bits_of (event.Whole tx op) (told.Answered answer) old new =
+    AnswersWhole bits_of old new tx op (Ok answer)
+Meets bits_of (event.Whole tx op) (told.Refused reason) old new =
+    AnswersWhole bits_of old new tx op (Err reason)
+Meets bits_of (event.WholeUndo tx) (told.Answered answer) old new =
+    AnswersWholeUndo bits_of old new tx (Ok answer)
+Meets bits_of (event.WholeUndo tx) (told.Refused reason) old new =
+    AnswersWholeUndo bits_of old new tx (Err reason)
+Meets bits_of event other old new = ⊥
+
+-- A run: from the manager before, each event meets the contract of its call, with what it was told.
+abbrev pub IsRun : {P : Type 0} → (P → ℕ → ℕ) → ManagerFields P → List Event → List Told
+    → ManagerFields P → Type 0
+IsRun bits_of old [] [] new = new ≡ old
+IsRun {P = P} bits_of old (event ∷ events) (told ∷ tolds) new =
+    (next : ManagerFields P) × Meets bits_of event told (counted old) next
+    × IsRun bits_of next events tolds new
+IsRun bits_of old events tolds new = ⊥
