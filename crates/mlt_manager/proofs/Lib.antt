@@ -5,9 +5,10 @@ pub mod Ending
 pub mod Finding
 pub mod Keeping
 pub mod Kept
+pub mod Playing
 pub mod Promises
 pub mod Refusing
+pub mod RunningOn
 pub mod Stepped
 pub mod Stepping
 pub mod UndoingAll
-pub mod RunningOn

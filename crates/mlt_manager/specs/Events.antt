@@ -9,6 +9,9 @@ use Rattle.mlt_event.specs.declared.told.Told.TheVariants as told
 use Rattle.mlt_manager.specs.Answers.{AnswersAbort, AnswersBegin, AnswersCall, AnswersCancel, AnswersCommit, AnswersStep, counted}
 use Rattle.mlt_manager.specs.Bases.{LeavesBase}
 use Rattle.mlt_manager.specs.Managers.{ManagerFields}
+use Rattle.mlt_types.specs.declared.limits.Limits.{Limits}
+use Rattle.mlt_manager.specs.Openings.{IsNew}
+use Rattle.mlt_manager.specs.Promises.{KeepsPromises}
 use Rattle.mlt_manager.specs.Undoings.{AnswersWholeUndo}
 use Rattle.mlt_manager.specs.Wholes.{AnswersWhole}
 
@@ -50,3 +53,12 @@ IsRun {P = P} bits_of old (event ∷ events) (told ∷ tolds) new =
     (next : ManagerFields P) × Meets bits_of event told (counted old) next
     × IsRun bits_of next events tolds new
 IsRun bits_of old events tolds new = ⊥
+
+-- A run from a new manager with these limits and this function to pseudokeys; and what is promised of a manager holds of
+-- the one that it leads to.
+pub record Plays {P : Type 0} (bits_of : P → ℕ → ℕ) (limits : Limits) (pseudo : P)
+    (events : List Event) (tolds : List Told) (new : ManagerFields P) : Type 0 where
+  pub opening : ManagerFields P
+  pub opens : IsNew opening limits pseudo
+  pub run : IsRun bits_of opening events tolds new
+  pub promises : KeepsPromises bits_of new

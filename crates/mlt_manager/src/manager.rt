@@ -3,7 +3,7 @@
 ghost use Rattle.std.specs.Prelude.{◌≡◌, IfErr, IfOk};
 ghost use Rattle.mlt_manager.specs.Answers.{AnswersAbort, AnswersBegin, AnswersCall, AnswersCancel, AnswersCommit, AnswersStep, counted};
 ghost use Rattle.mlt_manager.specs.Bases.{LeavesBase};
-ghost use Rattle.mlt_manager.specs.Events.{Meets, told_of};
+ghost use Rattle.mlt_manager.specs.Events.{Meets, Plays, told_of};
 ghost use Rattle.mlt_manager.specs.Openings.{IsNew};
 ghost use Rattle.mlt_manager.specs.Undoings.{AnswersWholeUndo};
 ghost use Rattle.mlt_manager.specs.Wholes.{AnswersWhole};
@@ -183,6 +183,32 @@ impl<P: Pseudo> Manager<P> {
             Event::Whole(tx, op) => answered(self.whole(tx, op)),
             Event::WholeUndo(tx) => answered(self.whole_undo(tx)),
         }
+    }
+
+    /// All events in order, from a new manager, and what each is told.
+    ///
+    /// # Errors
+    /// `OutOfMemory`, where a growth was refused to the new manager or to the list of what is told. An event that is
+    /// refused memory is told so, and the next one follows.
+    pub fn play(
+        alloc: Global,
+        limits: Limits,
+        pseudo: P,
+        events: &[Event],
+    ) -> Result<(Manager<P>, Vec<Told>), Refusal>
+    where
+        P: Drop,
+        ensures plays { IfOk result (λ played.
+            Plays P.bits_of limits pseudo events.now played.1.items played.0) }
+        ensures refusal { IfErr result (λ refusal. refusal ≡ Refusal.OutOfMemory) }
+    {
+        let mut manager = Manager::new(alloc, limits, pseudo)?;
+        let mut tolds = Vec::with_capacity(alloc, events.len())?;
+        for event in events {
+            tolds.push(manager.act(*event))?;
+        }
+        manager.keeps_its_promises();
+        Ok((manager, tolds))
     }
 
     /// What transactions did, in order.
