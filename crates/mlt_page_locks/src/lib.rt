@@ -4,6 +4,7 @@
 #![tactic(auto)]
 
 mod lock_list;
+mod marks;
 mod page_locks;
 
 pub use page_locks::{Grant, PageLocks};
