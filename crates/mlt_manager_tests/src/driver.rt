@@ -9,6 +9,7 @@ use mlt_kinds::ObjOp;
 use mlt_manager::Manager;
 use mlt_page::Page;
 use mlt_store::Store;
+use mlt_trace::write_trace;
 use mlt_types::{Limits, Low, Mult, PageNo, Pseudo, Refusal, TxId};
 use std::alloc::{AllocError, Global};
 use std::process::Abort;
@@ -16,7 +17,7 @@ use std::process::Abort;
 /// Lines of events, and what each of these events is told.
 pub type Row = (&'static str, &'static str);
 
-/// What is run on a new manager, and what it ends with.
+/// What is run on a manager, and what it ends with.
 pub struct Schedule {
     /// How the objects are made.
     pub made: &'static [Row],
@@ -31,35 +32,42 @@ pub struct Schedule {
 // No operation and no abort of these schedules takes as many steps.
 const STEPS: usize = 200;
 
-/// Runs a schedule, with the limits of the program and multiplied pseudokeys.
-pub fn run_mult(rt: &impl Abort, alloc: Global, schedule: &Schedule) -> Result<(), Refusal> {
-    run(rt, alloc, Limits::program(), Mult, schedule)?;
-    Ok(())
-}
-
-/// Runs a schedule, with the limits of the program and low pseudokeys.
-pub fn run_low(rt: &impl Abort, alloc: Global, schedule: &Schedule) -> Result<(), Refusal> {
-    run(rt, alloc, Limits::program(), Low, schedule)?;
-    Ok(())
-}
-
-/// A new manager on which the schedule has run.
-pub fn run<P: Pseudo + Drop>(
+/// Runs a schedule on a new manager with multiplied pseudokeys.
+pub fn run_mult(
     rt: &impl Abort,
     alloc: Global,
     limits: Limits,
-    pseudo: P,
     schedule: &Schedule,
-) -> Result<Manager<P>, Refusal> {
-    let mut manager = Manager::new(alloc, limits, pseudo)?;
-    play(rt, alloc, &mut manager, schedule.made)?;
-    play(rt, alloc, &mut manager, schedule.rows)?;
-    ends(rt, alloc, &manager, schedule.base, schedule.depth)?;
-    Ok(manager)
+) -> Result<(), Refusal> {
+    let mut manager = Manager::new(alloc, limits, Mult)?;
+    run(rt, alloc, &mut manager, schedule)
 }
 
-/// Each event of these rows in turn is told what its row says.
-pub fn play<P: Pseudo>(
+/// Runs a schedule on a new manager with low pseudokeys.
+pub fn run_low(
+    rt: &impl Abort,
+    alloc: Global,
+    limits: Limits,
+    schedule: &Schedule,
+) -> Result<(), Refusal> {
+    let mut manager = Manager::new(alloc, limits, Low)?;
+    run(rt, alloc, &mut manager, schedule)
+}
+
+/// Runs a schedule.
+pub fn run<P: Pseudo>(
+    rt: &impl Abort,
+    alloc: Global,
+    manager: &mut Manager<P>,
+    schedule: &Schedule,
+) -> Result<(), Refusal> {
+    play(rt, alloc, manager, schedule.made)?;
+    play(rt, alloc, manager, schedule.rows)?;
+    ends(rt, alloc, manager, schedule.base, schedule.depth)
+}
+
+// Each event of these rows in turn is told what its row says.
+fn play<P: Pseudo>(
     rt: &impl Abort,
     alloc: Global,
     manager: &mut Manager<P>,
@@ -134,8 +142,8 @@ fn steps<P: Pseudo>(manager: &mut Manager<P>, tx: TxId) -> Result<Answer, Refusa
     Ok(Answer::Going)
 }
 
-/// The base has this text, and the directory this depth.
-pub fn ends<P: Pseudo>(
+// The base has this text, and the directory this depth.
+fn ends<P: Pseudo>(
     rt: &impl Abort,
     alloc: Global,
     manager: &Manager<P>,
@@ -147,6 +155,19 @@ pub fn ends<P: Pseudo>(
     write_base(&found, &mut text)?;
     same(rt, &text.as_slice(), &base);
     same(rt, &depth(manager.pages()), &Some(wanted));
+    Ok(())
+}
+
+/// The text of the history is this.
+pub fn writes<P: Pseudo>(
+    rt: &impl Abort,
+    alloc: Global,
+    manager: &Manager<P>,
+    trace: &[u8],
+) -> Result<(), Refusal> {
+    let mut text = Vec::new(alloc);
+    write_trace(alloc, manager.history(), &mut text)?;
+    same(rt, &text.as_slice(), &trace);
     Ok(())
 }
 

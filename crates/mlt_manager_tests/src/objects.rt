@@ -1,13 +1,8 @@
 //! Operations that clash or pass each other, and what aborts take back.
 
-use crate::checks::same;
-use crate::driver::{Row, Schedule, ends, play, run, run_mult};
-use mlt_check::check;
+use crate::driver::{Row, Schedule, run, run_mult, writes};
 use mlt_manager::Manager;
-use mlt_trace::write_trace;
-use mlt_types::{Limits, Mult, Refusal, TxId};
-use std::alloc::Global;
-use std::process::Abort;
+use mlt_types::{Limits, Mult, Refusal};
 
 const ACCOUNT: &[Row] = &[
     ("begin", "begun 1"),
@@ -61,38 +56,32 @@ const UNDER_LATER_DEPOSIT: Schedule = Schedule {
     depth: 0,
 };
 
-const COMMIT_3: &[Row] = &[("commit 3", "committed 2")];
+// The second one commits then.
+const LATER_DEPOSIT: Schedule = Schedule {
+    made: &[],
+    rows: &[("commit 3", "committed 2")],
+    base: b"account 1 7\n",
+    depth: 0,
+};
 
-const BALANCE_IS_7: &[Row] = &[("begin", "begun 4"), ("whole 4 balance 1", "done is 7")];
+const LATER_BALANCE: Schedule = Schedule {
+    made: &[],
+    rows: &[("begin", "begun 4"), ("whole 4 balance 1", "done is 7")],
+    base: b"account 1 7\n",
+    depth: 0,
+};
 
-fn aborted_under_later_deposit(rt: &impl Abort, alloc: Global) -> Result<Manager<Mult>, Refusal> {
-    let mut manager = run(rt, alloc, Limits::program(), Mult, &UNDER_LATER_DEPOSIT)?;
-    play(rt, alloc, &mut manager, COMMIT_3)?;
-    Ok(manager)
-}
-
-#[test]
-fn abort_under_later_deposit(rt: HostRuntime) -> Result<(), Refusal> {
-    let mut manager = aborted_under_later_deposit(&rt, rt.alloc())?;
-    ends(&rt, rt.alloc(), &manager, b"account 1 7\n", 0)?;
-    play(&rt, rt.alloc(), &mut manager, BALANCE_IS_7)
-}
-
-const TRACE: &[u8] = b"begin 1\nop 1 open 1 opened\ncommit 1 1\nbegin 2\nbegin 3\n\
+const TRACE_OF_THE_ABORT: &[u8] = b"begin 1\nop 1 open 1 opened\ncommit 1 1\nbegin 2\nbegin 3\n\
 op 2 deposit 1 5 done\nop 3 deposit 1 7 done\nback 2\nabort 2\ncommit 3 2\n";
 
+// The history is written before the balance is read, so it is that of the abort alone.
 #[test]
-fn trace_of_the_abort(rt: HostRuntime) -> Result<(), Refusal> {
-    let manager = aborted_under_later_deposit(&rt, rt.alloc())?;
-    let mut text = Vec::new(rt.alloc());
-    write_trace(rt.alloc(), manager.history(), &mut text)?;
-    same(&rt, &text.as_slice(), &TRACE);
-    let mut trace = text.as_slice();
-    let order = check(rt.alloc(), &mut trace)?;
-    let serial = [TxId(1), TxId(3)];
-    same(&rt, &order.txs.as_slice(), &serial.as_slice());
-    same(&rt, &order.base.balance(1), &Some(7));
-    Ok(())
+fn abort_under_later_deposit(rt: HostRuntime) -> Result<(), Refusal> {
+    let mut manager = Manager::new(rt.alloc(), Limits::program(), Mult)?;
+    run(&rt, rt.alloc(), &mut manager, &UNDER_LATER_DEPOSIT)?;
+    run(&rt, rt.alloc(), &mut manager, &LATER_DEPOSIT)?;
+    writes(&rt, rt.alloc(), &manager, TRACE_OF_THE_ABORT)?;
+    run(&rt, rt.alloc(), &mut manager, &LATER_BALANCE)
 }
 
 const BLOCKED_BY_REPLY: Schedule = Schedule {
@@ -119,7 +108,7 @@ const BLOCKED_BY_REPLY: Schedule = Schedule {
 
 #[test]
 fn blocked_by_reply(rt: HostRuntime) -> Result<(), Refusal> {
-    run_mult(&rt, rt.alloc(), &BLOCKED_BY_REPLY)
+    run_mult(&rt, rt.alloc(), Limits::program(), &BLOCKED_BY_REPLY)
 }
 
 const OVER_AFTER_UNDO: Schedule = Schedule {
@@ -141,7 +130,7 @@ const OVER_AFTER_UNDO: Schedule = Schedule {
 
 #[test]
 fn over_after_undo(rt: HostRuntime) -> Result<(), Refusal> {
-    run_mult(&rt, rt.alloc(), &OVER_AFTER_UNDO)
+    run_mult(&rt, rt.alloc(), Limits::program(), &OVER_AFTER_UNDO)
 }
 
 const REMOVE_ADD_REMOVE: Schedule = Schedule {
@@ -165,7 +154,7 @@ const REMOVE_ADD_REMOVE: Schedule = Schedule {
 
 #[test]
 fn remove_add_remove_undone(rt: HostRuntime) -> Result<(), Refusal> {
-    run_mult(&rt, rt.alloc(), &REMOVE_ADD_REMOVE)
+    run_mult(&rt, rt.alloc(), Limits::program(), &REMOVE_ADD_REMOVE)
 }
 
 const OTHER_ADDS: Schedule = Schedule {
@@ -192,7 +181,7 @@ const OTHER_ADDS: Schedule = Schedule {
 
 #[test]
 fn other_adds_after_undo(rt: HostRuntime) -> Result<(), Refusal> {
-    run_mult(&rt, rt.alloc(), &OTHER_ADDS)
+    run_mult(&rt, rt.alloc(), Limits::program(), &OTHER_ADDS)
 }
 
 const COUNTER_WRAPS: Schedule = Schedule {
@@ -218,7 +207,7 @@ const COUNTER_WRAPS: Schedule = Schedule {
 
 #[test]
 fn counter_wraps(rt: HostRuntime) -> Result<(), Refusal> {
-    run_mult(&rt, rt.alloc(), &COUNTER_WRAPS)
+    run_mult(&rt, rt.alloc(), Limits::program(), &COUNTER_WRAPS)
 }
 
 const OVER_PASSES_DEPOSIT: Schedule = Schedule {
@@ -252,8 +241,8 @@ const OVER_BLOCKS_WITHDRAWAL: Schedule = Schedule {
 
 #[test]
 fn over_passes_deposit(rt: HostRuntime) -> Result<(), Refusal> {
-    run_mult(&rt, rt.alloc(), &OVER_PASSES_DEPOSIT)?;
-    run_mult(&rt, rt.alloc(), &OVER_BLOCKS_WITHDRAWAL)
+    run_mult(&rt, rt.alloc(), Limits::program(), &OVER_PASSES_DEPOSIT)?;
+    run_mult(&rt, rt.alloc(), Limits::program(), &OVER_BLOCKS_WITHDRAWAL)
 }
 
 const AROUND_SHORT: Schedule = Schedule {
@@ -286,6 +275,6 @@ const AROUND_NOT_EMPTY: Schedule = Schedule {
 
 #[test]
 fn withdrawals_around_short(rt: HostRuntime) -> Result<(), Refusal> {
-    run_mult(&rt, rt.alloc(), &AROUND_SHORT)?;
-    run_mult(&rt, rt.alloc(), &AROUND_NOT_EMPTY)
+    run_mult(&rt, rt.alloc(), Limits::program(), &AROUND_SHORT)?;
+    run_mult(&rt, rt.alloc(), Limits::program(), &AROUND_NOT_EMPTY)
 }

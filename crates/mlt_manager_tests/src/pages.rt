@@ -3,6 +3,7 @@
 
 use crate::checks::same;
 use crate::driver::{Row, Schedule, run, run_low};
+use mlt_manager::Manager;
 use mlt_types::{Limits, Low, Refusal};
 
 // They fill one bucket.
@@ -54,7 +55,7 @@ const SPLIT_WAITS: Schedule = Schedule {
 
 #[test]
 fn split_waits_for_reader(rt: HostRuntime) -> Result<(), Refusal> {
-    run_low(&rt, rt.alloc(), &SPLIT_WAITS)
+    run_low(&rt, rt.alloc(), Limits::program(), &SPLIT_WAITS)
 }
 
 const SPLIT_STAYS: Schedule = Schedule {
@@ -75,7 +76,7 @@ const SPLIT_STAYS: Schedule = Schedule {
 
 #[test]
 fn split_stays_after_abort(rt: HostRuntime) -> Result<(), Refusal> {
-    run_low(&rt, rt.alloc(), &SPLIT_STAYS)
+    run_low(&rt, rt.alloc(), Limits::program(), &SPLIT_STAYS)
 }
 
 const NO_ROOM_AT_DEPTH: Schedule = Schedule {
@@ -91,7 +92,7 @@ const NO_ROOM_AT_DEPTH: Schedule = Schedule {
 
 #[test]
 fn no_room_at_depth(rt: HostRuntime) -> Result<(), Refusal> {
-    run_low(&rt, rt.alloc(), &NO_ROOM_AT_DEPTH)
+    run_low(&rt, rt.alloc(), Limits::program(), &NO_ROOM_AT_DEPTH)
 }
 
 const ROOM_IS_KEPT: Schedule = Schedule {
@@ -133,8 +134,8 @@ account 327680 0\naccount 393216 0\naccount 458752 0\n",
 
 #[test]
 fn ghost_keeps_room(rt: HostRuntime) -> Result<(), Refusal> {
-    run_low(&rt, rt.alloc(), &ROOM_IS_KEPT)?;
-    run_low(&rt, rt.alloc(), &ROOM_IS_GIVEN)
+    run_low(&rt, rt.alloc(), Limits::program(), &ROOM_IS_KEPT)?;
+    run_low(&rt, rt.alloc(), Limits::program(), &ROOM_IS_GIVEN)
 }
 
 const BELOW_THIRTEEN: Schedule = Schedule {
@@ -154,8 +155,8 @@ const THIRTEEN: Schedule = Schedule {
 #[test]
 fn thirteen_splits(rt: HostRuntime) -> Result<(), Refusal> {
     let eight = Limits::checked(64, 1 << 32, 70_000, 8, 1_024)?;
-    run(&rt, rt.alloc(), eight, Low, &BELOW_THIRTEEN)?;
-    run_low(&rt, rt.alloc(), &THIRTEEN)
+    run_low(&rt, rt.alloc(), eight, &BELOW_THIRTEEN)?;
+    run_low(&rt, rt.alloc(), Limits::program(), &THIRTEEN)
 }
 
 const THIRTEEN_BY_STEPS: Schedule = Schedule {
@@ -172,7 +173,8 @@ const THIRTEEN_BY_STEPS: Schedule = Schedule {
 
 #[test]
 fn thirteen_splits_by_steps(rt: HostRuntime) -> Result<(), Refusal> {
-    let manager = run(&rt, rt.alloc(), Limits::program(), Low, &THIRTEEN_BY_STEPS)?;
+    let mut manager = Manager::new(rt.alloc(), Limits::program(), Low)?;
+    run(&rt, rt.alloc(), &mut manager, &THIRTEEN_BY_STEPS)?;
     same(&rt, &manager.pages().len(), &47);
     Ok(())
 }
@@ -191,8 +193,7 @@ const NO_PAGES: Schedule = Schedule {
 #[test]
 fn no_room_for_pages(rt: HostRuntime) -> Result<(), Refusal> {
     let three = Limits::checked(64, 1 << 32, 3, 16, 1_024)?;
-    run(&rt, rt.alloc(), three, Low, &NO_PAGES)?;
-    Ok(())
+    run_low(&rt, rt.alloc(), three, &NO_PAGES)
 }
 
 const NO_ROOM_BY_STEPS: Schedule = Schedule {
@@ -211,7 +212,7 @@ const NO_ROOM_BY_STEPS: Schedule = Schedule {
 
 #[test]
 fn no_room_by_steps(rt: HostRuntime) -> Result<(), Refusal> {
-    run_low(&rt, rt.alloc(), &NO_ROOM_BY_STEPS)
+    run_low(&rt, rt.alloc(), Limits::program(), &NO_ROOM_BY_STEPS)
 }
 
 // A directory of depth 13, of whose pages the first has all entries of a full bucket of depth 6.
@@ -266,6 +267,6 @@ const BEHIND_READER: Schedule = Schedule {
 
 #[test]
 fn narrow_split_beside_reader(rt: HostRuntime) -> Result<(), Refusal> {
-    run_low(&rt, rt.alloc(), &BESIDE_READER)?;
-    run_low(&rt, rt.alloc(), &BEHIND_READER)
+    run_low(&rt, rt.alloc(), Limits::program(), &BESIDE_READER)?;
+    run_low(&rt, rt.alloc(), Limits::program(), &BEHIND_READER)
 }

@@ -1,7 +1,8 @@
 //! What events are refused for, and how events and commits are counted.
 
 use crate::checks::same;
-use crate::driver::{Schedule, run};
+use crate::driver::{Schedule, run, run_mult};
+use mlt_manager::Manager;
 use mlt_types::{Limits, Mult, Refusal};
 
 const IN_ORDER: Schedule = Schedule {
@@ -39,8 +40,7 @@ const IN_ORDER: Schedule = Schedule {
 #[test]
 fn refusals_in_order(rt: HostRuntime) -> Result<(), Refusal> {
     let limits = Limits::checked(2, 3, 70_000, 16, 1)?;
-    run(&rt, rt.alloc(), limits, Mult, &IN_ORDER)?;
-    Ok(())
+    run_mult(&rt, rt.alloc(), limits, &IN_ORDER)
 }
 
 // One transaction at a time, and two in all.
@@ -62,7 +62,8 @@ const TWO_IN_TURN: Schedule = Schedule {
 #[test]
 fn refused_begins_are_counted(rt: HostRuntime) -> Result<(), Refusal> {
     let limits = Limits::checked(1, 2, 70_000, 16, 1_024)?;
-    let manager = run(&rt, rt.alloc(), limits, Mult, &TWO_IN_TURN)?;
+    let mut manager = Manager::new(rt.alloc(), limits, Mult)?;
+    run(&rt, rt.alloc(), &mut manager, &TWO_IN_TURN)?;
     same(&rt, &manager.events(), &8);
     Ok(())
 }
