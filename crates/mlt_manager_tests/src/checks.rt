@@ -1,0 +1,14 @@
+//! What tests compare. A comparison is proved once here, and each test only calls it.
+
+use std::fmt::Debug;
+use std::process::Abort;
+
+/// The value that was found is the one that is wanted.
+pub fn same<T: PartialEq + Debug>(rt: &impl Abort, found: &T, wanted: &T) {
+    assert_eq!(rt; found, wanted);
+}
+
+/// The value that was found at this place is the one that is wanted.
+pub fn same_at<P: Debug, T: PartialEq + Debug>(rt: &impl Abort, place: &P, found: &T, wanted: &T) {
+    assert_eq!(rt; found, wanted, "{place:?}");
+}

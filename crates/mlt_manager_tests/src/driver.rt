@@ -1,0 +1,182 @@
+//! Runs schedules, and compares what each event is told with what the schedule says.
+
+use crate::checks::{same, same_at};
+use mlt_base::write_base;
+use mlt_check::committed_base;
+use mlt_event::{Answer, Event, Told};
+use mlt_event_text::parse_events;
+use mlt_kinds::ObjOp;
+use mlt_manager::Manager;
+use mlt_page::Page;
+use mlt_store::Store;
+use mlt_trace::write_trace;
+use mlt_types::{Limits, Low, Mult, PageNo, Pseudo, Refusal, TxId};
+use std::alloc::{AllocError, Global};
+use std::process::Abort;
+
+/// Lines of events, and what each of these events is told.
+pub type Row = (&'static str, &'static str);
+
+/// What is run on a manager, and what it ends with.
+pub struct Schedule {
+    /// How the objects are made.
+    pub made: &'static [Row],
+    /// What is done then.
+    pub rows: &'static [Row],
+    /// The text of the base at the end.
+    pub base: &'static [u8],
+    /// The depth of the directory at the end.
+    pub depth: u8,
+}
+
+// No operation and no abort of these schedules takes as many steps.
+const STEPS: usize = 200;
+
+/// Runs a schedule on a new manager with multiplied pseudokeys.
+pub fn run_mult(
+    rt: &impl Abort,
+    alloc: Global,
+    limits: Limits,
+    schedule: &Schedule,
+) -> Result<(), Refusal> {
+    let mut manager = Manager::new(alloc, limits, Mult)?;
+    run(rt, alloc, &mut manager, schedule)
+}
+
+/// Runs a schedule on a new manager with low pseudokeys.
+pub fn run_low(
+    rt: &impl Abort,
+    alloc: Global,
+    limits: Limits,
+    schedule: &Schedule,
+) -> Result<(), Refusal> {
+    let mut manager = Manager::new(alloc, limits, Low)?;
+    run(rt, alloc, &mut manager, schedule)
+}
+
+/// Runs a schedule.
+pub fn run<P: Pseudo>(
+    rt: &impl Abort,
+    alloc: Global,
+    manager: &mut Manager<P>,
+    schedule: &Schedule,
+) -> Result<(), Refusal> {
+    play(rt, alloc, manager, schedule.made)?;
+    play(rt, alloc, manager, schedule.rows)?;
+    ends(rt, alloc, manager, schedule.base, schedule.depth)
+}
+
+// Each event of these rows in turn is told what its row says.
+fn play<P: Pseudo>(
+    rt: &impl Abort,
+    alloc: Global,
+    manager: &mut Manager<P>,
+    rows: &[Row],
+) -> Result<(), Refusal> {
+    for (lines, wanted) in rows {
+        let events = parse_events(alloc, lines.as_bytes())?;
+        told_all(rt, alloc, manager, &events, wanted)?;
+    }
+    Ok(())
+}
+
+fn told_all<P: Pseudo>(
+    rt: &impl Abort,
+    alloc: Global,
+    manager: &mut Manager<P>,
+    events: &[Event],
+    wanted: &str,
+) -> Result<(), AllocError> {
+    for event in events {
+        let told = tell(manager, event);
+        let found = format!(in alloc; "{told}")?;
+        same_at(rt, event, &found.as_str(), &wanted);
+    }
+    Ok(())
+}
+
+// What the event is told.
+fn tell<P: Pseudo>(manager: &mut Manager<P>, event: &Event) -> Told {
+    let told = match *event {
+        Event::Begin => manager.begin().map(Told::Begun),
+        Event::Call(tx, op) => manager.call(tx, op).map(|()| Told::Called),
+        Event::Step(tx) => manager.step(tx).map(Told::Answered),
+        Event::Cancel(tx) => manager.cancel(tx).map(|()| Told::Cancelled),
+        Event::Commit(tx) => manager.commit(tx).map(Told::Committed),
+        Event::Abort(tx) => manager.abort(tx).map(Told::Aborting),
+        Event::Whole(tx, op) => whole(manager, tx, op).map(Told::Answered),
+        Event::WholeUndo(tx) => whole_undo(manager, tx).map(Told::Answered),
+    };
+    told.unwrap_or_else(Told::Refused)
+}
+
+// A call, and its steps up to their end. One that waits or is blocked is cancelled.
+fn whole<P: Pseudo>(manager: &mut Manager<P>, tx: TxId, op: ObjOp) -> Result<Answer, Refusal> {
+    manager.call(tx, op)?;
+    let answer = steps(manager, tx)?;
+    if matches!(&answer, Answer::Waiting { .. } | Answer::Blocked { .. }) {
+        manager.cancel(tx)?;
+    }
+    Ok(answer)
+}
+
+// The steps of an abort, up to its end.
+fn whole_undo<P: Pseudo>(manager: &mut Manager<P>, tx: TxId) -> Result<Answer, Refusal> {
+    for _ in 0..STEPS {
+        let answer = steps(manager, tx)?;
+        if answer != Answer::Undone {
+            return Ok(answer);
+        }
+    }
+    Ok(Answer::Undone)
+}
+
+// Steps up to the first that is not told to go on.
+fn steps<P: Pseudo>(manager: &mut Manager<P>, tx: TxId) -> Result<Answer, Refusal> {
+    for _ in 0..STEPS {
+        let answer = manager.step(tx)?;
+        if answer != Answer::Going {
+            return Ok(answer);
+        }
+    }
+    Ok(Answer::Going)
+}
+
+// The base has this text, and the directory this depth.
+fn ends<P: Pseudo>(
+    rt: &impl Abort,
+    alloc: Global,
+    manager: &Manager<P>,
+    base: &[u8],
+    wanted: u8,
+) -> Result<(), Refusal> {
+    let found = committed_base(alloc, manager.history())?;
+    let mut text = Vec::new(alloc);
+    write_base(&found, &mut text)?;
+    same(rt, &text.as_slice(), &base);
+    same(rt, &depth(manager.pages()), &Some(wanted));
+    Ok(())
+}
+
+/// The text of the history is this.
+pub fn writes<P: Pseudo>(
+    rt: &impl Abort,
+    alloc: Global,
+    manager: &Manager<P>,
+    trace: &[u8],
+) -> Result<(), Refusal> {
+    let mut text = Vec::new(alloc);
+    write_trace(alloc, manager.history(), &mut text)?;
+    same(rt, &text.as_slice(), &trace);
+    Ok(())
+}
+
+// The depth that the header page has, which is one of the first hundred pages.
+fn depth(pages: &Store) -> Option<u8> {
+    for number in 0..100 {
+        if let Some(Page::Head(head)) = pages.read(PageNo(number)) {
+            return Some(head.depth);
+        }
+    }
+    None
+}
