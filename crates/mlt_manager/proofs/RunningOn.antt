@@ -1,5 +1,5 @@
 -- The steps of a pending operation, one after another, come to an end
-use Rattle.std.proofs.Common.{◌≡◌, ◌<◌, ◌≤◌, ℕ, List, [], ◌∷◌, ◌++◌, Option, None, Some, Result, Ok, Err, refl, sym, ap, subst, ◌∙◌, arith}
+use Rattle.std.proofs.Common.{◌≡◌, ◌<◌, ◌≤◌, ℕ, List, [], ◌∷◌, ◌++◌, Option, None, Some, Err, refl, sym, ap, subst, ◌∙◌, arith}
 use Rattle.std.specs.FinMap as map
 use Rattle.mlt_types.specs.declared.refusal.Refusal.{Refusal}
 use Rattle.mlt_kinds.specs.declared.operation.ObjOp.{ObjOp}
@@ -8,8 +8,6 @@ use Rattle.mlt_held.specs.Views.{view_of}
 use Rattle.mlt_hash.specs.Walks.{basis_by}
 use Rattle.mlt_operation.specs.MostSteps.{most_steps}
 use Rattle.mlt_operation.specs.Operating.{OperationFields}
-use Rattle.mlt_operation.specs.declared.answer.StepAnswer.TheVariants as step
-use Rattle.mlt_operation.specs.Answers.{TellsOfStep}
 use Rattle.mlt_operation.proofs.MostSteps.{one_fewer_at_least}
 use Rattle.mlt_event.specs.declared.answer.Answer.{Answer}
 use Rattle.mlt_event.specs.declared.answer.Answer.TheVariants as answer
@@ -23,8 +21,8 @@ use Rattle.mlt_open.specs.Tables.{Table}
 use Rattle.mlt_invariant.proofs.Tables.{inserted_here}
 use Rattle.mlt_manager.specs.Answers.{AnswersCall, HasCalled, HasStepped, IsOpenAt, txs_after}
 use Rattle.mlt_manager.specs.Managers.{IsManager, ManagerFields}
-use Rattle.mlt_manager.specs.Wholes.{AnswersWhole, DropsIfItStands, HasRun, IsDropped, RunsToEnd, StandsIn, StepsOnBy, StepsOnUpTo, Stops}
-use Rattle.mlt_manager.proofs.Called.{called_keeps, cancelled_keeps, not_called_keeps, one_there, pending_of}
+use Rattle.mlt_manager.specs.Wholes.{AnswersWhole, DropsIfItStands, HasRun, StandsIn, StepsOnBy, StepsOnUpTo, Stops}
+use Rattle.mlt_manager.proofs.Called.{called_keeps, cancelled_keeps, one_there, pending_of}
 use Rattle.mlt_manager.proofs.Stepped.{step_keeps}
 
 -- how many steps the pending operation of the transaction still takes at most, those that wait aside
@@ -106,12 +104,12 @@ fewer_on bits_of m m' tx pending d small =
     let o = operation_at bits_of m m' tx answer.Going pending d in
     let s = steps_pending bits_of m m' tx answer.Going pending d in
     let was : on_left m tx ≡ most_steps m.root.page o.0 (view_of (moment d.steps.changes.before.subtx m.commons.pages)) =
-        ap (λ (t : Option Transaction). most_for t m.root.page m.commons) d.steps.changes.was ∙ ap (λ (a : At). most_at a m.root.page d.steps.changes.before m.commons) o.1 in
+    ap (λ (t : Option Transaction). most_for t m.root.page m.commons) d.steps.changes.was ∙ ap (λ (a : At). most_at a m.root.page d.steps.changes.before m.commons) o.1 in
     let is : on_left m' tx ≡ most_steps m.root.page s.next (view_of (moment d.steps.changes.after.subtx s.between.pages)) =
-        ap (λ (t : Option Transaction). most_for t m'.root.page m'.commons) (there_by bits_of m m' tx answer.Going pending d answer.Going refl refl)
-        ∙ ap (λ (a : At). most_at a m'.root.page d.steps.changes.after m'.commons) s.now_at
-        ∙ ap (λ (n : ManagerFields _). most_steps n.root.page s.next (view_of (moment d.steps.changes.after.subtx m'.commons.pages))) d.rest
-        ∙ ap (λ (k : Commons). most_steps m.root.page s.next (view_of (moment d.steps.changes.after.subtx k.pages))) s.leaves in
+    ap (λ (t : Option Transaction). most_for t m'.root.page m'.commons) (there_by bits_of m m' tx answer.Going pending d answer.Going refl refl)
+    ∙ ap (λ (a : At). most_at a m'.root.page d.steps.changes.after m'.commons) s.now_at
+    ∙ ap (λ (n : ManagerFields _). most_steps n.root.page s.next (view_of (moment d.steps.changes.after.subtx m'.commons.pages))) d.rest
+    ∙ ap (λ (k : Commons). most_steps m.root.page s.next (view_of (moment d.steps.changes.after.subtx k.pages))) s.leaves in
     let fewer = one_fewer_at_least (basis_by bits_of m.root m.opens d.steps.changes.before.subtx.tx) (moment d.steps.changes.before.subtx m.commons.pages) (moment d.steps.changes.after.subtx s.between.pages) o.0 s.next small s.tells.tells in
     omega (arith, was, is, fewer)
 

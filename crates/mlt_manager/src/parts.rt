@@ -222,8 +222,7 @@ impl<P: Pseudo> Parts<P> {
 
     pub(crate) fn whole(&mut self, tx: TxId, op: ObjOp) -> Result<Answer, Refusal>
         requires sound { IsManager P.bits_of (fields_of self.old) }
-        ensures answers {
-            AnswersWhole P.bits_of (fields_of self.old) (fields_of self.new) tx op result }
+        ensures answers { AnswersWhole P.bits_of (fields_of self.old) (fields_of self.new) tx op result }
     {
         self.call(tx, op)?;
         Ok(self.run(tx))
@@ -233,8 +232,7 @@ impl<P: Pseudo> Parts<P> {
     fn run(&mut self, tx: TxId) -> Answer
         requires sound { IsManager P.bits_of (fields_of self.old) }
         requires pending { IsOpenAt self.old.txs tx IsPending }
-        ensures runs {
-            RunsToEnd P.bits_of (fields_of self.old) (fields_of self.new) tx result }
+        ensures runs { RunsToEnd P.bits_of (fields_of self.old) (fields_of self.new) tx result }
     {
         let answer = self.run_on(tx);
         match answer {
@@ -249,8 +247,7 @@ impl<P: Pseudo> Parts<P> {
     fn run_on(&mut self, tx: TxId) -> Answer
         requires sound { IsManager P.bits_of (fields_of self.old) }
         requires pending { IsOpenAt self.old.txs tx IsPending }
-        ensures steps {
-            StepsOnUpTo P.bits_of (fields_of self.old) (fields_of self.new) tx result }
+        ensures steps { StepsOnUpTo P.bits_of (fields_of self.old) (fields_of self.new) tx result }
         ensures pending { StandsIn (fields_of self.new) tx result }
     {
         loop {

@@ -1,5 +1,3 @@
-use Rattle.std.proofs.Common.{refl}
-use Rattle.std.proofs.lemmas.Result.{err_from_is_err_and}
 use Rattle.mlt_manager.specs.Parts.{fields_of}
 use Rattle.mlt_manager.proofs.Called.{called_keeps}
 use Rattle.mlt_manager.proofs.RunningOn.{called_is_pending}
