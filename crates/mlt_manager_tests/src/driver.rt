@@ -1,4 +1,4 @@
-//! Runs schedules, and compares what each event is told with what the schedule says.
+//! Runs schedules, and compares what is seen with what the schedule says.
 
 use crate::checks::{same, same_at};
 use mlt_base::write_base;
@@ -17,16 +17,20 @@ use std::process::Abort;
 /// Lines of events, and what each of these events is told.
 pub type Row = (&'static str, &'static str);
 
-/// What is run on a manager, and what it ends with.
-pub struct Schedule {
-    /// How the objects are made.
-    pub made: &'static [Row],
-    /// What is done then.
-    pub rows: &'static [Row],
-    /// The text of the base at the end.
-    pub base: &'static [u8],
-    /// The depth of the directory at the end.
-    pub depth: u8,
+/// A part of a schedule: what is done on a manager, or what is then to be seen of it.
+pub enum Stage {
+    /// Each event of these rows in turn is told what its row says.
+    Told(&'static [Row]),
+    /// The base has this text.
+    Base(&'static [u8]),
+    /// The directory has this depth.
+    Depth(u8),
+    /// There are so many pages.
+    Pages(usize),
+    /// There were so many events.
+    Events(u64),
+    /// The history has this text.
+    Trace(&'static [u8]),
 }
 
 // No operation and no abort of these schedules takes as many steps.
@@ -37,7 +41,7 @@ pub fn run_mult(
     rt: &impl Abort,
     alloc: Global,
     limits: Limits,
-    schedule: &Schedule,
+    schedule: &[Stage],
 ) -> Result<(), Refusal> {
     let mut manager = Manager::new(alloc, limits, Mult)?;
     run(rt, alloc, &mut manager, schedule)
@@ -48,22 +52,39 @@ pub fn run_low(
     rt: &impl Abort,
     alloc: Global,
     limits: Limits,
-    schedule: &Schedule,
+    schedule: &[Stage],
 ) -> Result<(), Refusal> {
     let mut manager = Manager::new(alloc, limits, Low)?;
     run(rt, alloc, &mut manager, schedule)
 }
 
-/// Runs a schedule.
-pub fn run<P: Pseudo>(
+fn run<P: Pseudo>(
     rt: &impl Abort,
     alloc: Global,
     manager: &mut Manager<P>,
-    schedule: &Schedule,
+    schedule: &[Stage],
 ) -> Result<(), Refusal> {
-    play(rt, alloc, manager, schedule.made)?;
-    play(rt, alloc, manager, schedule.rows)?;
-    ends(rt, alloc, manager, schedule.base, schedule.depth)
+    for stage in schedule {
+        passes(rt, alloc, manager, stage)?;
+    }
+    Ok(())
+}
+
+fn passes<P: Pseudo>(
+    rt: &impl Abort,
+    alloc: Global,
+    manager: &mut Manager<P>,
+    stage: &Stage,
+) -> Result<(), Refusal> {
+    match *stage {
+        Stage::Told(rows) => play(rt, alloc, manager, rows)?,
+        Stage::Base(text) => has_base(rt, alloc, manager, text)?,
+        Stage::Depth(wanted) => same(rt, &depth(manager.pages()), &Some(wanted)),
+        Stage::Pages(wanted) => same(rt, &manager.pages().len(), &wanted),
+        Stage::Events(wanted) => same(rt, &manager.events(), &wanted),
+        Stage::Trace(text) => has_trace(rt, alloc, manager, text)?,
+    }
+    Ok(())
 }
 
 // Each event of these rows in turn is told what its row says.
@@ -142,32 +163,28 @@ fn steps<P: Pseudo>(manager: &mut Manager<P>, tx: TxId) -> Result<Answer, Refusa
     Ok(Answer::Going)
 }
 
-// The base has this text, and the directory this depth.
-fn ends<P: Pseudo>(
+fn has_base<P: Pseudo>(
     rt: &impl Abort,
     alloc: Global,
     manager: &Manager<P>,
-    base: &[u8],
-    wanted: u8,
+    wanted: &[u8],
 ) -> Result<(), Refusal> {
-    let found = committed_base(alloc, manager.history())?;
+    let base = committed_base(alloc, manager.history())?;
     let mut text = Vec::new(alloc);
-    write_base(&found, &mut text)?;
-    same(rt, &text.as_slice(), &base);
-    same(rt, &depth(manager.pages()), &Some(wanted));
+    write_base(&base, &mut text)?;
+    same(rt, &text.as_slice(), &wanted);
     Ok(())
 }
 
-/// The text of the history is this.
-pub fn writes<P: Pseudo>(
+fn has_trace<P: Pseudo>(
     rt: &impl Abort,
     alloc: Global,
     manager: &Manager<P>,
-    trace: &[u8],
+    wanted: &[u8],
 ) -> Result<(), Refusal> {
     let mut text = Vec::new(alloc);
     write_trace(alloc, manager.history(), &mut text)?;
-    same(rt, &text.as_slice(), &trace);
+    same(rt, &text.as_slice(), &wanted);
     Ok(())
 }
 

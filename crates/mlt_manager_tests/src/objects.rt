@@ -1,8 +1,7 @@
 //! Operations that clash or pass each other, and what aborts take back.
 
-use crate::driver::{Row, Schedule, run, run_mult, writes};
-use mlt_manager::Manager;
-use mlt_types::{Limits, Mult, Refusal};
+use crate::driver::{Row, Stage, run_mult};
+use mlt_types::{Limits, Refusal};
 
 const ACCOUNT: &[Row] = &[
     ("begin", "begun 1"),
@@ -34,9 +33,9 @@ const ACCOUNT_WITH_MOST: &[Row] = &[
 ];
 
 // Two deposits on one account, the first of which is taken back after the second.
-const UNDER_LATER_DEPOSIT: Schedule = Schedule {
-    made: ACCOUNT,
-    rows: &[
+const UNDER_LATER_DEPOSIT: &[Stage] = &[
+    Stage::Told(ACCOUNT),
+    Stage::Told(&[
         ("begin", "begun 2"),
         ("begin", "begun 3"),
         ("call 2 deposit 1 5", "called"),
@@ -51,42 +50,27 @@ const UNDER_LATER_DEPOSIT: Schedule = Schedule {
         ("abort 2", "aborting"),
         ("step 2 3", "going"),
         ("step 2", "aborted"),
-    ],
-    base: b"account 1 0\n",
-    depth: 0,
-};
-
-// The second one commits then.
-const LATER_DEPOSIT: Schedule = Schedule {
-    made: &[],
-    rows: &[("commit 3", "committed 2")],
-    base: b"account 1 7\n",
-    depth: 0,
-};
-
-const LATER_BALANCE: Schedule = Schedule {
-    made: &[],
-    rows: &[("begin", "begun 4"), ("whole 4 balance 1", "done is 7")],
-    base: b"account 1 7\n",
-    depth: 0,
-};
+    ]),
+    Stage::Base(b"account 1 0\n"),
+    Stage::Depth(0),
+    Stage::Told(&[("commit 3", "committed 2")]),
+    Stage::Trace(TRACE_OF_THE_ABORT),
+    Stage::Base(b"account 1 7\n"),
+    Stage::Depth(0),
+    Stage::Told(&[("begin", "begun 4"), ("whole 4 balance 1", "done is 7")]),
+];
 
 const TRACE_OF_THE_ABORT: &[u8] = b"begin 1\nop 1 open 1 opened\ncommit 1 1\nbegin 2\nbegin 3\n\
 op 2 deposit 1 5 done\nop 3 deposit 1 7 done\nback 2\nabort 2\ncommit 3 2\n";
 
-// The history is written before the balance is read, so it is that of the abort alone.
 #[test]
 fn abort_under_later_deposit(rt: HostRuntime) -> Result<(), Refusal> {
-    let mut manager = Manager::new(rt.alloc(), Limits::program(), Mult)?;
-    run(&rt, rt.alloc(), &mut manager, &UNDER_LATER_DEPOSIT)?;
-    run(&rt, rt.alloc(), &mut manager, &LATER_DEPOSIT)?;
-    writes(&rt, rt.alloc(), &manager, TRACE_OF_THE_ABORT)?;
-    run(&rt, rt.alloc(), &mut manager, &LATER_BALANCE)
+    run_mult(&rt, rt.alloc(), Limits::program(), UNDER_LATER_DEPOSIT)
 }
 
-const BLOCKED_BY_REPLY: Schedule = Schedule {
-    made: ACCOUNT_WITH_5,
-    rows: &[
+const BLOCKED_BY_REPLY: &[Stage] = &[
+    Stage::Told(ACCOUNT_WITH_5),
+    Stage::Told(&[
         ("begin", "begun 2"),
         ("whole 2 withdraw 1 3", "done done"),
         ("begin", "begun 3"),
@@ -101,19 +85,19 @@ const BLOCKED_BY_REPLY: Schedule = Schedule {
         ("commit 3", "committed 2"),
         ("begin", "begun 4"),
         ("whole 4 balance 1", "done is 1"),
-    ],
-    base: b"account 1 1\n",
-    depth: 0,
-};
+    ]),
+    Stage::Base(b"account 1 1\n"),
+    Stage::Depth(0),
+];
 
 #[test]
 fn blocked_by_reply(rt: HostRuntime) -> Result<(), Refusal> {
-    run_mult(&rt, rt.alloc(), Limits::program(), &BLOCKED_BY_REPLY)
+    run_mult(&rt, rt.alloc(), Limits::program(), BLOCKED_BY_REPLY)
 }
 
-const OVER_AFTER_UNDO: Schedule = Schedule {
-    made: ACCOUNT_WITH_MOST,
-    rows: &[
+const OVER_AFTER_UNDO: &[Stage] = &[
+    Stage::Told(ACCOUNT_WITH_MOST),
+    Stage::Told(&[
         ("begin", "begun 2"),
         ("whole 2 withdraw 1 1", "done done"),
         ("begin", "begun 3"),
@@ -123,19 +107,18 @@ const OVER_AFTER_UNDO: Schedule = Schedule {
         ("whole 3 deposit 1 1", "done over"),
         ("begin", "begun 4"),
         ("whole 4 balance 1", "done is 1000000000000000000"),
-    ],
-    base: b"account 1 1000000000000000000\n",
-    depth: 0,
-};
+    ]),
+    Stage::Base(b"account 1 1000000000000000000\n"),
+    Stage::Depth(0),
+];
 
 #[test]
 fn over_after_undo(rt: HostRuntime) -> Result<(), Refusal> {
-    run_mult(&rt, rt.alloc(), Limits::program(), &OVER_AFTER_UNDO)
+    run_mult(&rt, rt.alloc(), Limits::program(), OVER_AFTER_UNDO)
 }
 
-const REMOVE_ADD_REMOVE: Schedule = Schedule {
-    made: &[],
-    rows: &[
+const REMOVE_ADD_REMOVE: &[Stage] = &[
+    Stage::Told(&[
         ("begin", "begun 1"),
         ("whole 1 add 4 9", "done added"),
         ("commit 1", "committed 1"),
@@ -147,19 +130,18 @@ const REMOVE_ADD_REMOVE: Schedule = Schedule {
         ("undo 2", "aborted"),
         ("begin", "begun 3"),
         ("whole 3 has 4 9", "done yes"),
-    ],
-    base: b"element 4 9\n",
-    depth: 0,
-};
+    ]),
+    Stage::Base(b"element 4 9\n"),
+    Stage::Depth(0),
+];
 
 #[test]
 fn remove_add_remove_undone(rt: HostRuntime) -> Result<(), Refusal> {
-    run_mult(&rt, rt.alloc(), Limits::program(), &REMOVE_ADD_REMOVE)
+    run_mult(&rt, rt.alloc(), Limits::program(), REMOVE_ADD_REMOVE)
 }
 
-const OTHER_ADDS: Schedule = Schedule {
-    made: &[],
-    rows: &[
+const OTHER_ADDS: &[Stage] = &[
+    Stage::Told(&[
         ("begin", "begun 1"),
         ("whole 1 up 1 1", "done done"),
         ("whole 1 add 4 9", "done added"),
@@ -174,19 +156,18 @@ const OTHER_ADDS: Schedule = Schedule {
         ("begin", "begun 3"),
         ("whole 3 has 4 9", "done yes"),
         ("whole 3 read 1", "done is 0"),
-    ],
-    base: b"element 4 9\n",
-    depth: 0,
-};
+    ]),
+    Stage::Base(b"element 4 9\n"),
+    Stage::Depth(0),
+];
 
 #[test]
 fn other_adds_after_undo(rt: HostRuntime) -> Result<(), Refusal> {
-    run_mult(&rt, rt.alloc(), Limits::program(), &OTHER_ADDS)
+    run_mult(&rt, rt.alloc(), Limits::program(), OTHER_ADDS)
 }
 
-const COUNTER_WRAPS: Schedule = Schedule {
-    made: &[],
-    rows: &[
+const COUNTER_WRAPS: &[Stage] = &[
+    Stage::Told(&[
         ("begin", "begun 1"),
         ("whole 1 up 2 5", "done done"),
         ("begin", "begun 2"),
@@ -200,19 +181,19 @@ const COUNTER_WRAPS: Schedule = Schedule {
         ("commit 3", "committed 2"),
         ("begin", "begun 4"),
         ("whole 4 read 2", "done is 18446744073709551615"),
-    ],
-    base: b"counter 2 18446744073709551615\n",
-    depth: 0,
-};
+    ]),
+    Stage::Base(b"counter 2 18446744073709551615\n"),
+    Stage::Depth(0),
+];
 
 #[test]
 fn counter_wraps(rt: HostRuntime) -> Result<(), Refusal> {
-    run_mult(&rt, rt.alloc(), Limits::program(), &COUNTER_WRAPS)
+    run_mult(&rt, rt.alloc(), Limits::program(), COUNTER_WRAPS)
 }
 
-const OVER_PASSES_DEPOSIT: Schedule = Schedule {
-    made: ACCOUNT_WITH_LESS,
-    rows: &[
+const OVER_PASSES_DEPOSIT: &[Stage] = &[
+    Stage::Told(ACCOUNT_WITH_LESS),
+    Stage::Told(&[
         ("begin", "begun 2"),
         ("whole 2 deposit 1 11", "done over"),
         ("begin", "begun 3"),
@@ -221,60 +202,60 @@ const OVER_PASSES_DEPOSIT: Schedule = Schedule {
         ("commit 2", "committed 3"),
         ("begin", "begun 4"),
         ("whole 4 balance 1", "done is 1000000000000000000"),
-    ],
-    base: b"account 1 1000000000000000000\n",
-    depth: 0,
-};
+    ]),
+    Stage::Base(b"account 1 1000000000000000000\n"),
+    Stage::Depth(0),
+];
 
 // Beside the same deposit that was told Over, a withdrawal is blocked.
-const OVER_BLOCKS_WITHDRAWAL: Schedule = Schedule {
-    made: ACCOUNT_WITH_LESS,
-    rows: &[
+const OVER_BLOCKS_WITHDRAWAL: &[Stage] = &[
+    Stage::Told(ACCOUNT_WITH_LESS),
+    Stage::Told(&[
         ("begin", "begun 2"),
         ("whole 2 deposit 1 11", "done over"),
         ("begin", "begun 3"),
         ("whole 3 withdraw 1 1", "blocked by 2"),
-    ],
-    base: b"account 1 999999999999999990\n",
-    depth: 0,
-};
+    ]),
+    Stage::Base(b"account 1 999999999999999990\n"),
+    Stage::Depth(0),
+];
 
 #[test]
 fn over_passes_deposit(rt: HostRuntime) -> Result<(), Refusal> {
-    run_mult(&rt, rt.alloc(), Limits::program(), &OVER_PASSES_DEPOSIT)?;
-    run_mult(&rt, rt.alloc(), Limits::program(), &OVER_BLOCKS_WITHDRAWAL)
+    run_mult(&rt, rt.alloc(), Limits::program(), OVER_PASSES_DEPOSIT)?;
+    run_mult(&rt, rt.alloc(), Limits::program(), OVER_BLOCKS_WITHDRAWAL)
 }
 
-const AROUND_SHORT: Schedule = Schedule {
-    made: ACCOUNT_WITH_5,
-    rows: &[
+const AROUND_SHORT: &[Stage] = &[
+    Stage::Told(ACCOUNT_WITH_5),
+    Stage::Told(&[
         ("begin", "begun 2"),
         ("whole 2 deposit 1 1", "done done"),
         ("begin", "begun 3"),
         ("whole 3 withdraw 1 7", "done short"),
         ("whole 3 withdraw 1 6", "blocked by 2"),
-    ],
-    base: b"account 1 5\n",
-    depth: 0,
-};
+    ]),
+    Stage::Base(b"account 1 5\n"),
+    Stage::Depth(0),
+];
 
 // A close that was told NotEmpty lets a deposit pass, and no withdrawal.
-const AROUND_NOT_EMPTY: Schedule = Schedule {
-    made: ACCOUNT_WITH_5,
-    rows: &[
+const AROUND_NOT_EMPTY: &[Stage] = &[
+    Stage::Told(ACCOUNT_WITH_5),
+    Stage::Told(&[
         ("begin", "begun 2"),
         ("whole 2 close 1", "done notempty"),
         ("begin", "begun 3"),
         ("whole 3 deposit 1 3", "done done"),
         ("begin", "begun 4"),
         ("whole 4 withdraw 1 8", "blocked by 2"),
-    ],
-    base: b"account 1 5\n",
-    depth: 0,
-};
+    ]),
+    Stage::Base(b"account 1 5\n"),
+    Stage::Depth(0),
+];
 
 #[test]
 fn withdrawals_around_short(rt: HostRuntime) -> Result<(), Refusal> {
-    run_mult(&rt, rt.alloc(), Limits::program(), &AROUND_SHORT)?;
-    run_mult(&rt, rt.alloc(), Limits::program(), &AROUND_NOT_EMPTY)
+    run_mult(&rt, rt.alloc(), Limits::program(), AROUND_SHORT)?;
+    run_mult(&rt, rt.alloc(), Limits::program(), AROUND_NOT_EMPTY)
 }

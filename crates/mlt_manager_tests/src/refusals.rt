@@ -1,13 +1,10 @@
 //! What events are refused for, and how events and commits are counted.
 
-use crate::checks::same;
-use crate::driver::{Schedule, run, run_mult};
-use mlt_manager::Manager;
-use mlt_types::{Limits, Mult, Refusal};
+use crate::driver::{Stage, run_mult};
+use mlt_types::{Limits, Refusal};
 
-const IN_ORDER: Schedule = Schedule {
-    made: &[],
-    rows: &[
+const IN_ORDER: &[Stage] = &[
+    Stage::Told(&[
         ("begin", "begun 1"),
         ("begin", "begun 2"),
         ("begin", "refused 7 TooManyOpen"),
@@ -32,21 +29,20 @@ const IN_ORDER: Schedule = Schedule {
         ("undo 3", "refused 6 NotRunning"),
         ("begin", "refused 9 IdsSpent"),
         ("abort 3", "aborted"),
-    ],
-    base: b"",
-    depth: 0,
-};
+    ]),
+    Stage::Base(b""),
+    Stage::Depth(0),
+];
 
 #[test]
 fn refusals_in_order(rt: HostRuntime) -> Result<(), Refusal> {
     let limits = Limits::checked(2, 3, 70_000, 16, 1)?;
-    run_mult(&rt, rt.alloc(), limits, &IN_ORDER)
+    run_mult(&rt, rt.alloc(), limits, IN_ORDER)
 }
 
 // One transaction at a time, and two in all.
-const TWO_IN_TURN: Schedule = Schedule {
-    made: &[],
-    rows: &[
+const TWO_IN_TURN: &[Stage] = &[
+    Stage::Told(&[
         ("begin", "begun 1"),
         ("begin", "refused 7 TooManyOpen"),
         ("commit 1", "committed 1"),
@@ -54,16 +50,14 @@ const TWO_IN_TURN: Schedule = Schedule {
         ("begin", "begun 2"),
         ("commit 2", "committed 2"),
         ("begin\nbegin", "refused 9 IdsSpent"),
-    ],
-    base: b"",
-    depth: 0,
-};
+    ]),
+    Stage::Base(b""),
+    Stage::Depth(0),
+    Stage::Events(8),
+];
 
 #[test]
 fn refused_begins_are_counted(rt: HostRuntime) -> Result<(), Refusal> {
     let limits = Limits::checked(1, 2, 70_000, 16, 1_024)?;
-    let mut manager = Manager::new(rt.alloc(), limits, Mult)?;
-    run(&rt, rt.alloc(), &mut manager, &TWO_IN_TURN)?;
-    same(&rt, &manager.events(), &8);
-    Ok(())
+    run_mult(&rt, rt.alloc(), limits, TWO_IN_TURN)
 }
