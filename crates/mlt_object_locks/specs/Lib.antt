@@ -1,3 +1,1 @@
 pub mod Locks
-pub mod Places
-pub mod Cells

@@ -1,8 +1,6 @@
-pub mod Bits
 pub mod Maps
 pub mod LockLaws
 pub mod Pages
 pub mod Tables
 pub mod Conflicts
 pub mod Grants
-pub mod Covering

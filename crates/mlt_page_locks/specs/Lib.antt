@@ -1,4 +1,3 @@
 pub mod LockTables
 pub mod Requests
 pub mod LockLists
-pub mod Marks

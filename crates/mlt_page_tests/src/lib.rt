@@ -11,8 +11,6 @@ mod page_locks;
 #[cfg(test)]
 mod records;
 #[cfg(test)]
-mod scanned;
-#[cfg(test)]
 mod stores;
 #[cfg(test)]
 mod subtransactions;

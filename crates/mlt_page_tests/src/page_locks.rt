@@ -10,7 +10,7 @@ use std::test::Fail;
 
 // Locks that were asked for so many times, with room for 64 transactions.
 #[derive(Drop)]
-pub(crate) struct Desk {
+struct Desk {
     locks: PageLocks,
     asked: u32,
     ghost few: { HasAtMost asked locks },
@@ -18,23 +18,23 @@ pub(crate) struct Desk {
 }
 
 impl Desk {
-    pub fn ask(&mut self, rt: &impl Abort, tx: u64, page: u32, mode: Mode) -> Grant {
+    fn ask(&mut self, rt: &impl Abort, tx: u64, page: u32, mode: Mode) -> Grant {
         assert!(rt; self.asked < 64);
         let grant = self.locks.ask(TxId(tx), PageNo(page), mode);
         self.asked += 1;
         grant
     }
 
-    pub fn release_all(&mut self, tx: u64) {
+    fn release_all(&mut self, tx: u64) {
         self.locks.release_all(TxId(tx));
     }
 
-    pub fn mode_of(&self, tx: u64, page: u32) -> Option<Mode> {
+    fn mode_of(&self, tx: u64, page: u32) -> Option<Mode> {
         self.locks.mode_of(TxId(tx), PageNo(page))
     }
 }
 
-pub(crate) fn new_desk(rt: &HostRuntime) -> Result<Desk, Refusal> {
+fn new_desk(rt: &HostRuntime) -> Result<Desk, Refusal> {
     let locks = PageLocks::new(rt.alloc(), &Limits::program())?;
     Ok(Desk { locks, asked: 0 })
 }
