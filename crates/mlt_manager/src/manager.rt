@@ -202,10 +202,13 @@ impl<P: Pseudo> Manager<P> {
             Plays P.bits_of limits pseudo events.now played.1.items played.0) }
         ensures refusal { IfErr result (λ refusal. refusal ≡ Refusal.OutOfMemory) }
     {
-        let mut manager = Manager::new(alloc, limits, pseudo)?;
         let mut tolds = Vec::with_capacity(alloc, events.len())?;
+        let mut manager = Manager::new(alloc, limits, pseudo)?;
         for event in events {
-            tolds.push(manager.act(*event))?;
+            match tolds.push(manager.act(*event)) {
+                Ok(()) => (),
+                Err(_) => return Err(Refusal::OutOfMemory),
+            }
         }
         manager.keeps_its_promises();
         Ok((manager, tolds))

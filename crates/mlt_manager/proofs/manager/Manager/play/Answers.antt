@@ -14,7 +14,7 @@ loop-event-init g c = record {
 pub loop-event-preserved : goal.loop-event-preserved
 loop-event-preserved g c =
     played_on g.P.Pseudo.bits_of c.args.limits c.args.pseudo c.args.events.now c.loop-event.event-index c.loop-event.tolds.items c.push.new.self.items c.loop-event.manager c.act.new.self c.event-item.result c.act.result
-    c.loop-event-test.true c.event-item.is c.in_ok-push.ensures.items c.loop-event.invariant c.act.ensures.meets
+    c.loop-event-test.true c.event-item.is c.in-Ok.ensures.items c.loop-event.invariant c.act.ensures.meets
 
 pub returns-clause-plays : goal.returns-clause-plays
 returns-clause-plays g c =
