@@ -1,2 +1,11 @@
 pub mod Entries
 pub mod Lowest
+pub mod Membership
+pub mod Filled
+pub mod Released
+pub mod Noted
+pub mod Order
+pub mod HeldCells
+pub mod Changes
+pub mod Sound
+pub mod Clashing

@@ -1,6 +1,5 @@
 -- The lowest number of another transaction that stands in the way, with one more operation held.
-use Rattle.std.proofs.Common.{suc, ◌≡◌, ◌≢◌, ◌⊎◌, ℕ, ◌≤◌, List, [], ◌∷◌, ◌++◌, Option, None, Some, true, false, IsTrue, Contains, nat_eq, not, ◌+◌, ◌<◌, length, get_or, take, ap, sym, subst, ◌∙◌, arith, inl, inr}
-use Rattle.std.proofs.Math.Seq.{take-suc}
+use Rattle.std.proofs.Common.{◌≡◌, ◌≢◌, ◌⊎◌, ℕ, ◌≤◌, List, [], ◌∷◌, ◌++◌, Option, None, Some, true, false, IsTrue, Contains, nat_eq, not, ap, sym, subst, ◌∙◌, arith, inl, inr}
 use Rattle.std.proofs.lemmas.List.Elements.{Contains-append_left, Contains-push, Contains-push_cases}
 use Rattle.mlt_kinds.specs.declared.operation.ObjOp.{ObjOp}
 use Rattle.mlt_kinds.specs.declared.operation.ObjReply.{ObjReply}
@@ -74,19 +73,3 @@ module _ (held : List Held) (entry : Held) (tx : ℕ) (requested : ObjOp × ObjR
   pub lowest_without : (lowest : Option ℕ) → IsLowestIfAny held tx requested lowest → (StandsIn entry tx requested → ⊥) → IsLowestIfAny (held ++ entry ∷ []) tx requested lowest
   lowest_without None h s = λ other k. h other (not_entry s other (held_or_entry other k))
   lowest_without (Some low) h s = (still_holds low h.0, λ other k. h.1 other (not_entry s other (held_or_entry other k)))
-
-module _ (held : List Held) (entry : Held) (i : ℕ) where
-  one_more : i < length held → get_or held i entry ≡ entry → take (i + 1) held ≡ take i held ++ entry ∷ []
-  one_more h e =
-      let same : suc i ≡ i + 1 = omega arith in
-      subst (λ n. take n held ≡ take i held ++ entry ∷ []) same (take-suc held i entry h ∙ ap (λ x. take i held ++ x ∷ []) e)
-
-  -- the same of the front of a list, with its next entry
-  pub front_with : (tx : ℕ) (requested : ObjOp × ObjReply) (lowest : Option ℕ) → i < length held → get_or held i entry ≡ entry
-      → IsLowestIfAny (take i held) tx requested lowest → StandsIn entry tx requested → IsLowestIfAny (take (i + 1) held) tx requested (Some (lower_of lowest entry.0))
-  front_with tx requested lowest h e k s =
-      subst (λ x. IsLowestIfAny x tx requested (Some (lower_of lowest entry.0))) (sym (one_more h e)) (lowest_with (take i held) entry tx requested lowest k s)
-
-  pub front_without : (tx : ℕ) (requested : ObjOp × ObjReply) (lowest : Option ℕ) → i < length held → get_or held i entry ≡ entry
-      → IsLowestIfAny (take i held) tx requested lowest → (StandsIn entry tx requested → ⊥) → IsLowestIfAny (take (i + 1) held) tx requested lowest
-  front_without tx requested lowest h e k s = subst (λ x. IsLowestIfAny x tx requested lowest) (sym (one_more h e)) (lowest_without (take i held) entry tx requested lowest k s)

@@ -1,1 +1,3 @@
 pub mod Locks
+pub mod Places
+pub mod Cells

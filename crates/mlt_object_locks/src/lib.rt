@@ -5,6 +5,8 @@
 //! locks end with the operation (Weikum, ACM TODS 16(1), 1991, section 3).
 #![tactic(auto)]
 
+mod cells;
 mod locks;
+mod places;
 
 pub use locks::ObjectLocks;

@@ -1,14 +1,22 @@
-//! The table of object locks, as one list that is scanned.
+//! The table of object locks, by cells: a request looks at one cell, and a release at those of its transaction.
+//!
+//! Each grant has a number, by which the order of the grants over all cells can be told. Only contracts ask for it.
 
-ghost use Rattle.std.specs.Prelude.{◌≡◌, ◌≤◌, ℕ, [], ◌∷◌, ◌++◌, Some, None, OnOk, OnErr, IfErr};
+ghost use Rattle.std.specs.Prelude.{◌≡◌, ◌≤◌, ℕ, [], ◌∷◌, ◌++◌, Some, None, nat_eq, OnOk, OnErr, IfErr};
 ghost use Rattle.std.specs.List.{filter};
-ghost use Rattle.std.specs.Vec.{vec_capacity, vec_len};
+ghost use Rattle.std.specs.Option.{option_map};
+ghost use Rattle.indexmap.specs.IndexMap.{get};
+ghost use Rattle.mlt_types.specs.Cells.{key_number};
 ghost use Rattle.mlt_kinds.specs.Operations.{cell_of};
-ghost use Rattle.mlt_object_locks.specs.Locks.{no_locks, HoldsClash, IsLowestClash, IsLowestIfAny, is_of_other, lower_of, reservation_of, SameReservations};
+ghost use Rattle.mlt_object_locks.specs.Locks.{no_locks, HoldsClash, IsLowestClash, is_of_other, reservation_of, SameReservations};
 
-use mlt_commute::clash;
+use crate::cells::{
+    Cells, Touched, fill_place, give_up_earlier, lowest_clash, prepare, release_noted,
+};
+use crate::places::Grant;
+use indexmap::IndexMap;
 use mlt_kinds::Done;
-use mlt_types::{Cell, Refusal, TxId};
+use mlt_types::{Cell, Key, Refusal, TxId};
 use std::alloc::Global;
 use std::marker::Model;
 
@@ -17,21 +25,24 @@ use std::marker::Model;
 /// were granted; and beside it the list of the reservations.
 #[derive(Debug, Drop)]
 pub struct ObjectLocks {
-    held: Vec<(TxId, Done)>,
-    reserved: Vec<(TxId, Cell)>,
+    cells: Cells,
+    reserved: IndexMap<TxId, Cell>,
+    touched: Touched,
+    next: u64,
 }
 
 impl Model for ObjectLocks {
-    ghost use Rattle.std.specs.Prelude.{◌+◌, ◌≤◌};
-    ghost use Rattle.std.specs.Vec.{vec_capacity, vec_len};
     ghost use Rattle.mlt_object_locks.specs.Locks.{Locks};
+    ghost use Rattle.mlt_object_locks.specs.Cells.{granted_at, in_order, IsSound};
 
     ghost Value = { Locks };
 
-    ghost view = { λ locks. record { held = locks.held.items; reserved = locks.reserved.items } };
+    ghost view = { λ locks. record {
+      held = in_order (granted_at locks.cells.entries) locks.next;
+      reserved = locks.reserved.entries;
+    } };
 
-    ghost invariant = { λ locks.
-        vec_len locks.held + vec_len locks.reserved ≤ vec_capacity locks.held };
+    ghost invariant = { λ locks. IsSound locks.cells locks.reserved locks.touched locks.next };
 }
 
 impl ObjectLocks {
@@ -40,8 +51,10 @@ impl ObjectLocks {
         ensures { result ≡ no_locks }
     {
         ObjectLocks {
-            held: Vec::new(alloc),
-            reserved: Vec::new(alloc),
+            cells: IndexMap::new(alloc),
+            reserved: IndexMap::new(alloc),
+            touched: IndexMap::new(alloc),
+            next: 0,
         }
     }
 
@@ -49,8 +62,8 @@ impl ObjectLocks {
     /// there was one, is given up.
     ///
     /// # Errors
-    /// `OutOfMemory`, where a growth was refused; what is held and reserved is then as before.
-    #[tactic(auto, using(crate::proofs::Entries::other_pushed, crate::proofs::Entries::reservation_pushed))]
+    /// `OutOfMemory`, where a growth was refused, or all 2^64 - 1 numbers of grants are spent; what is held and
+    /// reserved is then as before.
     pub fn reserve(&mut self, tx: TxId, cell: &Cell) -> Result<(), Refusal>
         ensures held { self.new.held ≡ self.old.held }
         ensures reserved { OnOk result (reservation_of self.new.reserved tx ≡ Some cell.now) }
@@ -58,10 +71,15 @@ impl ObjectLocks {
         ensures err { OnErr result (self.new ≡ self.old) }
         ensures refusal { IfErr result (λ refusal. refusal ≡ Refusal.OutOfMemory) }
     {
-        self.held.reserve(self.reserved.len() + 1)?;
-        self.reserved.reserve(1)?;
-        remove_entries(&mut self.reserved, tx);
-        self.reserved.push_reserved((tx, *cell));
+        // Each reservation has a number for its grant.
+        if self.next >= u64::MAX - self.reserved.len() as u64 {
+            return Err(Refusal::OutOfMemory);
+        }
+        let key = Key::of(cell).number();
+        let earlier = reserved_key(&self.reserved, tx);
+        prepare(&mut self.cells, &mut self.touched, earlier, tx, key)?;
+        self.reserved.insert(tx, *cell)?;
+        give_up_earlier(&mut self.cells, earlier, key, tx);
         Ok(())
     }
 
@@ -71,7 +89,6 @@ impl ObjectLocks {
     /// # Errors
     /// The lowest number of another transaction that holds an operation with which this one, requested
     /// later, conflicts. What is held and reserved is then as before.
-    #[tactic(auto, using(crate::proofs::Entries::reservation_of_other, crate::proofs::Entries::reservation_removed, crate::proofs::Entries::fewer_left))]
     pub fn ask(&mut self, tx: TxId, done: &Done) -> Result<(), TxId>
         requires { reservation_of self.old.reserved tx ≡ Some (cell_of done.now.0) }
         ensures free { OnOk result
@@ -82,54 +99,32 @@ impl ObjectLocks {
         ensures lowest { IfErr result (λ holder. IsLowestClash self.old.held tx done.now holder) }
         ensures err { OnErr result (self.new ≡ self.old) }
     {
-        if let Some(holder) = lowest_clash(self.held.as_slice(), tx, done) {
+        let key = Key::of(&done.cell()).number();
+        if let Some(holder) = lowest_clash(&self.cells, key, tx, done) {
             return Err(holder);
         }
-        remove_entries(&mut self.reserved, tx);
-        self.held.push_reserved((tx, *done));
+        let stamp = self.next;
+        self.reserved.swap_remove(&tx);
+        fill_place(&mut self.cells, key, tx, Grant { stamp, done: *done });
+        self.next = stamp + 1;
         Ok(())
     }
 
     /// Takes away all that the transaction holds and reserved, and nothing of others. It takes no memory.
-    #[tactic(auto, using(crate::proofs::Entries::reservation_of_other, crate::proofs::Entries::reservation_removed))]
     pub fn release_all(&mut self, tx: TxId)
         ensures held { self.new.held ≡ filter (is_of_other tx) self.old.held }
         ensures released { reservation_of self.new.reserved tx ≡ None }
         ensures others { SameReservations self.old.reserved self.new.reserved tx }
     {
-        remove_entries(&mut self.held, tx);
-        remove_entries(&mut self.reserved, tx);
+        self.reserved.swap_remove(&tx);
+        release_noted(&mut self.cells, &mut self.touched, tx);
     }
 }
 
-/// The lowest number of another transaction that holds a conflicting operation, if there is one.
-fn lowest_clash(held: &[(TxId, Done)], tx: TxId, done: &Done) -> Option<TxId>
-    ensures { IsLowestIfAny held.now tx done.now result }
+/// The number of the key of the cell that the transaction reserved.
+fn reserved_key(reserved: &IndexMap<TxId, Cell>, tx: TxId) -> Option<u64>
+    ensures { result ≡ option_map key_number (get nat_eq reserved.now tx) }
 {
-    let mut lowest = None;
-    for (holder, earlier) in held {
-        if *holder != tx && clash(earlier, done) {
-            lowest = Some(lower(lowest, *holder));
-        }
-    }
-    lowest
-}
-
-/// The lower of two numbers, of which one may be missing.
-fn lower(lowest: Option<TxId>, holder: TxId) -> TxId
-    ensures { result ≡ lower_of lowest holder }
-{
-    match lowest {
-        Some(other) if other < holder => other,
-        _ => holder,
-    }
-}
-
-/// Removes the entries of a transaction, and keeps the order of the others.
-fn remove_entries<T: Drop>(entries: &mut Vec<(TxId, T)>, tx: TxId)
-    ensures items { entries.new.items ≡ filter (is_of_other tx) entries.old.items }
-    ensures capacity { vec_capacity entries.new ≡ vec_capacity entries.old }
-    ensures bound { vec_len entries.new ≤ vec_len entries.old }
-{
-    entries.retain(|entry| entry.0 != tx);
+    let cell = reserved.get(&tx)?;
+    Some(Key::of(cell).number())
 }

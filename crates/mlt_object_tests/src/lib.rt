@@ -13,6 +13,8 @@ mod kinds;
 #[cfg(test)]
 mod locks;
 #[cfg(test)]
+mod scanned;
+#[cfg(test)]
 mod tables;
 #[cfg(test)]
 mod texts;

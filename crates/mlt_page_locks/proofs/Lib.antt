@@ -1,6 +1,8 @@
+pub mod Bits
 pub mod Maps
 pub mod LockLaws
 pub mod Pages
 pub mod Tables
 pub mod Conflicts
 pub mod Grants
+pub mod Covering

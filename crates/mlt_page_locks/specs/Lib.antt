@@ -1,3 +1,4 @@
 pub mod LockTables
 pub mod Requests
 pub mod LockLists
+pub mod Marks

@@ -99,6 +99,11 @@ impl LockList {
                 .is_some_and(|held| !goes_with(held, mode))
     }
 
+    /// The locks, each page once.
+    pub fn locks(&self) -> &[PageLock] {
+        &self.locks
+    }
+
     /// Makes the list that of `tx`.
     pub fn give_to(&mut self, tx: TxId)
         ensures { self.new ≡ record { tx = tx; modes = self.old.modes } }

@@ -1,15 +1,23 @@
 //! Page locks of all transactions.
 
-ghost use Rattle.std.specs.Prelude.{◌≡◌, ◌==◌, ◌&&◌, ℕ, not, length, IfOk, IfErr, MatchOption, min, unwrap_or, position};
+ghost use Rattle.std.specs.Prelude.{◌≡◌, ◌==◌, ◌≤◌, ◌<◌, ◌&&◌, ℕ, not, true, length, IfOk, IfErr, MatchOption, min, unwrap_or, position};
 ghost use Rattle.std.specs.FinMap as map;
 ghost use Rattle.mlt_page_locks.specs.LockTables.{no_locks, mode_held, AreCompatible, HasRoom};
-ghost use Rattle.mlt_page_locks.specs.Requests.{granted, released, conflicts, with_page, Answers, IsLowest, IsNobody};
+ghost use Rattle.mlt_page_locks.specs.Requests.{granted, released, conflicts, with_page, is_against, Answers, IsLowest, IsNobody};
+ghost use Rattle.mlt_page_locks.specs.Marks.{InMask, AddsAt, KeepsOthers, has_page};
 ghost use Rattle.mlt_page_locks.specs.LockLists.{is_free, is_list_of, table_of, lock_table, IsSound};
 
 use crate::lock_list::LockList;
+use crate::marks::{Marks, is_set};
 use mlt_types::{Limits, Mode, PageNo, Refusal, TxId};
 use std::alloc::Global;
 use std::marker::Model;
+
+// How many masks there are by pages, and by transactions. A place is looked at in vain only where two numbers have
+// one remainder.
+const PAGE_MASKS: usize = 4_096;
+
+const HOLDER_MASKS: usize = 256;
 
 /// The answer to a request for a lock.
 #[derive(Clone, Copy, Debug, PartialEq, Eq)]
@@ -26,11 +34,15 @@ pub enum Grant {
 #[derive(Drop)]
 pub struct PageLocks {
     lists: Vec<LockList>,
+    // At a page, the places whose lists may have it; at a transaction, the places that may be its own.
+    pages: Marks,
+    holders: Marks,
 }
 
 impl Model for PageLocks {
     ghost use Rattle.mlt_page_locks.specs.LockTables.{LockTable, coded_table};
-    ghost use Rattle.mlt_page_locks.specs.LockLists.{lock_table, IsSound};
+    ghost use Rattle.mlt_page_locks.specs.LockLists.{lock_table};
+    ghost use Rattle.mlt_page_locks.specs.Marks.{IsCovered};
 
     ghost Value = { LockTable };
 
@@ -38,7 +50,7 @@ impl Model for PageLocks {
 
     ghost view = { λ locks. lock_table locks.lists.items };
 
-    ghost invariant = { λ locks. IsSound locks.lists.items };
+    ghost invariant = { λ locks. IsCovered locks.lists.items locks.pages locks.holders };
 }
 
 impl PageLocks {
@@ -54,7 +66,13 @@ impl PageLocks {
         for _ in 0..limits.max_open {
             lists.push(LockList::new())?;
         }
-        Ok(PageLocks { lists })
+        let pages = Marks::new(alloc, PAGE_MASKS)?;
+        let holders = Marks::new(alloc, HOLDER_MASKS)?;
+        Ok(PageLocks {
+            lists,
+            pages,
+            holders,
+        })
     }
 
     /// Asks for a lock of `tx` on a page. It is held exactly where all other holders of the page go with it; else
@@ -65,10 +83,14 @@ impl PageLocks {
         ensures answer { Answers self.old tx page mode result self.new }
         ensures compatible { AreCompatible self.new }
     {
-        match lowest_conflict(&self.lists, tx, page, mode) {
+        let marked = self.pages.mask(u64::from(page.0));
+        match lowest_conflict(&self.lists, marked, tx, page, mode) {
             Some(by) => Grant::Waiting(by),
             None => {
-                add_lock(&mut self.lists, tx, page, mode);
+                let own = self.holders.mask(tx.0);
+                let place = add_lock(&mut self.lists, own, tx, page, mode);
+                self.pages.mark(u64::from(page.0), place);
+                self.holders.mark(tx.0, place);
                 Grant::Held
             }
         }
@@ -79,7 +101,7 @@ impl PageLocks {
         ensures mode { result ≡ mode_held self.now tx page }
         ensures compatible { AreCompatible self.now }
     {
-        let place = list_of(&self.lists, tx)?;
+        let place = list_of(&self.lists, self.holders.mask(tx.0), tx)?;
         self.lists[place].mode_of(page)
     }
 
@@ -88,17 +110,47 @@ impl PageLocks {
         ensures released { self.new ≡ released self.old tx }
         ensures compatible { AreCompatible self.new }
     {
-        if let Some(place) = list_of(&self.lists, tx) {
+        if let Some(place) = list_of(&self.lists, self.holders.mask(tx.0), tx) {
+            unmark_pages(&mut self.pages, &self.lists[place], place);
+            self.holders.unmark(tx.0, place);
             self.lists[place].clear();
         }
     }
 }
 
-// The place of the list of `tx`.
-fn list_of(lists: &[LockList], tx: TxId) -> Option<usize>
+// Takes the marks of a place away at the pages of its list.
+fn unmark_pages(pages: &mut Marks, list: &LockList, place: usize)
+    requires { place < 64 }
+    ensures { KeepsOthers pages.old pages.new place }
+{
+    for lock in list.locks() {
+        pages.unmark(u64::from(lock.page.0), place);
+    }
+}
+
+// The place of the list of `tx`, which is in the mask.
+fn list_of(lists: &[LockList], mask: u64, tx: TxId) -> Option<usize>
+    requires few { length lists.now ≤ 64 }
+    requires marked { InMask lists.now (is_list_of tx) mask }
     ensures { result ≡ position (is_list_of tx) lists.now }
 {
-    lists.iter().position(|list| list.is_of(tx))
+    if mask == 0 {
+        return None;
+    }
+    for (place, list) in lists.iter().enumerate() {
+        if is_owned(list, is_set(mask, place), tx) {
+            return Some(place);
+        }
+    }
+    None
+}
+
+// Whether the list is that of `tx`. It is looked at only where it is marked.
+fn is_owned(list: &LockList, marked: bool, tx: TxId) -> bool
+    requires { is_list_of tx list.now ≡ true → marked ≡ true }
+    ensures { result ≡ is_list_of tx list.now }
+{
+    marked && list.is_of(tx)
 }
 
 // The place of a list that is nobody's.
@@ -109,21 +161,27 @@ fn free_list(lists: &[LockList]) -> Option<usize>
 }
 
 // Gives `tx` the page in the stronger mode, in the list that it has, or in one that is nobody's.
-fn add_lock(lists: &mut Vec<LockList>, tx: TxId, page: PageNo, mode: Mode)
+fn add_lock(lists: &mut Vec<LockList>, mask: u64, tx: TxId, page: PageNo, mode: Mode) -> usize
+    requires few { length lists.old.items ≤ 64 }
+    requires marked { InMask lists.old.items (is_list_of tx) mask }
     requires sound { IsSound lists.old.items }
     requires room { HasRoom (granted (lock_table lists.old.items) tx page mode) }
     requires compatible { AreCompatible (granted (lock_table lists.old.items) tx page mode) }
     ensures granted { lock_table lists.new.items
         ≡ granted (lock_table lists.old.items) tx page mode }
     ensures sound { IsSound lists.new.items }
+    ensures place { AddsAt lists.old.items lists.new.items tx page mode result }
 {
-    match list_of(lists, tx) {
-        Some(place) => lists[place].add(page, mode),
+    match list_of(lists, mask, tx) {
+        Some(place) => {
+            lists[place].add(page, mode);
+            place
+        }
         None => start_list(lists, tx, page, mode),
     }
 }
 
-fn start_list(lists: &mut Vec<LockList>, tx: TxId, page: PageNo, mode: Mode)
+fn start_list(lists: &mut Vec<LockList>, tx: TxId, page: PageNo, mode: Mode) -> usize
     requires sound { IsSound lists.old.items }
     requires none { map.get (table_of lists.old.items) tx ≡ None }
     requires room { HasRoom (granted (lock_table lists.old.items) tx page mode) }
@@ -131,30 +189,52 @@ fn start_list(lists: &mut Vec<LockList>, tx: TxId, page: PageNo, mode: Mode)
     ensures granted { lock_table lists.new.items
         ≡ granted (lock_table lists.old.items) tx page mode }
     ensures sound { IsSound lists.new.items }
+    ensures place { AddsAt lists.old.items lists.new.items tx page mode result }
 {
     match free_list(lists) {
         Some(place) => {
             let list = &mut lists[place];
             list.give_to(tx);
             list.add(page, mode);
+            place
         }
         None => unreachable!(),
     }
 }
 
 // The lowest other transaction whose lock on the page does not go with one of `tx` in this mode.
-fn lowest_conflict(lists: &[LockList], tx: TxId, page: PageNo, mode: Mode) -> Option<TxId>
-    requires { IsSound lists.now }
+fn lowest_conflict(
+    lists: &[LockList],
+    mask: u64,
+    tx: TxId,
+    page: PageNo,
+    mode: Mode,
+) -> Option<TxId>
+    requires few { length lists.now ≤ 64 }
+    requires sound { IsSound lists.now }
+    requires marked { InMask lists.now (has_page page) mask }
     ensures { let others = conflicts (lock_table lists.now) tx page mode in
         MatchOption result (IsNobody others) (IsLowest others) }
 {
     let mut lowest = None;
-    for list in lists {
-        if list.conflicts(tx, page, mode) {
+    if mask == 0 {
+        return lowest;
+    }
+    for (place, list) in lists.iter().enumerate() {
+        if is_in_way(list, is_set(mask, place), tx, page, mode) {
             lowest = Some(lower(lowest, list.tx()));
         }
     }
     lowest
+}
+
+// Whether the list has a lock that does not go with one of `tx`. It is looked at only where it is marked.
+fn is_in_way(list: &LockList, marked: bool, tx: TxId, page: PageNo, mode: Mode) -> bool
+    requires { has_page page list.now ≡ true → marked ≡ true }
+    ensures { let held = map.get list.now.modes page in
+        result ≡ (not (list.now.tx == tx) && is_against held mode) }
+{
+    marked && list.conflicts(tx, page, mode)
 }
 
 fn lower(lowest: Option<TxId>, tx: TxId) -> TxId

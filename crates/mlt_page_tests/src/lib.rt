@@ -11,6 +11,8 @@ mod page_locks;
 #[cfg(test)]
 mod records;
 #[cfg(test)]
+mod scanned;
+#[cfg(test)]
 mod stores;
 #[cfg(test)]
 mod subtransactions;

@@ -10,7 +10,7 @@ use std::test::Fail;
 
 // Locks that were asked for so many times, with room for 64 transactions.
 #[derive(Drop)]
-struct Desk {
+pub(crate) struct Desk {
     locks: PageLocks,
     asked: u32,
     ghost few: { HasAtMost asked locks },
@@ -18,23 +18,23 @@ struct Desk {
 }
 
 impl Desk {
-    fn ask(&mut self, rt: &impl Abort, tx: u64, page: u32, mode: Mode) -> Grant {
+    pub fn ask(&mut self, rt: &impl Abort, tx: u64, page: u32, mode: Mode) -> Grant {
         assert!(rt; self.asked < 64);
         let grant = self.locks.ask(TxId(tx), PageNo(page), mode);
         self.asked += 1;
         grant
     }
 
-    fn release_all(&mut self, tx: u64) {
+    pub fn release_all(&mut self, tx: u64) {
         self.locks.release_all(TxId(tx));
     }
 
-    fn mode_of(&self, tx: u64, page: u32) -> Option<Mode> {
+    pub fn mode_of(&self, tx: u64, page: u32) -> Option<Mode> {
         self.locks.mode_of(TxId(tx), PageNo(page))
     }
 }
 
-fn new_desk(rt: &HostRuntime) -> Result<Desk, Refusal> {
+pub(crate) fn new_desk(rt: &HostRuntime) -> Result<Desk, Refusal> {
     let locks = PageLocks::new(rt.alloc(), &Limits::program())?;
     Ok(Desk { locks, asked: 0 })
 }

@@ -1,0 +1,103 @@
+-- The places of all cells, and the order of what is held in them.
+use Prim.Native.Nat.{zero}
+use Rattle.std.specs.Prelude.{ℕ, suc, ◌≡◌, ◌≢◌, ◌+◌, ◌<◌, ◌^◌, nat_eq, List, [], ◌∷◌, ◌++◌, Option, None, Some, unwrap_or, Contains, if◌then◌else◌, ◌==◌}
+use Rattle.indexmap.specs.IndexMap.{IndexMap, IsUnique, get, index_map_len}
+use Rattle.mlt_types.specs.declared.cell.Cell.{Cell}
+use Rattle.mlt_types.specs.Cells.{key_number}
+use Rattle.mlt_kinds.specs.Operations.{cell_of}
+use Rattle.mlt_object_locks.specs.declared.places.Grant.{Grant}
+use Rattle.mlt_object_locks.specs.declared.places.Place.{Place}
+use Rattle.mlt_object_locks.specs.Locks.{Held}
+use Rattle.mlt_object_locks.specs.Places.{open_place, held_place}
+
+-- the list at a key, with no element where there is none: of cells their places, of transactions their cells
+abbrev pub list_at : {X S : Type 0} → IndexMap ℕ (List X) S → ℕ → List X
+list_at lists key = unwrap_or (get nat_eq lists key) []
+
+-- only the list at one key may change
+pub record ChangesAt {X S : Type 0} (old new : IndexMap ℕ (List X) S) (key : ℕ) : Type 0 where
+  pub same : (other : ℕ) → other ≢ key → list_at new other ≡ list_at old other
+  pub unique : IsUnique nat_eq new
+
+-- what is held stays, at the same cells
+pub record KeepsHeld {S : Type 0} (old new : IndexMap ℕ (List Place) S) : Type 0 where
+  pub only : (key tx : ℕ) (grant : Grant) → Contains (list_at new key) (held_place tx grant) → Contains (list_at old key) (held_place tx grant)
+  pub keeps : (key tx : ℕ) (grant : Grant) → Contains (list_at old key) (held_place tx grant) → Contains (list_at new key) (held_place tx grant)
+
+-- what is held and what is open stays; places may have been opened
+pub record Opens {S : Type 0} (old new : IndexMap ℕ (List Place) S) : Type 0 where
+  pub unique : IsUnique nat_eq new
+  pub held : KeepsHeld old new
+  pub open_stays : (key tx : ℕ) → Contains (list_at old key) (open_place tx) → Contains (list_at new key) (open_place tx)
+
+-- open places of a transaction are gone, but none at the cell of this key; all others stay
+pub record GivesUp {S : Type 0} (old new : IndexMap ℕ (List Place) S) (key tx : ℕ) : Type 0 where
+  pub unique : IsUnique nat_eq new
+  pub only : (other : ℕ) (place : Place) → Contains (list_at new other) place → Contains (list_at old other) place
+  pub held : (other u : ℕ) (grant : Grant) → Contains (list_at old other) (held_place u grant) → Contains (list_at new other) (held_place u grant)
+  pub others : (other u : ℕ) → u ≢ tx → Contains (list_at old other) (open_place u) → Contains (list_at new other) (open_place u)
+  pub own : Contains (list_at old key) (open_place tx) → Contains (list_at new key) (open_place tx)
+
+-- all places of a transaction are gone, and all others stay
+pub record Releases {S : Type 0} (old new : IndexMap ℕ (List Place) S) (tx : ℕ) : Type 0 where
+  pub unique : IsUnique nat_eq new
+  pub only : (key : ℕ) (place : Place) → Contains (list_at new key) place → Contains (list_at old key) place
+  pub gone : (key : ℕ) (place : Place) → Contains (list_at new key) place → place.tx ≢ tx
+  pub keeps : (key : ℕ) (place : Place) → place.tx ≢ tx → Contains (list_at old key) place → Contains (list_at new key) place
+
+-- the places of a transaction at these cells are gone, and all others as they were
+pub record ReleasesAt {S : Type 0} (old new : IndexMap ℕ (List Place) S) (keys : List ℕ) (tx : ℕ) : Type 0 where
+  pub only : (key : ℕ) (place : Place) → Contains (list_at new key) place → Contains (list_at old key) place
+  pub gone : (key : ℕ) (place : Place) → Contains keys key → Contains (list_at new key) place → place.tx ≢ tx
+  pub keeps : (key : ℕ) (place : Place) → place.tx ≢ tx → Contains (list_at old key) place → Contains (list_at new key) place
+  pub unique : IsUnique nat_eq new
+
+-- each place is at a cell of its transaction
+pub record IsNoted {S S' : Type 0} (cells : IndexMap ℕ (List Place) S) (touched : IndexMap ℕ (List ℕ) S') : Type 0 where
+  pub noted : (key : ℕ) (place : Place) → Contains (list_at cells key) place → Contains (list_at touched place.tx) key
+
+-- the grant of this number, if the place has it
+abbrev pub numbered : ℕ → Option Grant → ℕ → Option Held
+numbered tx None stamp = None
+numbered tx (Some grant) stamp = if grant.stamp == stamp then Some (tx, grant.done) else None
+
+-- the first of two, if there is one, and else the second
+abbrev pub first_of_two : {X : Type 0} → Option X → Option X → Option X
+first_of_two None other = other
+first_of_two (Some x) other = Some x
+
+-- what the places hold under this number
+abbrev pub granted_in : List Place → ℕ → Option Held
+granted_in [] stamp = None
+granted_in (place ∷ places) stamp = first_of_two (numbered place.tx place.grant stamp) (granted_in places stamp)
+
+-- and what all cells hold under it
+abbrev pub granted_at : List (ℕ × List Place) → ℕ → Option Held
+granted_at [] stamp = None
+granted_at (entry ∷ entries) stamp = first_of_two (granted_in entry.1 stamp) (granted_at entries stamp)
+
+-- a list of one or none
+abbrev pub listed : {X : Type 0} → Option X → List X
+listed None = []
+listed (Some x) = x ∷ []
+
+-- what is held under the numbers below this one, in their order
+abbrev pub in_order : (ℕ → Option Held) → ℕ → List Held
+in_order granted zero = []
+in_order granted (suc n) = in_order granted n ++ listed (granted n)
+
+-- some cell holds this under the number
+abbrev pub IsHeld : {S : Type 0} → IndexMap ℕ (List Place) S → ℕ → Held → Type 0
+IsHeld cells stamp held =
+    (key : ℕ) × Contains (list_at cells key) (held_place held.0 (record { stamp = stamp; done = held.1 }))
+
+-- The numbers of grants differ and are below the next, each grant is at the cell of its operation, each reservation has
+-- an open place at its cell, the cells of a transaction are noted, and there is a number for each reservation.
+pub record IsSound {S S' S'' : Type 0} (cells : IndexMap ℕ (List Place) S) (reserved : IndexMap ℕ Cell S') (touched : IndexMap ℕ (List ℕ) S'') (next : ℕ) : Type 0 where
+  pub unique : IsUnique nat_eq cells
+  pub one_each : (stamp : ℕ) (held other : Held) → IsHeld cells stamp held → IsHeld cells stamp other → held ≡ other
+  pub below : (stamp : ℕ) (held : Held) → IsHeld cells stamp held → stamp < next
+  pub on_cell : (key tx : ℕ) (grant : Grant) → Contains (list_at cells key) (held_place tx grant) → key_number (cell_of grant.done.0) ≡ key
+  pub opened : (tx : ℕ) (cell : Cell) → get nat_eq reserved tx ≡ Some cell → Contains (list_at cells (key_number cell)) (open_place tx)
+  pub cells_noted : IsNoted cells touched
+  pub numbers : next + index_map_len reserved < 2 ^ 64

@@ -1,0 +1,20 @@
+use Rattle.std.proofs.Common.{◌≡◌, ◌<◌, ℕ, ◌*◌, ◌%◌, ◌^◌, List, bit_and, get_or, length, w64, sym, ap, subst, ◌∙◌}
+use Rattle.std.specs.Int.{bit_at, bit_not}
+use Rattle.std.proofs.lemmas.List.{get_or_default}
+use Rattle.std.proofs.lemmas.Nat.Bits.{bit_at_clear_other}
+use Rattle.mlt_page_locks.specs.Marks.{IsMarked}
+use Rattle.mlt_page_locks.proofs.Bits.{kept_at}
+use Rattle.mlt_page_locks.proofs.marks.Marks.unmark.Goals as goal
+
+pub returns : goal.returns
+returns c = record {
+  kept = λ n p below ne h.
+      let masks : List ℕ = c.self.inside.masks.items in
+      let seen : c.deref.result.now ≡ masks = c.deref.ensures.value in
+      let at = c.remainder-at.result in
+      let inside : at < length masks = subst (λ (l : List ℕ). at < length l) seen c.remainder-at.ensures.within in
+      let value : c.index_mut.result.now ≡ get_or masks at 0 = c.index_mut.ensures.value ∙ get_or_default masks at c.index_mut.result.now 0 inside in
+      kept_at masks at (bit_and c.index_mut.result.now (bit_not w64 (1 * 2 ^ c.args.place % 2 ^ 64))) inside n p
+      (λ b. bit_at_clear_other w64 c.index_mut.result.now c.args.place c.requires p below ne ∙ ap (λ m. bit_at m p) value ∙ b)
+      (subst (λ m. IsMarked m n p) (sym c.self.view_is) h);
+}

@@ -1,0 +1,82 @@
+//! Marks of places by numbers: where to look, and where not.
+
+ghost use Rattle.std.specs.Prelude.{◌≡◌, ◌==◌, ◌<◌, ◌%◌, ℕ, length, IfErr};
+ghost use Rattle.std.specs.Int.{bit_at};
+ghost use Rattle.mlt_page_locks.specs.Marks.{mask_of, IsMarked, KeepsOthers};
+
+use mlt_types::Refusal;
+use std::alloc::Global;
+use std::marker::Model;
+
+/// For each remainder of numbers a mask of 64 places. A contract sees the list of the masks.
+#[derive(Drop)]
+pub(crate) struct Marks {
+    masks: Vec<u64>,
+}
+
+impl Model for Marks {
+    ghost use Rattle.std.specs.Prelude.{List, ℕ, ◌<◌, length};
+
+    ghost Value = { List ℕ };
+
+    ghost view = { λ marks. marks.masks.items };
+
+    ghost invariant = { λ marks. 0 < length marks.masks.items };
+}
+
+impl Marks {
+    /// So many masks, with no mark. No other call takes memory.
+    ///
+    /// # Errors
+    /// `OutOfMemory`, where a growth was refused.
+    pub fn new(alloc: Global, count: usize) -> Result<Marks, Refusal>
+        requires { 0 < count }
+        ensures refusal { IfErr result (λ refusal. refusal ≡ Refusal.OutOfMemory) }
+    {
+        let masks = vec![in alloc; 0; count]?;
+        Ok(Marks { masks })
+    }
+
+    /// The places that are marked at a number.
+    pub fn mask(&self, number: u64) -> u64
+        ensures { result ≡ mask_of self.now number }
+    {
+        self.masks[remainder(&self.masks, number)]
+    }
+
+    /// Marks a place at a number.
+    pub fn mark(&mut self, number: u64, place: usize)
+        requires { place < 64 }
+        ensures marked { IsMarked self.new number place }
+        ensures kept { (n p : ℕ) → IsMarked self.old n p → IsMarked self.new n p }
+    {
+        let at = remainder(&self.masks, number);
+        self.masks[at] |= 1 << place;
+    }
+
+    /// Takes the mark of a place away at a number. Other numbers of its remainder lose it too.
+    pub fn unmark(&mut self, number: u64, place: usize)
+        requires { place < 64 }
+        ensures { KeepsOthers self.old self.new place }
+    {
+        let at = remainder(&self.masks, number);
+        self.masks[at] &= !(1 << place);
+    }
+}
+
+// The remainder of a number, by which its mask is found.
+fn remainder(masks: &[u64], number: u64) -> usize
+    requires { 0 < length masks.now }
+    ensures is { result ≡ number % length masks.now }
+    ensures within { result < length masks.now }
+{
+    (number % masks.len() as u64) as usize
+}
+
+/// Whether a place is in a mask.
+pub(crate) fn is_set(mask: u64, place: usize) -> bool
+    requires { place < 64 }
+    ensures { result ≡ (bit_at mask place == 1) }
+{
+    (mask >> place) & 1 == 1
+}
