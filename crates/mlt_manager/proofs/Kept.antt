@@ -24,11 +24,11 @@ use Rattle.mlt_manager.specs.Openings.{IsNew}
 use Rattle.mlt_manager.proofs.Called.{called_keeps, cancelled_keeps, not_called_keeps}
 use Rattle.mlt_manager.proofs.Ended.{abort_begun_keeps, begun_keeps, closed_keeps, committed_keeps}
 use Rattle.mlt_manager.proofs.Keeping.{same_manager}
-use Rattle.mlt_manager.specs.Undoings.{AnswersWholeUndo}
+use Rattle.mlt_manager.specs.Undoings.{AnswersWholeUndo, GoesOnBack, StopsBack}
 use Rattle.mlt_manager.specs.Wholes.{AnswersWhole}
 use Rattle.mlt_manager.proofs.RunningOn.{run_keeps}
 use Rattle.mlt_manager.proofs.Stepped.{step_keeps}
-use Rattle.mlt_manager.proofs.UndoingAll.{undoing_keeps}
+use Rattle.mlt_manager.proofs.Chains.{up_to_keeps}
 
 module _ {P : Type 0} (bits_of : P → ℕ → ℕ) (m m' : ManagerFields P) (h : IsManager bits_of m) where
   pub begin_kept : (r : Result ℕ Refusal) → AnswersBegin m m' r → IsManager bits_of m'
@@ -49,7 +49,7 @@ module _ {P : Type 0} (bits_of : P → ℕ → ℕ) (m m' : ManagerFields P) (h 
   step_leads tx (Err reason) a = tt
 
   pub whole_undo_kept : (tx : ℕ) (r : Result Answer Refusal) → AnswersWholeUndo bits_of m m' tx r → IsManager bits_of m'
-  whole_undo_kept tx (Ok told) a = undoing_keeps bits_of m m' tx told h a.1
+  whole_undo_kept tx (Ok told) a = up_to_keeps bits_of GoesOnBack tx StopsBack m m' told h a.1
   whole_undo_kept tx (Err reason) a = same_manager bits_of m' m a.1 h
 
   pub whole_kept : (tx : ℕ) (op : ObjOp) (r : Result Answer Refusal) → AnswersWhole bits_of m m' tx op r → IsManager bits_of m'

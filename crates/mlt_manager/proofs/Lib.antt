@@ -1,10 +1,12 @@
 pub mod Called
+pub mod Chains
 pub mod Counts
 pub mod Ended
 pub mod Ending
 pub mod Finding
 pub mod Keeping
 pub mod Kept
+pub mod Others
 pub mod Playing
 pub mod Promises
 pub mod Refusing
@@ -12,3 +14,4 @@ pub mod RunningOn
 pub mod Stepped
 pub mod Stepping
 pub mod UndoingAll
+pub mod WholeBases

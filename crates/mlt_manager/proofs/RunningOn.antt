@@ -21,9 +21,9 @@ use Rattle.mlt_open.specs.Tables.{Table}
 use Rattle.mlt_invariant.proofs.Tables.{inserted_here}
 use Rattle.mlt_manager.specs.Answers.{AnswersCall, HasCalled, HasStepped, IsOpenAt, txs_after}
 use Rattle.mlt_manager.specs.Managers.{IsManager, ManagerFields}
-use Rattle.mlt_manager.specs.Wholes.{AnswersWhole, DropsIfItStands, HasRun, StandsIn, StepsOnBy, StepsOnUpTo, Stops}
-use Rattle.mlt_manager.proofs.Called.{called_keeps, cancelled_keeps, one_there, pending_of}
-use Rattle.mlt_manager.proofs.Stepped.{step_keeps}
+use Rattle.mlt_manager.specs.Wholes.{AnswersWhole, DropsIfItStands, GoesOn, HasRun, StandsIn, StepsOnUpTo, Stops}
+use Rattle.mlt_manager.proofs.Called.{called_keeps, cancelled_keeps, pending_of}
+use Rattle.mlt_manager.proofs.Chains.{IsUnderWay, found_before, last_taken, one_taken, there_after, up_to_keeps}
 
 -- how many steps the pending operation of the transaction still takes at most, those that wait aside
 abbrev pub most_at : At → ℕ → Transaction → Commons → ℕ
@@ -37,33 +37,17 @@ most_for (Some t) root commons = most_at t.at root t commons
 abbrev pub on_left : {P : Type 0} → ManagerFields P → ℕ → ℕ
 on_left m tx = most_for (map.get m.txs tx) m.root.page m.commons
 
--- the operation is pending, after these steps
-pub record IsOn {P : Type 0} (bits_of : P → ℕ → ℕ) (old m : ManagerFields P) (tx : ℕ) : Type 0 where
-  pub manager : IsManager bits_of m
-  pub pending : IsOpenAt m.txs tx IsPending
-  pub steps : List (ManagerFields P)
-  pub goes : StepsOnBy bits_of old steps m tx
-
-one_more : {P : Type 0} (bits_of : P → ℕ → ℕ) (old m m' : ManagerFields P) (tx : ℕ) (steps : List (ManagerFields P))
-    → StepsOnBy bits_of old steps m tx → HasStepped bits_of m m' tx answer.Going → StepsOnBy bits_of old (steps ++ m' ∷ []) m' tx
-one_more bits_of old m m' tx [] same step = (subst (λ (n : ManagerFields _). HasStepped bits_of n m' tx answer.Going) same step, refl)
-one_more bits_of old m m' tx (next ∷ more) (first, rest) step = (first, one_more bits_of next m m' tx more rest step)
-
 -- one step of a pending operation
 module _ {P : Type 0} (bits_of : P → ℕ → ℕ) (m m' : ManagerFields P) (tx : ℕ) (told : Answer) (pending : IsOpenAt m.txs tx IsPending) (d : HasStepped bits_of m m' tx told) where
-  operation_at : (o : OperationFields) × (d.steps.changes.before.at ≡ at.Pending o)
-  operation_at =
-      let p = pending_of pending.one.at pending.is_at in
-      (p.0, ap (λ (t : Transaction). t.at) (one_there m.txs tx d.steps.changes.before pending.one d.steps.changes.was pending.there) ∙ p.1)
+  pub operation_at : (o : OperationFields) × (d.steps.changes.before.at ≡ at.Pending o)
+  operation_at = pending_of d.steps.changes.before.at (found_before bits_of GoesOn m m m' tx told IsPending pending d)
 
-  steps_pending : StepsPending (basis_by bits_of m.root m.opens d.steps.changes.before.subtx.tx) operation_at.0 d.steps.changes.before d.steps.changes.after m.commons m'.commons told
+  pub steps_pending : StepsPending (basis_by bits_of m.root m.opens d.steps.changes.before.subtx.tx) operation_at.0 d.steps.changes.before d.steps.changes.after m.commons m'.commons told
   steps_pending =
       subst (λ (a : At). TellsAt a (basis_by bits_of m.root m.opens d.steps.changes.before.subtx.tx) d.steps.changes.before d.steps.changes.after m.commons m'.commons told) operation_at.1 d.steps.tells
 
-  there_by : (t : Answer) → told ≡ t → txs_after t tx d.txs ≡ d.txs → map.get m'.txs tx ≡ Some d.steps.changes.after
-  there_by t is on =
-      ap (λ (n : ManagerFields P). map.get n.txs tx) d.rest ∙ ap (λ (t : Table). map.get t tx) (ap (λ (a : Answer). txs_after a tx d.txs) is ∙ on ∙ d.steps.changes.is)
-      ∙ inserted_here m.txs tx d.steps.changes.after
+  pub there_by : (t : Answer) → told ≡ t → txs_after t tx d.txs ≡ d.txs → map.get m'.txs tx ≡ Some d.steps.changes.after
+  there_by t is on = there_after bits_of GoesOn m m m' tx told d (ap (λ (a : Answer). txs_after a tx d.txs) is ∙ on)
 
   pending_by : (t : Answer) → told ≡ t → txs_after t tx d.txs ≡ d.txs → pending_after t steps_pending.next ≡ at.Pending steps_pending.next → IsOpenAt m'.txs tx IsPending
   pending_by t is on stays = record {
@@ -114,17 +98,13 @@ fewer_on bits_of m m' tx pending d small =
     omega (arith, was, is, fewer)
 
 -- **One more step.**
-pub on_by_one : {P : Type 0} (bits_of : P → ℕ → ℕ) (old m m' : ManagerFields P) (tx : ℕ) → IsOn bits_of old m tx → HasStepped bits_of m m' tx answer.Going → IsOn bits_of old m' tx
-on_by_one bits_of old m m' tx on d = record {
-  manager = (step_keeps bits_of m on.manager tx m' answer.Going d).0;
-  pending = still_pending bits_of m m' tx answer.Going on.pending d refl;
-  steps = on.steps ++ m' ∷ [];
-  goes = one_more bits_of old m m' tx on.steps on.goes d;
-}
+pub on_by_one : {P : Type 0} (bits_of : P → ℕ → ℕ) (old m m' : ManagerFields P) (tx : ℕ) → IsUnderWay bits_of GoesOn IsPending old m tx → HasStepped bits_of m m' tx answer.Going → IsUnderWay bits_of GoesOn IsPending old m' tx
+on_by_one bits_of old m m' tx w d = one_taken bits_of GoesOn old m m' tx answer.Going IsPending w d tt (still_pending bits_of m m' tx answer.Going w.is_at d refl)
 
-pub on_ends : {P : Type 0} (bits_of : P → ℕ → ℕ) (old m m' : ManagerFields P) (tx : ℕ) (told : Answer) → IsOn bits_of old m tx → HasStepped bits_of m m' tx told → (told ≡ answer.Going → ⊥)
+-- **The step that stops.**
+pub on_ends : {P : Type 0} (bits_of : P → ℕ → ℕ) (old m m' : ManagerFields P) (tx : ℕ) (told : Answer) → IsUnderWay bits_of GoesOn IsPending old m tx → HasStepped bits_of m m' tx told → (told ≡ answer.Going → ⊥)
     → StepsOnUpTo bits_of old m' tx told
-on_ends bits_of old m m' tx told on d not = record { steps = on.steps; before = m; goes = on.goes; ends = d; stops = stops_here bits_of m m' tx told on.pending d not }
+on_ends bits_of old m m' tx told w d not = last_taken bits_of GoesOn old m m' tx told IsPending Stops w d (stops_here bits_of m m' tx told w.is_at d not)
 
 -- the depth of a manager's directory is at most 16
 pub is_small : {P : Type 0} (bits_of : P → ℕ → ℕ) (m : ManagerFields P) → IsManager bits_of m → m.root.max_depth ≤ 16
@@ -138,13 +118,6 @@ called_is_pending m m' tx op c = record {
   is_at = subst IsPending (sym c.calls.tells.pending) tt;
 }
 
-steps_keep : {P : Type 0} (bits_of : P → ℕ → ℕ) (old last : ManagerFields P) (tx : ℕ) (steps : List (ManagerFields P)) → IsManager bits_of old → StepsOnBy bits_of old steps last tx → IsManager bits_of last
-steps_keep bits_of old last tx [] h same = subst (IsManager bits_of) (sym same) h
-steps_keep bits_of old last tx (next ∷ more) h (first, rest) = steps_keep bits_of next last tx more (step_keeps bits_of old h tx next answer.Going first).0 rest
-
-pub up_to_keeps : {P : Type 0} (bits_of : P → ℕ → ℕ) (old new : ManagerFields P) (tx : ℕ) (told : Answer) → IsManager bits_of old → StepsOnUpTo bits_of old new tx told → IsManager bits_of new
-up_to_keeps bits_of old new tx told h s = (step_keeps bits_of s.before (steps_keep bits_of old s.before tx s.steps h s.goes) tx new told s.ends).0
-
 drops_keep : {P : Type 0} (bits_of : P → ℕ → ℕ) (told : Answer) (old new : ManagerFields P) (tx : ℕ) → IsManager bits_of old → DropsIfItStands told old new tx → IsManager bits_of new
 drops_keep bits_of (answer.Waiting page by) old new tx h d = (cancelled_keeps bits_of old h tx new d.rest d.pending d.cancels).0
 drops_keep bits_of (answer.Blocked by) old new tx h d = (cancelled_keeps bits_of old h tx new d.rest d.pending d.cancels).0
@@ -153,7 +126,7 @@ drops_keep bits_of other old new tx h same = subst (IsManager bits_of) (sym same
 -- **A whole operation keeps what is always true.**
 pub run_keeps : {P : Type 0} (bits_of : P → ℕ → ℕ) (old new : ManagerFields P) (tx : ℕ) (op : ObjOp) (told : Answer) → IsManager bits_of old → HasRun bits_of old new tx op told → IsManager bits_of new
 run_keeps bits_of old new tx op told h r =
-    drops_keep bits_of told r.runs.stopped new tx (up_to_keeps bits_of r.called r.runs.stopped tx told (called_keeps bits_of old h tx r.called r.calls.rest op r.calls) r.runs.steps) r.runs.drops
+    drops_keep bits_of told r.runs.stopped new tx (up_to_keeps bits_of GoesOn tx Stops r.called r.runs.stopped told (called_keeps bits_of old h tx r.called r.calls.rest op r.calls) r.runs.steps) r.runs.drops
 
 -- **An operation that stands is pending.**
 pub stands_in : {P : Type 0} (bits_of : P → ℕ → ℕ) (m m' : ManagerFields P) (tx : ℕ) (told : Answer) → IsOpenAt m.txs tx IsPending → HasStepped bits_of m m' tx told → StandsIn m' tx told

@@ -92,8 +92,10 @@ module _ {P : Type 0} (bits_of : P → ℕ → ℕ) (m : ManagerFields P) (h : I
         let number = (h.sound.fits tx before was).number in
         let makes : MakesStep m (core (answer.Done reply)) tx (e.ends.op, e.ends.reply) = record {
           pending = asked_here o e.ends.op e.pending e.ends.asked;
-          items = e.ends.tells.1.items ∙ ap (λ (n : ℕ). m.commons.history.items ++ trace.Op n (e.ends.op, e.ends.reply) ∷ []) number;
-          leads = λ base leads. (d.0, subst (λ (b : Base). Step b (e.ends.op, e.ends.reply) d.0) (sym (same_base base leads)) d.1, d.2.match.history);
+          adds = record {
+            items = e.ends.tells.1.items ∙ ap (λ (n : ℕ). m.commons.history.items ++ trace.Op n (e.ends.op, e.ends.reply) ∷ []) number;
+            leads = λ base leads. (d.0, subst (λ (b : Base). Step b (e.ends.op, e.ends.reply) d.0) (sym (same_base base leads)) d.1, d.2.match.history);
+          };
         } in (
           record { images = map.insert h.images tx map.empty; base = d.0; sound = d.2; traced = done_traced now tx o before after commons reply d.0 h.sound h.traced was e },
           (e.ends.op, subst (λ (r : ObjReply). MakesStep m (core (answer.Done reply)) tx (e.ends.op, r)) (sym e.ends.tells.0) makes),

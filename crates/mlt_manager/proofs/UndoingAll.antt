@@ -19,9 +19,8 @@ use Rattle.mlt_open.specs.Tables.{Table}
 use Rattle.mlt_invariant.proofs.Tables.{inserted_here}
 use Rattle.mlt_manager.specs.Answers.{HasStepped, IsOpenAt, IsUndoing, txs_after}
 use Rattle.mlt_manager.specs.Managers.{IsManager, ManagerFields}
-use Rattle.mlt_manager.specs.Undoings.{GoesOnBack, StepsBackBy, StepsBackUpTo, StopsBack}
-use Rattle.mlt_manager.proofs.Called.{one_there}
-use Rattle.mlt_manager.proofs.Stepped.{step_keeps}
+use Rattle.mlt_manager.specs.Undoings.{GoesOnBack, StepsBackUpTo, StopsBack}
+use Rattle.mlt_manager.proofs.Chains.{IsUnderWay, found_before, last_taken, one_taken, there_after}
 
 -- how many steps an abort still takes at most, those that wait aside: six for each operation, but for what is done of the
 -- inverse that runs
@@ -40,18 +39,6 @@ left_for (Some t) root commons = left_at t.at root t commons
 abbrev pub back_left : {P : Type 0} → ManagerFields P → ℕ → ℕ
 back_left m tx = left_for (map.get m.txs tx) m.root.page m.commons
 
--- the abort is under way, after these steps
-pub record IsBack {P : Type 0} (bits_of : P → ℕ → ℕ) (old m : ManagerFields P) (tx : ℕ) : Type 0 where
-  pub manager : IsManager bits_of m
-  pub undoing : IsOpenAt m.txs tx IsUndoing
-  pub steps : List (ManagerFields P × Answer)
-  pub goes : StepsBackBy bits_of old steps m tx
-
-one_more : {P : Type 0} (bits_of : P → ℕ → ℕ) (old m m' : ManagerFields P) (tx : ℕ) (told : Answer) (steps : List (ManagerFields P × Answer))
-    → StepsBackBy bits_of old steps m tx → HasStepped bits_of m m' tx told → GoesOnBack told → StepsBackBy bits_of old (steps ++ (m', told) ∷ []) m' tx
-one_more bits_of old m m' tx told [] same step goes = (subst (λ (n : ManagerFields _). HasStepped bits_of n m' tx told) same step, goes, refl)
-one_more bits_of old m m' tx told (one ∷ more) (first, on, rest) step goes = (first, on, one_more bits_of one.0 m m' tx told more rest step goes)
-
 undoing_of_at : (a : At) → IsUndoing a → (inverting : Option OperationFields) × (a ≡ at.Undoing inverting)
 undoing_of_at at.Idle none = absurd none
 undoing_of_at (at.Pending o) none = absurd none
@@ -66,9 +53,7 @@ module _ {P : Type 0} (bits_of : P → ℕ → ℕ) (m m' : ManagerFields P) (tx
   after = d.steps.changes.after
 
   inverse_at : (inverting : Option OperationFields) × (before.at ≡ at.Undoing inverting)
-  inverse_at =
-      let u = undoing_of_at undoing.one.at undoing.is_at in
-      (u.0, ap (λ (t : Transaction). t.at) (one_there m.txs tx d.steps.changes.before undoing.one d.steps.changes.was undoing.there) ∙ u.1)
+  inverse_at = undoing_of_at d.steps.changes.before.at (found_before bits_of GoesOnBack m m m' tx told IsUndoing undoing d)
 
   basis_here : Basis
   basis_here = basis_by bits_of m.root m.opens d.steps.changes.before.subtx.tx
@@ -91,9 +76,7 @@ module _ {P : Type 0} (bits_of : P → ℕ → ℕ) (m m' : ManagerFields P) (tx
   on_txs (answer.Refused reason) none = absurd none
 
   there_now : GoesOnBack told → map.get m'.txs tx ≡ Some d.steps.changes.after
-  there_now goes =
-      ap (λ (n : ManagerFields P). map.get n.txs tx) d.rest ∙ ap (λ (t : Table). map.get t tx) (on_txs told goes ∙ d.steps.changes.is)
-      ∙ inserted_here m.txs tx d.steps.changes.after
+  there_now goes = there_after bits_of GoesOnBack m m m' tx told d (on_txs told goes)
 
   pub still_undoing : GoesOnBack told → IsOpenAt m'.txs tx IsUndoing
   still_undoing goes = record { one = d.steps.changes.after; there = there_now goes; is_at = subst IsUndoing (sym steps_back.now_at) tt }
@@ -146,32 +129,15 @@ module _ {P : Type 0} (bits_of : P → ℕ → ℕ) (m m' : ManagerFields P) (tx
   stops_here going undone = stops_by inverse_at.0 steps_back.next told steps_back.tells going undone
 
 -- **One more step.**
-pub back_on : {P : Type 0} (bits_of : P → ℕ → ℕ) (old m m' : ManagerFields P) (tx : ℕ) (told : Answer) → IsBack bits_of old m tx → HasStepped bits_of m m' tx told → GoesOnBack told → IsBack bits_of old m' tx
-back_on bits_of old m m' tx told b d goes = record {
-  manager = (step_keeps bits_of m b.manager tx m' told d).0;
-  undoing = still_undoing bits_of m m' tx told b.undoing d goes;
-  steps = b.steps ++ (m', told) ∷ [];
-  goes = one_more bits_of old m m' tx told b.steps b.goes d goes;
-}
+pub back_on : {P : Type 0} (bits_of : P → ℕ → ℕ) (old m m' : ManagerFields P) (tx : ℕ) (told : Answer) → IsUnderWay bits_of GoesOnBack IsUndoing old m tx → HasStepped bits_of m m' tx told → GoesOnBack told
+    → IsUnderWay bits_of GoesOnBack IsUndoing old m' tx
+back_on bits_of old m m' tx told w d goes = one_taken bits_of GoesOnBack old m m' tx told IsUndoing w d goes (still_undoing bits_of m m' tx told w.is_at d goes)
 
-pub back_ends : {P : Type 0} (bits_of : P → ℕ → ℕ) (old m m' : ManagerFields P) (tx : ℕ) (told : Answer) → IsBack bits_of old m tx → HasStepped bits_of m m' tx told
+-- **The step that stops.**
+pub back_ends : {P : Type 0} (bits_of : P → ℕ → ℕ) (old m m' : ManagerFields P) (tx : ℕ) (told : Answer) → IsUnderWay bits_of GoesOnBack IsUndoing old m tx → HasStepped bits_of m m' tx told
     → (told ≡ answer.Going → ⊥) → (told ≡ answer.Undone → ⊥) → StepsBackUpTo bits_of old m' tx told
-back_ends bits_of old m m' tx told b d going undone = record {
-  steps = b.steps;
-  before = m;
-  goes = b.goes;
-  ends = d;
-  stops = stops_here bits_of m m' tx told b.undoing d going undone;
-}
+back_ends bits_of old m m' tx told w d going undone = last_taken bits_of GoesOnBack old m m' tx told IsUndoing StopsBack w d (stops_here bits_of m m' tx told w.is_at d going undone)
 
 pub goes_by : (told : Answer) → (told ≡ answer.Going) ⊎ (told ≡ answer.Undone) → GoesOnBack told
 goes_by told (inl is) = subst GoesOnBack (sym is) tt
 goes_by told (inr is) = subst GoesOnBack (sym is) tt
-
-steps_keep : {P : Type 0} (bits_of : P → ℕ → ℕ) (old last : ManagerFields P) (tx : ℕ) (steps : List (ManagerFields P × Answer)) → IsManager bits_of old → StepsBackBy bits_of old steps last tx → IsManager bits_of last
-steps_keep bits_of old last tx [] h same = subst (IsManager bits_of) (sym same) h
-steps_keep bits_of old last tx (one ∷ more) h (first, on, rest) = steps_keep bits_of one.0 last tx more (step_keeps bits_of old h tx one.0 one.1 first).0 rest
-
--- **All of them together keep what is always true.**
-pub undoing_keeps : {P : Type 0} (bits_of : P → ℕ → ℕ) (old new : ManagerFields P) (tx : ℕ) (told : Answer) → IsManager bits_of old → StepsBackUpTo bits_of old new tx told → IsManager bits_of new
-undoing_keeps bits_of old new tx told h s = (step_keeps bits_of s.before (steps_keep bits_of old s.before tx s.steps h s.goes) tx new told s.ends).0

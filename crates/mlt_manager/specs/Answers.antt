@@ -1,5 +1,5 @@
 -- What each event of a manager answers, why, and what it leaves
-use Rattle.std.specs.Prelude.{ℕ, ◌≡◌, ◌<◌, ◌≤◌, ◌+◌, ◌-◌, ◌^◌, Bool, true, false, [], ◌∷◌, ◌++◌, length, min, None, Some, Result, Ok, Err}
+use Rattle.std.specs.Prelude.{ℕ, ◌≡◌, ◌≢◌, ◌<◌, ◌≤◌, ◌+◌, ◌-◌, ◌^◌, Bool, true, false, [], ◌∷◌, ◌++◌, length, min, None, Some, IsSome, Result, Ok, Err}
 use Rattle.std.specs.Ordering.{nat_cmp}
 use Rattle.std.specs.FinMap as map
 use Rattle.std.specs.FinSet as set
@@ -41,6 +41,12 @@ IsUndoing other = ⊥
 abbrev pub IsBusy : At → Type 0
 IsBusy at.Idle = ⊥
 IsBusy other = Unit {0}
+
+-- an operation or an inverse of it runs, and holds what pages it has locked
+abbrev pub IsRunning : At → Type 0
+IsRunning (at.Pending o) = Unit {0}
+IsRunning (at.Undoing (Some o)) = Unit {0}
+IsRunning other = ⊥
 
 -- the transaction of this number is open, and this is so of what it is at
 pub record IsOpenAt (txs : Table) (tx : ℕ) (Is : At → Type 0) : Type 0 where
@@ -145,6 +151,12 @@ pub record HasStepped {P : Type 0} (bits_of : P → ℕ → ℕ) (old new : Mana
     txs = txs_after told tx txs;
     opens = opens_after told tx old.opens;
   }
+
+-- whoever it waits for is another transaction, which runs; and whoever blocks it is another, which is open
+abbrev pub IsByAnother : Answer → Table → ℕ → Type 0
+IsByAnother (answer.Waiting page by) txs tx = (by ≢ tx) × IsOpenAt txs by IsRunning
+IsByAnother (answer.Blocked by) txs tx = (by ≢ tx) × IsSome (map.get txs by)
+IsByAnother other txs tx = Unit {0}
 
 -- why it takes none: there is none of this number, or it is at nothing
 abbrev pub IsCauseAtStep : Refusal → Table → ℕ → Type 0

@@ -49,13 +49,18 @@ pub record IsStepOfBase {P : Type 0} (m : ManagerFields P) (tx : ℕ) (item : Ob
   pub pending : IsOpenAt m.txs tx (IsPendingWith item.0)
   pub steps : (base : Base) → HasBase m base → (next : Base) × Step base item next
 
--- it is done: the base has made its step, and the history has it
-pub record MakesStep {P : Type 0} (old new : ManagerFields P) (tx : ℕ) (item : ObjOp × ObjReply)
+-- the base has made this step, and the history has it
+pub record AddsStep {P : Type 0} (old new : ManagerFields P) (tx : ℕ) (item : ObjOp × ObjReply)
     : Type 0 where
-  pub pending : IsOpenAt old.txs tx (IsPendingWith item.0)
   pub items : new.commons.history.items ≡ old.commons.history.items ++ trace.Op tx item ∷ []
   pub leads : (base : Base) → HasBase old base
       → (next : Base) × Step base item next × HasBase new next
+
+-- the pending operation is done
+pub record MakesStep {P : Type 0} (old new : ManagerFields P) (tx : ℕ) (item : ObjOp × ObjReply)
+    : Type 0 where
+  pub pending : IsOpenAt old.txs tx (IsPendingWith item.0)
+  pub adds : AddsStep old new tx item
 
 -- the last operation of the transaction is taken back: the base is one from which it leads to what it was
 pub record TakesStepBack {P : Type 0} (old new : ManagerFields P) (tx : ℕ) (last : ObjOp × ObjReply)
@@ -75,3 +80,15 @@ LeavesBase (answer.Blocked by) old new tx =
 LeavesBase answer.Undone old new tx = (last : ObjOp × ObjReply) × TakesStepBack old new tx last
 LeavesBase answer.Aborted old new tx = (last : ObjOp × ObjReply) × TakesStepBack old new tx last
 LeavesBase other old new tx = KeepsWhatCounts old new
+
+-- an operation would be a step of the base, with some reply
+abbrev pub MayBeStep : {P : Type 0} → ManagerFields P → ObjOp → Type 0
+MayBeStep m op = (reply : ObjReply) × ((base : Base) → HasBase m base
+    → (next : Base) × Step base (op, reply) next)
+
+-- what a whole operation that was told this does to them
+abbrev pub WholeLeavesBase : {P : Type 0} → Answer → ManagerFields P → ManagerFields P → ℕ → ObjOp
+    → Type 0
+WholeLeavesBase (answer.Done reply) old new tx op = AddsStep old new tx (op, reply)
+WholeLeavesBase (answer.Blocked by) old new tx op = KeepsWhatCounts old new × MayBeStep old op
+WholeLeavesBase other old new tx op = KeepsWhatCounts old new

@@ -6,8 +6,8 @@ use Rattle.mlt_event.specs.declared.event.Event.{Event}
 use Rattle.mlt_event.specs.declared.event.Event.TheVariants as event
 use Rattle.mlt_event.specs.declared.told.Told.{Told}
 use Rattle.mlt_event.specs.declared.told.Told.TheVariants as told
-use Rattle.mlt_manager.specs.Answers.{AnswersAbort, AnswersBegin, AnswersCall, AnswersCancel, AnswersCommit, AnswersStep, counted}
-use Rattle.mlt_manager.specs.Bases.{LeavesBase}
+use Rattle.mlt_manager.specs.Answers.{AnswersAbort, AnswersBegin, AnswersCall, AnswersCancel, AnswersCommit, AnswersStep, IsByAnother, counted}
+use Rattle.mlt_manager.specs.Bases.{KeepsWhatCounts, LeavesBase, WholeLeavesBase}
 use Rattle.mlt_manager.specs.Managers.{ManagerFields}
 use Rattle.mlt_types.specs.declared.limits.Limits.{Limits}
 use Rattle.mlt_manager.specs.Openings.{IsNew}
@@ -28,19 +28,22 @@ Meets bits_of (event.Call tx op) told.Called old new = AnswersCall old new tx op
 Meets bits_of (event.Call tx op) (told.Refused reason) old new = AnswersCall old new tx op (Err reason)
 Meets bits_of (event.Step tx) (told.Answered answer) old new =
     AnswersStep bits_of old new tx (Ok answer) × LeavesBase answer old new tx
+    × IsByAnother answer new.txs tx
 Meets bits_of (event.Step tx) (told.Refused reason) old new = AnswersStep bits_of old new tx (Err reason)
-Meets bits_of (event.Cancel tx) told.Cancelled old new = AnswersCancel old new tx (Ok tt)
+Meets bits_of (event.Cancel tx) told.Cancelled old new =
+    AnswersCancel old new tx (Ok tt) × KeepsWhatCounts old new
 Meets bits_of (event.Cancel tx) (told.Refused reason) old new = AnswersCancel old new tx (Err reason)
 Meets bits_of (event.Commit tx) (told.Committed number) old new = AnswersCommit old new tx (Ok number)
 Meets bits_of (event.Commit tx) (told.Refused reason) old new = AnswersCommit old new tx (Err reason)
 Meets bits_of (event.Abort tx) (told.Aborting closed) old new = AnswersAbort old new tx (Ok closed)
 Meets bits_of (event.Abort tx) (told.Refused reason) old new = AnswersAbort old new tx (Err reason)
 Meets bits_of (event.Whole tx op) (told.Answered answer) old new =
-    AnswersWhole bits_of old new tx op (Ok answer)
+    AnswersWhole bits_of old new tx op (Ok answer) × WholeLeavesBase answer old new tx op
+    × IsByAnother answer new.txs tx
 Meets bits_of (event.Whole tx op) (told.Refused reason) old new =
     AnswersWhole bits_of old new tx op (Err reason)
 Meets bits_of (event.WholeUndo tx) (told.Answered answer) old new =
-    AnswersWholeUndo bits_of old new tx (Ok answer)
+    AnswersWholeUndo bits_of old new tx (Ok answer) × IsByAnother answer new.txs tx
 Meets bits_of (event.WholeUndo tx) (told.Refused reason) old new =
     AnswersWholeUndo bits_of old new tx (Err reason)
 Meets bits_of event other old new = ⊥

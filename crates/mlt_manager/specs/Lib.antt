@@ -1,5 +1,6 @@
 pub mod Answers
 pub mod Bases
+pub mod Chains
 pub mod Events
 pub mod Managers
 pub mod Openings

@@ -1,5 +1,5 @@
 -- A whole undoing: the steps of an abort, one after another
-use Rattle.std.specs.Prelude.{ℕ, ◌≡◌, List, [], ◌∷◌, Result, Ok, Err}
+use Rattle.std.specs.Prelude.{ℕ, ◌≡◌, Result, Ok, Err}
 use Rattle.mlt_types.specs.declared.refusal.Refusal.{Refusal}
 use Rattle.mlt_types.specs.declared.refusal.Refusal.TheVariants as refusal
 use Rattle.mlt_event.specs.declared.answer.Answer.{Answer}
@@ -7,7 +7,8 @@ use Rattle.mlt_event.specs.declared.answer.Answer.TheVariants as answer
 use Rattle.mlt_transaction.specs.declared.transaction.At.{At}
 use Rattle.mlt_transaction.specs.declared.transaction.At.TheVariants as at
 use Rattle.mlt_open.specs.Tables.{Table}
-use Rattle.mlt_manager.specs.Answers.{HasStepped, IsNotOpen, IsOpenAt, IsUndoing}
+use Rattle.mlt_manager.specs.Answers.{IsNotOpen, IsOpenAt, IsUndoing}
+use Rattle.mlt_manager.specs.Chains.{StepsUpTo}
 use Rattle.mlt_manager.specs.Managers.{ManagerFields}
 
 -- an abort goes on, with the same inverse or with the next one
@@ -22,22 +23,10 @@ StopsBack (answer.Waiting page by) = Unit {0}
 StopsBack answer.Aborted = Unit {0}
 StopsBack other = ⊥
 
--- steps of an abort that goes on: what each leaves, and what it is told
-abbrev pub StepsBackBy : {P : Type 0} → (P → ℕ → ℕ) → ManagerFields P
-    → List (ManagerFields P × Answer) → ManagerFields P → ℕ → Type 0
-StepsBackBy bits_of old [] last tx = last ≡ old
-StepsBackBy bits_of old (one ∷ more) last tx =
-    HasStepped bits_of old one.0 tx one.1 × GoesOnBack one.1
-    × StepsBackBy bits_of one.0 more last tx
-
 -- the steps of an abort, up to one that waits or is the last
-pub record StepsBackUpTo {P : Type 0} (bits_of : P → ℕ → ℕ) (old new : ManagerFields P) (tx : ℕ)
-    (told : Answer) : Type 0 where
-  pub steps : List (ManagerFields P × Answer)
-  pub before : ManagerFields P
-  pub goes : StepsBackBy bits_of old steps before tx
-  pub ends : HasStepped bits_of before new tx told
-  pub stops : StopsBack told
+abbrev pub StepsBackUpTo : {P : Type 0} → (P → ℕ → ℕ) → ManagerFields P → ManagerFields P → ℕ → Answer
+    → Type 0
+StepsBackUpTo bits_of old new tx told = StepsUpTo bits_of GoesOnBack StopsBack old new tx told
 
 -- the abort of the transaction has not begun
 abbrev pub IsNotUndoing : At → Type 0

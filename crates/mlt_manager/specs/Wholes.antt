@@ -1,20 +1,19 @@
 -- A whole operation: a call and its steps, one after another
-use Rattle.std.specs.Prelude.{ℕ, ◌≡◌, List, [], ◌∷◌, Result, Ok, Err}
+use Rattle.std.specs.Prelude.{ℕ, ◌≡◌, Result, Ok, Err}
 use Rattle.mlt_types.specs.declared.refusal.Refusal.{Refusal}
 use Rattle.mlt_kinds.specs.declared.operation.ObjOp.{ObjOp}
 use Rattle.mlt_event.specs.declared.answer.Answer.{Answer}
 use Rattle.mlt_event.specs.declared.answer.Answer.TheVariants as answer
 use Rattle.mlt_transaction.specs.Transactions.{IsPending}
 use Rattle.mlt_open.specs.Tables.{CancelsOne}
-use Rattle.mlt_manager.specs.Answers.{AnswersCall, ChangesOpen, HasCalled, HasStepped, IsOpenAt}
+use Rattle.mlt_manager.specs.Answers.{AnswersCall, ChangesOpen, HasCalled, IsOpenAt}
+use Rattle.mlt_manager.specs.Chains.{StepsUpTo}
 use Rattle.mlt_manager.specs.Managers.{ManagerFields}
 
--- steps of a pending operation that goes on, and what each leaves
-abbrev pub StepsOnBy : {P : Type 0} → (P → ℕ → ℕ) → ManagerFields P → List (ManagerFields P)
-    → ManagerFields P → ℕ → Type 0
-StepsOnBy bits_of old [] last tx = last ≡ old
-StepsOnBy bits_of old (next ∷ more) last tx =
-    HasStepped bits_of old next tx answer.Going × StepsOnBy bits_of next more last tx
+-- an operation goes on
+abbrev pub GoesOn : Answer → Type 0
+GoesOn answer.Going = Unit {0}
+GoesOn other = ⊥
 
 -- an operation is at its end, or stands
 abbrev pub Stops : Answer → Type 0
@@ -25,13 +24,9 @@ Stops (answer.Refused reason) = Unit {0}
 Stops other = ⊥
 
 -- the steps of a pending operation, up to the first that does not go on
-pub record StepsOnUpTo {P : Type 0} (bits_of : P → ℕ → ℕ) (old new : ManagerFields P) (tx : ℕ)
-    (told : Answer) : Type 0 where
-  pub steps : List (ManagerFields P)
-  pub before : ManagerFields P
-  pub goes : StepsOnBy bits_of old steps before tx
-  pub ends : HasStepped bits_of before new tx told
-  pub stops : Stops told
+abbrev pub StepsOnUpTo : {P : Type 0} → (P → ℕ → ℕ) → ManagerFields P → ManagerFields P → ℕ → Answer
+    → Type 0
+StepsOnUpTo bits_of old new tx told = StepsUpTo bits_of GoesOn Stops old new tx told
 
 -- where it stands, it is pending
 abbrev pub StandsIn : {P : Type 0} → ManagerFields P → ℕ → Answer → Type 0

@@ -1,8 +1,8 @@
 //! The manager of transactions.
 
-ghost use Rattle.std.specs.Prelude.{◌≡◌, IfErr, IfOk};
-ghost use Rattle.mlt_manager.specs.Answers.{AnswersAbort, AnswersBegin, AnswersCall, AnswersCancel, AnswersCommit, AnswersStep, counted};
-ghost use Rattle.mlt_manager.specs.Bases.{LeavesBase};
+ghost use Rattle.std.specs.Prelude.{◌≡◌, IfErr, IfOk, OnOk};
+ghost use Rattle.mlt_manager.specs.Answers.{AnswersAbort, AnswersBegin, AnswersCall, AnswersCancel, AnswersCommit, AnswersStep, IsByAnother, counted};
+ghost use Rattle.mlt_manager.specs.Bases.{KeepsWhatCounts, LeavesBase, WholeLeavesBase};
 ghost use Rattle.mlt_manager.specs.Events.{Meets, Plays, told_of};
 ghost use Rattle.mlt_manager.specs.Openings.{IsNew};
 ghost use Rattle.mlt_manager.specs.Undoings.{AnswersWholeUndo};
@@ -90,6 +90,7 @@ impl<P: Pseudo> Manager<P> {
     pub fn step(&mut self, tx: TxId) -> Result<Answer, Refusal>
         ensures answers { AnswersStep P.bits_of (counted self.old) self.new tx result }
         ensures base { IfOk result (λ told. LeavesBase told (counted self.old) self.new tx) }
+        ensures others { IfOk result (λ told. IsByAnother told self.new.txs tx) }
     {
         self.parts.count();
         self.parts.step(tx)
@@ -102,6 +103,7 @@ impl<P: Pseudo> Manager<P> {
     /// it is at nothing.
     pub fn cancel(&mut self, tx: TxId) -> Result<(), Refusal>
         ensures answers { AnswersCancel (counted self.old) self.new tx result }
+        ensures base { OnOk result (KeepsWhatCounts (counted self.old) self.new) }
     {
         self.parts.count();
         self.parts.cancel(tx)
@@ -138,6 +140,9 @@ impl<P: Pseudo> Manager<P> {
     /// Those of [`call`](Manager::call).
     pub fn whole(&mut self, tx: TxId, op: ObjOp) -> Result<Answer, Refusal>
         ensures answers { AnswersWhole P.bits_of (counted self.old) self.new tx op result }
+        ensures base { IfOk result
+            (λ told. WholeLeavesBase told (counted self.old) self.new tx op) }
+        ensures others { IfOk result (λ told. IsByAnother told self.new.txs tx) }
     {
         self.parts.count();
         self.parts.whole(tx, op)
@@ -149,6 +154,7 @@ impl<P: Pseudo> Manager<P> {
     /// `NoSuchTx`, where no transaction of this number is open; `NotRunning`, where its abort has not begun.
     pub fn whole_undo(&mut self, tx: TxId) -> Result<Answer, Refusal>
         ensures answers { AnswersWholeUndo P.bits_of (counted self.old) self.new tx result }
+        ensures others { IfOk result (λ told. IsByAnother told self.new.txs tx) }
     {
         self.parts.count();
         self.parts.whole_undo(tx)

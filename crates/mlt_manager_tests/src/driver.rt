@@ -2,15 +2,13 @@
 
 use crate::checks::{same, same_at};
 use mlt_base::write_base;
-use mlt_check::committed_base;
-use mlt_event::{Answer, Event, Told};
-use mlt_event_text::parse_events;
-use mlt_kinds::ObjOp;
+use mlt_event::{Event, Told};
+use mlt_event_text::{parse_events, told_text};
 use mlt_manager::Manager;
 use mlt_page::Page;
 use mlt_store::Store;
 use mlt_trace::write_trace;
-use mlt_types::{Limits, Low, Mult, PageNo, Pseudo, Refusal, TxId};
+use mlt_types::{Limits, Low, Mult, PageNo, Pseudo, Refusal};
 use std::alloc::{AllocError, Global};
 use std::process::Abort;
 
@@ -33,9 +31,6 @@ pub enum Stage {
     Trace(&'static [u8]),
 }
 
-// No operation and no abort of these schedules takes as many steps.
-const STEPS: usize = 200;
-
 /// Runs a schedule on a new manager with multiplied pseudokeys.
 pub fn run_mult(
     rt: &impl Abort,
@@ -56,6 +51,28 @@ pub fn run_low(
 ) -> Result<(), Refusal> {
     let mut manager = Manager::new(alloc, limits, Low)?;
     run(rt, alloc, &mut manager, schedule)
+}
+
+/// Plays the events of these lines on a new manager with multiplied pseudokeys. What they are told has this text.
+pub fn play_mult(
+    rt: &impl Abort,
+    alloc: Global,
+    limits: Limits,
+    lines: &str,
+    wanted: &str,
+) -> Result<(), Refusal> {
+    let events = parse_events(alloc, lines.as_bytes())?;
+    let tells = tells_of(alloc, limits, &events)?;
+    let found = told_text(alloc, &tells)?;
+    same(rt, &found.as_str(), &wanted);
+    Ok(())
+}
+
+fn tells_of(alloc: Global, limits: Limits, events: &[Event]) -> Result<Vec<Told>, Refusal> {
+    match Manager::play(alloc, limits, Mult, events) {
+        Ok((_, tells)) => Ok(tells),
+        Err(refusal) => Err(refusal),
+    }
 }
 
 fn run<P: Pseudo>(
@@ -109,58 +126,11 @@ fn told_all<P: Pseudo>(
     wanted: &str,
 ) -> Result<(), AllocError> {
     for event in events {
-        let told = tell(manager, event);
+        let told = manager.act(*event);
         let found = format!(in alloc; "{told}")?;
         same_at(rt, event, &found.as_str(), &wanted);
     }
     Ok(())
-}
-
-// What the event is told.
-fn tell<P: Pseudo>(manager: &mut Manager<P>, event: &Event) -> Told {
-    let told = match *event {
-        Event::Begin => manager.begin().map(Told::Begun),
-        Event::Call(tx, op) => manager.call(tx, op).map(|()| Told::Called),
-        Event::Step(tx) => manager.step(tx).map(Told::Answered),
-        Event::Cancel(tx) => manager.cancel(tx).map(|()| Told::Cancelled),
-        Event::Commit(tx) => manager.commit(tx).map(Told::Committed),
-        Event::Abort(tx) => manager.abort(tx).map(Told::Aborting),
-        Event::Whole(tx, op) => whole(manager, tx, op).map(Told::Answered),
-        Event::WholeUndo(tx) => whole_undo(manager, tx).map(Told::Answered),
-    };
-    told.unwrap_or_else(Told::Refused)
-}
-
-// A call, and its steps up to their end. One that waits or is blocked is cancelled.
-fn whole<P: Pseudo>(manager: &mut Manager<P>, tx: TxId, op: ObjOp) -> Result<Answer, Refusal> {
-    manager.call(tx, op)?;
-    let answer = steps(manager, tx)?;
-    if matches!(&answer, Answer::Waiting { .. } | Answer::Blocked { .. }) {
-        manager.cancel(tx)?;
-    }
-    Ok(answer)
-}
-
-// The steps of an abort, up to its end.
-fn whole_undo<P: Pseudo>(manager: &mut Manager<P>, tx: TxId) -> Result<Answer, Refusal> {
-    for _ in 0..STEPS {
-        let answer = steps(manager, tx)?;
-        if answer != Answer::Undone {
-            return Ok(answer);
-        }
-    }
-    Ok(Answer::Undone)
-}
-
-// Steps up to the first that is not told to go on.
-fn steps<P: Pseudo>(manager: &mut Manager<P>, tx: TxId) -> Result<Answer, Refusal> {
-    for _ in 0..STEPS {
-        let answer = manager.step(tx)?;
-        if answer != Answer::Going {
-            return Ok(answer);
-        }
-    }
-    Ok(Answer::Going)
 }
 
 fn has_base<P: Pseudo>(
@@ -169,7 +139,7 @@ fn has_base<P: Pseudo>(
     manager: &Manager<P>,
     wanted: &[u8],
 ) -> Result<(), Refusal> {
-    let base = committed_base(alloc, manager.history())?;
+    let base = manager.base()?;
     let mut text = Vec::new(alloc);
     write_base(&base, &mut text)?;
     same(rt, &text.as_slice(), &wanted);

@@ -1,6 +1,6 @@
 //! What events are refused for, and how events and commits are counted.
 
-use crate::driver::{Stage, run_mult};
+use crate::driver::{Stage, play_mult, run_mult};
 use mlt_types::{Limits, Refusal};
 
 const IN_ORDER: &[Stage] = &[
@@ -60,4 +60,39 @@ const TWO_IN_TURN: &[Stage] = &[
 fn refused_begins_are_counted(rt: HostRuntime) -> Result<(), Refusal> {
     let limits = Limits::checked(1, 2, 70_000, 16, 1_024)?;
     run_mult(&rt, rt.alloc(), limits, TWO_IN_TURN)
+}
+
+// An undoing asks for an abort that has begun, and an abort for a transaction that is at nothing.
+const WHILE_PENDING: &[Stage] = &[Stage::Told(&[
+    ("begin", "begun 1"),
+    ("call 1 up 7 1", "called"),
+    ("undo 1", "refused 6 NotRunning"),
+    ("abort 1", "refused 5 Running"),
+    ("whole 1 up 7 1", "refused 5 Running"),
+    ("step 1 3", "going"),
+    ("step 1", "done done"),
+    ("undo 9", "refused 3 NoSuchTx"),
+])];
+
+#[test]
+fn refused_while_pending(rt: HostRuntime) -> Result<(), Refusal> {
+    run_mult(&rt, rt.alloc(), Limits::program(), WHILE_PENDING)
+}
+
+const BEGUN: &str =
+    "begin\nbegin\nbegin\ncommit 9\nstep 1\ncall 1 up 7 1\ncall 1 read 7\ncommit 1\n\
+cancel 1\ncancel 1\nwhole 1 up 7 1\ncall 1 read 7\nabort 1\ncommit 1\ncall 1 read 7\ncancel 1\n\
+undo 1\nstep 1\nbegin\nbegin\ncommit 2\nundo 3\nbegin\nabort 3\n";
+
+const TOLD: &str =
+    "begun 1\nbegun 2\nrefused 7 TooManyOpen\nrefused 3 NoSuchTx\nrefused 6 NotRunning\n\
+called\nrefused 5 Running\nrefused 5 Running\ncancelled\nrefused 6 NotRunning\ndone done\n\
+refused 8 LogFull\naborting\nrefused 4 Undoing\nrefused 4 Undoing\nrefused 4 Undoing\naborted\n\
+refused 3 NoSuchTx\nbegun 3\nrefused 7 TooManyOpen\ncommitted 1\nrefused 6 NotRunning\n\
+refused 9 IdsSpent\naborted\n";
+
+#[test]
+fn refusals_in_order_by_play(rt: HostRuntime) -> Result<(), Refusal> {
+    let limits = Limits::checked(2, 3, 70_000, 16, 1)?;
+    play_mult(&rt, rt.alloc(), limits, BEGUN, TOLD)
 }

@@ -1,16 +1,19 @@
-use Rattle.std.proofs.Common.{[], refl, subst}
+use Rattle.std.proofs.Common.{subst}
 use Rattle.mlt_event.specs.declared.answer.Answer.{Answer}
 use Rattle.mlt_manager.specs.Answers.{HasStepped}
+use Rattle.mlt_transaction.specs.Transactions.{IsPending}
 use Rattle.mlt_manager.specs.Parts.{fields_of}
+use Rattle.mlt_manager.specs.Wholes.{GoesOn}
+use Rattle.mlt_manager.proofs.Chains.{none_taken}
 use Rattle.mlt_manager.proofs.Finding.{pending_is_busy}
 use Rattle.mlt_manager.proofs.RunningOn.{fewer_on, is_small, on_by_one, on_ends, stands_in}
 use Rattle.mlt_manager.proofs.parts.Parts.run_on.Goals as goal
 
 pub loop-answer-init : goal.loop-answer-init
-loop-answer-init g c = record { manager = c.requires.sound; pending = c.requires.pending; steps = []; goes = refl }
+loop-answer-init g c = none_taken g.P.Pseudo.bits_of GoesOn IsPending (fields_of c.args.self.now) c.args.tx c.requires.sound c.requires.pending
 
 pub step_open-requires-clause-busy : goal.step_open-requires-clause-busy
-step_open-requires-clause-busy g c = pending_is_busy c.loop-answer.self.txs c.args.tx c.loop-answer.invariant.pending
+step_open-requires-clause-busy g c = pending_is_busy c.loop-answer.self.txs c.args.tx c.loop-answer.invariant.is_at
 
 pub loop-answer-preserved : goal.loop-answer-preserved
 loop-answer-preserved g c =
@@ -19,12 +22,12 @@ loop-answer-preserved g c =
 
 pub loop-answer-smaller : goal.loop-answer-smaller
 loop-answer-smaller g c =
-    fewer_on g.P.Pseudo.bits_of (fields_of c.loop-answer.self) (fields_of c.step_open.new.self) c.args.tx c.loop-answer.invariant.pending
+    fewer_on g.P.Pseudo.bits_of (fields_of c.loop-answer.self) (fields_of c.step_open.new.self) c.args.tx c.loop-answer.invariant.is_at
     (subst (λ (a : Answer). HasStepped g.P.Pseudo.bits_of (fields_of c.loop-answer.self) (fields_of c.step_open.new.self) c.args.tx a) c.in-Going.is c.step_open.ensures.steps)
     (is_small g.P.Pseudo.bits_of (fields_of c.loop-answer.self) c.loop-answer.invariant.manager)
 
 pub returns-in_default : goal.returns-in_default
 returns-in_default g c = record {
   steps = on_ends g.P.Pseudo.bits_of (fields_of c.args.self.now) (fields_of c.loop-answer.self) (fields_of c.step_open.new.self) c.args.tx c.step_open.result c.loop-answer.invariant c.step_open.ensures.steps c.in_default.not-Going;
-  pending = stands_in g.P.Pseudo.bits_of (fields_of c.loop-answer.self) (fields_of c.step_open.new.self) c.args.tx c.step_open.result c.loop-answer.invariant.pending c.step_open.ensures.steps;
+  pending = stands_in g.P.Pseudo.bits_of (fields_of c.loop-answer.self) (fields_of c.step_open.new.self) c.args.tx c.step_open.result c.loop-answer.invariant.is_at c.step_open.ensures.steps;
 }

@@ -1,14 +1,16 @@
-use Rattle.std.proofs.Common.{[], refl}
+use Rattle.mlt_manager.specs.Answers.{IsUndoing}
 use Rattle.mlt_manager.specs.Parts.{fields_of}
+use Rattle.mlt_manager.specs.Undoings.{GoesOnBack}
+use Rattle.mlt_manager.proofs.Chains.{none_taken}
 use Rattle.mlt_manager.proofs.Finding.{undoing_is_busy}
 use Rattle.mlt_manager.proofs.UndoingAll.{back_ends, back_on, fewer_left, goes_by}
 use Rattle.mlt_manager.proofs.parts.Parts.undo_all.Goals as goal
 
 pub loop-answer-init : goal.loop-answer-init
-loop-answer-init g c = record { manager = c.requires.sound; undoing = c.requires.undoing; steps = []; goes = refl }
+loop-answer-init g c = none_taken g.P.Pseudo.bits_of GoesOnBack IsUndoing (fields_of c.args.self.now) c.args.tx c.requires.sound c.requires.undoing
 
 pub step_open-requires-clause-busy : goal.step_open-requires-clause-busy
-step_open-requires-clause-busy g c = undoing_is_busy c.loop-answer.self.txs c.args.tx c.loop-answer.invariant.undoing
+step_open-requires-clause-busy g c = undoing_is_busy c.loop-answer.self.txs c.args.tx c.loop-answer.invariant.is_at
 
 pub loop-answer-preserved : goal.loop-answer-preserved
 loop-answer-preserved g c =
@@ -16,7 +18,7 @@ loop-answer-preserved g c =
 
 pub loop-answer-smaller : goal.loop-answer-smaller
 loop-answer-smaller g c =
-    fewer_left g.P.Pseudo.bits_of (fields_of c.loop-answer.self) (fields_of c.step_open.new.self) c.args.tx c.step_open.result c.loop-answer.invariant.undoing c.step_open.ensures.steps (goes_by c.step_open.result c.in-Going.is)
+    fewer_left g.P.Pseudo.bits_of (fields_of c.loop-answer.self) (fields_of c.step_open.new.self) c.args.tx c.step_open.result c.loop-answer.invariant.is_at c.step_open.ensures.steps (goes_by c.step_open.result c.in-Going.is)
 
 pub returns-in_default : goal.returns-in_default
 returns-in_default g c = record {

@@ -1,9 +1,12 @@
+use Rattle.mlt_manager.specs.Answers.{IsUndoing}
 use Rattle.mlt_manager.specs.Parts.{fields_of}
-use Rattle.mlt_manager.proofs.UndoingAll.{IsBack, back_left}
+use Rattle.mlt_manager.specs.Undoings.{GoesOnBack}
+use Rattle.mlt_manager.proofs.Chains.{IsUnderWay}
+use Rattle.mlt_manager.proofs.UndoingAll.{back_left}
 use Rattle.mlt_manager.proofs.parts.Parts.undo_all.Given as goal
 
 abbrev pub invariant-loop-answer : goal.invariant-loop-answer
-invariant-loop-answer g l = IsBack g.P.Pseudo.bits_of (fields_of l.fn.self) (fields_of l.self) l.tx
+invariant-loop-answer g l = IsUnderWay g.P.Pseudo.bits_of GoesOnBack IsUndoing (fields_of l.fn.self) (fields_of l.self) l.tx
 
 abbrev pub decreases-loop-answer : goal.decreases-loop-answer
 decreases-loop-answer g l = back_left (fields_of l.self) l.tx

@@ -1,0 +1,209 @@
+-- Whom an answer names
+use Rattle.std.proofs.lemmas.Bool.{false≢true}
+use Rattle.std.proofs.lemmas.Bool.Decides.{nat_tests}
+use Rattle.std.proofs.lemmas.Bool.{cases_eq}
+use Rattle.std.proofs.lemmas.List.Elements.{Contains-append_cases}
+use Rattle.std.proofs.Common.{zero, suc, inl, inr, ◌≡◌, ◌≢◌, ℕ, true, false, List, [], ◌∷◌, Option, None, Some, is_some, Contains, Result, Ok, Err, IfOk, refl, sym, ap, subst, ◌∙◌, arith}
+use Rattle.std.specs.Option.{IsSome}
+use Rattle.std.specs.FinMap as map
+use Rattle.std.specs.Ordering.{nat_cmp}
+use Rattle.mlt_types.specs.declared.mode.Mode.{Mode}
+use Rattle.mlt_types.specs.declared.refusal.Refusal.{Refusal}
+use Rattle.mlt_kinds.specs.declared.operation.ObjOp.{ObjOp}
+use Rattle.mlt_kinds.specs.declared.operation.ObjReply.{ObjReply}
+use Rattle.mlt_order.specs.Histories.{Stage}
+use Rattle.mlt_order.specs.Histories.Stage.{Ended, Fresh, Running}
+use Rattle.mlt_order.specs.Interleavings.{items_of}
+use Rattle.mlt_order.proofs.Parts.{items_of-other, items_of-same}
+use Rattle.mlt_order.proofs.RunLemmas.{contains-first, contains-later, contains-nothing}
+use Rattle.mlt_page_locks.specs.LockTables.{LockTable, Modes, is_holder}
+use Rattle.mlt_page_locks.specs.Requests.{IsLowest, conflicts}
+use Rattle.mlt_object_locks.specs.Locks.{Held, HoldsClash}
+use Rattle.mlt_meeting.specs.Worlds.{lists_in}
+use Rattle.mlt_meeting.proofs.Matches.{lists_kept}
+use Rattle.mlt_hash.specs.Walks.{Basis, basis_by}
+use Rattle.mlt_operation.specs.Operating.{OperationFields}
+use Rattle.mlt_event.specs.declared.answer.Answer.{Answer}
+use Rattle.mlt_event.specs.declared.answer.Answer.TheVariants as answer
+use Rattle.mlt_transaction.specs.declared.transaction.At.{At}
+use Rattle.mlt_transaction.specs.declared.transaction.At.TheVariants as at
+use Rattle.mlt_transaction.specs.declared.transaction.Transaction.{Transaction}
+use Rattle.mlt_transaction.specs.declared.commons.Commons.{Commons}
+use Rattle.mlt_transaction.specs.Steps.{TellsOfBack, TellsOfPending}
+use Rattle.mlt_transaction.specs.Transactions.{TellsAt}
+use Rattle.mlt_open.specs.Tables.{Table}
+use Rattle.mlt_invariant.specs.Sound.{FitsAt}
+use Rattle.mlt_invariant.specs.States.{State, images_kept, world_of}
+use Rattle.mlt_invariant.proofs.Tables.{inserted_elsewhere}
+use Rattle.mlt_manager.specs.Answers.{AnswersStep, HasStepped, IsByAnother, IsOpenAt, IsRunning, txs_after}
+use Rattle.mlt_manager.specs.Chains.{StepsUpTo}
+use Rattle.mlt_manager.specs.Managers.{IsManager, ManagerFields, state_of}
+use Rattle.mlt_manager.specs.Undoings.{AnswersWholeUndo, GoesOnBack, StopsBack}
+use Rattle.mlt_manager.specs.Wholes.{AnswersWhole, DropsIfItStands, GoesOn, Stops}
+use Rattle.mlt_manager.proofs.Called.{called_keeps}
+use Rattle.mlt_manager.proofs.Chains.{steps_keep}
+
+-- who stands in the way of a lock is another, and holds pages
+way_of : (table : LockTable) (tx q by : ℕ) (mode : Mode) (e : Option Modes) → map.get table.held by ≡ e → conflicts table tx q mode by ≡ true → is_some e ≡ true
+way_of table tx q by mode None is against = grind (arith, is, against, map.get-empty {X = Mode} nat_cmp q)
+way_of table tx q by mode (Some modes) is against = refl
+
+other_holds : (table : LockTable) (tx q by : ℕ) (mode : Mode) → conflicts table tx q mode by ≡ true → (by ≢ tx) × (is_holder table by ≡ true)
+other_holds table tx q by mode against = (
+  λ same. grind (arith, nat_tests, same, against),
+  way_of table tx q by mode (map.get table.held by) refl against,
+)
+
+only_one : {A : Type 0} (e x : A) → Contains (e ∷ []) x → e ≡ x
+only_one e x (zero, lt, is) = is
+only_one e x (suc k, lt, is) = absurd (omega (arith, lt))
+
+-- what is held is held under its number
+under_number : (j : ℕ) (held : List Held) (x : ObjOp × ObjReply) → Contains held (j, x) → Contains (items_of j held) x
+under_number j [] x is = absurd (contains-nothing (j, x) is)
+under_number j (e ∷ held) x is =
+    elim (Contains-append_cases (e ∷ []) held (j, x) is) [
+      | inl here ↦
+          subst (λ (y : Held). Contains (items_of j (y ∷ held)) x) (sym (only_one e (j, x) here))
+          (subst (λ (l : List (ObjOp × ObjReply)). Contains l x) (sym (items_of-same j (j, x) held refl)) (contains-first x (items_of j held)))
+      | inr later ↦
+          let rest = under_number j held x later in
+          elim (cases_eq e.0 j) [
+            | inl same ↦ subst (λ (l : List (ObjOp × ObjReply)). Contains l x) (sym (items_of-same j e held same)) (contains-later e.1 x (items_of j held) rest)
+            | inr differ ↦ subst (λ (l : List (ObjOp × ObjReply)). Contains l x) (sym (items_of-other j e held differ)) rest
+          ]
+    ]
+
+module _ {P : Type 0} (bits_of : P → ℕ → ℕ) (m : ManagerFields P) (h : IsManager bits_of m) where
+  abbrev now : State
+  now = state_of bits_of m h.images h.base
+
+  -- who holds pages runs
+  runs_at : (a : At) (by : ℕ) (t : Transaction) → FitsAt a now by t → is_holder m.commons.pages.locks by ≡ true → IsRunning a
+  runs_at at.Idle by t nothing holds = absurd (false≢true (sym nothing.no_locks ∙ holds))
+  runs_at (at.Pending o) by t fits holds = tt
+  runs_at (at.Undoing None) by t (nothing, some) holds = absurd (false≢true (sym nothing.no_locks ∙ holds))
+  runs_at (at.Undoing (Some o)) by t fits holds = tt
+
+  open_of : (by : ℕ) (e : Option Transaction) → map.get m.txs by ≡ e → is_some (map.get h.images by) ≡ true → is_some e ≡ true
+  open_of by None is holds = absurd (false≢true (sym (ap is_some (h.sound.kept by ∙ ap images_kept is)) ∙ holds))
+  open_of by (Some t) is holds = refl
+
+  one_of : (by : ℕ) (e : Option Transaction) → map.get m.txs by ≡ e → is_some e ≡ true → is_holder m.commons.pages.locks by ≡ true → IsOpenAt m.txs by IsRunning
+  one_of by None is none holds = absurd (false≢true none)
+  one_of by (Some t) is some holds = record { one = t; there = is; is_at = runs_at t.at by t (h.sound.fits by t is).where_at holds }
+
+  -- **Who holds pages is open, and runs.**
+  pub holder_runs : (by : ℕ) → is_holder m.commons.pages.locks by ≡ true → IsOpenAt m.txs by IsRunning
+  holder_runs by holds = one_of by (map.get m.txs by) refl (open_of by (map.get m.txs by) refl (h.sound.running.holders_open by holds)) holds
+
+  holds_if : (by : ℕ) (item : ObjOp × ObjReply) (stage : Stage) → (lists_in (world_of now)).stage by ≡ stage → Contains ((lists_in (world_of now)).held by) item → stage ≡ Running
+  holds_if by item Running is held = refl
+  holds_if by item Fresh is held =
+      let none = ((lists_kept (world_of now) h.sound.match).only by (λ (r : (lists_in (world_of now)).stage by ≡ Running). let both : Fresh ≡ Running = sym is ∙ r in cc)).1 in
+      absurd (contains-nothing item (subst (λ (l : List (ObjOp × ObjReply)). Contains l item) none held))
+  holds_if by item Ended is held =
+      let none = ((lists_kept (world_of now) h.sound.match).only by (λ (r : (lists_in (world_of now)).stage by ≡ Running). let both : Ended ≡ Running = sym is ∙ r in cc)).1 in
+      absurd (contains-nothing item (subst (λ (l : List (ObjOp × ObjReply)). Contains l item) none held))
+
+  -- **Who holds an operation is open.**
+  pub owner_open : (by : ℕ) (item : ObjOp × ObjReply) → Contains m.commons.objects.held (by, item) → is_some (map.get m.txs by) ≡ true
+  owner_open by item held =
+      let listed : Contains ((lists_in (world_of now)).held by) item = subst (λ (l : List (ObjOp × ObjReply)). Contains l item) (h.sound.held by) (under_number by m.commons.objects.held item held) in
+      let running = holds_if by item ((lists_in (world_of now)).stage by) refl listed in
+      sym (h.sound.opened by) ∙ (h.sound.match.running by).1 running
+
+-- who is named is another transaction, where the one that changes is left aside
+still_another : (told : Answer) (txs : Table) (tx : ℕ) (after : Transaction) → IsByAnother told txs tx → IsByAnother told (map.insert txs tx after) tx
+still_another (answer.Waiting page by) txs tx after (ne, there) = (ne, record { one = there.one; there = inserted_elsewhere txs tx after by ne ∙ there.there; is_at = there.is_at })
+still_another (answer.Blocked by) txs tx after (ne, there) = (ne, subst IsSome (sym (inserted_elsewhere txs tx after by ne)) there)
+still_another answer.Going txs tx after none = tt
+still_another (answer.Done reply) txs tx after none = tt
+still_another answer.Undone txs tx after none = tt
+still_another answer.Aborted txs tx after none = tt
+still_another (answer.Refused reason) txs tx after none = tt
+
+-- one step
+module _ {P : Type 0} (bits_of : P → ℕ → ℕ) (m : ManagerFields P) (h : IsManager bits_of m) (tx : ℕ) where
+  module _ (before after : Transaction) (commons : Commons) (was : map.get m.txs tx ≡ Some before) where
+    number : before.subtx.tx ≡ tx
+    number = (h.sound.fits tx before was).number
+
+    by_lowest : (page by : ℕ) (mode : Mode) → IsLowest (conflicts m.commons.pages.locks before.subtx.tx page mode) by → (by ≢ tx) × IsOpenAt m.txs by IsRunning
+    by_lowest page by mode lowest =
+        let other = other_holds m.commons.pages.locks before.subtx.tx page by mode lowest.has_it in
+        (λ same. other.0 (same ∙ sym number), holder_runs bits_of m h by other.1)
+
+    named_pending : (basis : Basis) (o next : OperationFields) (between : Commons) (told : Answer) → TellsOfPending basis o next before.subtx after.subtx before.undo after.undo m.commons between told → IsByAnother told m.txs tx
+    named_pending basis o next between (answer.Waiting page by) w = by_lowest page by w.tells.mode w.tells.lowest
+    named_pending basis o next between (answer.Blocked by) (e, anew) =
+        let clash = e.tells.lowest.0 in
+        (λ same. clash.0 (same ∙ sym number), owner_open bits_of m h by clash.1.0 clash.1.1)
+    named_pending basis o next between answer.Going w = tt
+    named_pending basis o next between (answer.Done reply) w = tt
+    named_pending basis o next between (answer.Refused reason) w = tt
+    named_pending basis o next between answer.Undone none = tt
+    named_pending basis o next between answer.Aborted none = tt
+
+    named_back : (basis : Basis) (inverting next : Option OperationFields) (told : Answer) → TellsOfBack basis inverting next before.subtx after.subtx before.undo after.undo m.commons commons told → IsByAnother told m.txs tx
+    named_back basis inverting next (answer.Waiting page by) w = by_lowest page by w.tells.mode w.tells.lowest
+    named_back basis inverting next (answer.Blocked by) none = absurd none
+    named_back basis inverting next answer.Going w = tt
+    named_back basis inverting next (answer.Done reply) w = tt
+    named_back basis inverting next (answer.Refused reason) w = tt
+    named_back basis inverting next answer.Undone none = tt
+    named_back basis inverting next answer.Aborted none = tt
+
+    named_at : (a : At) (basis : Basis) (told : Answer) → TellsAt a basis before after m.commons commons told → IsByAnother told m.txs tx
+    named_at at.Idle basis told none = absurd none
+    named_at (at.Pending o) basis told s = named_pending basis o s.next s.between told s.tells
+    named_at (at.Undoing inverting) basis told s = named_back basis inverting s.next told s.tells
+
+  in_table : (told : Answer) (d : Table) (after : Transaction) → d ≡ map.insert m.txs tx after → IsByAnother told m.txs tx → IsByAnother told (txs_after told tx d) tx
+  in_table (answer.Waiting page by) d after is named = subst (λ (t : Table). IsByAnother (answer.Waiting page by) t tx) (sym is) (still_another (answer.Waiting page by) m.txs tx after named)
+  in_table (answer.Blocked by) d after is named = subst (λ (t : Table). IsByAnother (answer.Blocked by) t tx) (sym is) (still_another (answer.Blocked by) m.txs tx after named)
+  in_table answer.Going d after is none = tt
+  in_table (answer.Done reply) d after is none = tt
+  in_table answer.Undone d after is none = tt
+  in_table answer.Aborted d after is none = tt
+  in_table (answer.Refused reason) d after is none = tt
+
+  -- **Whom a step names is another transaction: one that runs, or that is open.**
+  pub step_names : (m' : ManagerFields P) (told : Answer) → HasStepped bits_of m m' tx told → IsByAnother told m'.txs tx
+  step_names m' told d =
+      let c = d.steps.changes in
+      subst (λ (n : ManagerFields P). IsByAnother told n.txs tx) (sym d.rest)
+      (in_table told d.txs c.after c.is (named_at c.before c.after m'.commons c.was c.before.at (basis_by bits_of m.root m.opens c.before.subtx.tx) told d.steps.tells))
+
+-- many steps
+module _ {P : Type 0} (bits_of : P → ℕ → ℕ) (GoesOn Stops : Answer → Type 0) where
+  pub steps_name : (m m' : ManagerFields P) (tx : ℕ) (told : Answer) → IsManager bits_of m → StepsUpTo bits_of GoesOn Stops m m' tx told → IsByAnother told m'.txs tx
+  steps_name m m' tx told h s = step_names bits_of s.before (steps_keep bits_of GoesOn tx m s.before s.steps h s.goes) tx m' told s.ends
+
+-- an operation that is dropped
+dropped_names : {P : Type 0} (told : Answer) (m m' : ManagerFields P) (tx : ℕ) → DropsIfItStands told m m' tx → IsByAnother told m.txs tx → IsByAnother told m'.txs tx
+dropped_names (answer.Waiting page by) m m' tx d named =
+    subst (λ (t : Table). IsByAnother (answer.Waiting page by) t tx) (sym d.cancels.changes.is) (still_another (answer.Waiting page by) m.txs tx d.cancels.changes.after named)
+dropped_names (answer.Blocked by) m m' tx d named =
+    subst (λ (t : Table). IsByAnother (answer.Blocked by) t tx) (sym d.cancels.changes.is) (still_another (answer.Blocked by) m.txs tx d.cancels.changes.after named)
+dropped_names answer.Going m m' tx d none = tt
+dropped_names (answer.Done reply) m m' tx d none = tt
+dropped_names answer.Undone m m' tx d none = tt
+dropped_names answer.Aborted m m' tx d none = tt
+dropped_names (answer.Refused reason) m m' tx d none = tt
+
+-- what each call answers
+module _ {P : Type 0} (bits_of : P → ℕ → ℕ) (m m' : ManagerFields P) (h : IsManager bits_of m) (tx : ℕ) where
+  pub step_others : (r : Result Answer Refusal) → AnswersStep bits_of m m' tx r → IfOk r (λ told. IsByAnother told m'.txs tx)
+  step_others (Ok told) a = step_names bits_of m h tx m' told a
+  step_others (Err reason) a = tt
+
+  pub whole_undo_others : (r : Result Answer Refusal) → AnswersWholeUndo bits_of m m' tx r → IfOk r (λ told. IsByAnother told m'.txs tx)
+  whole_undo_others (Ok told) a = steps_name bits_of GoesOnBack StopsBack m m' tx told h a.1
+  whole_undo_others (Err reason) a = tt
+
+  pub whole_others : (op : ObjOp) (r : Result Answer Refusal) → AnswersWhole bits_of m m' tx op r → IfOk r (λ told. IsByAnother told m'.txs tx)
+  whole_others op (Ok told) a =
+      dropped_names told a.runs.stopped m' tx a.runs.drops
+      (steps_name bits_of GoesOn Stops a.called a.runs.stopped tx told (called_keeps bits_of m h tx a.called a.calls.rest op a.calls) a.runs.steps)
+  whole_others op (Err reason) a = tt

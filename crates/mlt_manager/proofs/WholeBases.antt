@@ -1,0 +1,192 @@
+-- What a whole operation does to the base
+use Rattle.std.proofs.lemmas.Bool.{cases_eq}
+use Rattle.std.proofs.Common.{◌≡◌, ◌≢◌, ℕ, List, [], ◌∷◌, ◌++◌, Option, Some, Result, Ok, Err, IfOk, OnOk, inl, inr, refl, sym, ap, subst, ◌∙◌}
+use Rattle.std.specs.FinMap as map
+use Rattle.std.specs.Ordering.{nat_cmp}
+use Rattle.mlt_page.specs.declared.page.Page.{Page}
+use Rattle.mlt_types.specs.declared.refusal.Refusal.{Refusal}
+use Rattle.mlt_kinds.specs.Bases.{Base, Step, empty_base}
+use Rattle.mlt_order.specs.Histories.{IsHistory}
+use Rattle.mlt_history.specs.Entries.{entries_of}
+use Rattle.mlt_kinds.specs.declared.operation.ObjOp.{ObjOp}
+use Rattle.mlt_kinds.specs.declared.operation.ObjReply.{ObjReply}
+use Rattle.mlt_trace.specs.declared.item.TraceItem.{TraceItem}
+use Rattle.mlt_trace.specs.declared.item.TraceItem.TheVariants as trace
+use Rattle.mlt_subtx.specs.Images.{Images, Running}
+use Rattle.mlt_running.specs.CleanPages.{clean_pages}
+use Rattle.mlt_operation.specs.declared.request.Request.{Request}
+use Rattle.mlt_operation.specs.declared.request.Request.TheVariants.{Do}
+use Rattle.mlt_operation.specs.Operating.{OperationFields}
+use Rattle.mlt_event.specs.declared.answer.Answer.{Answer}
+use Rattle.mlt_event.specs.declared.answer.Answer.TheVariants as answer
+use Rattle.mlt_held.specs.Moments.{Moment, moment}
+use Rattle.mlt_hash.specs.Walks.{Basis, basis_by}
+use Rattle.mlt_operation.specs.Answers.{TellsOfStep}
+use Rattle.mlt_operation.specs.declared.answer.StepAnswer.TheVariants as step
+use Rattle.mlt_transaction.specs.declared.commons.Commons.{Commons}
+use Rattle.mlt_transaction.specs.declared.transaction.At.{At}
+use Rattle.mlt_transaction.specs.declared.transaction.At.TheVariants as at
+use Rattle.mlt_transaction.specs.declared.transaction.Transaction.{Transaction}
+use Rattle.mlt_transaction.specs.Transactions.{IsPending}
+use Rattle.mlt_open.specs.Tables.{Table}
+use Rattle.mlt_invariant.specs.States.{images_kept}
+use Rattle.mlt_invariant.proofs.Tables.{inserted_elsewhere, inserted_here}
+use Rattle.mlt_manager.specs.Answers.{AnswersCancel, HasCalled, HasStepped, IsOpenAt}
+use Rattle.mlt_manager.specs.Bases.{AddsStep, HasBase, HasCleanPages, IsPendingWith, KeepsWhatCounts, LeavesBase, MayBeStep, WholeLeavesBase}
+use Rattle.mlt_manager.specs.Chains.{StepsBy}
+use Rattle.mlt_manager.specs.Managers.{IsManager, ManagerFields}
+use Rattle.mlt_manager.specs.Wholes.{AnswersWhole, DropsIfItStands, GoesOn, HasRun, Stops}
+use Rattle.mlt_manager.proofs.Called.{called_keeps, cancelled_keeps, one_there}
+use Rattle.mlt_manager.proofs.Chains.{found_before, steps_keep}
+use Rattle.mlt_manager.proofs.RunningOn.{operation_at, steps_pending, there_by}
+use Rattle.mlt_manager.proofs.Stepped.{step_keeps}
+
+-- one after another
+then_keeps : {P : Type 0} (old mid new : ManagerFields P) → KeepsWhatCounts old mid → KeepsWhatCounts mid new → KeepsWhatCounts old new
+then_keeps old mid new first second = record {
+  clean = λ clean has. second.clean clean (first.clean clean has);
+  items = second.items ∙ first.items;
+  held = second.held ∙ first.held;
+}
+
+same_keeps : {P : Type 0} (old new : ManagerFields P) → new ≡ old → KeepsWhatCounts old new
+same_keeps old new same = subst (KeepsWhatCounts old) (sym same) (record { clean = λ clean has. has; items = refl; held = refl })
+
+-- where the history is the same, so is the base
+base_by : {P : Type 0} (old new : ManagerFields P) → new.commons.history.items ≡ old.commons.history.items → (base : Base) → HasBase old base → HasBase new base
+base_by old new same base leads = subst (λ (l : List TraceItem). IsHistory Step empty_base (entries_of l) base) (sym same) leads
+
+-- a call
+module _ {P : Type 0} (m m' : ManagerFields P) (tx : ℕ) (op : ObjOp) (c : HasCalled m m' tx op) where
+  images_stay : (i : ℕ) → images_kept (map.get m'.txs i) ≡ images_kept (map.get m.txs i)
+  images_stay i =
+      let ch = c.calls.changes in
+      ap (λ (t : Table). images_kept (map.get t i)) ch.is
+      ∙ elim (cases_eq i tx) [
+        | inl here ↦
+            ap (λ (k : ℕ). images_kept (map.get (map.insert m.txs tx ch.after) k)) here ∙ ap images_kept (inserted_here m.txs tx ch.after)
+            ∙ ap (λ (r : Running). Some r.images) c.calls.tells.makes.subtx_kept ∙ sym (ap images_kept ch.was) ∙ sym (ap (λ (k : ℕ). images_kept (map.get m.txs k)) here)
+        | inr differ ↦ ap images_kept (inserted_elsewhere m.txs tx ch.after i differ)
+      ]
+
+  called_counts : KeepsWhatCounts m m'
+  called_counts = record {
+    clean = λ clean has. record {
+      images = has.images;
+      kept = λ i. has.kept i ∙ sym (images_stay i);
+      put_back = λ q. has.put_back q ∙ sym (λ p. map.get (clean_pages has.images (c.calls.tells.makes.pages p).store.pages) q);
+    };
+    items = c.calls.tells.makes.items;
+    held = c.calls.tells.makes.held;
+  }
+
+  called_with : IsOpenAt m'.txs tx (IsPendingWith op)
+  called_with = record {
+    one = c.calls.changes.after;
+    there = ap (λ (t : Table). map.get t tx) c.calls.changes.is ∙ inserted_here m.txs tx c.calls.changes.after;
+    is_at = subst (IsPendingWith op) (sym c.calls.tells.pending) refl;
+  }
+
+-- steps of a pending operation that goes on
+on_counts : {P : Type 0} (told : Answer) (m m' : ManagerFields P) (tx : ℕ) → GoesOn told → LeavesBase told m m' tx → KeepsWhatCounts m m'
+on_counts answer.Going m m' tx goes leaves = leaves
+on_counts (answer.Waiting page by) m m' tx none leaves = absurd none
+on_counts (answer.Blocked by) m m' tx none leaves = absurd none
+on_counts (answer.Done reply) m m' tx none leaves = absurd none
+on_counts answer.Undone m m' tx none leaves = absurd none
+on_counts answer.Aborted m m' tx none leaves = absurd none
+on_counts (answer.Refused reason) m m' tx none leaves = absurd none
+
+asked_pending : (op : ObjOp) (a : At) → IsPendingWith op a → IsPending a
+asked_pending op at.Idle none = none
+asked_pending op (at.Pending o) asked = tt
+asked_pending op (at.Undoing inverting) none = none
+
+weaker : (txs : Table) (tx : ℕ) (op : ObjOp) → IsOpenAt txs tx (IsPendingWith op) → IsOpenAt txs tx IsPending
+weaker txs tx op p = record { one = p.one; there = p.there; is_at = asked_pending op p.one.at p.is_at }
+
+same_request : (basis : Basis) (old new : Moment) (o next : OperationFields) → TellsOfStep basis old new o next step.Going → next.request ≡ o.request
+same_request basis old new o next (inl on) = on.request
+same_request basis old new o next (inr (inl begins)) = begins.request
+same_request basis old new o next (inr (inr restarts)) = restarts.request
+
+module _ {P : Type 0} (bits_of : P → ℕ → ℕ) (tx : ℕ) (op : ObjOp) where
+  -- the operation stays the same
+  asked_on : (m m' : ManagerFields P) (told : Answer) → GoesOn told → IsOpenAt m.txs tx (IsPendingWith op) → HasStepped bits_of m m' tx told → IsOpenAt m'.txs tx (IsPendingWith op)
+  asked_on m m' answer.Going goes pending d =
+      let there = weaker m.txs tx op pending in
+      let o = operation_at bits_of m m' tx answer.Going there d in
+      let s = steps_pending bits_of m m' tx answer.Going there d in
+      let was : o.0.request ≡ Do op = subst (IsPendingWith op) o.1 (found_before bits_of GoesOn m m m' tx answer.Going (IsPendingWith op) pending d) in
+      let is : s.next.request ≡ Do op =
+      same_request (basis_by bits_of m.root m.opens d.steps.changes.before.subtx.tx) (moment d.steps.changes.before.subtx m.commons.pages) (moment d.steps.changes.after.subtx s.between.pages) o.0 s.next s.tells.tells ∙ was in
+      record { one = d.steps.changes.after; there = there_by bits_of m m' tx answer.Going there d answer.Going refl refl; is_at = subst (IsPendingWith op) (sym s.now_at) is }
+  asked_on m m' (answer.Waiting page by) none pending d = absurd none
+  asked_on m m' (answer.Blocked by) none pending d = absurd none
+  asked_on m m' (answer.Done reply) none pending d = absurd none
+  asked_on m m' answer.Undone none pending d = absurd none
+  asked_on m m' answer.Aborted none pending d = absurd none
+  asked_on m m' (answer.Refused reason) none pending d = absurd none
+
+  steps_ask : (old last : ManagerFields P) (steps : List (ManagerFields P × Answer)) → StepsBy bits_of GoesOn old steps last tx → IsOpenAt old.txs tx (IsPendingWith op) → IsOpenAt last.txs tx (IsPendingWith op)
+  steps_ask old last [] same pending = subst (λ (n : ManagerFields P). IsOpenAt n.txs tx (IsPendingWith op)) (sym same) pending
+  steps_ask old last (one ∷ more) (first, on, rest) pending = steps_ask one.0 last more rest (asked_on old one.0 one.1 on pending first)
+
+  steps_count : (old last : ManagerFields P) (steps : List (ManagerFields P × Answer)) → IsManager bits_of old → StepsBy bits_of GoesOn old steps last tx → KeepsWhatCounts old last
+  steps_count old last [] h same = same_keeps old last same
+  steps_count old last (one ∷ more) h (first, on, rest) =
+      let step = step_keeps bits_of old h tx one.0 one.1 first in
+      then_keeps old one.0 last (on_counts one.1 old one.0 tx on step.1) (steps_count one.0 last more step.0 rest)
+
+-- one number is at one operation
+same_asked : (txs : Table) (tx : ℕ) (op other : ObjOp) → IsOpenAt txs tx (IsPendingWith op) → IsOpenAt txs tx (IsPendingWith other) → other ≡ op
+same_asked txs tx op other a b = both b.one.at (subst (λ (t : Transaction). IsPendingWith op t.at) (one_there txs tx a.one b.one a.there b.there) a.is_at) b.is_at
+  where
+    both : (at : At) → IsPendingWith op at → IsPendingWith other at → other ≡ op
+    both at.Idle none also = absurd none
+    both (at.Pending o) is also = let one : Do other ≡ Do op = sym also ∙ is in cc
+    both (at.Undoing inverting) none also = absurd none
+
+module _ {P : Type 0} (bits_of : P → ℕ → ℕ) (m m' : ManagerFields P) (tx : ℕ) (op : ObjOp) (h : IsManager bits_of m) where
+  -- up to the step that stops nothing that counts has changed; and this is what it leaves
+  by_told : (told : Answer) (before stopped : ManagerFields P) → KeepsWhatCounts m before → IsOpenAt before.txs tx (IsPendingWith op) → IsManager bits_of stopped → LeavesBase told before stopped tx → Stops told → DropsIfItStands told stopped m' tx
+      → WholeLeavesBase told m m' tx op
+  by_told (answer.Done reply) before stopped keeps asked hs (other, makes) stops same =
+      let is = same_asked before.txs tx op other asked makes.pending in
+      let adds : AddsStep before m' tx (op, reply) = subst (λ (n : ManagerFields P). AddsStep before n tx (op, reply)) (sym same) (subst (λ (o : ObjOp). AddsStep before stopped tx (o, reply)) is makes.adds) in
+      record {
+        items = adds.items ∙ ap (λ (l : List TraceItem). l ++ trace.Op tx (op, reply) ∷ []) keeps.items;
+        leads = λ base leads. adds.leads base (base_by m before keeps.items base leads);
+      }
+  by_told (answer.Blocked by) before stopped keeps asked hs (stays, found) stops drops = (
+    then_keeps m stopped m' (then_keeps m before stopped keeps stays) (cancelled_keeps bits_of stopped hs tx m' drops.rest drops.pending drops.cancels).1,
+    (
+      found.0.1,
+      λ base leads. subst (λ (o : ObjOp). (next : Base) × Step base (o, found.0.1) next) (same_asked before.txs tx op found.0.0 asked found.1.pending) (found.1.steps base (base_by m before keeps.items base leads)),
+    ),
+  )
+  by_told (answer.Waiting page by) before stopped keeps asked hs stays stops drops =
+      then_keeps m stopped m' (then_keeps m before stopped keeps stays) (cancelled_keeps bits_of stopped hs tx m' drops.rest drops.pending drops.cancels).1
+  by_told (answer.Refused reason) before stopped keeps asked hs stays stops same = then_keeps m stopped m' (then_keeps m before stopped keeps stays) (same_keeps stopped m' same)
+  by_told answer.Going before stopped keeps asked hs stays none same = absurd none
+  by_told answer.Undone before stopped keeps asked hs takes none same = absurd none
+  by_told answer.Aborted before stopped keeps asked hs takes none same = absurd none
+
+  -- **What a whole operation does to the base is one step of it, or nothing.**
+  run_leads : (told : Answer) → HasRun bits_of m m' tx op told → WholeLeavesBase told m m' tx op
+  run_leads told r =
+      let up = r.runs.steps in
+      let hc = called_keeps bits_of m h tx r.called r.calls.rest op r.calls in
+      let hb = steps_keep bits_of GoesOn tx r.called up.before up.steps hc up.goes in
+      let last = step_keeps bits_of up.before hb tx r.runs.stopped told up.ends in
+      by_told told up.before r.runs.stopped (then_keeps m r.called up.before (called_counts m r.called tx op r.calls) (steps_count bits_of tx op r.called up.before up.steps hc up.goes))
+      (steps_ask bits_of tx op r.called up.before up.steps up.goes (called_with m r.called tx op r.calls)) last.0 last.1 up.stops r.runs.drops
+
+  pub whole_leads : (r : Result Answer Refusal) → AnswersWhole bits_of m m' tx op r → IfOk r (λ told. WholeLeavesBase told m m' tx op)
+  whole_leads (Ok told) a = run_leads told a
+  whole_leads (Err reason) a = tt
+
+-- a cancel changes nothing that counts
+pub cancel_leads : {P : Type 0} (bits_of : P → ℕ → ℕ) (m m' : ManagerFields P) (tx : ℕ) → IsManager bits_of m → (r : Result (Unit {0}) Refusal) → AnswersCancel m m' tx r → OnOk r (KeepsWhatCounts m m')
+cancel_leads bits_of m m' tx h (Ok done) a = (cancelled_keeps bits_of m h tx m' a.2 a.0 a.1).1
+cancel_leads bits_of m m' tx h (Err reason) a = tt
