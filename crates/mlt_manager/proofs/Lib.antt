@@ -9,6 +9,7 @@ pub mod Kept
 pub mod Others
 pub mod Playing
 pub mod Promises
+pub mod Quiet
 pub mod Refusing
 pub mod RunningOn
 pub mod Stepped

@@ -2,6 +2,7 @@
 use Rattle.std.specs.Prelude.{ℕ, ◌≡◌, List, [], ◌∷◌, Result, Ok, Err}
 use Rattle.mlt_types.specs.declared.refusal.Refusal.{Refusal}
 use Rattle.mlt_event.specs.declared.answer.Answer.{Answer}
+use Rattle.mlt_event.specs.declared.answer.Answer.TheVariants as answer
 use Rattle.mlt_event.specs.declared.event.Event.{Event}
 use Rattle.mlt_event.specs.declared.event.Event.TheVariants as event
 use Rattle.mlt_event.specs.declared.told.Told.{Told}
@@ -65,3 +66,25 @@ pub record Plays {P : Type 0} (bits_of : P → ℕ → ℕ) (limits : Limits) (p
   pub opens : IsNew opening limits pseudo
   pub run : IsRun bits_of opening events tolds new
   pub promises : KeepsPromises bits_of new
+
+-- an event that leaves no operation and no inverse running, where none ran
+abbrev pub IsWholeEvent : Event → Type 0
+IsWholeEvent event.Begin = Unit {0}
+IsWholeEvent (event.Whole tx op) = Unit {0}
+IsWholeEvent (event.Commit tx) = Unit {0}
+IsWholeEvent (event.Abort tx) = Unit {0}
+IsWholeEvent (event.WholeUndo tx) = Unit {0}
+IsWholeEvent other = ⊥
+
+abbrev pub AreWholeEvents : List Event → Type 0
+AreWholeEvents [] = Unit {0}
+AreWholeEvents (event ∷ events) = IsWholeEvent event × AreWholeEvents events
+
+-- no answer is that one waits
+abbrev pub IsNoWait : Told → Type 0
+IsNoWait (told.Answered (answer.Waiting page by)) = ⊥
+IsNoWait other = Unit {0}
+
+abbrev pub NoneWaits : List Told → Type 0
+NoneWaits [] = Unit {0}
+NoneWaits (told ∷ tolds) = IsNoWait told × NoneWaits tolds
