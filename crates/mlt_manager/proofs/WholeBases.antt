@@ -53,7 +53,7 @@ same_keeps : {P : Type 0} (old new : ManagerFields P) → new ≡ old → KeepsW
 same_keeps old new same = subst (KeepsWhatCounts old) (sym same) (record { clean = λ clean has. has; items = refl; held = refl })
 
 -- where the history is the same, so is the base
-base_by : {P : Type 0} (old new : ManagerFields P) → new.commons.history.items ≡ old.commons.history.items → (base : Base) → HasBase old base → HasBase new base
+pub base_by : {P : Type 0} (old new : ManagerFields P) → new.commons.history.items ≡ old.commons.history.items → (base : Base) → HasBase old base → HasBase new base
 base_by old new same base leads = subst (λ (l : List TraceItem). IsHistory Step empty_base (entries_of l) base) (sym same) leads
 
 -- a call
@@ -105,7 +105,7 @@ asked_pending op (at.Undoing inverting) none = none
 pub weaker : (txs : Table) (tx : ℕ) (op : ObjOp) → IsOpenAt txs tx (IsPendingWith op) → IsOpenAt txs tx IsPending
 weaker txs tx op p = record { one = p.one; there = p.there; is_at = asked_pending op p.one.at p.is_at }
 
-same_request : (basis : Basis) (old new : Moment) (o next : OperationFields) → TellsOfStep basis old new o next step.Going → next.request ≡ o.request
+pub same_request : (basis : Basis) (old new : Moment) (o next : OperationFields) → TellsOfStep basis old new o next step.Going → next.request ≡ o.request
 same_request basis old new o next (inl on) = on.request
 same_request basis old new o next (inr (inl begins)) = begins.request
 same_request basis old new o next (inr (inr restarts)) = restarts.request

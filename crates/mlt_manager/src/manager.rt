@@ -2,7 +2,7 @@
 
 ghost use Rattle.std.specs.Prelude.{◌≡◌, IfErr, IfOk, OnOk};
 ghost use Rattle.mlt_manager.specs.Answers.{AnswersAbort, AnswersBegin, AnswersCall, AnswersCancel, AnswersCommit, AnswersStep, IsByAnother, counted};
-ghost use Rattle.mlt_manager.specs.Bases.{KeepsWhatCounts, LeavesBase, WholeLeavesBase};
+ghost use Rattle.mlt_manager.specs.Bases.{KeepsWhatCounts, LeavesBase, UndoingLeavesBase, WholeLeavesBase};
 ghost use Rattle.mlt_manager.specs.Events.{AreWholeEvents, Meets, NoneWaits, Plays, told_of};
 ghost use Rattle.mlt_manager.specs.Openings.{IsNew};
 ghost use Rattle.mlt_manager.specs.Undoings.{AnswersWholeUndo};
@@ -154,6 +154,7 @@ impl<P: Pseudo> Manager<P> {
     /// `NoSuchTx`, where no transaction of this number is open; `NotRunning`, where its abort has not begun.
     pub fn whole_undo(&mut self, tx: TxId) -> Result<Answer, Refusal>
         ensures answers { AnswersWholeUndo P.bits_of (counted self.old) self.new tx result }
+        ensures base { IfOk result (λ told. UndoingLeavesBase told (counted self.old) self.new tx) }
         ensures others { IfOk result (λ told. IsByAnother told self.new.txs tx) }
     {
         self.parts.count();
