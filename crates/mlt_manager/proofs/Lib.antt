@@ -1,6 +1,7 @@
 pub mod Called
 pub mod Chains
 pub mod Counts
+pub mod Depths
 pub mod EachOpen
 pub mod Ended
 pub mod Ending
