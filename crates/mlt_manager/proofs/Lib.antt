@@ -1,5 +1,6 @@
 pub mod Called
 pub mod Counts
+pub mod Depths
 pub mod Ended
 pub mod Ending
 pub mod Finding

@@ -1,13 +1,15 @@
 -- The base to which the history of a manager leads, its clean pages, and what a step does to them
-use Rattle.std.specs.Prelude.{ℕ, ◌≡◌, List, [], ◌∷◌, ◌++◌, Some}
+use Rattle.std.specs.Prelude.{ℕ, ◌≡◌, List, [], ◌∷◌, ◌++◌, Option, Some}
 use Rattle.std.specs.Ordering.{nat_cmp}
 use Rattle.std.specs.FinMap as map
 use Rattle.mlt_page.specs.declared.page.Page.{Page}
+use Rattle.mlt_page.specs.declared.page.Page.TheVariants as page
 use Rattle.mlt_kinds.specs.Bases.{Base, Step, empty_base}
 use Rattle.mlt_kinds.specs.declared.operation.ObjOp.{ObjOp}
 use Rattle.mlt_kinds.specs.declared.operation.ObjReply.{ObjReply}
 use Rattle.mlt_order.specs.Histories.{IsHistory}
 use Rattle.mlt_history.specs.Entries.{entries_of}
+use Rattle.mlt_hash_form.specs.File.{depth_of, header_of}
 use Rattle.mlt_trace.specs.declared.item.TraceItem.TheVariants as trace
 use Rattle.mlt_running.specs.CleanPages.{RunningImages, clean_pages}
 use Rattle.mlt_operation.specs.declared.request.Request.TheVariants.{Do}
@@ -31,6 +33,20 @@ pub record HasCleanPages {P : Type 0} (m : ManagerFields P) (clean : map.FinMap 
   pub kept : (i : ℕ) → map.get images i ≡ images_kept (map.get m.txs i)
   pub put_back : (q : ℕ)
       → map.get clean q ≡ map.get (clean_pages images m.commons.pages.store.pages) q
+
+-- what the page of this number is on the clean pages
+pub record HasCleanPage {P : Type 0} (m : ManagerFields P) (number : ℕ) (page : Option Page)
+    : Type 0 where
+  pub clean : map.FinMap nat_cmp Page
+  pub is_clean : HasCleanPages m clean
+  pub has : map.get clean number ≡ page
+
+-- the depth of the directory, as the header has it on the clean pages
+pub record HasDepth {P : Type 0} (m : ManagerFields P) (depth : ℕ) : Type 0 where
+  pub clean : map.FinMap nat_cmp Page
+  pub is_clean : HasCleanPages m clean
+  pub header : map.get clean m.root.page ≡ Some (page.Head (header_of (map.get clean m.root.page)))
+  pub is_depth : depth_of (map.get clean) m.root.page ≡ depth
 
 -- what is clean stays clean, and the history and what is held stay
 pub record KeepsWhatCounts {P : Type 0} (old new : ManagerFields P) : Type 0 where

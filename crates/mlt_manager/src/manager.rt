@@ -1,8 +1,8 @@
 //! The manager of transactions.
 
-ghost use Rattle.std.specs.Prelude.{◌≡◌, IfErr, IfOk};
+ghost use Rattle.std.specs.Prelude.{◌≡◌, ◌≤◌, IfErr, IfOk};
 ghost use Rattle.mlt_manager.specs.Answers.{AnswersAbort, AnswersBegin, AnswersCall, AnswersCancel, AnswersCommit, AnswersStep, counted};
-ghost use Rattle.mlt_manager.specs.Bases.{LeavesBase};
+ghost use Rattle.mlt_manager.specs.Bases.{HasDepth, LeavesBase};
 ghost use Rattle.mlt_manager.specs.Events.{Meets, Plays, told_of};
 ghost use Rattle.mlt_manager.specs.Openings.{IsNew};
 ghost use Rattle.mlt_manager.specs.Undoings.{AnswersWholeUndo};
@@ -226,6 +226,16 @@ impl<P: Pseudo> Manager<P> {
         ensures { result.now ≡ self.now.commons.pages.store }
     {
         &self.parts.commons.pages.store
+    }
+
+    /// The depth of the directory, from 0 to 16, on the clean pages: those of the store, with what running operations have
+    /// written put back. It differs from the header in the store while a split that doubled the directory runs. It takes no
+    /// memory.
+    pub fn depth(&self) -> u8
+        ensures depth { HasDepth self.now result }
+        ensures most { result ≤ 16 }
+    {
+        self.parts.depth()
     }
 
     /// The base to which the committed transactions lead, run alone in commit order: what the pages mean, once running

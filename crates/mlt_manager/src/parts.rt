@@ -1,7 +1,8 @@
 //! The parts of a manager, and what each event does to them.
 
-ghost use Rattle.std.specs.Prelude.{◌≡◌, ◌≤◌, ◌+◌, IfErr, IfOk, OnOk};
+ghost use Rattle.std.specs.Prelude.{◌≡◌, ◌≤◌, ◌+◌, IfErr, IfOk, OnOk, option_copied};
 ghost use Rattle.mlt_manager.specs.Answers.{AnswersAbort, AnswersBegin, AnswersCall, AnswersCancel, AnswersCommit, AnswersStep, HasEnded, HasStepped, IsBusy, IsCauseAtCancel, IsCauseAtStep, IsIdleWith, IsNotIdle, IsOpenAt, IsUndoing, counted};
+ghost use Rattle.mlt_manager.specs.Bases.{HasCleanPage, HasDepth};
 ghost use Rattle.mlt_manager.specs.Wholes.{AnswersWhole, RunsToEnd, StandsIn, StepsOnUpTo};
 ghost use Rattle.mlt_manager.specs.Undoings.{AnswersWholeUndo, IsCauseAtUndo, StepsBackUpTo};
 ghost use Rattle.mlt_manager.specs.Openings.{IsNew};
@@ -18,11 +19,12 @@ use mlt_kinds::ObjOp;
 use mlt_meeting::operation_is_in_range;
 use mlt_object_locks::ObjectLocks;
 use mlt_open::OpenTransactions;
+use mlt_page::Page;
 use mlt_page_locks::PageLocks;
 use mlt_store::Store;
 use mlt_trace::TraceItem;
 use mlt_transaction::{At, Commons, Transaction};
-use mlt_types::{Limits, OpenSet, Pseudo, Refusal, TxId};
+use mlt_types::{Limits, OpenSet, PageNo, Pseudo, Refusal, TxId};
 use std::alloc::Global;
 
 /// What a manager holds.
@@ -161,6 +163,32 @@ impl<P: Pseudo> Parts<P> {
             Stage::Pending => Err(Refusal::NotRunning),
             Stage::Undoing => Ok(()),
         }
+    }
+
+    /// A page as it was before the running subtransactions wrote it.
+    fn clean_page(&self, number: PageNo) -> Option<&Page>
+        requires sound { IsManager P.bits_of (fields_of self.now) }
+        ensures clean { HasCleanPage (fields_of self.now) number (option_copied result) }
+    {
+        match self.txs.first_image(number) {
+            Some(first) => first.as_ref(),
+            None => self.commons.pages.store.read(number),
+        }
+    }
+
+    /// The depth of the directory, by the clean header.
+    pub(crate) fn depth(&self) -> u8
+        requires sound { IsManager P.bits_of (fields_of self.now) }
+        ensures depth { HasDepth (fields_of self.now) result }
+        ensures most { result ≤ 16 }
+    {
+        let Some(page) = self.clean_page(self.root.page) else {
+            unreachable!()
+        };
+        let Page::Head(header) = page else {
+            unreachable!()
+        };
+        header.depth
     }
 
     pub(crate) fn begin(&mut self) -> Result<TxId, Refusal>

@@ -7,10 +7,8 @@ use mlt_event::{Answer, Event, Told};
 use mlt_event_text::parse_events;
 use mlt_kinds::ObjOp;
 use mlt_manager::Manager;
-use mlt_page::Page;
-use mlt_store::Store;
 use mlt_trace::write_trace;
-use mlt_types::{Limits, Low, Mult, PageNo, Pseudo, Refusal, TxId};
+use mlt_types::{Limits, Low, Mult, Pseudo, Refusal, TxId};
 use std::alloc::{AllocError, Global};
 use std::process::Abort;
 
@@ -79,7 +77,7 @@ fn passes<P: Pseudo>(
     match *stage {
         Stage::Told(rows) => play(rt, alloc, manager, rows)?,
         Stage::Base(text) => has_base(rt, alloc, manager, text)?,
-        Stage::Depth(wanted) => same(rt, &depth(manager.pages()), &Some(wanted)),
+        Stage::Depth(wanted) => same(rt, &manager.depth(), &wanted),
         Stage::Pages(wanted) => same(rt, &manager.pages().len(), &wanted),
         Stage::Events(wanted) => same(rt, &manager.events(), &wanted),
         Stage::Trace(text) => has_trace(rt, alloc, manager, text)?,
@@ -186,14 +184,4 @@ fn has_trace<P: Pseudo>(
     write_trace(alloc, manager.history(), &mut text)?;
     same(rt, &text.as_slice(), &wanted);
     Ok(())
-}
-
-// The depth that the header page has, which is one of the first hundred pages.
-fn depth(pages: &Store) -> Option<u8> {
-    for number in 0..100 {
-        if let Some(Page::Head(head)) = pages.read(PageNo(number)) {
-            return Some(head.depth);
-        }
-    }
-    None
 }

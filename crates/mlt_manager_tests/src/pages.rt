@@ -45,8 +45,10 @@ const SPLIT_WAITS: &[Stage] = &[
         ("step 2 2", "going"),
         ("step 2", "done is 0"),
         ("step 3 8", "going"),
-        ("step 3", "done opened"),
     ]),
+    // The pass has written its header, and not ended.
+    Stage::Depth(0),
+    Stage::Told(&[("step 3", "done opened")]),
     Stage::Base(LOWEST_TEXT),
     Stage::Depth(1),
 ];

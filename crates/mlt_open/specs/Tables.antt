@@ -1,8 +1,10 @@
 -- What the calls of one transaction make of a table of open ones
-use Rattle.std.specs.Prelude.{ℕ, ◌≡◌, Some}
+use Rattle.std.specs.Prelude.{ℕ, ◌≡◌, Option, None, Some}
 use Rattle.std.specs.Ordering.{nat_cmp}
 use Rattle.std.specs.FinMap as map
 use Rattle.std.specs.FinSet as set
+use Rattle.mlt_page.specs.declared.page.Page.{Page}
+use Rattle.mlt_subtx.specs.Images.{image_of}
 use Rattle.mlt_kinds.specs.declared.operation.ObjOp.{ObjOp}
 use Rattle.mlt_hash_form.specs.declared.root.Root.{Root}
 use Rattle.mlt_hash.specs.Walks.{basis_by}
@@ -51,3 +53,16 @@ pub record PutsOneAt (tx : ℕ) (at : At) (old new : Table) : Type 0 where
   pub changes : ChangesOne tx old new
   pub put : changes.after
       ≡ record { subtx = changes.before.subtx; undo = changes.before.undo; at = at }
+
+-- some open transaction keeps this first image of the page
+pub record KeepsImage (table : Table) (page : ℕ) (first : Option Page) : Type 0 where
+  pub tx : ℕ
+  pub one : Transaction
+  pub there : map.get table tx ≡ Some one
+  pub keeps : image_of one.subtx.images page ≡ Some first
+
+-- no open transaction keeps one
+abbrev pub KeepsNoImage : Table → ℕ → Type 0
+KeepsNoImage table page =
+    (tx : ℕ) (one : Transaction) → map.get table tx ≡ Some one
+    → image_of one.subtx.images page ≡ None

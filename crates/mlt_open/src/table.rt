@@ -1,19 +1,20 @@
 //! The table of open transactions.
 
-ghost use Rattle.std.specs.Prelude.{◌≡◌, ◌≤◌, None, Some, IsSome, OnOk, OnErr, IfErr, option_copied};
+ghost use Rattle.std.specs.Prelude.{◌≡◌, ◌≤◌, None, Some, IsSome, OnOk, OnErr, IfErr, IfSome, IfNone, option_copied};
 ghost use Rattle.std.specs.FinMap as map;
 ghost use Rattle.mlt_subtx.specs.Images.{AreThere};
 ghost use Rattle.mlt_hash.specs.Walks.{basis_by};
 ghost use Rattle.mlt_transaction.specs.declared.transaction.Transaction.{Transaction as TransactionFields};
 ghost use Rattle.mlt_transaction.specs.Transactions.{IsPending, MayStepIn};
 ghost use Rattle.mlt_kinds.specs.Bases.{with_entry};
-ghost use Rattle.mlt_open.specs.Tables.{CallsNone, CallsOne, CancelsOne, PutsOneAt, StepsOne};
+ghost use Rattle.mlt_open.specs.Tables.{CallsNone, CallsOne, CancelsOne, KeepsImage, KeepsNoImage, PutsOneAt, StepsOne};
 
 use mlt_event::Answer;
 use mlt_hash_form::Root;
 use mlt_kinds::ObjOp;
+use mlt_page::Page;
 use mlt_transaction::{At, Commons, Transaction};
-use mlt_types::{OpenSet, Pseudo, Refusal, TxId};
+use mlt_types::{OpenSet, PageNo, Pseudo, Refusal, TxId};
 use std::alloc::Global;
 use std::collections::BTreeMap;
 use std::marker::Model;
@@ -61,6 +62,20 @@ impl OpenTransactions {
         ensures { option_copied result ≡ map.get self.now tx }
     {
         self.txs.get(&tx.0)
+    }
+
+    /// The first image of a page that an open transaction keeps, if one does. It takes no memory.
+    pub fn first_image(&self, page: PageNo) -> Option<&Option<Page>>
+        ensures kept { IfSome result (λ first. KeepsImage self.now page first.now) }
+        ensures none { IfNone result (KeepsNoImage self.now page) }
+    {
+        for (_, transaction) in &self.txs {
+            let first = transaction.subtx.first_image(page);
+            if first.is_some() {
+                return first;
+            }
+        }
+        None
     }
 
     /// Adds a transaction under a number.

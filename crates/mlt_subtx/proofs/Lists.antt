@@ -1,7 +1,9 @@
 -- Images in a list: each page has one, and the last is put back first.
 use Prim.Native.Nat.{zero}
-use Rattle.std.proofs.Common.{◌≡◌, ℕ, suc, ◌+◌, ◌<◌, ◌≤◌, eqb, Bool, true, false, cond, ◌||◌, Option, None, Some, is_some, List, [], ◌∷◌, ◌++◌, length, refl, sym, ap, subst, ◌∙◌, append_assoc, length-append, arith}
-use Rattle.std.specs.List.{list_any}
+use Rattle.std.proofs.Common.{◌≡◌, ℕ, suc, ◌+◌, ◌<◌, ◌≤◌, eqb, nat_eq, Bool, true, false, cond, Option, None, Some, is_some, option_map, List, [], ◌∷◌, ◌++◌, length, refl, sym, ap, subst, ◌∙◌, append_assoc, length-append, arith}
+use Rattle.std.specs.List.{find}
+use Rattle.std.specs.Map.{lookup}
+use Rattle.std.specs.Option.{option_or}
 use Rattle.std.specs.Ordering.{nat_cmp}
 use Rattle.std.specs.Cmp.{nat_cmp_total}
 use Rattle.std.specs.FinMap as map
@@ -13,20 +15,59 @@ use Rattle.mlt_page_locks.proofs.Maps.{get_inserted, same_entries}
 use Rattle.mlt_subtx.specs.declared.image.Image.{Image}
 use Rattle.mlt_subtx.specs.Images.{image_of, with_first, put_back, AreThere}
 use Rattle.mlt_subtx.proofs.ImageLaws.{not_there, page_at-put_back, page_at-with_first, same_pages, put_back-none}
-use Rattle.mlt_subtx.specs.ImageLists.{images_of, IsKept}
+use Rattle.mlt_subtx.specs.ImageLists.{images_in, images_of, IsKept}
 
 -- whether an image is of page q
 abbrev pub is_of : ℕ → Image → Bool
 is_of q image = eqb image.page q
 
--- a list has an image of a page where its map has one
-pub has_image-images_of : (images : List Image) (q : ℕ) → list_any (is_of q) images ≡ is_some (image_of (images_of images) q)
-has_image-images_of [] q = grind (arith, map.get-empty {X = Option Page} nat_cmp q)
-has_image-images_of (image ∷ images) q = grind (arith, nat_tests, has_image-images_of images q, get_inserted (images_of images) image.page image.first q)
+-- a map has the first image of a page that a list finds first
+pub find-images_of : (images : List Image) (q : ℕ) → option_map (λ (image : Image). image.first) (find (is_of q) images) ≡ image_of (images_of images) q
+find-images_of [] q = grind (arith, map.get-empty {X = Option Page} nat_cmp q)
+find-images_of (image ∷ images) q = grind (arith, nat_tests, find-images_of images q, get_inserted (images_of images) image.page image.first q)
 
-pub list_any-append : (near far : List Image) (q : ℕ) → list_any (is_of q) (near ++ far) ≡ (list_any (is_of q) near || list_any (is_of q) far)
-list_any-append [] far q = refl
-list_any-append (image ∷ near) far q = grind (arith, list_any-append near far q)
+-- as it has what is looked up in entries
+pub lookup-images_in : (entries : List (ℕ × Option Page)) (q : ℕ) → lookup (nat_eq q) entries ≡ image_of (images_of (images_in entries)) q
+lookup-images_in [] q = grind (arith, map.get-empty {X = Option Page} nat_cmp q)
+lookup-images_in (e ∷ entries) q = grind (arith, nat_tests, lookup-images_in entries q, get_inserted (images_of (images_in entries)) e.0 e.1 q)
+
+-- an entry more is an image more
+pub images_in-append : (entries more : List (ℕ × Option Page)) → images_in (entries ++ more) ≡ images_in entries ++ images_in more
+images_in-append [] more = refl
+images_in-append (e ∷ entries) more = ap (λ xs. record { page = e.0; first = e.1 } ∷ xs) (images_in-append entries more)
+
+-- of two lists, the first that has an image of the page has its first image
+image_of-near_far : (near far : List Image) (q : ℕ) → image_of (images_of (near ++ far)) q ≡ option_or (image_of (images_of near) q) (image_of (images_of far) q)
+image_of-near_far [] far q = grind (arith, map.get-empty {X = Option Page} nat_cmp q)
+image_of-near_far (image ∷ near) far q =
+    grind (arith, nat_tests, image_of-near_far near far q, get_inserted (images_of near) image.page image.first q, get_inserted (images_of (near ++ far)) image.page image.first q)
+
+-- the first image of a page that is found among the first images,
+pub image_of-near : (near far : List Image) (q : ℕ) (image : Image) → find (is_of q) near ≡ Some image → image_of (images_of (near ++ far)) q ≡ Some image.first
+image_of-near near far q image found =
+    image_of-near_far near far q ∙ ap (λ o. option_or o (image_of (images_of far) q)) (sym (find-images_of near q) ∙ ap (option_map (λ (image : Image). image.first)) found)
+
+-- and of one that is not
+pub image_of-far : (near : List Image) (entries : List (ℕ × Option Page)) (q : ℕ) → find (is_of q) near ≡ None → image_of (images_of (near ++ images_in entries)) q ≡ lookup (nat_eq q) entries
+image_of-far near entries q none =
+    image_of-near_far near (images_in entries) q
+    ∙ ap (λ o. option_or o (image_of (images_of (images_in entries)) q)) (sym (find-images_of near q) ∙ ap (option_map (λ (image : Image). image.first)) none)
+    ∙ sym (lookup-images_in entries q)
+
+second_none : (a b : Option (Option Page)) → option_or a b ≡ None → b ≡ None
+second_none None b none = none
+second_none (Some first) b none = cc
+
+-- a page without an image has no entry
+pub no_entry : (near : List Image) (entries : List (ℕ × Option Page)) (q : ℕ) → image_of (images_of (near ++ images_in entries)) q ≡ None → lookup (nat_eq q) entries ≡ None
+no_entry near entries q none =
+    lookup-images_in entries q ∙ second_none (image_of (images_of near) q) (image_of (images_of (images_in entries)) q) (sym (image_of-near_far near (images_in entries) q) ∙ none)
+
+-- the last entry is the last image
+pub entry_is_last : (near : List Image) (entries left : List (ℕ × Option Page)) (page : ℕ) (first : Option Page) → entries ≡ left ++ (page, first) ∷ []
+    → near ++ images_in entries ≡ (near ++ images_in left) ++ record { page = page; first = first } ∷ []
+entry_is_last near entries left page first is =
+    ap (λ es. near ++ images_in es) is ∙ ap (λ xs. near ++ xs) (images_in-append left ((page, first) ∷ [])) ∙ sym (append_assoc near (images_in left) (record { page = page; first = first } ∷ []))
 
 -- the pages of the images are no more than the images
 len-images_of : (images : List Image) → map.len (images_of images) ≤ length images
@@ -114,9 +155,6 @@ kept_none near far n f =
       near_first = λ some. absurd (omega arith);
     }
 
-pub has_image_either : (near far : List Image) (q : ℕ) → (list_any (is_of q) near || list_any (is_of q) far) ≡ is_some (image_of (images_of (near ++ far)) q)
-has_image_either near far q = sym (list_any-append near far q) ∙ has_image-images_of (near ++ far) q
-
 -- an image of a page that has none is put behind the others
 pub record KeptOneMore (near far near' far' : List Image) (image : Image) : Type 0 where
   pub kept : IsKept near' far'
@@ -164,9 +202,9 @@ kept_near near far near' image kept none room is =
 pub two_images : (near far : List Image) → IsKept near far → length near ≡ 2 → 2 ≤ map.len (images_of (near ++ far))
 two_images near far kept full = omega (arith, kept.once)
 
-pub no_images_left : (images : List Image) → length images ≡ 0 → images ≡ []
-no_images_left [] none = refl
-no_images_left (image ∷ images) none = absurd (omega arith)
+pub none_left : {X : Type 0} (xs : List X) → length xs ≡ 0 → xs ≡ []
+none_left [] none = refl
+none_left (x ∷ xs) none = absurd (omega arith)
 
 -- first the images behind are put back, then those in front
 pub behind_and_front : (near far left all : List Image) (middle store before : PageStore) → far ≡ [] → left ≡ [] → PutBackSoFar (near ++ far) middle all before → PutBackSoFar left store near middle

@@ -1,7 +1,6 @@
 //! First images of pages.
 
-ghost use Rattle.std.specs.Prelude.{◌≡◌, ◌==◌, true, is_some};
-ghost use Rattle.std.specs.List.{list_any};
+ghost use Rattle.std.specs.Prelude.{◌≡◌, ◌==◌, true, is_some, find, option_copied};
 ghost use Rattle.mlt_store.specs.Stores.{page_at};
 ghost use Rattle.mlt_subtx.specs.Images.{with_first};
 
@@ -40,9 +39,9 @@ impl Image {
     }
 }
 
-/// Whether one of the images is of this page.
-pub(crate) fn has_image(images: &[Image], page: PageNo) -> bool
-    ensures { result ≡ list_any (λ image. image.page == page) images.now }
+/// The image of this page, if there is one.
+pub(crate) fn find_image(images: &[Image], page: PageNo) -> Option<&Image>
+    ensures { option_copied result ≡ find (λ image. image.page == page) images.now }
 {
-    images.iter().any(|image| image.page == page)
+    images.iter().find(|image| image.page == page)
 }

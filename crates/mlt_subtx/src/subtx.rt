@@ -7,17 +7,21 @@ ghost use Rattle.mlt_store.specs.Stores.{HasBucketAt, SetsSlot, page_at};
 ghost use Rattle.mlt_page_locks.specs.LockTables.{AreCompatible};
 ghost use Rattle.mlt_page_locks.specs.Requests.{granted, released};
 ghost use Rattle.mlt_subtx.specs.Images.{image_of, with_image, put_back, AreThere, started};
-ghost use Rattle.mlt_subtx.specs.ImageLists.{images_of, IsKept};
+ghost use Rattle.mlt_subtx.specs.ImageLists.{images_in, images_of, IsKept};
 ghost use Rattle.mlt_subtx.specs.Locking.{LocksPagesThere, HasRoomForOneMore};
 
-use crate::image::{Image, has_image};
+use crate::image::{Image, find_image};
 use arrayvec::ArrayVec;
+use indexmap::IndexMap;
 use mlt_page::{Page, Slot};
 use mlt_page_locks::{Grant, PageLocks};
 use mlt_store::Store;
 use mlt_types::{Mode, PageNo, Refusal, TxId};
 use std::alloc::Global;
 use std::marker::Model;
+
+/// The first images of pages behind the first two, in the order in which they came. None is looked for by a scan.
+type FarImages = IndexMap<PageNo, Option<Page>>;
 
 /// A running subtransaction of a transaction: the first images of the pages that it has written or made. Room for
 /// two images is in the value. A contract sees the number of the transaction and a map of images.
@@ -27,21 +31,21 @@ use std::marker::Model;
 pub struct Subtx {
     tx: TxId,
     near: ArrayVec<Image, 2>,
-    far: Vec<Image>,
+    far: FarImages,
 }
 
 impl Model for Subtx {
     ghost use Rattle.std.specs.Prelude.{◌++◌};
     ghost use Rattle.mlt_subtx.specs.Images.{Running, coded_running};
-    ghost use Rattle.mlt_subtx.specs.ImageLists.{images_of, IsKept};
+    ghost use Rattle.mlt_subtx.specs.ImageLists.{images_in, images_of, IsKept};
 
     ghost Value = { Running };
 
     ghost coded = { coded_running };
 
-    ghost view = { λ s. record { tx = s.tx; images = images_of (s.near.items ++ s.far.items) } };
+    ghost view = { λ s. record { tx = s.tx; images = images_of (s.near.items ++ images_in s.far.entries) } };
 
-    ghost invariant = { λ s. IsKept s.near.items s.far.items };
+    ghost invariant = { λ s. IsKept s.near.items (images_in s.far.entries) };
 }
 
 impl Subtx {
@@ -52,7 +56,7 @@ impl Subtx {
         Subtx {
             tx,
             near: ArrayVec::new(),
-            far: Vec::new(alloc),
+            far: IndexMap::new(alloc),
         }
     }
 
@@ -186,10 +190,20 @@ impl Subtx {
         locks.release_all(self.tx);
     }
 
+    /// The first image of a page, if it has one: what the page had before it was written, or nothing where it was made.
+    pub fn first_image(&self, page: PageNo) -> Option<&Option<Page>>
+        ensures { option_copied result ≡ image_of self.now.images page }
+    {
+        match find_image(&self.near, page) {
+            Some(image) => Some(&image.first),
+            None => self.far.get(&page),
+        }
+    }
+
     fn has_image(&self, page: PageNo) -> bool
         ensures { result ≡ is_some (image_of self.now.images page) }
     {
-        has_image(&self.near, page) || has_image(&self.far, page)
+        self.first_image(page).is_some()
     }
 
     // Keeps a page as it is, if it has no image yet.
@@ -218,26 +232,26 @@ impl Subtx {
         ensures third { OnErr result (2 ≤ map.len self.old.images) }
         ensures refusal { IfErr result (λ refusal. refusal ≡ Refusal.OutOfMemory) }
     {
-        let image = Image { page, first };
         if self.near.is_full() {
-            self.far.push(image)?;
+            self.far.insert(page, first)?;
         } else {
-            self.near.push(image);
+            self.near.push(Image { page, first });
         }
         Ok(())
     }
 }
 
-fn put_all_back(far: &mut Vec<Image>, near: &mut ArrayVec<Image, 2>, store: &mut Store)
-    requires kept { IsKept near.old.items far.old.items }
-    requires there { AreThere (images_of (near.old.items ++ far.old.items)) store.old.pages }
-    ensures store { let images = images_of (near.old.items ++ far.old.items) in
+fn put_all_back(far: &mut FarImages, near: &mut ArrayVec<Image, 2>, store: &mut Store)
+    requires kept { IsKept near.old.items (images_in far.old.entries) }
+    requires there { AreThere (images_of (near.old.items ++ images_in far.old.entries)) store.old.pages }
+    ensures store { let images = images_of (near.old.items ++ images_in far.old.entries) in
         store.new ≡ record store.old { pages = put_back images store.old.pages } }
-    ensures far { far.new.items ≡ [] }
+    ensures far { far.new.entries ≡ [] }
     ensures near { near.new.items ≡ [] }
 {
-    while let Some(image) = far.pop() {
-        image.put_back(store);
+    while let Some(entry) = far.pop() {
+        let (page, first) = entry;
+        Image { page, first }.put_back(store);
     }
     while let Some(image) = near.pop() {
         image.put_back(store);
