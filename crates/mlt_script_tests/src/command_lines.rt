@@ -2,9 +2,8 @@
 
 use crate::checks::same;
 use clap::Error;
-use mlt_server::{
-    FaultLine, Job, command_line_status, read_words, report_command_line, report_fault, status,
-};
+use mlt_command_line::{Hash, Job, Run, command_line_status, read_words, report_command_line};
+use mlt_server::{FaultLine, report_fault, status};
 use mlt_types::{Refusal, ScriptCause, TraceCause};
 use std::alloc::{AllocError, Global};
 use std::io;
@@ -95,13 +94,16 @@ impl Write for Unflushed<'_> {
     }
 }
 
-const HELP: &str = "Runs scripts of transactions on accounts, sets and counters.
+const HELP: &str =
+    "Runs transactions on accounts, sets and counters, and checks traces of what they did.
 
 Usage: mltx <COMMAND>
 
 Commands:
-  solo  Runs the scripts of FILE one after another, and prints what each was told.
-  help  Print this message or the help of the given subcommand(s)
+  solo   Runs the scripts of FILE one after another, and prints what each was told.
+  steps  Runs the schedule of FILE, step by step, and prints what each event was told, and then the base.
+  check  Checks the trace of FILE: whether its transactions, run alone in the order of their commits, are told the same.
+  help   Print this message or the help of the given subcommand(s)
 
 Options:
   -h, --help     Print help
@@ -114,13 +116,15 @@ Example: mltx solo scripts.txt
 
 const SOLO_HELP: &str = "Runs the scripts of FILE one after another, and prints what each was told.
 
-Usage: mltx solo <FILE>
+Usage: mltx solo [OPTIONS] <FILE>
 
 Arguments:
-  <FILE>  The file with the scripts; `-` is standard input
+  <FILE>  The file to read; `-` is standard input
 
 Options:
-  -h, --help  Print help
+      --hash <HASH>   The hash function of the pages; without it `mult` [possible values: mult, low]
+      --trace <FILE>  Where to write the trace of what the transactions did
+  -h, --help          Print help
 
 Example: mltx solo scripts.txt
 
@@ -132,33 +136,139 @@ Example: mltx solo scripts.txt
   commit           committed 1
 ";
 
+const STEPS_HELP: &str =
+    "Runs the schedule of FILE, step by step, and prints what each event was told, and then the base.
+
+Usage: mltx steps [OPTIONS] <FILE>
+
+Arguments:
+  <FILE>  The file to read; `-` is standard input
+
+Options:
+      --hash <HASH>   The hash function of the pages; without it `mult` [possible values: mult, low]
+      --trace <FILE>  Where to write the trace of what the transactions did
+  -h, --help          Print help
+
+Example: mltx steps schedule.txt
+
+  schedule.txt             standard output
+  begin                    begun 1
+  whole 1 open 1           done opened
+  whole 1 deposit 1 5      done done
+  commit 1                 committed 1
+  begin                    begun 2
+  begin                    begun 3
+  whole 2 withdraw 1 3     done done
+  whole 3 withdraw 1 4     blocked by 2
+  abort 2                  aborting
+  undo 2                   aborted
+  whole 3 withdraw 1 4     done done
+  commit 3                 committed 2
+                           account 1 1
+                           depth 0
+
+Transaction 3 is blocked while 2 may still abort: the reply would be `short` with its
+withdrawal, and is `done` without it.
+";
+
+const CHECK_HELP: &str =
+    "Checks the trace of FILE: whether its transactions, run alone in the order of their commits, are told the same.
+
+Usage: mltx check <FILE>
+
+Arguments:
+  <FILE>  The file to read; `-` is standard input
+
+Options:
+  -h, --help  Print help
+
+Example: mltx check trace.txt
+
+  trace.txt                standard output
+  begin 1
+  begin 2
+  op 2 open 1 opened
+  op 2 deposit 1 7 done
+  commit 2 1               serial 2
+  op 1 balance 1 is 7
+  commit 1 2               serial 1
+                           account 1 7
+
+With `over` in place of `done` it is `mltx: 11 TraceFault line 4 Reply` on standard error.
+";
+
+// A job, in words of its own: the subcommand, the file, the hash function and the file for the trace.
+type Asked<'a> = (&'a str, &'a str, Option<Hash>, Option<&'a str>);
+
+fn asked_of_run<'a>(subcommand: &'a str, run: &'a Run) -> Asked<'a> {
+    let trace = match &run.trace {
+        Some(trace) => Some(trace.as_str()),
+        None => None,
+    };
+    (subcommand, run.file.as_str(), Some(run.hash), trace)
+}
+
+fn asked_of(job: &Job) -> Asked<'_> {
+    match job {
+        Job::Solo(run) => asked_of_run("solo", run),
+        Job::Steps(run) => asked_of_run("steps", run),
+        Job::Check { file } => ("check", file.as_str(), None, None),
+    }
+}
+
+const MULT: Option<Hash> = Some(Hash::Mult);
+
+const LOW: Option<Hash> = Some(Hash::Low);
+
 #[test]
 fn jobs(rt: HostRuntime) -> Result<(), Fail> {
     let alloc = rt.alloc();
-    let lines: [(&[&str], &str); 6] = [
-        (&[], "-"),
-        (&["solo", "-"], "-"),
-        (&["solo", "scripts.txt"], "scripts.txt"),
-        (&["solo", "a b"], "a b"),
-        (&["solo", "--", "-x"], "-x"),
-        (&["solo", ""], ""),
+    let lines: [(&[&str], Asked<'static>); 14] = [
+        (&[], ("solo", "-", MULT, None)),
+        (&["solo", "-"], ("solo", "-", MULT, None)),
+        (&["solo", "a.txt"], ("solo", "a.txt", MULT, None)),
+        (&["solo", "a b"], ("solo", "a b", MULT, None)),
+        (&["solo", "--", "-x"], ("solo", "-x", MULT, None)),
+        (&["solo", ""], ("solo", "", MULT, None)),
+        (
+            &["solo", "--hash", "low", "a.txt"],
+            ("solo", "a.txt", LOW, None),
+        ),
+        (
+            &["solo", "a.txt", "--trace", "b.txt"],
+            ("solo", "a.txt", MULT, Some("b.txt")),
+        ),
+        (&["steps", "-"], ("steps", "-", MULT, None)),
+        (
+            &["steps", "--hash=mult", "a.txt"],
+            ("steps", "a.txt", MULT, None),
+        ),
+        (
+            &["steps", "--trace=b.txt", "--hash=low", "-"],
+            ("steps", "-", LOW, Some("b.txt")),
+        ),
+        (&["check", "-"], ("check", "-", None, None)),
+        (&["check", "solo"], ("check", "solo", None, None)),
+        (&["check", "--", "--hash"], ("check", "--hash", None, None)),
     ];
     for (line, wanted) in lines {
         let words = words_of(alloc, line)?;
-        let Job::Solo { file } = read_words(alloc, words.as_slice())?;
-        same(&rt, &file.as_str(), &wanted);
+        let job = read_words(alloc, words.as_slice())?;
+        same(&rt, &asked_of(&job), &wanted);
     }
     Ok(())
 }
 
 #[test]
 fn help_and_version(rt: HostRuntime) -> Result<(), Fail> {
-    let lines: [(&[&str], &str); 7] = [
+    let lines: [(&[&str], &str); 9] = [
         (&["--help"], HELP),
         (&["-h"], HELP),
         (&["help"], HELP),
         (&["solo", "--help"], SOLO_HELP),
         (&["help", "solo"], SOLO_HELP),
+        (&["steps", "--help"], STEPS_HELP),
+        (&["check", "-h"], CHECK_HELP),
         (&["--version"], "mltx 0.1.0\n"),
         (&["-V"], "mltx 0.1.0\n"),
     ];
@@ -173,13 +283,38 @@ fn help_and_version(rt: HostRuntime) -> Result<(), Fail> {
 
 #[test]
 fn wrong_command_lines(rt: HostRuntime) -> Result<(), Fail> {
-    let lines: [(&[&str], &str); 9] = [
+    let lines: [(&[&str], &str); 16] = [
         (&["play", "a.txt"], "unrecognized subcommand 'play'"),
         (&["solo"], "required arguments were not provided"),
         (&["solo", "a.txt", "b.txt"], "unexpected argument 'b.txt'"),
         (&["solo", "--fast", "a.txt"], "unexpected argument '--fast'"),
         (&["solo", "-x"], "unexpected argument '-x'"),
         (&["--hash", "low"], "unexpected argument '--hash'"),
+        (&["check"], "required arguments were not provided"),
+        (
+            &["steps", "--hash", "low"],
+            "required arguments were not provided",
+        ),
+        (
+            &["solo", "--hash", "fast", "a.txt"],
+            "invalid value 'fast' for '--hash <HASH>'",
+        ),
+        (
+            &["steps", "--hash", "Low", "a.txt"],
+            "[possible values: mult, low]",
+        ),
+        (
+            &["steps", "a.txt", "--hash"],
+            "a value is required for '--hash <HASH>'",
+        ),
+        (
+            &["check", "--hash", "low", "a.txt"],
+            "unexpected argument '--hash'",
+        ),
+        (
+            &["check", "--trace", "b.txt", "a.txt"],
+            "unexpected argument '--trace'",
+        ),
         (&["-"], "unrecognized subcommand '-'"),
         (&["--"], "requires a subcommand"),
         (&[""], "unrecognized subcommand ''"),

@@ -1,3 +1,2 @@
-pub mod CommandLine
 pub mod Faults
 pub mod Solo

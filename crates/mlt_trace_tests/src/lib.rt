@@ -1,6 +1,8 @@
-//! Tests of traces: what is accepted, and the faults of other texts. They stand here and not in the crate that
-//! they test, since a crate with tests is proved twice.
+//! Tests of traces: what is accepted, the faults of other texts, and what the check says of both. They stand here
+//! and not in the crates that they test, since a crate with tests is proved twice.
 #![tactic(auto)]
 
 #[cfg(test)]
 mod checks;
+#[cfg(test)]
+mod texts;

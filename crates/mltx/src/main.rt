@@ -1,8 +1,15 @@
-//! The program `mltx`: it reads the command line, opens the file and ends with a status.
+//! The program `mltx`: it reads the command line, opens the files and ends with a status.
 #![tactic(auto)]
 
-use mlt_server::{Job, read_words, report_command_line, report_fault, solo, status};
-use mlt_types::Refusal;
+mod input;
+
+use input::Input;
+use mlt_check_text::check_trace;
+use mlt_command_line::{Hash, Job, Run, read_words, report_command_line};
+use mlt_server::{report_fault, solo, status};
+use mlt_steps::steps;
+use mlt_trace::{TraceItem, write_trace};
+use mlt_types::{Limits, Low, Mult, Pseudo, Refusal};
 use std::fs::File;
 use std::io::ErrorKind;
 use std::process::ExitCode;
@@ -43,22 +50,36 @@ fn words(rt: &HostRuntime) -> Result<Vec<String>, Refusal> {
 }
 
 fn do_job(rt: &HostRuntime, job: &Job) -> Result<(), Refusal> {
-    let alloc = rt.alloc();
-    let mut output = io::writer(rt);
     match job {
-        Job::Solo { file } => {
-            if file.as_str() == "-" {
-                solo(alloc, &mut rt.stdin(), &mut output)
-            } else {
-                solo(alloc, &mut open(rt, file.as_str())?, &mut output)
-            }
+        Job::Solo(run) => {
+            let mut input = Input::open(rt, run.file.as_str())?;
+            solo(rt.alloc(), &mut input, &mut io::writer(rt))
+        }
+        Job::Steps(run) => match run.hash {
+            Hash::Mult => run_steps(rt, run, Mult),
+            Hash::Low => run_steps(rt, run, Low),
+        },
+        Job::Check { file } => {
+            let mut input = Input::open(rt, file.as_str())?;
+            check_trace(rt.alloc(), &mut input, &mut io::writer(rt))
         }
     }
 }
 
-fn open(rt: &HostRuntime, file: &str) -> Result<File, Refusal> {
-    match File::open(rt, file) {
-        Ok(opened) => Ok(opened),
-        Err(_) => Err(Refusal::Io),
+fn run_steps<P: Pseudo + Drop>(rt: &HostRuntime, run: &Run, pseudo: P) -> Result<(), Refusal> {
+    let mut input = Input::open(rt, run.file.as_str())?;
+    let limits = Limits::program();
+    let manager = steps(rt.alloc(), &mut input, &mut io::writer(rt), limits, pseudo)?;
+    write_history(rt, manager.history(), run)
+}
+
+// Writes the trace of what the transactions did, where a file for it is named.
+fn write_history(rt: &HostRuntime, items: &[TraceItem], run: &Run) -> Result<(), Refusal> {
+    match &run.trace {
+        Some(file) => match File::create(rt, file.as_str()) {
+            Ok(mut created) => write_trace(rt.alloc(), items, &mut created),
+            Err(_) => Err(Refusal::Io),
+        },
+        None => Ok(()),
     }
 }

@@ -1,0 +1,6 @@
+use Rattle.std.proofs.Common.{rules}
+use Rattle.mlt_steps.proofs.report.text_of.Goals as goal
+
+pub returns-clause-text : goal.returns-clause-text
+returns-clause-text g c =
+    record { base = c.in_ok-base.base; committed = c.in_ok-base.ensures.base; appended = search rules }

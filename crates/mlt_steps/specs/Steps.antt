@@ -1,0 +1,35 @@
+-- What `steps` writes for an input.
+use Rattle.std.specs.Prelude.{◌≡◌, ℕ, List, ◌++◌, Option}
+use Rattle.mlt_types.specs.declared.limits.Limits.{Limits}
+use Rattle.mlt_text.specs.Inputs.{GivesWhole}
+use Rattle.mlt_kinds.specs.Bases.{Base}
+use Rattle.mlt_base.specs.BaseText.{base_text}
+use Rattle.mlt_event.specs.declared.event.Event.{Event}
+use Rattle.mlt_event.specs.declared.told.Told.{Told}
+use Rattle.mlt_event_text.specs.Grammar.{Spells}
+use Rattle.mlt_event_text.specs.TellTexts.{told_text}
+use Rattle.mlt_manager.specs.Events.{Plays}
+use Rattle.mlt_manager.specs.Managers.{ManagerFields}
+use Rattle.mlt_manager.specs.Promises.{IsCommittedBaseOf}
+
+-- A line for what each event was told, then the base of what this manager has committed.
+pub record IsTextOf {P : Type 0} (tolds : List Told) (manager : ManagerFields P) (text : List ℕ)
+    : Type 0 where
+  pub base : Base
+  pub committed : IsCommittedBaseOf manager base
+  pub appended : text ≡ told_text tolds ++ base_text base
+
+-- The input spells events, which are played from a new manager to this one, and the text is that of what they were told.
+pub record IsStepsText {P : Type 0} (bits_of : P → ℕ → ℕ) (limits : Limits) (pseudo : P)
+    (input text : List ℕ) (manager : ManagerFields P) : Type 0 where
+  pub events : List Event
+  pub tolds : List Told
+  pub spelled : Spells input events
+  pub played : Plays bits_of limits pseudo events tolds manager
+  pub written : IsTextOf tolds manager text
+
+-- a reader gave the input whole, and the text is that of its events
+abbrev pub IsStepsOf : {P : Type 0} → (P → ℕ → ℕ) → Limits → P → Option (List ℕ)
+    → Option (List ℕ) → List ℕ → List ℕ → ManagerFields P → Type 0
+IsStepsOf bits_of limits pseudo before after input text manager =
+    GivesWhole before after input × IsStepsText bits_of limits pseudo input text manager
