@@ -6,6 +6,7 @@ use Rattle.mlt_event.specs.declared.answer.Answer.TheVariants as answer
 use Rattle.mlt_event.specs.declared.event.Event.TheVariants as event
 use Rattle.mlt_event.specs.declared.told.Told.TheVariants as told
 use Rattle.mlt_manager.specs.Answers.{AnswersAbort, AnswersCommit, HasBegunAbort, HasClosed, HasCommitted, IsByAnother, counted}
+use Rattle.mlt_manager.specs.Bases.{UndoingLeavesBase}
 use Rattle.mlt_manager.specs.Managers.{ManagerFields}
 use Rattle.mlt_manager.specs.Undoings.{AnswersWholeUndo}
 use Rattle.mlt_manager.proofs.Keeping.{counted_keeps}
@@ -52,12 +53,13 @@ module _ {P : Type 0} (bits_of : P → ℕ → ℕ) (old new : ManagerFields P) 
   undoing_counted = record { manager = counted_keeps bits_of old one.manager; undoing = one.undoing; alone = one.alone; limit = one.limit }
 
   -- **It comes to its end.**
-  pub undoes_it : (told : Answer) → AnswersWholeUndo bits_of (counted old) new tx (Ok told) → IsByAnother told new.txs tx → IsAtRest bits_of new × IsUndone bits_of old new tx
-  undoes_it told a another =
+  pub undoes_it : (told : Answer) → AnswersWholeUndo bits_of (counted old) new tx (Ok told) → UndoingLeavesBase told (counted old) new tx → IsByAnother told new.txs tx → IsAtRest bits_of new × IsUndone bits_of old new tx
+  undoes_it told a base another =
       let is : told ≡ answer.Aborted = waits_for_nobody bits_of (counted old) new tx undoing_counted told a.1 another in
       let ended : AnswersWholeUndo bits_of (counted old) new tx (Ok answer.Aborted) = subst (λ (t : Answer). AnswersWholeUndo bits_of (counted old) new tx (Ok t)) is a in
-      let k = back_commits_nothing bits_of (counted old) new tx undoing_counted answer.Aborted ended.1 in
-      (aborted_rests bits_of (counted old) new tx undoing_counted ended.1, record { meets = (ended, tt); keeps = record { committed = k.committed; commits = k.commits } })
+      let based : UndoingLeavesBase answer.Aborted (counted old) new tx = subst (λ (t : Answer). UndoingLeavesBase t (counted old) new tx) is base in
+      let k = back_commits_nothing bits_of (counted old) new tx undoing_counted ended.1 based in
+      (aborted_rests bits_of (counted old) new tx undoing_counted ended.1, record { meets = (ended, based, tt); keeps = record { committed = k.committed; commits = k.commits } })
 
   pub undo_is_told : (reason : Refusal) → AnswersWholeUndo bits_of (counted old) new tx (Err reason) → ⊥
   undo_is_told reason a = undoing_is_undoing reason old.txs tx one.undoing a.0

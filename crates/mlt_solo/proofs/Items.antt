@@ -1,5 +1,5 @@
 -- What the items of a history say of what is committed, and which base a manager at rest has
-use Rattle.std.proofs.Common.{◌≡◌, ◌≢◌, ℕ, List, [], ◌∷◌, ◌++◌, Bool, true, false, is_some, None, Some, refl, sym, ap, subst, ◌∙◌, append_assoc}
+use Rattle.std.proofs.Common.{◌≡◌, ◌≢◌, ℕ, zero, suc, replicate, List, [], ◌∷◌, ◌++◌, Bool, true, false, is_some, None, Some, refl, sym, ap, subst, ◌∙◌, append_assoc}
 use Rattle.std.specs.FinMap as map
 use Rattle.std.specs.FinSet as set
 use Rattle.mlt_kinds.specs.Bases.{Base, Step, empty_base}
@@ -38,15 +38,18 @@ begin_commits_none items tx = ap (λ (l : Lists (ObjOp × ObjReply)). l.committe
 pub op_commits_none : (items : List TraceItem) (tx : ℕ) (x : ObjOp × ObjReply) → committed_by (items ++ trace.Op tx x ∷ []) ≡ committed_by items
 op_commits_none items tx x = ap (λ (l : Lists (ObjOp × ObjReply)). l.committed) (lists_push items (trace.Op tx x))
 
-pub back_commits_none : (items : List TraceItem) (tx : ℕ) → committed_by (items ++ trace.Back tx ∷ []) ≡ committed_by items
+back_commits_none : (items : List TraceItem) (tx : ℕ) → committed_by (items ++ trace.Back tx ∷ []) ≡ committed_by items
 back_commits_none items tx = ap (λ (l : Lists (ObjOp × ObjReply)). l.committed) (lists_push items (trace.Back tx))
 
 pub abort_commits_none : (items : List TraceItem) (tx : ℕ) → committed_by (items ++ trace.Abort tx ∷ []) ≡ committed_by items
 abort_commits_none items tx = ap (λ (l : Lists (ObjOp × ObjReply)). l.committed) (lists_push items (trace.Abort tx))
 
-pub last_back_commits_none : (items : List TraceItem) (tx : ℕ) → committed_by (items ++ trace.Back tx ∷ trace.Abort tx ∷ []) ≡ committed_by items
-last_back_commits_none items tx =
-    ap committed_by (sym (append_assoc items (trace.Back tx ∷ []) (trace.Abort tx ∷ []))) ∙ abort_commits_none (items ++ trace.Back tx ∷ []) tx ∙ back_commits_none items tx
+-- nor do operations that are taken back, up to the abort
+pub backs_commit_none : (count : ℕ) (items : List TraceItem) (tx : ℕ) → committed_by (items ++ (replicate count (trace.Back tx) ++ trace.Abort tx ∷ [])) ≡ committed_by items
+backs_commit_none zero items tx = abort_commits_none items tx
+backs_commit_none (suc count) items tx =
+    ap committed_by (sym (append_assoc items (trace.Back tx ∷ []) (replicate count (trace.Back tx) ++ trace.Abort tx ∷ []))) ∙ backs_commit_none count (items ++ trace.Back tx ∷ []) tx
+    ∙ back_commits_none items tx
 
 module _ {P : Type 0} (bits_of : P → ℕ → ℕ) (m : ManagerFields P) (rest : IsAtRest bits_of m) where
   not_running : (i : ℕ) → (lists_by m).stage i ≢ Running

@@ -6,5 +6,5 @@ unreachable-requires g c = undo_is_told g.P.Pseudo.bits_of c.args.manager.now c.
 
 pub returns : goal.returns
 returns g c =
-    let r = undoes_it g.P.Pseudo.bits_of c.args.manager.now c.whole_undo.new.self c.args.tx c.requires.undoing c.in-Ok.field-0 c.in-Ok.ensures.answers c.in-Ok.ensures.others in
+    let r = undoes_it g.P.Pseudo.bits_of c.args.manager.now c.whole_undo.new.self c.args.tx c.requires.undoing c.in-Ok.field-0 c.in-Ok.ensures.answers c.in-Ok.ensures.base c.in-Ok.ensures.others in
     record { rest = r.0; undone = r.1 }
