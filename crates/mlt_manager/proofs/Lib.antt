@@ -1,6 +1,7 @@
 pub mod Called
 pub mod Chains
 pub mod Counts
+pub mod EachOpen
 pub mod Ended
 pub mod Ending
 pub mod Finding
@@ -9,9 +10,12 @@ pub mod Kept
 pub mod Others
 pub mod Playing
 pub mod Promises
+pub mod Quiet
 pub mod Refusing
 pub mod RunningOn
 pub mod Stepped
 pub mod Stepping
+pub mod Tolds
 pub mod UndoingAll
+pub mod UndoingBases
 pub mod WholeBases

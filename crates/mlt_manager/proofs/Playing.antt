@@ -9,6 +9,7 @@ use Rattle.mlt_manager.specs.Events.{IsRun, Meets, Plays}
 use Rattle.mlt_manager.specs.Managers.{ManagerFields}
 use Rattle.mlt_manager.specs.Openings.{IsNew}
 use Rattle.mlt_manager.specs.Promises.{KeepsPromises}
+use Rattle.mlt_manager.proofs.Tolds.{history_told}
 
 -- the events so far, and what they were told
 pub record HasPlayed {P : Type 0} (bits_of : P → ℕ → ℕ) (limits : Limits) (pseudo : P) (events : List Event) (tolds : List Told) (now : ManagerFields P) : Type 0 where
@@ -54,5 +55,6 @@ all_played bits_of limits pseudo events i tolds m over h promises = record {
   opening = h.opening;
   opens = h.opens;
   run = subst (λ (es : List Event). IsRun bits_of h.opening es tolds m) (take_all events i over) h.run;
+  told = history_told bits_of limits pseudo events tolds h.opening m h.opens (subst (λ (es : List Event). IsRun bits_of h.opening es tolds m) (take_all events i over) h.run);
   promises = promises;
 }

@@ -1,11 +1,12 @@
 -- A step keeps what is always true of a manager
-use Rattle.std.proofs.Common.{◌≡◌, ℕ, [], ◌∷◌, ◌++◌, Option, Some, refl, sym, ap, subst, ◌∙◌, arith}
+use Rattle.std.proofs.Common.{◌≡◌, ℕ, List, [], ◌∷◌, ◌++◌, Option, None, Some, refl, sym, ap, subst, ◌∙◌, arith}
 use Rattle.std.specs.FinMap as map
 use Rattle.std.specs.Cmp.{nat_cmp_total}
 use Rattle.mlt_page.specs.declared.page.Page.{Page}
 use Rattle.mlt_kinds.specs.Bases.{Base, Step}
 use Rattle.mlt_kinds.specs.declared.operation.ObjOp.{ObjOp}
 use Rattle.mlt_kinds.specs.declared.operation.ObjReply.{ObjReply}
+use Rattle.mlt_trace.specs.declared.item.TraceItem.{TraceItem}
 use Rattle.mlt_trace.specs.declared.item.TraceItem.TheVariants as trace
 use Rattle.mlt_running.specs.CleanPages.{RunningImages, clean_pages}
 use Rattle.mlt_hash.specs.Walks.{basis_by}
@@ -31,7 +32,7 @@ use Rattle.mlt_invariant.proofs.Inverting.{inverse_sound}
 use Rattle.mlt_invariant.proofs.Pending.{not_done_sound}
 use Rattle.mlt_invariant.proofs.Replied.{reply_is_step}
 use Rattle.mlt_invariant.proofs.Stays.{stays_sound}
-use Rattle.mlt_invariant.proofs.Tables.{removed_inserted}
+use Rattle.mlt_invariant.proofs.Tables.{inserted_here, removed_here, removed_inserted}
 use Rattle.mlt_invariant.proofs.Undoing.{undone_sound}
 use Rattle.mlt_traced.proofs.Items.{done_traced, last_undone_traced, undone_traced}
 use Rattle.mlt_traced.proofs.Stays.{clean_traced}
@@ -150,28 +151,55 @@ module _ {P : Type 0} (bits_of : P → ℕ → ℕ) (m : ManagerFields P) (h : I
       ends = subst (λ (n : Option OperationFields). EndsBack inverting n before.subtx after.subtx before.undo after.undo m.commons commons told) ends.none ends;
     }
 
-    led_back : (told : Answer) (of_base : Base → State) (led : LedBack now before after of_base) → HasBase (core told) led.base → TakesStepBack m (core told) tx led.last
-    led_back told of_base led leads_to = record {
+    history_between : (inverting next : Option OperationFields) (told : Answer) (e : EndsBack inverting next before.subtx after.subtx before.undo after.undo m.commons commons told) → e.between.history ≡ m.commons.history
+    history_between None next told e = ap (λ (k : Commons). k.history) (e.at_once refl).0
+    history_between (Some o) next told e = (e.at_end o refl).3
+
+    led_back : (told : Answer) (of_base : Base → State) (left : List (ObjOp × ObjReply)) (added : List TraceItem) (led : LedBack now before after of_base) → after.undo.entries ≡ left → HasBase (core told) led.base
+        → commons.history.items ≡ m.commons.history.items ++ added → ((next : Transaction) → map.get (core told).txs tx ≡ Some next → next.undo.entries ≡ left) → TakesStepBack m (core told) tx left led.last added
+    led_back told of_base left added led is_left leads_to items stands = record {
       one = before;
       there = was;
-      front = after.undo.entries;
-      entries = led.entries;
+      entries = led.entries ∙ ap (λ (l : List (ObjOp × ObjReply)). l ++ led.last ∷ []) is_left;
+      stands = stands;
+      items = items;
       leads = λ base leads. (led.base, subst (λ (b : Base). Step led.base led.last b) (sym (same_base base leads)) led.step, leads_to);
     }
 
+    stands_after : (next : Transaction) → map.get (map.insert m.txs tx after) tx ≡ Some next → next.undo.entries ≡ after.undo.entries
+    stands_after next there =
+        let both : Some after ≡ Some next = sym (inserted_here m.txs tx after) ∙ there in
+        let same : next ≡ after = cc in
+        ap (λ (t : Transaction). t.undo.entries) same
+
+    nothing_after : (left : List (ObjOp × ObjReply)) (next : Transaction) → map.get (map.remove (map.insert m.txs tx after) tx) tx ≡ Some next → next.undo.entries ≡ left
+    nothing_after left next there = let none : None ≡ Some next = sym (removed_here (map.insert m.txs tx after) tx) ∙ there in absurd cc
+
     undone : (inverting : Option OperationFields) → TakesLastBack now inverting before after commons answer.Undone → StillBy answer.Undone × LeavesBase answer.Undone m (core answer.Undone) tx
     undone inverting takes =
-        let led = undone_sound now tx inverting before after commons h.sound was takes in (
+        let led = undone_sound now tx inverting before after commons h.sound was takes in
+        let number : before.subtx.tx ≡ tx = (h.sound.fits tx before was).number in
+        let history = history_between inverting None answer.Undone takes.ends in (
           record { images = map.insert h.images tx map.empty; base = led.base; sound = led.sound; traced = undone_traced now tx inverting before after commons led.base h.sound h.traced was takes },
-          (led.last, led_back answer.Undone (with_undone now tx after commons) led led.sound.match.history),
+          (
+            after.undo.entries,
+            led.last,
+            led_back answer.Undone (with_undone now tx after commons) after.undo.entries (trace.Back tx ∷ []) led refl led.sound.match.history (takes.ends.takes.items ∙ (λ p. (history p).items ++ trace.Back (number p) ∷ [])) stands_after,
+          ),
         )
 
     aborted : (inverting : Option OperationFields) → TakesLastBack now inverting before after commons answer.Aborted → StillBy answer.Aborted × LeavesBase answer.Aborted m (core answer.Aborted) tx
     aborted inverting takes =
-        let led = aborted_sound now tx inverting before after commons h.sound was takes in (
+        let led = aborted_sound now tx inverting before after commons h.sound was takes in
+        let number : before.subtx.tx ≡ tx = (h.sound.fits tx before was).number in
+        let history = history_between inverting None answer.Aborted takes.ends in (
           subst (λ (t : Table). IsStill bits_of (record m { commons = commons; txs = t; opens = opens_after answer.Aborted tx m.opens })) (sym (removed_inserted m.txs tx after))
               (record { images = map.remove h.images tx; base = led.base; sound = led.sound; traced = last_undone_traced now tx inverting before after commons led.base h.sound h.traced was takes }),
-          (led.last, led_back answer.Aborted (with_aborted now tx commons) led led.sound.match.history),
+          (
+            led.last,
+            led_back answer.Aborted (with_aborted now tx commons) [] (trace.Back tx ∷ trace.Abort tx ∷ []) led takes.ends.takes.none led.sound.match.history
+                (takes.ends.takes.items ∙ (λ p. (history p).items ++ trace.Back (number p) ∷ trace.Abort (number p) ∷ [])) (nothing_after []),
+          ),
         )
 
     by_undoing : (inverting : Option OperationFields) (told : Answer) → before.at ≡ at.Undoing inverting → StepsBack (basis_of (world_of now) tx) inverting before after m.commons commons told

@@ -75,7 +75,7 @@ module _ {P : Type 0} (bits_of : P → ℕ → ℕ) (m m' : ManagerFields P) (tx
   on_txs answer.Aborted none = absurd none
   on_txs (answer.Refused reason) none = absurd none
 
-  there_now : GoesOnBack told → map.get m'.txs tx ≡ Some d.steps.changes.after
+  pub there_now : GoesOnBack told → map.get m'.txs tx ≡ Some d.steps.changes.after
   there_now goes = there_after bits_of GoesOnBack m m m' tx told d (on_txs told goes)
 
   pub still_undoing : GoesOnBack told → IsOpenAt m'.txs tx IsUndoing
@@ -115,6 +115,16 @@ module _ {P : Type 0} (bits_of : P → ℕ → ℕ) (m m' : ManagerFields P) (tx
       let is = now_left goes in
       let fewer = fewer_by inverse_at.0 steps_back.next told steps_back.tells goes in
       omega (arith, was, is, fewer)
+
+  kept_by : (inverting next : Option OperationFields) → TellsOfBack (basis_by bits_of m.root m.opens d.steps.changes.before.subtx.tx) inverting next d.steps.changes.before.subtx d.steps.changes.after.subtx d.steps.changes.before.undo d.steps.changes.after.undo m.commons m'.commons answer.Going
+      → d.steps.changes.after.undo.entries ≡ d.steps.changes.before.undo.entries
+  kept_by inverting next s = ap (λ (u : Undo). u.entries) s.rest.undo_kept
+
+  -- a step that only goes on leaves what stands
+  pub going_entries : told ≡ answer.Going → d.steps.changes.after.undo.entries ≡ d.steps.changes.before.undo.entries
+  going_entries is =
+      kept_by inverse_at.0 steps_back.next
+      (subst (λ (t : Answer). TellsOfBack (basis_by bits_of m.root m.opens d.steps.changes.before.subtx.tx) inverse_at.0 steps_back.next d.steps.changes.before.subtx d.steps.changes.after.subtx d.steps.changes.before.undo d.steps.changes.after.undo m.commons m'.commons t) is steps_back.tells)
 
   stops_by : (inverting next : Option OperationFields) (t : Answer) → TellsOfBack (basis_by bits_of m.root m.opens d.steps.changes.before.subtx.tx) inverting next d.steps.changes.before.subtx d.steps.changes.after.subtx d.steps.changes.before.undo d.steps.changes.after.undo m.commons m'.commons t
       → (t ≡ answer.Going → ⊥) → (t ≡ answer.Undone → ⊥) → StopsBack t

@@ -53,7 +53,7 @@ same_keeps : {P : Type 0} (old new : ManagerFields P) → new ≡ old → KeepsW
 same_keeps old new same = subst (KeepsWhatCounts old) (sym same) (record { clean = λ clean has. has; items = refl; held = refl })
 
 -- where the history is the same, so is the base
-base_by : {P : Type 0} (old new : ManagerFields P) → new.commons.history.items ≡ old.commons.history.items → (base : Base) → HasBase old base → HasBase new base
+pub base_by : {P : Type 0} (old new : ManagerFields P) → new.commons.history.items ≡ old.commons.history.items → (base : Base) → HasBase old base → HasBase new base
 base_by old new same base leads = subst (λ (l : List TraceItem). IsHistory Step empty_base (entries_of l) base) (sym same) leads
 
 -- a call
@@ -80,7 +80,7 @@ module _ {P : Type 0} (m m' : ManagerFields P) (tx : ℕ) (op : ObjOp) (c : HasC
     held = c.calls.tells.makes.held;
   }
 
-  called_with : IsOpenAt m'.txs tx (IsPendingWith op)
+  pub called_with : IsOpenAt m'.txs tx (IsPendingWith op)
   called_with = record {
     one = c.calls.changes.after;
     there = ap (λ (t : Table). map.get t tx) c.calls.changes.is ∙ inserted_here m.txs tx c.calls.changes.after;
@@ -102,10 +102,10 @@ asked_pending op at.Idle none = none
 asked_pending op (at.Pending o) asked = tt
 asked_pending op (at.Undoing inverting) none = none
 
-weaker : (txs : Table) (tx : ℕ) (op : ObjOp) → IsOpenAt txs tx (IsPendingWith op) → IsOpenAt txs tx IsPending
+pub weaker : (txs : Table) (tx : ℕ) (op : ObjOp) → IsOpenAt txs tx (IsPendingWith op) → IsOpenAt txs tx IsPending
 weaker txs tx op p = record { one = p.one; there = p.there; is_at = asked_pending op p.one.at p.is_at }
 
-same_request : (basis : Basis) (old new : Moment) (o next : OperationFields) → TellsOfStep basis old new o next step.Going → next.request ≡ o.request
+pub same_request : (basis : Basis) (old new : Moment) (o next : OperationFields) → TellsOfStep basis old new o next step.Going → next.request ≡ o.request
 same_request basis old new o next (inl on) = on.request
 same_request basis old new o next (inr (inl begins)) = begins.request
 same_request basis old new o next (inr (inr restarts)) = restarts.request
@@ -128,7 +128,7 @@ module _ {P : Type 0} (bits_of : P → ℕ → ℕ) (tx : ℕ) (op : ObjOp) wher
   asked_on m m' answer.Aborted none pending d = absurd none
   asked_on m m' (answer.Refused reason) none pending d = absurd none
 
-  steps_ask : (old last : ManagerFields P) (steps : List (ManagerFields P × Answer)) → StepsBy bits_of GoesOn old steps last tx → IsOpenAt old.txs tx (IsPendingWith op) → IsOpenAt last.txs tx (IsPendingWith op)
+  pub steps_ask : (old last : ManagerFields P) (steps : List (ManagerFields P × Answer)) → StepsBy bits_of GoesOn old steps last tx → IsOpenAt old.txs tx (IsPendingWith op) → IsOpenAt last.txs tx (IsPendingWith op)
   steps_ask old last [] same pending = subst (λ (n : ManagerFields P). IsOpenAt n.txs tx (IsPendingWith op)) (sym same) pending
   steps_ask old last (one ∷ more) (first, on, rest) pending = steps_ask one.0 last more rest (asked_on old one.0 one.1 on pending first)
 

@@ -1,5 +1,5 @@
 -- The base to which the history of a manager leads, its clean pages, and what a step does to them
-use Rattle.std.specs.Prelude.{ℕ, ◌≡◌, List, [], ◌∷◌, ◌++◌, Some}
+use Rattle.std.specs.Prelude.{ℕ, ◌≡◌, List, [], ◌∷◌, ◌++◌, Some, length, replicate}
 use Rattle.std.specs.Ordering.{nat_cmp}
 use Rattle.std.specs.FinMap as map
 use Rattle.mlt_page.specs.declared.page.Page.{Page}
@@ -7,7 +7,9 @@ use Rattle.mlt_kinds.specs.Bases.{Base, Step, empty_base}
 use Rattle.mlt_kinds.specs.declared.operation.ObjOp.{ObjOp}
 use Rattle.mlt_kinds.specs.declared.operation.ObjReply.{ObjReply}
 use Rattle.mlt_order.specs.Histories.{IsHistory}
+use Rattle.mlt_order.specs.Runs.{Runs}
 use Rattle.mlt_history.specs.Entries.{entries_of}
+use Rattle.mlt_trace.specs.declared.item.TraceItem.{TraceItem}
 use Rattle.mlt_trace.specs.declared.item.TraceItem.TheVariants as trace
 use Rattle.mlt_running.specs.CleanPages.{RunningImages, clean_pages}
 use Rattle.mlt_operation.specs.declared.request.Request.TheVariants.{Do}
@@ -62,13 +64,16 @@ pub record MakesStep {P : Type 0} (old new : ManagerFields P) (tx : ℕ) (item :
   pub pending : IsOpenAt old.txs tx (IsPendingWith item.0)
   pub adds : AddsStep old new tx item
 
--- the last operation of the transaction is taken back: the base is one from which it leads to what it was
-pub record TakesStepBack {P : Type 0} (old new : ManagerFields P) (tx : ℕ) (last : ObjOp × ObjReply)
+-- The last operation of the transaction is taken back, and these are left: the base is one from which it leads to what it
+-- was, and the history has these items more.
+pub record TakesStepBack {P : Type 0} (old new : ManagerFields P) (tx : ℕ)
+    (left : List (ObjOp × ObjReply)) (last : ObjOp × ObjReply) (added : List TraceItem)
     : Type 0 where
   pub one : Transaction
   pub there : map.get old.txs tx ≡ Some one
-  pub front : List (ObjOp × ObjReply)
-  pub entries : one.undo.entries ≡ front ++ last ∷ []
+  pub entries : one.undo.entries ≡ left ++ last ∷ []
+  pub stands : (next : Transaction) → map.get new.txs tx ≡ Some next → next.undo.entries ≡ left
+  pub items : new.commons.history.items ≡ old.commons.history.items ++ added
   pub leads : (base : Base) → HasBase old base
       → (before : Base) × Step before last base × HasBase new before
 
@@ -77,8 +82,12 @@ abbrev pub LeavesBase : {P : Type 0} → Answer → ManagerFields P → ManagerF
 LeavesBase (answer.Done reply) old new tx = (op : ObjOp) × MakesStep old new tx (op, reply)
 LeavesBase (answer.Blocked by) old new tx =
     KeepsWhatCounts old new × ((item : ObjOp × ObjReply) × IsStepOfBase old tx item)
-LeavesBase answer.Undone old new tx = (last : ObjOp × ObjReply) × TakesStepBack old new tx last
-LeavesBase answer.Aborted old new tx = (last : ObjOp × ObjReply) × TakesStepBack old new tx last
+LeavesBase answer.Undone old new tx =
+    (left : List (ObjOp × ObjReply)) × (last : ObjOp × ObjReply)
+    × TakesStepBack old new tx left last (trace.Back tx ∷ [])
+LeavesBase answer.Aborted old new tx =
+    (last : ObjOp × ObjReply)
+    × TakesStepBack old new tx [] last (trace.Back tx ∷ trace.Abort tx ∷ [])
 LeavesBase other old new tx = KeepsWhatCounts old new
 
 -- an operation would be a step of the base, with some reply
@@ -92,3 +101,23 @@ abbrev pub WholeLeavesBase : {P : Type 0} → Answer → ManagerFields P → Man
 WholeLeavesBase (answer.Done reply) old new tx op = AddsStep old new tx (op, reply)
 WholeLeavesBase (answer.Blocked by) old new tx op = KeepsWhatCounts old new × MayBeStep old op
 WholeLeavesBase other old new tx op = KeepsWhatCounts old new
+
+-- The last operations of the transaction are taken back, one after another: the base is one from which they lead to what it
+-- was, and the history has an item for each of them, and then these.
+pub record TakesStepsBack {P : Type 0} (old new : ManagerFields P) (tx : ℕ)
+    (left : List (ObjOp × ObjReply)) (added : List TraceItem) : Type 0 where
+  pub one : Transaction
+  pub there : map.get old.txs tx ≡ Some one
+  pub taken : List (ObjOp × ObjReply)
+  pub entries : one.undo.entries ≡ left ++ taken
+  pub items : new.commons.history.items
+      ≡ old.commons.history.items ++ (replicate (length taken) (trace.Back tx) ++ added)
+  pub leads : (base : Base) → HasBase old base
+      → (before : Base) × Runs Step before taken base × HasBase new before
+
+-- what a whole undoing that was told this does to the base and the history
+abbrev pub UndoingLeavesBase : {P : Type 0} → Answer → ManagerFields P → ManagerFields P → ℕ → Type 0
+UndoingLeavesBase answer.Aborted old new tx = TakesStepsBack old new tx [] (trace.Abort tx ∷ [])
+UndoingLeavesBase (answer.Waiting page by) old new tx =
+    (left : List (ObjOp × ObjReply)) × TakesStepsBack old new tx left []
+UndoingLeavesBase other old new tx = ⊥

@@ -2,16 +2,18 @@
 use Rattle.std.specs.Prelude.{ℕ, ◌≡◌, List, [], ◌∷◌, Result, Ok, Err}
 use Rattle.mlt_types.specs.declared.refusal.Refusal.{Refusal}
 use Rattle.mlt_event.specs.declared.answer.Answer.{Answer}
+use Rattle.mlt_event.specs.declared.answer.Answer.TheVariants as answer
 use Rattle.mlt_event.specs.declared.event.Event.{Event}
 use Rattle.mlt_event.specs.declared.event.Event.TheVariants as event
 use Rattle.mlt_event.specs.declared.told.Told.{Told}
 use Rattle.mlt_event.specs.declared.told.Told.TheVariants as told
 use Rattle.mlt_manager.specs.Answers.{AnswersAbort, AnswersBegin, AnswersCall, AnswersCancel, AnswersCommit, AnswersStep, IsByAnother, counted}
-use Rattle.mlt_manager.specs.Bases.{KeepsWhatCounts, LeavesBase, WholeLeavesBase}
+use Rattle.mlt_manager.specs.Bases.{KeepsWhatCounts, LeavesBase, UndoingLeavesBase, WholeLeavesBase}
 use Rattle.mlt_manager.specs.Managers.{ManagerFields}
 use Rattle.mlt_types.specs.declared.limits.Limits.{Limits}
 use Rattle.mlt_manager.specs.Openings.{IsNew}
 use Rattle.mlt_manager.specs.Promises.{KeepsPromises}
+use Rattle.mlt_manager.specs.Tolds.{AreToldBy, none_called}
 use Rattle.mlt_manager.specs.Undoings.{AnswersWholeUndo}
 use Rattle.mlt_manager.specs.Wholes.{AnswersWhole}
 
@@ -43,7 +45,8 @@ Meets bits_of (event.Whole tx op) (told.Answered answer) old new =
 Meets bits_of (event.Whole tx op) (told.Refused reason) old new =
     AnswersWhole bits_of old new tx op (Err reason)
 Meets bits_of (event.WholeUndo tx) (told.Answered answer) old new =
-    AnswersWholeUndo bits_of old new tx (Ok answer) × IsByAnother answer new.txs tx
+    AnswersWholeUndo bits_of old new tx (Ok answer) × UndoingLeavesBase answer old new tx
+    × IsByAnother answer new.txs tx
 Meets bits_of (event.WholeUndo tx) (told.Refused reason) old new =
     AnswersWholeUndo bits_of old new tx (Err reason)
 Meets bits_of event other old new = ⊥
@@ -57,11 +60,34 @@ IsRun {P = P} bits_of old (event ∷ events) (told ∷ tolds) new =
     × IsRun bits_of next events tolds new
 IsRun bits_of old events tolds new = ⊥
 
--- A run from a new manager with these limits and this function to pseudokeys; and what is promised of a manager holds of
--- the one that it leads to.
+-- A run from a new manager with these limits and this function to pseudokeys. The history of the one that it leads to is
+-- what the events were told, and what is promised of a manager holds of it.
 pub record Plays {P : Type 0} (bits_of : P → ℕ → ℕ) (limits : Limits) (pseudo : P)
     (events : List Event) (tolds : List Told) (new : ManagerFields P) : Type 0 where
   pub opening : ManagerFields P
   pub opens : IsNew opening limits pseudo
   pub run : IsRun bits_of opening events tolds new
+  pub told : AreToldBy events tolds none_called new.commons.history.items
   pub promises : KeepsPromises bits_of new
+
+-- an event that leaves no operation and no inverse running, where none ran
+abbrev pub IsWholeEvent : Event → Type 0
+IsWholeEvent event.Begin = Unit {0}
+IsWholeEvent (event.Whole tx op) = Unit {0}
+IsWholeEvent (event.Commit tx) = Unit {0}
+IsWholeEvent (event.Abort tx) = Unit {0}
+IsWholeEvent (event.WholeUndo tx) = Unit {0}
+IsWholeEvent other = ⊥
+
+abbrev pub AreWholeEvents : List Event → Type 0
+AreWholeEvents [] = Unit {0}
+AreWholeEvents (event ∷ events) = IsWholeEvent event × AreWholeEvents events
+
+-- no answer is that one waits
+abbrev pub IsNoWait : Told → Type 0
+IsNoWait (told.Answered (answer.Waiting page by)) = ⊥
+IsNoWait other = Unit {0}
+
+abbrev pub NoneWaits : List Told → Type 0
+NoneWaits [] = Unit {0}
+NoneWaits (told ∷ tolds) = IsNoWait told × NoneWaits tolds

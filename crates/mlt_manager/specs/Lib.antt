@@ -6,5 +6,6 @@ pub mod Managers
 pub mod Openings
 pub mod Parts
 pub mod Promises
+pub mod Tolds
 pub mod Undoings
 pub mod Wholes

@@ -2,8 +2,8 @@
 
 ghost use Rattle.std.specs.Prelude.{◌≡◌, IfErr, IfOk, OnOk};
 ghost use Rattle.mlt_manager.specs.Answers.{AnswersAbort, AnswersBegin, AnswersCall, AnswersCancel, AnswersCommit, AnswersStep, IsByAnother, counted};
-ghost use Rattle.mlt_manager.specs.Bases.{KeepsWhatCounts, LeavesBase, WholeLeavesBase};
-ghost use Rattle.mlt_manager.specs.Events.{Meets, Plays, told_of};
+ghost use Rattle.mlt_manager.specs.Bases.{KeepsWhatCounts, LeavesBase, UndoingLeavesBase, WholeLeavesBase};
+ghost use Rattle.mlt_manager.specs.Events.{AreWholeEvents, Meets, NoneWaits, Plays, told_of};
 ghost use Rattle.mlt_manager.specs.Openings.{IsNew};
 ghost use Rattle.mlt_manager.specs.Undoings.{AnswersWholeUndo};
 ghost use Rattle.mlt_manager.specs.Wholes.{AnswersWhole};
@@ -154,6 +154,7 @@ impl<P: Pseudo> Manager<P> {
     /// `NoSuchTx`, where no transaction of this number is open; `NotRunning`, where its abort has not begun.
     pub fn whole_undo(&mut self, tx: TxId) -> Result<Answer, Refusal>
         ensures answers { AnswersWholeUndo P.bits_of (counted self.old) self.new tx result }
+        ensures base { IfOk result (λ told. UndoingLeavesBase told (counted self.old) self.new tx) }
         ensures others { IfOk result (λ told. IsByAnother told self.new.txs tx) }
     {
         self.parts.count();
@@ -206,6 +207,9 @@ impl<P: Pseudo> Manager<P> {
         P: Drop,
         ensures plays { IfOk result (λ played.
             Plays P.bits_of limits pseudo events.now played.1.items played.0) }
+        // among whole events nobody waits
+        ensures whole { AreWholeEvents events.now
+            → IfOk result (λ played. NoneWaits played.1.items) }
         ensures refusal { IfErr result (λ refusal. refusal ≡ Refusal.OutOfMemory) }
     {
         let mut tolds = Vec::with_capacity(alloc, events.len())?;

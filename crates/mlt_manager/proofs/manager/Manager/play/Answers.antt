@@ -2,6 +2,7 @@ use Rattle.std.proofs.Common.{refl, subst, sym, List, []}
 use Rattle.mlt_event.specs.declared.told.Told.{Told}
 use Rattle.mlt_manager.specs.Events.{IsRun}
 use Rattle.mlt_manager.proofs.Playing.{all_played, played_on}
+use Rattle.mlt_manager.proofs.Quiet.{none_waits}
 use Rattle.mlt_manager.proofs.manager.Manager.play.Goals as goal
 
 pub loop-event-init : goal.loop-event-init
@@ -19,3 +20,8 @@ loop-event-preserved g c =
 pub returns-clause-plays : goal.returns-clause-plays
 returns-clause-plays g c =
     all_played g.P.Pseudo.bits_of c.args.limits c.args.pseudo c.args.events.now c.loop-event.event-index c.loop-event.tolds.items c.loop-event.manager c.loop-event-test.false c.loop-event.invariant c.keeps_its_promises.ensures
+
+pub returns-clause-whole : goal.returns-clause-whole
+returns-clause-whole g c = λ whole.
+    let plays = all_played g.P.Pseudo.bits_of c.args.limits c.args.pseudo c.args.events.now c.loop-event.event-index c.loop-event.tolds.items c.loop-event.manager c.loop-event-test.false c.loop-event.invariant c.keeps_its_promises.ensures in
+    none_waits g.P.Pseudo.bits_of c.args.limits c.args.pseudo c.args.events.now c.loop-event.tolds.items plays.opening c.loop-event.manager plays.opens plays.run whole
