@@ -133,3 +133,28 @@ pub fn write_report<W: Write>(
     let text = text_of(alloc, report, form)?;
     write_text(writer, text.as_slice())
 }
+
+/// Writes the text of outcomes alone. It is built first, and then written by a loop of writes.
+///
+/// # Errors
+/// `OutOfMemory`, where a growth was refused; nothing was written. `Io`, where a write failed; then a
+/// prefix of the text was written.
+pub fn write_outcomes<W: Write>(
+    alloc: Global,
+    outcomes: &Outcomes,
+    writer: &mut W,
+) -> Result<(), Refusal>
+    ensures ok { OnOk result
+        (Appends (W.contents writer.old) (W.contents writer.new)
+        (flat_map outcome_text outcomes.now)) }
+    ensures memory { IsErrOf result Refusal.OutOfMemory
+        → Keeps (W.contents writer.old) (W.contents writer.new) }
+    ensures io { IsErrOf result Refusal.Io
+        → AppendsFront (W.contents writer.old) (W.contents writer.new)
+        (flat_map outcome_text outcomes.now) }
+    ensures refusal { IfErr result
+        (λ refusal. (refusal ≡ Refusal.OutOfMemory) ⊎ (refusal ≡ Refusal.Io)) }
+{
+    let text = solo_text(alloc, outcomes.as_slice())?;
+    write_text(writer, text.as_bytes())
+}

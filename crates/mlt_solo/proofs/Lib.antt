@@ -1,0 +1,9 @@
+mod Items
+mod Steps
+mod Wholes
+mod Backs
+mod Runs
+mod Scripts
+mod Ends
+mod Alls
+mod Texts

@@ -1,0 +1,4 @@
+pub mod Events
+pub mod Alone
+pub mod Asking
+pub mod Solo
