@@ -1,4 +1,4 @@
-//! Tests of scripts, of runs one after another, and of the program's engine and its command line. They stand
+//! Tests of scripts, of runs one after another, and of the program's command line. They stand
 //! here and not in the crates that they test, since a crate with tests is proved twice.
 #![tactic(auto)]
 
@@ -10,5 +10,3 @@ mod command_lines;
 mod scripts;
 #[cfg(test)]
 mod serial_runs;
-#[cfg(test)]
-mod solo_runs;

@@ -47,7 +47,7 @@ const ROOM: usize = 96;
 /// Writes the line that tells of the fault, and flushes. It takes no memory.
 ///
 /// # Errors
-/// `Io` where a write or the flush fails. The writer then has a front of the line.
+/// `Io` where a write or the flush fails. The writer then has a prefix of the line.
 pub fn report_fault<W: Write>(refusal: &Refusal, errors: &mut W) -> Result<(), Refusal>
     ensures ok { OnOk result (Appends (W.contents errors.old) (W.contents errors.new)
         (fault_text refusal.now)) }

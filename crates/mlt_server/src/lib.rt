@@ -1,8 +1,6 @@
-//! The engine behind the program's subcommand `solo`, and what it says of a fault.
+//! What the program says of a fault, and the status that it ends with.
 #![tactic(auto)]
 
 mod fault;
-mod solo_engine;
 
 pub use fault::{FaultLine, report_fault, status};
-pub use solo_engine::solo;

@@ -6,7 +6,8 @@ mod input;
 use input::Input;
 use mlt_check_text::check_trace;
 use mlt_command_line::{Hash, Job, Run, read_words, report_command_line};
-use mlt_server::{report_fault, solo, status};
+use mlt_server::{report_fault, status};
+use mlt_solo::solo;
 use mlt_steps::steps;
 use mlt_trace::{TraceItem, write_trace};
 use mlt_types::{Limits, Low, Mult, Pseudo, Refusal};
@@ -51,10 +52,10 @@ fn words(rt: &HostRuntime) -> Result<Vec<String>, Refusal> {
 
 fn do_job(rt: &HostRuntime, job: &Job) -> Result<(), Refusal> {
     match job {
-        Job::Solo(run) => {
-            let mut input = Input::open(rt, run.file.as_str())?;
-            solo(rt.alloc(), &mut input, &mut io::writer(rt))
-        }
+        Job::Solo(run) => match run.hash {
+            Hash::Mult => run_solo(rt, run, Mult),
+            Hash::Low => run_solo(rt, run, Low),
+        },
         Job::Steps(run) => match run.hash {
             Hash::Mult => run_steps(rt, run, Mult),
             Hash::Low => run_steps(rt, run, Low),
@@ -64,6 +65,13 @@ fn do_job(rt: &HostRuntime, job: &Job) -> Result<(), Refusal> {
             check_trace(rt.alloc(), &mut input, &mut io::writer(rt))
         }
     }
+}
+
+fn run_solo<P: Pseudo + Drop>(rt: &HostRuntime, run: &Run, pseudo: P) -> Result<(), Refusal> {
+    let mut input = Input::open(rt, run.file.as_str())?;
+    let limits = Limits::program();
+    let manager = solo(rt.alloc(), &mut input, &mut io::writer(rt), limits, pseudo)?;
+    write_history(rt, manager.history(), run)
 }
 
 fn run_steps<P: Pseudo + Drop>(rt: &HostRuntime, run: &Run, pseudo: P) -> Result<(), Refusal> {
