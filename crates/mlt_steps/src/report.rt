@@ -1,9 +1,9 @@
 //! The text of what events were told, and of where the manager that played them is then.
 
-ghost use Rattle.std.specs.Prelude.{◌≡◌, ◌⊎◌, List, ℕ, IfErr, IfOk, IsErrOf, OnOk};
+ghost use Rattle.std.specs.Prelude.{◌≡◌, ◌⊎◌, ◌++◌, List, ℕ, IfErr, IfOk, IsErrOf, OnOk};
 ghost use Rattle.std.specs.Io.KnownBytes.{Appends, Keeps};
 ghost use Rattle.mlt_text.specs.Texts.{AppendsFront};
-ghost use Rattle.mlt_steps.specs.Steps.{IsTextOf};
+ghost use Rattle.mlt_steps.specs.Steps.{IsTextOf, depth_line};
 
 use mlt_base::write_base;
 use mlt_event::Told;
@@ -13,6 +13,15 @@ use mlt_text::write_text;
 use mlt_types::{Pseudo, Refusal};
 use std::alloc::Global;
 use std::io::Write;
+
+fn push_depth(alloc: Global, text: &mut Vec<u8>, depth: u8) -> Result<(), Refusal>
+    ensures text { OnOk result (text.new.items ≡ text.old.items ++ depth_line depth) }
+    ensures refusal { IfErr result (λ refusal. refusal ≡ Refusal.OutOfMemory) }
+{
+    let line = format!(in alloc; "depth {depth}\n")?;
+    text.extend_from_slice(line.as_bytes())?;
+    Ok(())
+}
 
 fn text_of<P: Pseudo>(
     alloc: Global,
@@ -26,11 +35,12 @@ fn text_of<P: Pseudo>(
     let base = manager.base()?;
     // A vector fails to take bytes only where a growth was refused.
     write_base(&base, &mut text).map_err(|_| Refusal::OutOfMemory)?;
+    push_depth(alloc, &mut text, manager.depth())?;
     Ok(text)
 }
 
-// Writes the text of what events were told. It is built first, whole, and then written by a loop of writes. `OutOfMemory`
-// is a growth that was refused; `Io` is a write that failed.
+// Writes the text of what events were told. It is built first, whole, and then written by a loop of writes.
+// `OutOfMemory` is a growth that was refused; `Io` is a write that failed.
 pub(crate) fn write_tolds<W: Write, P: Pseudo>(
     alloc: Global,
     tolds: &[Told],

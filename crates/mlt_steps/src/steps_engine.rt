@@ -18,7 +18,8 @@ use std::alloc::Global;
 use std::io::{Read, Write};
 
 /// Reads events to the end of the input, and plays them in order from a new manager. Writes a line for what each was
-/// told, then the base of what is committed. Answers the manager at the end, whose history is that of all events.
+/// told, then the base of what is committed, and then the depth of the directory. Answers the manager at the end, whose
+/// history is that of all events.
 ///
 /// # Errors
 /// `ScriptFault` exactly for an input that is no list of events, with its first fault; `Io` where a read or a write
