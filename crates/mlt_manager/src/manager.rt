@@ -279,6 +279,14 @@ impl<P: Pseudo> Manager<P> {
         history_passes_the_checker();
     }
 
+    /// Ends the manager, and gives its memory back. Whoever owns a manager ends it by this call, and has no drop of its own.
+    pub fn close(self)
+    where
+        P: Drop,
+    {
+        drop(self);
+    }
+
     /// How many events there were; it stays at 2^64 - 1.
     pub fn events(&self) -> u64
         ensures { result ≡ self.now.events }

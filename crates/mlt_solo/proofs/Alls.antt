@@ -5,7 +5,7 @@ use Rattle.std.specs.List.{flat_map}
 use Rattle.std.specs.Ordering.{nat_cmp}
 use Rattle.std.specs.FinMap as map
 use Rattle.mlt_types.specs.declared.limits.Limits.{Limits}
-use Rattle.mlt_kinds.specs.Bases.{Base, Step, empty_base}
+use Rattle.mlt_kinds.specs.Bases.{Step, empty_base}
 use Rattle.mlt_order.specs.Histories.{IsHistory}
 use Rattle.mlt_script.specs.Grammar.{Spells}
 use Rattle.mlt_tree.specs.Scripts.{ScriptForm}

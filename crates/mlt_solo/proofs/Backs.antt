@@ -1,5 +1,5 @@
 -- The ends of the transaction that alone is open: it commits, or is taken back
-use Rattle.std.proofs.Common.{◌≡◌, ◌≢◌, ◌≤◌, ◌+◌, ℕ, Bool, true, false, List, [], ◌∷◌, ◌++◌, Option, None, Some, Ok, Err, length, inl, inr, refl, sym, ap, subst, ◌∙◌}
+use Rattle.std.proofs.Common.{◌≡◌, ◌≢◌, ◌≤◌, ℕ, None, Some, Ok, length, inl, inr, refl, sym, ap, subst, ◌∙◌}
 use Rattle.std.proofs.lemmas.Bool.{cases_eq}
 use Rattle.std.specs.FinMap as map
 use Rattle.mlt_types.specs.declared.refusal.Refusal.{Refusal}
@@ -12,7 +12,7 @@ use Rattle.mlt_transaction.specs.declared.transaction.At.TheVariants as at
 use Rattle.mlt_transaction.specs.declared.transaction.Transaction.{Transaction}
 use Rattle.mlt_open.specs.Tables.{Table}
 use Rattle.mlt_invariant.proofs.Tables.{inserted_elsewhere, removed_elsewhere, removed_here}
-use Rattle.mlt_manager.specs.Answers.{HasBegunAbort, HasClosed, HasCommitted, IsByAnother, IsIdle, IsOpenAt, IsUndoing}
+use Rattle.mlt_manager.specs.Answers.{HasBegunAbort, HasClosed, HasCommitted, IsByAnother, IsOpenAt, IsUndoing}
 use Rattle.mlt_manager.specs.Bases.{HasBase, UndoingLeavesBase}
 use Rattle.mlt_manager.specs.Managers.{IsManager, ManagerFields}
 use Rattle.mlt_manager.specs.Undoings.{GoesOnBack, IsCauseAtUndo, IsNotUndoing, StepsBackUpTo}

@@ -1,5 +1,5 @@
 -- How the transaction that alone is open ends
-use Rattle.std.proofs.Common.{◌≡◌, Bool, true, false, [], ◌∷◌, Ok, Err, ℕ, refl, sym, ap, subst, ◌∙◌}
+use Rattle.std.proofs.Common.{◌≡◌, true, false, Ok, Err, ℕ, refl, ap, subst}
 use Rattle.mlt_types.specs.declared.refusal.Refusal.{Refusal}
 use Rattle.mlt_event.specs.declared.answer.Answer.{Answer}
 use Rattle.mlt_event.specs.declared.answer.Answer.TheVariants as answer
@@ -10,7 +10,7 @@ use Rattle.mlt_manager.specs.Bases.{UndoingLeavesBase}
 use Rattle.mlt_manager.specs.Managers.{ManagerFields}
 use Rattle.mlt_manager.specs.Undoings.{AnswersWholeUndo}
 use Rattle.mlt_manager.proofs.Keeping.{counted_keeps}
-use Rattle.mlt_solo.specs.Alone.{HasOneIdle, HasOneUndoing, IsAtRest, KeepsCommitted}
+use Rattle.mlt_solo.specs.Alone.{HasOneIdle, HasOneUndoing, IsAtRest}
 use Rattle.mlt_solo.specs.Asking.{IsKept, IsTakenBack, IsUndone}
 use Rattle.mlt_solo.proofs.Backs.{abort_begins, aborted_rests, back_commits_nothing, closed_commits_none, closed_rests, committed_base, committed_rests, undoing_is_undoing, waits_for_nobody}
 use Rattle.mlt_solo.proofs.Runs.{run_one}

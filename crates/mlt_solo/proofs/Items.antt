@@ -1,5 +1,5 @@
 -- What the items of a history say of what is committed, and which base a manager at rest has
-use Rattle.std.proofs.Common.{◌≡◌, ◌≢◌, ℕ, zero, suc, replicate, List, [], ◌∷◌, ◌++◌, Bool, true, false, is_some, None, Some, refl, sym, ap, subst, ◌∙◌, append_assoc}
+use Rattle.std.proofs.Common.{◌≡◌, ◌≢◌, ℕ, zero, suc, replicate, List, [], ◌∷◌, ◌++◌, true, false, is_some, Some, refl, sym, ap, subst, ◌∙◌, append_assoc}
 use Rattle.std.specs.FinMap as map
 use Rattle.std.specs.FinSet as set
 use Rattle.mlt_kinds.specs.Bases.{Base, Step, empty_base}

@@ -1,5 +1,5 @@
 -- What one script asks of a manager, and what it leaves
-use Rattle.std.proofs.Common.{◌≡◌, ◌≢◌, ◌≤◌, ◌+◌, ℕ, List, [], ◌∷◌, ◌++◌, Option, None, Some, Ok, Err, inl, inr, refl, sym, ap, subst, ◌∙◌, arith}
+use Rattle.std.proofs.Common.{◌≡◌, ◌≤◌, ◌+◌, ℕ, List, [], ◌∷◌, ◌++◌, Ok, Err, inl, inr, refl, sym, ap, subst, ◌∙◌, arith}
 use Rattle.std.proofs.lemmas.List.{append-nil, append_assoc}
 use Rattle.std.specs.Cmp.{nat_cmp_total}
 use Rattle.std.specs.Ordering.{nat_cmp}
@@ -17,12 +17,12 @@ use Rattle.mlt_order.proofs.Growing.{follow_push}
 use Rattle.mlt_tree.specs.declared.statement.Ending.TheVariants as ending
 use Rattle.mlt_tree.specs.Scripts.{ScriptForm}
 use Rattle.mlt_cursor.specs.declared.cursor.Next.TheVariants as next
-use Rattle.mlt_cursor.specs.Follows.{Follows, IsNext, IsPartial, Plan, Reaches, answered, plan_of_script}
+use Rattle.mlt_cursor.specs.Follows.{Follows, IsNext, IsPartial, Plan, Reaches, plan_of_script}
 use Rattle.mlt_cursor.specs.Follows.Plan.{Asks, Ends}
 use Rattle.mlt_serial.specs.declared.outcome.End.{End}
 use Rattle.mlt_serial.specs.declared.outcome.End.TheVariants.{Committed, Aborted, Refused}
 use Rattle.mlt_serial.specs.Serial.{IsRun}
-use Rattle.mlt_serial.proofs.Transcripts.{is_partial, reaches_more, runs_more}
+use Rattle.mlt_serial.proofs.Transcripts.{is_partial, runs_more}
 use Rattle.mlt_trace.specs.declared.item.TraceItem.TheVariants as trace
 use Rattle.mlt_history.specs.Entries.{entries_of}
 use Rattle.mlt_history.proofs.ItemLaws.{entries_of-append}
@@ -31,7 +31,6 @@ use Rattle.mlt_event.specs.declared.answer.Answer.TheVariants as answer
 use Rattle.mlt_event.specs.declared.event.Event.TheVariants as event
 use Rattle.mlt_event.specs.declared.told.Told.TheVariants as told
 use Rattle.mlt_transaction.specs.declared.transaction.Transaction.{Transaction}
-use Rattle.mlt_open.specs.Tables.{Table}
 use Rattle.mlt_invariant.proofs.Tables.{inserted_elsewhere, inserted_here}
 use Rattle.mlt_manager.specs.Answers.{AnswersCall, HasBegun, IsByAnother, IsCauseAtBegin, IsIdle, counted}
 use Rattle.mlt_manager.specs.Bases.{HasBase}
@@ -40,11 +39,11 @@ use Rattle.mlt_manager.specs.Managers.{IsManager, ManagerFields}
 use Rattle.mlt_manager.specs.Promises.{lists_by}
 use Rattle.mlt_manager.specs.Wholes.{HasRun}
 use Rattle.mlt_manager.proofs.Ended.{begun_keeps}
-use Rattle.mlt_manager.proofs.Keeping.{counted_keeps, same_manager}
+use Rattle.mlt_manager.proofs.Keeping.{counted_keeps}
 use Rattle.mlt_manager.proofs.Kept.{whole_kept}
 use Rattle.mlt_solo.specs.Alone.{HasOneIdle, IsAtRest, KeepsCommitted}
 use Rattle.mlt_solo.specs.Asking.{CanMark, HasAsked, HasDone, HasEndedScript, HasRunScript, IsKept, IsRefused, IsRefusedAfter, IsTakenBack}
-use Rattle.mlt_solo.specs.Events.{Exchange, IsAskedAfter, IsRunOf, done_by, taken_back}
+use Rattle.mlt_solo.specs.Events.{done_by, taken_back}
 use Rattle.mlt_solo.proofs.Items.{base_at_rest, begin_commits_none, committed_by, op_commits_none, serial_at_rest}
 use Rattle.mlt_solo.proofs.Runs.{done_more, run_on, run_one, same_events}
 use Rattle.mlt_solo.proofs.Wholes.{call_refused, run_beside, run_done_idle, run_refused_idle, same_items_base, stands_behind_nobody, still_one}

@@ -1,5 +1,5 @@
 -- An input that was read whole is not too long
-use Rattle.std.proofs.Common.{◌≡◌, ◌<◌, ℕ, List, length, Bool, true, false, Option, None, Some, IfSome}
+use Rattle.std.proofs.Common.{◌≡◌, ◌<◌, ℕ, List, length, true, false, Option, None, Some, IfSome}
 
 pub not_too_long : (remaining : Option (List ℕ)) (Q : Type 0) → IfSome remaining (λ input. 16777216 < length input → false ≡ true) → IfSome remaining (λ input. 16777216 < length input → Q)
 not_too_long None Q refused = tt

@@ -1,5 +1,5 @@
 -- A manager of which at most one transaction is open
-use Rattle.std.specs.Prelude.{ℕ, ◌≡◌, ◌≢◌, ◌≤◌, ◌+◌, None}
+use Rattle.std.specs.Prelude.{ℕ, ◌≡◌, ◌≢◌, ◌≤◌, None}
 use Rattle.std.specs.FinMap as map
 use Rattle.mlt_manager.specs.Answers.{IsIdle, IsOpenAt, IsUndoing}
 use Rattle.mlt_manager.specs.Managers.{IsManager, ManagerFields}

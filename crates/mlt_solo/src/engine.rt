@@ -66,9 +66,18 @@ where
     let input = read_input(alloc, reader)?;
     let scripts = parse(alloc, input.as_slice())?;
     let mut manager = Manager::new(alloc, limits, pseudo)?;
-    let outcomes = run_all(alloc, &mut manager, scripts.as_slice())?;
+    let outcomes = match run_all(alloc, &mut manager, scripts.as_slice()) {
+        Ok(outcomes) => outcomes,
+        Err(refusal) => {
+            manager.close();
+            return Err(refusal);
+        }
+    };
     match write_outcomes(alloc, &outcomes, writer) {
         Ok(()) => Ok(manager),
-        Err(refusal) => Err(refusal),
+        Err(refusal) => {
+            manager.close();
+            Err(refusal)
+        }
     }
 }

@@ -69,7 +69,7 @@ where
     match write_tolds(alloc, tolds.as_slice(), &manager, writer) {
         Ok(()) => Ok(manager),
         Err(refusal) => {
-            drop(manager);
+            manager.close();
             Err(refusal)
         }
     }

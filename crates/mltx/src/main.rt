@@ -71,14 +71,18 @@ fn run_solo<P: Pseudo + Drop>(rt: &HostRuntime, run: &Run, pseudo: P) -> Result<
     let mut input = Input::open(rt, run.file.as_str())?;
     let limits = Limits::program();
     let manager = solo(rt.alloc(), &mut input, &mut io::writer(rt), limits, pseudo)?;
-    write_history(rt, manager.history(), run)
+    let written = write_history(rt, manager.history(), run);
+    manager.close();
+    written
 }
 
 fn run_steps<P: Pseudo + Drop>(rt: &HostRuntime, run: &Run, pseudo: P) -> Result<(), Refusal> {
     let mut input = Input::open(rt, run.file.as_str())?;
     let limits = Limits::program();
     let manager = steps(rt.alloc(), &mut input, &mut io::writer(rt), limits, pseudo)?;
-    write_history(rt, manager.history(), run)
+    let written = write_history(rt, manager.history(), run);
+    manager.close();
+    written
 }
 
 // Writes the trace of what the transactions did, where a file for it is named.

@@ -1,4 +1,4 @@
-use Rattle.std.proofs.Common.{◌≡◌, ◌+◌, ◌<◌, ◌++◌, ◌∷◌, [], ℕ, List, count_by, ◌==◌, take, get_or, set, length, refl, sym, ap, subst, ◌∙◌, arith}
+use Rattle.std.proofs.Common.{◌≡◌, ◌+◌, ◌<◌, ◌++◌, ◌∷◌, [], ℕ, List, count_by, ◌==◌, take, get_or, set, length, sym, ap, subst, ◌∙◌, arith}
 use Rattle.std.proofs.lemmas.List.{take_all, take_more, get_or-replicate, length-set, length-replicate}
 use Rattle.mlt_tree.specs.Scripts.{ScriptForm}
 use Rattle.mlt_serial.proofs.Appends.{counted_push, next_number}
