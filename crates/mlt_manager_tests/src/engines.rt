@@ -1,78 +1,15 @@
-//! Faulty schedules, and readers and writers that fail.
-
-ghost use Rattle.std.specs.Prelude.{◌≤◌};
+//! Schedules as texts: faulty ones, those without events, and readers, writers and growths that fail.
 
 use crate::checks::same;
+use crate::failing::{Failing, OneByte};
 use mlt_steps::steps;
 use mlt_types::{Limits, Mult, Refusal, ScriptCause};
 use std::alloc::Global;
-use std::io;
-use std::io::{Read, Write};
+use std::io::Read;
 
-/// A writer that takes one byte a call into 64 bytes of its own, and fails once it has `limit` of them.
-#[derive(Drop)]
-struct OneByte {
-    bytes: [u8; 64],
-    len: usize,
-    limit: usize,
-    ghost fits: { len ≤ 64 },
-}
-
-impl OneByte {
-    fn new(limit: usize) -> OneByte {
-        OneByte {
-            bytes: [0; 64],
-            len: 0,
-            limit,
-        }
-    }
-
-    fn written(&self) -> &[u8] {
-        &self.bytes[..self.len]
-    }
-}
-
-impl Write for OneByte {
-    fn write(&mut self, buf: &[u8]) -> io::Result<usize> {
-        if buf.is_empty() {
-            return Ok(0);
-        }
-        if self.len >= self.limit || self.len >= 64 {
-            return Err(io::Error::from(io::ErrorKind::Other));
-        }
-        self.bytes[self.len] = buf[0];
-        self.len += 1;
-        Ok(1)
-    }
-
-    fn flush(&mut self) -> io::Result<()> {
-        Ok(())
-    }
-}
-
-/// A reader that gives some bytes and then fails.
-#[derive(Drop)]
-struct Failing<'a> {
-    rest: &'a [u8],
-}
-
-impl Read for Failing<'_> {
-    fn read(&mut self, buf: &mut [u8]) -> io::Result<usize> {
-        if self.rest.is_empty() || buf.is_empty() {
-            return Err(io::Error::from(io::ErrorKind::Other));
-        }
-        buf[0] = self.rest[0];
-        self.rest = &self.rest[1..];
-        Ok(1)
-    }
-}
-
-/// What the reader's schedule is refused for, and the writer's bytes then; no refusal and no bytes where it is not.
+// What the reader's schedule is refused for, and the writer's bytes then; no refusal where it is played.
 fn refused<R: Read>(alloc: Global, reader: &mut R, writer: &mut OneByte) -> Option<Refusal> {
-    match steps(alloc, reader, writer, Limits::program(), Mult) {
-        Ok(_) => None,
-        Err(refusal) => Some(refusal),
-    }
+    steps(alloc, reader, writer, Limits::program(), Mult).err()
 }
 
 const SHORT: &[u8] = b"begin\nwhole 1 up 7 1\ncommit 1\n";
@@ -94,16 +31,12 @@ const FAULTS: [(&[u8], u64, ScriptCause); 6] = [
 
 // Nothing is written, not even what is told to the events before the fault.
 #[test]
-fn faults(rt: HostRuntime) {
+fn schedule_faults(rt: HostRuntime) {
     for (text, line, cause) in FAULTS {
         let mut input = text;
         let mut writer = OneByte::new(64);
-        let fault = Refusal::ScriptFault { line, cause };
-        same(
-            &rt,
-            &refused(rt.alloc(), &mut input, &mut writer),
-            &Some(fault),
-        );
+        let result = refused(rt.alloc(), &mut input, &mut writer);
+        same(&rt, &result, &Some(Refusal::ScriptFault { line, cause }));
         same(&rt, &writer.written(), &b"".as_slice());
     }
 }
@@ -129,7 +62,7 @@ fn empty_schedule(rt: HostRuntime) {
 }
 
 #[test]
-fn one_byte_writer(rt: HostRuntime) {
+fn schedule_to_failing_writer(rt: HostRuntime) {
     let mut input = SHORT;
     let mut writer = OneByte::new(5);
     let result = refused(rt.alloc(), &mut input, &mut writer);
@@ -138,8 +71,8 @@ fn one_byte_writer(rt: HostRuntime) {
 }
 
 #[test]
-fn failing_reader(rt: HostRuntime) {
-    let mut reader = Failing { rest: SHORT };
+fn schedule_of_failing_reader(rt: HostRuntime) {
+    let mut reader = Failing::new(SHORT);
     let mut writer = OneByte::new(64);
     let result = refused(rt.alloc(), &mut reader, &mut writer);
     same(&rt, &result, &Some(Refusal::Io));
@@ -148,7 +81,7 @@ fn failing_reader(rt: HostRuntime) {
 
 // One blank line too many.
 #[test]
-fn too_long_input(rt: HostRuntime) -> Result<(), Refusal> {
+fn too_long_schedule(rt: HostRuntime) -> Result<(), Refusal> {
     let text = vec![in rt.alloc(); b'\n'; 16_777_217]?;
     let mut input = text.as_slice();
     let mut writer = OneByte::new(64);
@@ -158,10 +91,10 @@ fn too_long_input(rt: HostRuntime) -> Result<(), Refusal> {
     Ok(())
 }
 
-/// Whatever growth is refused, the answer is a refusal with nothing written; or each event that was refused memory is
-/// told so, and the text goes on.
+// Whatever growth is refused, the answer is a refusal with nothing written; or each event that was refused memory is
+// told so, and the text goes on.
 #[test]
-fn refused_growths(rt: HostRuntime) {
+fn refused_growths_of_schedule(rt: HostRuntime) {
     let mut input = SHORT;
     let mut writer = OneByte::new(64);
     let result = refused(rt.alloc(), &mut input, &mut writer);
