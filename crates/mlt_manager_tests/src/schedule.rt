@@ -65,7 +65,7 @@ pub fn text_of(alloc: Global, schedule: &Schedule) -> Result<String, Refusal> {
         match *sight {
             Sight::Base(base) => text.push_str(base)?,
             Sight::Depth(depth) => writeln!(text, "depth {depth}")?,
-            _ => (),
+            Sight::Pages(_) | Sight::Events(_) | Sight::Trace(_) => (),
         }
     }
     Ok(text)
