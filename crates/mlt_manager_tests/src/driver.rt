@@ -66,9 +66,8 @@ fn by_steps<P: Pseudo + Drop>(
     let mut input = lines.as_bytes();
     let mut written = Vec::new(alloc);
     let manager = steps(alloc, &mut input, &mut written, limits, pseudo)?;
-    ends(rt, alloc, manager, &[], schedule.end)?;
     same(rt, &str::from_utf8(&written).ok(), &Some(wanted.as_str()));
-    Ok(())
+    ends(rt, alloc, manager, &[], schedule.end)
 }
 
 /// Takes a manager through these parts, looks at the end for what is to be seen there, and lets it go. All managers of

@@ -24,9 +24,8 @@ fn leaves<P: Pseudo + Drop>(
     let mut written = Vec::new(alloc);
     let mut input = scripts;
     let manager = solo(alloc, &mut input, &mut written, limits, pseudo)?;
-    ends(rt, alloc, manager, &[], end)?;
     same(rt, &str::from_utf8(&written).ok(), &Some(wanted));
-    Ok(())
+    ends(rt, alloc, manager, &[], end)
 }
 
 // These scripts write this text, with either function to pseudokeys.
