@@ -93,15 +93,15 @@ fn goes_through<P: Pseudo>(
 ) -> Result<(), Refusal> {
     for part in parts {
         match part {
-            Part::Told(rows) => told(rt, alloc, manager, rows)?,
-            Part::Seen(sights) => seen(rt, alloc, manager, sights)?,
+            Part::Told(rows) => are_told(rt, alloc, manager, rows)?,
+            Part::Seen(sights) => are_seen(rt, alloc, manager, sights)?,
         }
     }
-    seen(rt, alloc, manager, end)
+    are_seen(rt, alloc, manager, end)
 }
 
 // The events of these rows, one by one, are told what the rows say.
-fn told<P: Pseudo>(
+fn are_told<P: Pseudo>(
     rt: &impl Abort,
     alloc: Global,
     manager: &mut Manager<P>,
@@ -120,7 +120,7 @@ fn told<P: Pseudo>(
     Ok(())
 }
 
-fn seen<P: Pseudo>(
+fn are_seen<P: Pseudo>(
     rt: &impl Abort,
     alloc: Global,
     manager: &Manager<P>,

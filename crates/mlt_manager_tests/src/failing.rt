@@ -1,9 +1,12 @@
-//! A reader and a writer that fail.
+//! A reader and a writer that fail, and what the writer has where growths are refused.
 
 ghost use Rattle.std.specs.Prelude.{◌≤◌};
 
+use crate::checks::same;
+use mlt_types::Refusal;
 use std::io;
 use std::io::{Read, Write};
+use std::process::Abort;
 
 /// A writer that takes one byte a call into 64 bytes of its own, and fails once it has `limit` of them.
 #[derive(Drop)]
@@ -69,5 +72,17 @@ impl Read for Failing<'_> {
         buf[0] = self.rest[0];
         self.rest = &self.rest[1..];
         Ok(1)
+    }
+}
+
+/// The writer has one of these texts; or what was refused is memory, and it has nothing.
+pub fn wrote_one_of(rt: &impl Abort, writer: &OneByte, refusal: Option<Refusal>, texts: &[&str]) {
+    let written = writer.written();
+    match refusal {
+        None => assert!(rt; texts.iter().any(|text| text.as_bytes() == written)),
+        Some(refusal) => {
+            same(rt, &refusal, &Refusal::OutOfMemory);
+            same(rt, &written, &b"".as_slice());
+        }
     }
 }

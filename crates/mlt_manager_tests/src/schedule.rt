@@ -3,7 +3,8 @@
 use mlt_types::Refusal;
 use std::alloc::Global;
 
-/// Lines of events, and what comes next of what is told: so many times this text.
+/// Lines of events, and what is told next: so many times this text. An event may stand in one row and what it is told in
+/// a later one, as where `step 1 4` is told `going` three times and then `undone`.
 pub type Row = (&'static str, usize, &'static str);
 
 /// What is to be seen of a manager.

@@ -3,7 +3,7 @@
 
 use crate::checks::same;
 use crate::driver::ends;
-use crate::failing::{Failing, OneByte};
+use crate::failing::{Failing, OneByte, wrote_one_of};
 use crate::schedule::Sight;
 use mlt_solo::solo;
 use mlt_types::{Limits, Low, Mult, Pseudo, Refusal, ScriptCause};
@@ -161,18 +161,26 @@ else\nbalance 1\nend\ncommit\n";
     writes(&rt, rt.alloc(), scripts, Limits::program(), wanted)
 }
 
-// What the reader's scripts are refused for, and the writer's bytes then; no refusal where they run.
-fn refused<R: Read>(alloc: Global, reader: &mut R, writer: &mut OneByte) -> Option<Refusal> {
-    solo(alloc, reader, writer, Limits::program(), Mult).err()
+// These scripts are refused for this, and a writer that takes so many bytes has this text then.
+fn refused<R: Read>(
+    rt: &impl Abort,
+    alloc: Global,
+    reader: &mut R,
+    limit: usize,
+    refusal: Refusal,
+    text: &str,
+) {
+    let mut writer = OneByte::new(limit);
+    let found = solo(alloc, reader, &mut writer, Limits::program(), Mult).err();
+    same(rt, &found, &Some(refusal));
+    same(rt, &writer.written(), &text.as_bytes());
 }
 
 // The scripts have this first fault, and nothing is written.
 fn faults(rt: &impl Abort, alloc: Global, scripts: &[u8], line: u64, cause: ScriptCause) {
     let mut input = scripts;
-    let mut writer = OneByte::new(64);
-    let result = refused(alloc, &mut input, &mut writer);
-    same(rt, &result, &Some(Refusal::ScriptFault { line, cause }));
-    same(rt, &writer.written(), &b"".as_slice());
+    let fault = Refusal::ScriptFault { line, cause };
+    refused(rt, alloc, &mut input, 64, fault, "");
 }
 
 #[test]
@@ -226,20 +234,23 @@ fn line_limits(rt: HostRuntime) -> Result<(), Refusal> {
 #[test]
 fn one_byte_writer(rt: HostRuntime) {
     let mut input = FIRST_RUN;
-    let mut writer = OneByte::new(5);
-    let result = refused(rt.alloc(), &mut input, &mut writer);
-    same(&rt, &result, &Some(Refusal::Io));
-    same(&rt, &writer.written(), &b"opene".as_slice());
+    refused(&rt, rt.alloc(), &mut input, 5, Refusal::Io, "opene");
 }
 
 #[test]
 fn failing_reader(rt: HostRuntime) {
     let mut reader = Failing::new(FIRST_RUN);
-    let mut writer = OneByte::new(64);
-    let result = refused(rt.alloc(), &mut reader, &mut writer);
-    same(&rt, &result, &Some(Refusal::Io));
-    same(&rt, &writer.written(), &b"".as_slice());
+    refused(&rt, rt.alloc(), &mut reader, 64, Refusal::Io, "");
 }
+
+// The whole text, and those where the script was refused memory behind some of its replies.
+const WITH_GROWTHS_REFUSED: &[&str] = &[
+    FIRST_TEXT,
+    "refused 1 OutOfMemory\naborted\n",
+    "opened\nrefused 1 OutOfMemory\naborted\n",
+    "opened\ndone\nrefused 1 OutOfMemory\naborted\n",
+    "opened\ndone\nis 50\nrefused 1 OutOfMemory\naborted\n",
+];
 
 // Whatever growth is refused, the answer is a refusal with nothing written, or the script's own refusal behind some of
 // its replies, or the whole text.
@@ -247,22 +258,7 @@ fn failing_reader(rt: HostRuntime) {
 fn refused_growths(rt: HostRuntime) {
     let mut input = FIRST_RUN;
     let mut writer = OneByte::new(64);
-    let result = refused(rt.alloc(), &mut input, &mut writer);
-    let written = writer.written();
-    match result {
-        None => {
-            let marked: [&[u8]; 5] = [
-                FIRST_TEXT.as_bytes(),
-                b"refused 1 OutOfMemory\naborted\n",
-                b"opened\nrefused 1 OutOfMemory\naborted\n",
-                b"opened\ndone\nrefused 1 OutOfMemory\naborted\n",
-                b"opened\ndone\nis 50\nrefused 1 OutOfMemory\naborted\n",
-            ];
-            assert!(rt; marked.iter().any(|text| *text == written));
-        }
-        Some(refusal) => {
-            same(&rt, &refusal, &Refusal::OutOfMemory);
-            same(&rt, &written, &b"".as_slice());
-        }
-    }
+    let limits = Limits::program();
+    let refusal = solo(rt.alloc(), &mut input, &mut writer, limits, Mult).err();
+    wrote_one_of(&rt, &writer, refusal, WITH_GROWTHS_REFUSED);
 }
