@@ -7,8 +7,3 @@ use std::process::Abort;
 pub fn same<T: PartialEq + Debug>(rt: &impl Abort, found: &T, wanted: &T) {
     assert_eq!(rt; found, wanted);
 }
-
-/// The value that was found at this place is the one that is wanted.
-pub fn same_at<P: Debug, T: PartialEq + Debug>(rt: &impl Abort, place: &P, found: &T, wanted: &T) {
-    assert_eq!(rt; found, wanted, "{place:?}");
-}

@@ -1,132 +1,139 @@
-//! Runs schedules, and compares what is seen with what the schedule says.
+//! Runs each schedule three ways on new managers, and compares what is told, written and seen with what it says.
 
-use crate::checks::{same, same_at};
+use crate::checks::same;
+use crate::schedule::{
+    Part, Row, Schedule, Sight, lines_of, push_lines, push_tells, tells_of, text_of,
+};
 use mlt_base::write_base;
-use mlt_event::{Event, Told};
 use mlt_event_text::{parse_events, told_text};
 use mlt_manager::Manager;
+use mlt_steps::steps;
 use mlt_trace::write_trace;
-use mlt_types::{Limits, Low, Mult, Pseudo, Refusal};
-use std::alloc::{AllocError, Global};
+use mlt_types::{Limits, Pseudo, Refusal};
+use std::alloc::Global;
 use std::process::Abort;
 
-/// Lines of events, and what each of these events is told.
-pub type Row = (&'static str, &'static str);
-
-/// A part of a schedule: what is done on a manager, or what is then to be seen of it.
-pub enum Stage {
-    /// Each event of these rows in turn is told what its row says.
-    Told(&'static [Row]),
-    /// The base has this text.
-    Base(&'static [u8]),
-    /// The directory has this depth.
-    Depth(u8),
-    /// There are so many pages.
-    Pages(usize),
-    /// There were so many events.
-    Events(u64),
-    /// The history has this text.
-    Trace(&'static [u8]),
-}
-
-/// Runs a schedule on a new manager with multiplied pseudokeys.
-pub fn run_mult(
+/// Runs a schedule event by event, by `play`, and as a text by `steps`.
+pub fn runs<P: Pseudo + Copy + Drop>(
     rt: &impl Abort,
     alloc: Global,
     limits: Limits,
-    schedule: &[Stage],
+    pseudo: P,
+    schedule: &Schedule,
 ) -> Result<(), Refusal> {
-    let mut manager = Manager::new(alloc, limits, Mult)?;
-    run(rt, alloc, &mut manager, schedule)
+    by_act(rt, alloc, limits, pseudo, schedule)?;
+    by_play(rt, alloc, limits, pseudo, schedule)?;
+    by_steps(rt, alloc, limits, pseudo, schedule)
 }
 
-/// Runs a schedule on a new manager with low pseudokeys.
-pub fn run_low(
+fn by_act<P: Pseudo + Drop>(
     rt: &impl Abort,
     alloc: Global,
     limits: Limits,
-    schedule: &[Stage],
+    pseudo: P,
+    schedule: &Schedule,
 ) -> Result<(), Refusal> {
-    let mut manager = Manager::new(alloc, limits, Low)?;
-    run(rt, alloc, &mut manager, schedule)
+    let manager = Manager::new(alloc, limits, pseudo)?;
+    ends(rt, alloc, manager, schedule.parts, schedule.end)
 }
 
-/// Plays the events of these lines on a new manager with multiplied pseudokeys. What they are told has this text.
-pub fn play_mult(
+fn by_play<P: Pseudo + Drop>(
     rt: &impl Abort,
     alloc: Global,
     limits: Limits,
-    lines: &str,
-    wanted: &str,
+    pseudo: P,
+    schedule: &Schedule,
 ) -> Result<(), Refusal> {
+    let lines = lines_of(alloc, schedule)?;
+    let wanted = tells_of(alloc, schedule)?;
     let events = parse_events(alloc, lines.as_bytes())?;
-    let tells = tells_of(alloc, limits, &events)?;
+    let (manager, tells) = Manager::play(alloc, limits, pseudo, &events)?;
+    ends(rt, alloc, manager, &[], schedule.end)?;
     let found = told_text(alloc, &tells)?;
-    same(rt, &found.as_str(), &wanted);
+    same(rt, &found.as_str(), &wanted.as_str());
     Ok(())
 }
 
-fn tells_of(alloc: Global, limits: Limits, events: &[Event]) -> Result<Vec<Told>, Refusal> {
-    match Manager::play(alloc, limits, Mult, events) {
-        Ok((_, tells)) => Ok(tells),
-        Err(refusal) => Err(refusal),
-    }
+fn by_steps<P: Pseudo + Drop>(
+    rt: &impl Abort,
+    alloc: Global,
+    limits: Limits,
+    pseudo: P,
+    schedule: &Schedule,
+) -> Result<(), Refusal> {
+    let lines = lines_of(alloc, schedule)?;
+    let wanted = text_of(alloc, schedule)?;
+    let mut input = lines.as_bytes();
+    let mut written = Vec::new(alloc);
+    let manager = steps(alloc, &mut input, &mut written, limits, pseudo)?;
+    same(rt, &str::from_utf8(&written).ok(), &Some(wanted.as_str()));
+    ends(rt, alloc, manager, &[], schedule.end)
 }
 
-fn run<P: Pseudo>(
+/// Takes a manager through these parts, looks at the end for what is to be seen there, and lets it go. All managers of
+/// these tests end here, since each function that lets one go proves it anew.
+pub fn ends<P: Pseudo + Drop>(
+    rt: &impl Abort,
+    alloc: Global,
+    mut manager: Manager<P>,
+    parts: &[Part],
+    end: &[Sight],
+) -> Result<(), Refusal> {
+    let result = goes_through(rt, alloc, &mut manager, parts, end);
+    drop(manager);
+    result
+}
+
+fn goes_through<P: Pseudo>(
     rt: &impl Abort,
     alloc: Global,
     manager: &mut Manager<P>,
-    schedule: &[Stage],
+    parts: &[Part],
+    end: &[Sight],
 ) -> Result<(), Refusal> {
-    for stage in schedule {
-        passes(rt, alloc, manager, stage)?;
+    for part in parts {
+        match part {
+            Part::Told(rows) => are_told(rt, alloc, manager, rows)?,
+            Part::Seen(sights) => are_seen(rt, alloc, manager, sights)?,
+        }
     }
-    Ok(())
+    are_seen(rt, alloc, manager, end)
 }
 
-fn passes<P: Pseudo>(
-    rt: &impl Abort,
-    alloc: Global,
-    manager: &mut Manager<P>,
-    stage: &Stage,
-) -> Result<(), Refusal> {
-    match *stage {
-        Stage::Told(rows) => play(rt, alloc, manager, rows)?,
-        Stage::Base(text) => has_base(rt, alloc, manager, text)?,
-        Stage::Depth(wanted) => same(rt, &manager.depth(), &wanted),
-        Stage::Pages(wanted) => same(rt, &manager.pages().len(), &wanted),
-        Stage::Events(wanted) => same(rt, &manager.events(), &wanted),
-        Stage::Trace(text) => has_trace(rt, alloc, manager, text)?,
-    }
-    Ok(())
-}
-
-// Each event of these rows in turn is told what its row says.
-fn play<P: Pseudo>(
+// The events of these rows, one by one, are told what the rows say.
+fn are_told<P: Pseudo>(
     rt: &impl Abort,
     alloc: Global,
     manager: &mut Manager<P>,
     rows: &[Row],
 ) -> Result<(), Refusal> {
-    for (lines, wanted) in rows {
-        let events = parse_events(alloc, lines.as_bytes())?;
-        told_all(rt, alloc, manager, &events, wanted)?;
+    let mut lines = String::new(alloc);
+    push_lines(&mut lines, rows)?;
+    let mut wanted = String::new(alloc);
+    push_tells(&mut wanted, rows)?;
+    let mut found = String::new(alloc);
+    for event in parse_events(alloc, lines.as_bytes())? {
+        let told = manager.act(event);
+        writeln!(found, "{told}")?;
     }
+    same(rt, &found.as_str(), &wanted.as_str());
     Ok(())
 }
 
-fn told_all<P: Pseudo>(
+fn are_seen<P: Pseudo>(
     rt: &impl Abort,
     alloc: Global,
-    manager: &mut Manager<P>,
-    events: &[Event],
-    wanted: &str,
-) -> Result<(), AllocError> {
-    for event in events {
-        let told = manager.act(*event);
-        let found = format!(in alloc; "{told}")?;
-        same_at(rt, event, &found.as_str(), &wanted);
+    manager: &Manager<P>,
+    sights: &[Sight],
+) -> Result<(), Refusal> {
+    for sight in sights {
+        match *sight {
+            Sight::Base(text) => has_base(rt, alloc, manager, text)?,
+            Sight::Depth(wanted) => same(rt, &manager.depth(), &wanted),
+            Sight::Pages(wanted) => same(rt, &manager.pages().len(), &wanted),
+            Sight::Events(wanted) => same(rt, &manager.events(), &wanted),
+            Sight::Trace(text) => has_trace(rt, alloc, manager, text)?,
+        }
     }
     Ok(())
 }
@@ -135,12 +142,12 @@ fn has_base<P: Pseudo>(
     rt: &impl Abort,
     alloc: Global,
     manager: &Manager<P>,
-    wanted: &[u8],
+    wanted: &str,
 ) -> Result<(), Refusal> {
     let base = manager.base()?;
     let mut text = Vec::new(alloc);
     write_base(&base, &mut text)?;
-    same(rt, &text.as_slice(), &wanted);
+    same(rt, &str::from_utf8(&text).ok(), &Some(wanted));
     Ok(())
 }
 
@@ -148,10 +155,10 @@ fn has_trace<P: Pseudo>(
     rt: &impl Abort,
     alloc: Global,
     manager: &Manager<P>,
-    wanted: &[u8],
+    wanted: &str,
 ) -> Result<(), Refusal> {
     let mut text = Vec::new(alloc);
     write_trace(alloc, manager.history(), &mut text)?;
-    same(rt, &text.as_slice(), &wanted);
+    same(rt, &str::from_utf8(&text).ok(), &Some(wanted));
     Ok(())
 }

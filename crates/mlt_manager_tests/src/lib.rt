@@ -1,14 +1,27 @@
-//! Tests of the manager: schedules of several transactions, and what each event is told. They stand here and not in
-//! the crate that they test, since a crate with tests is proved twice.
+//! Tests of the manager and of what stands on it: schedules of several transactions, run event by event, by `play` and
+//! by `steps`, and scripts by `solo`. They stand here and not in the crates that they test, since a crate with tests is
+//! proved twice.
 #![tactic(auto)]
 
+#[cfg(test)]
+mod buckets;
 #[cfg(test)]
 mod checks;
 #[cfg(test)]
 mod driver;
 #[cfg(test)]
+mod engines;
+#[cfg(test)]
+mod failing;
+#[cfg(test)]
 mod objects;
 #[cfg(test)]
-mod pages;
-#[cfg(test)]
 mod refusals;
+#[cfg(test)]
+mod room;
+#[cfg(test)]
+mod schedule;
+#[cfg(test)]
+mod solo;
+#[cfg(test)]
+mod splits;
