@@ -70,8 +70,8 @@ fn by_steps<P: Pseudo + Drop>(
     ends(rt, alloc, manager, &[], schedule.end)
 }
 
-/// Takes a manager through these parts, looks at the end for what is to be seen there, and lets it go. All managers of
-/// these tests end here, since each function that lets one go proves it anew.
+/// Takes a manager through these parts, looks at the end for what is to be seen there, and closes it. All managers of
+/// these tests end here.
 pub fn ends<P: Pseudo + Drop>(
     rt: &impl Abort,
     alloc: Global,
@@ -80,7 +80,7 @@ pub fn ends<P: Pseudo + Drop>(
     end: &[Sight],
 ) -> Result<(), Refusal> {
     let result = goes_through(rt, alloc, &mut manager, parts, end);
-    drop(manager);
+    manager.close();
     result
 }
 
