@@ -4,7 +4,7 @@ ghost use Rattle.std.specs.Prelude.{◌≡◌, ◌==◌, ◌≤◌, ◌&&◌, no
 ghost use Rattle.std.specs.FinMap as map;
 ghost use Rattle.mlt_page_locks.specs.Requests.{stronger, with_page, is_against};
 ghost use Rattle.mlt_page_locks.specs.LockTables.{goes_with};
-ghost use Rattle.mlt_page_locks.specs.LockLists.{is_free, is_list_of};
+ghost use Rattle.mlt_page_locks.specs.LockLists.{is_free, is_list_of, modes_of};
 
 use arrayvec::ArrayVec;
 use mlt_types::{Mode, PageNo, TxId};
@@ -100,7 +100,9 @@ impl LockList {
     }
 
     /// The locks, each page once.
-    pub fn locks(&self) -> &[PageLock] {
+    pub fn locks(&self) -> &[PageLock]
+        ensures { modes_of result.now ≡ self.now.modes }
+    {
         &self.locks
     }
 

@@ -1,13 +1,22 @@
 use Rattle.std.proofs.Common.{◌≡◌, ◌<◌, ℕ, ◌*◌, ◌%◌, ◌^◌, List, bit_and, get_or, length, w64, sym, ap, subst, ◌∙◌}
 use Rattle.std.specs.Int.{bit_at, bit_not}
 use Rattle.std.proofs.lemmas.List.{get_or_default}
-use Rattle.std.proofs.lemmas.Nat.Bits.{bit_at_clear_other}
+use Rattle.std.proofs.lemmas.Nat.Bits.{bit_at_clear_same, bit_at_clear_other}
 use Rattle.mlt_page_locks.specs.Marks.{IsMarked}
-use Rattle.mlt_page_locks.proofs.Bits.{kept_at}
+use Rattle.mlt_page_locks.proofs.Bits.{kept_at, unmarked_at}
 use Rattle.mlt_page_locks.proofs.marks.Marks.unmark.Goals as goal
 
-pub returns : goal.returns
-returns c = record {
+pub returns-clause-gone : goal.returns-clause-gone
+returns-clause-gone c = λ marked.
+    let masks : List ℕ = c.self.inside.masks.items in
+    let seen : c.deref.result.now ≡ masks = c.deref.ensures.value in
+    let at = c.remainder-at.result in
+    let inside : at < length masks = subst (λ (l : List ℕ). at < length l) seen c.remainder-at.ensures.within in
+    unmarked_at masks at _ inside c.args.number c.args.place (sym (c.remainder-at.ensures.is ∙ ap (λ (l : List ℕ). c.args.number % length l) seen))
+    (bit_at_clear_same w64 c.index_mut.result.now c.args.place c.requires) marked
+
+pub returns-clause-others : goal.returns-clause-others
+returns-clause-others c = record {
   kept = λ n p below ne h.
       let masks : List ℕ = c.self.inside.masks.items in
       let seen : c.deref.result.now ≡ masks = c.deref.ensures.value in
