@@ -1,8 +1,8 @@
 -- Bits of masks: marks that are set and taken away.
-use Rattle.std.proofs.Common.{◌≡◌, ◌⊎◌, ℕ, ◌+◌, ◌-◌, ◌/◌, ◌%◌, ◌^◌, ◌<◌, ◌≤◌, List, length, get_or, set, length-set, bit_or, w64, div-le_self, sym, ap, ◌∙◌, inl, inr, arith}
+use Rattle.std.proofs.Common.{◌≡◌, ◌⊎◌, ℕ, ◌+◌, ◌-◌, ◌/◌, ◌%◌, ◌^◌, ◌<◌, ◌≤◌, List, length, get_or, set, length-set, bit_and, bit_or, w64, div-le_self, sym, ap, ◌∙◌, inl, inr, arith}
 use Rattle.std.specs.Int.{bit_at, trailing_zeros}
 use Rattle.std.specs.Int.Count.{trailing_of_zero}
-use Rattle.std.proofs.lemmas.Nat.Bits.{bit_at-lt, bit_at-zero, bit_at-trailing_zeros, bit_at_or}
+use Rattle.std.proofs.lemmas.Nat.Bits.{bit_at-lt, bit_at-zero, bit_at-trailing_zeros, bit_at_and, bit_at_or}
 use Rattle.std.proofs.lemmas.Bool.{cases_eq}
 use Rattle.std.proofs.lemmas.List.{get_or-set_same, get_or-set_other}
 use Rattle.std.proofs.lemmas.Nat.{shr-shr}
@@ -27,6 +27,19 @@ module _ (masks : List ℕ) (at v : ℕ) (inside : at < length masks) where
   marked_at n p e h =
       ap (λ m. bit_at m p) (ap (λ l. get_or (set masks at v) (n % l) 0) (length-set {A = ℕ} masks at v) ∙ ap (λ k. get_or (set masks at v) k 0) e ∙ get_or-set_same masks at v 0 inside) ∙ h
 
+  -- what its number gets, the mask got
+  pub had_at : (n p : ℕ) → (bit_at v p ≡ 1 → bit_at (get_or masks at 0) p ≡ 1) → IsMarked (set masks at v) n p → IsMarked masks n p
+  had_at n p had h = by (cases_eq (n % length masks) at)
+    where
+      where_now : mask_of (set masks at v) n ≡ get_or (set masks at v) (n % length masks) 0
+      where_now = ap (λ l. get_or (set masks at v) (n % l) 0) (length-set {A = ℕ} masks at v)
+
+      by : (n % length masks ≡ at) ⊎ (n % length masks ≡ at → ⊥) → IsMarked masks n p
+      by (inl e) =
+          ap (λ k. bit_at (get_or masks k 0) p) e
+          ∙ had (ap (λ m. bit_at m p) (sym (where_now ∙ ap (λ k. get_or (set masks at v) k 0) e ∙ get_or-set_same masks at v 0 inside)) ∙ h)
+      by (inr ne) = ap (λ m. bit_at m p) (sym (where_now ∙ get_or-set_other masks at (n % length masks) v 0 ne)) ∙ h
+
   -- and what it loses is not
   pub unmarked_at : (n p : ℕ) → n % length masks ≡ at → bit_at v p ≡ 0 → IsMarked (set masks at v) n p → ⊥
   unmarked_at n p e h marked =
@@ -37,6 +50,10 @@ module _ (masks : List ℕ) (at v : ℕ) (inside : at < length masks) where
 -- a bit more
 pub set_keeps_bit : (a b p : ℕ) → bit_at a p ≡ 1 → bit_at (bit_or a b) p ≡ 1
 set_keeps_bit a b p h = let e = bit_at_or a b p in let lt = bit_at-lt b p in omega arith
+
+-- a bit of both is one of the first
+pub bit_of_both : (a b p : ℕ) → bit_at (bit_and a b) p ≡ 1 → bit_at a p ≡ 1
+bit_of_both a b p h = let e = bit_at_and a b p in let lt = bit_at-lt a p in omega arith
 
 -- a bit from start on is a bit of the rest
 bit_of_rest : (mask start p : ℕ) → start ≤ p → bit_at mask p ≡ bit_at (mask / 2 ^ start) (p - start)

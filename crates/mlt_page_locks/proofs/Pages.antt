@@ -1,6 +1,6 @@
 -- The pages of a list of locks, by rising numbers.
 use Prim.Native.Nat.{zero}
-use Rattle.std.proofs.Common.{◌≡◌, ◌⊎◌, ℕ, suc, ◌≤◌, ◌<◌, ◌+◌, ◌-◌, eqb, Bool, true, false, cond, Some, None, Result, Ok, Err, List, [], ◌∷◌, length, get_or, set, sym, ap, subst, inl, inr, ◌∙◌, length-set, arith}
+use Rattle.std.proofs.Common.{◌≡◌, ◌⊎◌, ℕ, suc, ◌≤◌, ◌<◌, ◌+◌, ◌-◌, eqb, Bool, true, false, cond, Some, None, is_some, true≢false, Result, Ok, Err, List, [], ◌∷◌, length, get_or, set, sym, ap, subst, inl, inr, ◌∙◌, length-set, arith}
 use Rattle.std.specs.Prelude.{MatchResult}
 use Rattle.std.specs.List.{insert}
 use Rattle.std.specs.List.Sorted.{IsSearchInRange, IsBinarySearchResult}
@@ -8,7 +8,7 @@ use Rattle.std.specs.Ordering.{nat_cmp, MatchOrdering, ordering_index}
 use Rattle.std.specs.Cmp.{nat_cmp_total, ranks}
 use Rattle.std.specs.FinMap as map
 use Rattle.std.proofs.lemmas.Bool.Decides.{nat_tests}
-use Rattle.std.proofs.lemmas.Bool.{cases_eq, cases_lt}
+use Rattle.std.proofs.lemmas.Bool.{cases_eq, cases_lt, cases_Bool}
 use Rattle.std.proofs.lemmas.List.{get_or-set_same, get_or-set_other}
 use Rattle.std.proofs.lemmas.List.Edits.{get_or-insert_at, get_or-insert_below, get_or-insert_above}
 use Rattle.arrayvec.specs.ArrayVec.{ArrayVec, with_items}
@@ -37,6 +37,16 @@ absent (lock ∷ locks) q none =
     let first : is_on q lock ≡ false = none 0 lock (omega arith) in
     let rest = absent locks q (λ k d h. none (suc k) d (omega arith)) in
     grind (arith, nat_tests, get_inserted (modes_of locks) lock.page lock.mode q)
+
+-- what holds of no lock's page holds of no page of the list
+pub no_such_page : (locks : List PageLock) (q : ℕ) (P : ℕ → Type 0) → ((k : ℕ) (d : PageLock) → k < length locks → P (get_or locks k d).page → ⊥) → is_some (map.get (modes_of locks) q) ≡ true → P q → ⊥
+no_such_page locks q P none there holds =
+    let is = absent locks q (λ k d h. by k d h (cases_Bool (is_on q (get_or locks k d)))) in
+    true≢false (sym there ∙ ap is_some is)
+  where
+    by : (k : ℕ) (d : PageLock) → k < length locks → (is_on q (get_or locks k d) ≡ true) ⊎ (is_on q (get_or locks k d) ≡ false) → is_on q (get_or locks k d) ≡ false
+    by k d h (inl on) = let e : q ≡ (get_or locks k d).page = grind (arith, nat_tests) in absurd (none k d h (subst P e holds))
+    by k d h (inr off) = off
 
 -- where the page numbers rise, none before the place of a page is on it
 none_before : (locks : List PageLock) (q i : ℕ) → IsRising locks → IsAt locks q i → (d : PageLock) (k : ℕ) → k < i → is_on q (get_or locks k d) ≡ false

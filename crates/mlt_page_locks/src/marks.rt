@@ -57,6 +57,7 @@ impl Marks {
     pub fn unmark(&mut self, number: u64, place: usize)
         requires { place < 64 }
         ensures gone { IsMarked self.new number place → ⊥ }
+        ensures fewer { (n p : ℕ) → IsMarked self.new n p → IsMarked self.old n p }
         ensures others { KeepsOthers self.old self.new place }
     {
         let at = remainder(&self.masks, number);

@@ -4,7 +4,7 @@ ghost use Rattle.std.specs.Prelude.{◌≡◌, ◌==◌, ◌≤◌, ◌<◌, ◌
 ghost use Rattle.std.specs.FinMap as map;
 ghost use Rattle.mlt_page_locks.specs.LockTables.{no_locks, mode_held, AreCompatible, HasRoom};
 ghost use Rattle.mlt_page_locks.specs.Requests.{granted, released, conflicts, with_page, is_against, Answers, IsLowest, IsNobody};
-ghost use Rattle.mlt_page_locks.specs.Marks.{InMask, AddsAt, KeepsOthers, has_page};
+ghost use Rattle.mlt_page_locks.specs.Marks.{IsMarked, InMask, AddsAt, KeepsOthers, has_page};
 ghost use Rattle.mlt_page_locks.specs.LockLists.{is_free, is_list_of, table_of, lock_table, IsSound};
 
 use crate::lock_list::LockList;
@@ -121,7 +121,8 @@ impl PageLocks {
 // Takes the marks of a place away at the pages of its list.
 fn unmark_pages(pages: &mut Marks, list: &LockList, place: usize)
     requires { place < 64 }
-    ensures { KeepsOthers pages.old pages.new place }
+    ensures gone { (q : ℕ) → has_page q list.now ≡ true → IsMarked pages.new q place → ⊥ }
+    ensures others { KeepsOthers pages.old pages.new place }
 {
     for lock in list.locks() {
         pages.unmark(u64::from(lock.page.0), place);
