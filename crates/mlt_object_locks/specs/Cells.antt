@@ -14,6 +14,10 @@ use Rattle.mlt_object_locks.specs.Places.{open_place, held_place}
 abbrev pub list_at : {X S : Type 0} → IndexMap ℕ (List X) S → ℕ → List X
 list_at lists key = unwrap_or (get nat_eq lists key) []
 
+-- the key has no entry with an empty list
+abbrev pub HasPlaceIfThere : {X S : Type 0} → IndexMap ℕ (List X) S → ℕ → Type 0
+HasPlaceIfThere lists key = get nat_eq lists key ≡ Some [] → ⊥
+
 -- only the list at one key may change
 pub record ChangesAt {X S : Type 0} (old new : IndexMap ℕ (List X) S) (key : ℕ) : Type 0 where
   pub same : (other : ℕ) → other ≢ key → list_at new other ≡ list_at old other

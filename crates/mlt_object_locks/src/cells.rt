@@ -5,7 +5,7 @@ ghost use Rattle.std.specs.List.{filter, list_any};
 ghost use Rattle.indexmap.specs.IndexMap.{IsUnique};
 ghost use Rattle.mlt_object_locks.specs.Locks.{IsLowestIfAny};
 ghost use Rattle.mlt_object_locks.specs.Places.{open_place, is_of, grants_of, Fills, is_not_open_of, is_not_of};
-ghost use Rattle.mlt_object_locks.specs.Cells.{list_at, ChangesAt, ReleasesAt, IsNoted, Opens, GivesUp, Releases};
+ghost use Rattle.mlt_object_locks.specs.Cells.{list_at, HasPlaceIfThere, ChangesAt, ReleasesAt, IsNoted, Opens, GivesUp, Releases};
 
 use crate::places::{Grant, Places};
 use indexmap::IndexMap;
@@ -198,6 +198,7 @@ fn give_up_place(cells: &mut Cells, key: u64, tx: TxId)
     ensures others { ChangesAt cells.old cells.new key }
     ensures given_up { list_at cells.new key
         ≡ filter (is_not_open_of tx) (list_at cells.old key) }
+    ensures gone { HasPlaceIfThere cells.new key }
 {
     if let Some(places) = cells.get_mut(&key) {
         places.give_up(tx);
@@ -209,6 +210,7 @@ fn give_up_place(cells: &mut Cells, key: u64, tx: TxId)
 fn release_places(cells: &mut Cells, key: u64, tx: TxId)
     ensures others { ChangesAt cells.old cells.new key }
     ensures released { list_at cells.new key ≡ filter (is_not_of tx) (list_at cells.old key) }
+    ensures gone { HasPlaceIfThere cells.new key }
 {
     if let Some(places) = cells.get_mut(&key) {
         places.release(tx);
@@ -243,6 +245,7 @@ fn remove_if_empty(cells: &mut Cells, key: u64)
     requires { IsUnique nat_eq cells.old }
     ensures others { ChangesAt cells.old cells.new key }
     ensures same { list_at cells.new key ≡ list_at cells.old key }
+    ensures gone { HasPlaceIfThere cells.new key }
 {
     if cells.get(&key).is_some_and(|places| places.is_empty()) {
         cells.swap_remove(&key);

@@ -27,6 +27,10 @@ in_way_of-append : (tx q : ℕ) (mode : Mode) (lists : List HeldPages) (pages : 
 in_way_of-append tx q mode [] pages u = grind arith
 in_way_of-append tx q mode (first ∷ lists) pages u = grind (arith, in_way_of-append tx q mode lists pages u)
 
+-- a list that is not in the way changes nothing
+pub nothing_more : (tx q : ℕ) (mode : Mode) (lists : List HeldPages) (pages : HeldPages) (u : ℕ) → in_way tx q mode pages ≡ false → in_way_of tx q mode lists u ≡ in_way_of tx q mode (lists ++ pages ∷ []) u
+nothing_more tx q mode lists pages u clear = grind (arith, in_way_of-append tx q mode lists pages u, clear)
+
 -- one list more is looked at
 pub lowest_more : (tx q : ℕ) (mode : Mode) (lists : List HeldPages) (pages : HeldPages) (lowest : Option ℕ) (b : Bool) → b ≡ in_way tx q mode pages → IsLowestIfAny (in_way_of tx q mode lists) lowest
     → IsLowestIfAny (in_way_of tx q mode (lists ++ pages ∷ [])) (cond b (Some (min (unwrap_or lowest pages.tx) pages.tx)) lowest)
@@ -64,7 +68,8 @@ in_way-conflicts tx q mode (pages ∷ lists) one u =
           grind (arith, nat_tests, rest, none, get-table_of pages lists u)
     ] refl
 
-same_lowest : (has has' : ℕ → Bool) (lowest : Option ℕ) → ((u : ℕ) → has u ≡ has' u) → IsLowestIfAny has lowest → IsLowestIfAny has' lowest
+-- who has the property is the same
+pub same_lowest : (has has' : ℕ → Bool) (lowest : Option ℕ) → ((u : ℕ) → has u ≡ has' u) → IsLowestIfAny has lowest → IsLowestIfAny has' lowest
 same_lowest has has' None same is = λ u. sym (same u) ∙ is u
 same_lowest has has' (Some by) same is = record { has_it = sym (same by) ∙ is.has_it; least = λ u h. is.least u (same u ∙ h) }
 

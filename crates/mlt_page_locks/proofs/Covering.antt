@@ -1,21 +1,20 @@
 -- What the marks cover: where none is, there is nothing; a list that is changed; and the first place of a list.
 use Prim.Native.Nat.{zero}
-use Rattle.std.proofs.Common.{suc, ◌≡◌, ◌≢◌, ◌⊎◌, ℕ, ◌<◌, ◌≤◌, List, [], ◌∷◌, Bool, true, false, Option, Some, None, is_some, length, get_or, set, length-set, replicate, sym, ap, subst, ◌∙◌, refl, true≢false, inl, inr, arith}
+use Rattle.std.proofs.Common.{suc, ◌+◌, ◌≡◌, ◌≢◌, ◌⊎◌, ℕ, ◌<◌, ◌≤◌, List, [], ◌∷◌, Bool, true, false, Option, Some, None, is_some, length, get_or, set, length-set, replicate, take, sym, ap, subst, ◌∙◌, refl, true≢false, inl, inr, arith}
 use Rattle.std.specs.Prelude.{position}
 use Rattle.std.specs.List.{position_or_len}
 use Rattle.std.specs.Int.{bit_at}
 use Rattle.std.specs.Ordering.{nat_cmp}
 use Rattle.std.specs.FinMap as map
-use Rattle.std.proofs.lemmas.Bool.{cases_eq, cases_Bool}
+use Rattle.std.proofs.lemmas.Bool.{cases_eq, cases_lt, cases_Bool}
 use Rattle.std.proofs.lemmas.Bool.Decides.{nat_tests}
-use Rattle.std.proofs.lemmas.List.{get_or-set_same, get_or-set_other, length-replicate}
-use Rattle.std.proofs.lemmas.Nat.Bits.{bit_at-zero}
+use Rattle.std.proofs.lemmas.List.{get_or-set_same, get_or-set_other, length-replicate, take_more}
 use Rattle.mlt_types.specs.declared.mode.Mode.{Mode}
 use Rattle.mlt_page_locks.specs.Requests.{stronger, with_page}
 use Rattle.mlt_page_locks.specs.LockLists.{HeldPages, is_list_of}
-use Rattle.mlt_page_locks.specs.Marks.{mask_of, IsMarked, KeepsOthers, InMask, Covers, AddsAt, has_page}
+use Rattle.mlt_page_locks.specs.Marks.{mask_of, IsMarked, IsUnmarked, KeepsOthers, InMask, Covers, AddsAt, has_page}
 use Rattle.mlt_page_locks.proofs.Maps.{get_inserted}
-use Rattle.mlt_page_locks.proofs.Conflicts.{in_way, in_way_of}
+use Rattle.mlt_page_locks.proofs.Conflicts.{in_way, in_way_of, nothing_more}
 
 module _ {X : Type 0} (p : X → Bool) where
   first_is : (xs : List X) (i : ℕ) (d : X) → i < length xs → p (get_or xs i d) ≡ true → ((k : ℕ) → k < i → p (get_or xs k d) ≡ false) → position_or_len p xs ≡ i
@@ -49,8 +48,14 @@ unmarked lists passes mask is k d within none = by (cases_Bool (passes (get_or l
     by (inl h) = let one = is.marked k d within h in absurd (omega arith)
     by (inr h) = h
 
-pub nothing_marked : (lists : List HeldPages) (passes : HeldPages → Bool) (mask : ℕ) → InMask lists passes mask → mask ≡ 0 → (k : ℕ) (d : HeldPages) → k < length lists → passes (get_or lists k d) ≡ false
-nothing_marked lists passes mask is none k d within = unmarked lists passes mask is k d within (ap (λ m. bit_at m k) none ∙ bit_at-zero k)
+-- where none passed so far, and none was marked since, none passes
+pub none_before : (lists : List HeldPages) (passes : HeldPages → Bool) (mask start end : ℕ) → InMask lists passes mask → end ≤ length lists → IsUnmarked mask start end
+    → ((k : ℕ) (d : HeldPages) → k < start → passes (get_or lists k d) ≡ false) → (k : ℕ) (d : HeldPages) → k < end → passes (get_or lists k d) ≡ false
+none_before lists passes mask start end is within none so_far k d below = by (cases_lt k start)
+  where
+    by : (k < start) ⊎ (start ≤ k) → passes (get_or lists k d) ≡ false
+    by (inl before) = so_far k d before
+    by (inr from) = unmarked lists passes mask is k d (omega arith) (none k from below)
 
 -- a list without the page is in nobody's way
 no_page : (tx q : ℕ) (mode : Mode) (pages : HeldPages) → has_page q pages ≡ false → in_way tx q mode pages ≡ false
@@ -60,16 +65,21 @@ no_page tx q mode pages h = by (map.get pages.modes q) refl h
     by None e h = grind arith
     by (Some m) e h = absurd (true≢false h)
 
-none_in_way_of : (tx q : ℕ) (mode : Mode) (lists : List HeldPages) → ((k : ℕ) (d : HeldPages) → k < length lists → in_way tx q mode (get_or lists k d) ≡ false) → (u : ℕ) → in_way_of tx q mode lists u ≡ false
-none_in_way_of tx q mode [] none u = refl
-none_in_way_of tx q mode (pages ∷ lists) none u =
-    let first : in_way tx q mode pages ≡ false = none 0 pages (omega arith) in
-    let rest = none_in_way_of tx q mode lists (λ k d below. none (suc k) d (omega arith)) u in
-    grind arith
-
--- so with no mark nobody is in the way
-pub nobody_in_way : (tx q : ℕ) (mode : Mode) (lists : List HeldPages) (mask : ℕ) → InMask lists (has_page q) mask → mask ≡ 0 → (u : ℕ) → in_way_of tx q mode lists u ≡ false
-nobody_in_way tx q mode lists mask is none = none_in_way_of tx q mode lists (λ k d below. no_page tx q mode (get_or lists k d) (nothing_marked lists (has_page q) mask is none k d below))
+-- lists that are passed over are in nobody's way
+pub passed_over : (tx q : ℕ) (mode : Mode) (lists : List HeldPages) (mask start : ℕ) → InMask lists (has_page q) mask → (end : ℕ) → start ≤ end → end ≤ length lists → IsUnmarked mask start end
+    → (u : ℕ) → in_way_of tx q mode (take start lists) u ≡ in_way_of tx q mode (take end lists) u
+passed_over tx q mode lists mask start is end from within none u = by end from within none (cases_eq start end)
+  where
+    by : (end : ℕ) → start ≤ end → end ≤ length lists → IsUnmarked mask start end → (start ≡ end) ⊎ (start ≡ end → ⊥) → in_way_of tx q mode (take start lists) u ≡ in_way_of tx q mode (take end lists) u
+    by end from within none (inl e) = ap (λ n. in_way_of tx q mode (take n lists) u) e
+    by zero from within none (inr ne) = absurd (ne (omega arith))
+    by (suc end) from within none (inr ne) =
+        let free : HeldPages = record { tx = 0; modes = map.empty } in
+        let rest = by end (omega arith) (omega arith) (λ p f b. none p f (omega arith)) (cases_eq start end) in
+        let clear : in_way tx q mode (get_or lists end free) ≡ false = no_page tx q mode (get_or lists end free) (unmarked lists (has_page q) mask is end free (omega arith) (none end (omega arith) (omega arith))) in
+        let next : suc end ≡ end + 1 = omega arith in
+        rest ∙ nothing_more tx q mode (take end lists) (get_or lists end free) u clear
+        ∙ ap (λ l. in_way_of tx q mode l u) (sym (take_more lists end free (omega arith)) ∙ ap (λ n. take n lists) (sym next))
 
 module _ (lists : List HeldPages) (place : ℕ) (new : HeldPages) (within : place < length lists) where
   -- a list is changed: what it has is marked, and the marks of the others are kept

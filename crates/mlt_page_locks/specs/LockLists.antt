@@ -1,5 +1,5 @@
 -- The table that lists of locks make.
-use Rattle.std.specs.Prelude.{◌≡◌, ℕ, ◌==◌, Bool, not, ◌&&◌, cond, List, [], ◌∷◌, ◌+◌, length, refl}
+use Rattle.std.specs.Prelude.{◌≡◌, ℕ, ◌==◌, ◌<◌, ◌≤◌, Bool, not, ◌&&◌, cond, List, [], ◌∷◌, ◌+◌, length, slice_index_or, refl}
 use Rattle.std.specs.Ordering.{nat_cmp}
 use Rattle.std.specs.Coded.{Coded, code_by, coded×, coded_ℕ}
 use Rattle.std.specs.FinMap as map
@@ -10,6 +10,26 @@ use Rattle.mlt_page_locks.specs.LockTables.{Modes, LockTable, AreCompatible, cod
 abbrev pub modes_of : List PageLock → Modes
 modes_of [] = map.empty
 modes_of (lock ∷ locks) = map.insert (modes_of locks) lock.page lock.mode
+
+-- the page numbers rise
+abbrev pub IsRising : List PageLock → Type 0
+IsRising locks = (i j : ℕ) (d : PageLock) → i < j → j < length locks → (slice_index_or locks i d).page < (slice_index_or locks j d).page
+
+-- each page is there once, by rising numbers
+pub record IsInOrder (locks : List PageLock) : Type 0 where
+  pub once : map.len (modes_of locks) ≡ length locks
+  pub rising : IsRising locks
+
+-- the lock at this place is on page q
+pub record IsAt (locks : List PageLock) (q place : ℕ) : Type 0 where
+  pub within : place < length locks
+  pub on_page : (d : PageLock) → (slice_index_or locks place d).page ≡ q
+
+-- the locks before this place are on pages below q, and all others on pages above
+pub record IsBetween (locks : List PageLock) (q place : ℕ) : Type 0 where
+  pub within : place ≤ length locks
+  pub below : (k : ℕ) (d : PageLock) → k < place → (slice_index_or locks k d).page < q
+  pub above : (k : ℕ) (d : PageLock) → place ≤ k → k < length locks → q < (slice_index_or locks k d).page
 
 -- what is seen of one list: whose it is, and the pages that it has
 pub record HeldPages : Type 0 where

@@ -22,6 +22,17 @@ pub record KeepsOthers (old new : List ℕ) (place : ℕ) : Type 0 where
 pub record InMask (lists : List HeldPages) (passes : HeldPages → Bool) (mask : ℕ) : Type 0 where
   pub marked : (place : ℕ) (d : HeldPages) → place < length lists → passes (slice_index_or lists place d) ≡ true → bit_at mask place ≡ 1
 
+-- no place from start to below end is in the mask
+abbrev pub IsUnmarked : ℕ → ℕ → ℕ → Type 0
+IsUnmarked mask start end = (p : ℕ) → start ≤ p → p < end → bit_at mask p ≡ 0
+
+-- the first place in the mask from start on, which is below end
+pub record IsNextPlace (mask start end place : ℕ) : Type 0 where
+  pub from_start : start ≤ place
+  pub within : place < end
+  pub marked : bit_at mask place ≡ 1
+  pub passed_over : IsUnmarked mask start place
+
 -- the list has this page
 abbrev pub has_page : ℕ → HeldPages → Bool
 has_page q pages = is_some (map.get pages.modes q)

@@ -1,10 +1,10 @@
-//! The locks of one transaction, in a list that is scanned.
+//! The locks of one transaction, by rising page numbers.
 
-ghost use Rattle.std.specs.Prelude.{◌≡◌, ◌==◌, ◌≤◌, ◌&&◌, not, position};
+ghost use Rattle.std.specs.Prelude.{◌≡◌, ◌==◌, ◌≤◌, ◌&&◌, not, MatchResult};
 ghost use Rattle.std.specs.FinMap as map;
 ghost use Rattle.mlt_page_locks.specs.Requests.{stronger, with_page, is_against};
 ghost use Rattle.mlt_page_locks.specs.LockTables.{goes_with};
-ghost use Rattle.mlt_page_locks.specs.LockLists.{is_free, is_list_of};
+ghost use Rattle.mlt_page_locks.specs.LockLists.{is_free, is_list_of, modes_of, IsRising, IsAt, IsBetween};
 
 use arrayvec::ArrayVec;
 use mlt_types::{Mode, PageNo, TxId};
@@ -35,9 +35,7 @@ pub(crate) struct LockList {
 }
 
 impl Model for LockList {
-    ghost use Rattle.std.specs.Prelude.{◌≡◌, length};
-    ghost use Rattle.std.specs.FinMap as map;
-    ghost use Rattle.mlt_page_locks.specs.LockLists.{HeldPages, coded_pages, modes_of};
+    ghost use Rattle.mlt_page_locks.specs.LockLists.{HeldPages, coded_pages, modes_of, IsInOrder};
 
     ghost Value = { HeldPages };
 
@@ -45,7 +43,7 @@ impl Model for LockList {
 
     ghost view = { λ list. record { tx = list.tx; modes = modes_of list.locks.items } };
 
-    ghost invariant = { λ list. map.len (modes_of list.locks.items) ≡ length list.locks.items };
+    ghost invariant = { λ list. IsInOrder list.locks.items };
 }
 
 impl LockList {
@@ -84,8 +82,10 @@ impl LockList {
     pub fn mode_of(&self, page: PageNo) -> Option<Mode>
         ensures { result ≡ map.get self.now.modes page }
     {
-        let place = place_of(&self.locks, page)?;
-        Some(self.locks[place].mode)
+        match place_of(&self.locks, page) {
+            Ok(place) => Some(self.locks[place].mode),
+            Err(_) => None,
+        }
     }
 
     /// Whether another transaction has a lock here that does not go with one of `tx`.
@@ -100,7 +100,9 @@ impl LockList {
     }
 
     /// The locks, each page once.
-    pub fn locks(&self) -> &[PageLock] {
+    pub fn locks(&self) -> &[PageLock]
+        ensures { modes_of result.now ≡ self.now.modes }
+    {
         &self.locks
     }
 
@@ -118,11 +120,11 @@ impl LockList {
             self.new ≡ record { tx = self.old.tx; modes = modes } }
     {
         match place_of(&self.locks, page) {
-            Some(place) => {
+            Ok(place) => {
                 let mode = stronger(self.locks[place].mode, mode);
                 self.locks[place] = PageLock { page, mode };
             }
-            None => self.locks.push(PageLock { page, mode }),
+            Err(place) => self.locks.insert(place, PageLock { page, mode }),
         }
     }
 
@@ -134,10 +136,12 @@ impl LockList {
     }
 }
 
-fn place_of(locks: &[PageLock], page: PageNo) -> Option<usize>
-    ensures { result ≡ position (λ lock. lock.page == page) locks.now }
+// Where the lock on a page is, or else its place among those on lower and higher pages.
+fn place_of(locks: &[PageLock], page: PageNo) -> Result<usize, usize>
+    requires { IsRising locks.now }
+    ensures { MatchResult result (IsAt locks.now page) (IsBetween locks.now page) }
 {
-    locks.iter().position(|lock| lock.page == page)
+    locks.binary_search_by_key(&page.0, |lock| lock.page.0)
 }
 
 fn goes_with(held: Mode, asked: Mode) -> bool

@@ -1,8 +1,7 @@
 //! Marks of places by numbers: where to look, and where not.
 
-ghost use Rattle.std.specs.Prelude.{◌≡◌, ◌==◌, ◌<◌, ◌%◌, ℕ, length, IfErr};
-ghost use Rattle.std.specs.Int.{bit_at};
-ghost use Rattle.mlt_page_locks.specs.Marks.{mask_of, IsMarked, KeepsOthers};
+ghost use Rattle.std.specs.Prelude.{◌≡◌, ◌<◌, ◌≤◌, ◌%◌, ℕ, length, IfErr, MatchOption};
+ghost use Rattle.mlt_page_locks.specs.Marks.{mask_of, IsMarked, KeepsOthers, IsUnmarked, IsNextPlace};
 
 use mlt_types::Refusal;
 use std::alloc::Global;
@@ -57,7 +56,9 @@ impl Marks {
     /// Takes the mark of a place away at a number. Other numbers of its remainder lose it too.
     pub fn unmark(&mut self, number: u64, place: usize)
         requires { place < 64 }
-        ensures { KeepsOthers self.old self.new place }
+        ensures gone { IsMarked self.new number place → ⊥ }
+        ensures fewer { (n p : ℕ) → IsMarked self.new n p → IsMarked self.old n p }
+        ensures others { KeepsOthers self.old self.new place }
     {
         let at = remainder(&self.masks, number);
         self.masks[at] &= !(1 << place);
@@ -73,10 +74,15 @@ fn remainder(masks: &[u64], number: u64) -> usize
     (number % masks.len() as u64) as usize
 }
 
-/// Whether a place is in a mask.
-pub(crate) fn is_set(mask: u64, place: usize) -> bool
-    requires { place < 64 }
-    ensures { result ≡ (bit_at mask place == 1) }
+/// The first place in a mask from `start` on and below `end`, if there is one.
+pub(crate) fn next_place(mask: u64, start: usize, end: usize) -> Option<usize>
+    requires { end ≤ 64 }
+    ensures { let unmarked = IsUnmarked mask start end in
+        MatchOption result unmarked (IsNextPlace mask start end) }
 {
-    (mask >> place) & 1 == 1
+    if start >= end {
+        return None;
+    }
+    let place = start + (mask >> start).trailing_zeros() as usize;
+    if place < end { Some(place) } else { None }
 }

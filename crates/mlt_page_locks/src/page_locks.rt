@@ -4,11 +4,11 @@ ghost use Rattle.std.specs.Prelude.{◌≡◌, ◌==◌, ◌≤◌, ◌<◌, ◌
 ghost use Rattle.std.specs.FinMap as map;
 ghost use Rattle.mlt_page_locks.specs.LockTables.{no_locks, mode_held, AreCompatible, HasRoom};
 ghost use Rattle.mlt_page_locks.specs.Requests.{granted, released, conflicts, with_page, is_against, Answers, IsLowest, IsNobody};
-ghost use Rattle.mlt_page_locks.specs.Marks.{InMask, AddsAt, KeepsOthers, has_page};
+ghost use Rattle.mlt_page_locks.specs.Marks.{IsMarked, InMask, AddsAt, KeepsOthers, has_page};
 ghost use Rattle.mlt_page_locks.specs.LockLists.{is_free, is_list_of, table_of, lock_table, IsSound};
 
 use crate::lock_list::LockList;
-use crate::marks::{Marks, is_set};
+use crate::marks::{Marks, next_place};
 use mlt_types::{Limits, Mode, PageNo, Refusal, TxId};
 use std::alloc::Global;
 use std::marker::Model;
@@ -121,7 +121,8 @@ impl PageLocks {
 // Takes the marks of a place away at the pages of its list.
 fn unmark_pages(pages: &mut Marks, list: &LockList, place: usize)
     requires { place < 64 }
-    ensures { KeepsOthers pages.old pages.new place }
+    ensures gone { (q : ℕ) → has_page q list.now ≡ true → IsMarked pages.new q place → ⊥ }
+    ensures others { KeepsOthers pages.old pages.new place }
 {
     for lock in list.locks() {
         pages.unmark(u64::from(lock.page.0), place);
@@ -134,23 +135,14 @@ fn list_of(lists: &[LockList], mask: u64, tx: TxId) -> Option<usize>
     requires marked { InMask lists.now (is_list_of tx) mask }
     ensures { result ≡ position (is_list_of tx) lists.now }
 {
-    if mask == 0 {
-        return None;
-    }
-    for (place, list) in lists.iter().enumerate() {
-        if is_owned(list, is_set(mask, place), tx) {
+    let mut start = 0;
+    while let Some(place) = next_place(mask, start, lists.len()) {
+        if lists[place].is_of(tx) {
             return Some(place);
         }
+        start = place + 1;
     }
     None
-}
-
-// Whether the list is that of `tx`. It is looked at only where it is marked.
-fn is_owned(list: &LockList, marked: bool, tx: TxId) -> bool
-    requires { is_list_of tx list.now ≡ true → marked ≡ true }
-    ensures { result ≡ is_list_of tx list.now }
-{
-    marked && list.is_of(tx)
 }
 
 // The place of a list that is nobody's.
@@ -217,24 +209,15 @@ fn lowest_conflict(
         MatchOption result (IsNobody others) (IsLowest others) }
 {
     let mut lowest = None;
-    if mask == 0 {
-        return lowest;
-    }
-    for (place, list) in lists.iter().enumerate() {
-        if is_in_way(list, is_set(mask, place), tx, page, mode) {
+    let mut start = 0;
+    while let Some(place) = next_place(mask, start, lists.len()) {
+        let list = &lists[place];
+        if list.conflicts(tx, page, mode) {
             lowest = Some(lower(lowest, list.tx()));
         }
+        start = place + 1;
     }
     lowest
-}
-
-// Whether the list has a lock that does not go with one of `tx`. It is looked at only where it is marked.
-fn is_in_way(list: &LockList, marked: bool, tx: TxId, page: PageNo, mode: Mode) -> bool
-    requires { has_page page list.now ≡ true → marked ≡ true }
-    ensures { let held = map.get list.now.modes page in
-        result ≡ (not (list.now.tx == tx) && is_against held mode) }
-{
-    marked && list.conflicts(tx, page, mode)
 }
 
 fn lower(lowest: Option<TxId>, tx: TxId) -> TxId

@@ -1,7 +1,10 @@
-use Rattle.std.proofs.Common.{◌≡◌, ◌<◌, ℕ, false, get_or}
+use Rattle.std.proofs.Common.{◌≡◌, ◌<◌, ◌-◌, ℕ, false, get_or, length}
 use Rattle.mlt_page_locks.specs.LockLists.{HeldPages, is_list_of}
 use Rattle.mlt_page_locks.proofs.page_locks.list_of.Given as goal
 
 -- none so far is that of the transaction
 abbrev pub invariant-loop-place : goal.invariant-loop-place
-invariant-loop-place l = (k : ℕ) (d : HeldPages) → k < l.place → is_list_of l.tx (get_or l.lists k d) ≡ false
+invariant-loop-place l = (k : ℕ) (d : HeldPages) → k < l.start → is_list_of l.tx (get_or l.lists k d) ≡ false
+
+abbrev pub decreases-loop-place : goal.decreases-loop-place
+decreases-loop-place l = length l.lists - l.start

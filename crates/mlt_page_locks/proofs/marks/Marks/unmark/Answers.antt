@@ -1,13 +1,33 @@
 use Rattle.std.proofs.Common.{◌≡◌, ◌<◌, ℕ, ◌*◌, ◌%◌, ◌^◌, List, bit_and, get_or, length, w64, sym, ap, subst, ◌∙◌}
 use Rattle.std.specs.Int.{bit_at, bit_not}
 use Rattle.std.proofs.lemmas.List.{get_or_default}
-use Rattle.std.proofs.lemmas.Nat.Bits.{bit_at_clear_other}
+use Rattle.std.proofs.lemmas.Nat.Bits.{bit_at_clear_same, bit_at_clear_other}
 use Rattle.mlt_page_locks.specs.Marks.{IsMarked}
-use Rattle.mlt_page_locks.proofs.Bits.{kept_at}
+use Rattle.mlt_page_locks.proofs.Bits.{kept_at, had_at, unmarked_at, bit_of_both}
 use Rattle.mlt_page_locks.proofs.marks.Marks.unmark.Goals as goal
 
-pub returns : goal.returns
-returns c = record {
+pub returns-clause-gone : goal.returns-clause-gone
+returns-clause-gone c = λ marked.
+    let masks : List ℕ = c.self.inside.masks.items in
+    let seen : c.deref.result.now ≡ masks = c.deref.ensures.value in
+    let at = c.remainder-at.result in
+    let inside : at < length masks = subst (λ (l : List ℕ). at < length l) seen c.remainder-at.ensures.within in
+    unmarked_at masks at _ inside c.args.number c.args.place (sym (c.remainder-at.ensures.is ∙ ap (λ (l : List ℕ). c.args.number % length l) seen))
+    (bit_at_clear_same w64 c.index_mut.result.now c.args.place c.requires) marked
+
+pub returns-clause-fewer : goal.returns-clause-fewer
+returns-clause-fewer c = λ n p h.
+    let masks : List ℕ = c.self.inside.masks.items in
+    let seen : c.deref.result.now ≡ masks = c.deref.ensures.value in
+    let at = c.remainder-at.result in
+    let inside : at < length masks = subst (λ (l : List ℕ). at < length l) seen c.remainder-at.ensures.within in
+    let value : c.index_mut.result.now ≡ get_or masks at 0 = c.index_mut.ensures.value ∙ get_or_default masks at c.index_mut.result.now 0 inside in
+    subst (λ m. IsMarked m n p) c.self.view_is
+    (had_at masks at (bit_and c.index_mut.result.now (bit_not w64 (1 * 2 ^ c.args.place % 2 ^ 64))) inside n p
+    (λ b. ap (λ m. bit_at m p) (sym value) ∙ bit_of_both c.index_mut.result.now (bit_not w64 (1 * 2 ^ c.args.place % 2 ^ 64)) p b) h)
+
+pub returns-clause-others : goal.returns-clause-others
+returns-clause-others c = record {
   kept = λ n p below ne h.
       let masks : List ℕ = c.self.inside.masks.items in
       let seen : c.deref.result.now ≡ masks = c.deref.ensures.value in

@@ -23,7 +23,7 @@ invariant_of-self c =
     record {
       sound = (made c).sound;
       covers = covers_cleared old.lists.items old.pages old.holders c.unmark_pages.new.pages c.unmark.new.self c.in-Some.place c.clear.new.self at.0 c.self.invariant.covers
-          (ap (λ (p : HeldPages). p.modes) c.clear.ensures) c.unmark_pages.ensures c.unmark.ensures;
+          (ap (λ (p : HeldPages). p.modes) c.clear.ensures) c.unmark_pages.ensures.others c.unmark.ensures.others;
     }
 
 pub returns-in-Some-clause-released : goal.returns-in-Some-clause-released
