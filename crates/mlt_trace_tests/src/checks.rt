@@ -17,20 +17,27 @@ pub fn same_at<P: Debug, T: PartialEq + Debug>(rt: &impl Abort, place: &P, found
     assert_eq!(rt; found, wanted, "{place:?}");
 }
 
-/// The check of this text finds its first fault in this line, with this cause.
-pub fn is_faulty(rt: &impl Abort, alloc: Global, text: &[u8], line: u64, cause: TraceCause) {
-    let mut input = text;
-    let found = check(alloc, &mut input).err();
-    same_at(
-        rt,
-        &text,
-        &found,
-        &Some(Refusal::TraceFault { line, cause }),
-    );
+/// The check of each of these texts finds its first fault in this line, with this cause.
+pub fn are_faulty(rt: &impl Abort, alloc: Global, texts: &[(&[u8], u64, TraceCause)]) {
+    for (text, line, cause) in texts {
+        let mut input = *text;
+        let found = check(alloc, &mut input).err();
+        let wanted = Refusal::TraceFault {
+            line: *line,
+            cause: *cause,
+        };
+        same_at(rt, text, &found, &Some(wanted));
+    }
 }
 
-/// Of this text the check writes what is wanted, or tells this fault and writes nothing.
-pub fn is_said(rt: &impl Abort, alloc: Global, text: &str, wanted: Result<&str, Refusal>) {
+/// Of each of these texts the check writes what is wanted, or tells this fault and writes nothing.
+pub fn are_said(rt: &impl Abort, alloc: Global, texts: &[(&str, Result<&str, Refusal>)]) {
+    for (text, wanted) in texts {
+        is_said(rt, alloc, text, *wanted);
+    }
+}
+
+fn is_said(rt: &impl Abort, alloc: Global, text: &str, wanted: Result<&str, Refusal>) {
     let mut input = text.as_bytes();
     let mut said = Vec::new(alloc);
     let answer = check_trace(alloc, &mut input, &mut said);

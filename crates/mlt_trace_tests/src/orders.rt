@@ -1,6 +1,6 @@
 //! Traces that are accepted, with their order and their base; and items without a text.
 
-use crate::checks::is_said;
+use crate::checks::are_said;
 use mlt_check::{check, committed_base};
 use mlt_kinds::{AccountOp, Done, ObjOp, ObjReply};
 use mlt_trace::TraceItem;
@@ -9,7 +9,7 @@ use mlt_types::{Refusal, TraceCause, TxId};
 // Traces, and what is said of them: of one with each kind of object and a transaction that is open at the end; of one
 // that commits nothing; of false replies that are open at the end or taken back; and of a reply that is false where it
 // stands and true at the commit.
-const SAID: [(&str, &str); 5] = [
+const SAID: &[(&str, Result<&str, Refusal>)] = &[
     (
         "\
 begin 4
@@ -20,11 +20,11 @@ commit 4 1
 begin 6
 op 6 up 9 1 done
 ",
-        "serial 4\naccount 5 0\nelement 3 8\ncounter 9 2\n",
+        Ok("serial 4\naccount 5 0\nelement 3 8\ncounter 9 2\n"),
     ),
-    ("begin 1\n", ""),
-    ("begin 1\nop 1 read 1 is 5\n", ""),
-    ("begin 1\nop 1 read 1 is 5\nback 1\nabort 1\n", ""),
+    ("begin 1\n", Ok("")),
+    ("begin 1\nop 1 read 1 is 5\n", Ok("")),
+    ("begin 1\nop 1 read 1 is 5\nback 1\nabort 1\n", Ok("")),
     (
         "\
 begin 1
@@ -34,15 +34,13 @@ op 2 up 1 1 done
 commit 2 1
 commit 1 2
 ",
-        "serial 2\nserial 1\ncounter 1 1\n",
+        Ok("serial 2\nserial 1\ncounter 1 1\n"),
     ),
 ];
 
 #[test]
 fn accepted(rt: HostRuntime) {
-    for (text, wanted) in SAID {
-        is_said(&rt, rt.alloc(), text, Ok(wanted));
-    }
+    are_said(&rt, rt.alloc(), SAID);
 }
 
 // Tabs, repeated spaces, leading zeros and CR LF; and a transaction that is open at the end.

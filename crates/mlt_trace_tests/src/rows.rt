@@ -1,6 +1,6 @@
 //! Worked histories: the text of each as a trace, and what the check says of it.
 
-use crate::checks::{is_said, same};
+use crate::checks::{are_said, same};
 use mlt_kinds::{AccountOp, Done, ObjOp, ObjReply};
 use mlt_trace::{TraceItem, write_trace};
 use mlt_types::{Refusal, TraceCause, TxId};
@@ -17,7 +17,7 @@ const CUT_IN_LINE_6: Refusal = Refusal::TraceFault {
 
 // Two transactions, of which the second commits first; the same where it was told a false reply; the same cut inside
 // a line; and nothing.
-const TWO_SERIALS: [(&str, Result<&str, Refusal>); 4] = [
+const TWO_SERIALS: &[(&str, Result<&str, Refusal>)] = &[
     (
         "\
 begin 1
@@ -57,9 +57,7 @@ op 1 balance 1 is",
 
 #[test]
 fn check_two_serials(rt: HostRuntime) {
-    for (text, wanted) in TWO_SERIALS {
-        is_said(&rt, rt.alloc(), text, wanted);
-    }
+    are_said(&rt, rt.alloc(), TWO_SERIALS);
 }
 
 // Two deposits on one account, the first of which is taken back.
@@ -75,6 +73,11 @@ back 2
 abort 2
 commit 3 2
 ";
+
+const ABORT: &[(&str, Result<&str, Refusal>)] = &[(
+    ABORT_TEXT,
+    Ok("serial 1\nserial 3\naccount 1 7\n"),
+)];
 
 #[test]
 fn trace_of_the_abort(rt: HostRuntime) -> Result<(), Refusal> {
@@ -96,12 +99,7 @@ fn trace_of_the_abort(rt: HostRuntime) -> Result<(), Refusal> {
     let mut text = Vec::new(rt.alloc());
     write_trace(rt.alloc(), &items, &mut text)?;
     same(&rt, &text.as_slice(), &ABORT_TEXT.as_bytes());
-    is_said(
-        &rt,
-        rt.alloc(),
-        ABORT_TEXT,
-        Ok("serial 1\nserial 3\naccount 1 7\n"),
-    );
+    are_said(&rt, rt.alloc(), ABORT);
     Ok(())
 }
 
@@ -112,7 +110,7 @@ const FALSE_IN_LINE_7: Refusal = Refusal::TraceFault {
 
 // A deposit that fits commits before one that was told Over. In place of the one that fits, a withdrawal is blocked,
 // and leaves no line. Had it not been blocked, and had it committed first, the other deposit would have fitted.
-const OVER_PASSES: [(&str, Result<&str, Refusal>); 3] = [
+const OVER_PASSES: &[(&str, Result<&str, Refusal>)] = &[
     (
         "\
 begin 1
@@ -159,7 +157,5 @@ commit 2 3
 
 #[test]
 fn over_passes_deposit(rt: HostRuntime) {
-    for (text, wanted) in OVER_PASSES {
-        is_said(&rt, rt.alloc(), text, wanted);
-    }
+    are_said(&rt, rt.alloc(), OVER_PASSES);
 }
