@@ -6,6 +6,3 @@ mod trace;
 
 pub use item::TraceItem;
 pub use trace::write_trace;
-
-#[cfg(test)]
-mod tests;

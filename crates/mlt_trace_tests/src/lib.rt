@@ -5,4 +5,12 @@
 #[cfg(test)]
 mod checks;
 #[cfg(test)]
+mod faults;
+#[cfg(test)]
+mod items;
+#[cfg(test)]
+mod orders;
+#[cfg(test)]
+mod rows;
+#[cfg(test)]
 mod texts;
