@@ -217,27 +217,45 @@ impl Subtx {
         ensures refusal { IfErr result (λ refusal. refusal ≡ Refusal.OutOfMemory) }
     {
         if !self.has_image(number) {
-            let first = self.read(store, number).copied();
+            let first = self.read(store, number);
             self.keep(number, first)?;
         }
         Ok(())
     }
 
     // Keeps the first image of a page that has none.
-    fn keep(&mut self, page: PageNo, first: Option<Page>) -> Result<(), Refusal>
+    fn keep(&mut self, page: PageNo, first: Option<&Page>) -> Result<(), Refusal>
         requires { image_of self.old.images page ≡ None }
-        ensures ok { OnOk result
-            (self.new ≡ record self.old { images = map.insert self.old.images page first }) }
+        ensures ok { let images = map.insert self.old.images page (option_copied first.entry) in
+            OnOk result (self.new ≡ record self.old { images = images }) }
         ensures err { OnErr result (self.new ≡ self.old) }
         ensures third { OnErr result (2 ≤ map.len self.old.images) }
         ensures refusal { IfErr result (λ refusal. refusal ≡ Refusal.OutOfMemory) }
     {
         if self.near.is_full() {
-            self.far.insert(page, first)?;
+            self.far.insert(page, first.copied())?;
         } else {
-            self.near.push(Image { page, first });
+            push_image(&mut self.near, page, first);
         }
         Ok(())
+    }
+}
+
+// Puts an image behind the others. Of a bucket no more is copied than it takes, a quarter of the room of a page.
+fn push_image(near: &mut ArrayVec<Image, 2>, page: PageNo, first: Option<&Page>)
+    requires { length near.old.items < 2 }
+    ensures { near.new.items
+        ≡ near.old.items ++ record { page = page; first = option_copied first.entry } ∷ [] }
+{
+    match first {
+        Some(Page::Bucket(bucket)) => near.push(Image {
+            page,
+            first: Some(Page::Bucket(*bucket)),
+        }),
+        _ => near.push(Image {
+            page,
+            first: first.copied(),
+        }),
     }
 }
 

@@ -1,5 +1,6 @@
 -- The words of a line.
-use Rattle.std.specs.Prelude.{ℕ, List, [], ◌∷◌, ◌++◌, map, Option, Some, None, ◌==◌, Bool, ◌||◌, not, if◌then◌else◌, codes}
+use Rattle.std.specs.Prelude.{ℕ, nat_eq, List, [], ◌∷◌, ◌++◌, map, Option, Some, None, ◌==◌, Bool, ◌||◌, not, if◌then◌else◌, codes}
+use Rattle.std.specs.List.{starts_with}
 use Rattle.std.specs.Str.{bytes_eq}
 use Rattle.mlt_words.specs.declared.keyword.Keyword.{Keyword}
 use Rattle.mlt_words.specs.declared.keyword.Keyword.TheVariants as key
@@ -48,6 +49,10 @@ spelling key.No = codes "no"
 
 abbrev pub all_keywords : List Keyword
 all_keywords = key.Begin ∷ key.Commit ∷ key.Abort ∷ key.Need ∷ key.Let ∷ key.If ∷ key.Else ∷ key.End ∷ key.Is ∷ key.Equals ∷ key.Open ∷ key.Close ∷ key.Deposit ∷ key.Withdraw ∷ key.Balance ∷ key.Add ∷ key.Remove ∷ key.Has ∷ key.Up ∷ key.Down ∷ key.Read ∷ key.Opened ∷ key.Exists ∷ key.Closed ∷ key.NotEmpty ∷ key.Done ∷ key.Over ∷ key.Short ∷ key.Missing ∷ key.Added ∷ key.Present ∷ key.Removed ∷ key.Absent ∷ key.Yes ∷ key.No ∷ []
+
+-- whether the keyword begins with the byte
+abbrev pub begins_with : ℕ → Keyword → Bool
+begins_with byte k = starts_with nat_eq (spelling k) (byte ∷ [])
 
 -- the one of the keywords that is spelled so
 abbrev pub spelled_among : List Keyword → List ℕ → Option Keyword

@@ -1,7 +1,7 @@
 //! Keywords, and what a word of a line is.
 
-ghost use Rattle.std.specs.Prelude.{◌≡◌};
-ghost use Rattle.mlt_words.specs.Words.{spelling, keyword_of, letter_word, word_of, all_keywords};
+ghost use Rattle.std.specs.Prelude.{◌≡◌, filter};
+ghost use Rattle.mlt_words.specs.Words.{spelling, keyword_of, letter_word, word_of, all_keywords, begins_with, spelled_among};
 
 use crate::letter::{Letter, find_letter};
 use crate::number::number;
@@ -59,44 +59,6 @@ pub enum Word {
     Other,
 }
 
-const KEYWORDS: [Keyword; 35] = [
-    Keyword::Begin,
-    Keyword::Commit,
-    Keyword::Abort,
-    Keyword::Need,
-    Keyword::Let,
-    Keyword::If,
-    Keyword::Else,
-    Keyword::End,
-    Keyword::Is,
-    Keyword::Equals,
-    Keyword::Open,
-    Keyword::Close,
-    Keyword::Deposit,
-    Keyword::Withdraw,
-    Keyword::Balance,
-    Keyword::Add,
-    Keyword::Remove,
-    Keyword::Has,
-    Keyword::Up,
-    Keyword::Down,
-    Keyword::Read,
-    Keyword::Opened,
-    Keyword::Exists,
-    Keyword::Closed,
-    Keyword::NotEmpty,
-    Keyword::Done,
-    Keyword::Over,
-    Keyword::Short,
-    Keyword::Missing,
-    Keyword::Added,
-    Keyword::Present,
-    Keyword::Removed,
-    Keyword::Absent,
-    Keyword::Yes,
-    Keyword::No,
-];
-
 impl Keyword {
     /// How the keyword is written.
     pub fn text(self) -> &'static [u8]
@@ -142,22 +104,56 @@ impl Keyword {
     }
 }
 
-fn all() -> [Keyword; 35]
-    ensures { result ≡ all_keywords }
+// The first of these keywords that is spelled so.
+fn spelled(keywords: &[Keyword], word: &[u8]) -> Option<Keyword>
+    ensures { result ≡ spelled_among keywords.now word.now }
 {
-    KEYWORDS
-}
-
-fn find_keyword(word: &[u8]) -> Option<Keyword>
-    ensures { result ≡ keyword_of word.now }
-{
-    let keywords = all();
-    for keyword in &keywords {
+    for keyword in keywords {
         if keyword.text() == word {
             return Some(*keyword);
         }
     }
     None
+}
+
+// The keywords that begin with this byte: at most four, of which at most two are of one length.
+fn beginning_with(first: u8) -> &'static [Keyword]
+    ensures { result.now ≡ filter (begins_with first) all_keywords }
+{
+    match first {
+        b'=' => &[Keyword::Equals],
+        b'a' => &[
+            Keyword::Abort,
+            Keyword::Add,
+            Keyword::Added,
+            Keyword::Absent,
+        ],
+        b'b' => &[Keyword::Begin, Keyword::Balance],
+        b'c' => &[Keyword::Commit, Keyword::Close, Keyword::Closed],
+        b'd' => &[Keyword::Deposit, Keyword::Down, Keyword::Done],
+        b'e' => &[Keyword::Else, Keyword::End, Keyword::Exists],
+        b'h' => &[Keyword::Has],
+        b'i' => &[Keyword::If, Keyword::Is],
+        b'l' => &[Keyword::Let],
+        b'm' => &[Keyword::Missing],
+        b'n' => &[Keyword::Need, Keyword::NotEmpty, Keyword::No],
+        b'o' => &[Keyword::Open, Keyword::Opened, Keyword::Over],
+        b'p' => &[Keyword::Present],
+        b'r' => &[Keyword::Remove, Keyword::Read, Keyword::Removed],
+        b's' => &[Keyword::Short],
+        b'u' => &[Keyword::Up],
+        b'w' => &[Keyword::Withdraw],
+        b'y' => &[Keyword::Yes],
+        _ => &[],
+    }
+}
+
+// A word is compared only with the keywords that begin with its first byte.
+fn find_keyword(word: &[u8]) -> Option<Keyword>
+    ensures { result ≡ keyword_of word.now }
+{
+    let first = word.first()?;
+    spelled(beginning_with(*first), word)
 }
 
 fn variable(word: &[u8]) -> Option<Letter>

@@ -10,7 +10,7 @@ returns-in_ok-keep-clause-images c =
     let first = page_at c.args.store.now.pages c.args.number in
     let none = not_there _ (sym c.has_image.ensures ∙ c.if-not-has_image.true) in
     c.in_ok-keep.ensures.ok
-    ∙ ap (λ (images : Images). record c.args.self.now { images = images }) (ap (map.insert c.args.self.now.images c.args.number) (c.copied-first.ensures ∙ c.read.ensures) ∙ sym (with_image-absent c.args.self.now.images c.args.number first none))
+    ∙ ap (λ (images : Images). record c.args.self.now { images = images }) (ap (map.insert c.args.self.now.images c.args.number) (c.read-first.ensures) ∙ sym (with_image-absent c.args.self.now.images c.args.number first none))
 
 pub returns-else-not-has_image-clause-images : goal.returns-else-not-has_image-clause-images
 returns-else-not-has_image-clause-images c =
