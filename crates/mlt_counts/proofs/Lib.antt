@@ -1,0 +1,4 @@
+pub mod Extra
+pub mod Stages
+pub mod Passes
+pub mod Inverses

@@ -1,0 +1,303 @@
+-- The steps of one pass of an operation, one after another
+use Rattle.std.proofs.Common.{ℕ, zero, suc, ◌≡◌, ◌≤◌, ◌<◌, ◌+◌, ◌*◌, ◌-◌, ◌⊎◌, List, [], ◌∷◌, ◌++◌, None, refl, sym, ap, subst, ◌∙◌, inl, inr, true, Bool, arith}
+use Rattle.mlt_types.specs.declared.mode.Mode.{Mode}
+use Rattle.mlt_kinds.specs.declared.operation.ObjOp.{ObjOp}
+use Rattle.mlt_hash_form.specs.File.{bucket_of}
+use Rattle.mlt_held.specs.Moments.{Moment, moment}
+use Rattle.mlt_held.specs.Views.{View, view_of}
+use Rattle.mlt_hash.specs.Changes.{page_of}
+use Rattle.mlt_hash.specs.Passes.{IsNextPass, next_of}
+use Rattle.mlt_hash.specs.Steps.{steps_to_bucket}
+use Rattle.mlt_hash.specs.StepsLeft.{bucket_depth, directory_depth, steps_of_splits, steps_to_put_at}
+use Rattle.mlt_hash.specs.Walks.{Basis, IsAdding, Stands, WalkFields}
+use Rattle.mlt_hash.specs.declared.pass.Pass.{Pass}
+use Rattle.mlt_hash.specs.declared.pass.Pass.TheVariants as pass
+use Rattle.mlt_hash.specs.declared.pass.Phase.{Phase}
+use Rattle.mlt_hash.specs.declared.pass.Phase.TheVariants as phase
+use Rattle.mlt_operation.specs.declared.request.Request.{Request}
+use Rattle.mlt_operation.specs.declared.request.Request.TheVariants.{Do}
+use Rattle.mlt_operation.specs.Answers.{BeginsToSplit, HasToRestart, Restarts}
+use Rattle.mlt_operation.specs.Operating.{FitsPhase, IsToAdd, OperationFields, steps_left}
+use Rattle.mlt_operation.specs.Requests.{target_of}
+use Rattle.mlt_event.specs.declared.answer.Answer.{Answer}
+use Rattle.mlt_event.specs.declared.answer.Answer.TheVariants as answer
+use Rattle.mlt_transaction.specs.declared.transaction.At.TheVariants as at
+use Rattle.mlt_transaction.specs.declared.transaction.Transaction.{Transaction}
+use Rattle.mlt_counts.specs.Counts.{BeginsSplits, FindsNoRoom, IsDoneOrBlocked, IsEnd, IsRefusal, MayFollow, TakesFirstPass, TakesLaterPass, TakesNarrowPass, started_in}
+use Rattle.mlt_counts.specs.Extra.{extra_of_splits}
+use Rattle.mlt_counts.specs.OwnSteps.{AreOwnSteps, GoesThen, GoesToTurn, GoesUpTo, OwnStep, answers_of, basis_at, view_in, with_answer}
+use Rattle.mlt_counts.proofs.Extra.{of_splits}
+use Rattle.mlt_counts.proofs.Stages.{Goes, Stage, fewer_after, last_step, left_at, on_stage, one_fewer_after, one_step, told_at_last}
+
+-- on the way nothing is to be put
+put_on_way : (p : Phase) (root : ℕ) (walk : WalkFields) (view : View) → 0 < steps_to_bucket p → steps_to_put_at p root walk view ≡ 0
+put_on_way phase.Start root walk view more = refl
+put_on_way (phase.Headed dir row depth) root walk view more = refl
+put_on_way (phase.Placed bucket depth) root walk view more = refl
+put_on_way other root walk view more = absurd (omega (arith, more))
+
+-- at the step to the bucket two steps are left
+two_left : (root : ℕ) (o : OperationFields) (view : View) → steps_to_bucket o.walk.phase ≡ 1 → steps_left root o view ≡ 2
+two_left root o view last = let none = put_on_way o.walk.phase root o.walk view (omega (arith, last)) in omega (arith, last, none)
+
+-- told Done or Blocked, or refused, at once
+ended_then : (told : Answer) (rest : List Answer) → IsDoneOrBlocked told → GoesThen 0 IsDoneOrBlocked (with_answer told rest)
+ended_then (answer.Done reply) rest is = tt
+ended_then (answer.Blocked by) rest is = tt
+ended_then other rest is = absurd is
+
+ended_in : (n : ℕ) (told : Answer) (rest : List Answer) → IsDoneOrBlocked told → GoesUpTo (suc n) IsEnd (with_answer told rest)
+ended_in n (answer.Done reply) rest is = inl (inl tt)
+ended_in n (answer.Blocked by) rest is = inl (inl tt)
+ended_in n other rest is = absurd is
+
+refused_in : (n : ℕ) (Is : Answer → Type 0) → ((told : Answer) → IsRefusal told → Is told) → (told : Answer) (rest : List Answer) → IsRefusal told → GoesUpTo (suc n) Is (with_answer told rest)
+refused_in n Is end (answer.Refused reason) rest is = inl (end (answer.Refused reason) tt)
+refused_in n Is end other rest is = absurd is
+
+-- what one step more makes of an answer list
+module _ (step : OwnStep) (more : List OwnStep) where
+  pub then_after_wait : (n page by : ℕ) (Is : Answer → Type 0) → step.told ≡ answer.Waiting page by → GoesThen n Is (answers_of more) → GoesThen n Is (answers_of (step ∷ more))
+  then_after_wait n page by Is waits then = subst (λ (a : Answer). GoesThen n Is (with_answer a (answers_of more))) (sym waits) then
+
+  pub then_after_going : (n : ℕ) (Is : Answer → Type 0) → step.told ≡ answer.Going → GoesThen n Is (answers_of more) → GoesThen (suc n) Is (answers_of (step ∷ more))
+  then_after_going n Is goes then = subst (λ (a : Answer). GoesThen (suc n) Is (with_answer a (answers_of more))) (sym goes) (refl, then)
+
+  up_to_after_wait : (n page by : ℕ) (Is : Answer → Type 0) → step.told ≡ answer.Waiting page by → GoesUpTo n Is (answers_of more) → GoesUpTo n Is (answers_of (step ∷ more))
+  up_to_after_wait n page by Is waits up_to = subst (λ (a : Answer). GoesUpTo n Is (with_answer a (answers_of more))) (sym waits) up_to
+
+  up_to_after_going : (n : ℕ) (Is : Answer → Type 0) → step.told ≡ answer.Going → GoesUpTo n Is (answers_of more) → GoesUpTo (suc n) Is (answers_of (step ∷ more))
+  up_to_after_going n Is goes up_to = subst (λ (a : Answer). GoesUpTo (suc n) Is (with_answer a (answers_of more))) (sym goes) (inr (refl, up_to))
+
+  turn_after_wait : (basis : Basis) (n page by : ℕ) (Turns : Transaction → OwnStep → List OwnStep → Type 0) → step.told ≡ answer.Waiting page by → GoesToTurn basis n Turns more → GoesToTurn basis n Turns (step ∷ more)
+  turn_after_wait basis n page by Turns waits g = record {
+    front = step ∷ g.front;
+    before = g.before;
+    last = g.last;
+    back = g.back;
+    parts = ap (λ (l : List OwnStep). step ∷ l) g.parts;
+    goes = ap (λ (a : Answer). with_answer a (answers_of (g.front ++ g.last ∷ []))) waits ∙ g.goes;
+    turns = g.turns;
+    rest = g.rest;
+  }
+
+  turn_after_going : (basis : Basis) (n : ℕ) (Turns : Transaction → OwnStep → List OwnStep → Type 0) → step.told ≡ answer.Going → GoesToTurn basis n Turns more → GoesToTurn basis (suc n) Turns (step ∷ more)
+  turn_after_going basis n Turns goes g = record {
+    front = step ∷ g.front;
+    before = g.before;
+    last = g.last;
+    back = g.back;
+    parts = ap (λ (l : List OwnStep). step ∷ l) g.parts;
+    goes = ap (λ (a : Answer). with_answer a (answers_of (g.front ++ g.last ∷ []))) goes ∙ ap (λ (l : List Answer). answer.Going ∷ l) g.goes;
+    turns = g.turns;
+    rest = g.rest;
+  }
+
+  -- the turn itself
+  turn_here : (basis : Basis) (Turns : Transaction → OwnStep → List OwnStep → Type 0) (t : Transaction) → step.told ≡ answer.Going → Turns t step more → AreOwnSteps basis step.after (view_in step.after step.new) more → GoesToTurn basis 1 Turns (step ∷ more)
+  turn_here basis Turns t goes turns rest = record {
+    front = [];
+    before = t;
+    last = step;
+    back = more;
+    parts = refl;
+    goes = ap (λ (a : Answer). with_answer a []) goes;
+    turns = turns;
+    rest = rest;
+  }
+
+-- **Once a bucket is to be split, within as many answers as steps are left comes the end.**
+ends_within : (basis : Basis) (op : ObjOp) (steps : List OwnStep) (n left : ℕ) (p : Pass) (o : OperationFields) (t : Transaction) (seen : View)
+    → Stage basis op left p o t seen → steps_to_bucket o.walk.phase ≡ 0 → 1 ≤ left → left ≤ n → AreOwnSteps basis t seen steps → GoesUpTo n IsEnd (answers_of steps)
+ends_within basis op [] zero left p o t seen stage there some few own = tt
+ends_within basis op [] (suc n) left p o t seen stage there some few own = tt
+ends_within basis op (step ∷ more) zero left p o t seen stage there some few own = absurd (omega (arith, some, few))
+ends_within basis op (step ∷ more) (suc n) zero p o t seen stage there some few own = absurd (omega (arith, some))
+ends_within basis op (step ∷ more) (suc n) (suc zero) p o t seen stage there some few own =
+    ended_in n step.told (answers_of more) (last_step basis op 1 p o t seen step stage own.0 refl own.1)
+ends_within basis op (step ∷ more) (suc n) (suc (suc m)) p o t seen stage there some few own =
+    elim (one_step basis op (suc (suc m)) p o t seen step stage own.0 (omega arith) own.1) [
+      | inl waits ↦ up_to_after_wait step more (suc n) waits.page waits.by IsEnd waits.waiting
+          (ends_within basis op more (suc n) (suc (suc m)) p o step.after (view_in step.after step.new) waits.stage there some few own.2)
+      | inr (inr away) ↦ refused_in n IsEnd (λ told is. inr is) step.told (answers_of more) away.refused
+      | inr (inl goes) ↦ elim goes.tells [
+        | inl on ↦
+            let fewer = fewer_after basis (suc (suc m)) o goes.next t seen step own.0 stage.left on in
+            let nearer = on.nearer in
+            up_to_after_going step more n IsEnd goes.going
+            (ends_within basis op more n (steps_left basis.root goes.next (view_in step.after step.new)) p goes.next step.after (view_in step.after step.new)
+            (on_stage basis op (suc (suc m)) p o t seen step stage own.0 goes on) (omega (arith, there, nearer)) (omega arith) (omega (arith, few, fewer)) own.2)
+        | inr (inl splits) ↦ let last = splits.reaches.last in absurd (omega (arith, there, last))
+        | inr (inr again) ↦ let last = again.reaches.last in absurd (omega (arith, there, last))
+      ]
+    ]
+
+-- the pass that follows a full bucket, by the pass that found it full
+after_first : (next : Pass) (crowded : ℕ → Bool) (l most g : ℕ) → IsNextPass crowded l most g next → MayFollow pass.First next
+after_first pass.First crowded l most g never = absurd never
+after_first pass.Narrow crowded l most g may = inl refl
+after_first pass.Wide crowded l most g not = inr refl
+
+follows : (basis : Basis) (m : Moment) (walk full : WalkFields) (p : Pass) → walk.pass ≡ p → HasToRestart basis m walk full → MayFollow p (next_of full.phase)
+follows basis m walk full p is (inl (first, (value, needs))) =
+    let next = needs.first first in
+    subst (λ (q : Pass). MayFollow q (next_of full.phase)) (sym first ∙ is)
+    (subst (λ (q : Phase). MayFollow pass.First (next_of q)) (sym next.1) (after_first next.0 _ _ _ _ next.2))
+follows basis m walk full p is (inr widen) =
+    subst (λ (q : Pass). MayFollow q (next_of full.phase)) (sym widen.narrow ∙ is)
+    (subst (λ (q : Phase). MayFollow pass.Narrow (next_of q)) (sym widen.phase) refl)
+
+-- what is begun again is the same operation, started in the next pass
+begun_anew : (basis : Basis) (old new : Moment) (op : ObjOp) (before next : OperationFields) → before.request ≡ Do op → (r : Restarts basis old new before next)
+    → next ≡ started_in (Do op) (next_of r.full.phase)
+begun_anew basis old new op before next asked r =
+    let request : next.request ≡ Do op = r.request ∙ asked in
+    let key : r.full.key ≡ (target_of (Do op)).0 = sym (ap (λ (w : WalkFields). w.key) r.again) ∙ ap (λ (k : ℕ × Mode). k.0) r.operates.target ∙ ap (λ (q : Request). (target_of q).0) request in
+    let mode : r.full.mode ≡ (target_of (Do op)).1 = sym (ap (λ (w : WalkFields). w.mode) r.again) ∙ ap (λ (k : ℕ × Mode). k.1) r.operates.target ∙ ap (λ (q : Request). (target_of q).1) request in
+    let walk : next.walk ≡ (started_in (Do op) (next_of r.full.phase)).walk = r.again ∙ (λ i. record { key = key i; mode = mode i; pass = next_of r.full.phase; phase = phase.Start; split = None }) in
+    let untold : next.reply ≡ None = subst (λ (q : Phase). FitsPhase q basis next (view_of new)) (ap (λ (w : WalkFields). w.phase) r.again) r.operates.fits in
+    λ i. record { request = request i; reply = untold i; walk = walk i }
+
+module _ (basis : Basis) (op : ObjOp) (n : ℕ) (p : Pass) (o : OperationFields) (t : Transaction) (seen : View) (step : OwnStep) (more : List OwnStep) (stage : Stage basis op n p o t seen) (goes : Goes basis o t step) where
+  -- a pass that is given up
+  pub no_room : Restarts (basis_at basis step) (moment t.subtx step.old.pages) (moment step.after.subtx step.new.pages) o goes.next → FindsNoRoom basis op p t step more
+  no_room r =
+      let anew = begun_anew (basis_at basis step) (moment t.subtx step.old.pages) (moment step.after.subtx step.new.pages) op o goes.next stage.asked r in
+      record {
+        o = o;
+        pending = stage.pending;
+        next = next_of r.full.phase;
+        follows = follows (basis_at basis step) r.back.mid r.walk r.full p (r.reaches.same.pass ∙ stage.in_pass) r.restarts;
+        begins = goes.now_at ∙ ap at.Pending anew;
+        restarts = subst (Restarts (basis_at basis step) (moment t.subtx step.old.pages) (moment step.after.subtx step.new.pages) o) anew r;
+      }
+
+  -- a pass that splits
+  pub splitting : (s : BeginsToSplit (basis_at basis step) (moment t.subtx step.old.pages) (moment step.after.subtx step.new.pages) o goes.next)
+      → AreOwnSteps basis step.after (view_in step.after step.new) more → BeginsSplits basis t step more
+  splitting s own =
+      let seen' = view_in step.after step.new in
+      let q = page_of s.walk.phase in
+      let adding = s.needs.later (λ (first : s.walk.pass ≡ pass.First). s.later (sym s.reaches.same.pass ∙ first)) in
+      let is : goes.next.walk.phase ≡ phase.Adding s.value q adding.0 true = adding.1 in
+      let stands : IsAdding (basis_at basis step) goes.next.walk seen' q adding.0 true = subst (λ (x : Phase). Stands x (basis_at basis step) goes.next.walk seen') is s.operates.stands in
+      let adds : IsToAdd goes.next s.value = subst (λ (x : Phase). FitsPhase x (basis_at basis step) goes.next seen') is s.operates.fits in
+      let l = bucket_depth seen' q in
+      let g = directory_depth seen' basis.root in
+      let deep : l ≡ stands.fields.depth = ap (λ x. (bucket_of x).depth) stands.rest.found in
+      let deeper = stands.unsplit_is refl in
+      let steps = of_splits (adding.0 - l) l g in
+      let left : steps_left basis.root goes.next seen' ≡ 0 + steps_of_splits (adding.0 - l) l g + 1 = ap (λ (x : Phase). left_at x basis.root goes.next.walk seen') is in
+      record {
+        o = o;
+        o' = goes.next;
+        pending = stage.pending;
+        still = goes.now_at;
+        splits = s;
+        l = l;
+        g = g;
+        d = adding.0;
+        plan = record {
+          value = s.value;
+          bucket = q;
+          phase = is;
+          depth = refl;
+          directory = refl;
+          deeper = omega (arith, deep, deeper);
+          most = stands.most;
+        };
+        ends = ends_within basis op more (2 + 3 * (adding.0 - l) + extra_of_splits (adding.0 - l) l g) (steps_left basis.root goes.next seen') p goes.next step.after seen'
+            (record {
+              pending = goes.now_at;
+              asked = s.request ∙ stage.asked;
+              in_pass = s.in_pass ∙ stage.in_pass;
+              left = refl;
+              told = told_at_last goes.next.walk.phase (basis_at basis step) goes.next seen' s.operates.stands s.operates.fits;
+              untold = λ some. adds.0;
+            }) s.at_bucket (omega arith) (omega (arith, steps, left)) own;
+      }
+
+-- how a pass comes to its third step, or what becomes of it there
+abbrev Third : Basis → ObjOp → Pass → ℕ → List OwnStep → Type 0
+Third basis op p n steps =
+    GoesThen n IsDoneOrBlocked (answers_of steps)
+    ⊎ (GoesUpTo n IsRefusal (answers_of steps) × (p ≡ pass.First → ⊥))
+    ⊎ (GoesToTurn basis n (BeginsSplits basis) steps × (p ≡ pass.First → ⊥))
+    ⊎ GoesToTurn basis n (FindsNoRoom basis op p) steps
+
+third_after_wait : (basis : Basis) (op : ObjOp) (p : Pass) (n page by : ℕ) (step : OwnStep) (more : List OwnStep) → step.told ≡ answer.Waiting page by → Third basis op p n more → Third basis op p n (step ∷ more)
+third_after_wait basis op p n page by step more waits (inl then) = inl (then_after_wait step more n page by IsDoneOrBlocked waits then)
+third_after_wait basis op p n page by step more waits (inr (inl (away, later))) = inr (inl (up_to_after_wait step more n page by IsRefusal waits away, later))
+third_after_wait basis op p n page by step more waits (inr (inr (inl (splits, later)))) = inr (inr (inl (turn_after_wait step more basis n page by (BeginsSplits basis) waits splits, later)))
+third_after_wait basis op p n page by step more waits (inr (inr (inr none))) = inr (inr (inr (turn_after_wait step more basis n page by (FindsNoRoom basis op p) waits none)))
+
+third_after_going : (basis : Basis) (op : ObjOp) (p : Pass) (n : ℕ) (step : OwnStep) (more : List OwnStep) → step.told ≡ answer.Going → Third basis op p n more → Third basis op p (suc n) (step ∷ more)
+third_after_going basis op p n step more goes (inl then) = inl (then_after_going step more n IsDoneOrBlocked goes then)
+third_after_going basis op p n step more goes (inr (inl (away, later))) = inr (inl (up_to_after_going step more n IsRefusal goes away, later))
+third_after_going basis op p n step more goes (inr (inr (inl (splits, later)))) = inr (inr (inl (turn_after_going step more basis n (BeginsSplits basis) goes splits, later)))
+third_after_going basis op p n step more goes (inr (inr (inr none))) = inr (inr (inr (turn_after_going step more basis n (FindsNoRoom basis op p) goes none)))
+
+-- at the step to the bucket one more answer says that it goes on
+last_of_way : (m root : ℕ) (o : OperationFields) (view : View) → steps_left root o view ≡ suc (suc m) → steps_to_bucket o.walk.phase ≡ 1 → m ≡ 0
+last_of_way m root o view left last = let two = two_left root o view last in omega (arith, left, two)
+
+to_third : (basis : Basis) (op : ObjOp) (steps : List OwnStep) (n : ℕ) (p : Pass) (o : OperationFields) (t : Transaction) (seen : View)
+    → Stage basis op (suc n) p o t seen → n ≤ 3 → AreOwnSteps basis t seen steps → Third basis op p n steps
+to_third basis op [] zero p o t seen stage few own = inl tt
+to_third basis op [] (suc m) p o t seen stage few own = inl tt
+to_third basis op (step ∷ more) zero p o t seen stage few own =
+    inl (ended_then step.told (answers_of more) (last_step basis op 1 p o t seen step stage own.0 refl own.1))
+to_third basis op (step ∷ more) (suc m) p o t seen stage few own =
+    elim (one_step basis op (suc (suc m)) p o t seen step stage own.0 (omega arith) own.1) [
+      | inl waits ↦ third_after_wait basis op p (suc m) waits.page waits.by step more waits.waiting
+          (to_third basis op more (suc m) p o step.after (view_in step.after step.new) waits.stage few own.2)
+      | inr (inr away) ↦ inr (inl (refused_in m IsRefusal (λ told is. is) step.told (answers_of more) away.refused, away.later))
+      | inr (inl goes) ↦ elim goes.tells [
+        | inl on ↦
+            let one = one_fewer_after basis (suc (suc m)) o goes.next t seen step own.0 stage.left (omega (arith, few)) on in
+            let left : steps_left basis.root goes.next (view_in step.after step.new) ≡ suc m = omega (arith, one) in
+            third_after_going basis op p m step more goes.going
+            (to_third basis op more m p goes.next step.after (view_in step.after step.new)
+            (subst (λ (n : ℕ). Stage basis op n p goes.next step.after (view_in step.after step.new)) left (on_stage basis op (suc (suc m)) p o t seen step stage own.0 goes on)) (omega (arith, few)) own.2)
+        | inr (inl splits) ↦
+            let first : m ≡ 0 = last_of_way m basis.root o seen stage.left splits.reaches.last in
+            subst (λ (n : ℕ). Third basis op p (suc n) (step ∷ more)) (sym first)
+            (inr (inr (inl (turn_here step more basis (BeginsSplits basis) t goes.going (splitting basis op (suc (suc m)) p o t seen step more stage goes splits own.2) own.2, λ is. splits.later (stage.in_pass ∙ is)))))
+        | inr (inr again) ↦
+            let first : m ≡ 0 = last_of_way m basis.root o seen stage.left again.reaches.last in
+            subst (λ (n : ℕ). Third basis op p (suc n) (step ∷ more)) (sym first)
+            (inr (inr (inr (turn_here step more basis (FindsNoRoom basis op p) t goes.going (no_room basis op (suc (suc m)) p o t seen step more stage goes again) own.2))))
+      ]
+    ]
+
+from_start : (basis : Basis) (op : ObjOp) (p : Pass) (t : Transaction) (seen : View) (steps : List OwnStep) → t.at ≡ at.Pending (started_in (Do op) p) → AreOwnSteps basis t seen steps → Third basis op p 3 steps
+from_start basis op p t seen steps pending own =
+    to_third basis op steps 3 p (started_in (Do op) p) t seen
+    (record { pending = pending; asked = refl; in_pass = refl; left = refl; told = λ (last : 4 ≡ 1). absurd (omega (arith, last)); untold = λ some. refl }) (omega arith) own
+
+-- **A first pass.**
+pub first_pass : (basis : Basis) (op : ObjOp) (t : Transaction) (seen : View) (steps : List OwnStep) → t.at ≡ at.Pending (started_in (Do op) pass.First) → AreOwnSteps basis t seen steps → TakesFirstPass basis op steps
+first_pass basis op t seen steps pending own = elim (from_start basis op pass.First t seen steps pending own) [
+  | inl then ↦ inl then
+  | inr (inl away) ↦ absurd (away.1 refl)
+  | inr (inr (inl splits)) ↦ absurd (splits.1 refl)
+  | inr (inr (inr none)) ↦ inr none
+]
+
+-- **A narrow pass.**
+pub narrow_pass : (basis : Basis) (op : ObjOp) (t : Transaction) (seen : View) (steps : List OwnStep) → t.at ≡ at.Pending (started_in (Do op) pass.Narrow) → AreOwnSteps basis t seen steps → TakesNarrowPass basis op steps
+narrow_pass basis op t seen steps pending own = elim (from_start basis op pass.Narrow t seen steps pending own) [
+  | inl then ↦ inl (inl then)
+  | inr (inl away) ↦ inl (inr (inl away.0))
+  | inr (inr (inl splits)) ↦ inl (inr (inr splits.0))
+  | inr (inr (inr none)) ↦ inr none
+]
+
+-- **A wide pass.**
+pub wide_pass : (basis : Basis) (op : ObjOp) (t : Transaction) (seen : View) (steps : List OwnStep) → t.at ≡ at.Pending (started_in (Do op) pass.Wide) → AreOwnSteps basis t seen steps → TakesLaterPass basis steps
+wide_pass basis op t seen steps pending own = elim (from_start basis op pass.Wide t seen steps pending own) [
+  | inl then ↦ inl then
+  | inr (inl away) ↦ inr (inl away.0)
+  | inr (inr (inl splits)) ↦ inr (inr splits.0)
+  | inr (inr (inr none)) ↦ absurd none.turns.follows
+]

@@ -1,0 +1,3 @@
+pub mod OwnSteps
+pub mod Extra
+pub mod Counts

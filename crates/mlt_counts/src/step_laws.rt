@@ -1,0 +1,45 @@
+//! Laws of the steps of one transaction. Between two of them others may do anything that leaves what it sees of the pages
+//! that it holds.
+
+ghost use Rattle.std.specs.Prelude.{◌≡◌, List};
+ghost use Rattle.mlt_kinds.specs.declared.operation.ObjOp.{ObjOp};
+ghost use Rattle.mlt_kinds.specs.declared.operation.ObjReply.{ObjReply};
+ghost use Rattle.mlt_held.specs.Views.{View};
+ghost use Rattle.mlt_hash.specs.Walks.{Basis};
+ghost use Rattle.mlt_hash.specs.declared.pass.Pass.TheVariants.{First, Narrow, Wide};
+ghost use Rattle.mlt_operation.specs.declared.request.Request.TheVariants.{Do};
+ghost use Rattle.mlt_transaction.specs.declared.transaction.At.TheVariants as at;
+ghost use Rattle.mlt_transaction.specs.declared.transaction.Transaction.{Transaction};
+ghost use Rattle.mlt_counts.specs.Counts.{IsToTakeBack, TakesBackInFour, TakesFirstPass, TakesLaterPass, TakesNarrowPass, started_in};
+ghost use Rattle.mlt_counts.specs.OwnSteps.{AreOwnSteps, OwnStep};
+
+/// From a call, or from a Blocked, an operation is told Done or Blocked at its fourth step, and Going at the three before it;
+/// but for an addition that finds no room, which is told Going at its third step too and begins another pass.
+pub fn first_passes_take_four_steps()
+    ensures { (basis : Basis) (op : ObjOp) (t : Transaction) (seen : View) (steps : List OwnStep)
+        → t.at ≡ at.Pending (started_in (Do op) First)
+        → AreOwnSteps basis t seen steps → TakesFirstPass basis op steps }
+{}
+
+/// A narrow pass is told so too; or it is refused earlier; or it is given up at its third step, told Going, for a wide one; or it
+/// splits its bucket, k times at most, and is told Done or Blocked within 5 + 3 * k + c steps, or refused earlier.
+pub fn narrow_passes_take_few_steps()
+    ensures { (basis : Basis) (op : ObjOp) (t : Transaction) (seen : View) (steps : List OwnStep)
+        → t.at ≡ at.Pending (started_in (Do op) Narrow)
+        → AreOwnSteps basis t seen steps → TakesNarrowPass basis op steps }
+{}
+
+/// So is a wide pass, which is never given up.
+pub fn wide_passes_take_few_steps()
+    ensures { (basis : Basis) (op : ObjOp) (t : Transaction) (seen : View) (steps : List OwnStep)
+        → t.at ≡ at.Pending (started_in (Do op) Wide)
+        → AreOwnSteps basis t seen steps → TakesLaterPass basis steps }
+{}
+
+/// An operation is taken back at the fourth step of its inverse, told Going at the three before it; and at the first step,
+/// where it has none.
+pub fn inverses_take_four_steps_or_one()
+    ensures { (basis : Basis) (t : Transaction) (last : ObjOp × ObjReply) (seen : View)
+        (steps : List OwnStep)
+        → IsToTakeBack t last → AreOwnSteps basis t seen steps → TakesBackInFour last steps }
+{}

@@ -1,0 +1,84 @@
+-- What the steps of one transaction are told in a run of a manager
+use Rattle.std.specs.Prelude.{ℕ, ◌≡◌, ◌≢◌, nat_eq, List, [], ◌∷◌, Some, if◌then◌else◌}
+use Rattle.std.specs.FinMap as map
+use Rattle.mlt_types.specs.declared.limits.Limits.{Limits}
+use Rattle.mlt_kinds.specs.declared.operation.ObjOp.{ObjOp}
+use Rattle.mlt_held.specs.Views.{View}
+use Rattle.mlt_hash.specs.Walks.{Basis, basis_by}
+use Rattle.mlt_event.specs.declared.answer.Answer.{Answer}
+use Rattle.mlt_event.specs.declared.answer.Answer.TheVariants as answer
+use Rattle.mlt_event.specs.declared.event.Event.{Event}
+use Rattle.mlt_event.specs.declared.event.Event.TheVariants as event
+use Rattle.mlt_event.specs.declared.told.Told.{Told}
+use Rattle.mlt_event.specs.declared.told.Told.TheVariants as told
+use Rattle.mlt_transaction.specs.declared.transaction.Transaction.{Transaction}
+use Rattle.mlt_counts.specs.Counts.{TakesFirstPass}
+use Rattle.mlt_counts.specs.OwnSteps.{AreOwnSteps, OwnStep, answers_of, view_in, with_answer}
+use Rattle.mlt_manager.specs.Events.{IsRun}
+use Rattle.mlt_manager.specs.Managers.{ManagerFields}
+use Rattle.mlt_manager.specs.Openings.{IsNew}
+
+-- The event is a step of this transaction, or one of another, or one begins.
+abbrev pub IsStepOrAnothers : ℕ → Event → Type 0
+IsStepOrAnothers tx event.Begin = Unit {0}
+IsStepOrAnothers tx (event.Step other) = Unit {0}
+IsStepOrAnothers tx (event.Call other op) = tx ≢ other
+IsStepOrAnothers tx (event.Cancel other) = tx ≢ other
+IsStepOrAnothers tx (event.Commit other) = tx ≢ other
+IsStepOrAnothers tx (event.Abort other) = tx ≢ other
+IsStepOrAnothers tx (event.Whole other op) = tx ≢ other
+IsStepOrAnothers tx (event.WholeUndo other) = tx ≢ other
+
+-- this transaction takes steps, and nothing else is asked of it
+abbrev pub OnlySteps : ℕ → List Event → Type 0
+OnlySteps tx [] = Unit {0}
+OnlySteps tx (event ∷ events) = IsStepOrAnothers tx event × OnlySteps tx events
+
+-- an answer before these, unless it says to wait, and none behind the last of an abort
+abbrev pub up_to_end : Answer → List Answer → List Answer
+up_to_end answer.Aborted more = answer.Aborted ∷ []
+up_to_end told more = with_answer told more
+
+-- what an event tells a step of this transaction, before what is told later
+abbrev pub with_told : ℕ → Event → Told → List Answer → List Answer
+with_told tx (event.Step other) (told.Answered answer) more =
+    if nat_eq tx other then up_to_end answer more else more
+with_told tx event told more = more
+
+-- What the steps of this transaction are told in a run, in order up to the end of its abort, those aside that wait.
+abbrev pub answers_to : ℕ → List Event → List Told → List Answer
+answers_to tx [] tolds = []
+answers_to tx (event ∷ events) [] = []
+answers_to tx (event ∷ events) (told ∷ tolds) =
+    with_told tx event told (answers_to tx events tolds)
+
+-- a manager to which events lead from a new one
+pub record IsReached {P : Type 0} (bits_of : P → ℕ → ℕ) (m : ManagerFields P) : Type 0 where
+  pub limits : Limits
+  pub pseudo : P
+  pub opening : ManagerFields P
+  pub opens : IsNew opening limits pseudo
+  pub events : List Event
+  pub tolds : List Told
+  pub run : IsRun bits_of opening events tolds m
+
+-- The steps of a transaction in a run are steps of its own, between which others leave what it sees.
+pub record HasOwnSteps (basis : Basis) (t : Transaction) (seen : View) (tx : ℕ)
+    (events : List Event) (tolds : List Told) : Type 0 where
+  pub steps : List OwnStep
+  pub own : AreOwnSteps basis t seen steps
+  pub answers : answers_of steps ≡ answers_to tx events tolds
+
+-- They are, and of these steps this is so.
+abbrev pub TakesOwnSteps : Basis → Transaction → View → ℕ → List Event → List Told
+    → (List OwnStep → Type 0) → Type 0
+TakesOwnSteps basis t seen tx events tolds Takes =
+    (has : HasOwnSteps basis t seen tx events tolds) × Takes has.steps
+
+-- The transaction of this number is open, and its steps are those of a first pass of this operation.
+pub record TakesPassInRun {P : Type 0} (bits_of : P → ℕ → ℕ) (m : ManagerFields P) (tx : ℕ)
+    (op : ObjOp) (events : List Event) (tolds : List Told) : Type 0 where
+  pub t : Transaction
+  pub there : map.get m.txs tx ≡ Some t
+  pub takes : TakesOwnSteps (basis_by bits_of m.root m.opens tx) t (view_in t m.commons) tx
+      events tolds (TakesFirstPass (basis_by bits_of m.root m.opens tx) op)
