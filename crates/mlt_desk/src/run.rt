@@ -66,6 +66,24 @@ fn close<D: Desk>(desk: &mut D, tx: TxId, ended: Result<Ending, Refusal>) -> End
     }
 }
 
+/// Runs a script in a transaction of its own; what was done is added to the list. It answers the transaction's number, 0
+/// where none began, and how the script ended.
+fn run_transaction<D: Desk>(desk: &mut D, script: &Script, done: &mut Vec<Done>) -> (u64, End)
+    requires empty { done.old.items ≡ [] }
+    ensures ended { HasEnded script.now done.new.items result.1 }
+    ensures run { IsRunAt D.begins D.answers D.commits D.aborts
+        desk.old result.0 done.new.items result.1 desk.new }
+{
+    match desk.begin() {
+        Ok(tx) => {
+            let ended = play(desk, tx, script, done);
+            let end = close(desk, tx, ended);
+            (tx.0, end)
+        }
+        Err(refusal) => (0, End::Refused(refusal)),
+    }
+}
+
 /// Runs a script, which has this number within its client, in a transaction of its own. It always ends, and has an
 /// outcome: what it was told is what the desk answered.
 pub fn run_script<D: Desk>(alloc: Global, desk: &mut D, script: &Script, number: u64) -> Outcome
@@ -76,13 +94,7 @@ pub fn run_script<D: Desk>(alloc: Global, desk: &mut D, script: &Script, number:
         desk.old result.tx result.done result.end desk.new }
 {
     let mut done = Vec::new(alloc);
-    let (tx, end) = match desk.begin() {
-        Ok(tx) => {
-            let ended = play(desk, tx, script, &mut done);
-            (tx.0, close(desk, tx, ended))
-        }
-        Err(refusal) => (0, End::Refused(refusal)),
-    };
+    let (tx, end) = run_transaction(desk, script, &mut done);
     Outcome {
         client: u32::from(script.client()),
         number,
