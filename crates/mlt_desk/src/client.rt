@@ -22,7 +22,8 @@ pub fn run_client<D: Desk>(
 ) -> Result<Vec<Outcome>, Refusal>
     ensures outcomes { IfOk result (λ outcomes. AreOutcomes 0 scripts.now outcomes.items) }
     ensures runs { IfOk result (λ outcomes.
-        AreRunsAt D.begins D.answers D.commits D.aborts desk.old outcomes.items desk.new) }
+        AreRunsAt D.begins D.answers D.commits D.aborts scripts.now
+        desk.old outcomes.items desk.new) }
     ensures refusal { IfErr result (λ refusal. refusal ≡ Refusal.OutOfMemory) }
     ensures unasked { OnErr result (desk.new ≡ desk.old) }
 {

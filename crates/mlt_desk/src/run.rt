@@ -2,7 +2,7 @@
 
 ghost use Rattle.std.specs.Prelude.{◌≡◌, [], IfErr, IfOk};
 ghost use Rattle.mlt_cursor.specs.Follows.{Follows};
-ghost use Rattle.mlt_desk.specs.Runs.{ClosesAs, Gives, HasEnded, IsRunAt, StopsAt};
+ghost use Rattle.mlt_desk.specs.Runs.{ClosesAs, Gives, HasEndedAs, IsRunAt, StopsAt};
 
 use crate::desk::Desk;
 use mlt_cursor::{Cursor, Next};
@@ -70,8 +70,8 @@ fn close<D: Desk>(desk: &mut D, tx: TxId, ended: Result<Ending, Refusal>) -> End
 /// where none began, and how the script ended.
 fn run_transaction<D: Desk>(desk: &mut D, script: &Script, done: &mut Vec<Done>) -> (u64, End)
     requires empty { done.old.items ≡ [] }
-    ensures ended { HasEnded script.now done.new.items result.1 }
-    ensures run { IsRunAt D.begins D.answers D.commits D.aborts
+    ensures ended { HasEndedAs script.now done.new.items result.1 }
+    ensures run { IsRunAt D.begins D.answers D.commits D.aborts script.now
         desk.old result.0 done.new.items result.1 desk.new }
 {
     match desk.begin() {
@@ -89,8 +89,8 @@ fn run_transaction<D: Desk>(desk: &mut D, script: &Script, done: &mut Vec<Done>)
 pub fn run_script<D: Desk>(alloc: Global, desk: &mut D, script: &Script, number: u64) -> Outcome
     ensures client { result.client ≡ script.now.client }
     ensures number { result.number ≡ number }
-    ensures ended { HasEnded script.now result.done result.end }
-    ensures run { IsRunAt D.begins D.answers D.commits D.aborts
+    ensures ended { HasEndedAs script.now result.done result.end }
+    ensures run { IsRunAt D.begins D.answers D.commits D.aborts script.now
         desk.old result.tx result.done result.end desk.new }
 {
     let mut done = Vec::new(alloc);
