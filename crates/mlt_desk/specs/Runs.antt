@@ -56,10 +56,10 @@ module _ {D : Type 0} where
     pub stopped : IsStopped answers left tx middle refusal e
 
   -- the script comes to its end, or is stopped by a refusal
-  abbrev pub Plays : OnOperation D → ScriptForm → ℕ → D → Transcript → Result Ending Refusal → D
+  abbrev pub PlaysAt : OnOperation D → ScriptForm → ℕ → D → Transcript → Result Ending Refusal → D
       → Type 0
-  Plays answers s tx d t (Ok ending) e = Follows s t ending × Gives answers tx d t e
-  Plays answers s tx d t (Err refusal) e = StopsAt answers s tx d t refusal e
+  PlaysAt answers s tx d t (Ok ending) e = Follows s t ending × Gives answers tx d t e
+  PlaysAt answers s tx d t (Err refusal) e = StopsAt answers s tx d t refusal e
 
   -- how a transaction is closed, by how its script ended
   abbrev pub ClosesAs : OnCommit D → OnAbort D → ℕ → Result Ending Refusal → D → End → D → Type 0
@@ -88,7 +88,7 @@ module _ {D : Type 0} where
     pub after_script : D
     pub ended : Result Ending Refusal
     pub begun : begins d (Ok tx) after_begin
-    pub plays : Plays answers s tx after_begin t ended after_script
+    pub plays : PlaysAt answers s tx after_begin t ended after_script
     pub closes : ClosesAs commits aborts tx ended after_script end e
 
   -- the transaction of a script, from its begin to its end
