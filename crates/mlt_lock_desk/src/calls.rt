@@ -1,0 +1,233 @@
+//! The calls of a desk over a shared manager.
+
+ghost use Rattle.std.specs.Prelude.{◌≡◌, ◌+◌, ◌-◌, ◌^◌, min, IfErr};
+ghost use Rattle.mlt_lock_desk.specs.Holds.{IsToldTo};
+ghost use Rattle.mlt_lock_desk.specs.Refusals.{IsOfOperation};
+
+use crate::gate::Gate;
+use crate::lock_desk::{LockDesk, Tries};
+use crate::queue::{Awaited, Turn};
+use crate::shared::Shared;
+use mlt_desk::Desk;
+use mlt_event::{Answer, Event, Told};
+use mlt_kinds::{ObjOp, ObjReply};
+use mlt_types::{Pseudo, Refusal, TxId};
+use std::sync::Wait;
+use std::sync::ledger::{Ledger, Share};
+
+impl<'a, P: Pseudo, L: Ledger, R: Wait, G: Gate> LockDesk<'a, P, L, R, G> {
+    /// A desk that has made no event yet.
+    pub fn new(
+        rt: &'a R,
+        shared: &'a Shared<P, L>,
+        gate: &'a G,
+        share: Share<L>,
+        tries: Tries,
+    ) -> LockDesk<'a, P, L, R, G>
+        requires part { share.parts ≡ 1 }
+        requires amount { share.amount ≡ 0 }
+    {
+        shared.hall.lock(rt).desks.enter();
+        LockDesk {
+            rt,
+            shared,
+            gate,
+            client: 0,
+            tries,
+            left: 0,
+            objects: 0,
+            pages: 0,
+            share,
+            events: 0,
+        }
+    }
+
+    /// From now on it is at work for this client.
+    pub fn serve(&mut self, client: u32) {
+        self.client = client;
+    }
+
+    /// Ends the desk, and gives its share and the number of its events.
+    pub fn close(self) -> (Share<L>, u64)
+        ensures part { result.0.parts ≡ 1 }
+        ensures counted { result.1 ≡ min result.0.amount (2 ^ 64 - 1) }
+    {
+        let LockDesk {
+            rt,
+            shared,
+            gate: _,
+            client: _,
+            tries: _,
+            left: _,
+            objects: _,
+            pages: _,
+            share,
+            events,
+        } = self;
+        let wakes = shared.hall.lock(rt).desks.leave();
+        if wakes {
+            shared.moved.notify_all();
+        }
+        (share, events)
+    }
+
+    /// One event, in one hold of the lock, which counts in the share.
+    fn event(&mut self, event: Event) -> Told
+        ensures told { IsToldTo P.bits_of event result }
+        ensures one { self.new.share.amount ≡ self.old.share.amount + 1 }
+    {
+        let LockDesk {
+            rt,
+            shared,
+            objects,
+            pages,
+            share,
+            events,
+            ..
+        } = self;
+        let mut hall = shared.hall.lock(*rt);
+        let (told, wakes) = hall.act(event, share);
+        *objects = hall.desks.version(Awaited::Objects);
+        *pages = hall.desks.version(Awaited::Pages);
+        drop(hall);
+        *events = events.saturating_add(1);
+        if wakes {
+            shared.moved.notify_all();
+        }
+        told
+    }
+
+    /// One event, in one hold of the lock. The gate is told its answer, with the lock free.
+    fn hold(&mut self, event: Event) -> Told
+        ensures told { IsToldTo P.bits_of event result }
+        ensures one { self.new.share.amount ≡ self.old.share.amount + 1 }
+    {
+        let told = self.event(event);
+        self.gate.pause(self.client, &told);
+        told
+    }
+
+    /// Waits until another desk has given such locks back or ended, unless all other desks wait.
+    fn wait(&self, awaited: Awaited) {
+        let seen = match awaited {
+            Awaited::Objects => self.objects,
+            Awaited::Pages => self.pages,
+        };
+        let mut hall = self.shared.hall.lock(self.rt);
+        match hall.desks.begin_wait(awaited, seen) {
+            Turn::Sleeps => {
+                self.shared
+                    .moved
+                    .wait_while(self.rt, hall, |hall| hall.desks.version(awaited) == seen);
+            }
+            Turn::Wakes => {
+                drop(hall);
+                self.shared.moved.notify_all();
+            }
+            Turn::Tries => (),
+        }
+    }
+
+    /// Spends a try. If others are left it waits; else the operation is cancelled, and the answer is `false`.
+    fn tries_again(&mut self, tx: TxId, awaited: Awaited) -> bool {
+        self.left = self.left.saturating_sub(1);
+        if self.left == 0 {
+            self.hold(Event::Cancel(tx));
+            return false;
+        }
+        self.wait(awaited);
+        true
+    }
+
+    /// Steps of an operation that was called, up to its reply. An answer that comes only where another desk acts for the
+    /// same transaction is answered by `NoSuchTx`.
+    fn steps(&mut self, tx: TxId) -> Result<ObjReply, Refusal>
+        ensures { IfErr result IsOfOperation }
+    {
+        let rt = self.rt;
+        for _ in rt.forever() {
+            let told = self.hold(Event::Step(tx));
+            match told {
+                Told::Answered(Answer::Going) => (),
+                Told::Answered(Answer::Done(reply)) => return Ok(reply),
+                Told::Answered(Answer::Refused(refusal)) => return Err(refusal),
+                Told::Answered(Answer::Waiting { .. }) => {
+                    if !self.tries_again(tx, Awaited::Pages) {
+                        return Err(Refusal::GaveUp);
+                    }
+                }
+                Told::Answered(Answer::Blocked { .. }) => {
+                    if !self.tries_again(tx, Awaited::Objects) {
+                        return Err(Refusal::GaveUp);
+                    }
+                }
+                _ => return Err(Refusal::NoSuchTx),
+            }
+        }
+        unreachable!()
+    }
+
+    /// Steps of an abort, up to its end. They spend no tries.
+    fn undo(&mut self, tx: TxId) {
+        let rt = self.rt;
+        for _ in rt.forever() {
+            match self.hold(Event::Step(tx)) {
+                Told::Answered(Answer::Going | Answer::Undone) => (),
+                Told::Answered(Answer::Waiting { .. }) => self.wait(Awaited::Pages),
+                _ => return,
+            }
+        }
+    }
+}
+
+impl<'a, P: Pseudo, L: Ledger, R: Wait, G: Gate> Desk for LockDesk<'a, P, L, R, G> {
+    ghost use Rattle.std.specs.Prelude.{IfErr};
+    ghost use Rattle.mlt_lock_desk.specs.Refusals.{IsOfBegin, IsOfCommit, IsOfOperation};
+
+    ghost begins = { λ _ answer _. IfErr answer IsOfBegin };
+
+    ghost answers = { λ _ _ _ answer _. IfErr answer IsOfOperation };
+
+    ghost commits = { λ _ _ answer _. IfErr answer IsOfCommit };
+
+    ghost aborts = { λ _ _ _. Unit {0} };
+
+    fn begin(&mut self) -> Result<TxId, Refusal> {
+        if let Tries::PerScript(tries) = self.tries {
+            self.left = tries;
+        }
+        let told = self.hold(Event::Begin);
+        match told {
+            Told::Begun(tx) => Ok(tx),
+            Told::Refused(refusal) => Err(refusal),
+            _ => unreachable!(),
+        }
+    }
+
+    fn operation(&mut self, tx: TxId, op: ObjOp) -> Result<ObjReply, Refusal> {
+        if let Tries::PerOperation(tries) = self.tries {
+            self.left = tries;
+        }
+        let told = self.hold(Event::Call(tx, op));
+        match told {
+            Told::Called => self.steps(tx),
+            Told::Refused(refusal) => Err(refusal),
+            _ => unreachable!(),
+        }
+    }
+
+    fn commit(&mut self, tx: TxId) -> Result<u64, Refusal> {
+        let told = self.hold(Event::Commit(tx));
+        match told {
+            Told::Committed(number) => Ok(number),
+            Told::Refused(refusal) => Err(refusal),
+            _ => unreachable!(),
+        }
+    }
+
+    fn abort(&mut self, tx: TxId) {
+        if let Told::Aborting(false) = self.hold(Event::Abort(tx)) {
+            self.undo(tx);
+        }
+    }
+}

@@ -1,0 +1,107 @@
+//! The desks of a hall, and which of them wait.
+
+ghost use Rattle.std.specs.Prelude.{◌≡◌, ◌+◌, ◌-◌, ◌≤◌};
+
+use crate::queue::{Awaited, Queue, Turn};
+use mlt_event::{Answer, Told};
+
+/// How many desks there are, and how many of them wait. Not all wait.
+#[derive(Clone, Copy, Debug)]
+pub(crate) struct Desks {
+    count: u64,
+    objects: Queue,
+    pages: Queue,
+    ghost awake: { objects.waiting + pages.waiting ≤ count - 1 },
+}
+
+/// Whose locks an event may have given back.
+enum GivenBack {
+    Nothing,
+    Pages,
+    All,
+}
+
+fn given_back(told: &Told) -> GivenBack {
+    match told {
+        Told::Committed(_) | Told::Aborting(true) | Told::Answered(Answer::Aborted) => {
+            GivenBack::All
+        }
+        Told::Cancelled
+        | Told::Answered(Answer::Done(_))
+        | Told::Answered(Answer::Blocked { .. })
+        | Told::Answered(Answer::Undone)
+        | Told::Answered(Answer::Refused(_)) => GivenBack::Pages,
+        _ => GivenBack::Nothing,
+    }
+}
+
+impl Desks {
+    /// No desk.
+    pub(crate) fn new() -> Desks {
+        Desks {
+            count: 0,
+            objects: Queue::new(),
+            pages: Queue::new(),
+        }
+    }
+
+    /// A desk comes.
+    pub(crate) fn enter(&mut self) {
+        self.count = self.count.saturating_add(1);
+    }
+
+    /// A desk ends. It answers whether desks are to be woken.
+    pub(crate) fn leave(&mut self) -> bool {
+        let wakes = self.release_all();
+        self.count = self.count.saturating_sub(1);
+        wakes
+    }
+
+    /// An event was told this: those who wait for what it gave back are awake. It answers whether there are some to wake.
+    pub(crate) fn give_back(&mut self, told: &Told) -> bool {
+        match given_back(told) {
+            GivenBack::All => self.release_all(),
+            GivenBack::Pages => self.pages.release(),
+            GivenBack::Nothing => false,
+        }
+    }
+
+    fn release_all(&mut self) -> bool
+        ensures objects { self.new.objects.waiting ≡ 0 }
+        ensures pages { self.new.pages.waiting ≡ 0 }
+        ensures count { self.new.count ≡ self.old.count }
+    {
+        let objects = self.objects.release();
+        let pages = self.pages.release();
+        objects || pages
+    }
+
+    /// Which changes whenever such locks may have been given back.
+    pub(crate) fn version(&self, awaited: Awaited) -> u64 {
+        match awaited {
+            Awaited::Objects => self.objects.version,
+            Awaited::Pages => self.pages.version,
+        }
+    }
+
+    /// What a desk does that would wait, and made its last event at this version. If locks were given back since, it tries
+    /// at once. So does the last desk that is awake; and where it wants a page, it wakes those that do too: a pass that is to
+    /// start anew gives its pages back as well, and is told to go on. Any other desk sleeps, and is counted.
+    pub(crate) fn begin_wait(&mut self, awaited: Awaited, seen: u64) -> Turn {
+        if self.version(awaited) != seen {
+            return Turn::Tries;
+        }
+        let waiting = self.objects.waiting.saturating_add(self.pages.waiting);
+        if waiting.saturating_add(1) < self.count {
+            match awaited {
+                Awaited::Objects => self.objects.waiting += 1,
+                Awaited::Pages => self.pages.waiting += 1,
+            }
+            return Turn::Sleeps;
+        }
+        if awaited == Awaited::Pages && self.pages.release() {
+            return Turn::Wakes;
+        }
+        Turn::Tries
+    }
+}

@@ -1,0 +1,16 @@
+//! Desks over one manager that threads share under a lock.
+#![tactic(auto)]
+
+mod calls;
+mod desks;
+mod gate;
+mod hall;
+mod holds;
+mod lock_desk;
+mod queue;
+mod shared;
+
+pub use gate::{Gate, NoGate};
+pub use hall::Hall;
+pub use lock_desk::{LockDesk, Tries};
+pub use shared::Shared;
