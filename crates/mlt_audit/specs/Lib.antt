@@ -1,0 +1,2 @@
+pub mod Receipts
+pub mod Agreement
