@@ -1,1 +1,4 @@
 pub mod Loops
+pub mod Placed
+pub mod Walking
+pub mod Begins

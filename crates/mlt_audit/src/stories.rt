@@ -1,6 +1,6 @@
 //! Whether a receipt tells what a history has of its transaction.
 
-ghost use Rattle.std.specs.Prelude.{◌≡◌, ◌≤◌, ◌<◌, ◌↔◌, IsTrue, IfSome, Contains, Some, slice_get, length, take, drop, All};
+ghost use Rattle.std.specs.Prelude.{◌≡◌, ◌≤◌, ◌<◌, ◌↔◌, IsTrue, IfSome, Contains, Some, slice_get, slice_index_or, length, take, drop, All};
 ghost use Rattle.mlt_check.specs.Traces.{ArePlaced};
 ghost use Rattle.mlt_history.specs.Numbers.{begun_txs};
 ghost use Rattle.mlt_audit.specs.Receipts.{Closing, IsClosedSo, IsOfHistory, IsRefusedEmpty, IsWithoutTx, closing_by};
@@ -30,11 +30,18 @@ fn is_no_commit(end: End) -> bool
     }
 }
 
+fn is_same(one: &Done, other: &Done) -> bool
+    ensures { IsTrue result ↔ (one.now ≡ other.now) }
+{
+    one.op() == other.op() && one.reply() == other.reply()
+}
+
 /// Whether what was done stands at this place of the list.
 fn stands_at(done: &[Done], place: usize, one: &Done) -> bool
-    ensures { IsTrue result ↔ (slice_get done.now place ≡ Some one.now) }
+    ensures { IsTrue result
+        ↔ ((place < length done.now) × (slice_index_or done.now place one.now ≡ one.now)) }
 {
-    place < done.len() && done[place] == *one
+    place < done.len() && is_same(&done[place], one)
 }
 
 /// Whether the items from this place on have these operations of the transaction, and it is closed there as
@@ -47,25 +54,26 @@ fn is_closed_so(history: &[TraceItem], from: usize, tx: u64, done: &[Done], end:
     let mut count = 0;
     for i in from..history.len() {
         match &history[i] {
-            TraceItem::Op(TxId(own), one) => {
-                if *own == tx {
+            TraceItem::Op(own, one) => {
+                if own.0 == tx {
                     if !stands_at(done, count, one) {
                         return false;
                     }
                     count += 1;
                 }
             }
-            TraceItem::Commit(TxId(own), number) => {
-                if *own == tx {
+            TraceItem::Commit(own, number) => {
+                if own.0 == tx {
                     return count == done.len() && is_commit_of(end, *number);
                 }
             }
-            TraceItem::Abort(TxId(own)) => {
-                if *own == tx {
+            TraceItem::Abort(own) => {
+                if own.0 == tx {
                     return count == done.len() && is_no_commit(end);
                 }
             }
-            _ => (),
+            TraceItem::Begin(_) => (),
+            TraceItem::Back(_) => (),
         }
     }
     false
