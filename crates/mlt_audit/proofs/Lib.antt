@@ -2,3 +2,4 @@ pub mod Loops
 pub mod Placed
 pub mod Walking
 pub mod Begins
+pub mod Marks
