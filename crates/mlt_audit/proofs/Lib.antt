@@ -3,3 +3,4 @@ pub mod Placed
 pub mod Walking
 pub mod Begins
 pub mod Marks
+pub mod Counts
