@@ -4,3 +4,4 @@ pub mod Walking
 pub mod Begins
 pub mod Marks
 pub mod Counts
+pub mod CommitOrder

@@ -1,7 +1,7 @@
 use Rattle.std.proofs.Common.{All, arith, refl}
 use Rattle.mlt_audit.specs.Receipts.{RisesTo}
 use Rattle.mlt_audit.proofs.Loops.{at_end, one_more}
-use Rattle.mlt_audit.proofs.rising.commits_rise.Goals as goal
+use Rattle.mlt_audit.proofs.rising.pairs_rise.Goals as goal
 
 pub loop-one-preserved : goal.loop-one-preserved
 loop-one-preserved c =
