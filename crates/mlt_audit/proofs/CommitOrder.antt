@@ -104,15 +104,22 @@ module _ (receipts : List Outcome) (order : AreInOrder receipts) (last i : ℕ) 
     top_more j a one top at_one at_top within is_a =
         let is : here ≡ top = one_at receipts i here top at_here at_top in
         let top_end : top.end ≡ Committed m = ap (λ (o : Outcome). o.end) (sym is) ∙ is_m in
-        let top_client : here.client ≡ top.client = ap (λ (o : Outcome). o.client) is in
-        (omega (arith, within), omega arith, (m, top_end, λ same. elim (cases_lt j i) [
-          | inl low ↦ let less = below_here j a m one at_one low is_a is_m next (omega (arith, same, top_client)) in omega (arith, less)
-          | inr high ↦
-              let place : j ≡ i = omega (arith, high, within) in
-              let own : one ≡ here = one_at receipts i one here (ap (slice_get receipts) (sym place) ∙ at_one) at_here in
-              let equal : a ≡ m = one_number a m (sym is_a ∙ ap (λ (o : Outcome). o.end) own ∙ is_m) in
-              omega (arith, equal)
-        ]))
+        let top_client : here.client ≡ top.client = ap (λ (o : Outcome). o.client) is in (
+          omega (arith, within),
+          omega arith,
+          (
+            m,
+            top_end,
+            λ same. elim (cases_lt j i) [
+              | inl low ↦ let less = below_here j a m one at_one low is_a is_m next (omega (arith, same, top_client)) in omega (arith, less)
+              | inr high ↦
+                  let place : j ≡ i = omega (arith, high, within) in
+                  let own : one ≡ here = one_at receipts i one here (ap (slice_get receipts) (sym place) ∙ at_one) at_here in
+                  let equal : a ≡ m = one_number a m (sym is_a ∙ ap (λ (o : Outcome). o.end) own ∙ is_m) in
+                  omega (arith, equal)
+            ],
+          ),
+        )
 
     pub rise_by_commit : RiseBelow receipts i (i + 1)
     rise_by_commit = record { rising = rising_more; top = top_more }
@@ -151,11 +158,11 @@ rise_all receipts last i order past rise j d within k e below =
           let equal : one.number ≡ other.number = ap (λ (o : Outcome). o.number) is in
           absurd (omega (arith, smaller, equal))
       | inr apart ↦ elim apart [
-          | inl before ↦ rise.rising j k one other at_one at_other before (omega (arith, below, past))
-          | inr behind ↦ λ m n is_m is_n client smaller.
-              let larger = scripts_rise other one (sym client) (order k j other one at_other at_one behind) in
-              absurd (omega (arith, larger, smaller))
-        ]
+        | inl before ↦ rise.rising j k one other at_one at_other before (omega (arith, below, past))
+        | inr behind ↦ λ m n is_m is_n client smaller.
+            let larger = scripts_rise other one (sym client) (order k j other one at_other at_one behind) in
+            absurd (omega (arith, larger, smaller))
+      ]
     ]
 
 pub pair_rises : (receipts : List Outcome) (j k : ℕ) (one other : Outcome) → IsAt receipts j one → IsAt receipts k other → CommitsRise receipts → RisesTo one other

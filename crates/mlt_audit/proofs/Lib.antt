@@ -5,3 +5,4 @@ pub mod Begins
 pub mod Marks
 pub mod Counts
 pub mod CommitOrder
+pub mod CommittedList

@@ -78,11 +78,11 @@ nothing_behind (item ∷ later) items all tx e placed begun ended = elim (cases_
   | inl own ↦ absurd (no_place items tx begun ended item own (placed items later item e))
   | inr apart ↦
       let rest = nothing_behind later (items ++ item ∷ []) all tx (e ∙ sym (append_assoc items (item ∷ []) later)) placed
-          (begun_stays items item tx begun) (stage-other items item tx apart ∙ ended) in
+      (begun_stays items item tx begun) (stage-other items item tx apart ∙ ended) in
       record { ops = ops_other tx item later apart ∙ rest.ops; closed = closings_other tx item later apart ∙ rest.closed }
 ]
 
-stage_at : (items : List TraceItem) (item : TraceItem) (tx : ℕ) (stage : Stage) → (after_entry (told items) (entry_of item)).stage tx ≡ stage
+pub stage_at : (items : List TraceItem) (item : TraceItem) (tx : ℕ) (stage : Stage) → (after_entry (told items) (entry_of item)).stage tx ≡ stage
     → (told (items ++ item ∷ [])).stage tx ≡ stage
 stage_at items item tx stage h = ap (λ (l : Lists (ObjOp × ObjReply)). l.stage tx) (told-push items item) ∙ h
 
@@ -132,9 +132,9 @@ module _ (all rest : List TraceItem) (tx : ℕ) (placed : ArePlaced all) (none :
       elim (cases_eq tx (number_in item)) [
         | inl own ↦ stands_apart items front item e (placed items front item e) own skips
         | inr apart ↦ record {
-            ops = ops_other tx item (front ++ rest) apart ∙ skips.ops;
-            closed = closings_other tx item (front ++ rest) apart ∙ skips.closed;
-          }
+          ops = ops_other tx item (front ++ rest) apart ∙ skips.ops;
+          closed = closings_other tx item (front ++ rest) apart ∙ skips.closed;
+        }
       ]
 
   pub skips_unbegun : Skips tx all rest

@@ -2,8 +2,10 @@
 #![tactic(auto)]
 
 mod auditing;
+mod laws;
 mod numbers;
 mod rising;
 mod stories;
 
 pub use auditing::audit;
+pub use laws::committed_receipts_are_the_committed_list;

@@ -13,11 +13,10 @@ loop-receipt-init c = record {
 pub returns-then-marks-place : goal.returns-then-marks-place
 returns-then-marks-place c =
     let l = c.loop-receipt in
-    let o = c.receipt-item.result in
-    (
+    let o = c.receipt-item.result in (
       λ no. absurd (cc no),
       λ once. absurd (marked_twice c.args.receipts.now l.receipt-index o c.loop-receipt-test.true c.receipt-item.is l.marks c.args.below c.args.upto l.invariant.marked c.if-below-receipt.true c.if-receipt-upto.true
-      c.if-marks-place.true (once o.tx c.if-below-receipt.true c.if-receipt-upto.true)),
+          c.if-marks-place.true (once o.tx c.if-below-receipt.true c.if-receipt-upto.true)),
     )
 
 pub loop-receipt-preserved : goal.loop-receipt-preserved
@@ -26,18 +25,18 @@ loop-receipt-preserved c =
     let o = c.receipt-item.result in
     elim c.if-below-receipt.branch [
       | then-below-receipt+then-receipt-upto+else-marks-place w ↦ record {
-          long = ap length w.marks-is ∙ length-set l.marks _ true ∙ l.invariant.long;
-          marked = rw w.marks-is (marks_one c.args.receipts.now l.receipt-index o c.loop-receipt-test.true c.receipt-item.is l.marks c.args.below c.args.upto l.invariant.marked w.if-below-receipt.true w.if-receipt-upto.true
-              l.invariant.long c.requires.size w.if-marks-place.false);
-        }
+        long = ap length w.marks-is ∙ length-set l.marks _ true ∙ l.invariant.long;
+        marked = rw w.marks-is (marks_one c.args.receipts.now l.receipt-index o c.loop-receipt-test.true c.receipt-item.is l.marks c.args.below c.args.upto l.invariant.marked w.if-below-receipt.true w.if-receipt-upto.true
+            l.invariant.long c.requires.size w.if-marks-place.false);
+      }
       | else-below-receipt w ↦ record {
-          long = ap length w.marks-is ∙ l.invariant.long;
-          marked = rw w.marks-is (marks_stay c.args.receipts.now l.receipt-index o c.loop-receipt-test.true c.receipt-item.is l.marks c.args.below c.args.upto l.invariant.marked
-              (elim w.else-below-receipt.branch [
-                | else-below-receipt-via-then-below-receipt+else-receipt-upto v ↦ λ low high. absurd (let out = v.if-receipt-upto.false in omega (arith, out, high))
-                | else-below-receipt-via-else-below-receipt v ↦ λ low high. absurd (let out = v.if-below-receipt.false in omega (arith, out, low))
-              ]));
-        }
+        long = ap length w.marks-is ∙ l.invariant.long;
+        marked = rw w.marks-is (marks_stay c.args.receipts.now l.receipt-index o c.loop-receipt-test.true c.receipt-item.is l.marks c.args.below c.args.upto l.invariant.marked
+            (elim w.else-below-receipt.branch [
+              | else-below-receipt-via-then-below-receipt+else-receipt-upto v ↦ λ low high. absurd (let out = v.if-receipt-upto.false in omega (arith, out, high))
+              | else-below-receipt-via-else-below-receipt v ↦ λ low high. absurd (let out = v.if-below-receipt.false in omega (arith, out, low))
+            ]));
+      }
     ]
 
 pub returns : goal.returns

@@ -26,10 +26,10 @@ loop-i-preserved c =
                 commits.0 commits.1 next);
           }
       | else-is_committed w ↦ record {
-          within = omega (arith, w.last-is, l.invariant.within);
-          rise = rw w.last-is (rise_by_other receipts c.requires l.last l.i (get_or receipts l.last here) here (slice_get-get_or receipts l.last here last_in) at_here l.invariant.rise
-              (λ commits. iff_false c.is_committed.ensures w.if-is_committed.false commits));
-        }
+        within = omega (arith, w.last-is, l.invariant.within);
+        rise = rw w.last-is (rise_by_other receipts c.requires l.last l.i (get_or receipts l.last here) here (slice_get-get_or receipts l.last here last_in) at_here l.invariant.rise
+            (λ commits. iff_false c.is_committed.ensures w.if-is_committed.false commits));
+      }
     ]
 
 pub returns : goal.returns

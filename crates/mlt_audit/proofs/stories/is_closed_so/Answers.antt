@@ -10,11 +10,10 @@ pub returns-then-not-stands_at : goal.returns-then-not-stands_at
 returns-then-not-stands_at c =
     let l = c.loop-i in
     let own : c.in-Op.own ≡ c.args.tx = sym c.own.view_is ∙ c.if-own-tx.true in
-    let is_op : c.index-history-i.result ≡ Op c.args.tx c.in-Op.one = rw (← own) c.in-Op.is in
-    (
+    let is_op : c.index-history-i.result ≡ Op c.args.tx c.in-Op.one = rw (← own) c.in-Op.is in (
       λ no. absurd (cc no),
       λ h. absurd (stops_at_op c.args.history.now c.args.from c.args.tx c.args.done.now c.args.end l.count l.i c.index-history-i.result c.loop-i-test.true c.index-history-i.is l.invariant.rest c.in-Op.one is_op
-      (λ at. absurd (let yes = c.stands_at.ensures.1 at in let no = c.if-not-stands_at.true in cc (yes, no))) h),
+          (λ at. absurd (let yes = c.stands_at.ensures.1 at in let no = c.if-not-stands_at.true in cc (yes, no))) h),
     )
 
 pub returns-then-count-done : goal.returns-then-count-done
@@ -82,13 +81,13 @@ loop-i-preserved c =
             rest = rw w.count-is (walks_other history c.args.from c.args.tx c.args.done.now c.args.end l.count l.i item c.loop-i-test.true c.index-history-i.is l.invariant.rest apart);
           }
       | in-Begin w ↦ record {
-          within = omega (arith, l.invariant.within, w.count-is);
-          rest = rw w.count-is (walks_begin history c.args.from c.args.tx c.args.done.now c.args.end l.count l.i item c.loop-i-test.true c.index-history-i.is l.invariant.rest _ w.in-Begin.is);
-        }
+        within = omega (arith, l.invariant.within, w.count-is);
+        rest = rw w.count-is (walks_begin history c.args.from c.args.tx c.args.done.now c.args.end l.count l.i item c.loop-i-test.true c.index-history-i.is l.invariant.rest _ w.in-Begin.is);
+      }
       | in-Back w ↦ record {
-          within = omega (arith, l.invariant.within, w.count-is);
-          rest = rw w.count-is (walks_back history c.args.from c.args.tx c.args.done.now c.args.end l.count l.i item c.loop-i-test.true c.index-history-i.is l.invariant.rest _ w.in-Back.is);
-        }
+        within = omega (arith, l.invariant.within, w.count-is);
+        rest = rw w.count-is (walks_back history c.args.from c.args.tx c.args.done.now c.args.end l.count l.i item c.loop-i-test.true c.index-history-i.is l.invariant.rest _ w.in-Back.is);
+      }
     ]
 
 pub returns : goal.returns

@@ -8,8 +8,7 @@ same_pair one other e f = λ d. (e d, f d)
 
 pub returns-then-eq : goal.returns-then-eq
 returns-then-eq c =
-    let e : c.op.result ≡ c.op-2.result = search rules in
-    (
+    let e : c.op.result ≡ c.op-2.result = search rules in (
       λ yes. let f : c.reply.result ≡ c.reply-then-eq.result = search rules in
           same_pair c.args.one.now c.args.other.now (sym c.op.ensures ∙ e ∙ c.op-2.ensures) (sym c.reply.ensures ∙ f ∙ c.reply-then-eq.ensures),
       λ same. let f : c.reply.result ≡ c.reply-then-eq.result = c.reply.ensures ∙ ap (λ (p : ObjOp × ObjReply). p.1) same ∙ sym c.reply-then-eq.ensures in search rules,
