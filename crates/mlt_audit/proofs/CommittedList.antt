@@ -1,8 +1,8 @@
 -- The committed list of a history, and the committed receipts.
-use Rattle.std.proofs.Common.{◌≡◌, ◌≢◌, ◌⊎◌, ℕ, zero, suc, ◌+◌, ◌<◌, ◌≤◌, List, [], ◌∷◌, ◌++◌, length, map, All, Bool, true, false, cond, nat_eq, Contains, slice_index_or, refl, sym, ap, subst, ◌∙◌, inl, inr, append_assoc, arith}
-use Rattle.std.specs.Prelude.{◌==◌, count_by}
+use Rattle.std.proofs.Common.{◌≡◌, ◌≢◌, ◌⊎◌, ℕ, zero, suc, ◌+◌, ◌<◌, ◌≤◌, List, [], ◌∷◌, ◌++◌, length, true, false, cond, nat_eq, Contains, slice_index_or, refl, sym, ap, subst, ◌∙◌, inl, inr, append_assoc, arith}
+use Rattle.std.specs.Prelude.{◌==◌}
 use Rattle.std.proofs.lemmas.Bool.{cases_eq, eq-eqb, ne_eqb}
-use Rattle.std.proofs.lemmas.List.{append-nil, length-append, map-append}
+use Rattle.std.proofs.lemmas.List.{length-append, map-append}
 use Rattle.std.proofs.lemmas.List.Elements.{All-contains, Contains-append_left}
 use Rattle.std.proofs.lemmas.List.Sums.{sum_by-cons}
 use Rattle.mlt_kinds.specs.declared.operation.ObjOp.{ObjOp}
@@ -31,11 +31,10 @@ use Rattle.mlt_serial.specs.declared.outcome.End.TheVariants.{Committed, Aborted
 use Rattle.mlt_serial.specs.declared.outcome.Outcome.{Outcome}
 use Rattle.mlt_audit.specs.Agreement.{Agrees, count_of}
 use Rattle.mlt_audit.specs.Committed.{AreCommittedOf, CommitFrom, IsBaseOfReceipts, transcripts_of}
-use Rattle.mlt_audit.specs.Orders.{IsCommitted}
 use Rattle.mlt_audit.specs.Receipts.{Closing, IsClosedSo, IsOfHistory, IsWithoutTx, closing_by, closings_of, ops_of}
 use Rattle.mlt_audit.specs.Receipts.Closing.{ByAbort, ByCommit}
 use Rattle.mlt_audit.proofs.Counts.{is_between}
-use Rattle.mlt_audit.proofs.Placed.{HasNothing, behind_commit, closings_abort, closings_commit, closings_other, ops_other, ops_own, stage_at}
+use Rattle.mlt_audit.proofs.Placed.{behind_commit, closings_abort, closings_commit, closings_other, ops_other, ops_own, stage_at}
 
 abbrev one_more : List TraceItem → TraceItem → List TraceItem
 one_more items item = items ++ item ∷ []
@@ -185,22 +184,22 @@ pub one_receipt : (receipts : List Outcome) (o p : Outcome) → o.tx ≡ p.tx �
 one_receipt [] o p same one h k = absurd (contains-nothing o h)
 one_receipt (x ∷ xs) o p same one h k = elim (first_or_later x xs o h) [
   | inl first_o ↦ elim (first_or_later x xs p k) [
-      | inl first_p ↦ sym first_o ∙ first_p
-      | inr later_p ↦
-          let n = count_own o.tx x xs (ap (λ (q : Outcome). q.tx) first_o) in
-          let rest : 1 ≤ count_of o.tx xs = subst (λ t. 1 ≤ count_of t xs) (sym same) (counted_there xs p later_p) in
-          absurd (omega (arith, n, rest, one))
-    ]
+    | inl first_p ↦ sym first_o ∙ first_p
+    | inr later_p ↦
+        let n = count_own o.tx x xs (ap (λ (q : Outcome). q.tx) first_o) in
+        let rest : 1 ≤ count_of o.tx xs = subst (λ t. 1 ≤ count_of t xs) (sym same) (counted_there xs p later_p) in
+        absurd (omega (arith, n, rest, one))
+  ]
   | inr later_o ↦ elim (first_or_later x xs p k) [
-      | inl first_p ↦
-          let n = count_own o.tx x xs (ap (λ (q : Outcome). q.tx) first_p ∙ sym same) in
-          let rest = counted_there xs o later_o in
-          absurd (omega (arith, n, rest, one))
-      | inr later_p ↦
-          let n = count_first o.tx x xs in
-          let rest = counted_there xs o later_o in
-          one_receipt xs o p same (omega (arith, n, rest, one)) later_o later_p
-    ]
+    | inl first_p ↦
+        let n = count_own o.tx x xs (ap (λ (q : Outcome). q.tx) first_p ∙ sym same) in
+        let rest = counted_there xs o later_o in
+        absurd (omega (arith, n, rest, one))
+    | inr later_p ↦
+        let n = count_first o.tx x xs in
+        let rest = counted_there xs o later_o in
+        one_receipt xs o p same (omega (arith, n, rest, one)) later_o later_p
+  ]
 ]
 
 -- ---- the committed receipts, item by item

@@ -1,12 +1,12 @@
 -- Agreement, from its parts.
-use Rattle.std.proofs.Common.{◌≡◌, ◌≢◌, ◌↔◌, ◌⊎◌, ℕ, zero, suc, ◌+◌, ◌<◌, ◌≤◌, List, [], ◌∷◌, length, All, Contains, slice_index_or, refl, sym, ap, subst, ◌∙◌, inl, inr, arith}
+use Rattle.std.proofs.Common.{◌≡◌, ◌⊎◌, ℕ, zero, suc, ◌+◌, ◌<◌, ◌≤◌, List, [], ◌∷◌, length, All, Contains, slice_index_or, subst, ◌∙◌, inl, inr, arith}
 use Rattle.std.proofs.lemmas.Bool.{cases_eq}
 use Rattle.std.proofs.lemmas.List.Elements.{All-weaker}
 use Rattle.mlt_order.proofs.RunLemmas.{contains-first, contains-later, contains-nothing}
 use Rattle.mlt_trace.specs.declared.item.TraceItem.{TraceItem}
 use Rattle.mlt_history.specs.Numbers.{AreBegunInOrder, CountsFrom, begin_count, begun_txs}
 use Rattle.mlt_serial.specs.declared.outcome.Outcome.{Outcome}
-use Rattle.mlt_audit.specs.Agreement.{Agrees, CommitsRise, HasBegun, count_of}
+use Rattle.mlt_audit.specs.Agreement.{Agrees, CommitsRise, IsOfBegunTx, count_of}
 use Rattle.mlt_audit.specs.Receipts.{IsOfHistory, IsWithoutTx}
 
 -- ---- numbers that count
@@ -37,17 +37,17 @@ module _ (items : List TraceItem) (order : AreBegunInOrder items) where
   is_begun tx low high = among (begun_txs items) 1 tx order (omega (arith, low)) (omega (arith, high))
 
   module _ (receipts : List Outcome) (last : ℕ) (counted : last ≡ begin_count items) where
-    pub numbers_agree : All (λ o. o.tx ≤ last) receipts → All (HasBegun items) receipts
-    numbers_agree most = All-weaker (λ o. o.tx ≤ last) (HasBegun items) (λ o low some. is_begun o.tx (omega (arith, some)) (omega (arith, low, counted))) receipts most
+    pub numbers_agree : All (λ o. o.tx ≤ last) receipts → All (IsOfBegunTx items) receipts
+    numbers_agree most = All-weaker (λ o. o.tx ≤ last) (IsOfBegunTx items) (λ o low some. is_begun o.tx (omega (arith, some)) (omega (arith, low, counted))) receipts most
 
-    most_of : (o : Outcome) → HasBegun items o → o.tx ≤ last
+    most_of : (o : Outcome) → IsOfBegunTx items o → o.tx ≤ last
     most_of o begun = elim (cases_eq o.tx 0) [
       | inl none ↦ omega (arith, none)
       | inr some ↦ let b = is_between o.tx (begun some) in omega (arith, b.1, counted)
     ]
 
     pub numbers_at_most : Agrees receipts items → All (λ o. o.tx ≤ last) receipts
-    numbers_at_most agrees = All-weaker (HasBegun items) (λ o. o.tx ≤ last) most_of receipts agrees.begun
+    numbers_at_most agrees = All-weaker (IsOfBegunTx items) (λ o. o.tx ≤ last) most_of receipts agrees.begun
 
     pub numbers_once : Agrees receipts items → (tx : ℕ) → 0 < tx → tx ≤ last → count_of tx receipts ≡ 1
     numbers_once agrees tx low high = agrees.once tx (is_begun tx low (omega (arith, high, counted)))

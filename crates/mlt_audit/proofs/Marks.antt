@@ -1,6 +1,6 @@
 -- Numbers of receipts, counted and marked.
-use Rattle.std.proofs.Common.{◌≡◌, ◌≢◌, ◌↔◌, ℕ, ◌+◌, ◌-◌, ◌<◌, ◌≤◌, List, [], ◌∷◌, ◌++◌, length, get_or, set, take, replicate, Bool, true, false, cond, Contains, Some, slice_get, refl, sym, ap, subst, ◌∙◌, inl, inr, arith}
-use Rattle.std.specs.Prelude.{◌==◌, count_by}
+use Rattle.std.proofs.Common.{◌≡◌, ◌≢◌, ◌↔◌, ℕ, ◌+◌, ◌-◌, ◌<◌, ◌≤◌, List, [], ◌∷◌, ◌++◌, length, get_or, set, take, replicate, Bool, true, false, cond, Some, slice_get, refl, sym, ap, subst, ◌∙◌, inl, inr, arith}
+use Rattle.std.specs.Prelude.{◌==◌}
 use Rattle.std.proofs.lemmas.Bool.{cases_eq, eq-eqb, ne_eqb}
 use Rattle.std.proofs.lemmas.List.{get_or-replicate, get_or-set_other, get_or-set_same, length-replicate, take_all, take_more}
 use Rattle.std.proofs.lemmas.List.Sums.{count_by_more_no, count_by_more_yes, sum_by-take-le}
@@ -37,9 +37,9 @@ module _ (history : List TraceItem) (i : ℕ) (item : TraceItem) (within : i < l
 abbrev pub IsMarked : List Bool → ℕ → ℕ → List Outcome → Type 0
 IsMarked marks below upto receipts = (tx : ℕ) → below < tx → tx ≤ upto → count_of tx receipts ≡ cond (get_or marks (tx - below - 1) false) 1 0
 
-pub unmarked : (below upto : ℕ) (marks : List Bool) → upto ≤ below + 4096 → marks ≡ replicate 4096 false → IsMarked marks below upto []
+pub unmarked : (below upto : ℕ) (marks : List Bool) → upto ≤ below + 16384 → marks ≡ replicate 16384 false → IsMarked marks below upto []
 unmarked below upto marks size e tx low high =
-    let at : get_or marks (tx - below - 1) false ≡ false = ap (λ m. get_or m (tx - below - 1) false) e ∙ get_or-replicate 4096 (tx - below - 1) false false (omega (arith, size, low, high)) in
+    let at : get_or marks (tx - below - 1) false ≡ false = ap (λ m. get_or m (tx - below - 1) false) e ∙ get_or-replicate 16384 (tx - below - 1) false false (omega (arith, size, low, high)) in
     ap (λ b. cond b 1 0) (sym at)
 
 module _ (receipts : List Outcome) (i : ℕ) (o : Outcome) (within : i < length receipts) (is : o ≡ get_or receipts i o) where
@@ -59,7 +59,7 @@ module _ (receipts : List Outcome) (i : ℕ) (o : Outcome) (within : i < length 
       own_count : (b : Bool) → get_or marks (o.tx - below - 1) false ≡ b → count_of o.tx (take (i + 1) receipts) ≡ cond b 1 0 + 1
       own_count b e = counted_yes o.tx refl ∙ ap (λ n. n + 1) (marked o.tx low high ∙ ap (λ v. cond v 1 0) e)
 
-      pub marks_one : length marks ≡ 4096 → upto ≤ below + 4096 → get_or marks (o.tx - below - 1) false ≡ false
+      pub marks_one : length marks ≡ 16384 → upto ≤ below + 16384 → get_or marks (o.tx - below - 1) false ≡ false
           → IsMarked (set marks (o.tx - below - 1) true) below upto (take (i + 1) receipts)
       marks_one long size fresh tx above within_block =
           let place = o.tx - below - 1 in
@@ -80,11 +80,11 @@ module _ (receipts : List Outcome) (i : ℕ) (o : Outcome) (within : i < length 
           let part = sum_by-take-le (λ (p : Outcome). cond (p.tx == o.tx) 1 0) receipts (i + 1) in
           omega (arith, two, part, once)
 
-pub marks_long : (marks : List Bool) → marks ≡ replicate 4096 false → length marks ≡ 4096
-marks_long marks e = ap length e ∙ length-replicate 4096 false
+pub marks_long : (marks : List Bool) → marks ≡ replicate 16384 false → length marks ≡ 16384
+marks_long marks e = ap length e ∙ length-replicate 16384 false
 
 -- each number of the block stands in one receipt just where the first marks are set
-pub all_marked : (marks : List Bool) (below upto i : ℕ) (receipts : List Outcome) → length receipts ≤ i → length marks ≡ 4096 → upto ≤ below + 4096 → IsMarked marks below upto (take i receipts)
+pub all_marked : (marks : List Bool) (below upto i : ℕ) (receipts : List Outcome) → length receipts ≤ i → length marks ≡ 16384 → upto ≤ below + 16384 → IsMarked marks below upto (take i receipts)
     → ((k : ℕ) → k < upto - below → slice_get marks k ≡ Some true) ↔ ((tx : ℕ) → below < tx → tx ≤ upto → count_of tx receipts ≡ 1)
 all_marked marks below upto i receipts past long size marked = (
   λ set_all tx low high.

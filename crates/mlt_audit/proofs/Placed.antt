@@ -1,11 +1,11 @@
 -- What placed items have of a transaction before its begin, and behind its close: nothing.
-use Rattle.std.proofs.Common.{◌≡◌, ◌≢◌, ℕ, List, [], ◌∷◌, ◌++◌, Contains, refl, sym, ap, subst, ◌∙◌, inl, inr, append_assoc, arith, eqb}
+use Rattle.std.proofs.Common.{◌≡◌, ◌≢◌, ℕ, List, [], ◌∷◌, ◌++◌, Contains, refl, sym, ap, subst, ◌∙◌, inl, inr, append_assoc, arith}
 use Rattle.std.proofs.lemmas.Bool.{cases_eq, eq-eqb, ne_eqb}
 use Rattle.std.proofs.lemmas.List.Elements.{Contains-append_left}
 use Rattle.mlt_kinds.specs.declared.operation.ObjOp.{ObjOp}
 use Rattle.mlt_kinds.specs.declared.operation.ObjReply.{ObjReply}
 use Rattle.mlt_order.specs.Histories.{Lists, Stage, after_entry, items_done}
-use Rattle.mlt_order.specs.Histories.Stage.{Fresh, Running, Ended}
+use Rattle.mlt_order.specs.Histories.Stage.{Running, Ended}
 use Rattle.mlt_order.proofs.Parts.{items_of-other, items_of-same}
 use Rattle.mlt_order.proofs.Tables.{changed}
 use Rattle.mlt_trace.specs.declared.item.TraceItem.{TraceItem}
@@ -16,7 +16,7 @@ use Rattle.mlt_history.proofs.ItemLaws.{begun_txs-append}
 use Rattle.mlt_check.specs.Traces.{ArePlaced, HasPlace, IsRunning, told}
 use Rattle.mlt_check.proofs.Growing.{begun_stays, number_in, stage-other, told-push}
 use Rattle.mlt_check.proofs.Lasting.{runs_begun}
-use Rattle.mlt_audit.specs.Receipts.{Closing, closings_of, ops_of}
+use Rattle.mlt_audit.specs.Receipts.{closings_of, ops_of}
 use Rattle.mlt_audit.specs.Receipts.Closing.{ByAbort, ByCommit}
 
 -- ---- one item in front

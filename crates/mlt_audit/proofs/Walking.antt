@@ -1,5 +1,5 @@
 -- A walk from a transaction's begin to its close.
-use Rattle.std.proofs.Common.{◌≡◌, ◌≢◌, ◌↔◌, ℕ, suc, ◌+◌, ◌<◌, ◌≤◌, List, [], ◌∷◌, ◌++◌, length, get_or, take, drop, Contains, refl, sym, ap, subst, ◌∙◌, arith}
+use Rattle.std.proofs.Common.{◌≡◌, ◌≢◌, ◌↔◌, ℕ, suc, ◌+◌, ◌<◌, ◌≤◌, List, [], ◌∷◌, ◌++◌, length, get_or, take, drop, Contains, sym, ap, subst, ◌∙◌, arith}
 use Rattle.std.proofs.lemmas.List.{drop_more, drop_all, get_or-drop, length-drop, take-append-drop}
 use Rattle.mlt_kinds.specs.declared.operation.ObjOp.{ObjOp}
 use Rattle.mlt_kinds.specs.declared.operation.ObjReply.{ObjReply}
@@ -10,7 +10,7 @@ use Rattle.mlt_check.specs.Traces.{ArePlaced}
 use Rattle.mlt_check.proofs.Growing.{number_in}
 use Rattle.mlt_check.proofs.Knowing.{cut_at}
 use Rattle.mlt_serial.specs.declared.outcome.End.{End}
-use Rattle.mlt_audit.specs.Receipts.{Closing, IsClosedSo, closing_by, closings_of, ops_of}
+use Rattle.mlt_audit.specs.Receipts.{IsClosedSo, closing_by, closings_of, ops_of}
 use Rattle.mlt_audit.specs.Receipts.Closing.{ByAbort, ByCommit}
 use Rattle.mlt_audit.proofs.Placed.{HasNothing, behind_abort, behind_commit, closings_abort, closings_commit, closings_other, ops_other, ops_own, placed_front, skips_unbegun}
 

@@ -9,8 +9,8 @@ use Rattle.mlt_audit.specs.Receipts.{IsOfHistory, IsWithoutTx, RisesTo}
 abbrev pub count_of : ℕ → List Outcome → ℕ
 count_of tx receipts = count_by (λ o. o.tx == tx) receipts
 
-abbrev pub HasBegun : List TraceItem → Outcome → Type 0
-HasBegun items o = o.tx ≢ 0 → Contains (begun_txs items) o.tx
+abbrev pub IsOfBegunTx : List TraceItem → Outcome → Type 0
+IsOfBegunTx items o = o.tx ≢ 0 → Contains (begun_txs items) o.tx
 
 -- committed receipts of one client rise in commit number with the script number
 abbrev pub CommitsRise : List Outcome → Type 0
@@ -20,7 +20,7 @@ CommitsRise receipts = All (λ one. All (λ other. RisesTo one other) receipts) 
 pub record Agrees (receipts : List Outcome) (items : List TraceItem) : Type 0 where
   -- their numbers, but for 0, differ, and are just those begun
   pub once : (tx : ℕ) → Contains (begun_txs items) tx → count_of tx receipts ≡ 1
-  pub begun : All (HasBegun items) receipts
+  pub begun : All (IsOfBegunTx items) receipts
   -- each tells the operations of its transaction, and how it was closed
   pub told : All (IsOfHistory items) receipts
   -- those without a number are refused and empty

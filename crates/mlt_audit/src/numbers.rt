@@ -7,9 +7,6 @@ ghost use Rattle.mlt_audit.specs.Agreement.{count_of};
 use mlt_serial::Outcome;
 use mlt_trace::TraceItem;
 
-/// For how many numbers one pass over the receipts keeps marks.
-const BLOCK: usize = 4_096;
-
 /// How many transactions were begun.
 pub(crate) fn count_begins(history: &[TraceItem]) -> u64
     ensures { result ≡ begin_count history.now }
@@ -35,10 +32,10 @@ pub(crate) fn are_at_most(receipts: &[Outcome], last: u64) -> bool
     true
 }
 
-fn no_marks() -> [bool; 4_096]
-    ensures { result ≡ replicate 4096 false }
+fn no_marks() -> [bool; 16_384]
+    ensures { result ≡ replicate 16384 false }
 {
-    [false; BLOCK]
+    [false; 16_384]
 }
 
 /// Whether the first marks are all set.
@@ -54,10 +51,10 @@ fn are_set(marks: &[bool], count: usize) -> bool
     true
 }
 
-/// Whether each number above `below`, up to `upto`, stands in one receipt.
+/// Whether each number above `below`, up to `upto`, stands in one receipt. The marks stand on the stack.
 fn block_is_once(receipts: &[Outcome], below: u64, upto: u64) -> bool
     requires order { below ≤ upto }
-    requires size { upto ≤ below + 4096 }
+    requires size { upto ≤ below + 16384 }
     ensures { IsTrue result
         ↔ ((tx : ℕ) → below < tx → tx ≤ upto → count_of tx receipts.now ≡ 1) }
 {
@@ -75,17 +72,17 @@ fn block_is_once(receipts: &[Outcome], below: u64, upto: u64) -> bool
 }
 
 /// Whether each number from 1 to the last stands in one receipt. It goes over the receipts once for each block
-/// of numbers.
+/// of 16,384 numbers.
 pub(crate) fn are_each_once(receipts: &[Outcome], last: u64) -> bool
     ensures { IsTrue result
         ↔ ((tx : ℕ) → 0 < tx → tx ≤ last → count_of tx receipts.now ≡ 1) }
 {
     let mut below = 0;
     while below < last {
-        let upto = if last - below < 4_096 {
+        let upto = if last - below < 16_384 {
             last
         } else {
-            below + 4_096
+            below + 16_384
         };
         if !block_is_once(receipts, below, upto) {
             return false;

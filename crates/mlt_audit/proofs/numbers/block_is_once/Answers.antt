@@ -1,4 +1,4 @@
-use Rattle.std.proofs.Common.{◌≡◌, refl, ap, ◌∙◌, length, true, arith}
+use Rattle.std.proofs.Common.{ap, ◌∙◌, length, true, arith}
 use Rattle.std.proofs.lemmas.List.{length-set}
 use Rattle.mlt_audit.proofs.Marks.{all_marked, marked_twice, marks_long, marks_one, marks_stay, unmarked}
 use Rattle.mlt_audit.proofs.numbers.block_is_once.Goals as goal

@@ -1,4 +1,4 @@
-use Rattle.std.proofs.Common.{arith, ap, ◌∙◌, sym}
+use Rattle.std.proofs.Common.{arith}
 use Rattle.mlt_audit.proofs.Marks.{one_begin, one_other}
 use Rattle.mlt_audit.proofs.numbers.count_begins.Goals as goal
 use Rattle.mlt_audit.proofs.numbers.count_begins.Goals.{in-Begin, in_default}

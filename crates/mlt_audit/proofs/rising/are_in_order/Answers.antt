@@ -1,5 +1,5 @@
 use Rattle.std.proofs.Common.{◌-◌, arith}
-use Rattle.mlt_audit.proofs.CommitOrder.{at_read, in_order_all, in_order_more}
+use Rattle.mlt_audit.proofs.CommitOrder.{at_read, in_order_more}
 use Rattle.mlt_audit.proofs.rising.are_in_order.Goals as goal
 
 pub loop-i-preserved : goal.loop-i-preserved

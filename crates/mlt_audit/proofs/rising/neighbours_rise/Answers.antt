@@ -1,4 +1,4 @@
-use Rattle.std.proofs.Common.{◌≡◌, ◌<◌, length, get_or, refl, subst, arith}
+use Rattle.std.proofs.Common.{◌<◌, length, get_or, refl, subst, arith}
 use Rattle.std.proofs.lemmas.Option.{slice_get-get_or}
 use Rattle.std.proofs.lemmas.Bool.{iff_false}
 use Rattle.mlt_audit.specs.Receipts.{RisesTo}

@@ -1,6 +1,6 @@
 use Rattle.std.proofs.Common.{◌≡◌, ◌≢◌, sym, ap, ◌∙◌, arith}
 use Rattle.std.proofs.lemmas.Bool.Decides.{nat_tests}
-use Rattle.mlt_trace.specs.declared.item.TraceItem.TheVariants.{Begin, Op, Back, Commit, Abort}
+use Rattle.mlt_trace.specs.declared.item.TraceItem.TheVariants.{Op, Commit, Abort}
 use Rattle.mlt_check.proofs.Growing.{number_in}
 use Rattle.mlt_audit.proofs.Walking.{ends_by_abort, ends_by_commit, ends_open, stops_at_op, walks_back, walks_begin, walks_op, walks_other}
 use Rattle.mlt_audit.proofs.stories.is_closed_so.Goals as goal
