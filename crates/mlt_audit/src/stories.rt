@@ -30,6 +30,7 @@ fn is_no_commit(end: End) -> bool
     }
 }
 
+// What `==` of two of these answers is not known here, since a contract sees them as pairs.
 fn is_same(one: &Done, other: &Done) -> bool
     ensures { IsTrue result ↔ (one.now ≡ other.now) }
 {
