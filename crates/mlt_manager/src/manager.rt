@@ -1,6 +1,8 @@
 //! The manager of transactions.
 
 ghost use Rattle.std.specs.Prelude.{◌≡◌, ◌≤◌, IfErr, IfOk, OnOk};
+ghost use Rattle.mlt_check.specs.Traces.{ArePlaced};
+ghost use Rattle.mlt_history.specs.Numbers.{AreBegunInOrder};
 ghost use Rattle.mlt_manager.specs.Answers.{AnswersAbort, AnswersBegin, AnswersCall, AnswersCancel, AnswersCommit, AnswersStep, IsByAnother, counted};
 ghost use Rattle.mlt_manager.specs.Bases.{HasDepth, KeepsWhatCounts, LeavesBase, UndoingLeavesBase, WholeLeavesBase};
 ghost use Rattle.mlt_manager.specs.Events.{AreWholeEvents, Meets, NoneWaits, Plays, told_of};
@@ -277,6 +279,16 @@ impl<P: Pseudo> Manager<P> {
         items_fit(self.parts.commons.history.items());
         placed_items_are_writable();
         history_passes_the_checker();
+    }
+
+    /// Each item of the history has its place, and transactions begin under the numbers 1, 2, 3 and so on: what an audit of
+    /// receipts against the history asks.
+    pub fn keeps_a_placed_history(&self)
+        ensures placed { ArePlaced self.now.commons.history.items }
+        ensures begun { AreBegunInOrder self.now.commons.history.items }
+    {
+        // What is always true of the parts is known where they are read.
+        let _parts = &self.parts;
     }
 
     /// Ends the manager, and gives its memory back. Whoever owns a manager ends it by this call, and has no drop of its own.

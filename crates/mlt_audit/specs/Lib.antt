@@ -1,0 +1,4 @@
+pub mod Receipts
+pub mod Agreement
+pub mod Orders
+pub mod Committed

@@ -1,0 +1,11 @@
+//! Receipts against a history: whether what clients were told is what the manager has done.
+#![tactic(auto)]
+
+mod auditing;
+mod laws;
+mod numbers;
+mod rising;
+mod stories;
+
+pub use auditing::audit;
+pub use laws::committed_receipts_are_the_committed_list;

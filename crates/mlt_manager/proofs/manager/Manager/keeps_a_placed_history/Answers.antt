@@ -1,0 +1,17 @@
+use Rattle.std.proofs.Common.{subst}
+use Rattle.mlt_check.specs.Traces.{ArePlaced}
+use Rattle.mlt_history.specs.Numbers.{AreBegunInOrder}
+use Rattle.mlt_manager.specs.Managers.{ManagerFields}
+use Rattle.mlt_manager.proofs.manager.Manager.keeps_a_placed_history.Goals as goal
+
+abbrev HasPlaces : {P : Type 0} → ManagerFields P → Type 0
+HasPlaces m = ArePlaced m.commons.history.items
+
+abbrev BeginsInOrder : {P : Type 0} → ManagerFields P → Type 0
+BeginsInOrder m = AreBegunInOrder m.commons.history.items
+
+pub returns-clause-placed : goal.returns-clause-placed
+returns-clause-placed g c = subst HasPlaces c.self.view_is c.self.invariant.traced.placed
+
+pub returns-clause-begun : goal.returns-clause-begun
+returns-clause-begun g c = subst BeginsInOrder c.self.view_is c.self.invariant.sound.begun
