@@ -93,6 +93,13 @@ impl Outcomes {
         }
     }
 
+    /// These outcomes, in order. It takes no memory.
+    pub fn of(outcomes: Vec<Outcome>) -> Outcomes
+        ensures { result ≡ outcomes.items }
+    {
+        Outcomes { outcomes }
+    }
+
     /// Adds an outcome at the end. An `Err` changes nothing.
     pub fn push(&mut self, outcome: Outcome) -> Result<(), AllocError>
         ensures ok { OnOk result (self.new ≡ self.old ++ outcome ∷ []) }
