@@ -239,6 +239,11 @@ const OVER_PASSES_DEPOSIT: Schedule = Schedule {
             ("whole 3 deposit 1 10", 1, "done done"),
             ("commit 3", 1, "committed 2"),
             ("commit 2", 1, "committed 3"),
+        ]),
+        Part::Seen(&[Sight::Trace(
+            "begin 1\nop 1 open 1 opened\nop 1 deposit 1 999999999999999990 done\ncommit 1 1\nbegin 2\nop 2 deposit 1 11 over\nbegin 3\nop 3 deposit 1 10 done\ncommit 3 2\ncommit 2 3\n",
+        )]),
+        Part::Told(&[
             ("begin", 1, "begun 4"),
             ("whole 4 balance 1", 1, "done is 1000000000000000000"),
         ]),
@@ -263,6 +268,9 @@ const OVER_BLOCKS_WITHDRAWAL: Schedule = Schedule {
     end: &[
         Sight::Base("account 1 999999999999999990\n"),
         Sight::Depth(0),
+        Sight::Trace(
+            "begin 1\nop 1 open 1 opened\nop 1 deposit 1 999999999999999990 done\ncommit 1 1\nbegin 2\nop 2 deposit 1 11 over\nbegin 3\n",
+        ),
     ],
 };
 
