@@ -1,9 +1,10 @@
 //! The desks of a hall, and which of them wait.
 
-ghost use Rattle.std.specs.Prelude.{◌≡◌, ◌+◌, ◌-◌, ◌≤◌};
+ghost use Rattle.std.specs.Prelude.{◌≡◌, ◌≢◌, ◌+◌, ◌-◌, ◌<◌, ◌≤◌, ◌⊎◌, ◌^◌, min};
+ghost use Rattle.mlt_lock_desk.specs.Waits.{given_back_by, objects_after, pages_after, queue_of, released};
 
-use crate::queue::{Awaited, Queue, Turn};
-use mlt_event::{Answer, Told};
+use crate::queue::{Awaited, GivenBack, Queue, Turn, given_back};
+use mlt_event::Told;
 
 /// How many desks there are, and how many of them wait. Not all wait.
 #[derive(Clone, Copy, Debug)]
@@ -12,27 +13,6 @@ pub(crate) struct Desks {
     objects: Queue,
     pages: Queue,
     ghost awake: { objects.waiting + pages.waiting ≤ count - 1 },
-}
-
-/// Whose locks an event may have given back.
-enum GivenBack {
-    Nothing,
-    Pages,
-    All,
-}
-
-fn given_back(told: &Told) -> GivenBack {
-    match told {
-        Told::Committed(_) | Told::Aborting(true) | Told::Answered(Answer::Aborted) => {
-            GivenBack::All
-        }
-        Told::Cancelled
-        | Told::Answered(Answer::Done(_))
-        | Told::Answered(Answer::Blocked { .. })
-        | Told::Answered(Answer::Undone)
-        | Told::Answered(Answer::Refused(_)) => GivenBack::Pages,
-        _ => GivenBack::Nothing,
-    }
 }
 
 impl Desks {
@@ -46,19 +26,32 @@ impl Desks {
     }
 
     /// A desk comes.
-    pub(crate) fn enter(&mut self) {
+    pub(crate) fn enter(&mut self)
+        ensures count { self.new.count ≡ min (self.old.count + 1) (2 ^ 64 - 1) }
+        ensures objects { self.new.objects ≡ self.old.objects }
+        ensures pages { self.new.pages ≡ self.old.pages }
+    {
         self.count = self.count.saturating_add(1);
     }
 
     /// A desk ends. It answers whether desks are to be woken.
-    pub(crate) fn leave(&mut self) -> bool {
+    pub(crate) fn leave(&mut self) -> bool
+        ensures count { self.new.count ≡ self.old.count - 1 }
+        ensures objects { self.new.objects ≡ released self.old.objects }
+        ensures pages { self.new.pages ≡ released self.old.pages }
+    {
         let wakes = self.release_all();
         self.count = self.count.saturating_sub(1);
         wakes
     }
 
     /// An event was told this: those who wait for what it gave back are awake. It answers whether there are some to wake.
-    pub(crate) fn give_back(&mut self, told: &Told) -> bool {
+    pub(crate) fn give_back(&mut self, told: &Told) -> bool
+        ensures objects { self.new.objects
+            ≡ objects_after (given_back_by told.now) self.old.objects }
+        ensures pages { self.new.pages ≡ pages_after (given_back_by told.now) self.old.pages }
+        ensures count { self.new.count ≡ self.old.count }
+    {
         match given_back(told) {
             GivenBack::All => self.release_all(),
             GivenBack::Pages => self.pages.release(),
@@ -67,8 +60,8 @@ impl Desks {
     }
 
     fn release_all(&mut self) -> bool
-        ensures objects { self.new.objects.waiting ≡ 0 }
-        ensures pages { self.new.pages.waiting ≡ 0 }
+        ensures objects { self.new.objects ≡ released self.old.objects }
+        ensures pages { self.new.pages ≡ released self.old.pages }
         ensures count { self.new.count ≡ self.old.count }
     {
         let objects = self.objects.release();
@@ -77,7 +70,9 @@ impl Desks {
     }
 
     /// Which changes whenever such locks may have been given back.
-    pub(crate) fn version(&self, awaited: Awaited) -> u64 {
+    pub(crate) fn version(&self, awaited: Awaited) -> u64
+        ensures { result ≡ (queue_of awaited self.now.objects self.now.pages).version }
+    {
         match awaited {
             Awaited::Objects => self.objects.version,
             Awaited::Pages => self.pages.version,
@@ -87,7 +82,18 @@ impl Desks {
     /// What a desk does that would wait, and made its last event at this version. If locks were given back since, it tries
     /// at once. So does the last desk that is awake; and where it wants a page, it wakes those that do too: a pass that is to
     /// start anew gives its pages back as well, and is told to go on. Any other desk sleeps, and is counted.
-    pub(crate) fn begin_wait(&mut self, awaited: Awaited, seen: u64) -> Turn {
+    pub(crate) fn begin_wait(&mut self, awaited: Awaited, seen: u64) -> Turn
+        ensures sleeps { result ≡ Turn.Sleeps
+            → ((queue_of awaited self.old.objects self.old.pages).version ≡ seen)
+            × (self.old.objects.waiting + self.old.pages.waiting + 1 < self.old.count)
+            × (self.new.objects.waiting + self.new.pages.waiting
+            ≡ self.old.objects.waiting + self.old.pages.waiting + 1) }
+        ensures tries { result ≡ Turn.Tries
+            → ((queue_of awaited self.old.objects self.old.pages).version ≢ seen)
+            ⊎ (self.old.count ≤ self.old.objects.waiting + self.old.pages.waiting + 1) }
+        ensures wakes { result ≡ Turn.Wakes → self.new.pages ≡ released self.old.pages }
+        ensures count { self.new.count ≡ self.old.count }
+    {
         if self.version(awaited) != seen {
             return Turn::Tries;
         }

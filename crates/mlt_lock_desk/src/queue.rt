@@ -1,6 +1,9 @@
 //! Desks that wait for locks to be given back.
 
-ghost use Rattle.std.specs.Prelude.{◌≡◌};
+ghost use Rattle.std.specs.Prelude.{◌≡◌, nat_lt};
+ghost use Rattle.mlt_lock_desk.specs.Waits.{given_back_by, released};
+
+use mlt_event::{Answer, Told};
 
 /// Whose locks a desk waits for.
 #[derive(Clone, Copy, Debug, PartialEq, Eq)]
@@ -20,6 +23,31 @@ pub(crate) enum Turn {
     Wakes,
     /// It tries at once.
     Tries,
+}
+
+/// Whose locks an event may have given back.
+#[derive(Clone, Copy, Debug, PartialEq, Eq)]
+pub(crate) enum GivenBack {
+    Nothing,
+    Pages,
+    All,
+}
+
+/// Whose locks an event that was told this may have given back.
+pub(crate) fn given_back(told: &Told) -> GivenBack
+    ensures { result ≡ given_back_by told.now }
+{
+    match told {
+        Told::Committed(_) | Told::Aborting(true) | Told::Answered(Answer::Aborted) => {
+            GivenBack::All
+        }
+        Told::Cancelled
+        | Told::Answered(Answer::Done(_))
+        | Told::Answered(Answer::Blocked { .. })
+        | Told::Answered(Answer::Undone)
+        | Told::Answered(Answer::Refused(_)) => GivenBack::Pages,
+        _ => GivenBack::Nothing,
+    }
 }
 
 /// The desks that wait for locks of a kind.
@@ -44,7 +72,8 @@ impl Queue {
 
     /// Locks may have been given back: all who wait are awake from now on. It answers whether there are some to wake.
     pub(crate) fn release(&mut self) -> bool
-        ensures { self.new.waiting ≡ 0 }
+        ensures awake { self.new ≡ released self.old }
+        ensures wakes { result ≡ nat_lt 0 self.old.waiting }
     {
         let wakes = self.waiting > 0;
         self.version = self.version.wrapping_add(1);
