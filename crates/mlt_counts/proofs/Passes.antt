@@ -23,7 +23,7 @@ use Rattle.mlt_event.specs.declared.answer.Answer.{Answer}
 use Rattle.mlt_event.specs.declared.answer.Answer.TheVariants as answer
 use Rattle.mlt_transaction.specs.declared.transaction.At.TheVariants as at
 use Rattle.mlt_transaction.specs.declared.transaction.Transaction.{Transaction}
-use Rattle.mlt_counts.specs.Counts.{BeginsSplits, FindsNoRoom, IsDoneOrBlocked, IsEnd, IsRefusal, MayFollow, TakesFirstPass, TakesLaterPass, TakesNarrowPass, started_in}
+use Rattle.mlt_counts.specs.Counts.{BeginsSplits, FindsNoRoom, IsDoneOrBlocked, IsEnd, IsRefusal, MayFollow, TakesFirstPass, TakesLaterPass, TakesNarrowPass, TakesNextPass, started_in}
 use Rattle.mlt_counts.specs.Extra.{extra_of_splits}
 use Rattle.mlt_counts.specs.OwnSteps.{AreOwnSteps, GoesThen, GoesToTurn, GoesUpTo, OwnStep, answers_of, basis_at, view_in, with_answer}
 use Rattle.mlt_counts.proofs.Extra.{of_splits}
@@ -160,16 +160,21 @@ begun_anew basis old new op before next asked r =
 
 module _ (basis : Basis) (op : ObjOp) (n : ℕ) (p : Pass) (o : OperationFields) (t : Transaction) (seen : View) (step : OwnStep) (more : List OwnStep) (stage : Stage basis op n p o t seen) (goes : Goes basis o t step) where
   -- a pass that is given up
-  pub no_room : Restarts (basis_at basis step) (moment t.subtx step.old.pages) (moment step.after.subtx step.new.pages) o goes.next → FindsNoRoom basis op p t step more
-  no_room r =
+  pub no_room : (Then : Pass → List OwnStep → Type 0) → ((next : Pass) (t : Transaction) (seen : View) (steps : List OwnStep) → MayFollow p next → t.at ≡ at.Pending (started_in (Do op) next) → AreOwnSteps basis t seen steps → Then next steps)
+      → Restarts (basis_at basis step) (moment t.subtx step.old.pages) (moment step.after.subtx step.new.pages) o goes.next
+      → AreOwnSteps basis step.after (view_in step.after step.new) more → FindsNoRoom basis op p Then t step more
+  no_room Then then r own =
+      let next = next_of r.full.phase in
+      let may = follows (basis_at basis step) r.back.mid r.walk r.full p (r.reaches.same.pass ∙ stage.in_pass) r.restarts in
       let anew = begun_anew (basis_at basis step) (moment t.subtx step.old.pages) (moment step.after.subtx step.new.pages) op o goes.next stage.asked r in
       record {
         o = o;
         pending = stage.pending;
-        next = next_of r.full.phase;
-        follows = follows (basis_at basis step) r.back.mid r.walk r.full p (r.reaches.same.pass ∙ stage.in_pass) r.restarts;
+        next = next;
+        follows = may;
         begins = goes.now_at ∙ ap at.Pending anew;
         restarts = subst (Restarts (basis_at basis step) (moment t.subtx step.old.pages) (moment step.after.subtx step.new.pages) o) anew r;
+        later = then next step.after (view_in step.after step.new) more may (goes.now_at ∙ ap at.Pending anew) own;
       }
 
   -- a pass that splits
@@ -218,86 +223,99 @@ module _ (basis : Basis) (op : ObjOp) (n : ℕ) (p : Pass) (o : OperationFields)
       }
 
 -- how a pass comes to its third step, or what becomes of it there
-abbrev Third : Basis → ObjOp → Pass → ℕ → List OwnStep → Type 0
-Third basis op p n steps =
+abbrev Third : Basis → ObjOp → (Pass → List OwnStep → Type 0) → Pass → ℕ → List OwnStep → Type 0
+Third basis op Then p n steps =
     GoesThen n IsDoneOrBlocked (answers_of steps)
     ⊎ (GoesUpTo n IsRefusal (answers_of steps) × (p ≡ pass.First → ⊥))
     ⊎ (GoesToTurn basis n (BeginsSplits basis) steps × (p ≡ pass.First → ⊥))
-    ⊎ GoesToTurn basis n (FindsNoRoom basis op p) steps
+    ⊎ GoesToTurn basis n (FindsNoRoom basis op p Then) steps
 
-third_after_wait : (basis : Basis) (op : ObjOp) (p : Pass) (n page by : ℕ) (step : OwnStep) (more : List OwnStep) → step.told ≡ answer.Waiting page by → Third basis op p n more → Third basis op p n (step ∷ more)
-third_after_wait basis op p n page by step more waits (inl then) = inl (then_after_wait step more n page by IsDoneOrBlocked waits then)
-third_after_wait basis op p n page by step more waits (inr (inl (away, later))) = inr (inl (up_to_after_wait step more n page by IsRefusal waits away, later))
-third_after_wait basis op p n page by step more waits (inr (inr (inl (splits, later)))) = inr (inr (inl (turn_after_wait step more basis n page by (BeginsSplits basis) waits splits, later)))
-third_after_wait basis op p n page by step more waits (inr (inr (inr none))) = inr (inr (inr (turn_after_wait step more basis n page by (FindsNoRoom basis op p) waits none)))
+third_after_wait : (basis : Basis) (op : ObjOp) (Then : Pass → List OwnStep → Type 0) (p : Pass) (n page by : ℕ) (step : OwnStep) (more : List OwnStep) → step.told ≡ answer.Waiting page by → Third basis op Then p n more → Third basis op Then p n (step ∷ more)
+third_after_wait basis op Then p n page by step more waits (inl then) = inl (then_after_wait step more n page by IsDoneOrBlocked waits then)
+third_after_wait basis op Then p n page by step more waits (inr (inl (away, later))) = inr (inl (up_to_after_wait step more n page by IsRefusal waits away, later))
+third_after_wait basis op Then p n page by step more waits (inr (inr (inl (splits, later)))) = inr (inr (inl (turn_after_wait step more basis n page by (BeginsSplits basis) waits splits, later)))
+third_after_wait basis op Then p n page by step more waits (inr (inr (inr none))) = inr (inr (inr (turn_after_wait step more basis n page by (FindsNoRoom basis op p Then) waits none)))
 
-third_after_going : (basis : Basis) (op : ObjOp) (p : Pass) (n : ℕ) (step : OwnStep) (more : List OwnStep) → step.told ≡ answer.Going → Third basis op p n more → Third basis op p (suc n) (step ∷ more)
-third_after_going basis op p n step more goes (inl then) = inl (then_after_going step more n IsDoneOrBlocked goes then)
-third_after_going basis op p n step more goes (inr (inl (away, later))) = inr (inl (up_to_after_going step more n IsRefusal goes away, later))
-third_after_going basis op p n step more goes (inr (inr (inl (splits, later)))) = inr (inr (inl (turn_after_going step more basis n (BeginsSplits basis) goes splits, later)))
-third_after_going basis op p n step more goes (inr (inr (inr none))) = inr (inr (inr (turn_after_going step more basis n (FindsNoRoom basis op p) goes none)))
+third_after_going : (basis : Basis) (op : ObjOp) (Then : Pass → List OwnStep → Type 0) (p : Pass) (n : ℕ) (step : OwnStep) (more : List OwnStep) → step.told ≡ answer.Going → Third basis op Then p n more → Third basis op Then p (suc n) (step ∷ more)
+third_after_going basis op Then p n step more goes (inl then) = inl (then_after_going step more n IsDoneOrBlocked goes then)
+third_after_going basis op Then p n step more goes (inr (inl (away, later))) = inr (inl (up_to_after_going step more n IsRefusal goes away, later))
+third_after_going basis op Then p n step more goes (inr (inr (inl (splits, later)))) = inr (inr (inl (turn_after_going step more basis n (BeginsSplits basis) goes splits, later)))
+third_after_going basis op Then p n step more goes (inr (inr (inr none))) = inr (inr (inr (turn_after_going step more basis n (FindsNoRoom basis op p Then) goes none)))
 
 -- at the step to the bucket one more answer says that it goes on
 last_of_way : (m root : ℕ) (o : OperationFields) (view : View) → steps_left root o view ≡ suc (suc m) → steps_to_bucket o.walk.phase ≡ 1 → m ≡ 0
 last_of_way m root o view left last = let two = two_left root o view last in omega (arith, left, two)
 
-to_third : (basis : Basis) (op : ObjOp) (steps : List OwnStep) (n : ℕ) (p : Pass) (o : OperationFields) (t : Transaction) (seen : View)
-    → Stage basis op (suc n) p o t seen → n ≤ 3 → AreOwnSteps basis t seen steps → Third basis op p n steps
-to_third basis op [] zero p o t seen stage few own = inl tt
-to_third basis op [] (suc m) p o t seen stage few own = inl tt
-to_third basis op (step ∷ more) zero p o t seen stage few own =
+to_third : (basis : Basis) (op : ObjOp) (Then : Pass → List OwnStep → Type 0) (p : Pass) (then : (next : Pass) (t : Transaction) (seen : View) (steps : List OwnStep) → MayFollow p next → t.at ≡ at.Pending (started_in (Do op) next) → AreOwnSteps basis t seen steps → Then next steps)
+    (steps : List OwnStep) (n : ℕ) (o : OperationFields) (t : Transaction) (seen : View)
+    → Stage basis op (suc n) p o t seen → n ≤ 3 → AreOwnSteps basis t seen steps → Third basis op Then p n steps
+to_third basis op Then p then [] zero o t seen stage few own = inl tt
+to_third basis op Then p then [] (suc m) o t seen stage few own = inl tt
+to_third basis op Then p then (step ∷ more) zero o t seen stage few own =
     inl (ended_then step.told (answers_of more) (last_step basis op 1 p o t seen step stage own.0 refl own.1))
-to_third basis op (step ∷ more) (suc m) p o t seen stage few own =
+to_third basis op Then p then (step ∷ more) (suc m) o t seen stage few own =
     elim (one_step basis op (suc (suc m)) p o t seen step stage own.0 (omega arith) own.1) [
-      | inl waits ↦ third_after_wait basis op p (suc m) waits.page waits.by step more waits.waiting
-          (to_third basis op more (suc m) p o step.after (view_in step.after step.new) waits.stage few own.2)
+      | inl waits ↦ third_after_wait basis op Then p (suc m) waits.page waits.by step more waits.waiting
+          (to_third basis op Then p then more (suc m) o step.after (view_in step.after step.new) waits.stage few own.2)
       | inr (inr away) ↦ inr (inl (refused_in m IsRefusal (λ told is. is) step.told (answers_of more) away.refused, away.later))
       | inr (inl goes) ↦ elim goes.tells [
         | inl on ↦
             let one = one_fewer_after basis (suc (suc m)) o goes.next t seen step own.0 stage.left (omega (arith, few)) on in
             let left : steps_left basis.root goes.next (view_in step.after step.new) ≡ suc m = omega (arith, one) in
-            third_after_going basis op p m step more goes.going
-            (to_third basis op more m p goes.next step.after (view_in step.after step.new)
+            third_after_going basis op Then p m step more goes.going
+            (to_third basis op Then p then more m goes.next step.after (view_in step.after step.new)
             (subst (λ (n : ℕ). Stage basis op n p goes.next step.after (view_in step.after step.new)) left (on_stage basis op (suc (suc m)) p o t seen step stage own.0 goes on)) (omega (arith, few)) own.2)
         | inr (inl splits) ↦
             let first : m ≡ 0 = last_of_way m basis.root o seen stage.left splits.reaches.last in
-            subst (λ (n : ℕ). Third basis op p (suc n) (step ∷ more)) (sym first)
+            subst (λ (n : ℕ). Third basis op Then p (suc n) (step ∷ more)) (sym first)
             (inr (inr (inl (turn_here step more basis (BeginsSplits basis) t goes.going (splitting basis op (suc (suc m)) p o t seen step more stage goes splits own.2) own.2, λ is. splits.later (stage.in_pass ∙ is)))))
         | inr (inr again) ↦
             let first : m ≡ 0 = last_of_way m basis.root o seen stage.left again.reaches.last in
-            subst (λ (n : ℕ). Third basis op p (suc n) (step ∷ more)) (sym first)
-            (inr (inr (inr (turn_here step more basis (FindsNoRoom basis op p) t goes.going (no_room basis op (suc (suc m)) p o t seen step more stage goes again) own.2))))
+            subst (λ (n : ℕ). Third basis op Then p (suc n) (step ∷ more)) (sym first)
+            (inr (inr (inr (turn_here step more basis (FindsNoRoom basis op p Then) t goes.going (no_room basis op (suc (suc m)) p o t seen step more stage goes Then then again own.2) own.2))))
       ]
     ]
 
-from_start : (basis : Basis) (op : ObjOp) (p : Pass) (t : Transaction) (seen : View) (steps : List OwnStep) → t.at ≡ at.Pending (started_in (Do op) p) → AreOwnSteps basis t seen steps → Third basis op p 3 steps
-from_start basis op p t seen steps pending own =
-    to_third basis op steps 3 p (started_in (Do op) p) t seen
+from_start : (basis : Basis) (op : ObjOp) (Then : Pass → List OwnStep → Type 0) (p : Pass) (then : (next : Pass) (t : Transaction) (seen : View) (steps : List OwnStep) → MayFollow p next → t.at ≡ at.Pending (started_in (Do op) next) → AreOwnSteps basis t seen steps → Then next steps)
+    (t : Transaction) (seen : View) (steps : List OwnStep) → t.at ≡ at.Pending (started_in (Do op) p) → AreOwnSteps basis t seen steps → Third basis op Then p 3 steps
+from_start basis op Then p then t seen steps pending own =
+    to_third basis op Then p then steps 3 (started_in (Do op) p) t seen
     (record { pending = pending; asked = refl; in_pass = refl; left = refl; told = λ (last : 4 ≡ 1). absurd (omega (arith, last)); untold = λ some. refl }) (omega arith) own
 
--- **A first pass.**
-pub first_pass : (basis : Basis) (op : ObjOp) (t : Transaction) (seen : View) (steps : List OwnStep) → t.at ≡ at.Pending (started_in (Do op) pass.First) → AreOwnSteps basis t seen steps → TakesFirstPass basis op steps
-first_pass basis op t seen steps pending own = elim (from_start basis op pass.First t seen steps pending own) [
+-- **A wide pass.**
+pub wide_pass : (basis : Basis) (op : ObjOp) (t : Transaction) (seen : View) (steps : List OwnStep) → t.at ≡ at.Pending (started_in (Do op) pass.Wide) → AreOwnSteps basis t seen steps → TakesLaterPass basis steps
+wide_pass basis op t seen steps pending own = elim (from_start basis op (λ next back. TakesLaterPass basis back) pass.Wide (λ next t' seen' back never is own'. absurd never) t seen steps pending own) [
   | inl then ↦ inl then
-  | inr (inl away) ↦ absurd (away.1 refl)
-  | inr (inr (inl splits)) ↦ absurd (splits.1 refl)
-  | inr (inr (inr none)) ↦ inr none
+  | inr (inl away) ↦ inr (inl away.0)
+  | inr (inr (inl splits)) ↦ inr (inr splits.0)
+  | inr (inr (inr none)) ↦ absurd none.turns.follows
 ]
+
+-- what follows a narrow pass
+after_narrow : (basis : Basis) (op : ObjOp) (next : Pass) (t : Transaction) (seen : View) (steps : List OwnStep) → MayFollow pass.Narrow next → t.at ≡ at.Pending (started_in (Do op) next) → AreOwnSteps basis t seen steps → TakesLaterPass basis steps
+after_narrow basis op next t seen steps is pending own = wide_pass basis op t seen steps (pending ∙ ap (λ (p : Pass). at.Pending (started_in (Do op) p)) is) own
 
 -- **A narrow pass.**
 pub narrow_pass : (basis : Basis) (op : ObjOp) (t : Transaction) (seen : View) (steps : List OwnStep) → t.at ≡ at.Pending (started_in (Do op) pass.Narrow) → AreOwnSteps basis t seen steps → TakesNarrowPass basis op steps
-narrow_pass basis op t seen steps pending own = elim (from_start basis op pass.Narrow t seen steps pending own) [
+narrow_pass basis op t seen steps pending own = elim (from_start basis op (λ next back. TakesLaterPass basis back) pass.Narrow (after_narrow basis op) t seen steps pending own) [
   | inl then ↦ inl (inl then)
   | inr (inl away) ↦ inl (inr (inl away.0))
   | inr (inr (inl splits)) ↦ inl (inr (inr splits.0))
   | inr (inr (inr none)) ↦ inr none
 ]
 
--- **A wide pass.**
-pub wide_pass : (basis : Basis) (op : ObjOp) (t : Transaction) (seen : View) (steps : List OwnStep) → t.at ≡ at.Pending (started_in (Do op) pass.Wide) → AreOwnSteps basis t seen steps → TakesLaterPass basis steps
-wide_pass basis op t seen steps pending own = elim (from_start basis op pass.Wide t seen steps pending own) [
+-- what follows a first pass
+after_a_first : (basis : Basis) (op : ObjOp) (next : Pass) (t : Transaction) (seen : View) (steps : List OwnStep) → MayFollow pass.First next → t.at ≡ at.Pending (started_in (Do op) next) → AreOwnSteps basis t seen steps → TakesNextPass basis op next steps
+after_a_first basis op pass.First t seen steps (inl is) pending own = cc
+after_a_first basis op pass.First t seen steps (inr is) pending own = cc
+after_a_first basis op pass.Narrow t seen steps may pending own = narrow_pass basis op t seen steps pending own
+after_a_first basis op pass.Wide t seen steps may pending own = wide_pass basis op t seen steps pending own
+
+-- **A first pass.**
+pub first_pass : (basis : Basis) (op : ObjOp) (t : Transaction) (seen : View) (steps : List OwnStep) → t.at ≡ at.Pending (started_in (Do op) pass.First) → AreOwnSteps basis t seen steps → TakesFirstPass basis op steps
+first_pass basis op t seen steps pending own = elim (from_start basis op (TakesNextPass basis op) pass.First (after_a_first basis op) t seen steps pending own) [
   | inl then ↦ inl then
-  | inr (inl away) ↦ inr (inl away.0)
-  | inr (inr (inl splits)) ↦ inr (inr splits.0)
-  | inr (inr (inr none)) ↦ absurd none.turns.follows
+  | inr (inl away) ↦ absurd (away.1 refl)
+  | inr (inr (inl splits)) ↦ absurd (splits.1 refl)
+  | inr (inr (inr none)) ↦ inr none
 ]

@@ -63,9 +63,11 @@ MayFollow First next = (next ≡ Narrow) ⊎ (next ≡ Wide)
 MayFollow Narrow next = next ≡ Wide
 MayFollow Wide next = ⊥
 
--- An addition finds no room in its bucket in this pass. All is rolled back, and another pass begins, to split the bucket.
-pub record FindsNoRoom (basis : Basis) (op : ObjOp) (in_pass : Pass) (before : Transaction)
-    (step : OwnStep) (back : List OwnStep) : Type 0 where
+-- An addition finds no room in its bucket in this pass. All is rolled back, and another pass begins, to split the bucket; of
+-- that pass and the steps behind this is so.
+pub record FindsNoRoom (basis : Basis) (op : ObjOp) (in_pass : Pass)
+    (Then : Pass → List OwnStep → Type 0) (before : Transaction) (step : OwnStep)
+    (back : List OwnStep) : Type 0 where
   pub o : OperationFields
   pub pending : before.at ≡ at.Pending o
   pub next : Pass
@@ -73,6 +75,7 @@ pub record FindsNoRoom (basis : Basis) (op : ObjOp) (in_pass : Pass) (before : T
   pub begins : step.after.at ≡ at.Pending (started_in (Do op) next)
   pub restarts : Restarts (basis_at basis step) (moment before.subtx step.old.pages)
       (moment step.after.subtx step.new.pages) o (started_in (Do op) next)
+  pub later : Then next back
 
 -- The bucket is of depth l, in a directory of depth g, and has room once it is split down to depth d.
 pub record IsToSplit (basis : Basis) (seen : View) (o : OperationFields) (l g d : ℕ) : Type 0 where
@@ -100,13 +103,6 @@ pub record BeginsSplits (basis : Basis) (before : Transaction) (step : OwnStep)
   pub plan : IsToSplit basis (view_in step.after step.new) o' l g d
   pub ends : GoesUpTo (2 + 3 * (d - l) + extra_of_splits (d - l) l g) IsEnd (answers_of back)
 
--- A first pass is told Done or Blocked at its fourth step, and Going at the three before it. Or it is an addition that finds
--- no room: then it is told Going at its third step too.
-abbrev pub TakesFirstPass : Basis → ObjOp → List OwnStep → Type 0
-TakesFirstPass basis op steps =
-    GoesThen 3 IsDoneOrBlocked (answers_of steps)
-    ⊎ GoesToTurn basis 3 (FindsNoRoom basis op First) steps
-
 -- A pass that may split is told Done or Blocked at its fourth step, and Going at the three before it; or it is refused
 -- earlier; or it splits.
 abbrev pub TakesLaterPass : Basis → List OwnStep → Type 0
@@ -118,7 +114,21 @@ TakesLaterPass basis steps =
 -- A narrow pass may also be given up, for a wide one: it is told Going at three steps.
 abbrev pub TakesNarrowPass : Basis → ObjOp → List OwnStep → Type 0
 TakesNarrowPass basis op steps =
-    TakesLaterPass basis steps ⊎ GoesToTurn basis 3 (FindsNoRoom basis op Narrow) steps
+    TakesLaterPass basis steps
+    ⊎ GoesToTurn basis 3 (FindsNoRoom basis op Narrow (λ next back. TakesLaterPass basis back)) steps
+
+-- a pass that follows a first one
+abbrev pub TakesNextPass : Basis → ObjOp → Pass → List OwnStep → Type 0
+TakesNextPass basis op First steps = ⊥
+TakesNextPass basis op Narrow steps = TakesNarrowPass basis op steps
+TakesNextPass basis op Wide steps = TakesLaterPass basis steps
+
+-- A first pass is told Done or Blocked at its fourth step, and Going at the three before it. Or it is an addition that finds
+-- no room: then it is told Going at its third step too, and the next pass follows.
+abbrev pub TakesFirstPass : Basis → ObjOp → List OwnStep → Type 0
+TakesFirstPass basis op steps =
+    GoesThen 3 IsDoneOrBlocked (answers_of steps)
+    ⊎ GoesToTurn basis 3 (FindsNoRoom basis op First (TakesNextPass basis op)) steps
 
 -- An operation of this transaction is to be taken back: its inverse has not taken a step.
 pub record IsToTakeBack (t : Transaction) (last : ObjOp × ObjReply) : Type 0 where

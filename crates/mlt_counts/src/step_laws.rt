@@ -14,7 +14,8 @@ ghost use Rattle.mlt_counts.specs.Counts.{IsToTakeBack, TakesBackInFour, TakesFi
 ghost use Rattle.mlt_counts.specs.OwnSteps.{AreOwnSteps, OwnStep};
 
 /// From a call, or from a Blocked, an operation is told Done or Blocked at its fourth step, and Going at the three before it;
-/// but for an addition that finds no room, which is told Going at its third step too and begins another pass.
+/// but for an addition that finds no room. That one is told Going at its third step too; and then comes a narrow pass or a wide
+/// one, as the two laws below have it.
 pub fn first_passes_take_four_steps()
     ensures { (basis : Basis) (op : ObjOp) (t : Transaction) (seen : View) (steps : List OwnStep)
         → t.at ≡ at.Pending (started_in (Do op) First)

@@ -31,7 +31,7 @@ pub fn steps_of_a_run_are_own_steps<P: Pseudo>()
 {}
 
 /// From a call on an operation is told Done or Blocked at its fourth step, and Going at the three before it; but for an
-/// addition that finds no room, which is told Going at its third step too and begins another pass.
+/// addition that finds no room. That one is told Going at its third step too; and then comes a narrow pass or a wide one.
 pub fn operations_of_a_run_take_few_steps<P: Pseudo>()
     ensures { (old called new : ManagerFields P) (events : List Event) (tolds : List Told)
         (tx : ℕ) (op : ObjOp)
