@@ -6,6 +6,7 @@ mod input;
 use input::Input;
 use mlt_check_text::check_trace;
 use mlt_command_line::{Hash, Job, Run, read_words, report_command_line};
+use mlt_run_counts::{aborts_of_a_run_take_few_steps, operations_of_a_run_take_few_steps};
 use mlt_server::{report_fault, status};
 use mlt_solo::solo;
 use mlt_steps::steps;
@@ -80,6 +81,9 @@ fn run_steps<P: Pseudo + Drop>(rt: &HostRuntime, run: &Run, pseudo: P) -> Result
     let mut input = Input::open(rt, run.file.as_str())?;
     let limits = Limits::program();
     let manager = steps(rt.alloc(), &mut input, &mut io::writer(rt), limits, pseudo)?;
+    // How many steps its operations took, and its aborts.
+    operations_of_a_run_take_few_steps::<P>();
+    aborts_of_a_run_take_few_steps::<P>();
     let written = write_history(rt, manager.history(), run);
     manager.close();
     written
