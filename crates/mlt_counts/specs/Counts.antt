@@ -115,7 +115,8 @@ TakesLaterPass basis steps =
 abbrev pub TakesNarrowPass : Basis → ObjOp → List OwnStep → Type 0
 TakesNarrowPass basis op steps =
     TakesLaterPass basis steps
-    ⊎ GoesToTurn basis 3 (FindsNoRoom basis op Narrow (λ next back. TakesLaterPass basis back)) steps
+    ⊎ GoesToTurn basis 3
+    (FindsNoRoom basis op Narrow (λ next back. TakesLaterPass basis back)) steps
 
 -- a pass that follows a first one
 abbrev pub TakesNextPass : Basis → ObjOp → Pass → List OwnStep → Type 0

@@ -13,17 +13,18 @@ ghost use Rattle.mlt_transaction.specs.declared.transaction.Transaction.{Transac
 ghost use Rattle.mlt_counts.specs.Counts.{IsToTakeBack, TakesBackInFour, TakesFirstPass, TakesLaterPass, TakesNarrowPass, started_in};
 ghost use Rattle.mlt_counts.specs.OwnSteps.{AreOwnSteps, OwnStep};
 
-/// From a call, or from a Blocked, an operation is told Done or Blocked at its fourth step, and Going at the three before it;
-/// but for an addition that finds no room. That one is told Going at its third step too; and then comes a narrow pass or a wide
-/// one, as the two laws below have it.
+/// From a call, or from a Blocked, an operation is told Done or Blocked at its fourth step, and Going at the three before
+/// it; but for an addition that finds no room. That one is told Going at its third step too; and then comes a narrow pass
+/// or a wide one, as the two laws below have it.
 pub fn first_passes_take_four_steps()
     ensures { (basis : Basis) (op : ObjOp) (t : Transaction) (seen : View) (steps : List OwnStep)
         → t.at ≡ at.Pending (started_in (Do op) First)
         → AreOwnSteps basis t seen steps → TakesFirstPass basis op steps }
 {}
 
-/// A narrow pass is told so too; or it is refused earlier; or it is given up at its third step, told Going, for a wide one; or it
-/// splits its bucket, k times at most, and is told Done or Blocked within 5 + 3 * k + c steps, or refused earlier.
+/// A narrow pass is told so too; or it is refused earlier; or it is given up at its third step, told Going, for a wide
+/// one; or it splits its bucket, k times at most, and is told Done or Blocked within 5 + 3 * k + c steps, or refused
+/// earlier.
 pub fn narrow_passes_take_few_steps()
     ensures { (basis : Basis) (op : ObjOp) (t : Transaction) (seen : View) (steps : List OwnStep)
         → t.at ≡ at.Pending (started_in (Do op) Narrow)
