@@ -1,8 +1,7 @@
 //! The calls of a desk over a shared manager.
 
-ghost use Rattle.std.specs.Prelude.{◌≡◌, ◌+◌, ◌-◌, ◌^◌, min, IfErr};
-ghost use Rattle.mlt_lock_desk.specs.Holds.{IsToldTo};
-ghost use Rattle.mlt_lock_desk.specs.Refusals.{IsOfOperation};
+ghost use Rattle.std.specs.Prelude.{◌≡◌, ◌+◌, ◌-◌, ◌^◌, min};
+ghost use Rattle.mlt_lock_desk.specs.Holds.{IsToldTo, MayAnswerOperation};
 
 use crate::gate::Gate;
 use crate::lock_desk::{LockDesk, Tries};
@@ -142,7 +141,7 @@ impl<'a, P: Pseudo, L: Ledger, R: Wait, G: Gate> LockDesk<'a, P, L, R, G> {
     /// Steps of an operation that was called, up to its reply. An answer that comes only where another desk acts for the
     /// same transaction is answered by `NoSuchTx`.
     fn steps(&mut self, tx: TxId) -> Result<ObjReply, Refusal>
-        ensures { IfErr result IsOfOperation }
+        ensures { MayAnswerOperation P.bits_of tx result }
     {
         let rt = self.rt;
         for _ in rt.forever() {
@@ -181,14 +180,13 @@ impl<'a, P: Pseudo, L: Ledger, R: Wait, G: Gate> LockDesk<'a, P, L, R, G> {
 }
 
 impl<'a, P: Pseudo, L: Ledger, R: Wait, G: Gate> Desk for LockDesk<'a, P, L, R, G> {
-    ghost use Rattle.std.specs.Prelude.{IfErr};
-    ghost use Rattle.mlt_lock_desk.specs.Refusals.{IsOfBegin, IsOfCommit, IsOfOperation};
+    ghost use Rattle.mlt_lock_desk.specs.Holds.{MayAnswerBegin, MayAnswerCommit, MayAnswerOperation};
 
-    ghost begins = { λ _ answer _. IfErr answer IsOfBegin };
+    ghost begins = { λ _ answer _. MayAnswerBegin P.bits_of answer };
 
-    ghost answers = { λ _ _ _ answer _. IfErr answer IsOfOperation };
+    ghost answers = { λ _ tx _ answer _. MayAnswerOperation P.bits_of tx answer };
 
-    ghost commits = { λ _ _ answer _. IfErr answer IsOfCommit };
+    ghost commits = { λ _ tx answer _. MayAnswerCommit P.bits_of tx answer };
 
     ghost aborts = { λ _ _ _. Unit {0} };
 
