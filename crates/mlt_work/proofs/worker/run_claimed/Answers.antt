@@ -1,0 +1,32 @@
+use Rattle.std.proofs.Common.{◌≡◌, ℕ, ◌<◌, ◌∷◌, ◌++◌, [], List, length, map, get_or, refl, sym, ap, ◌∙◌, subst, arith, Vec, Global}
+use Rattle.std.proofs.lemmas.List.{map-append, get_or-map, length-map}
+use Rattle.std.proofs.lemmas.List.Elements.{All-push}
+use Rattle.mlt_claims.specs.Claims.{view}
+use Rattle.mlt_claims.specs.Seats.{view_of}
+use Rattle.mlt_tree.specs.declared.script.Script.{Script}
+use Rattle.mlt_tree.specs.Scripts.{ScriptForm}
+use Rattle.mlt_desk.specs.Clients.{AreOutcomes}
+use Rattle.mlt_places.specs.declared.forms.ClientRun.{ClientRun}
+use Rattle.mlt_places.specs.Places.{IsClientRun, place_of, scripts_of_clients}
+use Rattle.mlt_places.proofs.Placing.{draws_client}
+use Rattle.mlt_work.proofs.worker.run_claimed.Goals as goal
+
+pub claims-preserved : goal.claims-preserved
+claims-preserved g c =
+    let l = c.claims in
+    let clients = c.args.clients.now in
+    let items = λ (client : Vec Script Global). client.items in
+    let lists : List (List ScriptForm) = scripts_of_clients clients in
+    let number = c.draw-number.result in
+    let small : number < length clients = omega arith in
+    let client = c.index-clients-place.result in
+    let run : ClientRun = record { place = number; outcomes = c.in-Ok.outcomes } in
+    let here : get_or lists number [] ≡ c.as_slice-scripts.result.now = get_or-map items clients number client [] small ∙ ap items (sym c.index-clients-place.is) ∙ sym c.as_slice-scripts.ensures.value in
+    let long : length lists ≡ length clients = length-map clients items in
+    let one : IsClientRun lists run = (omega arith, subst (λ (ss : List ScriptForm). AreOutcomes 0 ss c.in-Ok.outcomes.items) (sym here) c.in-Ok.ensures.outcomes) in
+    rw (c.push_reserved.ensures.items, c.reserve.ensures.items) record {
+      seat = c.draw-number.ensures.beside ∙ l.invariant.seat;
+      view = draws_client (view_of l.drawer) (view_of c.draw-number.new.drawer) (length clients) number (map place_of l.runs.items) l.invariant.view c.draw-number.ensures.drawn small
+          ∙ ap (λ (ns : List ℕ). view 1 1 (length clients) ns) (sym (map-append place_of l.runs.items (run ∷ [])));
+      each = All-push (IsClientRun lists) l.runs.items run l.invariant.each one;
+    }

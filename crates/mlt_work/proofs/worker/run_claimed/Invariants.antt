@@ -1,0 +1,13 @@
+use Rattle.std.proofs.Common.{◌≡◌, length, map}
+use Rattle.std.specs.Prelude.{All}
+use Rattle.mlt_claims.specs.Claims.{view}
+use Rattle.mlt_claims.specs.Seats.{IsOf, view_of}
+use Rattle.mlt_places.specs.Places.{IsClientRun, place_of, scripts_of_clients}
+use Rattle.mlt_work.proofs.worker.run_claimed.Given as goal
+
+abbrev pub invariant-claims : goal.invariant-claims
+invariant-claims g l = record {
+  seat : IsOf l.counter l.drawer;
+  view : view_of l.drawer ≡ view 1 1 (length l.clients) (map place_of l.runs.items);
+  each : All (IsClientRun (scripts_of_clients l.clients)) l.runs.items;
+}

@@ -1,0 +1,49 @@
+//! All workers.
+
+ghost use Rattle.std.specs.Prelude.{◌≡◌, All, IfOk, length, vec_len};
+ghost use Rattle.mlt_places.specs.Places.{scripts_of_clients};
+ghost use Rattle.mlt_places.specs.Workers.{HasWorked, IsFresh};
+
+use crate::worker::work;
+use mlt_claims::Counter;
+use mlt_lock_desk::{Gate, Shared};
+use mlt_places::{Job, Worked};
+use mlt_tree::Script;
+use mlt_types::Pseudo;
+use std::alloc::{AllocError, Global};
+use std::sync::Wait;
+use std::sync::ledger::Ledger;
+use std::thread;
+use std::thread::Threads;
+
+/// Does each job in a thread of its own, or in this one where a thread is refused, and joins them all.
+///
+/// # Errors
+/// Where the list of results is refused its memory. All threads are joined then too.
+pub(crate) fn work_all<
+    P: Pseudo + Send,
+    L: Ledger + Send + Sync,
+    R: Threads + Wait + Sync,
+    G: Gate + Sync,
+>(
+    rt: &R,
+    alloc: Global,
+    shared: &Shared<P, L>,
+    gate: &G,
+    counter: &Counter,
+    clients: &[Vec<Script>],
+    tries: u64,
+    jobs: Vec<Job<L>>,
+) -> Result<Vec<Worked<L>>, AllocError>
+    requires { All (λ job. IsFresh counter.now (length clients.now) job.drawer) jobs.items }
+    ensures len { IfOk result (λ results. vec_len results ≡ vec_len jobs) }
+    ensures each { IfOk result (λ results. All (λ worked. HasWorked counter.now
+        (scripts_of_clients clients.now) worked.drawer worked.runs.items worked.failed)
+        results.items) }
+{
+    thread::map_vec(
+        rt,
+        jobs,
+        &|job| { work(rt, alloc, shared, gate, counter, clients, tries, job) },
+    )
+}

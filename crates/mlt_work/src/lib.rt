@@ -1,0 +1,9 @@
+//! Scripts of many clients, run side by side by workers in threads on one manager.
+#![tactic(auto)]
+
+mod crew;
+mod reporting;
+mod running;
+mod worker;
+
+pub use running::run;

@@ -1,0 +1,130 @@
+//! The scripts of all clients, by several workers.
+
+ghost use Rattle.std.specs.Prelude.{◌≡◌, ◌≤◌, ◌<◌, ◌⊎◌, IfErr, IfOk};
+ghost use Rattle.mlt_audit.specs.Agreement.{Agrees};
+ghost use Rattle.mlt_audit.specs.Committed.{IsBaseOfReceipts};
+ghost use Rattle.mlt_places.specs.Places.{AreAllOutcomes, scripts_of_clients};
+
+use crate::crew::work_all;
+use crate::reporting::report_of;
+use mlt_claims::Counter;
+use mlt_lock_desk::{Gate, Hall, Shared};
+use mlt_manager::Manager;
+use mlt_places::{collect, empty_slots, jobs_for};
+use mlt_serial::Report;
+use mlt_tree::Script;
+use mlt_types::{Limits, Pseudo, Refusal};
+use std::alloc::Global;
+use std::marker::Brand;
+use std::sync::Wait;
+use std::sync::ledger::{Blank, Ledger};
+use std::thread::Threads;
+
+fn run_with<
+    L: Ledger + Send + Sync,
+    P: Pseudo + Drop + Send,
+    R: Threads + Wait + Sync,
+    G: Gate + Sync,
+>(
+    rt: &R,
+    alloc: Global,
+    blank: Blank,
+    limits: Limits,
+    pseudo: P,
+    clients: &[Vec<Script>],
+    workers: usize,
+    tries: u64,
+    gate: &G,
+) -> Result<(Report, Manager<P>), Refusal>
+    requires name { blank.name ≡ L.name }
+    requires parts { blank.parts ≡ L.parts }
+    requires nine { blank.parts ≡ 9 }
+    requires some { 0 < workers }
+    requires most { workers ≤ 8 }
+    ensures outcomes { IfOk result
+        (λ got. AreAllOutcomes (scripts_of_clients clients.now) got.0.outcomes) }
+    ensures events { IfOk result (λ got. got.1.events ≡ got.0.events) }
+    ensures receipts { IfOk result
+        (λ got. Agrees got.0.outcomes got.1.commons.history.items) }
+    ensures base { IfOk result (λ got. IsBaseOfReceipts got.0.outcomes got.0.base) }
+    ensures refusal { IfErr result
+        (λ refusal. (refusal ≡ Refusal.OutOfMemory) ⊎ (refusal ≡ Refusal.Audit)) }
+{
+    let (book, mut all) = blank.open::<L>();
+    let (counter, mut first) = Counter::new(alloc, clients.len() as u64)?;
+    let slots = empty_slots(alloc, clients.len())?;
+    let jobs = jobs_for(
+        alloc,
+        &counter,
+        &mut first,
+        &mut all,
+        clients.len() as u64,
+        workers,
+    )?;
+    let manager = Manager::new(alloc, limits, pseudo)?;
+    let shared = Shared::new(Hall::new(manager, book));
+    let results = match work_all(rt, alloc, &shared, gate, &counter, clients, tries, jobs) {
+        Ok(results) => results,
+        Err(_) => {
+            shared.into_manager();
+            return Err(Refusal::OutOfMemory);
+        }
+    };
+    let (outcomes, events) = match collect(
+        alloc, counter, clients, first, &mut all, slots, results,
+    ) {
+        Ok(got) => got,
+        Err(refusal) => {
+            shared.into_manager();
+            return Err(refusal);
+        }
+    };
+    let manager = shared.close(&mut all);
+    let report = report_of(outcomes, events, &manager)?;
+    Ok((report, manager))
+}
+
+/// Runs the scripts of all clients on a new manager, by that many workers. Each worker claims a client, runs its scripts in
+/// order, and claims the next; each call of the manager is one event, under one lock. A script that is told to wait, or
+/// that it is blocked, more often than it has tries is aborted, as is one that is refused an operation; its outcome says why.
+///
+/// # Errors
+/// `OutOfMemory`, where a growth was refused outside a script. `Audit`, where the outcomes do not agree with the manager's
+/// history. All threads are joined.
+pub fn run<P: Pseudo + Drop + Send, R: Threads + Wait + Sync, G: Gate + Sync>(
+    rt: &R,
+    alloc: Global,
+    limits: Limits,
+    pseudo: P,
+    clients: &[Vec<Script>],
+    workers: usize,
+    tries: u64,
+    gate: &G,
+) -> Result<(Report, Manager<P>), Refusal>
+    requires some { 0 < workers }
+    requires most { workers ≤ 8 }
+    // an outcome for each script, clients and scripts in order
+    ensures outcomes { IfOk result
+        (λ got. AreAllOutcomes (scripts_of_clients clients.now) got.0.outcomes) }
+    // the events that the workers counted are those of the manager
+    ensures events { IfOk result (λ got. got.1.events ≡ got.0.events) }
+    // what scripts were told is what the manager has done
+    ensures receipts { IfOk result
+        (λ got. Agrees got.0.outcomes got.1.commons.history.items) }
+    // the committed scripts, run alone in commit order, lead to this base
+    ensures base { IfOk result (λ got. IsBaseOfReceipts got.0.outcomes got.0.base) }
+    ensures refusal { IfErr result
+        (λ refusal. (refusal ≡ Refusal.OutOfMemory) ⊎ (refusal ≡ Refusal.Audit)) }
+{
+    run_with::<Brand, P, R, G>(
+        rt,
+        alloc,
+        Blank::new(9),
+        limits,
+        pseudo,
+        clients,
+        workers,
+        tries,
+        gate,
+    )
+}
