@@ -66,7 +66,7 @@ fn run_with<
     let results = match work_all(rt, alloc, &shared, gate, &counter, clients, tries, jobs) {
         Ok(results) => results,
         Err(_) => {
-            shared.into_manager();
+            shared.into_manager().close();
             return Err(Refusal::OutOfMemory);
         }
     };
@@ -75,13 +75,18 @@ fn run_with<
     ) {
         Ok(got) => got,
         Err(refusal) => {
-            shared.into_manager();
+            shared.into_manager().close();
             return Err(refusal);
         }
     };
     let manager = shared.close(&mut all);
-    let report = report_of(outcomes, events, &manager)?;
-    Ok((report, manager))
+    match report_of(outcomes, events, &manager) {
+        Ok(report) => Ok((report, manager)),
+        Err(refusal) => {
+            manager.close();
+            Err(refusal)
+        }
+    }
 }
 
 /// Runs the scripts of all clients on a new manager, by that many workers. Each worker claims a client, runs its scripts in
