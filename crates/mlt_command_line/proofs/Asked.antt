@@ -7,9 +7,9 @@ use Rattle.clap.specs.declared.builder.value_parser.ValueParser.{ValueParser}
 use Rattle.clap.proofs.OnLiterals.{clap_on_literals}
 use Rattle.clap.specs.declared.error.Error.{Error}
 use Rattle.clap.specs.declared.error.kind.ErrorKind.TheVariants.{MissingRequiredArgument, OutOfMemory}
-use Rattle.mlt_command_line.specs.CommandLine.{AreHashNames, AskFor, Asked, FailsAt, IsFileWord, NameList, Subcommand, asked_by, asked_in, begins_with_hyphen, hash_named, mltx_app, run_in, run_of, subcommand_name, with_file}
+use Rattle.mlt_command_line.specs.CommandLine.{AreHashNames, AskFor, Asked, FailsAt, IsFileWord, NameList, Subcommand, asked_by, asked_in, begins_with_hyphen, hash_named, mltx_app, run_in, run_of, subcommand_name, with_input}
 use Rattle.mlt_command_line.specs.declared.words.Hash.{Hash}
-use Rattle.mlt_command_line.specs.CommandLine.Subcommand.{solo, steps, check}
+use Rattle.mlt_command_line.specs.CommandLine.Subcommand.{solo, steps, run, check, serve}
 
 -- ---- the program's description, wherever the names of hash functions lie
 
@@ -25,45 +25,57 @@ mltx_is_free names = refl
 
 module _ (names : NameList) where
   asked_plain : (subcommand : Subcommand) (x : ℕ) (xs : List ℕ) → nat_eq x 45 ≡ false
-      → asked_in (subcommand_of (mltx_app names) (subcommand_name subcommand ∷ (x ∷ xs) ∷ [])) ≡ Some (with_file subcommand (x ∷ xs))
+      → asked_in (subcommand_of (mltx_app names) (subcommand_name subcommand ∷ (x ∷ xs) ∷ [])) ≡ Some (with_input subcommand (x ∷ xs))
   unfolding clap_on_literals
   asked_plain solo x xs h = rw h (rw h refl)
   asked_plain steps x xs h = rw h (rw h refl)
+  asked_plain run x xs h = rw h (rw h refl)
   asked_plain check x xs h = rw h (rw h refl)
+  asked_plain serve x xs h = rw h (rw h refl)
 
   kinds_plain : (subcommand : Subcommand) (x : ℕ) (xs : List ℕ) → nat_eq x 45 ≡ false
       → fault_of (mltx_app names) (subcommand_name subcommand ∷ (x ∷ xs) ∷ []) ≡ []
   unfolding clap_on_literals
   kinds_plain solo x xs h = rw h (rw h refl)
   kinds_plain steps x xs h = rw h (rw h refl)
+  kinds_plain run x xs h = rw h (rw h refl)
   kinds_plain check x xs h = rw h (rw h refl)
+  kinds_plain serve x xs h = rw h (rw h refl)
 
-  asked_hyphen : (subcommand : Subcommand) → asked_in (subcommand_of (mltx_app names) (subcommand_name subcommand ∷ codes "-" ∷ [])) ≡ Some (with_file subcommand (codes "-"))
+  asked_hyphen : (subcommand : Subcommand) → asked_in (subcommand_of (mltx_app names) (subcommand_name subcommand ∷ codes "-" ∷ [])) ≡ Some (with_input subcommand (codes "-"))
   unfolding clap_on_literals
   asked_hyphen solo = refl
   asked_hyphen steps = refl
+  asked_hyphen run = refl
   asked_hyphen check = refl
+  asked_hyphen serve = refl
 
   kinds_hyphen : (subcommand : Subcommand) → fault_of (mltx_app names) (subcommand_name subcommand ∷ codes "-" ∷ []) ≡ []
   unfolding clap_on_literals
   kinds_hyphen solo = refl
   kinds_hyphen steps = refl
+  kinds_hyphen run = refl
   kinds_hyphen check = refl
+  kinds_hyphen serve = refl
 
-  asked_empty : (subcommand : Subcommand) → asked_in (subcommand_of (mltx_app names) (subcommand_name subcommand ∷ [] ∷ [])) ≡ Some (with_file subcommand [])
+  asked_empty : (subcommand : Subcommand) → asked_in (subcommand_of (mltx_app names) (subcommand_name subcommand ∷ [] ∷ [])) ≡ Some (with_input subcommand [])
   unfolding clap_on_literals
   asked_empty solo = refl
   asked_empty steps = refl
+  asked_empty run = refl
   asked_empty check = refl
+  asked_empty serve = refl
 
   kinds_empty : (subcommand : Subcommand) → fault_of (mltx_app names) (subcommand_name subcommand ∷ [] ∷ []) ≡ []
   unfolding clap_on_literals
   kinds_empty solo = refl
   kinds_empty steps = refl
+  kinds_empty run = refl
   kinds_empty check = refl
+  kinds_empty serve = refl
 
   asked_unhyphened : (subcommand : Subcommand) (file : Text) → begins_with_hyphen file ≡ false
-      → asked_in (subcommand_of (mltx_app names) (subcommand_name subcommand ∷ file ∷ [])) ≡ Some (with_file subcommand file)
+      → asked_in (subcommand_of (mltx_app names) (subcommand_name subcommand ∷ file ∷ [])) ≡ Some (with_input subcommand file)
   asked_unhyphened subcommand [] h = asked_empty subcommand
   asked_unhyphened subcommand (x ∷ xs) h = asked_plain subcommand x xs h
 
@@ -73,9 +85,9 @@ module _ (names : NameList) where
   kinds_unhyphened subcommand (x ∷ xs) h = kinds_plain subcommand x xs h
 
   asked_file : (subcommand : Subcommand) (file : Text) → IsFileWord file
-      → asked_in (subcommand_of (mltx_app names) (subcommand_name subcommand ∷ file ∷ [])) ≡ Some (with_file subcommand file)
+      → asked_in (subcommand_of (mltx_app names) (subcommand_name subcommand ∷ file ∷ [])) ≡ Some (with_input subcommand file)
   asked_file subcommand file (inl is) =
-      subst (λ f. asked_in (subcommand_of (mltx_app names) (subcommand_name subcommand ∷ f ∷ [])) ≡ Some (with_file subcommand f)) (sym is) (asked_hyphen subcommand)
+      subst (λ f. asked_in (subcommand_of (mltx_app names) (subcommand_name subcommand ∷ f ∷ [])) ≡ Some (with_input subcommand f)) (sym is) (asked_hyphen subcommand)
   asked_file subcommand file (inr h) = asked_unhyphened subcommand file h
 
   kinds_file : (subcommand : Subcommand) (file : Text) → IsFileWord file → fault_of (mltx_app names) (subcommand_name subcommand ∷ file ∷ []) ≡ []
@@ -85,11 +97,11 @@ module _ (names : NameList) where
 -- ---- what that comes to
 
 -- a subcommand and a file ask for nothing else
-pub asked_with_file : (words : List Text) (subcommand : Subcommand) (file : Text) (asked : Asked) → words ≡ subcommand_name subcommand ∷ file ∷ [] → IsFileWord file
-    → AskFor words asked → asked ≡ with_file subcommand file
-asked_with_file words subcommand file asked e is h =
+pub asked_with_input : (words : List Text) (subcommand : Subcommand) (file : Text) (asked : Asked) → words ≡ subcommand_name subcommand ∷ file ∷ [] → IsFileWord file
+    → AskFor words asked → asked ≡ with_input subcommand file
+asked_with_input words subcommand file asked e is h =
     let p = subst (λ ws. AskFor ws asked) e h in
-    let q : Some asked ≡ Some (with_file subcommand file) = sym p.3 ∙ asked_file p.0 subcommand file is in
+    let q : Some asked ≡ Some (with_input subcommand file) = sym p.3 ∙ asked_file p.0 subcommand file is in
     cc
 
 -- and nothing is wrong with them
@@ -98,11 +110,11 @@ only_memory : (subcommand : Subcommand) (file : Text) (error : Error) → IsFile
 only_memory subcommand file error is (inl memory) = memory
 only_memory subcommand file error is (inr (found, are, inl among)) = absurd (subst (IsAmong (kind_of error)) (kinds_file found subcommand file is) among)
 only_memory subcommand file error is (inr (found, are, inr missing)) =
-    let bad : Some (with_file subcommand file) ≡ None = sym (asked_file found subcommand file is) ∙ missing.0 in cc
+    let bad : Some (with_input subcommand file) ≡ None = sym (asked_file found subcommand file is) ∙ missing.0 in cc
 
-pub fails_with_file : (words : List Text) (subcommand : Subcommand) (file : Text) (error : Error) → words ≡ subcommand_name subcommand ∷ file ∷ [] → IsFileWord file
+pub fails_with_input : (words : List Text) (subcommand : Subcommand) (file : Text) (error : Error) → words ≡ subcommand_name subcommand ∷ file ∷ [] → IsFileWord file
     → FailsAt words error → kind_of error ≡ OutOfMemory
-fails_with_file words subcommand file error e is h = only_memory subcommand file error is (subst (λ ws. FailsAt ws error) e h)
+fails_with_input words subcommand file error e is h = only_memory subcommand file error is (subst (λ ws. FailsAt ws error) e h)
 
 -- ---- what a parse tells, where there are words
 
@@ -152,13 +164,16 @@ with_parser old new rule parser others given is =
 -- ---- the run that the rows of a subcommand ask for
 
 pub no_hash : (rows : List Row) → None ≡ hash_named (first_of (codes "hash") rows) → None ≡ run_in rows
-no_hash rows none = go (first_of (codes "file") rows) (hash_named (first_of (codes "hash") rows)) none
+no_hash rows none = go (first_of (codes "input") rows) (hash_named (first_of (codes "hash") rows)) none
   where
     go : (file : Option Text) (hash : Option Hash) → None ≡ hash → None ≡ run_of file hash (first_of (codes "trace") rows)
     go None hash is = refl
     go (Some file) None is = refl
     go (Some file) (Some hash) is = cc
 
-pub run_is : (rows : List Row) (file : Text) (hash : Hash) (trace : Option Text) → Some file ≡ first_of (codes "file") rows → Some hash ≡ hash_named (first_of (codes "hash") rows)
-    → trace ≡ first_of (codes "trace") rows → Some (record { file = file; hash = hash; trace = trace }) ≡ run_in rows
-run_is rows file hash trace file_is hash_is trace_is = λ i. run_of (file_is i) (hash_is i) (trace_is i)
+pub run_is : (rows : List Row) (input : Text) (hash : Hash) (trace : Option Text)
+    → Some input ≡ first_of (codes "input") rows
+    → Some hash ≡ hash_named (first_of (codes "hash") rows) → trace ≡ first_of (codes "trace") rows
+    → Some (record { input = input; hash = hash; trace = trace }) ≡ run_in rows
+run_is rows input hash trace input_is hash_is trace_is =
+    λ i. run_of (input_is i) (hash_is i) (trace_is i)

@@ -1,10 +1,11 @@
 //! What `clap` reads the words of the command line by: the subcommands, their arguments and their help.
 
 ghost use Rattle.std.specs.Prelude.{◌≡◌, IfOk, false};
-ghost use Rattle.clap.specs.Words.{app_of};
+ghost use Rattle.clap.specs.Words.{app_of, rule_of};
 ghost use Rattle.clap.specs.declared.builder.command.Command.TheViews.{out-Command};
-ghost use Rattle.mlt_command_line.specs.CommandLine.{bare_app, file_app, mltx_app, run_app};
+ghost use Rattle.mlt_command_line.specs.CommandLine.{bare_app, input_app, mltx_app, number_rule, run_app, serve_app, work_app};
 
+use clap::builder::ValueParser;
 use clap::{Arg, Command};
 use std::alloc::{AllocError, Global};
 
@@ -17,8 +18,6 @@ const NO_WORDS: &str =
     "With no words at all it is `solo -`: the scripts are read from standard input.
 
 Example: mltx solo scripts.txt";
-
-const FILE_HELP: &str = "The file to read; `-` is standard input";
 
 const HASH_HELP: &str = "The hash function of the pages; without it `mult`";
 
@@ -60,6 +59,41 @@ const STEPS_EXAMPLE: &str = "Example: mltx steps schedule.txt
 Transaction 3 is blocked while 2 may still abort: the reply would be `short` with its
 withdrawal, and is `done` without it.";
 
+const RUN_ABOUT: &str =
+    "Runs the scripts of FILE side by side, those of a client one after another, and prints what each was told, and then the base.";
+
+const RUN_EXAMPLE: &str = "Example: mltx run scripts.txt --workers 2 --trace trace.txt
+
+  scripts.txt      standard output
+  begin 1          client 1 script 1
+  up 7 5           done
+  commit           committed 1
+  begin 2          client 2 script 1
+  up 7 2           done
+  commit           committed 2
+                   counter 7 7
+
+The numbers of commits, and which script waits for which, differ from run to run; the base
+of scripts such as these does not. `mltx check trace.txt` shows that the committed scripts,
+run alone in the order of their commits, are told the same.";
+
+const SERVE_ABOUT: &str =
+    "Listens on ADDR, and serves connections: each is a session of lines, and each line has its answer.";
+
+const SERVE_EXAMPLE: &str = "Example: mltx serve 127.0.0.1:7000 --limit 2
+         nc 127.0.0.1 7000
+
+  line             answer
+  begin            begun 1
+  open 1           opened
+  deposit 1 50     done
+  balance 1        is 50
+  commit           committed 1
+  quit             bye
+
+An open transaction is taken back as its connection ends. Once all connections have ended
+the program writes `served` with their number, and the trace where one is asked for.";
+
 const CHECK_ABOUT: &str =
     "Checks the trace of FILE: whether its transactions, run alone in the order of their commits, are told the same.";
 
@@ -77,6 +111,32 @@ const CHECK_EXAMPLE: &str = "Example: mltx check trace.txt
 
 With `over` in place of `done` it is `mltx: 11 TraceFault line 4 Reply` on standard error.";
 
+const FILE: InputHelp = InputHelp {
+    value_name: "FILE",
+    help: "The file to read; `-` is standard input",
+};
+
+const ADDRESS: InputHelp = InputHelp {
+    value_name: "ADDR",
+    help: "The IP address and port to listen on, as `127.0.0.1:7000`",
+};
+
+const TRIES_HELP: &str =
+    "How often a script, or an operation of a session, may be told to wait; without it 10000";
+
+const WORKERS_HELP: &str = "How many workers run scripts at once, from 1 to 8; without it 4";
+
+const SESSIONS_HELP: &str = "How many sessions are held at once, from 1 to 64; without it 8";
+
+const LIMIT_HELP: &str = "How many connections are served in all, from 1 to 1000000; without it 1";
+
+// How help shows what a subcommand takes, and what it says of it.
+#[derive(Clone, Copy)]
+struct InputHelp {
+    value_name: &'static str,
+    help: &'static str,
+}
+
 // The program's description, where these are the names of the hash functions.
 pub(crate) fn mltx_command<'a>(
     alloc: Global,
@@ -84,13 +144,17 @@ pub(crate) fn mltx_command<'a>(
 ) -> Result<Command<'a>, AllocError>
     ensures { IfOk result (λ command. app_of command ≡ mltx_app names.entry) }
 {
-    let solo = run_command(alloc, "solo", names, SOLO_ABOUT, SOLO_EXAMPLE)?;
-    let steps = run_command(alloc, "steps", names, STEPS_ABOUT, STEPS_EXAMPLE)?;
-    let check = file_command(alloc, "check", CHECK_ABOUT, CHECK_EXAMPLE)?;
+    let solo = run_command(alloc, "solo", FILE, names, SOLO_ABOUT, SOLO_EXAMPLE)?;
+    let steps = run_command(alloc, "steps", FILE, names, STEPS_ABOUT, STEPS_EXAMPLE)?;
+    let run = work_command(alloc, names)?;
+    let check = input_command(alloc, "check", FILE, CHECK_ABOUT, CHECK_EXAMPLE)?;
+    let serve = serve_command(alloc, names)?;
     bare_command(alloc)?
         .subcommand(solo)?
         .subcommand(steps)?
-        .subcommand(check)
+        .subcommand(run)?
+        .subcommand(check)?
+        .subcommand(serve)
 }
 
 fn bare_command<'a>(alloc: Global) -> Result<Command<'a>, AllocError>
@@ -105,30 +169,32 @@ fn bare_command<'a>(alloc: Global) -> Result<Command<'a>, AllocError>
         .bin_name("mltx")
 }
 
-// A subcommand that reads a file.
-fn file_command<'a>(
+// A subcommand with an input.
+fn input_command<'a>(
     alloc: Global,
     name: &'a str,
+    input: InputHelp,
     about: &'a str,
     example: &'a str,
 ) -> Result<Command<'a>, AllocError>
-    ensures app { IfOk result (λ command. app_of command ≡ file_app name.entry.now) }
+    ensures app { IfOk result (λ command. app_of command ≡ input_app name.entry.now) }
     ensures globals { IfOk result (λ command. (out-Command command).has_globals ≡ false) }
 {
-    let file = Arg::new(alloc, "file")
-        .value_name("FILE")
-        .help(FILE_HELP)
+    let arg = Arg::new(alloc, "input")
+        .value_name(input.value_name)
+        .help(input.help)
         .required(true);
     Command::new(alloc, name)
         .about(about)
         .after_help(example)
-        .arg(file)
+        .arg(arg)
 }
 
 // A subcommand that runs what it reads, where these are the names of the hash functions.
 fn run_command<'a>(
     alloc: Global,
     name: &'a str,
+    input: InputHelp,
     names: &'a [&'a str],
     about: &'a str,
     example: &'a str,
@@ -145,7 +211,43 @@ fn run_command<'a>(
         .long("trace")
         .value_name("FILE")
         .help(TRACE_HELP);
-    file_command(alloc, name, about, example)?
+    input_command(alloc, name, input, about, example)?
         .arg(hash)?
         .arg(trace)
+}
+
+// An option that takes a number within these bounds.
+fn number_option<'a>(alloc: Global, name: &'a str, help: &'a str, least: u64, most: u64) -> Arg<'a>
+    ensures rule { rule_of result ≡ number_rule name.entry.now least most }
+    ensures local { result.global ≡ false }
+{
+    Arg::new(alloc, name)
+        .long(name)
+        .value_name("N")
+        .help(help)
+        .value_parser(ValueParser::unsigned(least, most))
+}
+
+fn work_command<'a>(alloc: Global, names: &'a [&'a str]) -> Result<Command<'a>, AllocError>
+    ensures app { IfOk result (λ command. app_of command ≡ work_app names.entry) }
+    ensures globals { IfOk result (λ command. (out-Command command).has_globals ≡ false) }
+{
+    let workers = number_option(alloc, "workers", WORKERS_HELP, 1, 8);
+    let tries = number_option(alloc, "tries", TRIES_HELP, 1, 1_000_000);
+    run_command(alloc, "run", FILE, names, RUN_ABOUT, RUN_EXAMPLE)?
+        .arg(workers)?
+        .arg(tries)
+}
+
+fn serve_command<'a>(alloc: Global, names: &'a [&'a str]) -> Result<Command<'a>, AllocError>
+    ensures app { IfOk result (λ command. app_of command ≡ serve_app names.entry) }
+    ensures globals { IfOk result (λ command. (out-Command command).has_globals ≡ false) }
+{
+    let sessions = number_option(alloc, "sessions", SESSIONS_HELP, 1, 64);
+    let limit = number_option(alloc, "limit", LIMIT_HELP, 1, 1_000_000);
+    let tries = number_option(alloc, "tries", TRIES_HELP, 1, 1_000_000);
+    run_command(alloc, "serve", ADDRESS, names, SERVE_ABOUT, SERVE_EXAMPLE)?
+        .arg(sessions)?
+        .arg(limit)?
+        .arg(tries)
 }

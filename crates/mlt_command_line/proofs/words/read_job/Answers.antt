@@ -30,7 +30,7 @@ returns-in-Some-clause-ok c =
     let are : AreHashNames names = search rules in
     let app : app_of c.in_ok-command.command ≡ mltx_app names = c.in_ok-command.ensures in
     let met : subcommand_rows_of c.in_ok-matches.matches ≡ subcommand_of (app_of c.in_ok-command.command) words = (c.in_ok-matches.ensures.ok.2 (ap is_simple app ∙ mltx_is_simple names)).1 in
-    let found : Some (asked_of c.in-Some.job) ≡ asked_in (subcommand_rows_of c.in_ok-matches.matches) = ap (option_map asked_of) (sym c.in-Some.is) ∙ c.in_ok-job.ensures in
+    let found : Some (asked_of c.in-Some.job) ≡ asked_in (subcommand_rows_of c.in_ok-matches.matches) = ap (option_map asked_of) (sym c.in-Some.is) ∙ c.in_ok-job.ensures.asked in
     asks names are (app_of c.in_ok-command.command) app words (asked_of c.in-Some.job) some
     (c.in_ok-matches.ensures.kinds (ap is_simple_and_free app ∙ mltx_is_free names)) (ap asked_in (sym met) ∙ sym found)
 
@@ -47,5 +47,5 @@ returns-clause-err c =
     let are : AreHashNames names = search rules in
     let app : app_of c.in_ok-command.command ≡ mltx_app names = c.in_ok-command.ensures in
     let met : subcommand_rows_of c.in_ok-matches.matches ≡ subcommand_of (app_of c.in_ok-command.command) words = (c.in_ok-matches.ensures.ok.2 (ap is_simple app ∙ mltx_is_simple names)).1 in
-    let none : None ≡ asked_in (subcommand_rows_of c.in_ok-matches.matches) = ap (option_map asked_of) (sym c.in-None.is) ∙ c.in_ok-job.ensures in
+    let none : None ≡ asked_in (subcommand_rows_of c.in_ok-matches.matches) = ap (option_map asked_of) (sym c.in-None.is) ∙ c.in_ok-job.ensures.asked in
     fails_by_want names are (app_of c.in_ok-command.command) app words c.in_ok-error-in-None.field-0 some (ap asked_in (sym met) ∙ sym none) c.in_ok-error-in-None.ensures.kind

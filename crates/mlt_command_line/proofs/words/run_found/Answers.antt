@@ -14,7 +14,7 @@ returns-in_default-hash_of c =
 pub returns : goal.returns
 returns c =
     let rows = rows_of (found_of c.args.found.now) in
-    run_is rows (string_bytes c.in-Some.file) c.in-Some-hash_of.hash (option_map string_bytes c.in_ok-trace.trace)
-    (ap (option_map string_bytes) (sym c.in-Some.is) ∙ c.in_ok-file.ensures)
+    run_is rows (string_bytes c.in-Some.input) c.in-Some-hash_of.hash (option_map string_bytes c.in_ok-trace.trace)
+    (ap (option_map string_bytes) (sym c.in-Some.is) ∙ c.in_ok-input.ensures)
     (c.in-Some-hash_of.ensures ∙ ap hash_named (c.get_str.ensures ∙ first_value-rows (found_of c.args.found.now) (codes "hash")))
     c.in_ok-trace.ensures
