@@ -102,7 +102,9 @@ Usage: mltx <COMMAND>
 Commands:
   solo   Runs the scripts of FILE one after another, and prints what each was told.
   steps  Runs the schedule of FILE, step by step, and prints what each event was told, and then the base.
+  run    Runs the scripts of FILE side by side, those of a client one after another, and prints what each was told, and then the base.
   check  Checks the trace of FILE: whether its transactions, run alone in the order of their commits, are told the same.
+  serve  Listens on ADDR, and serves connections: each is a session of lines, and each line has its answer.
   help   Print this message or the help of the given subcommand(s)
 
 Options:
@@ -197,22 +199,105 @@ Example: mltx check trace.txt
 With `over` in place of `done` it is `mltx: 11 TraceFault line 4 Reply` on standard error.
 ";
 
-// A job, in words of its own: the subcommand, the file, the hash function and the file for the trace.
-type Asked<'a> = (&'a str, &'a str, Option<Hash>, Option<&'a str>);
+const RUN_HELP: &str =
+    "Runs the scripts of FILE side by side, those of a client one after another, and prints what each was told, and then the base.
 
-fn asked_of_run<'a>(subcommand: &'a str, run: &'a Run) -> Asked<'a> {
+Usage: mltx run [OPTIONS] <FILE>
+
+Arguments:
+  <FILE>  The file to read; `-` is standard input
+
+Options:
+      --hash <HASH>   The hash function of the pages; without it `mult` [possible values: mult, low]
+      --trace <FILE>  Where to write the trace of what the transactions did
+      --workers <N>   How many workers run scripts at once, from 1 to 8; without it 4
+      --tries <N>     How often a script, or an operation of a session, may be told to wait; without it 10000
+  -h, --help          Print help
+
+Example: mltx run scripts.txt --workers 2 --trace trace.txt
+
+  scripts.txt      standard output
+  begin 1          client 1 script 1
+  up 7 5           done
+  commit           committed 1
+  begin 2          client 2 script 1
+  up 7 2           done
+  commit           committed 2
+                   counter 7 7
+
+The numbers of commits, and which script waits for which, differ from run to run; the base
+of scripts such as these does not. `mltx check trace.txt` shows that the committed scripts,
+run alone in the order of their commits, are told the same.
+";
+
+const SERVE_HELP: &str =
+    "Listens on ADDR, and serves connections: each is a session of lines, and each line has its answer.
+
+Usage: mltx serve [OPTIONS] <ADDR>
+
+Arguments:
+  <ADDR>  The IP address and port to listen on, as `127.0.0.1:7000`
+
+Options:
+      --hash <HASH>   The hash function of the pages; without it `mult` [possible values: mult, low]
+      --trace <FILE>  Where to write the trace of what the transactions did
+      --sessions <N>  How many sessions are held at once, from 1 to 64; without it 8
+      --limit <N>     How many connections are served in all, from 1 to 1000000; without it 1
+      --tries <N>     How often a script, or an operation of a session, may be told to wait; without it 10000
+  -h, --help          Print help
+
+Example: mltx serve 127.0.0.1:7000 --limit 2
+         nc 127.0.0.1 7000
+
+  line             answer
+  begin            begun 1
+  open 1           opened
+  deposit 1 50     done
+  balance 1        is 50
+  commit           committed 1
+  quit             bye
+
+An open transaction is taken back as its connection ends. Once all connections have ended
+the program writes `served` with their number, and the trace where one is asked for.
+";
+
+// A job, in words of its own: the subcommand, the input, the hash function, the file for the trace, and its numbers.
+type Asked<'a> = (&'a str, &'a str, Option<Hash>, Option<&'a str>, [u64; 3]);
+
+// What has no number.
+const NONE: [u64; 3] = [0, 0, 0];
+
+fn asked_of_run<'a>(subcommand: &'a str, run: &'a Run, numbers: [u64; 3]) -> Asked<'a> {
     let trace = match &run.trace {
         Some(trace) => Some(trace.as_str()),
         None => None,
     };
-    (subcommand, run.file.as_str(), Some(run.hash), trace)
+    (
+        subcommand,
+        run.input.as_str(),
+        Some(run.hash),
+        trace,
+        numbers,
+    )
 }
 
 fn asked_of(job: &Job) -> Asked<'_> {
     match job {
-        Job::Solo(run) => asked_of_run("solo", run),
-        Job::Steps(run) => asked_of_run("steps", run),
-        Job::Check { file } => ("check", file.as_str(), None, None),
+        Job::Solo(run) => asked_of_run("solo", run, NONE),
+        Job::Steps(run) => asked_of_run("steps", run, NONE),
+        Job::Work(work) => {
+            asked_of_run("run", &work.run, [work.workers as u64, work.tries, 0])
+        }
+        Job::Check { file } => ("check", file.as_str(), None, None, NONE),
+        Job::Serve(serve) => asked_of_run(
+            "serve",
+            &serve.run,
+            [
+                serve.sessions as u64,
+                u64::from(serve.limit),
+                serve.tries,
+            ],
+        ),
     }
 }
 
@@ -223,33 +308,70 @@ const LOW: Option<Hash> = Some(Hash::Low);
 #[test]
 fn jobs(rt: HostRuntime) -> Result<(), Fail> {
     let alloc = rt.alloc();
-    let lines: [(&[&str], Asked<'static>); 14] = [
-        (&[], ("solo", "-", MULT, None)),
-        (&["solo", "-"], ("solo", "-", MULT, None)),
-        (&["solo", "a.txt"], ("solo", "a.txt", MULT, None)),
-        (&["solo", "a b"], ("solo", "a b", MULT, None)),
-        (&["solo", "--", "-x"], ("solo", "-x", MULT, None)),
-        (&["solo", ""], ("solo", "", MULT, None)),
+    let lines: [(&[&str], Asked<'static>); 24] = [
+        (&[], ("solo", "-", MULT, None, NONE)),
+        (&["solo", "-"], ("solo", "-", MULT, None, NONE)),
+        (&["solo", "a.txt"], ("solo", "a.txt", MULT, None, NONE)),
+        (&["solo", "a b"], ("solo", "a b", MULT, None, NONE)),
+        (&["solo", "--", "-x"], ("solo", "-x", MULT, None, NONE)),
+        (&["solo", ""], ("solo", "", MULT, None, NONE)),
         (
             &["solo", "--hash", "low", "a.txt"],
-            ("solo", "a.txt", LOW, None),
+            ("solo", "a.txt", LOW, None, NONE),
         ),
         (
             &["solo", "a.txt", "--trace", "b.txt"],
-            ("solo", "a.txt", MULT, Some("b.txt")),
+            ("solo", "a.txt", MULT, Some("b.txt"), NONE),
         ),
-        (&["steps", "-"], ("steps", "-", MULT, None)),
+        (&["steps", "-"], ("steps", "-", MULT, None, NONE)),
         (
             &["steps", "--hash=mult", "a.txt"],
-            ("steps", "a.txt", MULT, None),
+            ("steps", "a.txt", MULT, None, NONE),
         ),
         (
             &["steps", "--trace=b.txt", "--hash=low", "-"],
-            ("steps", "-", LOW, Some("b.txt")),
+            ("steps", "-", LOW, Some("b.txt"), NONE),
         ),
-        (&["check", "-"], ("check", "-", None, None)),
-        (&["check", "solo"], ("check", "solo", None, None)),
-        (&["check", "--", "--hash"], ("check", "--hash", None, None)),
+        (&["check", "-"], ("check", "-", None, None, NONE)),
+        (&["check", "solo"], ("check", "solo", None, None, NONE)),
+        (&["check", "--", "--hash"], ("check", "--hash", None, None, NONE)),
+            (
+            &["run", "a.txt"],
+            ("run", "a.txt", MULT, None, [4, 10_000, 0]),
+        ),
+        (
+            &["run", "--workers", "1", "--tries", "1", "a.txt"],
+            ("run", "a.txt", MULT, None, [1, 1, 0]),
+        ),
+        (
+            &["run", "-", "--tries=1000000", "--workers=8", "--hash", "low"],
+            ("run", "-", LOW, None, [8, 1_000_000, 0]),
+        ),
+        (
+            &["run", "a.txt", "--trace", "b.txt", "--workers", "+2"],
+            ("run", "a.txt", MULT, Some("b.txt"), [2, 10_000, 0]),
+        ),
+        (
+            &["serve", "127.0.0.1:7000"],
+            ("serve", "127.0.0.1:7000", MULT, None, [8, 1, 10_000]),
+        ),
+        (
+            &["serve", "--sessions", "64", "[::1]:7000"],
+            ("serve", "[::1]:7000", MULT, None, [64, 1, 10_000]),
+        ),
+        (
+            &["serve", "--limit", "1000000", "a"],
+            ("serve", "a", MULT, None, [8, 1_000_000, 10_000]),
+        ),
+        (
+            &["serve", "--tries", "007", "a"],
+            ("serve", "a", MULT, None, [8, 1, 7]),
+        ),
+        (
+            &["serve", "--hash", "low", "--trace=b.txt", "--sessions=1", "a"],
+            ("serve", "a", LOW, Some("b.txt"), [1, 1, 10_000]),
+        ),
+        (&["serve", "-"], ("serve", "-", MULT, None, [8, 1, 10_000])),
     ];
     for (line, wanted) in lines {
         let words = words_of(alloc, line)?;
@@ -261,14 +383,16 @@ fn jobs(rt: HostRuntime) -> Result<(), Fail> {
 
 #[test]
 fn help_and_version(rt: HostRuntime) -> Result<(), Fail> {
-    let lines: [(&[&str], &str); 9] = [
+    let lines: [(&[&str], &str); 11] = [
         (&["--help"], HELP),
         (&["-h"], HELP),
         (&["help"], HELP),
         (&["solo", "--help"], SOLO_HELP),
         (&["help", "solo"], SOLO_HELP),
         (&["steps", "--help"], STEPS_HELP),
+        (&["run", "--help"], RUN_HELP),
         (&["check", "-h"], CHECK_HELP),
+        (&["serve", "--help"], SERVE_HELP),
         (&["--version"], "mltx 0.1.0\n"),
         (&["-V"], "mltx 0.1.0\n"),
     ];
@@ -283,7 +407,7 @@ fn help_and_version(rt: HostRuntime) -> Result<(), Fail> {
 
 #[test]
 fn wrong_command_lines(rt: HostRuntime) -> Result<(), Fail> {
-    let lines: [(&[&str], &str); 16] = [
+    let lines: [(&[&str], &str); 25] = [
         (&["play", "a.txt"], "unrecognized subcommand 'play'"),
         (&["solo"], "required arguments were not provided"),
         (&["solo", "a.txt", "b.txt"], "unexpected argument 'b.txt'"),
@@ -315,6 +439,36 @@ fn wrong_command_lines(rt: HostRuntime) -> Result<(), Fail> {
             &["check", "--trace", "b.txt", "a.txt"],
             "unexpected argument '--trace'",
         ),
+        (&["run"], "required arguments were not provided"),
+        (
+            &["run", "--workers", "0", "a.txt"],
+            "invalid value '0' for '--workers <N>'",
+        ),
+        (
+            &["run", "--workers", "9", "a.txt"],
+            "invalid value '9' for '--workers <N>'",
+        ),
+        (
+            &["run", "--tries", "1000001", "a.txt"],
+            "invalid value '1000001' for '--tries <N>'",
+        ),
+        (
+            &["run", "--workers", "two", "a.txt"],
+            "invalid value 'two' for '--workers <N>'",
+        ),
+        (
+            &["run", "--sessions", "2", "a.txt"],
+            "unexpected argument '--sessions'",
+        ),
+        (
+            &["serve", "--sessions", "65", "a"],
+            "invalid value '65' for '--sessions <N>'",
+        ),
+        (
+            &["serve", "--limit", "0", "a"],
+            "invalid value '0' for '--limit <N>'",
+        ),
+        (&["serve"], "required arguments were not provided"),
         (&["-"], "unrecognized subcommand '-'"),
         (&["--"], "requires a subcommand"),
         (&[""], "unrecognized subcommand ''"),

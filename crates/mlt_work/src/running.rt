@@ -1,9 +1,8 @@
 //! The scripts of all clients, by several workers.
 
 ghost use Rattle.std.specs.Prelude.{◌≡◌, ◌≤◌, ◌<◌, ◌⊎◌, IfErr, IfOk};
-ghost use Rattle.mlt_audit.specs.Agreement.{Agrees};
-ghost use Rattle.mlt_audit.specs.Committed.{IsBaseOfReceipts};
-ghost use Rattle.mlt_places.specs.Places.{AreAllOutcomes, scripts_of_clients};
+ghost use Rattle.mlt_places.specs.Places.{scripts_of_clients};
+ghost use Rattle.mlt_work.specs.Runs.{HasRunAll};
 
 use crate::crew::work_all;
 use crate::reporting::report_of;
@@ -41,12 +40,8 @@ fn run_with<
     requires nine { blank.parts ≡ 9 }
     requires some { 0 < workers }
     requires most { workers ≤ 8 }
-    ensures outcomes { IfOk result
-        (λ got. AreAllOutcomes (scripts_of_clients clients.now) got.0.outcomes) }
-    ensures events { IfOk result (λ got. got.1.events ≡ got.0.events) }
-    ensures receipts { IfOk result
-        (λ got. Agrees got.0.outcomes got.1.commons.history.items) }
-    ensures base { IfOk result (λ got. IsBaseOfReceipts got.0.outcomes got.0.base) }
+    ensures ran { IfOk result
+        (λ got. HasRunAll (scripts_of_clients clients.now) got.0 got.1) }
     ensures refusal { IfErr result
         (λ refusal. (refusal ≡ Refusal.OutOfMemory) ⊎ (refusal ≡ Refusal.Audit)) }
 {
@@ -108,16 +103,9 @@ pub fn run<P: Pseudo + Drop + Send, R: Threads + Wait + Sync, G: Gate + Sync>(
 ) -> Result<(Report, Manager<P>), Refusal>
     requires some { 0 < workers }
     requires most { workers ≤ 8 }
-    // an outcome for each script, clients and scripts in order
-    ensures outcomes { IfOk result
-        (λ got. AreAllOutcomes (scripts_of_clients clients.now) got.0.outcomes) }
-    // the events that the workers counted are those of the manager
-    ensures events { IfOk result (λ got. got.1.events ≡ got.0.events) }
-    // what scripts were told is what the manager has done
-    ensures receipts { IfOk result
-        (λ got. Agrees got.0.outcomes got.1.commons.history.items) }
-    // the committed scripts, run alone in commit order, lead to this base
-    ensures base { IfOk result (λ got. IsBaseOfReceipts got.0.outcomes got.0.base) }
+    // an outcome for each script, which agrees with what the manager has done, and the base of the committed ones
+    ensures ran { IfOk result
+        (λ got. HasRunAll (scripts_of_clients clients.now) got.0 got.1) }
     ensures refusal { IfErr result
         (λ refusal. (refusal ≡ Refusal.OutOfMemory) ⊎ (refusal ≡ Refusal.Audit)) }
 {

@@ -3,9 +3,14 @@
 
 mod input;
 
+ghost use Rattle.std.specs.Prelude.{◌≤◌, ◌<◌};
+ghost use Rattle.mlt_command_line.specs.CommandLine.{IsWithinBounds};
+
 use input::Input;
 use mlt_check_text::check_trace;
-use mlt_command_line::{Hash, Job, Run, read_words, report_command_line};
+use mlt_command_line::{Hash, Job, Run, Work, read_words, report_command_line};
+use mlt_lock_desk::NoGate;
+use mlt_run::run_scripts;
 use mlt_run_counts::{aborts_of_a_run_take_few_steps, operations_of_a_run_take_few_steps};
 use mlt_server::{report_fault, status};
 use mlt_solo::solo;
@@ -51,7 +56,9 @@ fn words(rt: &HostRuntime) -> Result<Vec<String>, Refusal> {
     }
 }
 
-fn do_job(rt: &HostRuntime, job: &Job) -> Result<(), Refusal> {
+fn do_job(rt: &HostRuntime, job: &Job) -> Result<(), Refusal>
+    requires { IsWithinBounds job.now }
+{
     match job {
         Job::Solo(run) => match run.hash {
             Hash::Mult => run_solo(rt, run, Mult),
@@ -61,6 +68,10 @@ fn do_job(rt: &HostRuntime, job: &Job) -> Result<(), Refusal> {
             Hash::Mult => run_steps(rt, run, Mult),
             Hash::Low => run_steps(rt, run, Low),
         },
+        Job::Work(work) => match work.run.hash {
+            Hash::Mult => run_work(rt, work, Mult),
+            Hash::Low => run_work(rt, work, Low),
+        },
         Job::Check { file } => {
             let mut input = Input::open(rt, file.as_str())?;
             check_trace(rt.alloc(), &mut input, &mut io::writer(rt))
@@ -69,7 +80,7 @@ fn do_job(rt: &HostRuntime, job: &Job) -> Result<(), Refusal> {
 }
 
 fn run_solo<P: Pseudo + Drop>(rt: &HostRuntime, run: &Run, pseudo: P) -> Result<(), Refusal> {
-    let mut input = Input::open(rt, run.file.as_str())?;
+    let mut input = Input::open(rt, run.input.as_str())?;
     let limits = Limits::program();
     let manager = solo(rt.alloc(), &mut input, &mut io::writer(rt), limits, pseudo)?;
     let written = write_history(rt, manager.history(), run);
@@ -78,13 +89,38 @@ fn run_solo<P: Pseudo + Drop>(rt: &HostRuntime, run: &Run, pseudo: P) -> Result<
 }
 
 fn run_steps<P: Pseudo + Drop>(rt: &HostRuntime, run: &Run, pseudo: P) -> Result<(), Refusal> {
-    let mut input = Input::open(rt, run.file.as_str())?;
+    let mut input = Input::open(rt, run.input.as_str())?;
     let limits = Limits::program();
     let manager = steps(rt.alloc(), &mut input, &mut io::writer(rt), limits, pseudo)?;
     // How many steps its operations took, and its aborts.
     operations_of_a_run_take_few_steps::<P>();
     aborts_of_a_run_take_few_steps::<P>();
     let written = write_history(rt, manager.history(), run);
+    manager.close();
+    written
+}
+
+fn run_work<P: Pseudo + Drop + Send>(
+    rt: &HostRuntime,
+    work: &Work,
+    pseudo: P,
+) -> Result<(), Refusal>
+    requires some { 0 < work.now.workers }
+    requires most { work.now.workers ≤ 8 }
+{
+    let mut input = Input::open(rt, work.run.input.as_str())?;
+    let manager = run_scripts(
+        rt,
+        rt.alloc(),
+        &mut input,
+        &mut io::writer(rt),
+        Limits::program(),
+        pseudo,
+        work.workers,
+        work.tries,
+        &NoGate,
+    )?;
+    let written = write_history(rt, manager.history(), &work.run);
     manager.close();
     written
 }

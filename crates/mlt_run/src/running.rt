@@ -1,0 +1,99 @@
+//! Scripts from a reader, run side by side, and their text to a writer.
+
+ghost use Rattle.std.specs.Prelude.{◌≡◌, ◌≤◌, ◌<◌, ◌⊎◌, ℕ, List, length, Err, IfErr, IfOk, IfSome, IsErrAnd};
+ghost use Rattle.std.specs.Io.KnownBytes.{Appends, Consumes, Keeps};
+ghost use Rattle.mlt_types.specs.declared.refusal.ScriptCause.{ScriptCause};
+ghost use Rattle.mlt_text.specs.Inputs.{GivesWhole};
+ghost use Rattle.mlt_text.specs.Texts.{AppendsFront};
+ghost use Rattle.mlt_script.specs.Grammar.{IsFirstFault};
+ghost use Rattle.mlt_manager.specs.Managers.{ManagerFields};
+ghost use Rattle.mlt_run.specs.Runs.{IsRunOf};
+
+use mlt_lock_desk::Gate;
+use mlt_manager::Manager;
+use mlt_script::parse;
+use mlt_serial::{Form, write_report};
+use mlt_text::read_input;
+use mlt_tree::by_client;
+use mlt_types::{Limits, Pseudo, Refusal};
+use mlt_work::run;
+use std::alloc::Global;
+use std::io::{Read, Write};
+use std::sync::Wait;
+use std::thread::Threads;
+
+/// Reads scripts to the end of the input, runs those of each client one after another and the clients side by side on a
+/// new manager with these limits, and writes for each script its client, its number, the texts of its replies and how it
+/// ended, and then the base. It answers the manager.
+///
+/// # Errors
+/// `ScriptFault` exactly for an input that is no list of scripts, with its first fault; `Io` where a read or a write
+/// fails, or the input has more than 16,777,216 bytes, of which none past the first too many is read; `OutOfMemory`
+/// where a growth was refused outside a script; `Audit` where the replies do not agree with the manager's history.
+/// Nothing was written then, but for a write that fails: what went out is a prefix of the text.
+pub fn run_scripts<
+    R: Read,
+    W: Write,
+    P: Pseudo + Drop + Send,
+    T: Threads + Wait + Sync,
+    G: Gate + Sync,
+>(
+    rt: &T,
+    alloc: Global,
+    reader: &mut R,
+    writer: &mut W,
+    limits: Limits,
+    pseudo: P,
+    workers: usize,
+    tries: u64,
+    gate: &G,
+) -> Result<Manager<P>, Refusal>
+    requires some { 0 < workers }
+    requires most { workers ≤ 8 }
+    // what is written is the text of what became of the scripts read, which agrees with what the manager has done
+    ensures text { IfOk result (λ manager. (input text : List ℕ)
+        × IsRunOf (R.remaining reader.old) (R.remaining reader.new) input text manager
+        × Appends (W.contents writer.old) (W.contents writer.new) text) }
+    // a fault is the first one of the input
+    ensures fault { (line : ℕ) (cause : ScriptCause) → result ≡ Err (Refusal.ScriptFault line cause)
+        → ((input : List ℕ) × GivesWhole (R.remaining reader.old) (R.remaining reader.new) input
+        × IsFirstFault input line cause) × Keeps (W.contents writer.old) (W.contents writer.new) }
+    // an input that is too long is refused, and not read on
+    ensures long { IfSome (R.remaining reader.old) (λ input. 16777216 < length input
+        → IsErrAnd result (λ refusal. (refusal ≡ Refusal.OutOfMemory) ⊎ (refusal ≡ Refusal.Io))
+        × Keeps (W.contents writer.old) (W.contents writer.new)) }
+    ensures bounded { (taken : List ℕ)
+        × Consumes (R.remaining reader.old) (R.remaining reader.new) taken
+        × (length taken ≤ 16777217) }
+    // after a failed read nothing was written, and after a failed write a prefix of the text
+    ensures io { result ≡ Err Refusal.Io → Keeps (W.contents writer.old) (W.contents writer.new)
+        ⊎ ((input text : List ℕ) × (manager : ManagerFields P)
+        × IsRunOf (R.remaining reader.old) (R.remaining reader.new) input text manager
+        × AppendsFront (W.contents writer.old) (W.contents writer.new) text) }
+    ensures unwritten { (result ≡ Err Refusal.OutOfMemory) ⊎ (result ≡ Err Refusal.Audit)
+        → Keeps (W.contents writer.old) (W.contents writer.new) }
+    ensures refusals { IfErr result (λ refusal. (refusal ≡ Refusal.OutOfMemory)
+        ⊎ (refusal ≡ Refusal.Io) ⊎ (refusal ≡ Refusal.Audit)
+        ⊎ ((line : ℕ) × (cause : ScriptCause) × (refusal ≡ Refusal.ScriptFault line cause))) }
+{
+    let input = read_input(alloc, reader)?;
+    let scripts = parse(alloc, input.as_slice())?;
+    let clients = by_client(alloc, scripts)?;
+    let (report, manager) = run(
+        rt,
+        alloc,
+        limits,
+        pseudo,
+        clients.as_slice(),
+        workers,
+        tries,
+        gate,
+    )?;
+    match write_report(alloc, &report, Form::Run, writer) {
+        Ok(()) => Ok(manager),
+        Err(refusal) => {
+            manager.close();
+            Err(refusal)
+        }
+    }
+}

@@ -1,0 +1,20 @@
+-- What the scripts of clients have done, once they were run side by side.
+use Rattle.std.specs.Prelude.{◌≡◌, List}
+use Rattle.mlt_tree.specs.Scripts.{ScriptForm}
+use Rattle.mlt_serial.specs.declared.report.Report.{Report}
+use Rattle.mlt_audit.specs.Agreement.{Agrees}
+use Rattle.mlt_audit.specs.Committed.{IsBaseOfReceipts}
+use Rattle.mlt_manager.specs.Managers.{ManagerFields}
+use Rattle.mlt_places.specs.Places.{AreAllOutcomes}
+
+-- The report of the scripts of each client, which were run on this manager.
+pub record HasRunAll {P : Type 0} (clients : List (List ScriptForm)) (report : Report)
+    (manager : ManagerFields P) : Type 0 where
+  -- an outcome for each script, clients and scripts in order
+  pub outcomes : AreAllOutcomes clients report.outcomes
+  -- the events that the workers counted are those of the manager
+  pub events : manager.events ≡ report.events
+  -- what scripts were told is what the manager has done
+  pub receipts : Agrees report.outcomes manager.commons.history.items
+  -- the committed scripts, run alone in commit order, lead to this base
+  pub base : IsBaseOfReceipts report.outcomes report.base
