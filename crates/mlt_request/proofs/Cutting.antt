@@ -55,7 +55,7 @@ short text more i e l =
 
 -- no byte has no line
 pub empty : lines_of [] ≡ []
-unfolding lines_of, lines
+unfolding lines_of lines
 empty = refl
 
 alone : (text : List ℕ) (i : ℕ) → position is_lf text ≡ Some i → i ≤ 200 → lines_of (take (i + 1) text) ≡ Says (request_of (without_cr (take i text))) ∷ []
