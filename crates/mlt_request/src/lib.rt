@@ -3,6 +3,8 @@
 
 mod line;
 mod request;
+#[cfg(test)]
+mod tests;
 
 pub use line::{Line, next_line};
 pub use request::Request;
