@@ -4,7 +4,6 @@ use Rattle.std.specs.List.{flat_map}
 use Rattle.mlt_request.specs.Requests.{request_of}
 use Rattle.mlt_request.specs.declared.line.Line.{Line}
 use Rattle.mlt_request.specs.declared.line.Line.TheVariants.{Says, TooLong}
-use Rattle.mlt_request.specs.declared.request.Request.{Request}
 use Rattle.mlt_words.specs.Lines.{Raw, lines, without_cr}
 
 -- a line of more than 200 bytes is too long, whether an LF ends it or not; bytes after the last LF are else no line
