@@ -43,9 +43,9 @@ fn last(event: Event, rest: &[u8]) -> Option<Asked>
     }
 }
 
-// The operation that is all the words.
+/// The operation that is all the words, its amount a number. Takes no memory.
 #[tactic(auto, unfolding(crate::specs::Forms::only_op, mlt_words::specs::Words::words_of))]
-fn op(text: &[u8]) -> Option<ObjOp>
+pub fn read_only_op(text: &[u8]) -> Option<ObjOp>
     ensures { result ≡ only_op (words_of text.now) }
 {
     let (op, rest) = read_op(text)?;
@@ -84,9 +84,9 @@ fn asked_of_tx(word: &[u8], tx: TxId, rest: &[u8]) -> Option<Asked>
             times: count(rest)?,
         })
     } else if word == b"call".as_slice() {
-        Some(once(Event::Call(tx, op(rest)?)))
+        Some(once(Event::Call(tx, read_only_op(rest)?)))
     } else if word == b"whole".as_slice() {
-        Some(once(Event::Whole(tx, op(rest)?)))
+        Some(once(Event::Whole(tx, read_only_op(rest)?)))
     } else if word == b"cancel".as_slice() {
         last(Event::Cancel(tx), rest)
     } else if word == b"commit".as_slice() {

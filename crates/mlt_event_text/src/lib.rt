@@ -6,5 +6,6 @@ mod line;
 mod parser;
 mod tells;
 
+pub use forms::read_only_op;
 pub use parser::parse_events;
 pub use tells::told_text;

@@ -1,0 +1,10 @@
+//! What the lines of a session ask.
+#![tactic(auto)]
+
+mod line;
+mod request;
+#[cfg(test)]
+mod tests;
+
+pub use line::{Line, next_line};
+pub use request::Request;
