@@ -48,14 +48,19 @@ no_piece : (xs : List ℕ) → length xs ≡ 0 → (ys : List ℕ) → ys ++ xs 
 no_piece [] e ys = append-nil ys
 no_piece (x ∷ xs) e ys = absurd (omega arith)
 
+-- how much was read
+taken_length : (prefix held piece : List ℕ) (total most : ℕ) → total ≡ length prefix + length held → total + length piece ≤ most → length ((prefix ++ held) ++ piece) ≤ most
+taken_length prefix held piece total most e l = omega (arith, length-append (prefix ++ held) piece, length-append prefix held)
+
 -- the input ended
 pub ends_here : {D : Type 0} (moves : D → Call → Answer → D → Type 0) (client : ℕ) (p q : Place D) (a b c w v : Option (List ℕ)) (held piece : List ℕ) (total : ℕ)
-    → Listens moves client p a b w v held total q → q.progress.over ≡ false → length piece ≡ 0 → Consumes b c piece → IsAtEnd c → Talked moves client p a c w v q
-ends_here moves client p q a b c w v held piece total h o n read end =
+    → Listens moves client p a b w v held total q → total + length piece ≤ 16777216 → q.progress.over ≡ false → length piece ≡ 0 → Consumes b c piece → IsAtEnd c → Talked moves client p a c w v q
+ends_here moves client p q a b c w v held piece total h fits o n read end =
     record {
       taken = (h.prefix ++ held) ++ piece;
       turns = h.turns;
       consumed = Consumes-trans a b c (h.prefix ++ held) piece h.consumed read;
+      within = taken_length h.prefix held piece total 16777216 h.sum fits;
       goes = h.goes;
       lines = subst (λ over. AreLines over ((h.prefix ++ held) ++ piece) (lines_in h.turns)) (sym o)
           (ap lines_of (no_piece piece n (h.prefix ++ held)) ∙ prefix_lines h.prefix held (lines_in h.turns) h.splits h.lines ∙ ap (λ (l : List Line). lines_in h.turns ++ l) h.rest ∙ append-nil (lines_in h.turns));
@@ -68,12 +73,13 @@ prefix_of_all w v text h = (text, [], sym (append-nil text), h)
 
 -- a read failed, or gave too much
 pub breaks : {D : Type 0} (moves : D → Call → Answer → D → Type 0) (client : ℕ) (p q : Place D) (a b c w v : Option (List ℕ)) (held piece : List ℕ) (total : ℕ)
-    → Listens moves client p a b w v held total q → Consumes b c piece → Broken moves client p a c w v q
-breaks moves client p q a b c w v held piece total h read =
+    → Listens moves client p a b w v held total q → total + length piece ≤ 16777217 → Consumes b c piece → Broken moves client p a c w v q
+breaks moves client p q a b c w v held piece total h fits read =
     record {
       taken = (h.prefix ++ held) ++ piece;
       turns = h.turns;
       consumed = Consumes-trans a b c (h.prefix ++ held) piece h.consumed read;
+      within = taken_length h.prefix held piece total 16777217 h.sum fits;
       goes = h.goes;
       begins = (lines_of (held ++ piece), ap lines_of (append_assoc h.prefix held piece) ∙ prefix_lines h.prefix (held ++ piece) (lines_in h.turns) h.splits h.lines);
       wrote = prefix_of_all w v (flat_map turn_text h.turns) h.wrote;
@@ -85,12 +91,13 @@ appends_prefix_trans w v u xs ys h k =
 
 -- an answer was not written, or not kept
 pub stops : {D : Type 0} (moves : D → Call → Answer → D → Type 0) (client : ℕ) (p m q : Place D) (a b c w v u : Option (List ℕ)) (held piece text : List ℕ) (total : ℕ)
-    → Listens moves client p a b w v held total m → Consumes b c piece → text ≡ held ++ piece → Stopped moves client m text v u q → Broken moves client p a c w u q
-stops moves client p m q a b c w v u held piece text total h read e s =
+    → Listens moves client p a b w v held total m → total + length piece ≤ 16777217 → Consumes b c piece → text ≡ held ++ piece → Stopped moves client m text v u q → Broken moves client p a c w u q
+stops moves client p m q a b c w v u held piece text total h fits read e s =
     record {
       taken = (h.prefix ++ held) ++ piece;
       turns = h.turns ++ s.turns;
       consumed = Consumes-trans a b c (h.prefix ++ held) piece h.consumed read;
+      within = taken_length h.prefix held piece total 16777217 h.sum fits;
       goes = goes_on moves client p m q h.turns s.turns h.goes s.goes;
       begins = subst (λ bytes. Begins bytes (lines_in (h.turns ++ s.turns))) (sym (append_assoc h.prefix held piece))
           (subst (Begins (h.prefix ++ (held ++ piece))) (sym (lines_join h.turns s.turns))
@@ -100,13 +107,14 @@ stops moves client p m q a b c w v u held piece text total h read e s =
 
 -- a line ended the session
 pub is_over : {D : Type 0} (moves : D → Call → Answer → D → Type 0) (client : ℕ) (p m q : Place D) (a b c w v u : Option (List ℕ)) (held piece text : List ℕ) (total at : ℕ)
-    → Listens moves client p a b w v held total m → Consumes b c piece → text ≡ held ++ piece → Replied moves client m text v at u q → q.progress.over ≡ true → Talked moves client p a c w u q
-is_over moves client p m q a b c w v u held piece text total at h read e r o =
+    → Listens moves client p a b w v held total m → total + length piece ≤ 16777216 → Consumes b c piece → text ≡ held ++ piece → Replied moves client m text v at u q → q.progress.over ≡ true → Talked moves client p a c w u q
+is_over moves client p m q a b c w v u held piece text total at h fits read e r o =
     let begins = subst (λ over. Covers over text at (lines_in r.turns)) o r.covers in
     record {
       taken = (h.prefix ++ held) ++ piece;
       turns = h.turns ++ r.turns;
       consumed = Consumes-trans a b c (h.prefix ++ held) piece h.consumed read;
+      within = taken_length h.prefix held piece total 16777216 h.sum fits;
       goes = goes_on moves client p m q h.turns r.turns h.goes r.goes;
       lines = subst (λ over. AreLines over ((h.prefix ++ held) ++ piece) (lines_in (h.turns ++ r.turns))) (sym o)
           (subst (λ bytes. Begins bytes (lines_in (h.turns ++ r.turns))) (sym (append_assoc h.prefix held piece))

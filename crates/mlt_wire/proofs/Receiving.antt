@@ -12,9 +12,20 @@ use Rattle.mlt_wire.specs.declared.call.Call.{Call}
 use Rattle.mlt_wire.specs.declared.call.Call.TheVariants as call
 use Rattle.mlt_request.specs.declared.line.Line.{Line}
 use Rattle.mlt_request.specs.declared.line.Line.TheVariants.{Says, TooLong}
-use Rattle.mlt_wire.specs.Receipts.{outcome_of, noted_by, noted_all, begins_by, begun_in, done_in, end_in, call_of, up_to, before_next, all_done, ended_by, receipt_of, receipt_if, receipts_of}
+use Rattle.mlt_wire.specs.Receipts.{outcome_of, noted, begins_by, begun_in, done_in, end_in, call_of, up_to, before_next, all_done, ended_by, receipt_of, receipt_if, receipts_of}
 use Rattle.mlt_wire.proofs.Closing.{at_last_end}
-use Rattle.mlt_wire.specs.Talks.{Turn, turns}
+use Rattle.mlt_wire.specs.Talks.{Turn, turns, call_for}
+
+-- the receipts after a turn
+abbrev pub noted_by : ℕ → ℕ → List Outcome → Option Call → Option Answer → List Outcome
+noted_by client begun rs (Some c) (Some a) = noted client begun rs c a
+noted_by client begun rs (Some c) None = rs
+noted_by client begun rs None answer = rs
+
+-- the receipts after turns, where so many transactions were begun before
+abbrev pub noted_all : ℕ → ℕ → List Outcome → List Turn → List Outcome
+noted_all client begun rs [] = rs
+noted_all client begun rs (t ∷ ts) = noted_all client (begun + begins_by t.answer) (noted_by client begun rs (call_for t.open_before t.line) t.answer) ts
 
 -- the last receipt, after turns in which no other begins
 grown : Outcome → List (ObjOp × ObjReply) → End → Outcome

@@ -5,7 +5,7 @@ use Rattle.std.specs.List.{flat_map}
 use Rattle.std.specs.Io.KnownBytes.{Appends}
 use Rattle.std.proofs.KnownBytes.{Appends-nil, Consumes-nil}
 use Rattle.mlt_request.proofs.Cutting.{empty}
-use Rattle.mlt_wire.proofs.Receiving.{all_noted}
+use Rattle.mlt_wire.proofs.Receiving.{noted_by, noted_all, all_noted}
 use Rattle.mlt_text.specs.Texts.{AppendsFront}
 use Rattle.mlt_serial.specs.declared.outcome.Outcome.{Outcome}
 use Rattle.mlt_wire.specs.declared.call.Answer.{Answer}
@@ -15,7 +15,7 @@ use Rattle.mlt_request.specs.declared.line.Line.TheVariants.{Says, TooLong}
 use Rattle.mlt_wire.specs.Batches.{lines_in}
 use Rattle.mlt_wire.specs.Desks.{Answers}
 use Rattle.mlt_request.specs.Inputs.{lines_of, Begins}
-use Rattle.mlt_wire.specs.Receipts.{noted_by, noted_all, begins_by, receipts_of}
+use Rattle.mlt_wire.specs.Receipts.{begins_by, receipts_of}
 use Rattle.mlt_wire.specs.Sessions.{Talked, Broken, AreLines, EndsInput, Spoken, SpokenLong, Summed, BrokenOff, all_calls, all_answers, scene}
 use Rattle.mlt_wire.specs.Talks.{Turn, turn_text, turns, one_turn, unless_ended, ends, option_list, open_after, call_for, calls_in, answers_in, open_at_end, closing, closing_answers, session_turns, session_text, commits_by, commits_in, ends_in, long_in, is_long}
 use Rattle.mlt_wire.specs.Turns.{Place, Step, Goes, Asked}
@@ -170,6 +170,7 @@ speaks moves client p q desk a b w v rs ss i j n x z t k =
       taken = t.taken;
       answers = answers_in t.turns;
       consumed = t.consumed;
+      within = t.within;
       wrote = subst (λ ts. Appends w v (flat_map turn_text ts)) (sym e) t.wrote;
       given = ap answers_in e;
       asked = subst (λ ts. Answers moves p.desk (all_calls ts) (all_answers ts) desk) (sym e)
@@ -222,6 +223,7 @@ breaks_off moves client p q desk a b w v rs ss i j n x z t k =
       heard = t.turns;
       unheard = e.0;
       consumed = t.consumed;
+      within = t.within;
       is = e.1;
       given = refl;
       wrote = subst (λ ts. AppendsFront w v (flat_map turn_text ts)) (sym e.1)
@@ -241,6 +243,7 @@ nothing_said moves client desk a w rs =
       heard = [];
       unheard = [];
       consumed = Consumes-nil a;
+      within = omega arith;
       is = ap (λ ls. turns None ls []) empty;
       given = refl;
       wrote = ([], session_text [] [], refl, Appends-nil w);

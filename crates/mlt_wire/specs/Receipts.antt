@@ -62,11 +62,7 @@ noted client begun rs (call.Operation tx op) answer = at_last (replied_noted op 
 noted client begun rs (call.Commit tx) answer = at_last (committed_noted answer) rs
 noted client begun rs (call.Abort tx) answer = rs
 
-abbrev pub noted_by : ℕ → ℕ → List Outcome → Option Call → Option Answer → List Outcome
-noted_by client begun rs (Some c) (Some a) = noted client begun rs c a
-noted_by client begun rs (Some c) None = rs
-noted_by client begun rs None answer = rs
-
+-- how many transactions an answer begins
 abbrev pub begins_by : Option Answer → ℕ
 begins_by None = 0
 begins_by (Some (Begun tx)) = 1
@@ -74,11 +70,6 @@ begins_by (Some (Replied reply)) = 0
 begins_by (Some (Committed n)) = 0
 begins_by (Some Aborted) = 0
 begins_by (Some (Refused r)) = 0
-
--- the receipts after turns, where so many transactions were begun before
-abbrev pub noted_all : ℕ → ℕ → List Outcome → List Turn → List Outcome
-noted_all client begun rs [] = rs
-noted_all client begun rs (t ∷ ts) = noted_all client (begun + begins_by t.answer) (noted_by client begun rs (call_for t.open_before t.line) t.answer) ts
 
 -- whether a transaction began in the turn
 abbrev pub begun_in : Option Call → Option Answer → Option ℕ

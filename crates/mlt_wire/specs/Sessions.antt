@@ -59,6 +59,7 @@ pub record Talked {D : Type 0} (moves : D → Call → Answer → D → Type 0) 
   pub taken : List ℕ
   pub turns : List Turn
   pub consumed : Consumes read_before read_after taken
+  pub within : length taken ≤ 16777216
   pub goes : Goes moves client p turns q
   pub lines : AreLines q.progress.over taken (lines_in turns)
   pub wrote : Appends wrote_before wrote_after (flat_map turn_text turns)
@@ -69,6 +70,7 @@ pub record Broken {D : Type 0} (moves : D → Call → Answer → D → Type 0) 
   pub taken : List ℕ
   pub turns : List Turn
   pub consumed : Consumes read_before read_after taken
+  pub within : length taken ≤ 16777217
   pub goes : Goes moves client p turns q
   pub begins : Begins taken (lines_in turns)
   pub wrote : AppendsFront wrote_before wrote_after (flat_map turn_text turns)
@@ -97,6 +99,7 @@ pub record Spoken {D : Type 0} (moves : D → Call → Answer → D → Type 0) 
   pub answers : List Answer
   -- these bytes were read, and all there were, unless a line ended the session
   pub consumed : Consumes old.unread new.unread taken
+  pub within : length taken ≤ 16777216
   pub ended : ends_in (session_turns taken answers) ≡ false → IsAtEnd new.unread
   -- the desk gave these answers to these calls, and no more
   pub given : answers_in (session_turns taken answers) ≡ answers
@@ -126,6 +129,7 @@ pub record BrokenOff {D : Type 0} (moves : D → Call → Answer → D → Type 
   pub unheard : List Turn
   pub is : session_turns taken answers ≡ heard ++ unheard
   pub consumed : Consumes old.unread new.unread taken
+  pub within : length taken ≤ 16777217
   -- the desk gave these answers to the calls of the turns that were heard
   pub given : answers_in heard ≡ answers
   pub asked : Answers moves old.desk (all_calls heard) (all_answers heard) new.desk

@@ -1,5 +1,6 @@
 use Rattle.std.proofs.Common.{◌≡◌, ◌+◌, ℕ, [], length, take, ◌∙◌, ap, subst, arith, length-take}
 use Rattle.mlt_wire.specs.Sessions.{Listens}
+use Rattle.std.proofs.KnownBytes.{Consumes-nil}
 use Rattle.mlt_wire.specs.Desks.{moves}
 use Rattle.mlt_wire.specs.Turns.{place}
 use Rattle.mlt_request.proofs.Cutting.{empty}
@@ -24,20 +25,20 @@ rounds-init g c =
 pub returns-in_err-count-clause-err : goal.returns-in_err-count-clause-err
 returns-in_err-count-clause-err g c =
     on_err_all _ _ (breaks (moves g.D.Desk.begins g.D.Desk.answers g.D.Desk.commits g.D.Desk.aborts) c.args.client (place c.args.client c.args.notes.now c.args.desk.now) (place c.args.client c.rounds.notes c.rounds.desk) (g.R.Read.remaining c.args.reader.now) (g.R.Read.remaining c.rounds.reader)
-    (g.R.Read.remaining c.fill.new.reader) (g.W.Write.contents c.args.writer.now) (g.W.Write.contents c.rounds.writer) (take c.rounds.held c.rounds.buffer) [] c.rounds.total c.rounds.invariant.listens
+    (g.R.Read.remaining c.fill.new.reader) (g.W.Write.contents c.args.writer.now) (g.W.Write.contents c.rounds.writer) (take c.rounds.held c.rounds.buffer) [] c.rounds.total c.rounds.invariant.listens (omega (arith, c.rounds.invariant.total))
     (nothing_read _ _ c.in_err-count.ensures.err))
 
 pub returns-then-total-gt-MAX_INPUT-clause-err : goal.returns-then-total-gt-MAX_INPUT-clause-err
 returns-then-total-gt-MAX_INPUT-clause-err g c =
     let f = c.in_ok-count.ensures.ok in
     breaks (moves g.D.Desk.begins g.D.Desk.answers g.D.Desk.commits g.D.Desk.aborts) c.args.client (place c.args.client c.args.notes.now c.args.desk.now) (place c.args.client c.rounds.notes c.rounds.desk) (g.R.Read.remaining c.args.reader.now) (g.R.Read.remaining c.rounds.reader)
-    (g.R.Read.remaining c.fill.new.reader) (g.W.Write.contents c.args.writer.now) (g.W.Write.contents c.rounds.writer) (take c.rounds.held c.rounds.buffer) f.0 c.rounds.total c.rounds.invariant.listens f.5
+    (g.R.Read.remaining c.fill.new.reader) (g.W.Write.contents c.args.writer.now) (g.W.Write.contents c.rounds.writer) (take c.rounds.held c.rounds.buffer) f.0 c.rounds.total c.rounds.invariant.listens (omega (arith, f.2, f.3, c.max.ensures, c.rounds.invariant.total)) f.5
 
 pub returns-then-count-eq0-clause-ok : goal.returns-then-count-eq0-clause-ok
 returns-then-count-eq0-clause-ok g c =
     let f = c.in_ok-count.ensures.ok in
     ends_here (moves g.D.Desk.begins g.D.Desk.answers g.D.Desk.commits g.D.Desk.aborts) c.args.client (place c.args.client c.args.notes.now c.args.desk.now) (place c.args.client c.rounds.notes c.rounds.desk) (g.R.Read.remaining c.args.reader.now) (g.R.Read.remaining c.rounds.reader)
-    (g.R.Read.remaining c.fill.new.reader) (g.W.Write.contents c.args.writer.now) (g.W.Write.contents c.rounds.writer) (take c.rounds.held c.rounds.buffer) f.0 c.rounds.total c.rounds.invariant.listens c.rounds.invariant.going
+    (g.R.Read.remaining c.fill.new.reader) (g.W.Write.contents c.args.writer.now) (g.W.Write.contents c.rounds.writer) (take c.rounds.held c.rounds.buffer) f.0 c.rounds.total c.rounds.invariant.listens (omega (arith, f.2, c.if-count-eq0.true, c.rounds.invariant.total)) c.rounds.invariant.going
     (f.2 ∙ c.if-count-eq0.true) f.5 (f.6 c.if-count-eq0.true)
 
 pub returns-in_err-at-clause-err : goal.returns-in_err-at-clause-err
@@ -45,7 +46,7 @@ returns-in_err-at-clause-err g c =
     let f = c.in_ok-count.ensures.ok in
     on_err_all _ _ (stops (moves g.D.Desk.begins g.D.Desk.answers g.D.Desk.commits g.D.Desk.aborts) c.args.client (place c.args.client c.args.notes.now c.args.desk.now) (place c.args.client c.rounds.notes c.rounds.desk)
     (place c.args.client c.reply.new.notes c.reply.new.desk) (g.R.Read.remaining c.args.reader.now) (g.R.Read.remaining c.rounds.reader) (g.R.Read.remaining c.fill.new.reader)
-    (g.W.Write.contents c.args.writer.now) (g.W.Write.contents c.rounds.writer) (g.W.Write.contents c.reply.new.writer) (take c.rounds.held c.rounds.buffer) f.0 (take (c.rounds.held + c.in_ok-count.count) c.fill.new.buffer) c.rounds.total c.rounds.invariant.listens f.5 f.1
+    (g.W.Write.contents c.args.writer.now) (g.W.Write.contents c.rounds.writer) (g.W.Write.contents c.reply.new.writer) (take c.rounds.held c.rounds.buffer) f.0 (take (c.rounds.held + c.in_ok-count.count) c.fill.new.buffer) c.rounds.total c.rounds.invariant.listens (omega (arith, f.2, c.if-total-gt-MAX_INPUT.false)) f.5 f.1
     c.in_err-at.ensures.err)
 
 pub returns-then-notes-clause-ok : goal.returns-then-notes-clause-ok
@@ -53,8 +54,14 @@ returns-then-notes-clause-ok g c =
     let f = c.in_ok-count.ensures.ok in
     is_over (moves g.D.Desk.begins g.D.Desk.answers g.D.Desk.commits g.D.Desk.aborts) c.args.client (place c.args.client c.args.notes.now c.args.desk.now) (place c.args.client c.rounds.notes c.rounds.desk)
     (place c.args.client c.reply.new.notes c.reply.new.desk) (g.R.Read.remaining c.args.reader.now) (g.R.Read.remaining c.rounds.reader) (g.R.Read.remaining c.fill.new.reader)
-    (g.W.Write.contents c.args.writer.now) (g.W.Write.contents c.rounds.writer) (g.W.Write.contents c.reply.new.writer) (take c.rounds.held c.rounds.buffer) f.0 (take (c.rounds.held + c.in_ok-count.count) c.fill.new.buffer) c.rounds.total c.in_ok-at.at c.rounds.invariant.listens f.5
+    (g.W.Write.contents c.args.writer.now) (g.W.Write.contents c.rounds.writer) (g.W.Write.contents c.reply.new.writer) (take c.rounds.held c.rounds.buffer) f.0 (take (c.rounds.held + c.in_ok-count.count) c.fill.new.buffer) c.rounds.total c.in_ok-at.at c.rounds.invariant.listens (omega (arith, f.2, c.if-total-gt-MAX_INPUT.false)) f.5
     f.1 c.in_ok-at.ensures.ok c.if-notes.true
+
+pub returns-clause-err : goal.returns-clause-err
+returns-clause-err g c =
+    breaks (moves g.D.Desk.begins g.D.Desk.answers g.D.Desk.commits g.D.Desk.aborts) c.args.client (place c.args.client c.args.notes.now c.args.desk.now) (place c.args.client c.rounds.notes c.rounds.desk) (g.R.Read.remaining c.args.reader.now) (g.R.Read.remaining c.rounds.reader)
+    (g.R.Read.remaining c.rounds.reader) (g.W.Write.contents c.args.writer.now) (g.W.Write.contents c.rounds.writer) (take c.rounds.held c.rounds.buffer) [] c.rounds.total c.rounds.invariant.listens
+    (omega (arith, c.rounds.invariant.total)) (Consumes-nil _)
 
 pub rounds-preserved : goal.rounds-preserved
 rounds-preserved g c =
