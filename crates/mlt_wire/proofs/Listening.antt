@@ -6,8 +6,6 @@ use Rattle.std.specs.List.{flat_map}
 use Rattle.std.specs.Io.KnownBytes.{Appends, Consumes, IsAtEnd, Keeps}
 use Rattle.std.proofs.KnownBytes.{Appends-nil, Appends-trans, Consumes-nil, Consumes-trans}
 use Rattle.mlt_text.specs.Texts.{AppendsFront}
-use Rattle.mlt_wire.specs.declared.call.Answer.{Answer}
-use Rattle.mlt_wire.specs.declared.call.Call.{Call}
 use Rattle.mlt_request.specs.declared.line.Line.{Line}
 use Rattle.mlt_wire.specs.Batches.{Covers, IsRest, lines_in}
 use Rattle.mlt_request.specs.Inputs.{lines_of, Begins}
@@ -15,9 +13,10 @@ use Rattle.mlt_wire.specs.Sessions.{Replied, Stopped, Listens, Talked, Broken, A
 use Rattle.mlt_wire.specs.Talks.{Turn, turn_text}
 use Rattle.mlt_wire.specs.Turns.{Place, Goes}
 use Rattle.mlt_request.proofs.Splitting.{splits_none, splits_both, prefix_lines, prefix_begins}
+use Rattle.mlt_wire.specs.Desks.{Moves}
 
 -- turns, and then more turns
-goes_on : {D : Type 0} (moves : D → Call → Answer → D → Type 0) (client : ℕ) (p m q : Place D) (ts us : List Turn) → Goes moves client p ts m → Goes moves client m us q → Goes moves client p (ts ++ us) q
+goes_on : {D : Type 0} (moves : Moves D) (client : ℕ) (p m q : Place D) (ts us : List Turn) → Goes moves client p ts m → Goes moves client m us q → Goes moves client p (ts ++ us) q
 goes_on moves client p m q [] us h k = subst (λ o. Goes moves client o us q) h k
 goes_on moves client p m q (t ∷ ts) us h k = (h.0, h.1, goes_on moves client h.0 m q ts us h.2 k)
 
@@ -28,7 +27,7 @@ text_join : (ts us : List Turn) → flat_map turn_text (ts ++ us) ≡ flat_map t
 text_join ts us = flat_map-append turn_text ts us
 
 -- a session of which nothing was read
-pub starts : {D : Type 0} (moves : D → Call → Answer → D → Type 0) (client : ℕ) (p : Place D) (a w : Option (List ℕ)) → p.progress.lines ≡ 0 → lines_of [] ≡ [] → Listens moves client p a a w w [] 0 p
+pub starts : {D : Type 0} (moves : Moves D) (client : ℕ) (p : Place D) (a w : Option (List ℕ)) → p.progress.lines ≡ 0 → lines_of [] ≡ [] → Listens moves client p a a w w [] 0 p
 starts moves client p a w l e =
     record {
       turns = [];
@@ -53,7 +52,7 @@ taken_length : (prefix held piece : List ℕ) (total most : ℕ) → total ≡ l
 taken_length prefix held piece total most e l = omega (arith, length-append (prefix ++ held) piece, length-append prefix held)
 
 -- the input ended
-pub ends_here : {D : Type 0} (moves : D → Call → Answer → D → Type 0) (client : ℕ) (p q : Place D) (a b c w v : Option (List ℕ)) (held piece : List ℕ) (total : ℕ)
+pub ends_here : {D : Type 0} (moves : Moves D) (client : ℕ) (p q : Place D) (a b c w v : Option (List ℕ)) (held piece : List ℕ) (total : ℕ)
     → Listens moves client p a b w v held total q → total + length piece ≤ 16777216 → q.progress.over ≡ false → length piece ≡ 0 → Consumes b c piece → IsAtEnd c → Talked moves client p a c w v q
 ends_here moves client p q a b c w v held piece total h fits o n read end =
     record {
@@ -72,7 +71,7 @@ prefix_of_all : (w v : Option (List ℕ)) (text : List ℕ) → Appends w v text
 prefix_of_all w v text h = (text, [], sym (append-nil text), h)
 
 -- a read failed, or gave too much
-pub breaks : {D : Type 0} (moves : D → Call → Answer → D → Type 0) (client : ℕ) (p q : Place D) (a b c w v : Option (List ℕ)) (held piece : List ℕ) (total : ℕ)
+pub breaks : {D : Type 0} (moves : Moves D) (client : ℕ) (p q : Place D) (a b c w v : Option (List ℕ)) (held piece : List ℕ) (total : ℕ)
     → Listens moves client p a b w v held total q → total + length piece ≤ 16777217 → Consumes b c piece → Broken moves client p a c w v q
 breaks moves client p q a b c w v held piece total h fits read =
     record {
@@ -90,7 +89,7 @@ appends_prefix_trans w v u xs ys h k =
     (xs ++ k.0, k.1, ap (λ (t : List ℕ). xs ++ t) k.2 ∙ sym (append_assoc xs k.0 k.1), Appends-trans w v u xs k.0 h k.3)
 
 -- an answer was not written, or not kept
-pub stops : {D : Type 0} (moves : D → Call → Answer → D → Type 0) (client : ℕ) (p m q : Place D) (a b c w v u : Option (List ℕ)) (held piece text : List ℕ) (total : ℕ)
+pub stops : {D : Type 0} (moves : Moves D) (client : ℕ) (p m q : Place D) (a b c w v u : Option (List ℕ)) (held piece text : List ℕ) (total : ℕ)
     → Listens moves client p a b w v held total m → total + length piece ≤ 16777217 → Consumes b c piece → text ≡ held ++ piece → Stopped moves client m text v u q → Broken moves client p a c w u q
 stops moves client p m q a b c w v u held piece text total h fits read e s =
     record {
@@ -106,7 +105,7 @@ stops moves client p m q a b c w v u held piece text total h fits read e s =
     }
 
 -- a line ended the session
-pub is_over : {D : Type 0} (moves : D → Call → Answer → D → Type 0) (client : ℕ) (p m q : Place D) (a b c w v u : Option (List ℕ)) (held piece text : List ℕ) (total at : ℕ)
+pub is_over : {D : Type 0} (moves : Moves D) (client : ℕ) (p m q : Place D) (a b c w v u : Option (List ℕ)) (held piece text : List ℕ) (total at : ℕ)
     → Listens moves client p a b w v held total m → total + length piece ≤ 16777216 → Consumes b c piece → text ≡ held ++ piece → Replied moves client m text v at u q → q.progress.over ≡ true → Talked moves client p a c w u q
 is_over moves client p m q a b c w v u held piece text total at h fits read e r o =
     let begins = subst (λ over. Covers over text at (lines_in r.turns)) o r.covers in
@@ -125,7 +124,7 @@ is_over moves client p m q a b c w v u held piece text total at h fits read e r 
     }
 
 -- the session goes on
-pub goes_further : {D : Type 0} (moves : D → Call → Answer → D → Type 0) (client : ℕ) (p m q : Place D) (a b c w v u : Option (List ℕ)) (held piece text left : List ℕ) (total at : ℕ)
+pub goes_further : {D : Type 0} (moves : Moves D) (client : ℕ) (p m q : Place D) (a b c w v u : Option (List ℕ)) (held piece text left : List ℕ) (total at : ℕ)
     → Listens moves client p a b w v held total m → Consumes b c piece → text ≡ held ++ piece → Replied moves client m text v at u q → q.progress.over ≡ false
     → q.progress.lines ≤ m.progress.lines + at → left ≡ drop at text → Listens moves client p a c w u left (total + length piece) q
 goes_further moves client p m q a b c w v u held piece text left total at h read e r o few same =

@@ -5,8 +5,6 @@ use Rattle.std.proofs.lemmas.List.{take_rest, map-append}
 use Rattle.std.proofs.lemmas.Grind.{flat_map-append}
 use Rattle.std.specs.List.{flat_map}
 use Rattle.std.specs.Prelude.{Result, Ok, Err, OnErr, IfErr}
-use Rattle.mlt_wire.specs.declared.call.Answer.{Answer}
-use Rattle.mlt_wire.specs.declared.call.Call.{Call}
 use Rattle.mlt_request.specs.declared.line.Line.{Line}
 use Rattle.mlt_request.specs.declared.line.Line.TheVariants.{Says, TooLong}
 use Rattle.mlt_wire.specs.declared.said.Said.{Said}
@@ -16,6 +14,7 @@ use Rattle.mlt_request.proofs.Splitting.{splits_both}
 use Rattle.mlt_wire.specs.Talks.{Turn, turn_text, ends}
 use Rattle.mlt_wire.specs.Texts.{said_text}
 use Rattle.mlt_wire.specs.Turns.{Place, Step, Goes, TakesTurn}
+use Rattle.mlt_wire.specs.Desks.{Moves}
 
 -- what holds anyway holds on an error
 pub on_err_all : {T E : Type 0} → (r : Result T E) (P : Type 0) → P → OnErr r P
@@ -28,7 +27,7 @@ on_others (Ok value) x P p = tt
 on_others (Err e) x P p = λ _. p
 
 -- one more turn
-pub goes_more : {D : Type 0} (moves : D → Call → Answer → D → Type 0) (client : ℕ) (p m q : Place D) (ts : List Turn) (t : Turn)
+pub goes_more : {D : Type 0} (moves : Moves D) (client : ℕ) (p m q : Place D) (ts : List Turn) (t : Turn)
     → Goes moves client p ts m → Step moves client m t q → Goes moves client p (ts ++ t ∷ []) q
 goes_more {D} moves client p m q [] t h s = (q, subst (λ (o : Place D). Step moves client o t q) h s, refl)
 goes_more moves client p m q (u ∷ ts) t h s = (h.0, h.1, goes_more moves client h.0 m q ts t h.2 s)
@@ -66,7 +65,7 @@ text_at_end : (ts : List Turn) (t : Turn) → flat_map turn_text (ts ++ t ∷ []
 text_at_end ts t = flat_map-append turn_text ts (t ∷ []) ∙ ap (λ (rest : List ℕ). flat_map turn_text ts ++ rest) (append-nil (turn_text t))
 
 -- one more line was answered
-pub reaches_more : {D : Type 0} (moves : D → Call → Answer → D → Type 0) (client : ℕ) (p m q : Place D) (text before mid after : List ℕ) (at n : ℕ) (line : Line) (said : Said)
+pub reaches_more : {D : Type 0} (moves : Moves D) (client : ℕ) (p m q : Place D) (text before mid after : List ℕ) (at n : ℕ) (line : Line) (said : Said)
     → Reaches moves client p text before at mid m → m.progress.over ≡ false → NextLine (take (length text - at) (drop at text)) (Some (line, n)) → TakesTurn moves client m line said q
     → after ≡ mid ++ said_text said → Reaches moves client p text before (at + n) after q
 reaches_more moves client p m q text before mid after at n line said r o next t e =
@@ -84,13 +83,13 @@ reaches_more moves client p m q text before mid after at n line said r o next t 
     }
 
 -- nothing more was asked
-pub broke_before : {D : Type 0} (moves : D → Call → Answer → D → Type 0) (client : ℕ) (p m q : Place D) (text before mid : List ℕ) (at : ℕ)
+pub broke_before : {D : Type 0} (moves : Moves D) (client : ℕ) (p m q : Place D) (text before mid : List ℕ) (at : ℕ)
     → Reaches moves client p text before at mid m → q ≡ m → BrokeOff moves client p text q
 broke_before moves client p m q text before mid at r e =
     record { turns = r.turns; goes = subst (Goes moves client p r.turns) (sym e) r.goes; begins = covers_begin m.progress.over text at (lines_in r.turns) r.covers }
 
 -- a line was answered, and its answer not kept
-pub broke_after : {D : Type 0} (moves : D → Call → Answer → D → Type 0) (client : ℕ) (p m q : Place D) (text before mid : List ℕ) (at n : ℕ) (line : Line) (said : Said)
+pub broke_after : {D : Type 0} (moves : Moves D) (client : ℕ) (p m q : Place D) (text before mid : List ℕ) (at n : ℕ) (line : Line) (said : Said)
     → Reaches moves client p text before at mid m → m.progress.over ≡ false → NextLine (take (length text - at) (drop at text)) (Some (line, n)) → TakesTurn moves client m line said q
     → BrokeOff moves client p text q
 broke_after moves client p m q text before mid at n line said r o next t =
@@ -98,7 +97,7 @@ broke_after moves client p m q text before mid at n line said r o next t =
     broke_before moves client p q q text before (mid ++ said_text said) (at + n) all refl
 
 -- at the start
-pub reaches_none : {D : Type 0} (moves : D → Call → Answer → D → Type 0) (client : ℕ) (p : Place D) (text before : List ℕ) → p.progress.over ≡ false → lines_of [] ≡ [] → Reaches moves client p text before 0 before p
+pub reaches_none : {D : Type 0} (moves : Moves D) (client : ℕ) (p : Place D) (text before : List ℕ) → p.progress.over ≡ false → lines_of [] ≡ [] → Reaches moves client p text before 0 before p
 reaches_none moves client p text before o e =
     record {
       turns = [];

@@ -6,6 +6,7 @@ use Rattle.mlt_wire.specs.declared.call.Call.{Call}
 use Rattle.mlt_wire.specs.declared.notes.Progress.{Progress}
 use Rattle.mlt_wire.specs.Receipts.{noted}
 use Rattle.mlt_wire.specs.Turns.{Place, Asked, after_answer}
+use Rattle.mlt_wire.specs.Desks.{Moves}
 
 -- nothing was answered
 pub unanswered : (p : Progress) → after_answer p None ≡ p
@@ -21,6 +22,6 @@ committed p q n e =
     ap (λ (r : Progress). record r { commits = r.commits + 1 }) e ∙ rw begun refl
 
 -- the call was made
-pub asks : {D : Type 0} (moves : D → Call → Answer → D → Type 0) (client : ℕ) (p q : Place D) (asked : Option Call) (c : Call) (a : Answer)
+pub asks : {D : Type 0} (moves : Moves D) (client : ℕ) (p q : Place D) (asked : Option Call) (c : Call) (a : Answer)
     → asked ≡ Some c → moves p.desk c a q.desk → q.receipts ≡ noted client p.progress.begun p.receipts c a → Asked moves client p asked (Some a) q
 asks moves client p q asked c a e m n = subst (λ (o : Option Call). Asked moves client p o (Some a) q) (sym e) (m, n)

@@ -24,8 +24,12 @@ moves begins answers commits aborts old (call.Commit tx) answer new = ⊥
 moves begins answers commits aborts old (call.Abort tx) Aborted new = aborts old tx new
 moves begins answers commits aborts old (call.Abort tx) answer new = ⊥
 
+-- of the state before, a call, its answer and the state after
+abbrev pub Moves : Type 0 → Type 1
+Moves D = D → Call → Answer → D → Type 0
+
 -- the desk gives these answers to these calls, one after the other
-abbrev pub Answers : {D : Type 0} → (D → Call → Answer → D → Type 0) → D → List Call → List Answer → D → Type 0
+abbrev pub Answers : {D : Type 0} → Moves D → D → List Call → List Answer → D → Type 0
 Answers moves old [] [] new = new ≡ old
 Answers {D} moves old (c ∷ calls) (a ∷ answers) new = (mid : D) × moves old c a mid × Answers moves mid calls answers new
 Answers moves old [] (a ∷ answers) new = ⊥

@@ -9,13 +9,13 @@ use Rattle.mlt_wire.specs.declared.call.Call.{Call}
 use Rattle.mlt_request.specs.declared.line.Line.{Line}
 use Rattle.mlt_wire.specs.Batches.{Covers, IsRest, lines_in}
 use Rattle.mlt_request.specs.Inputs.{lines_of, Splits, Begins}
-use Rattle.mlt_wire.specs.Desks.{Answers}
+use Rattle.mlt_wire.specs.Desks.{Moves, Answers}
 use Rattle.mlt_wire.specs.Receipts.{receipts_of}
 use Rattle.mlt_wire.specs.Talks.{Turn, turn_text, calls_in, answers_in, closing, closing_answers, open_at_end, session_turns, session_text, commits_in, ends_in, long_in}
 use Rattle.mlt_wire.specs.Turns.{Place, Goes}
 
 -- the complete lines of the text were answered, and the answers written
-pub record Replied {D : Type 0} (moves : D → Call → Answer → D → Type 0) (client : ℕ) (p : Place D) (text : List ℕ) (before : Option (List ℕ)) (at : ℕ) (after : Option (List ℕ)) (q : Place D) : Type 0 where
+pub record Replied {D : Type 0} (moves : Moves D) (client : ℕ) (p : Place D) (text : List ℕ) (before : Option (List ℕ)) (at : ℕ) (after : Option (List ℕ)) (q : Place D) : Type 0 where
   pub turns : List Turn
   pub goes : Goes moves client p turns q
   pub wrote : Appends before after (flat_map turn_text turns)
@@ -24,14 +24,14 @@ pub record Replied {D : Type 0} (moves : D → Call → Answer → D → Type 0)
   pub rest : IsRest q.progress.over (drop at text)
 
 -- some lines of the text were answered, and a prefix of the answers written
-pub record Stopped {D : Type 0} (moves : D → Call → Answer → D → Type 0) (client : ℕ) (p : Place D) (text : List ℕ) (before after : Option (List ℕ)) (q : Place D) : Type 0 where
+pub record Stopped {D : Type 0} (moves : Moves D) (client : ℕ) (p : Place D) (text : List ℕ) (before after : Option (List ℕ)) (q : Place D) : Type 0 where
   pub turns : List Turn
   pub goes : Goes moves client p turns q
   pub begins : Begins text (lines_in turns)
   pub wrote : AppendsFront before after (flat_map turn_text turns)
 
 -- a session that goes on: its lines up to here, and the bytes that it holds, which are no complete line
-pub record Listens {D : Type 0} (moves : D → Call → Answer → D → Type 0) (client : ℕ) (p : Place D) (read_before read_after wrote_before wrote_after : Option (List ℕ)) (held : List ℕ) (total : ℕ)
+pub record Listens {D : Type 0} (moves : Moves D) (client : ℕ) (p : Place D) (read_before read_after wrote_before wrote_after : Option (List ℕ)) (held : List ℕ) (total : ℕ)
     (q : Place D) : Type 0 where
   pub turns : List Turn
   pub prefix : List ℕ
@@ -55,7 +55,7 @@ EndsInput false rest = IsAtEnd rest
 EndsInput true rest = Unit {0}
 
 -- a session that ended by itself: all that was read was answered, up to the line that ended it
-pub record Talked {D : Type 0} (moves : D → Call → Answer → D → Type 0) (client : ℕ) (p : Place D) (read_before read_after wrote_before wrote_after : Option (List ℕ)) (q : Place D) : Type 0 where
+pub record Talked {D : Type 0} (moves : Moves D) (client : ℕ) (p : Place D) (read_before read_after wrote_before wrote_after : Option (List ℕ)) (q : Place D) : Type 0 where
   pub taken : List ℕ
   pub turns : List Turn
   pub consumed : Consumes read_before read_after taken
@@ -66,7 +66,7 @@ pub record Talked {D : Type 0} (moves : D → Call → Answer → D → Type 0) 
   pub ended : EndsInput q.progress.over read_after
 
 -- a session that was broken off
-pub record Broken {D : Type 0} (moves : D → Call → Answer → D → Type 0) (client : ℕ) (p : Place D) (read_before read_after wrote_before wrote_after : Option (List ℕ)) (q : Place D) : Type 0 where
+pub record Broken {D : Type 0} (moves : Moves D) (client : ℕ) (p : Place D) (read_before read_after wrote_before wrote_after : Option (List ℕ)) (q : Place D) : Type 0 where
   pub taken : List ℕ
   pub turns : List Turn
   pub consumed : Consumes read_before read_after taken
@@ -94,7 +94,7 @@ scene desk unread written receipts = record { desk = desk; unread = unread; writ
 
 -- a session that ended by itself: the text, the calls and the receipts are those that the bytes that it read and the
 -- desk's answers fix
-pub record Spoken {D : Type 0} (moves : D → Call → Answer → D → Type 0) (client : ℕ) (old new : Scene D) : Type 0 where
+pub record Spoken {D : Type 0} (moves : Moves D) (client : ℕ) (old new : Scene D) : Type 0 where
   pub taken : List ℕ
   pub answers : List Answer
   -- these bytes were read, and all there were, unless a line ended the session
@@ -110,19 +110,19 @@ pub record Spoken {D : Type 0} (moves : D → Call → Answer → D → Type 0) 
   pub noted : new.receipts ≡ old.receipts ++ receipts_of client 0 (session_turns taken answers)
 
 -- so many lines were answered, and so many of them committed
-pub record Summed {D : Type 0} (moves : D → Call → Answer → D → Type 0) (client : ℕ) (old new : Scene D) (lines commits : ℕ) : Type 0 where
+pub record Summed {D : Type 0} (moves : Moves D) (client : ℕ) (old new : Scene D) (lines commits : ℕ) : Type 0 where
   pub spoken : Spoken moves client old new
   pub lines_are : lines ≡ length (session_turns spoken.taken spoken.answers)
   pub commits_are : commits ≡ commits_in (session_turns spoken.taken spoken.answers)
   pub short : long_in (session_turns spoken.taken spoken.answers) ≡ false
 
 -- a session that a line of more than 200 bytes ended
-pub record SpokenLong {D : Type 0} (moves : D → Call → Answer → D → Type 0) (client : ℕ) (old new : Scene D) : Type 0 where
+pub record SpokenLong {D : Type 0} (moves : Moves D) (client : ℕ) (old new : Scene D) : Type 0 where
   pub spoken : Spoken moves client old new
   pub long : long_in (session_turns spoken.taken spoken.answers) ≡ true
 
 -- a session that was broken off: it has heard the first turns, and a prefix of the text was written
-pub record BrokenOff {D : Type 0} (moves : D → Call → Answer → D → Type 0) (client : ℕ) (old new : Scene D) : Type 0 where
+pub record BrokenOff {D : Type 0} (moves : Moves D) (client : ℕ) (old new : Scene D) : Type 0 where
   pub taken : List ℕ
   pub answers : List Answer
   pub heard : List Turn

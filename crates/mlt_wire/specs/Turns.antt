@@ -9,6 +9,7 @@ use Rattle.mlt_wire.specs.declared.notes.Notes.{Notes}
 use Rattle.mlt_wire.specs.declared.notes.Progress.{Progress}
 use Rattle.mlt_wire.specs.Receipts.{receipts_in, noted, begins_by}
 use Rattle.mlt_wire.specs.Talks.{Turn, call_for, said_by, ends, is_long, open_after, commits_by}
+use Rattle.mlt_wire.specs.Desks.{Moves}
 
 -- how far a session is, its desk and its receipts
 pub record Place (D : Type 0) : Type 0 where
@@ -44,31 +45,31 @@ abbrev pub after_turn : Progress → Turn → Progress
 after_turn p t = after_line (after_answer p t.answer) t.line
 
 -- the call was made and answered so, and noted
-pub record Told {D : Type 0} (moves : D → Call → Answer → D → Type 0) (client : ℕ) (p : Place D) (c : Call) (a : Answer) (q : Place D) : Type 0 where
+pub record Told {D : Type 0} (moves : Moves D) (client : ℕ) (p : Place D) (c : Call) (a : Answer) (q : Place D) : Type 0 where
   pub moved : moves p.desk c a q.desk
   pub noted_so : q.receipts ≡ noted client p.progress.begun p.receipts c a
   pub after : q.progress ≡ after_answer p.progress (Some a)
 
 -- the call was made and answered, and noted; or there was none
-abbrev pub Asked : {D : Type 0} → (D → Call → Answer → D → Type 0) → ℕ → Place D → Option Call → Option Answer → Place D → Type 0
+abbrev pub Asked : {D : Type 0} → Moves D → ℕ → Place D → Option Call → Option Answer → Place D → Type 0
 Asked moves client p None None q = (q.desk ≡ p.desk) × (q.receipts ≡ p.receipts)
 Asked moves client p (Some c) (Some a) q = moves p.desk c a q.desk × (q.receipts ≡ noted client p.progress.begun p.receipts c a)
 Asked moves client p None (Some a) q = ⊥
 Asked moves client p (Some c) None q = ⊥
 
-pub record Step {D : Type 0} (moves : D → Call → Answer → D → Type 0) (client : ℕ) (p : Place D) (t : Turn) (q : Place D) : Type 0 where
+pub record Step {D : Type 0} (moves : Moves D) (client : ℕ) (p : Place D) (t : Turn) (q : Place D) : Type 0 where
   pub going : p.progress.over ≡ false
   pub before : t.open_before ≡ p.progress.tx
   pub asked : Asked moves client p (call_for t.open_before t.line) t.answer q
   pub after : q.progress ≡ after_turn p.progress t
 
 -- these turns, one after the other
-abbrev pub Goes : {D : Type 0} → (D → Call → Answer → D → Type 0) → ℕ → Place D → List Turn → Place D → Type 0
+abbrev pub Goes : {D : Type 0} → Moves D → ℕ → Place D → List Turn → Place D → Type 0
 Goes moves client p [] q = q ≡ p
 Goes {D} moves client p (t ∷ ts) q = (m : Place D) × Step moves client p t m × Goes moves client m ts q
 
 -- one turn for a line, and what is said
-pub record TakesTurn {D : Type 0} (moves : D → Call → Answer → D → Type 0) (client : ℕ) (p : Place D) (line : Line) (said : Said) (q : Place D) : Type 0 where
+pub record TakesTurn {D : Type 0} (moves : Moves D) (client : ℕ) (p : Place D) (line : Line) (said : Said) (q : Place D) : Type 0 where
   pub answer : Option Answer
   pub step : Step moves client p (record { open_before = p.progress.tx; line = line; answer = answer }) q
   pub says : said ≡ said_by p.progress.tx line answer
