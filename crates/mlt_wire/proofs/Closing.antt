@@ -5,7 +5,8 @@ use Rattle.mlt_kinds.specs.declared.operation.ObjReply.{ObjReply}
 use Rattle.mlt_serial.specs.declared.outcome.End.TheVariants as end
 use Rattle.mlt_serial.specs.declared.outcome.Outcome.{Outcome}
 use Rattle.mlt_wire.specs.declared.call.Answer.TheVariants.{Replied, Committed}
-use Rattle.mlt_wire.specs.Receipts.{outcome_of, pending, at_last, replied_noted, committed_noted}
+use Rattle.mlt_wire.specs.Noting.{pending, at_last, replied_noted, committed_noted}
+use Rattle.mlt_wire.specs.Receipts.{outcome_of}
 
 pub at_last_end : (f : Outcome → Outcome) (rs : List Outcome) (r : Outcome) → at_last f (rs ++ r ∷ []) ≡ rs ++ f r ∷ []
 at_last_end f [] r = refl

@@ -9,7 +9,7 @@ use Rattle.mlt_text.specs.Texts.{AppendsFront}
 use Rattle.mlt_request.specs.declared.line.Line.{Line}
 use Rattle.mlt_wire.specs.Batches.{Covers, IsRest, lines_in}
 use Rattle.mlt_request.specs.Inputs.{lines_of, Begins}
-use Rattle.mlt_wire.specs.Sessions.{Replied, Stopped, Listens, Talked, Broken, AreLines, EndsInput}
+use Rattle.mlt_wire.specs.Rounds.{Replied, Stopped, Listens, Talked, Broken, AreLines, EndsInput}
 use Rattle.mlt_wire.specs.Talks.{Turn, turn_text}
 use Rattle.mlt_wire.specs.Turns.{Place, Goes}
 use Rattle.mlt_request.proofs.Splitting.{splits_none, splits_both, prefix_lines, prefix_begins}

@@ -12,7 +12,8 @@ use Rattle.mlt_wire.specs.declared.call.Call.{Call}
 use Rattle.mlt_wire.specs.declared.call.Call.TheVariants as call
 use Rattle.mlt_request.specs.declared.line.Line.{Line}
 use Rattle.mlt_request.specs.declared.line.Line.TheVariants.{Says, TooLong}
-use Rattle.mlt_wire.specs.Receipts.{outcome_of, noted, begins_by, begun_in, done_in, end_in, call_of, up_to, before_next, all_done, ended_by, receipt_of, receipt_if, receipts_of}
+use Rattle.mlt_wire.specs.Noting.{noted}
+use Rattle.mlt_wire.specs.Receipts.{outcome_of, begins_by, begun_in, done_in, end_in, call_of, up_to, before_next, all_done, ended_by, receipt_of, receipt_if, receipts_of}
 use Rattle.mlt_wire.proofs.Closing.{at_last_end}
 use Rattle.mlt_wire.specs.Talks.{Turn, turns, call_for}
 

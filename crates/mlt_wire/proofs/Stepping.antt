@@ -4,7 +4,7 @@ use Rattle.mlt_wire.specs.declared.call.Answer.{Answer}
 use Rattle.mlt_wire.specs.declared.call.Answer.TheVariants.{Committed}
 use Rattle.mlt_wire.specs.declared.call.Call.{Call}
 use Rattle.mlt_wire.specs.declared.notes.Progress.{Progress}
-use Rattle.mlt_wire.specs.Receipts.{noted}
+use Rattle.mlt_wire.specs.Noting.{noted}
 use Rattle.mlt_wire.specs.Turns.{Place, Asked, after_answer}
 use Rattle.mlt_wire.specs.Desks.{Moves}
 

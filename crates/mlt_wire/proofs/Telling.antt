@@ -16,7 +16,8 @@ use Rattle.mlt_wire.specs.Batches.{lines_in}
 use Rattle.mlt_wire.specs.Desks.{Moves, Answers}
 use Rattle.mlt_request.specs.Inputs.{lines_of, Begins}
 use Rattle.mlt_wire.specs.Receipts.{begins_by, receipts_of}
-use Rattle.mlt_wire.specs.Sessions.{Talked, Broken, AreLines, EndsInput, Spoken, SpokenLong, Summed, BrokenOff, all_calls, all_answers, scene}
+use Rattle.mlt_wire.specs.Rounds.{Talked, Broken, AreLines, EndsInput}
+use Rattle.mlt_wire.specs.Sessions.{Spoken, SpokenLong, Summed, BrokenOff, all_calls, all_answers, scene}
 use Rattle.mlt_wire.specs.Talks.{Turn, turn_text, turns, one_turn, unless_ended, ends, option_list, open_after, call_for, calls_in, answers_in, open_at_end, closing, closing_answers, session_turns, session_text, commits_by, commits_in, ends_in, long_in, is_long}
 use Rattle.mlt_wire.specs.Turns.{Place, Step, Goes, Asked}
 

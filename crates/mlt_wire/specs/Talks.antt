@@ -17,24 +17,16 @@ use Rattle.mlt_wire.specs.Texts.{said_text}
 -- what a line asks of the desk, with no transaction open
 abbrev pub call_alone : Line → Option Call
 call_alone (Says request.Begin) = Some call.Begin
-call_alone (Says (request.Op op)) = None
-call_alone (Says request.Commit) = None
-call_alone (Says request.Abort) = None
-call_alone (Says request.Quit) = None
-call_alone (Says request.Blank) = None
-call_alone (Says request.Other) = None
-call_alone TooLong = None
+call_alone line = None
 
 -- what a line asks of the desk, with this transaction open
 abbrev pub call_within : ℕ → Line → Option Call
-call_within tx (Says request.Begin) = None
 call_within tx (Says (request.Op op)) = Some (call.Operation tx op)
 call_within tx (Says request.Commit) = Some (call.Commit tx)
 call_within tx (Says request.Abort) = Some (call.Abort tx)
 call_within tx (Says request.Quit) = Some (call.Abort tx)
-call_within tx (Says request.Blank) = None
-call_within tx (Says request.Other) = None
 call_within tx TooLong = Some (call.Abort tx)
+call_within tx line = None
 
 abbrev pub call_for : Option ℕ → Line → Option Call
 call_for None line = call_alone line
@@ -57,14 +49,9 @@ open_after before (Some (Refused r)) = before
 
 -- whether a line ends the session
 abbrev pub ends : Line → Bool
-ends (Says request.Begin) = false
-ends (Says (request.Op op)) = false
-ends (Says request.Commit) = false
-ends (Says request.Abort) = false
 ends (Says request.Quit) = true
-ends (Says request.Blank) = false
-ends (Says request.Other) = false
 ends TooLong = true
+ends line = false
 
 abbrev pub is_long : Line → Bool
 is_long (Says request) = false
@@ -113,14 +100,11 @@ said_within TooLong = said.Error refusal.LineTooLong
 
 -- what is said where the desk answered
 abbrev pub said_with : Line → Answer → Said
-said_with (Says request.Begin) answer = said.Told answer
-said_with (Says (request.Op op)) answer = said.Told answer
-said_with (Says request.Commit) answer = said.Told answer
-said_with (Says request.Abort) answer = said.Told answer
 said_with (Says request.Quit) answer = said.Bye
 said_with (Says request.Blank) answer = said.Nothing
 said_with (Says request.Other) answer = said.Fault
 said_with TooLong answer = said.Error refusal.LineTooLong
+said_with line answer = said.Told answer
 
 abbrev pub said_by : Option ℕ → Line → Option Answer → Said
 said_by before line (Some answer) = said_with line answer
@@ -170,12 +154,8 @@ long_in [] = false
 long_in (t ∷ ts) = is_long t.line || long_in ts
 
 abbrev pub commits_by : Option Answer → ℕ
-commits_by None = 0
-commits_by (Some (Begun tx)) = 0
-commits_by (Some (Replied reply)) = 0
 commits_by (Some (Committed number)) = 1
-commits_by (Some Aborted) = 0
-commits_by (Some (Refused r)) = 0
+commits_by answer = 0
 
 abbrev pub commits_in : List Turn → ℕ
 commits_in [] = 0

@@ -7,7 +7,8 @@ use Rattle.mlt_request.specs.declared.line.Line.{Line}
 use Rattle.mlt_wire.specs.declared.said.Said.{Said}
 use Rattle.mlt_wire.specs.declared.notes.Notes.{Notes}
 use Rattle.mlt_wire.specs.declared.notes.Progress.{Progress}
-use Rattle.mlt_wire.specs.Receipts.{receipts_in, noted, begins_by}
+use Rattle.mlt_wire.specs.Noting.{receipts_in, noted}
+use Rattle.mlt_wire.specs.Receipts.{begins_by}
 use Rattle.mlt_wire.specs.Talks.{Turn, call_for, said_by, ends, is_long, open_after, commits_by}
 use Rattle.mlt_wire.specs.Desks.{Moves}
 

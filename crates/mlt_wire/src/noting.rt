@@ -2,7 +2,8 @@
 
 ghost use Rattle.std.specs.Prelude.{◌≡◌, ◌<◌, ◌+◌, ◌^◌, [], ◌∷◌, ◌++◌, ℕ, None, Some, vec_len};
 ghost use Rattle.std.specs.Vec.{vec_capacity};
-ghost use Rattle.mlt_wire.specs.Receipts.{outcome_of, receipts_in};
+ghost use Rattle.mlt_wire.specs.Noting.{receipts_in};
+ghost use Rattle.mlt_wire.specs.Receipts.{outcome_of};
 ghost use Rattle.mlt_wire.specs.Talks.{ends, is_long};
 ghost use Rattle.mlt_wire.specs.Turns.{after_line, start};
 

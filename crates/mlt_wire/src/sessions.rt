@@ -4,8 +4,9 @@ ghost use Rattle.std.specs.Prelude.{◌≡◌, ◌≢◌, ◌<◌, ◌≤◌, �
 ghost use Rattle.std.specs.Io.{ReadsAtMost};
 ghost use Rattle.std.specs.Io.KnownBytes.{Consumes, IsAtEnd, Keeps, ReadConsumes};
 ghost use Rattle.mlt_wire.specs.Desks.{Answers, moves};
-ghost use Rattle.mlt_wire.specs.Receipts.{receipts_in};
-ghost use Rattle.mlt_wire.specs.Sessions.{Replied, Stopped, Talked, Broken, SpokenLong, Summed, BrokenOff, scene};
+ghost use Rattle.mlt_wire.specs.Noting.{receipts_in};
+ghost use Rattle.mlt_wire.specs.Rounds.{Replied, Stopped, Talked, Broken};
+ghost use Rattle.mlt_wire.specs.Sessions.{SpokenLong, Summed, BrokenOff, scene};
 ghost use Rattle.mlt_wire.specs.Talks.{closing, closing_answers};
 ghost use Rattle.mlt_wire.specs.Turns.{IsSmall, place, start};
 

@@ -1,5 +1,5 @@
 use Rattle.std.proofs.Common.{◌≡◌, ◌+◌, ℕ, [], length, take, ◌∙◌, ap, subst, arith, length-take}
-use Rattle.mlt_wire.specs.Sessions.{Listens}
+use Rattle.mlt_wire.specs.Rounds.{Listens}
 use Rattle.std.proofs.KnownBytes.{Consumes-nil}
 use Rattle.mlt_wire.specs.Desks.{moves}
 use Rattle.mlt_wire.specs.Turns.{place}

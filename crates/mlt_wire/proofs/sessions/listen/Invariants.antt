@@ -1,6 +1,6 @@
 -- The session goes on.
 use Rattle.std.proofs.Common.{◌≡◌, ◌≤◌, take, false}
-use Rattle.mlt_wire.specs.Sessions.{Listens}
+use Rattle.mlt_wire.specs.Rounds.{Listens}
 use Rattle.mlt_wire.specs.Desks.{moves}
 use Rattle.mlt_wire.specs.Turns.{place}
 use Rattle.mlt_wire.proofs.sessions.listen.Given as goal

@@ -2,7 +2,7 @@ use Rattle.std.proofs.Common.{◌++◌, List, ℕ, ◌∙◌, ap, subst}
 use Rattle.std.specs.List.{flat_map}
 use Rattle.mlt_text.specs.Texts.{AppendsFront}
 use Rattle.mlt_wire.specs.Batches.{lines_in}
-use Rattle.mlt_wire.specs.Sessions.{Stopped}
+use Rattle.mlt_wire.specs.Rounds.{Stopped}
 use Rattle.mlt_wire.specs.Desks.{moves}
 use Rattle.mlt_wire.specs.Turns.{place}
 use Rattle.mlt_wire.specs.Talks.{turn_text}

@@ -1,6 +1,6 @@
 use Rattle.std.proofs.Common.{refl, sym, ap}
 use Rattle.mlt_wire.specs.declared.call.Answer.TheVariants.{Refused}
-use Rattle.mlt_wire.specs.Receipts.{committed_noted}
+use Rattle.mlt_wire.specs.Noting.{committed_noted}
 use Rattle.mlt_wire.proofs.Closing.{unchanged, closed}
 use Rattle.mlt_wire.proofs.Stepping.{unanswered, committed}
 use Rattle.mlt_wire.proofs.turn.commit.Goals as goal

@@ -1,6 +1,6 @@
 use Rattle.std.proofs.Common.{refl, sym}
 use Rattle.mlt_wire.specs.declared.call.Answer.TheVariants.{Refused}
-use Rattle.mlt_wire.specs.Receipts.{replied_noted}
+use Rattle.mlt_wire.specs.Noting.{replied_noted}
 use Rattle.mlt_wire.proofs.Closing.{replied, unchanged}
 use Rattle.mlt_wire.proofs.Stepping.{unanswered}
 use Rattle.mlt_wire.proofs.turn.operation.Goals as goal
