@@ -1,12 +1,8 @@
 -- The turns that were taken are those that the whole input and the answers fix.
-use Rattle.std.proofs.Common.{◌≡◌, ℕ, ◌+◌, List, [], ◌∷◌, ◌++◌, length, Option, Bool, true, false, ◌||◌, Some, None, refl, sym, ap, subst, ◌∙◌, arith, append_assoc, append-nil, cond}
-use Rattle.std.proofs.lemmas.Grind.{flat_map-append}
-use Rattle.std.specs.List.{flat_map}
-use Rattle.std.specs.Io.KnownBytes.{Appends}
+use Rattle.std.proofs.Common.{◌≡◌, ℕ, ◌+◌, List, [], ◌∷◌, ◌++◌, length, Option, Bool, true, false, ◌||◌, Some, None, refl, sym, ap, subst, ◌∙◌, arith, append-nil, cond}
 use Rattle.std.proofs.KnownBytes.{Appends-nil, Consumes-nil}
 use Rattle.mlt_request.proofs.Cutting.{empty}
 use Rattle.mlt_wire.proofs.Receiving.{noted_by, noted_all, all_noted}
-use Rattle.mlt_text.specs.Texts.{AppendsFront}
 use Rattle.mlt_serial.specs.declared.outcome.Outcome.{Outcome}
 use Rattle.mlt_wire.specs.declared.call.Answer.{Answer}
 use Rattle.mlt_wire.specs.declared.call.Call.{Call}
@@ -14,11 +10,11 @@ use Rattle.mlt_request.specs.declared.line.Line.{Line}
 use Rattle.mlt_request.specs.declared.line.Line.TheVariants.{Says, TooLong}
 use Rattle.mlt_wire.specs.Batches.{lines_in}
 use Rattle.mlt_wire.specs.Desks.{Moves, Answers}
-use Rattle.mlt_request.specs.Inputs.{lines_of, Begins}
+use Rattle.mlt_request.specs.Inputs.{Begins}
 use Rattle.mlt_wire.specs.Receipts.{begins_by, receipts_of}
 use Rattle.mlt_wire.specs.Rounds.{Talked, Broken, AreLines, EndsInput}
 use Rattle.mlt_wire.specs.Sessions.{Spoken, SpokenLong, Summed, BrokenOff, all_calls, all_answers, scene}
-use Rattle.mlt_wire.specs.Talks.{Turn, turn_text, turns, one_turn, unless_ended, ends, option_list, open_after, call_for, calls_in, answers_in, open_at_end, closing, closing_answers, session_turns, session_text, commits_by, commits_in, ends_in, long_in, is_long}
+use Rattle.mlt_wire.specs.Talks.{Turn, turns, one_turn, unless_ended, ends, option_list, open_after, call_for, calls_in, answers_in, open_at_end, closing, closing_answers, session_turns, commits_by, commits_in, ends_in, long_in, is_long}
 use Rattle.mlt_wire.specs.Turns.{Place, Step, Goes, Asked}
 
 or_false : (b : Bool) → b || false ≡ b
@@ -162,77 +158,93 @@ long_if_long moves client p q (t ∷ u ∷ us) h n =
     let short : is_long t.line ≡ false = long_ends t.line on in
     long_if_long moves client h.0 q (u ∷ us) h.2 (ap (λ r. r.long) h.1.after ∙ short) ∙ ap (λ b. b || long_in (u ∷ us)) (sym short)
 
-pub speaks : {D : Type 0} (moves : Moves D) (client : ℕ) (p q : Place D) (desk : D) (a b w v : Option (List ℕ)) (rs ss : List Outcome) → p.receipts ≡ rs → q.receipts ≡ ss → p.progress.over ≡ false → p.progress.tx ≡ None → p.progress.begun ≡ 0 → Talked moves client p a b w v q
-    → Answers moves q.desk (closing q.progress.tx) (closing_answers q.progress.tx) desk → Spoken moves client (scene p.desk a w rs) (scene desk b v ss)
+-- the calls of the turns, and the one that takes back what is open then
+asked_closed : {D : Type 0} (moves : Moves D) (client : ℕ) (p q : Place D) (desk : D) (ts : List Turn) → p.progress.tx ≡ None
+    → Goes moves client p ts q → Answers moves q.desk (closing q.progress.tx) (closing_answers q.progress.tx) desk
+    → Answers moves p.desk (all_calls ts) (all_answers ts) desk
+asked_closed moves client p q desk ts x h k =
+    let current = opens moves client p q ts h ∙ ap (λ b. open_at_end b ts) x in
+    answers_join moves p.desk q.desk desk (calls_in ts) (closing (open_at_end None ts)) (answers_in ts) (closing_answers (open_at_end None ts))
+    (asked_all moves client p q ts h) (subst (λ tx. Answers moves q.desk (closing tx) (closing_answers tx) desk) current k)
+
+-- the receipts of the turns
+noted_turns : {D : Type 0} (moves : Moves D) (client : ℕ) (p q : Place D) (rs ss : List Outcome) (ts : List Turn) → p.receipts ≡ rs → q.receipts ≡ ss
+    → p.progress.over ≡ false → p.progress.tx ≡ None → p.progress.begun ≡ 0 → Goes moves client p ts q → ss ≡ rs ++ receipts_of client 0 ts
+noted_turns moves client p q rs ss ts i j n x z h =
+    let f = heard_turns moves client p q ts q.progress.over refl n x h in
+    sym j ∙ notes moves client p q ts h ∙ ap (λ m. noted_all client m p.receipts ts) z ∙ ap (λ us. noted_all client 0 p.receipts us) (sym f)
+    ∙ all_noted client 0 p.receipts (lines_in ts) (answers_in ts) ∙ ap (λ us. p.receipts ++ receipts_of client 0 us) f
+    ∙ ap (λ (l : List Outcome). l ++ receipts_of client 0 ts) i
+
+-- a session that ended by itself
+pub speaks : {D : Type 0} (moves : Moves D) (client : ℕ) (p q : Place D) (desk : D) (a b w v : Option (List ℕ)) (rs ss : List Outcome)
+    → p.receipts ≡ rs → q.receipts ≡ ss → p.progress.over ≡ false → p.progress.tx ≡ None → p.progress.begun ≡ 0
+    → Talked moves client p a b w v q → Answers moves q.desk (closing q.progress.tx) (closing_answers q.progress.tx) desk
+    → Spoken moves client (scene p.desk a w rs) (scene desk b v ss)
 speaks moves client p q desk a b w v rs ss i j n x z t k =
-    let e = exact_turns moves client p q t.taken t.turns q.progress.over refl n x t.goes t.lines in
-    let current = opens moves client p q t.turns t.goes ∙ ap (λ b. open_at_end b t.turns) x in
     record {
       taken = t.taken;
       answers = answers_in t.turns;
+      turns = t.turns;
+      is = exact_turns moves client p q t.taken t.turns q.progress.over refl n x t.goes t.lines;
       consumed = t.consumed;
       within = t.within;
-      wrote = subst (λ ts. Appends w v (flat_map turn_text ts)) (sym e) t.wrote;
-      given = ap answers_in e;
-      asked = subst (λ ts. Answers moves p.desk (all_calls ts) (all_answers ts) desk) (sym e)
-          (answers_join moves p.desk q.desk desk (calls_in t.turns) (closing (open_at_end None t.turns)) (answers_in t.turns) (closing_answers (open_at_end None t.turns)) (asked_all moves client p q t.turns t.goes)
-          (subst (λ tx. Answers moves q.desk (closing tx) (closing_answers tx) desk) current k));
-      noted = sym j ∙ notes moves client p q t.turns t.goes ∙ ap (λ m. noted_all client m p.receipts t.turns) z ∙ ap (λ ts. noted_all client 0 p.receipts ts) (sym e)
-          ∙ all_noted client 0 p.receipts (lines_of t.taken) (answers_in t.turns)
-          ∙ ap (λ (l : List Outcome). l ++ receipts_of client 0 (session_turns t.taken (answers_in t.turns))) i;
-      ended = λ no. subst (λ over. EndsInput over b) (over_if_ends moves client p q t.turns t.goes n ∙ ap ends_in (sym e) ∙ no) t.ended;
+      ended = λ no. subst (λ over. EndsInput over b) (over_if_ends moves client p q t.turns t.goes n ∙ no) t.ended;
+      given = refl;
+      asked = asked_closed moves client p q desk t.turns x t.goes k;
+      wrote = t.wrote;
+      noted = noted_turns moves client p q rs ss t.turns i j n x z t.goes;
     }
 
-pub sums : {D : Type 0} (moves : Moves D) (client : ℕ) (p q : Place D) (desk : D) (a b w v : Option (List ℕ)) (rs ss : List Outcome) → p.receipts ≡ rs → q.receipts ≡ ss → p.progress.over ≡ false → p.progress.tx ≡ None → p.progress.begun ≡ 0
-    → p.progress.lines ≡ 0 → p.progress.commits ≡ 0 → p.progress.long ≡ false → q.progress.long ≡ false → Talked moves client p a b w v q
-    → Answers moves q.desk (closing q.progress.tx) (closing_answers q.progress.tx) desk → Summed moves client (scene p.desk a w rs) (scene desk b v ss) q.progress.lines q.progress.commits
+-- its counts
+pub sums : {D : Type 0} (moves : Moves D) (client : ℕ) (p q : Place D) (desk : D) (a b w v : Option (List ℕ)) (rs ss : List Outcome)
+    → p.receipts ≡ rs → q.receipts ≡ ss → p.progress.over ≡ false → p.progress.tx ≡ None → p.progress.begun ≡ 0 → p.progress.lines ≡ 0
+    → p.progress.commits ≡ 0 → p.progress.long ≡ false → q.progress.long ≡ false → Talked moves client p a b w v q
+    → Answers moves q.desk (closing q.progress.tx) (closing_answers q.progress.tx) desk
+    → Summed moves client (scene p.desk a w rs) (scene desk b v ss) q.progress.lines q.progress.commits
 unfolding speaks
 sums moves client p q desk a b w v rs ss i j n x z l c g s t k =
-    let e = exact_turns moves client p q t.taken t.turns q.progress.over refl n x t.goes t.lines in
     let ls = lines_counted moves client p q t.turns t.goes in
     let cs = commits_counted moves client p q t.turns t.goes in
     record {
       spoken = speaks moves client p q desk a b w v rs ss i j n x z t k;
-      lines_are = (let h : q.progress.lines ≡ length t.turns = omega (arith, ls, l) in h ∙ ap length (sym e));
-      commits_are = (let h : q.progress.commits ≡ commits_in t.turns = omega (arith, cs, c) in h ∙ ap commits_in (sym e));
-      short = ap long_in e ∙ sym (long_if_long moves client p q t.turns t.goes g) ∙ s;
+      lines_are = omega (arith, ls, l);
+      commits_are = omega (arith, cs, c);
+      short = sym (long_if_long moves client p q t.turns t.goes g) ∙ s;
     }
 
-pub speaks_long : {D : Type 0} (moves : Moves D) (client : ℕ) (p q : Place D) (desk : D) (a b w v : Option (List ℕ)) (rs ss : List Outcome) → p.receipts ≡ rs → q.receipts ≡ ss → p.progress.over ≡ false → p.progress.tx ≡ None → p.progress.begun ≡ 0
+-- a session that a line ended that was too long
+pub speaks_long : {D : Type 0} (moves : Moves D) (client : ℕ) (p q : Place D) (desk : D) (a b w v : Option (List ℕ)) (rs ss : List Outcome)
+    → p.receipts ≡ rs → q.receipts ≡ ss → p.progress.over ≡ false → p.progress.tx ≡ None → p.progress.begun ≡ 0
     → p.progress.long ≡ false → q.progress.long ≡ true → Talked moves client p a b w v q
-    → Answers moves q.desk (closing q.progress.tx) (closing_answers q.progress.tx) desk → SpokenLong moves client (scene p.desk a w rs) (scene desk b v ss)
+    → Answers moves q.desk (closing q.progress.tx) (closing_answers q.progress.tx) desk
+    → SpokenLong moves client (scene p.desk a w rs) (scene desk b v ss)
 unfolding speaks
 speaks_long moves client p q desk a b w v rs ss i j n x z g s t k =
-    let e = exact_turns moves client p q t.taken t.turns q.progress.over refl n x t.goes t.lines in
     record {
       spoken = speaks moves client p q desk a b w v rs ss i j n x z t k;
-      long = ap long_in e ∙ sym (long_if_long moves client p q t.turns t.goes g) ∙ s;
+      long = sym (long_if_long moves client p q t.turns t.goes g) ∙ s;
     }
 
-longer_prefix : (w v : Option (List ℕ)) (text more : List ℕ) → AppendsFront w v text → AppendsFront w v (text ++ more)
-longer_prefix w v text more h = (h.0, h.1 ++ more, ap (λ (t : List ℕ). t ++ more) h.2 ∙ append_assoc h.0 h.1 more, h.3)
-
-pub breaks_off : {D : Type 0} (moves : Moves D) (client : ℕ) (p q : Place D) (desk : D) (a b w v : Option (List ℕ)) (rs ss : List Outcome) → p.receipts ≡ rs → q.receipts ≡ ss → p.progress.over ≡ false → p.progress.tx ≡ None → p.progress.begun ≡ 0
-    → Broken moves client p a b w v q → Answers moves q.desk (closing q.progress.tx) (closing_answers q.progress.tx) desk → BrokenOff moves client (scene p.desk a w rs) (scene desk b v ss)
+-- a session that was broken off
+pub breaks_off : {D : Type 0} (moves : Moves D) (client : ℕ) (p q : Place D) (desk : D) (a b w v : Option (List ℕ)) (rs ss : List Outcome)
+    → p.receipts ≡ rs → q.receipts ≡ ss → p.progress.over ≡ false → p.progress.tx ≡ None → p.progress.begun ≡ 0
+    → Broken moves client p a b w v q → Answers moves q.desk (closing q.progress.tx) (closing_answers q.progress.tx) desk
+    → BrokenOff moves client (scene p.desk a w rs) (scene desk b v ss)
 breaks_off moves client p q desk a b w v rs ss i j n x z t k =
     let e = first_turns moves client p q t.taken t.turns q.progress.over refl n x t.goes t.begins in
-    let f = heard_turns moves client p q t.turns q.progress.over refl n x t.goes in
-    let current = opens moves client p q t.turns t.goes ∙ ap (λ b. open_at_end b t.turns) x in
     record {
       taken = t.taken;
       answers = answers_in t.turns;
       heard = t.turns;
       unheard = e.0;
+      is = e.1;
       consumed = t.consumed;
       within = t.within;
-      is = e.1;
       given = refl;
-      wrote = subst (λ ts. AppendsFront w v (flat_map turn_text ts)) (sym e.1)
-          (subst (AppendsFront w v) (sym (flat_map-append turn_text t.turns e.0)) (longer_prefix w v (flat_map turn_text t.turns) (flat_map turn_text e.0) t.wrote));
-      asked = answers_join moves p.desk q.desk desk (calls_in t.turns) (closing (open_at_end None t.turns)) (answers_in t.turns) (closing_answers (open_at_end None t.turns)) (asked_all moves client p q t.turns t.goes)
-          (subst (λ tx. Answers moves q.desk (closing tx) (closing_answers tx) desk) current k);
-      noted = sym j ∙ notes moves client p q t.turns t.goes ∙ ap (λ m. noted_all client m p.receipts t.turns) z ∙ ap (λ ts. noted_all client 0 p.receipts ts) (sym f)
-          ∙ all_noted client 0 p.receipts (lines_in t.turns) (answers_in t.turns) ∙ ap (λ ts. p.receipts ++ receipts_of client 0 ts) f ∙ ap (λ (l : List Outcome). l ++ receipts_of client 0 t.turns) i;
+      asked = asked_closed moves client p q desk t.turns x t.goes k;
+      wrote = t.wrote;
+      noted = noted_turns moves client p q rs ss t.turns i j n x z t.goes;
     }
 
 -- nothing was read
@@ -247,7 +259,7 @@ nothing_said moves client desk a w rs =
       within = omega arith;
       is = ap (λ ls. turns None ls []) empty;
       given = refl;
-      wrote = ([], session_text [] [], refl, Appends-nil w);
+      wrote = ([], [], refl, Appends-nil w);
       asked = refl;
       noted = sym (append-nil rs);
     }

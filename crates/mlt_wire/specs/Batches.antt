@@ -21,7 +21,8 @@ abbrev pub lines_in : List Turn → List Line
 lines_in ts = map (λ t. t.line) ts
 
 -- so far into the text, by these turns
-pub record Reaches {D : Type 0} (moves : Moves D) (client : ℕ) (p : Place D) (text : List ℕ) (before : List ℕ) (at : ℕ) (after : List ℕ) (q : Place D) : Type 0 where
+pub record Reaches {D : Type 0} (moves : Moves D) (client : ℕ) (p : Place D) (text : List ℕ)
+    (before : List ℕ) (at : ℕ) (after : List ℕ) (q : Place D) : Type 0 where
   pub turns : List Turn
   pub goes : Goes moves client p turns q
   pub says : after ≡ before ++ flat_map turn_text turns
@@ -29,11 +30,14 @@ pub record Reaches {D : Type 0} (moves : Moves D) (client : ℕ) (p : Place D) (
   pub covers : Covers q.progress.over text at (lines_in turns)
 
 -- the complete lines of the text were answered, and these took so many bytes
-abbrev pub Answered : {D : Type 0} → Moves D → ℕ → Place D → List ℕ → List ℕ → ℕ → List ℕ → Place D → Type 0
-Answered moves client p text before at after q = Reaches moves client p text before at after q × IsRest q.progress.over (drop at text)
+abbrev pub Answered : {D : Type 0} → Moves D → ℕ → Place D → List ℕ → List ℕ → ℕ → List ℕ
+    → Place D → Type 0
+Answered moves client p text before at after q = Reaches moves client p text before at after q
+    × IsRest q.progress.over (drop at text)
 
 -- want of memory came before the last line was answered
-pub record BrokeOff {D : Type 0} (moves : Moves D) (client : ℕ) (p : Place D) (text : List ℕ) (q : Place D) : Type 0 where
+pub record BrokeOff {D : Type 0} (moves : Moves D) (client : ℕ) (p : Place D) (text : List ℕ)
+    (q : Place D) : Type 0 where
   pub turns : List Turn
   pub goes : Goes moves client p turns q
   pub begins : Begins text (lines_in turns)

@@ -18,7 +18,8 @@ pending client number (Some tx) done = outcome_of client number tx done end.Abor
 
 -- all receipts so far, that of the open transaction among them
 abbrev pub receipts_in : ℕ → Notes → List Outcome
-receipts_in client notes = notes.receipts.items ++ pending client notes.progress.begun notes.progress.tx notes.done.items
+receipts_in client notes = notes.receipts.items
+    ++ pending client notes.progress.begun notes.progress.tx notes.done.items
 
 -- the receipts after the answer to a begin
 abbrev pub begun_noted : ℕ → ℕ → List Outcome → Answer → List Outcome

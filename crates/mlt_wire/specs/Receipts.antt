@@ -11,9 +11,10 @@ use Rattle.mlt_wire.specs.declared.call.Call.{Call}
 use Rattle.mlt_wire.specs.declared.call.Call.TheVariants as call
 use Rattle.mlt_wire.specs.Talks.{Turn, call_for}
 
--- a receipt
+-- what became of a transaction of a client
 abbrev pub outcome_of : ℕ → ℕ → ℕ → List (ObjOp × ObjReply) → End → Outcome
-outcome_of client number tx done ending = record { client = client; number = number; tx = tx; done = done; end = ending }
+outcome_of client number tx done ending =
+    record { client = client; number = number; tx = tx; done = done; end = ending }
 
 -- how many transactions an answer begins
 abbrev pub begins_by : Option Answer → ℕ
@@ -55,10 +56,13 @@ abbrev pub ended_by : End → List Turn → End
 ended_by before [] = before
 ended_by before (t ∷ ts) = ended_by (end_in before (call_of t) t.answer) ts
 
--- the receipt of a transaction that began: all that was done before the next one began, and how it ended; it was taken
+-- the receipt of a transaction that began: all that was done before the next one began, and how it
+-- ended; it was taken
 -- back where no commit was answered
 abbrev pub receipt_of : ℕ → ℕ → ℕ → List Turn → Outcome
-receipt_of client number tx behind = outcome_of client number tx (all_done (before_next behind)) (ended_by end.Aborted (before_next behind))
+receipt_of client number tx behind =
+    outcome_of client number tx (all_done (before_next behind))
+    (ended_by end.Aborted (before_next behind))
 
 abbrev pub receipt_if : ℕ → ℕ → Option ℕ → List Turn → List Outcome
 receipt_if client number None behind = []
@@ -67,4 +71,5 @@ receipt_if client number (Some tx) behind = receipt_of client number tx behind �
 -- one receipt for each transaction that began, in their order
 abbrev pub receipts_of : ℕ → ℕ → List Turn → List Outcome
 receipts_of client begun [] = []
-receipts_of client begun (t ∷ ts) = receipt_if client (begun + 1) (begun_in (call_of t) t.answer) ts ++ receipts_of client (begun + begins_by t.answer) ts
+receipts_of client begun (t ∷ ts) = receipt_if client (begun + 1) (begun_in (call_of t) t.answer) ts
+    ++ receipts_of client (begun + begins_by t.answer) ts

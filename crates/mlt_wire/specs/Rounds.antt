@@ -11,7 +11,8 @@ use Rattle.mlt_wire.specs.Talks.{Turn, turn_text}
 use Rattle.mlt_wire.specs.Turns.{Place, Goes}
 
 -- the complete lines of the text were answered, and the answers written
-pub record Replied {D : Type 0} (moves : Moves D) (client : ℕ) (p : Place D) (text : List ℕ) (before : Option (List ℕ)) (at : ℕ) (after : Option (List ℕ)) (q : Place D) : Type 0 where
+pub record Replied {D : Type 0} (moves : Moves D) (client : ℕ) (p : Place D) (text : List ℕ)
+    (before : Option (List ℕ)) (at : ℕ) (after : Option (List ℕ)) (q : Place D) : Type 0 where
   pub turns : List Turn
   pub goes : Goes moves client p turns q
   pub wrote : Appends before after (flat_map turn_text turns)
@@ -20,14 +21,18 @@ pub record Replied {D : Type 0} (moves : Moves D) (client : ℕ) (p : Place D) (
   pub rest : IsRest q.progress.over (drop at text)
 
 -- some lines of the text were answered, and a prefix of the answers written
-pub record Stopped {D : Type 0} (moves : Moves D) (client : ℕ) (p : Place D) (text : List ℕ) (before after : Option (List ℕ)) (q : Place D) : Type 0 where
+pub record Stopped {D : Type 0} (moves : Moves D) (client : ℕ) (p : Place D) (text : List ℕ)
+    (before after : Option (List ℕ)) (q : Place D) : Type 0 where
   pub turns : List Turn
   pub goes : Goes moves client p turns q
   pub begins : Begins text (lines_in turns)
   pub wrote : AppendsFront before after (flat_map turn_text turns)
 
--- a session that goes on: its lines up to here, and the bytes that it holds, which are no complete line
-pub record Listens {D : Type 0} (moves : Moves D) (client : ℕ) (p : Place D) (read_before read_after wrote_before wrote_after : Option (List ℕ)) (held : List ℕ) (total : ℕ)
+-- a session that goes on: its lines up to here, and the bytes that it holds, which are no complete
+-- line
+pub record Listens {D : Type 0} (moves : Moves D) (client : ℕ) (p : Place D)
+    (read_before read_after wrote_before wrote_after : Option (List ℕ)) (held : List ℕ)
+    (total : ℕ)
     (q : Place D) : Type 0 where
   pub turns : List Turn
   pub prefix : List ℕ
@@ -51,7 +56,9 @@ EndsInput false rest = IsAtEnd rest
 EndsInput true rest = Unit {0}
 
 -- a session that ended by itself: all that was read was answered, up to the line that ended it
-pub record Talked {D : Type 0} (moves : Moves D) (client : ℕ) (p : Place D) (read_before read_after wrote_before wrote_after : Option (List ℕ)) (q : Place D) : Type 0 where
+pub record Talked {D : Type 0} (moves : Moves D) (client : ℕ) (p : Place D)
+    (read_before read_after wrote_before wrote_after : Option (List ℕ))
+    (q : Place D) : Type 0 where
   pub taken : List ℕ
   pub turns : List Turn
   pub consumed : Consumes read_before read_after taken
@@ -62,7 +69,9 @@ pub record Talked {D : Type 0} (moves : Moves D) (client : ℕ) (p : Place D) (r
   pub ended : EndsInput q.progress.over read_after
 
 -- a session that was broken off
-pub record Broken {D : Type 0} (moves : Moves D) (client : ℕ) (p : Place D) (read_before read_after wrote_before wrote_after : Option (List ℕ)) (q : Place D) : Type 0 where
+pub record Broken {D : Type 0} (moves : Moves D) (client : ℕ) (p : Place D)
+    (read_before read_after wrote_before wrote_after : Option (List ℕ))
+    (q : Place D) : Type 0 where
   pub taken : List ℕ
   pub turns : List Turn
   pub consumed : Consumes read_before read_after taken

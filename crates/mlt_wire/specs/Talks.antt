@@ -61,16 +61,21 @@ abbrev pub unless_ended : Line → List Turn → List Turn
 unless_ended line rest = if ends line then [] else rest
 
 -- one turn, and those of the lines behind it; where the desk did not answer the session broke off
-abbrev pub one_turn : Option ℕ → Line → Option Call → List Answer → (Option ℕ → List Answer → List Turn) → List Turn
-one_turn before line None answers behind = record { open_before = before; line = line; answer = None } ∷ unless_ended line (behind before answers)
+abbrev pub one_turn : Option ℕ → Line → Option Call → List Answer → (Option ℕ → List Answer
+    → List Turn) → List Turn
+one_turn before line None answers behind =
+    record { open_before = before; line = line; answer = None }
+    ∷ unless_ended line (behind before answers)
 one_turn before line (Some c) [] behind = []
 one_turn before line (Some c) (a ∷ answers) behind =
-    record { open_before = before; line = line; answer = Some a } ∷ unless_ended line (behind (open_after before (Some a)) answers)
+    record { open_before = before; line = line; answer = Some a }
+    ∷ unless_ended line (behind (open_after before (Some a)) answers)
 
 -- the turns of these lines with these answers
 abbrev pub turns : Option ℕ → List Line → List Answer → List Turn
 turns before [] answers = []
-turns before (line ∷ lines) answers = one_turn before line (call_for before line) answers (λ next rest. turns next lines rest)
+turns before (line ∷ lines) answers =
+    one_turn before line (call_for before line) answers (λ next rest. turns next lines rest)
 
 -- the turns of a session over an input
 abbrev pub session_turns : List ℕ → List Answer → List Turn
@@ -113,10 +118,6 @@ said_by (Some tx) line None = said_within line
 
 abbrev pub turn_text : Turn → List ℕ
 turn_text t = said_text (said_by t.open_before t.line t.answer)
-
--- the text of a session
-abbrev pub session_text : List ℕ → List Answer → List ℕ
-session_text bytes answers = flat_map turn_text (session_turns bytes answers)
 
 abbrev pub option_list : {A : Type 0} → Option A → List A
 option_list None = []

@@ -13,8 +13,8 @@ use mlt_desk::Desk;
 use mlt_request::next_line;
 use std::alloc::AllocError;
 
-/// Answers each complete line of the text, and tells how many bytes these lines take. What is left is no whole line, or the
-/// session is over.
+/// Answers each complete line of the text, and tells how many bytes these lines take. What is left is no
+/// whole line, or the session is over.
 ///
 /// # Errors
 /// A growth was refused: some lines were answered, and their answers are not all there.

@@ -25,8 +25,8 @@ pub struct Progress {
     pub long: bool,
 }
 
-/// How far a session is, and its receipts. While a transaction is open its receipt is not among them yet, but there is
-/// room for it.
+/// How far a session is, and its receipts. While a transaction is open its receipt is not among them yet,
+/// but there is room for it.
 #[derive(Drop)]
 pub struct Notes {
     /// How far it is.

@@ -88,7 +88,8 @@ impl Notes {
     pub fn pass(&mut self, line: Line)
         requires small { self.old.progress.lines < 2 ^ 62 }
         ensures progress { self.new.progress ≡ after_line self.old.progress line }
-        ensures receipts { (client : ℕ) → receipts_in client self.new ≡ receipts_in client self.old }
+        ensures receipts { (client : ℕ)
+            → receipts_in client self.new ≡ receipts_in client self.old }
     {
         self.progress.lines += 1;
         self.progress.over = ends(line);

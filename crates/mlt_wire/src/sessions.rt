@@ -108,7 +108,8 @@ fn reply<W: Write, D: Desk>(
     Ok(at)
 }
 
-// Reads and answers until the input or the session ends. The buffer has room for a line that goes on, and more.
+// Reads and answers until the input or the session ends. The buffer has room for a line that goes on, and
+// more.
 fn listen<R: Read, W: Write, D: Desk>(
     reader: &mut R,
     writer: &mut W,
@@ -223,14 +224,15 @@ fn zeros(alloc: Global, count: usize) -> Result<Vec<u8>, Refusal>
     Ok(vec![in alloc; 0; count]?)
 }
 
-/// Reads lines, asks the desk and answers a line each, until the input or a line ends the session. A transaction that
-/// is open then is taken back. For each transaction that began a receipt of this client is added, numbered from 1,
-/// whatever the session answers. All complete lines of one read are answered in one text.
+/// Reads lines, asks the desk and answers each, until the input or a line ends the session. A transaction
+/// that is open then is taken back. For each transaction that began a receipt of this client is added,
+/// numbered from 1, whatever the session answers. The answers to all complete lines of one read go out in
+/// one text, before the reader is asked again.
 ///
 /// # Errors
-/// `LineTooLong` where a line has more than 200 bytes; its answer was written. `Io` where a read or a write failed, or
-/// more than 16,777,216 bytes came, and `OutOfMemory` where a growth was refused; then a prefix of the text was
-/// written.
+/// `LineTooLong` where a line has more than 200 bytes; its answer was written. `Io` where a read or a write
+/// failed, or more than 16,777,216 bytes came, and `OutOfMemory` where a growth was refused; then a prefix
+/// of the text was written.
 pub fn session<R: Read, W: Write, D: Desk>(
     alloc: Global,
     reader: &mut R,

@@ -83,7 +83,8 @@ fn begin<D: Desk>(notes: &mut Notes, desk: &mut D, client: u32) -> Result<Answer
     }
 }
 
-/// Asks for an operation of the open transaction. There is room for its reply before the desk is asked.
+/// Asks for an operation of the open transaction. There is room for its reply before the desk is
+/// asked.
 ///
 /// # Errors
 /// There was no room, and the desk was not asked.
