@@ -8,17 +8,20 @@ ghost use Rattle.mlt_command_line.specs.CommandLine.{IsWithinBounds};
 
 use input::Input;
 use mlt_check_text::check_trace;
-use mlt_command_line::{Hash, Job, Run, Work, read_words, report_command_line};
+use mlt_command_line::{Hash, Job, Run, Serve, Work, read_words, report_command_line};
 use mlt_lock_desk::NoGate;
 use mlt_run::run_scripts;
 use mlt_run_counts::{aborts_of_a_run_take_few_steps, operations_of_a_run_take_few_steps};
+use mlt_serve::serve_on;
 use mlt_server::{report_fault, status};
 use mlt_solo::solo;
 use mlt_steps::steps;
+use mlt_text::write_text;
 use mlt_trace::{TraceItem, write_trace};
 use mlt_types::{Limits, Low, Mult, Pseudo, Refusal};
 use std::fs::File;
 use std::io::ErrorKind;
+use std::net::TcpListener;
 use std::process::ExitCode;
 use std::{env, io};
 
@@ -76,6 +79,10 @@ fn do_job(rt: &HostRuntime, job: &Job) -> Result<(), Refusal>
             let mut input = Input::open(rt, file.as_str())?;
             check_trace(rt.alloc(), &mut input, &mut io::writer(rt))
         }
+        Job::Serve(serve) => match serve.run.hash {
+            Hash::Mult => run_server(rt, serve, Mult),
+            Hash::Low => run_server(rt, serve, Low),
+        },
     }
 }
 
@@ -123,6 +130,41 @@ fn run_work<P: Pseudo + Drop + Send>(
     let written = write_history(rt, manager.history(), &work.run);
     manager.close();
     written
+}
+
+fn run_server<P: Pseudo + Drop + Send>(
+    rt: &HostRuntime,
+    serve: &Serve,
+    pseudo: P,
+) -> Result<(), Refusal>
+    requires some { 0 < serve.now.sessions }
+    requires most { serve.now.sessions ≤ 64 }
+{
+    let Ok(listener) = TcpListener::bind(rt, serve.run.input.as_str()) else {
+        return Err(Refusal::Io);
+    };
+    let (_receipts, manager) = serve_on(
+        rt,
+        rt.alloc(),
+        &listener,
+        Limits::program(),
+        pseudo,
+        serve.sessions,
+        serve.limit,
+        serve.tries,
+    )?;
+    let written = write_served(rt, serve, manager.history());
+    manager.close();
+    written
+}
+
+// Writes how many connections were served, and then the trace.
+fn write_served(rt: &HostRuntime, serve: &Serve, items: &[TraceItem]) -> Result<(), Refusal> {
+    let limit = serve.limit;
+    let mut text = String::new(rt.alloc());
+    writeln!(text, "served {limit}")?;
+    write_text(&mut io::writer(rt), text.as_bytes())?;
+    write_history(rt, items, &serve.run)
 }
 
 // Writes the trace of what the transactions did, where a file for it is named.
