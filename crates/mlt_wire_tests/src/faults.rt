@@ -2,7 +2,7 @@
 
 use crate::pipes::{Narrow, Pieces};
 use crate::sessions::{ANSWERS, LINES, RECEIPTS, TEXT};
-use crate::talks::{Receipt, Wanted, talk_with};
+use crate::talks::{Receipt, Talk, Wanted, talk_with};
 use mlt_kinds::{AccountOp, ObjOp, ObjReply};
 use mlt_serial::End;
 use mlt_types::Refusal;
@@ -157,6 +157,33 @@ fn each_write_fails(rt: HostRuntime) -> Result<(), AllocError> {
         if let Some(stage) = STAGES.iter().find(|stage| stage.written > len) {
             ends_at_a_failed_write(&rt, rt.alloc(), len, stage)?;
         }
+    }
+    Ok(())
+}
+
+// Where a growth is refused, the answers to some of the lines were written, and the desk was asked for these, or for one
+// line more. Growths are refused by `rt try --test --fail-alloc N`.
+fn ends_at_a_refused_growth(rt: &impl Abort, found: &Talk) {
+    let len = found.text().len();
+    let at = STAGES.iter().position(|stage| stage.written == len);
+    assert_eq!(rt; Some(found.text()), TEXT.get(..len));
+    let Some(at) = at else {
+        panic!(rt; "no line ends at {len}")
+    };
+    let is_there = found.has_receipts(STAGES[at].receipts)
+        || STAGES
+            .get(at + 1)
+            .is_some_and(|stage| found.has_receipts(stage.receipts));
+    assert!(rt; is_there, "{len}");
+}
+
+#[test]
+fn each_growth_is_refused(rt: HostRuntime) -> Result<(), AllocError> {
+    let writer = Narrow::with_room(rt.alloc(), TEXT.len())?;
+    let found = talk_with(rt.alloc(), ANSWERS, Pieces::of(LINES, 1), writer)?;
+    match found.answer() {
+        Err(Refusal::OutOfMemory) => ends_at_a_refused_growth(&rt, &found),
+        answer => assert_eq!(rt; answer, Ok((7, 1))),
     }
     Ok(())
 }

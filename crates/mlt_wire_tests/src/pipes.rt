@@ -1,6 +1,6 @@
 //! Readers and writers that give and take little, and fail.
 
-use std::alloc::Global;
+use std::alloc::{AllocError, Global};
 use std::io;
 use std::io::{Error, ErrorKind, Read, Write};
 
@@ -110,6 +110,15 @@ impl Narrow {
     /// A writer that takes all bytes.
     pub fn new(alloc: Global) -> Narrow {
         Narrow::failing(alloc, usize::MAX, usize::MAX)
+    }
+
+    /// A writer that takes so many bytes with no growth.
+    pub fn with_room(alloc: Global, room: usize) -> Result<Narrow, AllocError> {
+        Ok(Narrow {
+            taken: Vec::with_capacity(alloc, room)?,
+            size: usize::MAX,
+            left: usize::MAX,
+        })
     }
 
     /// The bytes that it took.
