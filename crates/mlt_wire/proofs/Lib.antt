@@ -1,0 +1,7 @@
+pub mod Closing
+pub mod Filling
+pub mod Listening
+pub mod Reaching
+pub mod Receiving
+pub mod Stepping
+pub mod Telling

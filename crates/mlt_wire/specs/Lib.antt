@@ -1,0 +1,9 @@
+pub mod Batches
+pub mod Desks
+pub mod Noting
+pub mod Receipts
+pub mod Rounds
+pub mod Sessions
+pub mod Talks
+pub mod Texts
+pub mod Turns

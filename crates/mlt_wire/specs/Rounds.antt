@@ -1,0 +1,81 @@
+-- How far a session has read, answered and written.
+use Rattle.std.specs.Prelude.{◌≡◌, ◌≤◌, ◌+◌, ℕ, List, [], ◌++◌, length, drop, Option, Bool, true, false}
+use Rattle.std.specs.List.{flat_map}
+use Rattle.std.specs.Io.KnownBytes.{Appends, Consumes, IsAtEnd}
+use Rattle.mlt_text.specs.Texts.{AppendsFront}
+use Rattle.mlt_request.specs.declared.line.Line.{Line}
+use Rattle.mlt_wire.specs.Batches.{Covers, IsRest, lines_in}
+use Rattle.mlt_request.specs.Inputs.{lines_of, Splits, Begins}
+use Rattle.mlt_wire.specs.Desks.{Moves}
+use Rattle.mlt_wire.specs.Talks.{Turn, turn_text}
+use Rattle.mlt_wire.specs.Turns.{Place, Goes}
+
+-- the complete lines of the text were answered, and the answers written
+pub record Replied {D : Type 0} (moves : Moves D) (client : ℕ) (p : Place D) (text : List ℕ)
+    (before : Option (List ℕ)) (at : ℕ) (after : Option (List ℕ)) (q : Place D) : Type 0 where
+  pub turns : List Turn
+  pub goes : Goes moves client p turns q
+  pub wrote : Appends before after (flat_map turn_text turns)
+  pub within : at ≤ length text
+  pub covers : Covers q.progress.over text at (lines_in turns)
+  pub rest : IsRest q.progress.over (drop at text)
+
+-- some lines of the text were answered, and a prefix of the answers written
+pub record Stopped {D : Type 0} (moves : Moves D) (client : ℕ) (p : Place D) (text : List ℕ)
+    (before after : Option (List ℕ)) (q : Place D) : Type 0 where
+  pub turns : List Turn
+  pub goes : Goes moves client p turns q
+  pub begins : Begins text (lines_in turns)
+  pub wrote : AppendsFront before after (flat_map turn_text turns)
+
+-- a session that goes on: its lines up to here, and the bytes that it holds, which are no complete
+-- line
+pub record Listens {D : Type 0} (moves : Moves D) (client : ℕ) (p : Place D)
+    (read_before read_after wrote_before wrote_after : Option (List ℕ)) (held : List ℕ)
+    (total : ℕ)
+    (q : Place D) : Type 0 where
+  pub turns : List Turn
+  pub prefix : List ℕ
+  pub goes : Goes moves client p turns q
+  pub consumed : Consumes read_before read_after (prefix ++ held)
+  pub wrote : Appends wrote_before wrote_after (flat_map turn_text turns)
+  pub splits : Splits prefix
+  pub lines : lines_of prefix ≡ lines_in turns
+  pub rest : lines_of held ≡ []
+  pub short : length held ≤ 200
+  pub sum : total ≡ length prefix + length held
+  pub counted : q.progress.lines ≤ length prefix
+
+-- these are the lines of the input; or the session is over, and they are the first
+abbrev pub AreLines : Bool → List ℕ → List Line → Type 0
+AreLines false bytes lines = lines_of bytes ≡ lines
+AreLines true bytes lines = Begins bytes lines
+
+abbrev pub EndsInput : Bool → Option (List ℕ) → Type 0
+EndsInput false rest = IsAtEnd rest
+EndsInput true rest = Unit {0}
+
+-- a session that ended by itself: all that was read was answered, up to the line that ended it
+pub record Talked {D : Type 0} (moves : Moves D) (client : ℕ) (p : Place D)
+    (read_before read_after wrote_before wrote_after : Option (List ℕ))
+    (q : Place D) : Type 0 where
+  pub taken : List ℕ
+  pub turns : List Turn
+  pub consumed : Consumes read_before read_after taken
+  pub within : length taken ≤ 16777216
+  pub goes : Goes moves client p turns q
+  pub lines : AreLines q.progress.over taken (lines_in turns)
+  pub wrote : Appends wrote_before wrote_after (flat_map turn_text turns)
+  pub ended : EndsInput q.progress.over read_after
+
+-- a session that was broken off
+pub record Broken {D : Type 0} (moves : Moves D) (client : ℕ) (p : Place D)
+    (read_before read_after wrote_before wrote_after : Option (List ℕ))
+    (q : Place D) : Type 0 where
+  pub taken : List ℕ
+  pub turns : List Turn
+  pub consumed : Consumes read_before read_after taken
+  pub within : length taken ≤ 16777217
+  pub goes : Goes moves client p turns q
+  pub begins : Begins taken (lines_in turns)
+  pub wrote : AppendsFront wrote_before wrote_after (flat_map turn_text turns)

@@ -1,0 +1,13 @@
+//! Sessions: lines in, an answer a line out, over any desk.
+#![tactic(auto)]
+
+mod batch;
+mod call;
+mod notes;
+mod noting;
+mod said;
+mod sessions;
+mod turn;
+
+pub use call::{Answer, Call};
+pub use sessions::{Summary, session};
