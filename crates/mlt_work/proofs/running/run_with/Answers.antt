@@ -1,0 +1,10 @@
+use Rattle.std.proofs.Common.{rules}
+use Rattle.mlt_work.proofs.running.run_with.Goals as goal
+
+pub returns-in-Ok-report_of-clause-ran : goal.returns-in-Ok-report_of-clause-ran
+returns-in-Ok-report_of-clause-ran g c = record {
+  outcomes = search rules;
+  events = search rules;
+  receipts = c.in-Ok-report_of.ensures.receipts;
+  base = c.in-Ok-report_of.ensures.base;
+}
