@@ -1,0 +1,25 @@
+use Rattle.std.proofs.Common.{◌++◌, arith, subst, sym}
+use Rattle.std.specs.Prelude.{IsPermutation}
+use Rattle.std.proofs.lemmas.List.Elements.{All-push}
+use Rattle.mlt_serve.specs.Crews.{AllHaveMemory, HasMemory, all_receipts, receipts_of}
+use Rattle.mlt_serve.proofs.Merging.{last_behind}
+use Rattle.mlt_serve.proofs.gathering.gather.Goals as goal
+
+pub loop-served-preserved : goal.loop-served-preserved
+loop-served-preserved g c =
+    let l = c.loop-served in
+    let w = c.in-Some.served in
+    let rest = c.pop.new.self.items in
+    let got = l.gathered.receipts.items in
+    let all = all_receipts c.args.crew.items in
+    record {
+      parts = omega (arith, c.in-Some.ensures.len, c.take_in.ensures.parts, l.invariant.parts);
+      events = c.take_in.ensures.events;
+      receipts = λ f.
+          let was = l.invariant.receipts (c.take_in.ensures.short f).0 in
+          let popped = subst (λ xs. IsPermutation all (all_receipts xs ++ got)) c.in-Some.ensures.items was in
+          subst (λ ys. IsPermutation all (all_receipts rest ++ ys)) (sym (c.take_in.ensures.receipts f)) (last_behind receipts_of rest w all got popped);
+      short = λ f have.
+          let both = c.take_in.ensures.short f in
+          l.invariant.short both.0 (subst AllHaveMemory (sym c.in-Some.ensures.items) (All-push HasMemory rest w have both.1));
+    }

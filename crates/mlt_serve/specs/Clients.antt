@@ -1,0 +1,11 @@
+-- Whose receipts they are.
+use Rattle.std.specs.Prelude.{ℕ, ◌≤◌, List, All}
+use Rattle.mlt_serial.specs.declared.outcome.Outcome.{Outcome}
+
+-- the receipt is that of one of the first connections, which have the numbers from 1 to the limit
+abbrev pub IsOfClient : ℕ → Outcome → Type 0
+IsOfClient limit o = (1 ≤ o.client) × (o.client ≤ limit)
+
+-- so is each of these
+abbrev pub AreOfClients : ℕ → List Outcome → Type 0
+AreOfClients limit receipts = All (IsOfClient limit) receipts

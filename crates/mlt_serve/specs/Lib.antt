@@ -1,0 +1,3 @@
+pub mod Clients
+pub mod Crews
+pub mod Endings

@@ -1,0 +1,64 @@
+//! All threads.
+
+ghost use Rattle.std.specs.Prelude.{◌≡◌, ◌<◌, vec_len};
+
+use crate::accepting::{Accepting, accept_all};
+use crate::desk_work::Served;
+use mlt_lock_desk::Shared;
+use mlt_types::Pseudo;
+use std::alloc::Global;
+use std::net::TcpListener;
+use std::sync::Wait;
+use std::sync::atomic::AtomicBool;
+use std::sync::ledger::Ledger;
+use std::thread;
+use std::thread::Threads;
+
+/// Accepts connections in one thread and serves them in others, or in this one where they are refused. All threads are
+/// joined. Where the channel or the thread that accepts is refused, nothing is accepted.
+pub(crate) fn serve_connections<
+    P: Pseudo + Send,
+    L: Ledger + Send + Sync,
+    R: Threads + Wait + Sync,
+>(
+    rt: &R,
+    alloc: Global,
+    listener: &TcpListener,
+    shared: &Shared<P, L>,
+    crew: &mut Vec<Served<L>>,
+    limit: u32,
+    tries: u64,
+) -> Accepting
+    requires { 0 < vec_len crew.old }
+    ensures { vec_len crew.new ≡ vec_len crew.old }
+{
+    let Ok((to, from)) = crossbeam_channel::bounded(alloc, crew.len()) else {
+        return Accepting::Short;
+    };
+    let flag = AtomicBool::new(false);
+    let visits = &from;
+    let is_short = &flag;
+    let threads = crew.len();
+    let all = crew.as_mut_slice();
+    thread::scope(
+        thread::scope_env(),
+        rt,
+        |scope| -> Accepting
+            requires { 0 < threads }
+        {
+            let Ok(accepting) = scope.spawn(move || accept_all(rt, listener, to, is_short, limit))
+            else {
+                return Accepting::Short;
+            };
+            thread::for_each_mut(
+                rt,
+                all,
+                threads,
+                &|_, served: &mut Served<L>| {
+                    served.serve_all(rt, alloc, shared, tries, visits, is_short)
+                },
+            );
+            accepting.join(rt)
+        },
+    )
+}

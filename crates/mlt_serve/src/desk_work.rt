@@ -1,0 +1,100 @@
+//! What one thread serves.
+
+ghost use Rattle.std.specs.Prelude.{◌≡◌, ◌-◌, ◌^◌, [], min};
+
+use crate::accepting::Visit;
+use crate::talking::talk;
+use crossbeam_channel::Receiver;
+use mlt_lock_desk::{LockDesk, NoGate, Shared, Tries};
+use mlt_serial::Outcome;
+use mlt_types::Pseudo;
+use std::alloc::Global;
+use std::sync::Wait;
+use std::sync::atomic::{AtomicBool, Ordering};
+use std::sync::ledger::{Ledger, Share};
+
+/// What a thread has served so far. Its share of the ledger has two parts: one for itself, and one for the desk that it is
+/// at work at.
+#[derive(Drop)]
+pub(crate) struct Served<L: Ledger> {
+    pub(crate) share: Share<L>,
+    /// The number of its events; it stays at 2^64 - 1.
+    pub(crate) events: u64,
+    /// The receipts of its sessions, one session after the other.
+    pub(crate) receipts: Vec<Outcome>,
+    /// How many connections it has served.
+    pub(crate) connections: u64,
+    /// Whether a session was refused a growth.
+    pub(crate) is_short: bool,
+    ghost two_parts: { share.parts ≡ 2 },
+    ghost counted: { events ≡ min share.amount (2 ^ 64 - 1) },
+}
+
+impl<L: Ledger> Served<L> {
+    /// Nothing was served yet.
+    pub(crate) fn new(alloc: Global, share: Share<L>) -> Served<L>
+        requires parts { share.parts ≡ 2 }
+        requires amount { share.amount ≡ 0 }
+        ensures share { result.share ≡ share }
+        ensures receipts { result.receipts.items ≡ [] }
+        ensures connections { result.connections ≡ 0 }
+    {
+        Served {
+            share,
+            events: 0,
+            receipts: Vec::new(alloc),
+            connections: 0,
+            is_short: false,
+        }
+    }
+
+    /// Serves a connection by a session at a desk of its own, so that no desk is counted while there is nothing to serve. It
+    /// answers whether the session was refused a growth.
+    fn serve<P: Pseudo, R: Wait>(
+        &mut self,
+        rt: &R,
+        alloc: Global,
+        shared: &Shared<P, L>,
+        tries: u64,
+        visit: Visit,
+    ) -> bool {
+        let Served {
+            share,
+            events,
+            receipts,
+            connections,
+            is_short,
+        } = self;
+        let Visit { client, stream } = visit;
+        let mine = share.split_off(1, 0);
+        let mut desk = LockDesk::new(rt, shared, &NoGate, mine, Tries::PerOperation(tries));
+        desk.serve(client);
+        let refused = talk(alloc, &stream, &mut desk, client, receipts);
+        let (mine, more) = desk.close();
+        share.merge(mine);
+        *events = events.saturating_add(more);
+        *connections = connections.saturating_add(1);
+        *is_short = *is_short || refused;
+        refused
+    }
+
+    /// Serves one connection after the other, until no more come. Where a session is refused a growth it sets the flag.
+    pub(crate) fn serve_all<P: Pseudo, R: Wait>(
+        &mut self,
+        rt: &R,
+        alloc: Global,
+        shared: &Shared<P, L>,
+        tries: u64,
+        visits: &Receiver<Visit, Global>,
+        is_short: &AtomicBool,
+    ) {
+        for _ in rt.forever() {
+            let Ok(visit) = visits.recv(rt) else {
+                return;
+            };
+            if self.serve(rt, alloc, shared, tries, visit) {
+                is_short.store(true, Ordering::SeqCst);
+            }
+        }
+    }
+}

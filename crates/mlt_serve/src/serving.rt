@@ -1,0 +1,103 @@
+//! Connections that are accepted and served.
+
+ghost use Rattle.std.specs.Prelude.{◌≡◌, ◌⊎◌, ◌<◌, ◌≤◌, IfErr, IfOk};
+ghost use Rattle.mlt_audit.specs.Agreement.{Agrees};
+ghost use Rattle.mlt_serve.specs.Clients.{AreOfClients};
+
+use crate::crew::serve_connections;
+use crate::gathering::{gather, new_crew};
+use crate::reporting::receipts_of;
+use mlt_lock_desk::{Hall, Shared};
+use mlt_manager::Manager;
+use mlt_serial::Outcomes;
+use mlt_types::{Limits, Pseudo, Refusal};
+use std::alloc::Global;
+use std::marker::Brand;
+use std::net::TcpListener;
+use std::sync::Wait;
+use std::sync::ledger::{Blank, Ledger};
+use std::thread::Threads;
+
+/// As `serve_on`. It answers too how many events the desks of the sessions have counted.
+fn serve_with<L: Ledger + Send + Sync, P: Pseudo + Drop + Send, R: Threads + Wait + Sync>(
+    rt: &R,
+    alloc: Global,
+    blank: Blank,
+    listener: &TcpListener,
+    limits: Limits,
+    pseudo: P,
+    sessions: usize,
+    limit: u32,
+    tries: u64,
+) -> Result<(Outcomes, Manager<P>, u64), Refusal>
+    requires name { blank.name ≡ L.name }
+    requires parts { blank.parts ≡ L.parts }
+    requires all { blank.parts ≡ 129 }
+    requires some { 0 < sessions }
+    requires most { sessions ≤ 64 }
+    ensures receipts { IfOk result (λ got. Agrees got.0 got.1.commons.history.items) }
+    ensures clients { IfOk result (λ got. AreOfClients limit got.0) }
+    ensures events { IfOk result (λ got. got.1.events ≡ got.2) }
+    ensures refusal { IfErr result (λ refusal.
+        (refusal ≡ Refusal.Io) ⊎ (refusal ≡ Refusal.OutOfMemory) ⊎ (refusal ≡ Refusal.Audit)) }
+{
+    let (book, mut all) = blank.open::<L>();
+    let mut crew = new_crew(alloc, &mut all, sessions)?;
+    let manager = Manager::new(alloc, limits, pseudo)?;
+    let shared = Shared::new(Hall::new(manager, book));
+    let accepting = serve_connections(rt, alloc, listener, &shared, &mut crew, limit, tries);
+    let gathered = gather(alloc, &mut all, crew);
+    let events = gathered.events;
+    let manager = shared.close(&mut all);
+    match receipts_of(accepting, gathered, limit, &manager) {
+        Ok(receipts) => Ok((receipts, manager, events)),
+        Err(refusal) => {
+            manager.close();
+            Err(refusal)
+        }
+    }
+}
+
+/// Serves connections on a new manager: accepts as many as the limit says, from 1 to 1,000,000, and hands them to that many
+/// session threads by a bounded channel. Connections have the numbers 1, 2, 3 in the order in which they are accepted; each is
+/// served by one session, whose transactions have that number as their client. An operation that is told to wait, or that it
+/// is blocked, is given up once its tries are spent, from 1 to 1,000,000. The receipts stand by client and then by number.
+///
+/// Where a session ends by a fault of its connection or by a line that is too long, the others go on.
+///
+/// # Errors
+/// `Io`, where an accept failed. `OutOfMemory`, where a growth or a thread was refused, in a session too. Either ends the
+/// accepting, and the connections that were taken are served. `Audit`, where neither came, and the receipts do not agree with
+/// the manager's history or not all connections were served. All threads are joined.
+pub fn serve_on<P: Pseudo + Drop + Send, R: Threads + Wait + Sync>(
+    rt: &R,
+    alloc: Global,
+    listener: &TcpListener,
+    limits: Limits,
+    pseudo: P,
+    sessions: usize,
+    limit: u32,
+    tries: u64,
+) -> Result<(Outcomes, Manager<P>), Refusal>
+    requires some { 0 < sessions }
+    requires most { sessions ≤ 64 }
+    // what clients were told is what the manager has done
+    ensures receipts { IfOk result (λ got. Agrees got.0 got.1.commons.history.items) }
+    // each receipt is that of one of the connections
+    ensures clients { IfOk result (λ got. AreOfClients limit got.0) }
+    ensures refusal { IfErr result (λ refusal.
+        (refusal ≡ Refusal.Io) ⊎ (refusal ≡ Refusal.OutOfMemory) ⊎ (refusal ≡ Refusal.Audit)) }
+{
+    let (receipts, manager, _) = serve_with::<Brand, P, R>(
+        rt,
+        alloc,
+        Blank::new(129),
+        listener,
+        limits,
+        pseudo,
+        sessions,
+        limit,
+        tries,
+    )?;
+    Ok((receipts, manager))
+}

@@ -1,0 +1,25 @@
+//! What is said over one connection.
+
+use mlt_desk::Desk;
+use mlt_serial::Outcome;
+use mlt_types::Refusal;
+use mlt_wire::session;
+use std::alloc::Global;
+use std::net::TcpStream;
+
+/// Talks over a connection by a session at the desk. It answers whether the session was refused a growth; any other end of
+/// it is an end of this connection alone.
+pub(crate) fn talk<D: Desk>(
+    alloc: Global,
+    stream: &TcpStream,
+    desk: &mut D,
+    client: u32,
+    receipts: &mut Vec<Outcome>,
+) -> bool {
+    // Without this an answer may be held back; where it fails it still comes.
+    let _ = stream.set_nodelay(true);
+    let mut reader = stream;
+    let mut writer = stream;
+    let ended = session(alloc, &mut reader, &mut writer, desk, client, receipts);
+    matches!(ended, Err(Refusal::OutOfMemory))
+}
