@@ -1,5 +1,5 @@
 -- What desks that wait are woken by.
-use Rattle.std.specs.Prelude.{◌+◌, ◌%◌, ◌^◌, true}
+use Rattle.std.specs.Prelude.{◌+◌, ◌%◌, ◌^◌, nat_lt, Bool, true, false, ◌||◌}
 use Rattle.mlt_event.specs.declared.answer.Answer.TheVariants as answer
 use Rattle.mlt_event.specs.declared.told.Told.{Told}
 use Rattle.mlt_event.specs.declared.told.Told.TheVariants as told
@@ -38,3 +38,26 @@ pages_after other q = released q
 abbrev pub queue_of : Awaited → Queue → Queue → Queue
 queue_of awaited.Objects objects pages = objects
 queue_of awaited.Pages objects pages = pages
+
+-- whether some desk waits, for objects or for pages
+abbrev pub some_wait : Queue → Queue → Bool
+some_wait objects pages = nat_lt 0 objects.waiting || nat_lt 0 pages.waiting
+
+-- whether some desk waits for what was given back
+abbrev pub are_to_wake : GivenBack → Queue → Queue → Bool
+are_to_wake given.All objects pages = some_wait objects pages
+are_to_wake given.Pages objects pages = nat_lt 0 pages.waiting
+are_to_wake given.Nothing objects pages = false
+
+-- one more waits
+abbrev pub joined : Queue → Queue
+joined q = record { version = q.version; waiting = q.waiting + 1 }
+
+-- those who wait for objects, and for pages, once a desk waits for this
+abbrev pub objects_joined : Awaited → Queue → Queue
+objects_joined awaited.Objects q = joined q
+objects_joined awaited.Pages q = q
+
+abbrev pub pages_joined : Awaited → Queue → Queue
+pages_joined awaited.Objects q = q
+pages_joined awaited.Pages q = joined q

@@ -1,7 +1,7 @@
 //! The desks of a hall, and which of them wait.
 
 ghost use Rattle.std.specs.Prelude.{◌≡◌, ◌≢◌, ◌+◌, ◌-◌, ◌<◌, ◌≤◌, ◌⊎◌, ◌^◌, min};
-ghost use Rattle.mlt_lock_desk.specs.Waits.{given_back_by, objects_after, pages_after, queue_of, released};
+ghost use Rattle.mlt_lock_desk.specs.Waits.{are_to_wake, given_back_by, objects_after, objects_joined, pages_after, pages_joined, queue_of, released, some_wait};
 
 use crate::queue::{Awaited, GivenBack, Queue, Turn, given_back};
 use mlt_event::Told;
@@ -39,6 +39,7 @@ impl Desks {
         ensures count { self.new.count ≡ self.old.count - 1 }
         ensures objects { self.new.objects ≡ released self.old.objects }
         ensures pages { self.new.pages ≡ released self.old.pages }
+        ensures wakes { result ≡ some_wait self.old.objects self.old.pages }
     {
         let wakes = self.release_all();
         self.count = self.count.saturating_sub(1);
@@ -50,6 +51,8 @@ impl Desks {
         ensures objects { self.new.objects
             ≡ objects_after (given_back_by told.now) self.old.objects }
         ensures pages { self.new.pages ≡ pages_after (given_back_by told.now) self.old.pages }
+        ensures wakes { result
+            ≡ are_to_wake (given_back_by told.now) self.old.objects self.old.pages }
         ensures count { self.new.count ≡ self.old.count }
     {
         match given_back(told) {
@@ -62,6 +65,7 @@ impl Desks {
     fn release_all(&mut self) -> bool
         ensures objects { self.new.objects ≡ released self.old.objects }
         ensures pages { self.new.pages ≡ released self.old.pages }
+        ensures wakes { result ≡ some_wait self.old.objects self.old.pages }
         ensures count { self.new.count ≡ self.old.count }
     {
         let objects = self.objects.release();
@@ -85,9 +89,11 @@ impl Desks {
     pub(crate) fn begin_wait(&mut self, awaited: Awaited, seen: u64) -> Turn
         ensures sleeps { result ≡ Turn.Sleeps
             → ((queue_of awaited self.old.objects self.old.pages).version ≡ seen)
-            × (self.old.objects.waiting + self.old.pages.waiting + 1 < self.old.count)
-            × (self.new.objects.waiting + self.new.pages.waiting
-            ≡ self.old.objects.waiting + self.old.pages.waiting + 1) }
+            × (self.old.objects.waiting + self.old.pages.waiting + 1 < self.old.count) }
+        ensures sleeper { result ≡ Turn.Sleeps
+            → (self.new.objects ≡ objects_joined awaited self.old.objects)
+            × (self.new.pages ≡ pages_joined awaited self.old.pages) }
+        ensures objects { result ≢ Turn.Sleeps → self.new.objects ≡ self.old.objects }
         ensures tries { result ≡ Turn.Tries
             → ((queue_of awaited self.old.objects self.old.pages).version ≢ seen)
             ⊎ (self.old.count ≤ self.old.objects.waiting + self.old.pages.waiting + 1) }

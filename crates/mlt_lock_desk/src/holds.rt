@@ -3,6 +3,7 @@
 ghost use Rattle.std.specs.Prelude.{◌≡◌, ◌+◌, ◌-◌, ◌<◌, ◌^◌, min};
 ghost use Rattle.mlt_manager.specs.Answers.{counted};
 ghost use Rattle.mlt_manager.specs.Events.{Meets};
+ghost use Rattle.mlt_lock_desk.specs.Waits.{are_to_wake, given_back_by, objects_after, pages_after};
 
 use crate::desks::Desks;
 use crate::hall::Hall;
@@ -47,6 +48,13 @@ impl<P: Pseudo, L: Ledger> Hall<P, L> {
             (counted self.old.manager) self.new.manager }
         ensures amount { share.new.amount ≡ share.old.amount + 1 }
         ensures parts { share.new.parts ≡ share.old.parts }
+        ensures objects { self.new.desks.objects
+            ≡ objects_after (given_back_by result.0) self.old.desks.objects }
+        ensures pages { self.new.desks.pages
+            ≡ pages_after (given_back_by result.0) self.old.desks.pages }
+        ensures desks { self.new.desks.count ≡ self.old.desks.count }
+        ensures wakes { result.1 ≡ are_to_wake (given_back_by result.0)
+            self.old.desks.objects self.old.desks.pages }
     {
         let Hall {
             manager,
