@@ -1,0 +1,53 @@
+//! What was served, as a text.
+
+ghost use Rattle.std.specs.Prelude.{◌≤◌, ◌<◌};
+
+use mlt_check_text::check_trace;
+use mlt_manager::Manager;
+use mlt_serial::{Form, Outcomes, Report, write_report};
+use mlt_serve::serve_on;
+use mlt_trace::write_trace;
+use mlt_types::{Limits, Mult, Refusal};
+use std::alloc::Global;
+use std::net::TcpListener;
+use std::sync::Wait;
+use std::thread::Threads;
+
+/// Each receipt with its client, its number, its replies and its end, and then the base; the history as a trace; and what the
+/// checker says of that trace.
+fn text_of(alloc: Global, outcomes: Outcomes, manager: &Manager<Mult>) -> Result<Vec<u8>, Refusal> {
+    let report = Report {
+        outcomes,
+        events: manager.events(),
+        base: manager.base()?,
+    };
+    let mut text = Vec::new(alloc);
+    write_report(alloc, &report, Form::Run, &mut text)?;
+    let mut trace = Vec::new(alloc);
+    write_trace(alloc, manager.history(), &mut trace)?;
+    text.extend_from_slice(trace.as_slice())?;
+    check_trace(alloc, &mut trace.as_slice(), &mut text)?;
+    Ok(text)
+}
+
+/// The text of what that many connections were served, by two session threads.
+pub fn served_text<R: Threads + Wait + Sync>(
+    rt: &R,
+    alloc: Global,
+    listener: &TcpListener,
+    connections: u32,
+) -> Result<Vec<u8>, Refusal> {
+    let (outcomes, manager) = serve_on(
+        rt,
+        alloc,
+        listener,
+        Limits::program(),
+        Mult,
+        2,
+        connections,
+        10_000,
+    )?;
+    let text = text_of(alloc, outcomes, &manager);
+    manager.close();
+    text
+}
