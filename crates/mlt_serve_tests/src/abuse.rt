@@ -3,10 +3,9 @@
 use crate::peers::talk;
 use crate::texts::served_text;
 use std::alloc::Global;
-use std::io;
 use std::net::{Net, TcpListener, TcpStream};
 use std::test::Fail;
-use std::thread;
+use std::{io, thread};
 
 /// Bytes of all kinds, lines that end and lines that do not.
 fn noise(alloc: Global) -> io::Result<Vec<u8>> {

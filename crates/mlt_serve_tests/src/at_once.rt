@@ -3,11 +3,10 @@
 use crate::peers::{have_come, listen, say};
 use crate::texts::served_text;
 use std::alloc::Global;
-use std::io;
 use std::net::{Net, Shutdown, TcpListener, TcpStream};
 use std::sync::atomic::AtomicU64;
 use std::test::Fail;
-use std::thread;
+use std::{io, thread};
 
 const FIRST_ANSWERS: &[u8] = b"begun 1\ndone\ncommitted 2\nbye\n";
 
@@ -39,12 +38,7 @@ fn lead(
 }
 
 /// As `lead`. Where an answer does not come it closes both connections.
-fn lead_or_close(
-    one: &TcpStream,
-    two: &TcpStream,
-    first: &AtomicU64,
-    second: &AtomicU64,
-) -> bool {
+fn lead_or_close(one: &TcpStream, two: &TcpStream, first: &AtomicU64, second: &AtomicU64) -> bool {
     let led = matches!(lead(one, two, first, second), Ok(true));
     if !led {
         let _ = one.shutdown(Shutdown::Both);

@@ -9,8 +9,7 @@ use std::thread;
 
 const LINES: &[u8] = b"begin\nopen 1\nfoo\ndeposit 1 5\ncommit\nbegin\nbalance 1\n";
 
-const ANSWERS: &[u8] =
-    b"begun 1\nopened\nerror 10 ScriptFault\ndone\ncommitted 1\nbegun 2\nis 5\n";
+const ANSWERS: &[u8] = b"begun 1\nopened\nerror 10 ScriptFault\ndone\ncommitted 1\nbegun 2\nis 5\n";
 
 const SERVED: &[u8] = b"client 1 script 1\nopened\ndone\ncommitted 1\n\
 client 1 script 2\nis 5\naborted\naccount 1 5\n\
