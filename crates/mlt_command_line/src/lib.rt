@@ -6,4 +6,4 @@ mod report;
 mod words;
 
 pub use report::{command_line_status, report_command_line};
-pub use words::{Hash, Job, Run, read_words};
+pub use words::{Hash, Job, Run, Serve, Work, read_words};

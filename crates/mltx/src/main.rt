@@ -23,17 +23,19 @@ use std::fs::File;
 use std::io::ErrorKind;
 use std::net::TcpListener;
 use std::process::ExitCode;
+use std::sync::Wait;
+use std::thread::Threads;
 use std::{env, io};
 
 fn main(rt: HostRuntime) -> ExitCode {
-    ExitCode::from(run(&rt))
+    ExitCode::from(run(&rt, &rt))
 }
 
-// The status. Help and the texts of runs go to standard output, and all else to standard error.
-fn run(rt: &HostRuntime) -> u8 {
+// The status. `threads` is the runtime again, which `main` alone may start threads with. Help and the texts of runs go to standard output, and all else to standard error.
+fn run<T: Threads + Wait + Sync>(rt: &HostRuntime, threads: &T) -> u8 {
     let outcome = match words(rt) {
         Ok(words) => match read_words(rt.alloc(), words.as_slice()) {
-            Ok(job) => do_job(rt, &job),
+            Ok(job) => do_job(rt, threads, &job),
             Err(error) => {
                 match report_command_line(&error, &mut io::writer(rt), &mut rt.stderr()) {
                     Ok(status) => return status,
@@ -59,7 +61,11 @@ fn words(rt: &HostRuntime) -> Result<Vec<String>, Refusal> {
     }
 }
 
-fn do_job(rt: &HostRuntime, job: &Job) -> Result<(), Refusal>
+fn do_job<T: Threads + Wait + Sync>(
+    rt: &HostRuntime,
+    threads: &T,
+    job: &Job,
+) -> Result<(), Refusal>
     requires { IsWithinBounds job.now }
 {
     match job {
@@ -72,16 +78,16 @@ fn do_job(rt: &HostRuntime, job: &Job) -> Result<(), Refusal>
             Hash::Low => run_steps(rt, run, Low),
         },
         Job::Work(work) => match work.run.hash {
-            Hash::Mult => run_work(rt, work, Mult),
-            Hash::Low => run_work(rt, work, Low),
+            Hash::Mult => run_work(rt, threads, work, Mult),
+            Hash::Low => run_work(rt, threads, work, Low),
         },
         Job::Check { file } => {
             let mut input = Input::open(rt, file.as_str())?;
             check_trace(rt.alloc(), &mut input, &mut io::writer(rt))
         }
         Job::Serve(serve) => match serve.run.hash {
-            Hash::Mult => run_server(rt, serve, Mult),
-            Hash::Low => run_server(rt, serve, Low),
+            Hash::Mult => run_server(rt, threads, serve, Mult),
+            Hash::Low => run_server(rt, threads, serve, Low),
         },
     }
 }
@@ -107,8 +113,9 @@ fn run_steps<P: Pseudo + Drop>(rt: &HostRuntime, run: &Run, pseudo: P) -> Result
     written
 }
 
-fn run_work<P: Pseudo + Drop + Send>(
+fn run_work<P: Pseudo + Drop + Send, T: Threads + Wait + Sync>(
     rt: &HostRuntime,
+    threads: &T,
     work: &Work,
     pseudo: P,
 ) -> Result<(), Refusal>
@@ -117,7 +124,7 @@ fn run_work<P: Pseudo + Drop + Send>(
 {
     let mut input = Input::open(rt, work.run.input.as_str())?;
     let manager = run_scripts(
-        rt,
+        threads,
         rt.alloc(),
         &mut input,
         &mut io::writer(rt),
@@ -132,8 +139,9 @@ fn run_work<P: Pseudo + Drop + Send>(
     written
 }
 
-fn run_server<P: Pseudo + Drop + Send>(
+fn run_server<P: Pseudo + Drop + Send, T: Threads + Wait + Sync>(
     rt: &HostRuntime,
+    threads: &T,
     serve: &Serve,
     pseudo: P,
 ) -> Result<(), Refusal>
@@ -144,7 +152,7 @@ fn run_server<P: Pseudo + Drop + Send>(
         return Err(Refusal::Io);
     };
     let (_receipts, manager) = serve_on(
-        rt,
+        threads,
         rt.alloc(),
         &listener,
         Limits::program(),
