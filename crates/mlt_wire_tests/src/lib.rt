@@ -4,6 +4,8 @@
 #[cfg(test)]
 mod faults;
 #[cfg(test)]
+mod lock_desks;
+#[cfg(test)]
 mod pipes;
 #[cfg(test)]
 mod sessions;

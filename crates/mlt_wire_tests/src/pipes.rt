@@ -65,26 +65,36 @@ impl Read for Pieces<'_> {
     }
 }
 
-/// A reader of so many bytes: 63 spaces and an LF, again and again.
+/// A reader of so many bytes, which are those of a block again and again.
 #[derive(Drop)]
-pub struct BlankLines {
+pub struct Blocks<'a> {
+    block: &'a [u8],
+    // What is left of the block that comes next, and of all bytes.
+    rest: &'a [u8],
     left: usize,
 }
 
-impl BlankLines {
+impl<'a> Blocks<'a> {
     /// A reader of so many bytes.
-    pub fn new(left: usize) -> BlankLines {
-        BlankLines { left }
+    pub fn new(block: &'a [u8], left: usize) -> Blocks<'a> {
+        Blocks {
+            block,
+            rest: block,
+            left,
+        }
     }
 }
 
-impl Read for BlankLines {
+impl Read for Blocks<'_> {
     fn read(&mut self, buf: &mut [u8]) -> io::Result<usize> {
-        let count = buf.len().min(self.left);
-        for byte in &mut buf[..count] {
-            self.left = self.left.saturating_sub(1);
-            *byte = if self.left % 64 == 0 { b'\n' } else { b' ' };
+        if self.rest.is_empty() {
+            self.rest = self.block;
         }
+        let count = buf.len().min(self.rest.len()).min(self.left);
+        let (piece, rest) = self.rest.split_at(count);
+        buf[..count].copy_from_slice(piece);
+        self.rest = rest;
+        self.left -= count;
         Ok(count)
     }
 }

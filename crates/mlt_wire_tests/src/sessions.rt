@@ -1,6 +1,6 @@
 //! Sessions at a desk of answers, wherever their input is cut.
 
-use crate::pipes::{BlankLines, Narrow, Pieces};
+use crate::pipes::{Blocks, Narrow, Pieces};
 use crate::talks::{Receipt, Wanted, talk_with};
 use mlt_desk::FakeAnswer;
 use mlt_kinds::{AccountOp, CounterOp, ObjOp, ObjReply};
@@ -202,22 +202,41 @@ fn session_with_refused_calls(rt: HostRuntime) -> Result<(), AllocError> {
     is_wherever_cut(&rt, rt.alloc(), REFUSED_CALLS, REFUSALS, &wanted)
 }
 
-// An input of 16,777,216 bytes, which are 262,144 lines, and one with a byte more.
+// A session of so many bytes, in lines of 64.
+fn is_of_blank_lines(
+    rt: &impl Abort,
+    alloc: Global,
+    count: usize,
+    wanted: &Wanted,
+) -> Result<(), AllocError> {
+    let mut block = Vec::new(alloc);
+    for _ in 0..128 {
+        let line = with_spaces(alloc, b"", 63, b"\n")?;
+        block.extend_from_slice(line.as_slice())?;
+    }
+    let reader = Blocks::new(block.as_slice(), count);
+    let found = talk_with(alloc, &[], reader, Narrow::new(alloc))?;
+    found.is(rt, &count, wanted);
+    Ok(())
+}
+
+// An input of 16,777,216 bytes, which are 262,144 lines.
 #[test]
 fn session_input_limit(rt: HostRuntime) -> Result<(), AllocError> {
-    let alloc = rt.alloc();
-    let most = talk_with(alloc, &[], BlankLines::new(16_777_216), Narrow::new(alloc))?;
     let wanted = Wanted {
         answer: Ok((262_144, 0)),
         text: b"",
         receipts: &[],
     };
-    most.is(&rt, &"all of it", &wanted);
-    let more = talk_with(alloc, &[], BlankLines::new(16_777_217), Narrow::new(alloc))?;
+    is_of_blank_lines(&rt, rt.alloc(), 16_777_216, &wanted)
+}
+
+#[test]
+fn session_input_past_the_limit(rt: HostRuntime) -> Result<(), AllocError> {
     let wanted = Wanted {
         answer: Err(Refusal::Io),
-        ..wanted
+        text: b"",
+        receipts: &[],
     };
-    more.is(&rt, &"a byte more", &wanted);
-    Ok(())
+    is_of_blank_lines(&rt, rt.alloc(), 16_777_217, &wanted)
 }

@@ -31,7 +31,8 @@ fn main(rt: HostRuntime) -> ExitCode {
     ExitCode::from(run(&rt, &rt))
 }
 
-// The status. `threads` is the runtime again, which `main` alone may start threads with. Help and the texts of runs go to standard output, and all else to standard error.
+// The status. Help and the texts of runs go to standard output, and all else to standard error. The threads are those of
+// the runtime, which has them in `main` alone.
 fn run<T: Threads + Wait + Sync>(rt: &HostRuntime, threads: &T) -> u8 {
     let outcome = match words(rt) {
         Ok(words) => match read_words(rt.alloc(), words.as_slice()) {
@@ -61,11 +62,7 @@ fn words(rt: &HostRuntime) -> Result<Vec<String>, Refusal> {
     }
 }
 
-fn do_job<T: Threads + Wait + Sync>(
-    rt: &HostRuntime,
-    threads: &T,
-    job: &Job,
-) -> Result<(), Refusal>
+fn do_job<T: Threads + Wait + Sync>(rt: &HostRuntime, threads: &T, job: &Job) -> Result<(), Refusal>
     requires { IsWithinBounds job.now }
 {
     match job {
