@@ -6,3 +6,4 @@ pub mod Tables
 pub mod Conflicts
 pub mod Grants
 pub mod Covering
+pub mod Sharing

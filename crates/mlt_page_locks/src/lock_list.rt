@@ -1,6 +1,7 @@
 //! The locks of one transaction, by rising page numbers.
 
-ghost use Rattle.std.specs.Prelude.{◌≡◌, ◌==◌, ◌≤◌, ◌&&◌, not, MatchResult};
+ghost use Rattle.std.specs.Prelude.{◌≡◌, ◌==◌, ◌≤◌, ◌&&◌, false, not, MatchResult};
+ghost use Rattle.std.specs.Option.{option_map_or};
 ghost use Rattle.std.specs.FinMap as map;
 ghost use Rattle.mlt_page_locks.specs.Requests.{stronger, with_page, is_against};
 ghost use Rattle.mlt_page_locks.specs.LockTables.{goes_with};
@@ -97,6 +98,14 @@ impl LockList {
             && self
                 .mode_of(page)
                 .is_some_and(|held| !goes_with(held, mode))
+    }
+
+    /// Whether there is a lock on the page here that goes with one in this mode: both are shared.
+    pub fn shares(&self, page: PageNo, mode: Mode) -> bool
+        ensures { let held = map.get self.now.modes page in
+            result ≡ option_map_or (λ held. goes_with held mode) held false }
+    {
+        self.mode_of(page).is_some_and(|held| goes_with(held, mode))
     }
 
     /// The locks, each page once.

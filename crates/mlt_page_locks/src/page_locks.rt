@@ -194,7 +194,8 @@ fn start_list(lists: &mut Vec<LockList>, tx: TxId, page: PageNo, mode: Mode) -> 
     }
 }
 
-// The lowest other transaction whose lock on the page does not go with one of `tx` in this mode.
+// The lowest other transaction whose lock on the page does not go with one of `tx` in this mode. Of those who share a page
+// one is enough for a lock that is shared too: where there is one, nobody has the page exclusively.
 fn lowest_conflict(
     lists: &[LockList],
     mask: u64,
@@ -214,6 +215,8 @@ fn lowest_conflict(
         let list = &lists[place];
         if list.conflicts(tx, page, mode) {
             lowest = Some(lower(lowest, list.tx()));
+        } else if list.shares(page, mode) {
+            return None;
         }
         start = place + 1;
     }

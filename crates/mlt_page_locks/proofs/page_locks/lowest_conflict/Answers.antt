@@ -1,10 +1,14 @@
 use Rattle.std.proofs.Common.{◌≡◌, ap, sym, subst, ◌∙◌, take, take_all, length, List, Bool, true, false, cond, min, unwrap_or, Some, ◌+◌, arith}
 use Rattle.std.proofs.lemmas.List.{take_more}
+use Rattle.std.specs.FinMap as map
+use Rattle.std.specs.Option.{option_map_or}
+use Rattle.mlt_page_locks.specs.LockTables.{goes_with}
 use Rattle.mlt_page_locks.specs.LockLists.{HeldPages}
 use Rattle.mlt_page_locks.proofs.Conflicts.{in_way_of, IsLowestIfAny, lowest_more, lowest_of_table, same_lowest}
 use Rattle.mlt_page_locks.proofs.Covering.{passed_over}
+use Rattle.mlt_page_locks.proofs.Sharing.{nobody_against_shared}
 use Rattle.mlt_page_locks.proofs.page_locks.lowest_conflict.Goals as goal
-use Rattle.mlt_page_locks.proofs.page_locks.lowest_conflict.Goals.{then-conflicts, else-conflicts}
+use Rattle.mlt_page_locks.proofs.page_locks.lowest_conflict.Goals.{then-conflicts, else-conflicts+else-shares}
 
 -- what was the lowest up to the start of the search is so up to the next place
 up_to_next : (c : goal.Joined-conflicts) → IsLowestIfAny (in_way_of c.args.tx c.args.page c.args.mode (take c.in-Some.place c.args.lists.now)) c.loop-place.lowest
@@ -27,7 +31,7 @@ loop-place-preserved c = record {
   lowest_so_far =
       elim c.if-conflicts.branch [
         | then-conflicts w ↦ more c true (sym w.if-conflicts.true) (w.lowest-is ∙ ap Some (w.lower.ensures ∙ ap (λ tx. min (unwrap_or c.loop-place.lowest tx) tx) w.tx.ensures))
-        | else-conflicts w ↦ more c false (sym w.if-conflicts.false) w.lowest-is
+        | else-conflicts+else-shares w ↦ more c false (sym w.if-conflicts.false) w.lowest-is
       ];
 }
 
@@ -38,3 +42,10 @@ returns c =
     lowest_of_table c.args.tx c.args.page c.args.mode c.args.lists.now c.loop-place.lowest c.requires.sound.one_list_each
     (subst (λ (lists : List HeldPages). IsLowestIfAny (in_way_of c.args.tx c.args.page c.args.mode lists) c.loop-place.lowest) all
     (same_lowest _ _ c.loop-place.lowest in_all c.loop-place.invariant.lowest_so_far))
+
+pub returns-then-shares : goal.returns-then-shares
+returns-then-shares c =
+    let list = c.index-lists-place.result in
+    let shares = sym c.shares.ensures ∙ c.if-shares.true in
+    nobody_against_shared c.args.lists.now c.args.tx c.args.page c.in-Some.place c.args.mode list c.requires.sound c.in-Some.ensures.within
+    (ap (λ (pages : HeldPages). option_map_or (λ held. goes_with held c.args.mode) (map.get pages.modes c.args.page) false) (sym c.index-lists-place.is) ∙ shares)
