@@ -7,7 +7,7 @@ use Rattle.mlt_hash.specs.StepsLeft.{depth_after, steps_of_splits}
 use Rattle.mlt_counts.specs.Extra.{extra_of_split, extra_of_splits}
 
 -- of one split
-of_one : (l g : ℕ) → 2 + directory_steps l g ≡ 3 + extra_of_split l g
+pub of_one : (l g : ℕ) → 2 + directory_steps l g ≡ 3 + extra_of_split l g
 of_one l g = elim (cases_eq l g) [
   | inl same ↦
       let steps : directory_steps l g ≡ (if nat_lt g 8 then 2 else 2 ^ (g - 7) + 1) = cond-true (nat_eq l g) _ _ (eq-eqb l g same) in

@@ -18,7 +18,7 @@ use Rattle.mlt_transaction.specs.Steps.{inverse_from}
 use Rattle.mlt_transaction.specs.Transactions.{StepsBack, TellsAt, TellsOfTransaction}
 use Rattle.mlt_counts.specs.Counts.{IsTakenBack, IsToTakeBack, TakesBackInFour}
 use Rattle.mlt_counts.specs.OwnSteps.{AreOwnSteps, GoesThen, OwnStep, answers_of, basis_at, view_in, with_answer}
-use Rattle.mlt_counts.proofs.Passes.{then_after_going, then_after_wait}
+use Rattle.mlt_counts.proofs.Answers.{then_after_going, then_after_wait}
 use Rattle.mlt_counts.proofs.Stages.{one_fewer_after, told_at_last, untold_before}
 
 -- Of the inverse that runs, or is to begin, n steps are left. It is told its reply at the last, and not before.

@@ -1,4 +1,6 @@
+pub mod Answers
 pub mod Extra
-pub mod Stages
-pub mod Passes
 pub mod Inverses
+pub mod Passes
+pub mod Splitting
+pub mod Stages

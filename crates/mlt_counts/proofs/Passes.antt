@@ -1,5 +1,5 @@
 -- The steps of one pass of an operation, one after another
-use Rattle.std.proofs.Common.{ℕ, zero, suc, ◌≡◌, ◌≤◌, ◌<◌, ◌+◌, ◌*◌, ◌-◌, ◌⊎◌, List, [], ◌∷◌, ◌++◌, None, refl, sym, ap, subst, ◌∙◌, inl, inr, true, Bool, arith}
+use Rattle.std.proofs.Common.{ℕ, zero, suc, ◌≡◌, ◌≤◌, ◌<◌, ◌⊎◌, List, [], ◌∷◌, None, refl, sym, ap, subst, ◌∙◌, inl, inr, true, Bool, arith}
 use Rattle.mlt_types.specs.declared.mode.Mode.{Mode}
 use Rattle.mlt_kinds.specs.declared.operation.ObjOp.{ObjOp}
 use Rattle.mlt_hash_form.specs.File.{bucket_of}
@@ -8,7 +8,7 @@ use Rattle.mlt_held.specs.Views.{View, view_of}
 use Rattle.mlt_hash.specs.Changes.{page_of}
 use Rattle.mlt_hash.specs.Passes.{IsNextPass, next_of}
 use Rattle.mlt_hash.specs.Steps.{steps_to_bucket}
-use Rattle.mlt_hash.specs.StepsLeft.{bucket_depth, directory_depth, steps_of_splits, steps_to_put_at}
+use Rattle.mlt_hash.specs.StepsLeft.{bucket_depth, directory_depth, steps_to_put_at}
 use Rattle.mlt_hash.specs.Walks.{Basis, IsAdding, Stands, WalkFields}
 use Rattle.mlt_hash.specs.declared.pass.Pass.{Pass}
 use Rattle.mlt_hash.specs.declared.pass.Pass.TheVariants as pass
@@ -19,15 +19,14 @@ use Rattle.mlt_operation.specs.declared.request.Request.TheVariants.{Do}
 use Rattle.mlt_operation.specs.Answers.{BeginsToSplit, HasToRestart, Restarts}
 use Rattle.mlt_operation.specs.Operating.{FitsPhase, IsToAdd, OperationFields, steps_left}
 use Rattle.mlt_operation.specs.Requests.{target_of}
-use Rattle.mlt_event.specs.declared.answer.Answer.{Answer}
 use Rattle.mlt_event.specs.declared.answer.Answer.TheVariants as answer
 use Rattle.mlt_transaction.specs.declared.transaction.At.TheVariants as at
 use Rattle.mlt_transaction.specs.declared.transaction.Transaction.{Transaction}
-use Rattle.mlt_counts.specs.Counts.{BeginsSplits, FindsNoRoom, IsDoneOrBlocked, IsEnd, IsRefusal, MayFollow, TakesFirstPass, TakesLaterPass, TakesNarrowPass, TakesNextPass, started_in}
-use Rattle.mlt_counts.specs.Extra.{extra_of_splits}
-use Rattle.mlt_counts.specs.OwnSteps.{AreOwnSteps, GoesThen, GoesToTurn, GoesUpTo, OwnStep, answers_of, basis_at, view_in, with_answer}
-use Rattle.mlt_counts.proofs.Extra.{of_splits}
-use Rattle.mlt_counts.proofs.Stages.{Goes, Stage, fewer_after, last_step, left_at, on_stage, one_fewer_after, one_step, told_at_last}
+use Rattle.mlt_counts.specs.Counts.{BeginsSplits, FindsNoRoom, IsDoneOrBlocked, IsRefusal, MayFollow, TakesFirstPass, TakesLaterPass, TakesNarrowPass, TakesNextPass, started_in}
+use Rattle.mlt_counts.specs.OwnSteps.{AreOwnSteps, GoesThen, GoesToTurn, GoesUpTo, OwnStep, answers_of, basis_at, view_in}
+use Rattle.mlt_counts.proofs.Answers.{ended_then, refused_in, then_after_going, then_after_wait, turn_after_going, turn_after_wait, turn_here, up_to_after_wait, up_to_after_going}
+use Rattle.mlt_counts.proofs.Stages.{Goes, Stage, last_step, on_stage, one_fewer_after, one_step}
+use Rattle.mlt_counts.proofs.Splitting.{splits_and_puts}
 
 -- on the way nothing is to be put
 put_on_way : (p : Phase) (root : ℕ) (walk : WalkFields) (view : View) → 0 < steps_to_bucket p → steps_to_put_at p root walk view ≡ 0
@@ -39,98 +38,6 @@ put_on_way other root walk view more = absurd (omega (arith, more))
 -- at the step to the bucket two steps are left
 two_left : (root : ℕ) (o : OperationFields) (view : View) → steps_to_bucket o.walk.phase ≡ 1 → steps_left root o view ≡ 2
 two_left root o view last = let none = put_on_way o.walk.phase root o.walk view (omega (arith, last)) in omega (arith, last, none)
-
--- told Done or Blocked, or refused, at once
-ended_then : (told : Answer) (rest : List Answer) → IsDoneOrBlocked told → GoesThen 0 IsDoneOrBlocked (with_answer told rest)
-ended_then (answer.Done reply) rest is = tt
-ended_then (answer.Blocked by) rest is = tt
-ended_then other rest is = absurd is
-
-ended_in : (n : ℕ) (told : Answer) (rest : List Answer) → IsDoneOrBlocked told → GoesUpTo (suc n) IsEnd (with_answer told rest)
-ended_in n (answer.Done reply) rest is = inl (inl tt)
-ended_in n (answer.Blocked by) rest is = inl (inl tt)
-ended_in n other rest is = absurd is
-
-refused_in : (n : ℕ) (Is : Answer → Type 0) → ((told : Answer) → IsRefusal told → Is told) → (told : Answer) (rest : List Answer) → IsRefusal told → GoesUpTo (suc n) Is (with_answer told rest)
-refused_in n Is end (answer.Refused reason) rest is = inl (end (answer.Refused reason) tt)
-refused_in n Is end other rest is = absurd is
-
--- what one step more makes of an answer list
-module _ (step : OwnStep) (more : List OwnStep) where
-  pub then_after_wait : (n page by : ℕ) (Is : Answer → Type 0) → step.told ≡ answer.Waiting page by → GoesThen n Is (answers_of more) → GoesThen n Is (answers_of (step ∷ more))
-  then_after_wait n page by Is waits then = subst (λ (a : Answer). GoesThen n Is (with_answer a (answers_of more))) (sym waits) then
-
-  pub then_after_going : (n : ℕ) (Is : Answer → Type 0) → step.told ≡ answer.Going → GoesThen n Is (answers_of more) → GoesThen (suc n) Is (answers_of (step ∷ more))
-  then_after_going n Is goes then = subst (λ (a : Answer). GoesThen (suc n) Is (with_answer a (answers_of more))) (sym goes) (refl, then)
-
-  up_to_after_wait : (n page by : ℕ) (Is : Answer → Type 0) → step.told ≡ answer.Waiting page by → GoesUpTo n Is (answers_of more) → GoesUpTo n Is (answers_of (step ∷ more))
-  up_to_after_wait n page by Is waits up_to = subst (λ (a : Answer). GoesUpTo n Is (with_answer a (answers_of more))) (sym waits) up_to
-
-  up_to_after_going : (n : ℕ) (Is : Answer → Type 0) → step.told ≡ answer.Going → GoesUpTo n Is (answers_of more) → GoesUpTo (suc n) Is (answers_of (step ∷ more))
-  up_to_after_going n Is goes up_to = subst (λ (a : Answer). GoesUpTo (suc n) Is (with_answer a (answers_of more))) (sym goes) (inr (refl, up_to))
-
-  turn_after_wait : (basis : Basis) (n page by : ℕ) (Turns : Transaction → OwnStep → List OwnStep → Type 0) → step.told ≡ answer.Waiting page by → GoesToTurn basis n Turns more → GoesToTurn basis n Turns (step ∷ more)
-  turn_after_wait basis n page by Turns waits g = record {
-    front = step ∷ g.front;
-    before = g.before;
-    last = g.last;
-    back = g.back;
-    parts = ap (λ (l : List OwnStep). step ∷ l) g.parts;
-    goes = ap (λ (a : Answer). with_answer a (answers_of (g.front ++ g.last ∷ []))) waits ∙ g.goes;
-    turns = g.turns;
-    rest = g.rest;
-  }
-
-  turn_after_going : (basis : Basis) (n : ℕ) (Turns : Transaction → OwnStep → List OwnStep → Type 0) → step.told ≡ answer.Going → GoesToTurn basis n Turns more → GoesToTurn basis (suc n) Turns (step ∷ more)
-  turn_after_going basis n Turns goes g = record {
-    front = step ∷ g.front;
-    before = g.before;
-    last = g.last;
-    back = g.back;
-    parts = ap (λ (l : List OwnStep). step ∷ l) g.parts;
-    goes = ap (λ (a : Answer). with_answer a (answers_of (g.front ++ g.last ∷ []))) goes ∙ ap (λ (l : List Answer). answer.Going ∷ l) g.goes;
-    turns = g.turns;
-    rest = g.rest;
-  }
-
-  -- the turn itself
-  turn_here : (basis : Basis) (Turns : Transaction → OwnStep → List OwnStep → Type 0) (t : Transaction) → step.told ≡ answer.Going → Turns t step more → AreOwnSteps basis step.after (view_in step.after step.new) more → GoesToTurn basis 1 Turns (step ∷ more)
-  turn_here basis Turns t goes turns rest = record {
-    front = [];
-    before = t;
-    last = step;
-    back = more;
-    parts = refl;
-    goes = ap (λ (a : Answer). with_answer a []) goes;
-    turns = turns;
-    rest = rest;
-  }
-
--- **Once a bucket is to be split, within as many answers as steps are left comes the end.**
-ends_within : (basis : Basis) (op : ObjOp) (steps : List OwnStep) (n left : ℕ) (p : Pass) (o : OperationFields) (t : Transaction) (seen : View)
-    → Stage basis op left p o t seen → steps_to_bucket o.walk.phase ≡ 0 → 1 ≤ left → left ≤ n → AreOwnSteps basis t seen steps → GoesUpTo n IsEnd (answers_of steps)
-ends_within basis op [] zero left p o t seen stage there some few own = tt
-ends_within basis op [] (suc n) left p o t seen stage there some few own = tt
-ends_within basis op (step ∷ more) zero left p o t seen stage there some few own = absurd (omega (arith, some, few))
-ends_within basis op (step ∷ more) (suc n) zero p o t seen stage there some few own = absurd (omega (arith, some))
-ends_within basis op (step ∷ more) (suc n) (suc zero) p o t seen stage there some few own =
-    ended_in n step.told (answers_of more) (last_step basis op 1 p o t seen step stage own.0 refl own.1)
-ends_within basis op (step ∷ more) (suc n) (suc (suc m)) p o t seen stage there some few own =
-    elim (one_step basis op (suc (suc m)) p o t seen step stage own.0 (omega arith) own.1) [
-      | inl waits ↦ up_to_after_wait step more (suc n) waits.page waits.by IsEnd waits.waiting
-          (ends_within basis op more (suc n) (suc (suc m)) p o step.after (view_in step.after step.new) waits.stage there some few own.2)
-      | inr (inr away) ↦ refused_in n IsEnd (λ told is. inr is) step.told (answers_of more) away.refused
-      | inr (inl goes) ↦ elim goes.tells [
-        | inl on ↦
-            let fewer = fewer_after basis (suc (suc m)) o goes.next t seen step own.0 stage.left on in
-            let nearer = on.nearer in
-            up_to_after_going step more n IsEnd goes.going
-            (ends_within basis op more n (steps_left basis.root goes.next (view_in step.after step.new)) p goes.next step.after (view_in step.after step.new)
-            (on_stage basis op (suc (suc m)) p o t seen step stage own.0 goes on) (omega (arith, there, nearer)) (omega arith) (omega (arith, few, fewer)) own.2)
-        | inr (inl splits) ↦ let last = splits.reaches.last in absurd (omega (arith, there, last))
-        | inr (inr again) ↦ let last = again.reaches.last in absurd (omega (arith, there, last))
-      ]
-    ]
 
 -- the pass that follows a full bucket, by the pass that found it full
 after_first : (next : Pass) (crowded : ℕ → Bool) (l most g : ℕ) → IsNextPass crowded l most g next → MayFollow pass.First next
@@ -191,8 +98,6 @@ module _ (basis : Basis) (op : ObjOp) (n : ℕ) (p : Pass) (o : OperationFields)
       let g = directory_depth seen' basis.root in
       let deep : l ≡ stands.fields.depth = ap (λ x. (bucket_of x).depth) stands.rest.found in
       let deeper = stands.unsplit_is refl in
-      let steps = of_splits (adding.0 - l) l g in
-      let left : steps_left basis.root goes.next seen' ≡ 0 + steps_of_splits (adding.0 - l) l g + 1 = ap (λ (x : Phase). left_at x basis.root goes.next.walk seen') is in
       record {
         o = o;
         o' = goes.next;
@@ -211,15 +116,7 @@ module _ (basis : Basis) (op : ObjOp) (n : ℕ) (p : Pass) (o : OperationFields)
           deeper = omega (arith, deep, deeper);
           most = stands.most;
         };
-        ends = ends_within basis op more (2 + 3 * (adding.0 - l) + extra_of_splits (adding.0 - l) l g) (steps_left basis.root goes.next seen') p goes.next step.after seen'
-            (record {
-              pending = goes.now_at;
-              asked = s.request ∙ stage.asked;
-              in_pass = s.in_pass ∙ stage.in_pass;
-              left = refl;
-              told = told_at_last goes.next.walk.phase (basis_at basis step) goes.next seen' s.operates.stands s.operates.fits;
-              untold = λ some. adds.0;
-            }) s.at_bucket (omega arith) (omega (arith, steps, left)) own;
+        ends = splits_and_puts basis op more p goes.next step.after seen' s.value q l g adding.0 goes.now_at (s.request ∙ stage.asked) (s.in_pass ∙ stage.in_pass) is refl refl (omega (arith, deep, deeper)) adds.0 own;
       }
 
 -- how a pass comes to its third step, or what becomes of it there

@@ -1,5 +1,5 @@
 -- Where an operation stands, by the steps that are left of its pass; and what its next step makes of that
-use Rattle.std.proofs.Common.{ℕ, ◌≡◌, ◌≤◌, ◌<◌, ◌+◌, ◌-◌, ◌⊎◌, Option, None, Some, IsSome, is_some, refl, sym, ap, subst, ◌∙◌, inl, inr, arith}
+use Rattle.std.proofs.Common.{ℕ, ◌≡◌, ◌≤◌, ◌+◌, ◌-◌, ◌⊎◌, Option, None, Some, IsSome, is_some, refl, sym, ap, subst, ◌∙◌, inl, inr, arith}
 use Rattle.mlt_kinds.specs.declared.operation.ObjOp.{ObjOp}
 use Rattle.mlt_kinds.specs.declared.operation.ObjReply.{ObjReply}
 use Rattle.mlt_held.specs.Moments.{moment}
@@ -83,10 +83,11 @@ pub record Goes (basis : Basis) (o : OperationFields) (t : Transaction) (own : O
   pub tells : TellsOfStep (basis_at basis own) (moment t.subtx own.old.pages) (moment own.after.subtx own.new.pages) o next step.Going
 
 -- it is told to wait, and stands where it stood
-pub record Stays (basis : Basis) (op : ObjOp) (n : ℕ) (p : Pass) (o : OperationFields) (own : OwnStep) : Type 0 where
+pub record Stays (basis : Basis) (op : ObjOp) (n : ℕ) (p : Pass) (o : OperationFields) (t : Transaction) (own : OwnStep) : Type 0 where
   pub page : ℕ
   pub by : ℕ
   pub waiting : own.told ≡ answer.Waiting page by
+  pub same : view_in own.after own.new ≡ view_in t own.old
   pub stage : Stage basis op n p o own.after (view_in own.after own.new)
 
 -- it is refused, in a later pass than the first
@@ -95,7 +96,7 @@ pub record IsTurnedAway (p : Pass) (own : OwnStep) : Type 0 where
   pub later : p ≡ pass.First → ⊥
 
 abbrev pub Outcome : Basis → ObjOp → ℕ → Pass → OperationFields → Transaction → OwnStep → Type 0
-Outcome basis op n p o t own = Stays basis op n p o own ⊎ Goes basis o t own ⊎ IsTurnedAway p own
+Outcome basis op n p o t own = Stays basis op n p o t own ⊎ Goes basis o t own ⊎ IsTurnedAway p own
 
 unready_or : {A : Type 0} (reply : Option ObjReply) (one : ObjReply) → reply ≡ None → reply ≡ Some one → A
 unready_or reply one none some = cc
@@ -108,10 +109,6 @@ some_or (Some one) is none = cc
 module _ (basis : Basis) (n : ℕ) (o next : OperationFields) (t : Transaction) (seen : View) (own : OwnStep) (sees : view_in t own.old ≡ seen) (left : steps_left basis.root o seen ≡ n) where
   was_left : steps_left basis.root o (view_in t own.old) ≡ n
   was_left = ap (steps_left basis.root o) sees ∙ left
-
-  pub fewer_after : StepsOn (basis_at basis own) (moment t.subtx own.old.pages) (moment own.after.subtx own.new.pages) o next
-      → steps_left basis.root next (view_in own.after own.new) < n
-  fewer_after s = let was = was_left in let fewer = s.fewer in omega (arith, was, fewer)
 
   -- just one fewer, where there are four at most
   pub one_fewer_after : n ≤ 4 → StepsOn (basis_at basis own) (moment t.subtx own.old.pages) (moment own.after.subtx own.new.pages) o next
@@ -141,11 +138,13 @@ module _ (basis : Basis) (op : ObjOp) (n : ℕ) (p : Pass) (o : OperationFields)
     tells = subst (λ (c : Commons). TellsOfStep (basis_at basis own) (moment t.subtx own.old.pages) (moment own.after.subtx c.pages) o s.next step.Going) (sym s.leaves) s.tells.tells;
   }))
   by_answer (answer.Waiting page by) is more s =
-      let same : view_in own.after own.new ≡ seen = ap (λ (c : Commons). view_in own.after c) s.leaves ∙ ap view_of s.tells.tells.pages ∙ sees in
+      let unmoved : view_in own.after own.new ≡ view_in t own.old = ap (λ (c : Commons). view_in own.after c) s.leaves ∙ ap view_of s.tells.tells.pages in
+      let same : view_in own.after own.new ≡ seen = unmoved ∙ sees in
       inl (record {
         page = page;
         by = by;
         waiting = is;
+        same = unmoved;
         stage = record {
           pending = s.now_at ∙ ap at.Pending s.tells.tells.stays;
           asked = stage.asked;

@@ -12,7 +12,7 @@ use Rattle.mlt_hash.specs.declared.pass.Pass.TheVariants.{First, Narrow, Wide}
 use Rattle.mlt_hash.specs.declared.pass.Phase.TheVariants as phase
 use Rattle.mlt_operation.specs.declared.request.Request.{Request}
 use Rattle.mlt_operation.specs.declared.request.Request.TheVariants.{Do}
-use Rattle.mlt_operation.specs.Answers.{BeginsToSplit, Restarts}
+use Rattle.mlt_operation.specs.Answers.{BeginsToSplit, PutsBehindSplits, Restarts}
 use Rattle.mlt_operation.specs.Operating.{OperationFields}
 use Rattle.mlt_operation.specs.Requests.{target_of}
 use Rattle.mlt_event.specs.declared.answer.Answer.{Answer}
@@ -46,10 +46,6 @@ IsDoneOrBlocked other = ⊥
 abbrev pub IsRefusal : Answer → Type 0
 IsRefusal (answer.Refused reason) = Unit {0}
 IsRefusal other = ⊥
-
--- it is told Done or Blocked, or refused
-abbrev pub IsEnd : Answer → Type 0
-IsEnd told = IsDoneOrBlocked told ⊎ IsRefusal told
 
 -- one operation is taken back, and perhaps it was the last
 abbrev pub IsTakenBack : Answer → Type 0
@@ -87,8 +83,27 @@ pub record IsToSplit (basis : Basis) (seen : View) (o : OperationFields) (l g d 
   pub deeper : l < d
   pub most : d ≤ basis.max_depth
 
--- An addition finds no room in its bucket, and splits it in this pass: k times at most, with k + l = d. In
--- 2 + 3 * k + c answers more, and those of three steps to the bucket before them, comes the end.
+-- At this step the record is put, in a bucket of depth l: each split has made it one deeper. Done or Blocked comes next.
+pub record PutsRecord (l : ℕ) (before : Transaction) (step : OwnStep) (back : List OwnStep)
+    : Type 0 where
+  pub o : OperationFields
+  pub o' : OperationFields
+  pub pending : before.at ≡ at.Pending o
+  pub still : step.after.at ≡ at.Pending o'
+  pub puts : PutsBehindSplits o o'
+  pub depth : bucket_depth (view_in before step.old) puts.bucket ≡ l
+  pub ends : GoesThen 0 IsDoneOrBlocked (answers_of back)
+
+-- The bucket of depth l, in a directory of depth g, is split k times: in 3 * k + c steps, told Going, and so at the step that
+-- puts the record. Then comes the end.
+pub record SplitsAndPuts (basis : Basis) (l g d : ℕ) (back : List OwnStep) : Type 0 where
+  pub k : ℕ
+  pub some : 1 ≤ k
+  pub few : l + k ≤ d
+  pub puts : GoesToTurn basis (1 + 3 * k + extra_of_splits k l g) (PutsRecord (l + k)) back
+
+-- An addition finds no room in its bucket, and splits it in this pass. With k splits made, and the three steps to the bucket,
+-- Done or Blocked comes at step 5 + 3 * k + c; or it is refused before, told Going so long.
 pub record BeginsSplits (basis : Basis) (before : Transaction) (step : OwnStep)
     (back : List OwnStep) : Type 0 where
   pub o : OperationFields
@@ -101,7 +116,8 @@ pub record BeginsSplits (basis : Basis) (before : Transaction) (step : OwnStep)
   pub g : ℕ
   pub d : ℕ
   pub plan : IsToSplit basis (view_in step.after step.new) o' l g d
-  pub ends : GoesUpTo (2 + 3 * (d - l) + extra_of_splits (d - l) l g) IsEnd (answers_of back)
+  pub ends : SplitsAndPuts basis l g d back
+      ⊎ GoesUpTo (1 + 3 * (d - l) + extra_of_splits (d - l) l g) IsRefusal (answers_of back)
 
 -- A pass that may split is told Done or Blocked at its fourth step, and Going at the three before it; or it is refused
 -- earlier; or it splits.

@@ -23,8 +23,8 @@ pub fn first_passes_take_four_steps()
 {}
 
 /// A narrow pass is told so too; or it is refused earlier; or it is given up at its third step, told Going, for a wide
-/// one; or it splits its bucket, k times at most, and is told Done or Blocked within 5 + 3 * k + c steps, or refused
-/// earlier.
+/// one; or it splits its bucket, k times, and is told Done or Blocked at its step 5 + 3 * k + c, or it is refused before
+/// that.
 pub fn narrow_passes_take_few_steps()
     ensures { (basis : Basis) (op : ObjOp) (t : Transaction) (seen : View) (steps : List OwnStep)
         → t.at ≡ at.Pending (started_in (Do op) Narrow)

@@ -21,6 +21,7 @@ use Rattle.mlt_operation.specs.declared.request.Request.{Request}
 use Rattle.mlt_operation.specs.Answers.{StepsOn}
 use Rattle.mlt_operation.specs.Operating.{FitsPhase, HasPerformed, IsToAdd, MayOperate, OperationFields, steps_left}
 use Rattle.mlt_operation.specs.Requests.{decision, target_of}
+use Rattle.mlt_operation.proofs.Depths.{goes_down}
 use Rattle.mlt_operation.proofs.Turns.{one_step_turns}
 
 -- on the way nothing is told yet, and nothing is to be put
@@ -69,6 +70,7 @@ on_way basis old new before after may leaves goes more request same =
       nearer = omega (arith, goes.fewer);
       fewer = omega (arith, by_one);
       by_one = inl by_one;
+      down = inl was;
     }
 
 -- the phase of a walk that adds or splits
@@ -120,6 +122,7 @@ splits_on basis old new before after value may leaves tells alike stands was is 
       nearer = omega (arith, none_to_bucket after.walk.phase value is);
       fewer = omega (arith, by_one);
       by_one = inl by_one;
+      down = inr (inl (goes_down basis old new before.walk after.walk clean (agrees old clean may.walks.may may.walks.file.is_clean) may.walks.file.form may.walks.stands (is_putting before.walk.phase value was) tells));
     }
 
 -- **Where its walk goes on, so does the operation.**
@@ -185,5 +188,6 @@ puts basis old new before after may leaves tells request told = by before.walk.p
           nearer = omega (arith, ap steps_to_bucket phase);
           fewer = omega (arith, last, left, put_is_left (depth - bucket_depth (view_of old) bucket) (bucket_depth (view_of old) bucket) (directory_depth (view_of old) basis.root));
           by_one = inr (record { value = value; bucket = bucket; room_depth = depth; was = behind; is = phase });
+          down = inr (inr (record { value = value; bucket = bucket; room_depth = depth; was = behind; is = phase }));
         }
     by other is never = absurd never

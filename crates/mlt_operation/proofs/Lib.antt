@@ -1,5 +1,6 @@
 pub mod AtBucket
 pub mod Deciding
+pub mod Depths
 pub mod Going
 pub mod MostSteps
 pub mod Performing

@@ -152,6 +152,7 @@ found_tells basis old mid new before at after found told may leaves tells reques
           nearer = omega (arith, finishes.last);
           fewer = omega (arith, by_one);
           by_one = inl by_one;
+          down = inl (omega (arith, was));
         })
     by step.Going (inr (inl splits)) =
         inr (inl (record {

@@ -21,6 +21,7 @@ use Rattle.mlt_hash.specs.declared.pass.Phase.TheVariants as at
 use Rattle.mlt_operation.specs.declared.answer.StepAnswer.{StepAnswer}
 use Rattle.mlt_operation.specs.declared.answer.StepAnswer.TheVariants as answer
 use Rattle.mlt_operation.specs.Operating.{AsksToAdd, IsOperating, OperationFields, steps_left}
+use Rattle.mlt_operation.specs.Depths.{GoesDown}
 use Rattle.mlt_operation.specs.PageTurns.{TakesTurn, TurnsBack}
 
 -- it had split its bucket, and puts its record, where there may be room before it is split as far as it was meant to be
@@ -32,7 +33,7 @@ pub record PutsBehindSplits (before after : OperationFields) : Type 0 where
   pub is : after.walk.phase ≡ at.Changed bucket (change.Put value)
 
 -- It goes on within its pass, and never back from its bucket. One step fewer is left, or still fewer, where there is room
--- early.
+-- early. Behind its bucket it splits, each time once, or puts its record.
 pub record StepsOn (basis : Basis) (old new : Moment) (before after : OperationFields) : Type 0 where
   pub turn : TakesTurn old new
   pub request : after.request ≡ before.request
@@ -42,6 +43,9 @@ pub record StepsOn (basis : Basis) (old new : Moment) (before after : OperationF
   pub fewer : steps_left basis.root after (view_of new) < steps_left basis.root before (view_of old)
   pub by_one : (steps_left basis.root after (view_of new) + 1
       ≡ steps_left basis.root before (view_of old)) ⊎ PutsBehindSplits before after
+  pub down : (0 < steps_to_bucket before.walk.phase)
+      ⊎ GoesDown basis.root before.walk after.walk (view_of old) (view_of new)
+      ⊎ PutsBehindSplits before after
 
 -- It has reached its bucket, and found no record there.
 pub record ReachesBucket (basis : Basis) (m : Moment) (before : OperationFields) (walk : WalkFields)

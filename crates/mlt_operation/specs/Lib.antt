@@ -1,5 +1,6 @@
 pub mod Requests
 pub mod Performing
+pub mod Depths
 pub mod Operating
 pub mod PageTurns
 pub mod Answers
