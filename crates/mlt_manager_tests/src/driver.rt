@@ -120,7 +120,8 @@ fn are_told<P: Pseudo>(
     Ok(())
 }
 
-fn are_seen<P: Pseudo>(
+/// All this is to be seen of a manager.
+pub fn are_seen<P: Pseudo>(
     rt: &impl Abort,
     alloc: Global,
     manager: &Manager<P>,

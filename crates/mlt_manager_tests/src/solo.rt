@@ -161,26 +161,47 @@ else\nbalance 1\nend\ncommit\n";
     writes(&rt, rt.alloc(), scripts, Limits::program(), wanted)
 }
 
-// These scripts are refused for this, and a writer that takes so many bytes has this text then.
-fn refused<R: Read>(
+// What this reader gives is refused for this, and a writer that takes so many bytes has this text then.
+fn refused<R: Read, P: Pseudo + Drop>(
     rt: &impl Abort,
     alloc: Global,
     reader: &mut R,
     limit: usize,
+    pseudo: P,
     refusal: Refusal,
     text: &str,
 ) {
     let mut writer = OneByte::new(limit);
-    let found = solo(alloc, reader, &mut writer, Limits::program(), Mult).err();
+    let found = match solo(alloc, reader, &mut writer, Limits::program(), pseudo) {
+        Ok(manager) => {
+            manager.close();
+            None
+        }
+        Err(refusal) => Some(refusal),
+    };
     same(rt, &found, &Some(refusal));
     same(rt, &writer.written(), &text.as_bytes());
 }
 
+// These scripts are refused for this, with either function to pseudokeys.
+fn refuses(
+    rt: &impl Abort,
+    alloc: Global,
+    scripts: &[u8],
+    limit: usize,
+    refusal: Refusal,
+    text: &str,
+) {
+    let mut input = scripts;
+    refused(rt, alloc, &mut input, limit, Mult, refusal, text);
+    let mut again = scripts;
+    refused(rt, alloc, &mut again, limit, Low, refusal, text);
+}
+
 // The scripts have this first fault, and nothing is written.
 fn faults(rt: &impl Abort, alloc: Global, scripts: &[u8], line: u64, cause: ScriptCause) {
-    let mut input = scripts;
     let fault = Refusal::ScriptFault { line, cause };
-    refused(rt, alloc, &mut input, 64, fault, "");
+    refuses(rt, alloc, scripts, 64, fault, "");
 }
 
 #[test]
@@ -233,14 +254,13 @@ fn line_limits(rt: HostRuntime) -> Result<(), Refusal> {
 
 #[test]
 fn one_byte_writer(rt: HostRuntime) {
-    let mut input = FIRST_RUN;
-    refused(&rt, rt.alloc(), &mut input, 5, Refusal::Io, "opene");
+    refuses(&rt, rt.alloc(), FIRST_RUN, 5, Refusal::Io, "opene");
 }
 
 #[test]
 fn failing_reader(rt: HostRuntime) {
     let mut reader = Failing::new(FIRST_RUN);
-    refused(&rt, rt.alloc(), &mut reader, 64, Refusal::Io, "");
+    refused(&rt, rt.alloc(), &mut reader, 64, Mult, Refusal::Io, "");
 }
 
 // The whole text, and those where the script was refused memory behind some of its replies.

@@ -1,9 +1,15 @@
-//! Splits step by step, beside readers and under aborts.
+//! Splits step by step, beside readers, under aborts, and where a growth is refused.
 
 use crate::buckets::{DEEP, DEEP_TEXT, LOWEST, LOWEST_TEXT};
-use crate::driver::runs;
+use crate::checks::same;
+use crate::driver::{are_seen, runs};
 use crate::schedule::{Part, Schedule, Sight};
-use mlt_types::{Limits, Low, Refusal};
+use mlt_event::Answer;
+use mlt_kinds::{AccountOp, ObjOp, ObjReply};
+use mlt_manager::Manager;
+use mlt_types::{Limits, Low, Refusal, TxId};
+use std::alloc::Global;
+use std::process::Abort;
 
 const SPLIT_WAITS: Schedule = Schedule {
     parts: &[
@@ -139,4 +145,58 @@ const BEHIND_READER: Schedule = Schedule {
 fn narrow_split_beside_reader(rt: HostRuntime) -> Result<(), Refusal> {
     runs(&rt, rt.alloc(), Limits::program(), Low, &BESIDE_READER)?;
     runs(&rt, rt.alloc(), Limits::program(), Low, &BEHIND_READER)
+}
+
+// The transaction makes this account.
+fn opens(
+    rt: &impl Abort,
+    manager: &mut Manager<Low>,
+    tx: TxId,
+    account: u32,
+) -> Result<(), Refusal> {
+    match manager.whole(tx, ObjOp::Account(account, AccountOp::Open))? {
+        Answer::Refused(refusal) => Err(refusal),
+        answer => {
+            same(rt, &answer, &Answer::Done(ObjReply::Opened));
+            Ok(())
+        }
+    }
+}
+
+const UNSPLIT: &[Sight] = &[Sight::Base(LOWEST_TEXT), Sight::Depth(0)];
+
+const SPLIT: &[Sight] = &[Sight::Base(LOWEST_TEXT), Sight::Depth(1)];
+
+// The lowest accounts fill a bucket, and account 32768 splits it. Where that is refused a growth, the base and the
+// depth are the same; and asked for again, the account is made.
+fn ninth_opens(rt: &impl Abort, alloc: Global, manager: &mut Manager<Low>) -> Result<(), Refusal> {
+    let first = manager.begin()?;
+    for account in 0..8 {
+        opens(rt, manager, first, account)?;
+    }
+    manager.commit(first)?;
+    let second = manager.begin()?;
+    if let Err(refusal) = opens(rt, manager, second, 32768) {
+        same(rt, &refusal, &Refusal::OutOfMemory);
+        are_seen(rt, alloc, manager, UNSPLIT)?;
+        opens(rt, manager, second, 32768)?;
+    }
+    are_seen(rt, alloc, manager, SPLIT)
+}
+
+fn ninth_opens_anew(rt: &impl Abort, alloc: Global) -> Result<(), Refusal> {
+    let mut manager = Manager::new(alloc, Limits::program(), Low)?;
+    let result = ninth_opens(rt, alloc, &mut manager);
+    manager.close();
+    result
+}
+
+// Each growth is refused in turn by runs of `rt try`. Where the one that is refused comes before the split or behind it,
+// all is done once more.
+#[test]
+fn growth_refused_in_split(rt: HostRuntime) -> Result<(), Refusal> {
+    match ninth_opens_anew(&rt, rt.alloc()) {
+        Err(Refusal::OutOfMemory) => ninth_opens_anew(&rt, rt.alloc()),
+        result => result,
+    }
 }
