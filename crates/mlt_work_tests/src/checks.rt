@@ -13,12 +13,13 @@ use std::process::Abort;
 use std::sync::Wait;
 use std::thread::Threads;
 
-/// The text of the report of these scripts, run by that many workers.
+/// The text of the report of these scripts, run by that many workers, with that many tries for each script.
 pub fn text_of<R: Threads + Wait + Sync + Abort, G: Gate + Sync>(
     rt: &R,
     alloc: Global,
     scripts: &[u8],
     workers: usize,
+    tries: u64,
     gate: &G,
 ) -> Result<Vec<u8>, Refusal>
     requires some { 0 < workers }
@@ -32,7 +33,7 @@ pub fn text_of<R: Threads + Wait + Sync + Abort, G: Gate + Sync>(
         Mult,
         clients.as_slice(),
         workers,
-        10_000,
+        tries,
         gate,
     )?;
     assert_eq!(rt; report.events, manager.events());

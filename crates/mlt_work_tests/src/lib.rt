@@ -5,6 +5,8 @@
 #[cfg(test)]
 mod checks;
 #[cfg(test)]
+mod gates;
+#[cfg(test)]
 mod rows;
 #[cfg(test)]
 mod tries;

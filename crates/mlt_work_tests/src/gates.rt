@@ -1,0 +1,82 @@
+//! Gates by which tests hold clients.
+
+use mlt_event::{Answer, Told};
+use mlt_lock_desk::Gate;
+use std::hint::spin_loop;
+use std::sync::atomic::{AtomicBool, Ordering};
+
+/// How often a test looks before it lets go.
+const MOST_TURNS: u32 = 200_000_000;
+
+/// Holds who comes to it until it is opened.
+#[derive(Drop)]
+pub struct Latch {
+    open: AtomicBool,
+    late: AtomicBool,
+}
+
+impl Latch {
+    pub fn new() -> Latch {
+        Latch {
+            open: AtomicBool::new(false),
+            late: AtomicBool::new(false),
+        }
+    }
+
+    fn open(&self) {
+        self.open.store(true, Ordering::SeqCst);
+    }
+
+    fn hold(&self) {
+        for _ in 0..MOST_TURNS {
+            if self.open.load(Ordering::SeqCst) {
+                return;
+            }
+            spin_loop();
+        }
+        self.late.store(true, Ordering::SeqCst);
+    }
+
+    /// Whether somebody was let go before it was opened.
+    pub fn is_late(&self) -> bool {
+        self.late.load(Ordering::SeqCst)
+    }
+}
+
+/// Holds client 1 after its first Going until client 2 was told Committed.
+#[derive(Drop)]
+pub struct SecondCommits {
+    pub commit: Latch,
+}
+
+impl Gate for SecondCommits {
+    fn pause(&self, client: u32, told: &Told) {
+        match told {
+            Told::Committed(_) if client == 2 => self.commit.open(),
+            Told::Answered(Answer::Going) if client == 1 => self.commit.hold(),
+            _ => (),
+        }
+    }
+}
+
+/// Holds client 2 after its begin until client 1 has done its operation, and then client 1 until client 2 is taken back. So
+/// client 2 asks for its operation while client 1 has its lock.
+#[derive(Drop)]
+pub struct SecondGivesUp {
+    pub lock: Latch,
+    pub abort: Latch,
+}
+
+impl Gate for SecondGivesUp {
+    fn pause(&self, client: u32, told: &Told) {
+        match told {
+            Told::Begun(_) if client == 2 => self.lock.hold(),
+            Told::Answered(Answer::Done(_)) if client == 1 => {
+                self.lock.open();
+                self.abort.hold();
+            }
+            Told::Aborting(true) if client == 2 => self.abort.open(),
+            _ => (),
+        }
+    }
+}
