@@ -3,18 +3,14 @@
 ghost use Rattle.std.specs.Prelude.{◌≤◌, ◌<◌};
 
 use mlt_lock_desk::Gate;
-use mlt_script::parse;
-use mlt_serial::{Form, write_report};
-use mlt_tree::by_client;
+use mlt_run::run_scripts;
 use mlt_types::{Limits, Mult, Refusal};
-use mlt_work::run;
 use std::alloc::Global;
-use std::process::Abort;
 use std::sync::Wait;
 use std::thread::Threads;
 
-/// The text of the report of these scripts, run by that many workers, with that many tries for each script.
-pub fn text_of<R: Threads + Wait + Sync + Abort, G: Gate + Sync>(
+/// What is written of these scripts, run by that many workers, with that many tries for each script.
+pub fn text_of<R: Threads + Wait + Sync, G: Gate + Sync>(
     rt: &R,
     alloc: Global,
     scripts: &[u8],
@@ -25,19 +21,19 @@ pub fn text_of<R: Threads + Wait + Sync + Abort, G: Gate + Sync>(
     requires some { 0 < workers }
     requires most { workers ≤ 8 }
 {
-    let clients = by_client(alloc, parse(alloc, scripts)?)?;
-    let (report, manager) = run(
+    let mut reader = scripts;
+    let mut text = Vec::new(alloc);
+    let manager = run_scripts(
         rt,
         alloc,
+        &mut reader,
+        &mut text,
         Limits::program(),
         Mult,
-        clients.as_slice(),
         workers,
         tries,
         gate,
     )?;
-    assert_eq!(rt; report.events, manager.events());
-    let mut text = Vec::new(alloc);
-    write_report(alloc, &report, Form::Run, &mut text)?;
+    manager.close();
     Ok(text)
 }
