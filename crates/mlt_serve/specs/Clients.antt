@@ -1,6 +1,16 @@
 -- Whose receipts they are.
-use Rattle.std.specs.Prelude.{ℕ, ◌≤◌, List, All}
+use Rattle.std.specs.Prelude.{◌≡◌, ℕ, ◌≤◌, ◌++◌, List, All}
 use Rattle.mlt_serial.specs.declared.outcome.Outcome.{Outcome}
+
+-- the receipt is that of this client
+abbrev pub IsOf : ℕ → Outcome → Type 0
+IsOf client o = o.client ≡ client
+
+-- to these receipts others were added at the end, all of this client
+pub record GrowsFor (client : ℕ) (before after : List Outcome) : Type 0 where
+  pub more : List Outcome
+  pub appended : after ≡ before ++ more
+  pub of_client : All (IsOf client) more
 
 -- the receipt is that of one of the first connections, which have the numbers from 1 to the limit
 abbrev pub IsOfClient : ℕ → Outcome → Type 0

@@ -1,6 +1,7 @@
 //! What one thread serves.
 
-ghost use Rattle.std.specs.Prelude.{◌≡◌, ◌-◌, ◌^◌, [], min};
+ghost use Rattle.std.specs.Prelude.{◌≡◌, ◌+◌, ◌-◌, ◌^◌, [], false, min};
+ghost use Rattle.mlt_serve.specs.Clients.{GrowsFor};
 
 use crate::accepting::Visit;
 use crate::talking::talk;
@@ -57,7 +58,13 @@ impl<L: Ledger> Served<L> {
         shared: &Shared<P, L>,
         tries: u64,
         visit: Visit,
-    ) -> bool {
+    ) -> bool
+        ensures receipts { GrowsFor visit.client
+            self.old.receipts.items self.new.receipts.items }
+        ensures connections { self.new.connections ≡ min (self.old.connections + 1) (2 ^ 64 - 1) }
+        ensures short { self.new.is_short ≡ false
+            → (self.old.is_short ≡ false) × (result ≡ false) }
+    {
         let Served {
             share,
             events,

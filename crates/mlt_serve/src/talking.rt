@@ -1,5 +1,7 @@
 //! What is said over one connection.
 
+ghost use Rattle.mlt_serve.specs.Clients.{GrowsFor};
+
 use mlt_desk::Desk;
 use mlt_serial::Outcome;
 use mlt_types::Refusal;
@@ -7,15 +9,17 @@ use mlt_wire::session;
 use std::alloc::Global;
 use std::net::TcpStream;
 
-/// Talks over a connection by a session at the desk. It answers whether the session was refused a growth; any other end of
-/// it is an end of this connection alone.
+/// Talks over a connection by a session at the desk, which adds receipts of this client alone. It answers whether the session
+/// was refused a growth; any other end of it is an end of this connection alone.
 pub(crate) fn talk<D: Desk>(
     alloc: Global,
     stream: &TcpStream,
     desk: &mut D,
     client: u32,
     receipts: &mut Vec<Outcome>,
-) -> bool {
+) -> bool
+    ensures { GrowsFor client receipts.old.items receipts.new.items }
+{
     // Without this an answer may be held back; where it fails it still comes.
     let _ = stream.set_nodelay(true);
     let mut reader = stream;
