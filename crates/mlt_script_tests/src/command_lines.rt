@@ -285,18 +285,12 @@ fn asked_of(job: &Job) -> Asked<'_> {
     match job {
         Job::Solo(run) => asked_of_run("solo", run, NONE),
         Job::Steps(run) => asked_of_run("steps", run, NONE),
-        Job::Work(work) => {
-            asked_of_run("run", &work.run, [work.workers as u64, work.tries, 0])
-        }
+        Job::Work(work) => { asked_of_run("run", &work.run, [work.workers as u64, work.tries, 0]) }
         Job::Check { file } => ("check", file.as_str(), None, None, NONE),
         Job::Serve(serve) => asked_of_run(
             "serve",
             &serve.run,
-            [
-                serve.sessions as u64,
-                u64::from(serve.limit),
-                serve.tries,
-            ],
+            [serve.sessions as u64, u64::from(serve.limit), serve.tries],
         ),
     }
 }
@@ -334,8 +328,11 @@ fn jobs(rt: HostRuntime) -> Result<(), Fail> {
         ),
         (&["check", "-"], ("check", "-", None, None, NONE)),
         (&["check", "solo"], ("check", "solo", None, None, NONE)),
-        (&["check", "--", "--hash"], ("check", "--hash", None, None, NONE)),
-            (
+        (
+            &["check", "--", "--hash"],
+            ("check", "--hash", None, None, NONE),
+        ),
+        (
             &["run", "a.txt"],
             ("run", "a.txt", MULT, None, [4, 10_000, 0]),
         ),
@@ -344,7 +341,14 @@ fn jobs(rt: HostRuntime) -> Result<(), Fail> {
             ("run", "a.txt", MULT, None, [1, 1, 0]),
         ),
         (
-            &["run", "-", "--tries=1000000", "--workers=8", "--hash", "low"],
+            &[
+                "run",
+                "-",
+                "--tries=1000000",
+                "--workers=8",
+                "--hash",
+                "low",
+            ],
             ("run", "-", LOW, None, [8, 1_000_000, 0]),
         ),
         (
@@ -368,7 +372,14 @@ fn jobs(rt: HostRuntime) -> Result<(), Fail> {
             ("serve", "a", MULT, None, [8, 1, 7]),
         ),
         (
-            &["serve", "--hash", "low", "--trace=b.txt", "--sessions=1", "a"],
+            &[
+                "serve",
+                "--hash",
+                "low",
+                "--trace=b.txt",
+                "--sessions=1",
+                "a",
+            ],
             ("serve", "a", LOW, Some("b.txt"), [1, 1, 10_000]),
         ),
         (&["serve", "-"], ("serve", "-", MULT, None, [8, 1, 10_000])),
