@@ -80,3 +80,25 @@ impl Gate for SecondGivesUp {
         }
     }
 }
+
+/// Holds client 2 after its begin until client 1 has done its operation, and then client 1 until client 2 was told Blocked.
+/// So client 2 has to wait for the end of client 1.
+#[derive(Drop)]
+pub struct SecondIsBlocked {
+    pub lock: Latch,
+    pub block: Latch,
+}
+
+impl Gate for SecondIsBlocked {
+    fn pause(&self, client: u32, told: &Told) {
+        match told {
+            Told::Begun(_) if client == 2 => self.lock.hold(),
+            Told::Answered(Answer::Done(_)) if client == 1 => {
+                self.lock.open();
+                self.block.hold();
+            }
+            Told::Answered(Answer::Blocked { by: _ }) if client == 2 => self.block.open(),
+            _ => (),
+        }
+    }
+}

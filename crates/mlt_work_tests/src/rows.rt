@@ -1,7 +1,7 @@
 //! Clients side by side, and one client's scripts in order.
 
 use crate::checks::text_of;
-use crate::gates::{Latch, SecondCommits, SecondGivesUp};
+use crate::gates::{Latch, SecondCommits, SecondGivesUp, SecondIsBlocked};
 use mlt_lock_desk::NoGate;
 use mlt_types::Refusal;
 
@@ -14,6 +14,9 @@ const ONE_ACCOUNT: &[u8] = b"begin 1\nopen 1\ncommit\nbegin 2\nbalance 1\ncommit
 
 const SECOND_GAVE_UP: &[u8] =
     b"client 1 script 1\nopened\ncommitted 1\nclient 2 script 1\nrefused 14 GaveUp\naborted\naccount 1 0\n";
+
+const SECOND_WAITS: &[u8] =
+    b"client 1 script 1\nopened\ncommitted 1\nclient 2 script 1\nis 0\ncommitted 2\naccount 1 0\n";
 
 const TWO_SCRIPTS: &[u8] = b"begin\nup 7 1\ncommit\nbegin\nneed read 7 is 1\ncommit\n";
 
@@ -45,6 +48,20 @@ fn a_blocked_client_gives_up(rt: HostRuntime) -> Result<(), Refusal> {
     assert!(rt; !gate.lock.is_late());
     assert!(rt; !gate.abort.is_late());
     assert!(rt; text.as_slice() == SECOND_GAVE_UP);
+    Ok(())
+}
+
+/// With tries left, client 2 waits at its Blocked, and goes on once client 1 has committed.
+#[test]
+fn a_blocked_client_waits(rt: HostRuntime) -> Result<(), Refusal> {
+    let gate = SecondIsBlocked {
+        lock: Latch::new(),
+        block: Latch::new(),
+    };
+    let text = text_of(&rt, rt.alloc(), ONE_ACCOUNT, 2, MANY_TRIES, &gate)?;
+    assert!(rt; !gate.lock.is_late());
+    assert!(rt; !gate.block.is_late());
+    assert!(rt; text.as_slice() == SECOND_WAITS);
     Ok(())
 }
 
