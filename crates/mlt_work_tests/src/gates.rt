@@ -59,45 +59,42 @@ impl Gate for SecondCommits {
     }
 }
 
-/// Holds client 2 after its begin until client 1 has done its operation, and then client 1 until client 2 is taken back. So
-/// client 2 asks for its operation while client 1 has its lock.
+/// What client 2 comes to before client 1 goes on.
 #[derive(Drop)]
-pub struct SecondGivesUp {
-    pub lock: Latch,
-    pub abort: Latch,
+pub enum Until {
+    /// It was told that it is blocked.
+    Blocked,
+    /// It was taken back.
+    TakenBack,
 }
 
-impl Gate for SecondGivesUp {
-    fn pause(&self, client: u32, told: &Told) {
-        match told {
-            Told::Begun(_) if client == 2 => self.lock.hold(),
-            Told::Answered(Answer::Done(_)) if client == 1 => {
-                self.lock.open();
-                self.abort.hold();
-            }
-            Told::Aborting(true) if client == 2 => self.abort.open(),
-            _ => (),
+impl Until {
+    fn is_met(&self, told: &Told) -> bool {
+        match self {
+            Until::Blocked => matches!(told, Told::Answered(Answer::Blocked { by: _ })),
+            Until::TakenBack => matches!(told, Told::Aborting(true)),
         }
     }
 }
 
-/// Holds client 2 after its begin until client 1 has done its operation, and then client 1 until client 2 was told Blocked.
-/// So client 2 has to wait for the end of client 1.
+/// Holds client 2 after its begin until client 1 has done its operation, and then client 1 until client 2 has come so far. So
+/// client 2 asks for its operation while client 1 has its lock.
 #[derive(Drop)]
-pub struct SecondIsBlocked {
+pub struct SecondMeetsLock {
     pub lock: Latch,
-    pub block: Latch,
+    pub until: Until,
+    pub meeting: Latch,
 }
 
-impl Gate for SecondIsBlocked {
+impl Gate for SecondMeetsLock {
     fn pause(&self, client: u32, told: &Told) {
         match told {
             Told::Begun(_) if client == 2 => self.lock.hold(),
             Told::Answered(Answer::Done(_)) if client == 1 => {
                 self.lock.open();
-                self.block.hold();
+                self.meeting.hold();
             }
-            Told::Answered(Answer::Blocked { by: _ }) if client == 2 => self.block.open(),
+            _ if client == 2 && self.until.is_met(told) => self.meeting.open(),
             _ => (),
         }
     }

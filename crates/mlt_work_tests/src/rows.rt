@@ -1,7 +1,7 @@
 //! Clients side by side, and one client's scripts in order.
 
 use crate::checks::text_of;
-use crate::gates::{Latch, SecondCommits, SecondGivesUp, SecondIsBlocked};
+use crate::gates::{Latch, SecondCommits, SecondMeetsLock, Until};
 use mlt_lock_desk::NoGate;
 use mlt_types::Refusal;
 
@@ -40,13 +40,14 @@ fn two_workers_at_once(rt: HostRuntime) -> Result<(), Refusal> {
 /// With one try, client 2 gives up at its first Blocked. Client 1 has the lock, and commits after it.
 #[test]
 fn a_blocked_client_gives_up(rt: HostRuntime) -> Result<(), Refusal> {
-    let gate = SecondGivesUp {
+    let gate = SecondMeetsLock {
         lock: Latch::new(),
-        abort: Latch::new(),
+        until: Until::TakenBack,
+        meeting: Latch::new(),
     };
     let text = text_of(&rt, rt.alloc(), ONE_ACCOUNT, 2, 1, &gate)?;
     assert!(rt; !gate.lock.is_late());
-    assert!(rt; !gate.abort.is_late());
+    assert!(rt; !gate.meeting.is_late());
     assert!(rt; text.as_slice() == SECOND_GAVE_UP);
     Ok(())
 }
@@ -54,13 +55,14 @@ fn a_blocked_client_gives_up(rt: HostRuntime) -> Result<(), Refusal> {
 /// With tries left, client 2 waits at its Blocked, and goes on once client 1 has committed.
 #[test]
 fn a_blocked_client_waits(rt: HostRuntime) -> Result<(), Refusal> {
-    let gate = SecondIsBlocked {
+    let gate = SecondMeetsLock {
         lock: Latch::new(),
-        block: Latch::new(),
+        until: Until::Blocked,
+        meeting: Latch::new(),
     };
     let text = text_of(&rt, rt.alloc(), ONE_ACCOUNT, 2, MANY_TRIES, &gate)?;
     assert!(rt; !gate.lock.is_late());
-    assert!(rt; !gate.block.is_late());
+    assert!(rt; !gate.meeting.is_late());
     assert!(rt; text.as_slice() == SECOND_WAITS);
     Ok(())
 }
