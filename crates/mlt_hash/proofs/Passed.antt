@@ -25,7 +25,7 @@ use Rattle.mlt_split.specs.declared.split.SplitAnswer.TheVariants as split_answe
 use Rattle.mlt_split.proofs.HeldPages.{exclusive_after_make, grows_by_make}
 use Rattle.mlt_split.proofs.Locks.{locks_its_page_alone}
 use Rattle.mlt_split.proofs.Narrow.{narrow_leaves_header, narrow_makes_none, narrow_next_page}
-use Rattle.mlt_hash.specs.Passes.{bucket_held, bucket_mode, directory_held, directory_mode, header_held, header_mode}
+use Rattle.mlt_hash.specs.Passes.{MayHoldMore, bucket_held, bucket_mode, directory_held, directory_mode, header_held, header_mode}
 use Rattle.mlt_hash.specs.Walks.{Basis, HasPassed, HoldsByPass, IsAtBucket, IsSplitting, StaysNarrow, WalkFields, aim_of, dir_of}
 use Rattle.mlt_hash.specs.declared.pass.Pass.{Pass}
 use Rattle.mlt_hash.specs.declared.pass.Pass.TheVariants as pass
@@ -105,11 +105,11 @@ passed_at_bucket basis walk view bucket depth found here =
     }
 
 -- What a walk's own step does to what it has read: all that was seen is seen, and a page that changes its mode is held
--- exclusively, and was so, or is made, unless the pass is wide.
+-- exclusively, and was so, or is one more that the pass may hold.
 pub record StepsOn (walk : WalkFields) (old new : View) : Type 0 where
   pub before : (q : ℕ) (first : Option Page) → old.seen q ≡ Some first → new.seen q ≡ Some first
   pub modes : (q : ℕ) → (map.get new.modes q ≡ map.get old.modes q)
-      ⊎ ((map.get new.modes q ≡ Some Exclusive) × ((walk.pass ≡ pass.Wide) ⊎ ((map.get old.modes q ≡ Some Exclusive) ⊎ (new.seen q ≡ Some None))))
+      ⊎ ((map.get new.modes q ≡ Some Exclusive) × ((map.get old.modes q ≡ Some Exclusive) ⊎ MayHoldMore walk.pass (new.seen q)))
 
 module _ (basis : Basis) (walk : WalkFields) (old new : View) (step : StepsOn walk old new) where
   keeps_mode : (q : ℕ) (mode : Mode) (p : Page) → old.seen q ≡ Some (Some p) → (walk.pass ≡ pass.Wide → mode ≡ Exclusive) → map.get old.modes q ≡ Some mode → map.get new.modes q ≡ Some mode
@@ -117,29 +117,38 @@ module _ (basis : Basis) (walk : WalkFields) (old new : View) (step : StepsOn wa
       elim (step.modes q) [
         | inl same ↦ same ∙ held
         | inr locked ↦ elim locked.1 [
-          | inl is ↦ locked.0 ∙ ap Some (sym (wide is))
-          | inr other ↦ elim other [
-            | inl was ↦ locked.0 ∙ sym was ∙ held
-            | inr made ↦ let none : Some None ≡ Some (Some p) = sym made ∙ step.before q (Some p) sees in cc
-          ]
+          | inl was ↦ locked.0 ∙ sym was ∙ held
+          | inr more ↦ by walk.pass refl more
         ]
       ]
+    where
+      by : (at : Pass) → walk.pass ≡ at → MayHoldMore at (new.seen q) → map.get new.modes q ≡ Some mode
+      by pass.First is none = absurd none
+      by pass.Narrow is made = let none : Some None ≡ Some (Some p) = sym made ∙ step.before q (Some p) sees in cc
+      by pass.Wide is any =
+          elim (step.modes q) [
+            | inl same ↦ same ∙ held
+            | inr locked ↦ locked.0 ∙ ap Some (sym (wide is))
+          ]
+
+  -- what a pass held beside its way it may still hold
+  holds_on : (q : ℕ) (at : Pass) → MayHoldMore at (old.seen q) → MayHoldMore at (new.seen q)
+  holds_on q pass.First none = none
+  holds_on q pass.Narrow made = step.before q None made
+  holds_on q pass.Wide any = any
 
   keeps_others : (root dir bucket : ℕ) → HoldsByPass walk root dir bucket old → (q : ℕ) → q ≢ root → q ≢ dir → q ≢ bucket → is_some (map.get new.modes q) ≡ true
-      → (map.get new.modes q ≡ Some Exclusive) × ((walk.pass ≡ pass.Wide) ⊎ (new.seen q ≡ Some None))
+      → (map.get new.modes q ≡ Some Exclusive) × MayHoldMore walk.pass (new.seen q)
   keeps_others root dir bucket holds q away further last some =
       elim (step.modes q) [
         | inl same ↦
             let was = holds.others q away further last (sym (ap is_some same) ∙ some) in
-            (same ∙ was.0, elim was.1 [ inl wide ↦ inl wide | inr made ↦ inr (step.before q None made) ])
+            (same ∙ was.0, holds_on q walk.pass was.1)
         | inr locked ↦ (
           locked.0,
           elim locked.1 [
-            | inl wide ↦ inl wide
-            | inr other ↦ elim other [
-              | inl was ↦ elim (holds.others q away further last (ap is_some was)).1 [ inl wide ↦ inl wide | inr made ↦ inr (step.before q None made) ]
-              | inr made ↦ inr made
-            ]
+            | inl was ↦ holds_on q walk.pass (holds.others q away further last (ap is_some was)).1
+            | inr more ↦ more
           ],
         )
       ]
@@ -172,15 +181,20 @@ steps_by_write walk old new q p writes = record {
   modes = λ r. inl (ap (λ (modes : Modes). map.get modes r) writes.modes);
 }
 
--- and so is one that makes a page
-pub steps_by_making : (walk : WalkFields) (old new : View) (q : ℕ) (p : Page) → MakesPage old new q p → StepsOn walk old new
-steps_by_making walk old new q p makes = record {
+-- and so is one that makes a page, in a later pass
+pub steps_by_making : (walk : WalkFields) (old new : View) (q : ℕ) (p : Page) → (walk.pass ≡ pass.First → ⊥) → MakesPage old new q p → StepsOn walk old new
+steps_by_making walk old new q p later makes = record {
   before = grows_by_make old new q p makes;
   modes = λ r. elim (cases_eq r q) [
-    | inl here ↦ inr (subst (λ (r : ℕ). (map.get new.modes r ≡ Some Exclusive) × ((walk.pass ≡ pass.Wide) ⊎ ((map.get old.modes r ≡ Some Exclusive) ⊎ (new.seen r ≡ Some None)))) (sym here) (exclusive_after_make old new q p makes, inr (inr makes.seen_here)))
+    | inl here ↦ inr (subst (λ (r : ℕ). (map.get new.modes r ≡ Some Exclusive) × ((map.get old.modes r ≡ Some Exclusive) ⊎ MayHoldMore walk.pass (new.seen r))) (sym here) (exclusive_after_make old new q p makes, inr (made_more walk.pass later (new.seen q) makes.seen_here)))
     | inr elsewhere ↦ inl (ap (λ (modes : Modes). map.get modes r) makes.modes ∙ mode_of_others old.modes q Exclusive r elsewhere)
   ];
 }
+  where
+    made_more : (at : Pass) → (at ≡ pass.First → ⊥) → (seen : Option (Option Page)) → seen ≡ Some None → MayHoldMore at seen
+    made_more pass.First not_first seen made = absurd (not_first refl)
+    made_more pass.Narrow not_first seen made = made
+    made_more pass.Wide not_first seen made = tt
 
 same_head : (a b : HeadFields) → Some (page.Head a) ≡ Some (page.Head b) → a ≡ b
 same_head a b same = cc
@@ -221,11 +235,11 @@ module _ (basis : Basis) (walk : WalkFields) (old new : Moment) (room_depth : �
       ∙ narrow.unwritten
 
   module _ (later : walk.pass ≡ pass.First → ⊥) (narrow : walk.pass ≡ pass.Narrow → StaysNarrow basis.root (view_of old) room_depth split.depth split.directory_depth) (touches : TouchesOnePage old new) (done : IsDone split.phase aim old new split) where
-    why : (p : Pass) → walk.pass ≡ p → (q : ℕ) → IsNextPage split.phase aim (view_of old) q ⊎ IsMaking split.phase → (walk.pass ≡ pass.Wide) ⊎ ((map.get (view_of old).modes q ≡ Some Exclusive) ⊎ ((view_of new).seen q ≡ Some None))
+    why : (p : Pass) → walk.pass ≡ p → (q : ℕ) → IsNextPage split.phase aim (view_of old) q ⊎ IsMaking split.phase → (map.get (view_of old).modes q ≡ Some Exclusive) ⊎ MayHoldMore p ((view_of new).seen q)
     why pass.First is q locked = absurd (later is)
-    why pass.Narrow is q (inl next) = inr (inl (narrow_holds basis walk (view_of old) room_depth split clean agree form way found passed (narrow is) is q next))
+    why pass.Narrow is q (inl next) = inl (narrow_holds basis walk (view_of old) room_depth split clean agree form way found passed (narrow is) is q next)
     why pass.Narrow is q (inr making) = absurd (narrow_makes_none aim (view_of old) split clean agree form way (in_place basis walk (view_of old) room_depth split clean agree form way found passed (narrow is)) making)
-    why pass.Wide is q locked = inl is
+    why pass.Wide is q locked = inr tt
 
     -- **A step of the splits of a pass.**
     pub steps_by_split : StepsOn walk (view_of old) (view_of new)

@@ -266,7 +266,7 @@ begins_split basis walk after old new value n room_depth unsplit split made may 
     let here : IsSplitting basis (record walk { phase = at.Splitting value room_depth; split = Some split }) (view_of new) room_depth = record {
       split = split;
       split_is = refl;
-      passed = passed_as basis basis.opens walk (at.Splitting value room_depth) (Some split) (view_of new) None (passes_on basis walk (view_of old) (view_of new) (steps_by_making walk (view_of old) (view_of new) split.new_page made made_there) None adds.passed);
+      passed = passed_as basis basis.opens walk (at.Splitting value room_depth) (Some split) (view_of new) None (passes_on basis walk (view_of old) (view_of new) (steps_by_making walk (view_of old) (view_of new) split.new_page made adds.later made_there) None adds.passed);
       shallow = let most = adds.shallow in omega (arith, most, depth);
       under_way = under_way;
       most = adds.most;

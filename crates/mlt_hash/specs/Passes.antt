@@ -3,6 +3,7 @@ use Rattle.std.specs.Prelude.{ℕ, ◌≡◌, ◌<◌, ◌≤◌, ◌+◌, ◌�
 use Rattle.std.specs.FinMap as map
 use Rattle.mlt_types.specs.declared.mode.Mode.{Mode}
 use Rattle.mlt_types.specs.declared.mode.Mode.TheVariants.{Shared, Exclusive}
+use Rattle.mlt_page.specs.declared.page.Page.{Page}
 use Rattle.mlt_page.specs.declared.slot.Slot.{Slot}
 use Rattle.mlt_page.specs.declared.slot.Slot.TheVariants.{Live, Ghost}
 use Rattle.mlt_page_locks.specs.LockTables.{Modes}
@@ -39,6 +40,13 @@ directory_held pass root dir = with_page (header_held pass root) dir (directory_
 
 abbrev pub bucket_held : Pass → Mode → ℕ → ℕ → ℕ → Modes
 bucket_held pass mode root dir bucket = with_page (directory_held pass root dir) bucket (bucket_mode pass mode)
+
+-- which other pages a pass may hold, by what the clean pages have of each: a first pass none, a narrow pass those that it
+-- made, and a wide one any
+abbrev pub MayHoldMore : Pass → Option (Option Page) → Type 0
+MayHoldMore First seen = ⊥
+MayHoldMore Narrow seen = seen ≡ Some None
+MayHoldMore Wide seen = Unit {0}
 
 -- of a bucket of depth l: the least depth up to `most` at which it has room, where `crowded` says at which depths it has
 -- none; and l where it has none at all
