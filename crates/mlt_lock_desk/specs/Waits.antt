@@ -1,13 +1,13 @@
 -- What desks that wait are woken by.
-use Rattle.std.specs.Prelude.{◌+◌, ◌%◌, ◌^◌, nat_lt, Bool, true, false, ◌||◌}
+use Rattle.std.specs.Prelude.{ℕ, ◌+◌, ◌%◌, ◌^◌, nat_lt, length, Bool, true, false, ◌||◌}
 use Rattle.mlt_event.specs.declared.answer.Answer.TheVariants as answer
 use Rattle.mlt_event.specs.declared.told.Told.{Told}
 use Rattle.mlt_event.specs.declared.told.Told.TheVariants as told
-use Rattle.mlt_lock_desk.specs.declared.queue.Awaited.{Awaited}
-use Rattle.mlt_lock_desk.specs.declared.queue.Awaited.TheVariants as awaited
-use Rattle.mlt_lock_desk.specs.declared.queue.GivenBack.{GivenBack}
-use Rattle.mlt_lock_desk.specs.declared.queue.GivenBack.TheVariants as given
-use Rattle.mlt_lock_desk.specs.declared.queue.Queue.{Queue}
+use Rattle.mlt_waits_for.specs.Waits.{Waits, nobody_waits, released}
+use Rattle.mlt_waits_for.specs.declared.waits.Awaited.{Awaited}
+use Rattle.mlt_waits_for.specs.declared.waits.Awaited.TheVariants as awaited
+use Rattle.mlt_lock_desk.specs.declared.turn.GivenBack.{GivenBack}
+use Rattle.mlt_lock_desk.specs.declared.turn.GivenBack.TheVariants as given
 
 -- whose locks an event may have given back, by what it was told
 abbrev pub given_back_by : Told → GivenBack
@@ -21,43 +21,39 @@ given_back_by (told.Answered (answer.Refused reason)) = given.Pages
 given_back_by told.Cancelled = given.Pages
 given_back_by other = given.Nothing
 
--- all who wait are awake
-abbrev pub released : Queue → Queue
-released q = record { version = (q.version + 1) % 2 ^ 64; waiting = 0 }
+-- a version that tells of something given back
+abbrev pub next_version : ℕ → ℕ
+next_version version = (version + 1) % 2 ^ 64
 
--- those who wait for objects, and for pages, once locks were given back
-abbrev pub objects_after : GivenBack → Queue → Queue
-objects_after given.All q = released q
-objects_after other q = q
+-- the versions of objects and of pages once locks were given back, and who still waits
+abbrev pub objects_after : GivenBack → ℕ → ℕ
+objects_after given.All version = next_version version
+objects_after other version = version
 
-abbrev pub pages_after : GivenBack → Queue → Queue
-pages_after given.Nothing q = q
-pages_after other q = released q
+abbrev pub pages_after : GivenBack → ℕ → ℕ
+pages_after given.Nothing version = version
+pages_after other version = next_version version
 
--- those who wait for this
-abbrev pub queue_of : Awaited → Queue → Queue → Queue
-queue_of awaited.Objects objects pages = objects
-queue_of awaited.Pages objects pages = pages
+abbrev pub waits_after : GivenBack → Waits → Waits
+waits_after given.All waits = nobody_waits
+waits_after given.Pages waits = released awaited.Pages waits
+waits_after given.Nothing waits = waits
+
+-- the version of what is waited for
+abbrev pub version_of : Awaited → ℕ → ℕ → ℕ
+version_of awaited.Objects objects pages = objects
+version_of awaited.Pages objects pages = pages
+
+-- how many desks wait
+abbrev pub waiting : Waits → ℕ
+waiting waits = length waits.objects + length waits.pages
 
 -- whether some desk waits, for objects or for pages
-abbrev pub some_wait : Queue → Queue → Bool
-some_wait objects pages = nat_lt 0 objects.waiting || nat_lt 0 pages.waiting
+abbrev pub some_wait : Waits → Bool
+some_wait waits = nat_lt 0 (length waits.objects) || nat_lt 0 (length waits.pages)
 
 -- whether some desk waits for what was given back
-abbrev pub are_to_wake : GivenBack → Queue → Queue → Bool
-are_to_wake given.All objects pages = some_wait objects pages
-are_to_wake given.Pages objects pages = nat_lt 0 pages.waiting
-are_to_wake given.Nothing objects pages = false
-
--- one more waits
-abbrev pub joined : Queue → Queue
-joined q = record { version = q.version; waiting = q.waiting + 1 }
-
--- those who wait for objects, and for pages, once a desk waits for this
-abbrev pub objects_joined : Awaited → Queue → Queue
-objects_joined awaited.Objects q = joined q
-objects_joined awaited.Pages q = q
-
-abbrev pub pages_joined : Awaited → Queue → Queue
-pages_joined awaited.Objects q = q
-pages_joined awaited.Pages q = joined q
+abbrev pub are_to_wake : GivenBack → Waits → Bool
+are_to_wake given.All waits = some_wait waits
+are_to_wake given.Pages waits = nat_lt 0 (length waits.pages)
+are_to_wake given.Nothing waits = false

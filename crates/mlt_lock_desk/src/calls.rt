@@ -5,12 +5,13 @@ ghost use Rattle.mlt_lock_desk.specs.Holds.{IsToldTo, MayAnswerOperation};
 
 use crate::gate::Gate;
 use crate::lock_desk::{LockDesk, Tries};
-use crate::queue::{Awaited, Turn};
 use crate::shared::Shared;
+use crate::turn::Turn;
 use mlt_desk::Desk;
 use mlt_event::{Answer, Event, Told};
 use mlt_kinds::{ObjOp, ObjReply};
 use mlt_types::{Pseudo, Refusal, TxId};
+use mlt_waits_for::{Awaited, Wait};
 use std::sync::Wait;
 use std::sync::ledger::{Ledger, Share};
 
@@ -106,14 +107,15 @@ impl<'a, P: Pseudo, L: Ledger, R: Wait, G: Gate> LockDesk<'a, P, L, R, G> {
         told
     }
 
-    /// Waits until another desk has given such locks back or ended, unless all other desks wait.
-    fn wait(&self, awaited: Awaited) {
+    /// Waits until another desk has given such locks back or ended, unless all other desks wait, or the holder waits for
+    /// this transaction, be it by way of others.
+    fn wait(&self, awaited: Awaited, wait: Wait) {
         let seen = match awaited {
             Awaited::Objects => self.objects,
             Awaited::Pages => self.pages,
         };
         let mut hall = self.shared.hall.lock(self.rt);
-        match hall.desks.begin_wait(awaited, seen) {
+        match hall.desks.begin_wait(awaited, seen, wait) {
             Turn::Sleeps => {
                 self.shared
                     .moved
@@ -128,13 +130,13 @@ impl<'a, P: Pseudo, L: Ledger, R: Wait, G: Gate> LockDesk<'a, P, L, R, G> {
     }
 
     /// Spends a try. If others are left it waits; else the operation is cancelled, and the answer is `false`.
-    fn tries_again(&mut self, tx: TxId, awaited: Awaited) -> bool {
+    fn tries_again(&mut self, awaited: Awaited, wait: Wait) -> bool {
         self.left = self.left.saturating_sub(1);
         if self.left == 0 {
-            self.hold(Event::Cancel(tx));
+            self.hold(Event::Cancel(wait.waiter));
             return false;
         }
-        self.wait(awaited);
+        self.wait(awaited, wait);
         true
     }
 
@@ -150,13 +152,13 @@ impl<'a, P: Pseudo, L: Ledger, R: Wait, G: Gate> LockDesk<'a, P, L, R, G> {
                 Told::Answered(Answer::Going) => (),
                 Told::Answered(Answer::Done(reply)) => return Ok(reply),
                 Told::Answered(Answer::Refused(refusal)) => return Err(refusal),
-                Told::Answered(Answer::Waiting { .. }) => {
-                    if !self.tries_again(tx, Awaited::Pages) {
+                Told::Answered(Answer::Waiting { by, .. }) => {
+                    if !self.tries_again(Awaited::Pages, Wait { waiter: tx, holder: by }) {
                         return Err(Refusal::GaveUp);
                     }
                 }
-                Told::Answered(Answer::Blocked { .. }) => {
-                    if !self.tries_again(tx, Awaited::Objects) {
+                Told::Answered(Answer::Blocked { by }) => {
+                    if !self.tries_again(Awaited::Objects, Wait { waiter: tx, holder: by }) {
                         return Err(Refusal::GaveUp);
                     }
                 }
@@ -172,7 +174,9 @@ impl<'a, P: Pseudo, L: Ledger, R: Wait, G: Gate> LockDesk<'a, P, L, R, G> {
         for _ in rt.forever() {
             match self.hold(Event::Step(tx)) {
                 Told::Answered(Answer::Going | Answer::Undone) => (),
-                Told::Answered(Answer::Waiting { .. }) => self.wait(Awaited::Pages),
+                Told::Answered(Answer::Waiting { by, .. }) => {
+                    self.wait(Awaited::Pages, Wait { waiter: tx, holder: by });
+                }
                 _ => return,
             }
         }

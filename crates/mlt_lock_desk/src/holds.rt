@@ -3,7 +3,7 @@
 ghost use Rattle.std.specs.Prelude.{◌≡◌, ◌+◌, ◌-◌, ◌<◌, ◌^◌, min};
 ghost use Rattle.mlt_manager.specs.Answers.{counted};
 ghost use Rattle.mlt_manager.specs.Events.{Meets};
-ghost use Rattle.mlt_lock_desk.specs.Waits.{are_to_wake, given_back_by, objects_after, pages_after};
+ghost use Rattle.mlt_lock_desk.specs.Waits.{are_to_wake, given_back_by, objects_after, pages_after, waits_after};
 
 use crate::desks::Desks;
 use crate::hall::Hall;
@@ -52,9 +52,10 @@ impl<P: Pseudo, L: Ledger> Hall<P, L> {
             ≡ objects_after (given_back_by result.0) self.old.desks.objects }
         ensures pages { self.new.desks.pages
             ≡ pages_after (given_back_by result.0) self.old.desks.pages }
+        ensures waits { self.new.desks.waits
+            ≡ waits_after (given_back_by result.0) self.old.desks.waits }
         ensures desks { self.new.desks.count ≡ self.old.desks.count }
-        ensures wakes { result.1 ≡ are_to_wake (given_back_by result.0)
-            self.old.desks.objects self.old.desks.pages }
+        ensures wakes { result.1 ≡ are_to_wake (given_back_by result.0) self.old.desks.waits }
     {
         let Hall {
             manager,

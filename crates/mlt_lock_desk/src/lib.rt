@@ -7,8 +7,8 @@ mod gate;
 mod hall;
 mod holds;
 mod lock_desk;
-mod queue;
 mod shared;
+mod turn;
 
 pub use gate::{Gate, NoGate};
 pub use hall::Hall;

@@ -1,0 +1,81 @@
+-- Which transactions wait for which.
+use Rattle.std.specs.Prelude.{ℕ, ◌≡◌, ◌==◌, ◌+◌, ◌<◌, ◌⊎◌, List, [], ◌∷◌, ◌++◌, length, find, Option}
+use Rattle.std.specs.Option.{option_map, option_or}
+use Rattle.mlt_waits_for.specs.declared.waits.Awaited.{Awaited}
+use Rattle.mlt_waits_for.specs.declared.waits.Awaited.TheVariants as awaited
+use Rattle.mlt_waits_for.specs.declared.waits.Wait.{Wait}
+
+-- who waits for a lock of an object, and who for a lock of a page
+pub record Waits : Type 0 where
+  pub objects : List Wait
+  pub pages : List Wait
+
+abbrev pub nobody_waits : Waits
+nobody_waits = record { objects = []; pages = [] }
+
+abbrev pub waits_of : Awaited → Waits → List Wait
+waits_of awaited.Objects waits = waits.objects
+waits_of awaited.Pages waits = waits.pages
+
+-- one more waits for such a lock
+abbrev pub joined : Awaited → Wait → Waits → Waits
+joined awaited.Objects wait waits = record waits { objects = waits.objects ++ wait ∷ [] }
+joined awaited.Pages wait waits = record waits { pages = waits.pages ++ wait ∷ [] }
+
+-- nobody waits for such locks any more
+abbrev pub released : Awaited → Waits → Waits
+released awaited.Objects waits = record waits { objects = [] }
+released awaited.Pages waits = record waits { pages = [] }
+
+-- one of these is a wait of x for y
+abbrev pub IsAmong : List Wait → ℕ → ℕ → Type 0
+IsAmong [] x y = ⊥
+IsAmong (wait ∷ more) x y = ((wait.waiter ≡ x) × (wait.holder ≡ y)) ⊎ IsAmong more x y
+
+-- x waits for a lock of y
+abbrev pub IsFor : Waits → ℕ → ℕ → Type 0
+IsFor waits x y = IsAmong waits.objects x y ⊎ IsAmong waits.pages x y
+
+-- for whom x waits, by the first of its waits
+abbrev pub holder_in : List Wait → ℕ → Option ℕ
+holder_in waits x = option_map (λ wait. wait.holder) (find (λ wait. wait.waiter == x) waits)
+
+abbrev pub holder_of : Waits → ℕ → Option ℕ
+holder_of waits x = option_or (holder_in waits.objects x) (holder_in waits.pages x)
+
+-- x waits for the first of these, each for the next, and the last for y; where there is none, x is y
+abbrev pub LeadsBy : Waits → ℕ → List ℕ → ℕ → Type 0
+LeadsBy waits x [] y = x ≡ y
+LeadsBy waits x (next ∷ more) y = IsFor waits x next × LeadsBy waits next more y
+
+-- waits lead from x to y
+abbrev pub LeadsTo : Waits → ℕ → ℕ → Type 0
+LeadsTo waits x y = (path : List ℕ) × LeadsBy waits x path y
+
+-- more waits follow each other from x on than there are
+abbrev pub LeadsOn : Waits → ℕ → Type 0
+LeadsOn waits x =
+    (path : List ℕ) × (y : ℕ) × LeadsBy waits x path y
+    × (length waits.objects + length waits.pages < length path)
+
+-- nobody waits for two
+abbrev pub IsFunctional : Waits → Type 0
+IsFunctional waits = (x y z : ℕ) → IsFor waits x y → IsFor waits x z → y ≡ z
+
+-- Nobody waits for two, and whom somebody waits for never waits for it, be it by way of others.
+pub record IsAcyclic (waits : Waits) : Type 0 where
+  pub functional : IsFunctional waits
+  pub no_circle : (x y : ℕ) → IsFor waits x y → LeadsTo waits y x → ⊥
+
+-- One more wait finds room, is the first of its transaction, and closes no circle.
+pub record CanJoin (awaited : Awaited) (wait : Wait) (waits : Waits) : Type 0 where
+  pub room : length (waits_of awaited waits) < 64
+  pub first : (y : ℕ) → IsFor waits wait.waiter y → ⊥
+  pub open_end : LeadsTo waits wait.holder wait.waiter → ⊥
+
+-- there is no room for one more wait, or it waits already, or the wait would close a circle
+abbrev pub CantJoin : Awaited → Wait → Waits → Type 0
+CantJoin awaited wait waits =
+    (length (waits_of awaited waits) ≡ 64)
+    ⊎ (((y : ℕ) × IsFor waits wait.waiter y)
+    ⊎ (LeadsTo waits wait.holder wait.waiter ⊎ LeadsOn waits wait.holder))
