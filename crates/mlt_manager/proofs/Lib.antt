@@ -9,6 +9,7 @@ pub mod Finding
 pub mod Keeping
 pub mod Kept
 pub mod Others
+pub mod PassLocks
 pub mod Playing
 pub mod Promises
 pub mod Quiet

@@ -26,6 +26,7 @@ use Rattle.mlt_traced.specs.Traced.{IsCommittedBase}
 use Rattle.mlt_traced.proofs.CommittedBases.{only_base, with_base}
 use Rattle.mlt_manager.specs.Managers.{IsManager, ManagerFields, state_of}
 use Rattle.mlt_manager.specs.Promises.{IsCommittedBaseOf, KeepsPromises, PassesTheChecker, lists_by}
+use Rattle.mlt_manager.proofs.PassLocks.{pass_locks}
 use Rattle.mlt_manager.proofs.Stepped.{same_base}
 
 module _ {P : Type 0} (bits_of : P → ℕ → ℕ) (m : ManagerFields P) (h : IsManager bits_of m) where
@@ -39,6 +40,7 @@ module _ {P : Type 0} (bits_of : P → ℕ → ℕ) (m : ManagerFields P) (h : I
     serial = serializable m.commons.history.items h.base h.sound.match.history;
     file = has_file (bits_of m.root.pseudo) m.opens (map.get (clean_pages h.images m.commons.pages.store.pages)) m.root.page h.sound.match.bounded h.sound.match.form;
     ghosts = kept_by_match (ledger_of (world_of (state_of bits_of m h.images h.base))) h.sound.match.ghosts;
+    locks = λ i. pass_locks (state_of bits_of m h.images h.base) i h.sound;
     begun = h.sound.begun;
     commits = h.sound.commits;
   }

@@ -5,6 +5,7 @@ pub mod Events
 pub mod Managers
 pub mod Openings
 pub mod Parts
+pub mod PassLocks
 pub mod Promises
 pub mod Tolds
 pub mod Undoings

@@ -22,6 +22,7 @@ use Rattle.mlt_meeting.specs.Presences.{standing_of}
 use Rattle.mlt_invariant.specs.States.{undoing_of}
 use Rattle.mlt_manager.specs.Bases.{HasBase, HasCleanPages}
 use Rattle.mlt_manager.specs.Managers.{ManagerFields}
+use Rattle.mlt_manager.specs.PassLocks.{HoldsLocksOfItsPass}
 
 -- what the history tells of: what was committed, in the order of the commits, and what stands of each open transaction
 abbrev pub lists_by : {P : Type 0} → ManagerFields P → Lists (ObjOp × ObjReply)
@@ -42,7 +43,8 @@ ledger_by bits_of m clean = record {
 
 -- The committed transactions, run alone in commit order from the empty base, give exactly the replies that they were told;
 -- and the base so reached is what the clean pages mean, once the operations of open transactions are taken back. The
--- clean pages are an extendible hash file, in which removals of open transactions have their ghosts.
+-- clean pages are an extendible hash file, in which removals of open transactions have their ghosts. A running operation
+-- holds the page locks of its pass, and nobody else holds any.
 pub record KeepsPromises {P : Type 0} (bits_of : P → ℕ → ℕ) (m : ManagerFields P) : Type 0 where
   pub clean : map.FinMap nat_cmp Page
   pub is_clean : HasCleanPages m clean
@@ -51,6 +53,7 @@ pub record KeepsPromises {P : Type 0} (bits_of : P → ℕ → ℕ) (m : Manager
   pub serial : IsCommitOrderSerializable Step empty_base (lists_by m) state
   pub file : IsExtendibleHashFile (bits_of m.root.pseudo) m.opens (map.get clean) m.root.page
   pub ghosts : GhostsAreKept (ledger_by bits_of m clean)
+  pub locks : (i : ℕ) → HoldsLocksOfItsPass bits_of m (map.get clean) i
   pub begun : AreBegunInOrder m.commons.history.items
   pub commits : AreCounted m.commons.history.items
 

@@ -1,0 +1,114 @@
+-- Each transaction holds the page locks of its pass
+use Rattle.std.proofs.Common.{◌≡◌, ℕ, true, Option, None, Some, is_some, refl, sym, ap, subst, ◌∙◌}
+use Rattle.std.specs.FinMap as map
+use Rattle.std.proofs.lemmas.Bool.{false≢true}
+use Rattle.mlt_page.specs.declared.page.Page.TheVariants as page
+use Rattle.mlt_page_locks.specs.LockTables.{is_holder}
+use Rattle.mlt_subtx.proofs.ImageLaws.{not_true}
+use Rattle.mlt_hash_form.specs.File.{FilePages}
+use Rattle.mlt_hash_form.specs.Held.{Agrees}
+use Rattle.mlt_held.specs.Moments.{Moment, page_before}
+use Rattle.mlt_held.specs.Views.{view_of}
+use Rattle.mlt_held.proofs.Views.{seen_held}
+use Rattle.mlt_hash.specs.Passes.{MayHoldMore}
+use Rattle.mlt_hash.specs.Walks.{Basis, HasPassed, IsAtBucket, IsPlaced, Stands, WalkFields, dir_of}
+use Rattle.mlt_hash.specs.declared.pass.Phase.{Phase}
+use Rattle.mlt_hash.specs.declared.pass.Phase.TheVariants as phase
+use Rattle.mlt_operation.specs.Operating.{FitsPhase, OperationFields}
+use Rattle.mlt_running.specs.Running.{clean_of, moment_of}
+use Rattle.mlt_meeting.specs.Worlds.{basis_of}
+use Rattle.mlt_transaction.specs.declared.transaction.At.{At}
+use Rattle.mlt_transaction.specs.declared.transaction.At.TheVariants as at
+use Rattle.mlt_transaction.specs.declared.transaction.Transaction.{Transaction}
+use Rattle.mlt_invariant.specs.Sound.{FitsAt, IsSound}
+use Rattle.mlt_invariant.specs.States.{State, all_of, images_kept, world_of}
+use Rattle.mlt_invariant.proofs.Openness.{agrees_in}
+use Rattle.mlt_manager.specs.PassLocks.{HoldsWay, KeysWay, LocksAt, LocksOf, running_at, running_of}
+
+-- a page that is held is seen as the clean pages have it
+clean_is_seen : (m : Moment) (clean : FilePages) → Agrees (view_of m).seen clean → (q : ℕ) → is_some (map.get (view_of m).modes q) ≡ true → (view_of m).seen q ≡ Some (clean q)
+clean_is_seen m clean agree q held =
+    let sees = seen_held m q held in
+    sees ∙ ap Some (sym (agree q (page_before m.running.images m.store.pages q) sees))
+
+-- the locks of a walk on this moment, whose view the clean pages agree with
+module _ (basis : Basis) (walk : WalkFields) (m : Moment) (clean : FilePages) (agree : Agrees (view_of m).seen clean) where
+  placed_way : (bucket depth : ℕ) → IsPlaced basis walk (view_of m) bucket depth → LocksAt (phase.Placed bucket depth) basis clean walk (view_of m).modes
+  placed_way bucket depth placed = (
+    record {
+      header = placed.header;
+      head = agree basis.root (Some (page.Head placed.header)) placed.head;
+      dir = dir_of basis placed.header walk.key;
+      dir_is = refl;
+      entries = placed.dir;
+      listed = agree (dir_of basis placed.header walk.key) (Some (page.Dir placed.dir)) placed.listed;
+      bucket = bucket;
+      bucket_is = placed.bucket_is;
+    },
+    placed.held,
+  )
+
+  bucket_way : (bucket depth : ℕ) (found : Option ℕ) → IsAtBucket basis walk (view_of m) bucket depth found → LocksAt (phase.AtBucket bucket depth found) basis clean walk (view_of m).modes
+  bucket_way bucket depth found here = (
+    record {
+      header = here.header;
+      head = agree basis.root (Some (page.Head here.header)) here.head;
+      dir = dir_of basis here.header walk.key;
+      dir_is = refl;
+      entries = here.dir;
+      listed = agree (dir_of basis here.header walk.key) (Some (page.Dir here.dir)) here.listed;
+      bucket = bucket;
+      bucket_is = here.bucket_is;
+    },
+    here.held,
+  )
+
+  -- what a walk has passed is its way
+  passed_way : (found : Option ℕ) → HasPassed basis walk (view_of m) found → (way : KeysWay basis clean walk.key) × HoldsWay walk clean basis.root way.dir way.bucket (view_of m).modes
+  passed_way found passed = (
+    record {
+      header = passed.header;
+      head = agree basis.root (Some (page.Head passed.header)) passed.head;
+      dir = dir_of basis passed.header walk.key;
+      dir_is = refl;
+      entries = passed.dir;
+      listed = agree (dir_of basis passed.header walk.key) (Some (page.Dir passed.dir)) passed.listed;
+      bucket = passed.bucket;
+      bucket_is = passed.bucket_is;
+    },
+    record {
+      on_header = passed.holds.on_header;
+      on_dir = passed.holds.on_dir;
+      on_bucket = passed.holds.on_bucket;
+      others = λ q away further last held.
+          let more = passed.holds.others q away further last held in
+          (more.0, subst (MayHoldMore walk.pass) (clean_is_seen m clean agree q held) more.1);
+    },
+  )
+
+-- **A walk that stands holds the locks of its pass.**
+locks_at : (p : Phase) (basis : Basis) (o : OperationFields) (m : Moment) (clean : FilePages) → Agrees (view_of m).seen clean → Stands p basis o.walk (view_of m) → FitsPhase p basis o (view_of m) → LocksAt p basis clean o.walk (view_of m).modes
+locks_at phase.Start basis o m clean agree stands fits = stands.unheld
+locks_at (phase.Headed dir row depth) basis o m clean agree stands fits = stands.held
+locks_at (phase.Placed bucket depth) basis o m clean agree stands fits = placed_way basis o.walk m clean agree bucket depth stands
+locks_at (phase.AtBucket bucket depth found) basis o m clean agree stands fits = bucket_way basis o.walk m clean agree bucket depth found stands
+locks_at (phase.Full next) basis o m clean agree stands fits = absurd fits
+locks_at (phase.Adding value bucket room_depth unsplit) basis o m clean agree stands fits = passed_way basis o.walk m clean agree None stands.passed
+locks_at (phase.Splitting value room_depth) basis o m clean agree stands fits = passed_way basis o.walk m clean agree None stands.passed
+locks_at (phase.Changed bucket done) basis o m clean agree stands fits = passed_way basis o.walk m clean agree stands.found stands.passed
+
+module _ (s : State) (i : ℕ) where
+  -- the locks of an open transaction, by where it is
+  fitting_locks : (a : At) (t : Transaction) → Agrees (view_of (moment_of (all_of s) i)).seen (clean_of (all_of s)) → FitsAt a s i t → LocksOf (running_at a) s.commons.pages.locks (basis_of (world_of s) i) (clean_of (all_of s))
+  fitting_locks at.Idle t agree fits = fits.no_locks
+  fitting_locks (at.Pending o) t agree fits = locks_at o.walk.phase (basis_of (world_of s) i) o (moment_of (all_of s) i) (clean_of (all_of s)) agree fits.operates.stands fits.operates.fits
+  fitting_locks (at.Undoing None) t agree fits = fits.0.no_locks
+  fitting_locks (at.Undoing (Some o)) t agree fits = locks_at o.walk.phase (basis_of (world_of s) i) o (moment_of (all_of s) i) (clean_of (all_of s)) agree fits.operates.stands fits.operates.fits
+
+  locks_by : IsSound s → (there : Option Transaction) → map.get s.txs i ≡ there → LocksOf (running_of there) s.commons.pages.locks (basis_of (world_of s) i) (clean_of (all_of s))
+  locks_by sound None is = not_true (is_holder s.commons.pages.locks i) (λ holds. false≢true (sym (ap is_some (sound.kept i ∙ ap images_kept is)) ∙ sound.running.holders_open i holds))
+  locks_by sound (Some t) is = fitting_locks t.at t (agrees_in s i t sound is) (sound.fits i t is).where_at
+
+  -- **Each transaction holds the page locks of its pass, and else none.**
+  pub pass_locks : IsSound s → LocksOf (running_of (map.get s.txs i)) s.commons.pages.locks (basis_of (world_of s) i) (clean_of (all_of s))
+  pass_locks sound = locks_by sound (map.get s.txs i) refl
