@@ -1,5 +1,5 @@
 -- What desks that wait are woken by.
-use Rattle.std.specs.Prelude.{ℕ, ◌+◌, ◌%◌, ◌^◌, nat_lt, length, Bool, true, false, ◌||◌}
+use Rattle.std.specs.Prelude.{ℕ, ◌+◌, ◌%◌, ◌^◌, nat_lt, length, Bool, true, false, ◌||◌, Option, None, Some}
 use Rattle.mlt_event.specs.declared.answer.Answer.TheVariants as answer
 use Rattle.mlt_event.specs.declared.told.Told.{Told}
 use Rattle.mlt_event.specs.declared.told.Told.TheVariants as told
@@ -20,6 +20,12 @@ given_back_by (told.Answered answer.Undone) = given.Pages
 given_back_by (told.Answered (answer.Refused reason)) = given.Pages
 given_back_by told.Cancelled = given.Pages
 given_back_by other = given.Nothing
+
+-- for whose locks an event is to wait that was told this, and for those of which transaction
+abbrev pub awaited_by : Told → Option (Awaited × ℕ)
+awaited_by (told.Answered (answer.Waiting page by)) = Some (awaited.Pages, by)
+awaited_by (told.Answered (answer.Blocked by)) = Some (awaited.Objects, by)
+awaited_by other = None
 
 -- a version that tells of something given back
 abbrev pub next_version : ℕ → ℕ

@@ -1,17 +1,17 @@
 //! The calls of a desk over a shared manager.
 
-ghost use Rattle.std.specs.Prelude.{◌≡◌, ◌+◌, ◌-◌, ◌^◌, min};
+ghost use Rattle.std.specs.Prelude.{◌≡◌, ◌+◌, ◌-◌, ◌^◌, min, IfSome};
 ghost use Rattle.mlt_lock_desk.specs.Holds.{IsToldTo, MayAnswerOperation};
 
 use crate::gate::Gate;
 use crate::lock_desk::{LockDesk, Tries};
 use crate::shared::Shared;
-use crate::turn::Turn;
+use crate::turn::{Turn, awaited_by};
 use mlt_desk::Desk;
 use mlt_event::{Answer, Event, Told};
 use mlt_kinds::{ObjOp, ObjReply};
 use mlt_types::{Pseudo, Refusal, TxId};
-use mlt_waits_for::{Awaited, Wait};
+use mlt_waits_for::{Awaited, Waiting};
 use std::sync::Wait;
 use std::sync::ledger::{Ledger, Share};
 
@@ -109,11 +109,12 @@ impl<'a, P: Pseudo, L: Ledger, R: Wait, G: Gate> LockDesk<'a, P, L, R, G> {
 
     /// Waits until another desk has given such locks back or ended, unless all other desks wait, or the holder waits for
     /// this transaction, be it by way of others.
-    fn wait(&self, awaited: Awaited, wait: Wait) {
+    fn wait(&self, tx: TxId, awaited: Awaited, holder: TxId) {
         let seen = match awaited {
             Awaited::Objects => self.objects,
             Awaited::Pages => self.pages,
         };
+        let wait = Waiting { waiter: tx, holder };
         let mut hall = self.shared.hall.lock(self.rt);
         match hall.desks.begin_wait(awaited, seen, wait) {
             Turn::Sleeps => {
@@ -130,54 +131,65 @@ impl<'a, P: Pseudo, L: Ledger, R: Wait, G: Gate> LockDesk<'a, P, L, R, G> {
     }
 
     /// Spends a try. If others are left it waits; else the operation is cancelled, and the answer is `false`.
-    fn tries_again(&mut self, awaited: Awaited, wait: Wait) -> bool {
+    fn tries_again(&mut self, tx: TxId, awaited: Awaited, holder: TxId) -> bool {
         self.left = self.left.saturating_sub(1);
         if self.left == 0 {
-            self.hold(Event::Cancel(wait.waiter));
+            self.hold(Event::Cancel(tx));
             return false;
         }
-        self.wait(awaited, wait);
+        self.wait(tx, awaited, holder);
         true
     }
 
-    /// Steps of an operation that was called, up to its reply. An answer that comes only where another desk acts for the
-    /// same transaction is answered by `NoSuchTx`.
+    /// One step of an operation that was called, and its wait if it is to wait. It answers the operation's answer, if it has
+    /// one. A step that is told what comes only where another desk acts for the same transaction is answered by `NoSuchTx`.
+    fn step(&mut self, tx: TxId) -> Option<Result<ObjReply, Refusal>>
+        ensures { IfSome result (MayAnswerOperation P.bits_of tx) }
+    {
+        let told = self.hold(Event::Step(tx));
+        if let Some((awaited, holder)) = awaited_by(&told) {
+            if self.tries_again(tx, awaited, holder) {
+                return None;
+            }
+            return Some(Err(Refusal::GaveUp));
+        }
+        match told {
+            Told::Answered(Answer::Going) => None,
+            Told::Answered(Answer::Done(reply)) => Some(Ok(reply)),
+            Told::Answered(Answer::Refused(refusal)) => Some(Err(refusal)),
+            _ => Some(Err(Refusal::NoSuchTx)),
+        }
+    }
+
+    /// Steps of an operation that was called, up to its reply.
     fn steps(&mut self, tx: TxId) -> Result<ObjReply, Refusal>
         ensures { MayAnswerOperation P.bits_of tx result }
     {
         let rt = self.rt;
         for _ in rt.forever() {
-            let told = self.hold(Event::Step(tx));
-            match told {
-                Told::Answered(Answer::Going) => (),
-                Told::Answered(Answer::Done(reply)) => return Ok(reply),
-                Told::Answered(Answer::Refused(refusal)) => return Err(refusal),
-                Told::Answered(Answer::Waiting { by, .. }) => {
-                    if !self.tries_again(Awaited::Pages, Wait { waiter: tx, holder: by }) {
-                        return Err(Refusal::GaveUp);
-                    }
-                }
-                Told::Answered(Answer::Blocked { by }) => {
-                    if !self.tries_again(Awaited::Objects, Wait { waiter: tx, holder: by }) {
-                        return Err(Refusal::GaveUp);
-                    }
-                }
-                _ => return Err(Refusal::NoSuchTx),
+            if let Some(answer) = self.step(tx) {
+                return answer;
             }
         }
         unreachable!()
     }
 
-    /// Steps of an abort, up to its end. They spend no tries.
+    /// One step of an abort, and its wait if it is to wait. It spends no try. It answers whether more are to come.
+    fn undo_step(&mut self, tx: TxId) -> bool {
+        let told = self.hold(Event::Step(tx));
+        if let Some((awaited, holder)) = awaited_by(&told) {
+            self.wait(tx, awaited, holder);
+            return true;
+        }
+        matches!(told, Told::Answered(Answer::Going | Answer::Undone))
+    }
+
+    /// Steps of an abort, up to its end.
     fn undo(&mut self, tx: TxId) {
         let rt = self.rt;
         for _ in rt.forever() {
-            match self.hold(Event::Step(tx)) {
-                Told::Answered(Answer::Going | Answer::Undone) => (),
-                Told::Answered(Answer::Waiting { by, .. }) => {
-                    self.wait(Awaited::Pages, Wait { waiter: tx, holder: by });
-                }
-                _ => return,
+            if !self.undo_step(tx) {
+                return;
             }
         }
     }

@@ -6,7 +6,7 @@ ghost use Rattle.mlt_lock_desk.specs.Waits.{are_to_wake, given_back_by, next_ver
 
 use crate::turn::{GivenBack, Turn, given_back};
 use mlt_event::Told;
-use mlt_waits_for::{Awaited, Wait, WaitsFor};
+use mlt_waits_for::{Awaited, Waiting, WaitsFor};
 
 /// How many desks there are, and whose transactions wait for which. Not all wait, and none in a circle.
 #[derive(Debug, Drop)]
@@ -111,7 +111,7 @@ impl Desks {
     /// at once. So does the last desk that is awake, and one whose wait would close a circle; and where it wants a page, it
     /// wakes those that do too: a pass that is to start anew gives its pages back as well, and is told to go on. Any other
     /// desk sleeps, and is counted.
-    pub(crate) fn begin_wait(&mut self, awaited: Awaited, seen: u64, wait: Wait) -> Turn
+    pub(crate) fn begin_wait(&mut self, awaited: Awaited, seen: u64, wait: Waiting) -> Turn
         ensures sleeps { result ≡ Turn.Sleeps
             → (version_of awaited self.old.objects self.old.pages ≡ seen)
             × (waiting self.old.waits + 1 < self.old.count)
@@ -126,7 +126,7 @@ impl Desks {
         ensures wakes { result ≡ Turn.Wakes
             → self.new.waits ≡ released Awaited.Pages self.old.waits }
         ensures objects { self.new.objects ≡ self.old.objects }
-        ensures pages { result ≢ Turn.Wakes → self.new.pages ≡ self.old.pages }
+        ensures pages { result ≡ Turn.Sleeps → self.new.pages ≡ self.old.pages }
         ensures told { result ≡ Turn.Wakes → self.new.pages ≡ next_version self.old.pages }
         ensures count { self.new.count ≡ self.old.count }
     {

@@ -1,9 +1,11 @@
 //! What a desk does that would wait, and what wakes it.
 
 ghost use Rattle.std.specs.Prelude.{◌≡◌};
-ghost use Rattle.mlt_lock_desk.specs.Waits.{given_back_by};
+ghost use Rattle.mlt_lock_desk.specs.Waits.{awaited_by, given_back_by};
 
 use mlt_event::{Answer, Told};
+use mlt_types::TxId;
+use mlt_waits_for::Awaited;
 
 /// What a desk does that would wait.
 #[derive(Clone, Copy, Debug, PartialEq, Eq)]
@@ -38,5 +40,16 @@ pub(crate) fn given_back(told: &Told) -> GivenBack
         | Told::Answered(Answer::Undone)
         | Told::Answered(Answer::Refused(_)) => GivenBack::Pages,
         _ => GivenBack::Nothing,
+    }
+}
+
+/// For whose locks an event is to wait that was told this, and for those of which transaction.
+pub(crate) fn awaited_by(told: &Told) -> Option<(Awaited, TxId)>
+    ensures { result ≡ awaited_by told.now }
+{
+    match told {
+        Told::Answered(Answer::Waiting { by, .. }) => Some((Awaited::Pages, *by)),
+        Told::Answered(Answer::Blocked { by }) => Some((Awaited::Objects, *by)),
+        _ => None,
     }
 }

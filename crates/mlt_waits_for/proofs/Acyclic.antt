@@ -2,17 +2,17 @@
 use Rattle.std.proofs.Common.{◌≡◌, ℕ, ◌⊎◌, List, [], ◌∷◌, ◌++◌, sym, subst, ◌∙◌, inl, inr}
 use Rattle.mlt_waits_for.specs.declared.waits.Awaited.{Awaited}
 use Rattle.mlt_waits_for.specs.declared.waits.Awaited.TheVariants as awaited
-use Rattle.mlt_waits_for.specs.declared.waits.Wait.{Wait}
+use Rattle.mlt_waits_for.specs.declared.waits.Waiting.{Waiting}
 use Rattle.mlt_waits_for.specs.Waits.{IsAcyclic, IsAmong, IsFor, LeadsBy, LeadsTo, Waits, joined, nobody_waits, released}
 
 -- a wait among these and one more is among these, or is that one
-among_one_more : (waits : List Wait) (one : Wait) (x y : ℕ) → IsAmong (waits ++ one ∷ []) x y → IsAmong waits x y ⊎ ((one.waiter ≡ x) × (one.holder ≡ y))
+among_one_more : (waits : List Waiting) (one : Waiting) (x y : ℕ) → IsAmong (waits ++ one ∷ []) x y → IsAmong waits x y ⊎ ((one.waiter ≡ x) × (one.holder ≡ y))
 among_one_more [] one x y (inl is) = inr is
 among_one_more [] one x y (inr none) = absurd none
 among_one_more (first ∷ more) one x y (inl is) = inl (inl is)
 among_one_more (first ∷ more) one x y (inr later) = elim (among_one_more more one x y later) [ inl among ↦ inl (inr among) | inr is ↦ inr is ]
 
-for_one_more : (which : Awaited) (one : Wait) (waits : Waits) (x y : ℕ) → IsFor (joined which one waits) x y → IsFor waits x y ⊎ ((one.waiter ≡ x) × (one.holder ≡ y))
+for_one_more : (which : Awaited) (one : Waiting) (waits : Waits) (x y : ℕ) → IsFor (joined which one waits) x y → IsFor waits x y ⊎ ((one.waiter ≡ x) × (one.holder ≡ y))
 for_one_more awaited.Objects one waits x y (inl among) = elim (among_one_more waits.objects one x y among) [ inl old ↦ inl (inl old) | inr is ↦ inr is ]
 for_one_more awaited.Objects one waits x y (inr among) = inl (inr among)
 for_one_more awaited.Pages one waits x y (inl among) = inl (inl among)
@@ -24,7 +24,7 @@ leads_on waits x y z [] same to = subst (λ n. LeadsTo waits n z) (sym same) to
 leads_on waits x y z (next ∷ more) (first, rest) to = let on = leads_on waits next y z more rest to in (next ∷ on.0, (first, on.1))
 
 -- a way along these waits and one more takes that one at no place, or leads to it and then on from it
-splits_at : (which : Awaited) (one : Wait) (waits : Waits) (x y : ℕ) (path : List ℕ) → LeadsBy (joined which one waits) x path y → LeadsTo waits x y ⊎ (LeadsTo waits x one.waiter × LeadsTo waits one.holder y)
+splits_at : (which : Awaited) (one : Waiting) (waits : Waits) (x y : ℕ) (path : List ℕ) → LeadsBy (joined which one waits) x path y → LeadsTo waits x y ⊎ (LeadsTo waits x one.waiter × LeadsTo waits one.holder y)
 splits_at which one waits x y [] same = inl ([], same)
 splits_at which one waits x y (next ∷ more) (first, rest) =
     elim (for_one_more which one waits x next first) [
@@ -39,7 +39,7 @@ splits_at which one waits x y (next ∷ more) (first, rest) =
     ]
 
 -- **One more wait closes no circle, where its holder does not wait for its waiter, and this one waits for nobody yet.**
-pub stays_acyclic : (which : Awaited) (one : Wait) (waits : Waits) → IsAcyclic waits → ((y : ℕ) → IsFor waits one.waiter y → ⊥) → (LeadsTo waits one.holder one.waiter → ⊥) → IsAcyclic (joined which one waits)
+pub stays_acyclic : (which : Awaited) (one : Waiting) (waits : Waits) → IsAcyclic waits → ((y : ℕ) → IsFor waits one.waiter y → ⊥) → (LeadsTo waits one.holder one.waiter → ⊥) → IsAcyclic (joined which one waits)
 stays_acyclic which one waits was idle apart = record {
   functional = λ x y z for other. elim (for_one_more which one waits x y for) [
     | inl old ↦ elim (for_one_more which one waits x z other) [

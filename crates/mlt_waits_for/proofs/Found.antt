@@ -2,14 +2,14 @@
 use Rattle.std.proofs.Common.{◌≡◌, ℕ, ◌==◌, Bool, true, false, cond, List, [], ◌∷◌, Option, None, Some, refl, sym, ◌∙◌, inl, inr, find}
 use Rattle.std.specs.Option.{option_map, option_or}
 use Rattle.std.proofs.lemmas.Bool.{eq-eqb, eqb-true, false≢true}
-use Rattle.mlt_waits_for.specs.declared.waits.Wait.{Wait}
+use Rattle.mlt_waits_for.specs.declared.waits.Waiting.{Waiting}
 use Rattle.mlt_waits_for.specs.Waits.{IsAmong, IsFor, Waits, holder_in, holder_of}
 
-abbrev in_more : Wait → List Wait → ℕ → Bool → Option ℕ
-in_more first more x here = option_map (λ (wait : Wait). wait.holder) (cond here (Some first) (find (λ (wait : Wait). wait.waiter == x) more))
+abbrev in_more : Waiting → List Waiting → ℕ → Bool → Option ℕ
+in_more first more x here = option_map (λ (wait : Waiting). wait.holder) (cond here (Some first) (find (λ (wait : Waiting). wait.waiter == x) more))
 
 -- what is found is a wait of x,
-found_is_among : (waits : List Wait) (x y : ℕ) → holder_in waits x ≡ Some y → IsAmong waits x y
+found_is_among : (waits : List Waiting) (x y : ℕ) → holder_in waits x ≡ Some y → IsAmong waits x y
 found_is_among [] x y found = let none : None ≡ Some y = found in cc
 found_is_among (first ∷ more) x y found =
     elim (first.waiter == x) as (λ b. (first.waiter == x) ≡ b → in_more first more x b ≡ Some y → IsAmong (first ∷ more) x y) [
@@ -18,7 +18,7 @@ found_is_among (first ∷ more) x y found =
     ] refl found
 
 -- and where none is found, x waits for nobody
-none_is_among : (waits : List Wait) (x y : ℕ) → holder_in waits x ≡ None → IsAmong waits x y → ⊥
+none_is_among : (waits : List Waiting) (x y : ℕ) → holder_in waits x ≡ None → IsAmong waits x y → ⊥
 none_is_among [] x y none among = among
 none_is_among (first ∷ more) x y none among =
     elim (first.waiter == x) as (λ b. (first.waiter == x) ≡ b → in_more first more x b ≡ None → ⊥) [

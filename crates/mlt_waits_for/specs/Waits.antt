@@ -3,22 +3,22 @@ use Rattle.std.specs.Prelude.{ℕ, ◌≡◌, ◌==◌, ◌+◌, ◌<◌, ◌⊎
 use Rattle.std.specs.Option.{option_map, option_or}
 use Rattle.mlt_waits_for.specs.declared.waits.Awaited.{Awaited}
 use Rattle.mlt_waits_for.specs.declared.waits.Awaited.TheVariants as awaited
-use Rattle.mlt_waits_for.specs.declared.waits.Wait.{Wait}
+use Rattle.mlt_waits_for.specs.declared.waits.Waiting.{Waiting}
 
 -- who waits for a lock of an object, and who for a lock of a page
 pub record Waits : Type 0 where
-  pub objects : List Wait
-  pub pages : List Wait
+  pub objects : List Waiting
+  pub pages : List Waiting
 
 abbrev pub nobody_waits : Waits
 nobody_waits = record { objects = []; pages = [] }
 
-abbrev pub waits_of : Awaited → Waits → List Wait
+abbrev pub waits_of : Awaited → Waits → List Waiting
 waits_of awaited.Objects waits = waits.objects
 waits_of awaited.Pages waits = waits.pages
 
 -- one more waits for such a lock
-abbrev pub joined : Awaited → Wait → Waits → Waits
+abbrev pub joined : Awaited → Waiting → Waits → Waits
 joined awaited.Objects wait waits = record waits { objects = waits.objects ++ wait ∷ [] }
 joined awaited.Pages wait waits = record waits { pages = waits.pages ++ wait ∷ [] }
 
@@ -28,7 +28,7 @@ released awaited.Objects waits = record waits { objects = [] }
 released awaited.Pages waits = record waits { pages = [] }
 
 -- one of these is a wait of x for y
-abbrev pub IsAmong : List Wait → ℕ → ℕ → Type 0
+abbrev pub IsAmong : List Waiting → ℕ → ℕ → Type 0
 IsAmong [] x y = ⊥
 IsAmong (wait ∷ more) x y = ((wait.waiter ≡ x) × (wait.holder ≡ y)) ⊎ IsAmong more x y
 
@@ -37,7 +37,7 @@ abbrev pub IsFor : Waits → ℕ → ℕ → Type 0
 IsFor waits x y = IsAmong waits.objects x y ⊎ IsAmong waits.pages x y
 
 -- for whom x waits, by the first of its waits
-abbrev pub holder_in : List Wait → ℕ → Option ℕ
+abbrev pub holder_in : List Waiting → ℕ → Option ℕ
 holder_in waits x = option_map (λ wait. wait.holder) (find (λ wait. wait.waiter == x) waits)
 
 abbrev pub holder_of : Waits → ℕ → Option ℕ
@@ -68,13 +68,13 @@ pub record IsAcyclic (waits : Waits) : Type 0 where
   pub no_circle : (x y : ℕ) → IsFor waits x y → LeadsTo waits y x → ⊥
 
 -- One more wait finds room, is the first of its transaction, and closes no circle.
-pub record CanJoin (awaited : Awaited) (wait : Wait) (waits : Waits) : Type 0 where
+pub record CanJoin (awaited : Awaited) (wait : Waiting) (waits : Waits) : Type 0 where
   pub room : length (waits_of awaited waits) < 64
   pub first : (y : ℕ) → IsFor waits wait.waiter y → ⊥
   pub open_end : LeadsTo waits wait.holder wait.waiter → ⊥
 
 -- there is no room for one more wait, or it waits already, or the wait would close a circle
-abbrev pub CantJoin : Awaited → Wait → Waits → Type 0
+abbrev pub CantJoin : Awaited → Waiting → Waits → Type 0
 CantJoin awaited wait waits =
     (length (waits_of awaited waits) ≡ 64)
     ⊎ (((y : ℕ) × IsFor waits wait.waiter y)

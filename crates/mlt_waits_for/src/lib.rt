@@ -4,4 +4,4 @@
 
 mod waits;
 
-pub use waits::{Awaited, Wait, WaitsFor};
+pub use waits::{Awaited, Waiting, WaitsFor};

@@ -18,14 +18,14 @@ pub enum Awaited {
 
 /// One transaction waits for a lock of another.
 #[derive(Clone, Copy, Debug)]
-pub struct Wait {
+pub struct Waiting {
     pub waiter: TxId,
     pub holder: TxId,
 }
 
-impl Default for Wait {
-    fn default() -> Wait {
-        Wait {
+impl Default for Waiting {
+    fn default() -> Waiting {
+        Waiting {
             waiter: TxId(0),
             holder: TxId(0),
         }
@@ -36,8 +36,8 @@ impl Default for Wait {
 /// contract sees both lists. Nobody waits for two, or in a circle.
 #[derive(Debug, Drop)]
 pub struct WaitsFor {
-    objects: ArrayVec<Wait, 64>,
-    pages: ArrayVec<Wait, 64>,
+    objects: ArrayVec<Waiting, 64>,
+    pages: ArrayVec<Waiting, 64>,
 }
 
 impl Model for WaitsFor {
@@ -83,7 +83,7 @@ impl WaitsFor {
 
     /// A transaction begins to wait. Where that would close a circle it doesn't, and it doesn't where there is no room for
     /// one more, or where it waits already; then the answer is `false`.
-    pub fn join(&mut self, awaited: Awaited, wait: Wait) -> bool
+    pub fn join(&mut self, awaited: Awaited, wait: Waiting) -> bool
         ensures can { result ≡ true → CanJoin awaited wait self.old }
         ensures joins { result ≡ true → self.new ≡ joined awaited wait self.old }
         ensures cant { result ≡ false → CantJoin awaited wait self.old }
@@ -111,7 +111,7 @@ impl WaitsFor {
     }
 
     /// Whether one more wait finds room, is the first of its transaction, and closes no circle.
-    fn can_join(&self, awaited: Awaited, wait: &Wait) -> bool
+    fn can_join(&self, awaited: Awaited, wait: &Waiting) -> bool
         ensures can { IsFunctional self.now → result ≡ true → CanJoin awaited wait.now self.now }
         ensures cant { result ≡ false → CantJoin awaited wait.now self.now }
     {
@@ -162,7 +162,7 @@ impl WaitsFor {
 }
 
 /// For whom a transaction waits, if one of these is a wait of it.
-fn holder_in(waits: &[Wait], waiter: TxId) -> Option<TxId>
+fn holder_in(waits: &[Waiting], waiter: TxId) -> Option<TxId>
     ensures { result ≡ holder_in waits.now waiter }
 {
     waits
