@@ -99,3 +99,35 @@ impl Gate for SecondMeetsLock {
         }
     }
 }
+
+/// Lets clients 1 and 2 each do one operation before either asks for its second. Client 3 has begun before, and is held from
+/// then on until one of the others has committed.
+#[derive(Drop)]
+pub struct TwoCrossBesideThird {
+    pub third: Latch,
+    pub first_done: Latch,
+    pub second_done: Latch,
+    pub commit: Latch,
+}
+
+impl Gate for TwoCrossBesideThird {
+    fn pause(&self, client: u32, told: &Told) {
+        match told {
+            Told::Begun(_) if client == 3 => {
+                self.third.open();
+                self.commit.hold();
+            }
+            Told::Begun(_) => self.third.hold(),
+            Told::Answered(Answer::Done(_)) if client == 1 => {
+                self.first_done.open();
+                self.second_done.hold();
+            }
+            Told::Answered(Answer::Done(_)) if client == 2 => {
+                self.second_done.open();
+                self.first_done.hold();
+            }
+            Told::Committed(_) => self.commit.open(),
+            _ => (),
+        }
+    }
+}

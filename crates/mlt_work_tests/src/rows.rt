@@ -1,7 +1,7 @@
 //! Clients side by side, and one client's scripts in order.
 
 use crate::checks::text_of;
-use crate::gates::{Latch, SecondCommits, SecondMeetsLock, Until};
+use crate::gates::{Latch, SecondCommits, SecondMeetsLock, TwoCrossBesideThird, Until};
 use mlt_lock_desk::NoGate;
 use mlt_types::Refusal;
 
@@ -22,6 +22,15 @@ const TWO_SCRIPTS: &[u8] = b"begin\nup 7 1\ncommit\nbegin\nneed read 7 is 1\ncom
 
 const LATER_SEES_COMMIT: &[u8] =
     b"client 0 script 1\ndone\ncommitted 1\nclient 0 script 2\nis 1\ncommitted 2\ncounter 7 1\n";
+
+const TWO_CROSS: &[u8] =
+    b"begin 1\nup 1 1\nread 2\ncommit\nbegin 2\nup 2 1\nread 1\ncommit\nbegin 3\nup 3 1\ncommit\n";
+
+const FIRST_GIVES_WAY: &[u8] =
+    b"client 1 script 1\ndone\nrefused 14 GaveUp\naborted\nclient 2 script 1\ndone\nis 0\ncommitted 1\nclient 3 script 1\ndone\ncommitted 2\ncounter 2 1\ncounter 3 1\n";
+
+const SECOND_GIVES_WAY: &[u8] =
+    b"client 1 script 1\ndone\nis 0\ncommitted 1\nclient 2 script 1\ndone\nrefused 14 GaveUp\naborted\nclient 3 script 1\ndone\ncommitted 2\ncounter 1 1\ncounter 3 1\n";
 
 /// More than any script here spends.
 const MANY_TRIES: u64 = 10_000;
@@ -64,6 +73,23 @@ fn a_blocked_client_waits(rt: HostRuntime) -> Result<(), Refusal> {
     assert!(rt; !gate.lock.is_late());
     assert!(rt; !gate.meeting.is_late());
     assert!(rt; text.as_slice() == SECOND_WAITS);
+    Ok(())
+}
+
+/// Clients 1 and 2 wait for each other, and client 3 is at work on something else as long as they do. One of them gives up
+/// all the same, and the other goes on.
+#[test]
+fn a_circle_ends_beside_a_third(rt: HostRuntime) -> Result<(), Refusal> {
+    let gate = TwoCrossBesideThird {
+        third: Latch::new(),
+        first_done: Latch::new(),
+        second_done: Latch::new(),
+        commit: Latch::new(),
+    };
+    let text = text_of(&rt, rt.alloc(), TWO_CROSS, 3, 3, &gate)?;
+    assert!(rt; !gate.third.is_late());
+    assert!(rt; !gate.commit.is_late());
+    assert!(rt; text.as_slice() == FIRST_GIVES_WAY || text.as_slice() == SECOND_GIVES_WAY);
     Ok(())
 }
 
