@@ -27,7 +27,7 @@ pub struct LockDesk<'a, P: Pseudo, L: Ledger, R: Wait, G: Gate> {
     pub(crate) tries: Tries,
     /// How many tries are left.
     pub(crate) left: u64,
-    /// The versions of the queues after the last event.
+    /// The versions of objects and of pages after the last event.
     pub(crate) objects: u64,
     pub(crate) pages: u64,
     pub(crate) share: Share<L>,
