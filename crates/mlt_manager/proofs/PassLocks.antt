@@ -1,8 +1,9 @@
 -- Each transaction holds the page locks of its pass
-use Rattle.std.proofs.Common.{◌≡◌, ℕ, true, Option, None, Some, is_some, refl, sym, ap, subst, ◌∙◌}
+use Rattle.std.proofs.Common.{◌≡◌, ℕ, true, List, slice_index, Option, None, Some, is_some, refl, sym, ap, subst, ◌∙◌}
 use Rattle.std.specs.FinMap as map
 use Rattle.std.proofs.lemmas.Bool.{false≢true}
 use Rattle.mlt_page.specs.declared.page.Page.TheVariants as page
+use Rattle.mlt_page.specs.Values.{HeadFields}
 use Rattle.mlt_page_locks.specs.LockTables.{is_holder}
 use Rattle.mlt_subtx.proofs.ImageLaws.{not_true}
 use Rattle.mlt_hash_form.specs.File.{FilePages}
@@ -11,7 +12,7 @@ use Rattle.mlt_held.specs.Moments.{Moment, page_before}
 use Rattle.mlt_held.specs.Views.{view_of}
 use Rattle.mlt_held.proofs.Views.{seen_held}
 use Rattle.mlt_hash.specs.Passes.{MayHoldMore}
-use Rattle.mlt_hash.specs.Walks.{Basis, HasPassed, IsAtBucket, IsPlaced, Stands, WalkFields, dir_of}
+use Rattle.mlt_hash.specs.Walks.{Basis, HasPassed, IsAtBucket, IsPlaced, Stands, WalkFields, dir_of, row_of}
 use Rattle.mlt_hash.specs.declared.pass.Phase.{Phase}
 use Rattle.mlt_hash.specs.declared.pass.Phase.TheVariants as phase
 use Rattle.mlt_operation.specs.Operating.{FitsPhase, OperationFields}
@@ -33,49 +34,30 @@ clean_is_seen m clean agree q held =
 
 -- the locks of a walk on this moment, whose view the clean pages agree with
 module _ (basis : Basis) (walk : WalkFields) (m : Moment) (clean : FilePages) (agree : Agrees (view_of m).seen clean) where
+  -- what is read of these three pages is the way to the key
+  abbrev way_on : (header : HeadFields) (entries : List ℕ) (bucket : ℕ) → (view_of m).seen basis.root ≡ Some (Some (page.Head header)) → (view_of m).seen (dir_of basis header walk.key) ≡ Some (Some (page.Dir entries)) → bucket ≡ slice_index entries (row_of basis header walk.key)
+      → KeysWay basis clean walk.key
+  way_on header entries bucket head listed bucket_is = record {
+    header = header;
+    head = agree basis.root (Some (page.Head header)) head;
+    dir = dir_of basis header walk.key;
+    dir_is = refl;
+    entries = entries;
+    listed = agree (dir_of basis header walk.key) (Some (page.Dir entries)) listed;
+    bucket = bucket;
+    bucket_is = bucket_is;
+  }
+
   placed_way : (bucket depth : ℕ) → IsPlaced basis walk (view_of m) bucket depth → LocksAt (phase.Placed bucket depth) basis clean walk (view_of m).modes
-  placed_way bucket depth placed = (
-    record {
-      header = placed.header;
-      head = agree basis.root (Some (page.Head placed.header)) placed.head;
-      dir = dir_of basis placed.header walk.key;
-      dir_is = refl;
-      entries = placed.dir;
-      listed = agree (dir_of basis placed.header walk.key) (Some (page.Dir placed.dir)) placed.listed;
-      bucket = bucket;
-      bucket_is = placed.bucket_is;
-    },
-    placed.held,
-  )
+  placed_way bucket depth placed = (way_on placed.header placed.dir bucket placed.head placed.listed placed.bucket_is, placed.held)
 
   bucket_way : (bucket depth : ℕ) (found : Option ℕ) → IsAtBucket basis walk (view_of m) bucket depth found → LocksAt (phase.AtBucket bucket depth found) basis clean walk (view_of m).modes
-  bucket_way bucket depth found here = (
-    record {
-      header = here.header;
-      head = agree basis.root (Some (page.Head here.header)) here.head;
-      dir = dir_of basis here.header walk.key;
-      dir_is = refl;
-      entries = here.dir;
-      listed = agree (dir_of basis here.header walk.key) (Some (page.Dir here.dir)) here.listed;
-      bucket = bucket;
-      bucket_is = here.bucket_is;
-    },
-    here.held,
-  )
+  bucket_way bucket depth found here = (way_on here.header here.dir bucket here.head here.listed here.bucket_is, here.held)
 
   -- what a walk has passed is its way
   passed_way : (found : Option ℕ) → HasPassed basis walk (view_of m) found → (way : KeysWay basis clean walk.key) × HoldsWay walk clean basis.root way.dir way.bucket (view_of m).modes
   passed_way found passed = (
-    record {
-      header = passed.header;
-      head = agree basis.root (Some (page.Head passed.header)) passed.head;
-      dir = dir_of basis passed.header walk.key;
-      dir_is = refl;
-      entries = passed.dir;
-      listed = agree (dir_of basis passed.header walk.key) (Some (page.Dir passed.dir)) passed.listed;
-      bucket = passed.bucket;
-      bucket_is = passed.bucket_is;
-    },
+    way_on passed.header passed.dir passed.bucket passed.head passed.listed passed.bucket_is,
     record {
       on_header = passed.holds.on_header;
       on_dir = passed.holds.on_dir;
