@@ -6,44 +6,44 @@ use Rattle.std.proofs.lemmas.Nat.Bits.{bit_at-lt, bit_at-zero, bit_at-trailing_z
 use Rattle.std.proofs.lemmas.Bool.{cases_eq}
 use Rattle.std.proofs.lemmas.List.{get_or-set_same, get_or-set_other}
 use Rattle.std.proofs.lemmas.Nat.{shr-shr}
-use Rattle.mlt_page_locks.specs.Marks.{mask_of, IsMarked, IsUnmarked, IsNextPlace}
+use Rattle.mlt_page_locks.specs.Marks.{mask_of, row_of, IsMarked, IsUnmarked, IsNextPlace}
 
 module _ (masks : List ℕ) (at v : ℕ) (inside : at < length masks) where
   -- what the mask keeps, its number keeps
   pub kept_at : (n p : ℕ) → (bit_at (get_or masks at 0) p ≡ 1 → bit_at v p ≡ 1) → IsMarked masks n p → IsMarked (set masks at v) n p
-  kept_at n p keeps h = by (cases_eq (n % length masks) at)
+  kept_at n p keeps h = by (cases_eq (row_of (length masks) n) at)
     where
-      where_now : mask_of (set masks at v) n ≡ get_or (set masks at v) (n % length masks) 0
-      where_now = ap (λ l. get_or (set masks at v) (n % l) 0) (length-set {A = ℕ} masks at v)
+      where_now : mask_of (set masks at v) n ≡ get_or (set masks at v) (row_of (length masks) n) 0
+      where_now = ap (λ l. get_or (set masks at v) (row_of l n) 0) (length-set {A = ℕ} masks at v)
 
-      by : (n % length masks ≡ at) ⊎ (n % length masks ≡ at → ⊥) → IsMarked (set masks at v) n p
+      by : (row_of (length masks) n ≡ at) ⊎ (row_of (length masks) n ≡ at → ⊥) → IsMarked (set masks at v) n p
       by (inl e) =
           ap (λ m. bit_at m p) (where_now ∙ ap (λ k. get_or (set masks at v) k 0) e ∙ get_or-set_same masks at v 0 inside)
           ∙ keeps (ap (λ k. bit_at (get_or masks k 0) p) (sym e) ∙ h)
-      by (inr ne) = ap (λ m. bit_at m p) (where_now ∙ get_or-set_other masks at (n % length masks) v 0 ne) ∙ h
+      by (inr ne) = ap (λ m. bit_at m p) (where_now ∙ get_or-set_other masks at (row_of (length masks) n) v 0 ne) ∙ h
 
   -- and what it gets is marked
-  pub marked_at : (n p : ℕ) → n % length masks ≡ at → bit_at v p ≡ 1 → IsMarked (set masks at v) n p
+  pub marked_at : (n p : ℕ) → row_of (length masks) n ≡ at → bit_at v p ≡ 1 → IsMarked (set masks at v) n p
   marked_at n p e h =
-      ap (λ m. bit_at m p) (ap (λ l. get_or (set masks at v) (n % l) 0) (length-set {A = ℕ} masks at v) ∙ ap (λ k. get_or (set masks at v) k 0) e ∙ get_or-set_same masks at v 0 inside) ∙ h
+      ap (λ m. bit_at m p) (ap (λ l. get_or (set masks at v) (row_of l n) 0) (length-set {A = ℕ} masks at v) ∙ ap (λ k. get_or (set masks at v) k 0) e ∙ get_or-set_same masks at v 0 inside) ∙ h
 
   -- what its number gets, the mask got
   pub had_at : (n p : ℕ) → (bit_at v p ≡ 1 → bit_at (get_or masks at 0) p ≡ 1) → IsMarked (set masks at v) n p → IsMarked masks n p
-  had_at n p had h = by (cases_eq (n % length masks) at)
+  had_at n p had h = by (cases_eq (row_of (length masks) n) at)
     where
-      where_now : mask_of (set masks at v) n ≡ get_or (set masks at v) (n % length masks) 0
-      where_now = ap (λ l. get_or (set masks at v) (n % l) 0) (length-set {A = ℕ} masks at v)
+      where_now : mask_of (set masks at v) n ≡ get_or (set masks at v) (row_of (length masks) n) 0
+      where_now = ap (λ l. get_or (set masks at v) (row_of l n) 0) (length-set {A = ℕ} masks at v)
 
-      by : (n % length masks ≡ at) ⊎ (n % length masks ≡ at → ⊥) → IsMarked masks n p
+      by : (row_of (length masks) n ≡ at) ⊎ (row_of (length masks) n ≡ at → ⊥) → IsMarked masks n p
       by (inl e) =
           ap (λ k. bit_at (get_or masks k 0) p) e
           ∙ had (ap (λ m. bit_at m p) (sym (where_now ∙ ap (λ k. get_or (set masks at v) k 0) e ∙ get_or-set_same masks at v 0 inside)) ∙ h)
-      by (inr ne) = ap (λ m. bit_at m p) (sym (where_now ∙ get_or-set_other masks at (n % length masks) v 0 ne)) ∙ h
+      by (inr ne) = ap (λ m. bit_at m p) (sym (where_now ∙ get_or-set_other masks at (row_of (length masks) n) v 0 ne)) ∙ h
 
   -- and what it loses is not
-  pub unmarked_at : (n p : ℕ) → n % length masks ≡ at → bit_at v p ≡ 0 → IsMarked (set masks at v) n p → ⊥
+  pub unmarked_at : (n p : ℕ) → row_of (length masks) n ≡ at → bit_at v p ≡ 0 → IsMarked (set masks at v) n p → ⊥
   unmarked_at n p e h marked =
-      let zero : mask_of (set masks at v) n ≡ v = ap (λ l. get_or (set masks at v) (n % l) 0) (length-set {A = ℕ} masks at v) ∙ ap (λ k. get_or (set masks at v) k 0) e ∙ get_or-set_same masks at v 0 inside in
+      let zero : mask_of (set masks at v) n ≡ v = ap (λ l. get_or (set masks at v) (row_of l n) 0) (length-set {A = ℕ} masks at v) ∙ ap (λ k. get_or (set masks at v) k 0) e ∙ get_or-set_same masks at v 0 inside in
       let bit : bit_at (mask_of (set masks at v) n) p ≡ 0 = ap (λ m. bit_at m p) zero ∙ h in
       absurd (omega arith)
 

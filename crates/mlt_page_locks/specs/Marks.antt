@@ -1,14 +1,20 @@
 -- Places that are marked by numbers, and what the marks cover.
-use Rattle.std.specs.Prelude.{◌≡◌, ◌≢◌, ℕ, ◌<◌, ◌≤◌, ◌%◌, Bool, true, is_some, List, length, slice_index, slice_index_or, slice_set}
+use Rattle.std.specs.Prelude.{◌≡◌, ◌≢◌, ℕ, ◌<◌, ◌≤◌, ◌-◌, Bool, true, is_some, List, length, slice_index, slice_index_or, slice_set}
 use Rattle.std.specs.Int.{bit_at}
+use Rattle.std.specs.Int.Bits.{bit_and}
 use Rattle.std.specs.FinMap as map
 use Rattle.mlt_types.specs.declared.mode.Mode.{Mode}
 use Rattle.mlt_page_locks.specs.Requests.{with_page}
 use Rattle.mlt_page_locks.specs.LockLists.{HeldPages, is_list_of, IsSound}
 
--- the mask of a number's remainder
+-- The row of a number, where there are so many: its lowest bits, where their number is a power of two. Else some rows
+-- are nobody's.
+abbrev pub row_of : ℕ → ℕ → ℕ
+row_of count number = bit_and number (count - 1)
+
+-- the mask in a number's row
 abbrev pub mask_of : List ℕ → ℕ → ℕ
-mask_of masks number = slice_index masks (number % length masks)
+mask_of masks number = slice_index masks (row_of (length masks) number)
 
 -- the place is marked at the number
 abbrev pub IsMarked : List ℕ → ℕ → ℕ → Type 0

@@ -1,13 +1,13 @@
 //! Marks of places by numbers: where to look, and where not.
 
-ghost use Rattle.std.specs.Prelude.{◌≡◌, ◌<◌, ◌≤◌, ◌%◌, ℕ, length, IfErr, MatchOption};
-ghost use Rattle.mlt_page_locks.specs.Marks.{mask_of, IsMarked, KeepsOthers, IsUnmarked, IsNextPlace};
+ghost use Rattle.std.specs.Prelude.{◌≡◌, ◌<◌, ◌≤◌, ℕ, length, IfErr, MatchOption};
+ghost use Rattle.mlt_page_locks.specs.Marks.{mask_of, row_of, IsMarked, KeepsOthers, IsUnmarked, IsNextPlace};
 
 use mlt_types::Refusal;
 use std::alloc::Global;
 use std::marker::Model;
 
-/// For each remainder of numbers a mask of 64 places. A contract sees the list of the masks.
+/// Rows of numbers, each with a mask of 64 places. A contract sees the list of the masks.
 #[derive(Drop)]
 pub(crate) struct Marks {
     masks: Vec<u64>,
@@ -24,7 +24,7 @@ impl Model for Marks {
 }
 
 impl Marks {
-    /// So many masks, with no mark. No other call takes memory.
+    /// So many rows, a power of two best, with no mark. No other call takes memory.
     ///
     /// # Errors
     /// `OutOfMemory`, where a growth was refused.
@@ -40,7 +40,7 @@ impl Marks {
     pub fn mask(&self, number: u64) -> u64
         ensures { result ≡ mask_of self.now number }
     {
-        self.masks[remainder(&self.masks, number)]
+        self.masks[row(&self.masks, number)]
     }
 
     /// Marks a place at a number.
@@ -49,29 +49,29 @@ impl Marks {
         ensures marked { IsMarked self.new number place }
         ensures kept { (n p : ℕ) → IsMarked self.old n p → IsMarked self.new n p }
     {
-        let at = remainder(&self.masks, number);
+        let at = row(&self.masks, number);
         self.masks[at] |= 1 << place;
     }
 
-    /// Takes the mark of a place away at a number. Other numbers of its remainder lose it too.
+    /// Takes the mark of a place away at a number. Other numbers of its row lose it too.
     pub fn unmark(&mut self, number: u64, place: usize)
         requires { place < 64 }
         ensures gone { IsMarked self.new number place → ⊥ }
         ensures fewer { (n p : ℕ) → IsMarked self.new n p → IsMarked self.old n p }
         ensures others { KeepsOthers self.old self.new place }
     {
-        let at = remainder(&self.masks, number);
+        let at = row(&self.masks, number);
         self.masks[at] &= !(1 << place);
     }
 }
 
-// The remainder of a number, by which its mask is found.
-fn remainder(masks: &[u64], number: u64) -> usize
+// The row of a number. It takes no division, which would be dearer than all else here.
+fn row(masks: &[u64], number: u64) -> usize
     requires { 0 < length masks.now }
-    ensures is { result ≡ number % length masks.now }
+    ensures is { result ≡ row_of (length masks.now) number }
     ensures within { result < length masks.now }
 {
-    (number % masks.len() as u64) as usize
+    (number & (masks.len() as u64 - 1)) as usize
 }
 
 /// The first place in a mask from `start` on and below `end`, if there is one.

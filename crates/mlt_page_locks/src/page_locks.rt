@@ -13,8 +13,8 @@ use mlt_types::{Limits, Mode, PageNo, Refusal, TxId};
 use std::alloc::Global;
 use std::marker::Model;
 
-// How many masks there are by pages, and by transactions. A place is looked at in vain only where two numbers have
-// one remainder.
+// How many rows of masks there are by pages, and by transactions, powers of two. A place is looked at in vain only where
+// two numbers have one row.
 const PAGE_MASKS: usize = 4_096;
 
 const HOLDER_MASKS: usize = 256;
