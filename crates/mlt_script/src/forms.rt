@@ -6,7 +6,7 @@ ghost use Rattle.mlt_words.specs.Words.{words_of};
 
 use crate::operations::{asking, keyword, number_32, wanted};
 use mlt_tree::{Asking, Ending, Line, Source, Statement, Wanted};
-use mlt_words::{Keyword, Letter, Word, next_word};
+use mlt_words::{Keyword, Letter, Word, has_word, next_word};
 
 /// What a line says.
 #[derive(Clone, Copy)]
@@ -70,7 +70,7 @@ fn finished(form: LineForm, rest: &[u8]) -> Option<LineForm>
 fn begin(text: &[u8]) -> Option<LineForm>
     ensures { result ≡ begin_form (words_of text.now) }
 {
-    if next_word(text).is_none() {
+    if !has_word(text) {
         return Some(LineForm::Begins(0));
     }
     let (client, rest) = client(text)?;

@@ -6,7 +6,7 @@ ghost use Rattle.mlt_words.specs.Words.{words_of};
 
 use crate::forms::{LineForm, line_form};
 use mlt_types::ScriptCause;
-use mlt_words::{is_allowed_line, is_comment_line, next_word, trimmed};
+use mlt_words::{has_word, is_allowed_line, is_comment_line, trimmed};
 
 /// What a line is by itself.
 #[derive(Clone, Copy)]
@@ -22,7 +22,7 @@ pub enum Reading {
 fn read_words(line: &[u8]) -> Reading
     ensures { result ≡ said_by (words_of line.now) }
 {
-    if next_word(line).is_none() {
+    if !has_word(line) {
         return Reading::Skip;
     }
     match line_form(line) {

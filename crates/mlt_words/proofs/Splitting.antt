@@ -1,5 +1,5 @@
 -- The first word of a text.
-use Rattle.std.proofs.Common.{◌≡◌, ℕ, suc, zero, ◌+◌, ◌-◌, ◌<◌, ◌≤◌, List, [], ◌∷◌, ◌++◌, length, take, drop, get_or, map, option_map, not, Bool, true, false, cond, ltb, Option, Some, None, refl, sym, ap, subst, ◌∙◌, append_assoc, arith}
+use Rattle.std.proofs.Common.{◌≡◌, ℕ, suc, zero, ◌+◌, ◌-◌, ◌<◌, ◌≤◌, List, [], ◌∷◌, ◌++◌, length, take, drop, get_or, map, option_map, is_some, not, Bool, true, false, cond, ltb, Option, Some, None, refl, sym, ap, subst, ◌∙◌, append_assoc, arith}
 use Rattle.std.specs.List.{position, position_or_len}
 use Rattle.std.proofs.lemmas.List.{append-nil, get_or-drop, length-drop, take_all}
 use Rattle.std.proofs.lemmas.List.Sums.{fails_before_first}
@@ -126,3 +126,19 @@ pub first_as_what_it_is : (text : List ℕ) (first : Option (List ℕ × List (L
     → option_map (λ x. (word_of x.0, map word_of x.1)) first ≡ word_at (words_of text)
 unfolding words_of
 first_as_what_it_is text first e = ap (option_map (λ x. (word_of x.0, map word_of x.1))) e ∙ as_what_it_is (raw_words text)
+
+-- a text has a word where it has a byte that is not blank
+module _ (text : List ℕ) where
+  told : (word rest : List ℕ) → Some (word, raw_words rest) ≡ first_word (raw_words text) → is_some (word_at (words_of text)) ≡ true
+  told word rest h = sym (ap is_some (first_as_what_it_is text _ h))
+
+  pub word_there : (found : Option ℕ) → position is_black text ≡ found → is_some found ≡ is_some (word_at (words_of text))
+  word_there None e = ap is_some (first_as_what_it_is text None (ap first_word (sym (no_word text e))))
+  word_there (Some start) s =
+      let front = take (length text - start) (drop start text) in
+      let by : (end : Option ℕ) → position is_blank front ≡ end → is_some (word_at (words_of text)) ≡ true =
+      λ end. elim end as (λ end. position is_blank front ≡ end → is_some (word_at (words_of text)) ≡ true) [
+        | Some at ↦ λ e. told _ _ (first_of_more text front start at refl s e)
+        | None ↦ λ e. told _ _ (first_of_one text front start refl s e)
+      ]
+      in sym (by _ refl)

@@ -11,4 +11,4 @@ pub use keyword::{Keyword, Word};
 pub use letter::Letter;
 pub use line::{first_line, is_allowed_line, is_comment_line, trimmed};
 pub use number::number as read_number;
-pub use words::{next_raw_word, next_word};
+pub use words::{has_word, next_raw_word, next_word};

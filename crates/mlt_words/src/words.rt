@@ -1,6 +1,6 @@
 //! The words of a line.
 
-ghost use Rattle.std.specs.Prelude.{◌≡◌, option_map};
+ghost use Rattle.std.specs.Prelude.{◌≡◌, is_some, option_map};
 ghost use Rattle.std.specs.List.{position};
 ghost use Rattle.mlt_words.specs.Words.{words_of, word_at, raw_words, first_word, is_blank, is_black};
 
@@ -16,6 +16,13 @@ fn find_blank(text: &[u8]) -> Option<usize>
     ensures { result ≡ position is_blank text.now }
 {
     text.iter().position(|byte| *byte == b' ' || *byte == b'\t')
+}
+
+/// Whether a text has a word. It is not told what the word is, which takes longer.
+pub fn has_word(text: &[u8]) -> bool
+    ensures { result ≡ is_some (word_at (words_of text.now)) }
+{
+    find_word(text).is_some()
 }
 
 /// The bytes of the first word of a text, and the text after it. Words are parted by spaces and tabs.
