@@ -1,5 +1,6 @@
 -- What each operation needs, is told and changes where it finds a record with a value or none, and how it is undone.
-use Rattle.std.specs.Prelude.{ℕ, ◌+◌, ◌-◌, ◌%◌, ◌^◌, nat_lt, ◌==◌, cond, Bool, true, false, Option, None, Some, is_some}
+use Rattle.std.specs.Prelude.{ℕ, ◌+◌, ◌-◌, ◌%◌, ◌^◌, nat_lt, ◌==◌, cond, Bool, true, false, Option, None, Some, is_some, List, [], ◌∷◌}
+use Rattle.mlt_types.specs.declared.cell.Cell.{Cell}
 use Rattle.mlt_types.specs.declared.mode.Mode.{Mode}
 use Rattle.mlt_types.specs.declared.mode.Mode.TheVariants.{Shared, Exclusive}
 use Rattle.mlt_types.specs.Cells.{key_number}
@@ -59,6 +60,12 @@ abbrev pub reply_of : ObjOp → Option ℕ → ObjReply × Option RecChange
 reply_of (Account a op) live = account_reply_of op live
 reply_of (Element s e op) live = element_reply_of op (is_some live)
 reply_of (Counter c op) live = counter_reply_of op live
+
+-- The changes of records that an operation makes, each with the cell whose record it is: a list of at most two. An
+-- operation of today makes one alone, or none.
+abbrev pub changes_on : ObjOp → Option RecChange → List (Cell × RecChange)
+changes_on op None = []
+changes_on op (Some change) = (cell_of op, change) ∷ []
 
 -- the change that undoes the operation that was told the reply
 abbrev pub account_inverse_of : AccountOp → ObjReply → Option RecChange

@@ -1,8 +1,8 @@
 //! Records read as objects: which page lock an operation needs, what it is told and changes where it finds a
 //! record or none, and the change that undoes it.
 
-ghost use Rattle.std.specs.Prelude.{◌≡◌, ℕ, Option, is_some};
-ghost use Rattle.mlt_base.specs.Plans.{account_inverse_of, account_reply_of, counter_inverse_of, counter_reply_of, element_inverse_of, element_reply_of, inverse_of, plan_of, reply_of};
+ghost use Rattle.std.specs.Prelude.{◌≡◌, ◌≤◌, ℕ, Option, is_some, length};
+ghost use Rattle.mlt_base.specs.Plans.{account_inverse_of, account_reply_of, changes_on, counter_inverse_of, counter_reply_of, element_inverse_of, element_reply_of, inverse_of, plan_of, reply_of};
 ghost use Rattle.mlt_base.specs.Records.{CanChange, counter_of_record, HasWhatIsUndone, IsRecord, record_after, state_of_record};
 ghost use Rattle.mlt_kinds.specs.Accounts.{AccountStep, IsAccount};
 ghost use Rattle.mlt_kinds.specs.Cells.{CellState, CellStep};
@@ -45,7 +45,8 @@ pub fn plan(op: &ObjOp) -> (Key, Mode)
 }
 
 /// What an operation is told, and the change that it makes, where the live record of its key has the value, or
-/// with `None` where there is none. It is the operation's step on the cell that the record stands for.
+/// with `None` where there is none. It is the operation's step on the cell that the record stands for. No operation changes
+/// more than two records.
 pub fn reply(op: &ObjOp, live: Option<Value>) -> (ObjReply, Option<RecChange>)
     ensures table { result ≡ reply_of op.now live }
     ensures step { IsRecord (cell_of op.now) live
@@ -54,6 +55,7 @@ pub fn reply(op: &ObjOp, live: Option<Value>) -> (ObjReply, Option<RecChange>)
     ensures record { IsRecord (cell_of op.now) live
         → IsRecord (cell_of op.now) (record_after result.1 live) }
     ensures fits { CanChange result.1 live }
+    ensures few { length (changes_on op.now result.1) ≤ 2 }
 {
     match *op {
         ObjOp::Account(_, op) => account_reply(op, live),

@@ -8,7 +8,7 @@ use Rattle.mlt_page.specs.declared.page.Page.{Page}
 use Rattle.mlt_kinds.specs.declared.operation.ObjOp.{ObjOp}
 use Rattle.mlt_kinds.specs.declared.operation.ObjReply.{ObjReply}
 use Rattle.mlt_base.specs.declared.record.RecChange.{RecChange}
-use Rattle.mlt_base.specs.Plans.{reply_of}
+use Rattle.mlt_base.specs.Plans.{reply_of, changes_on}
 use Rattle.mlt_hash_form.specs.Held.{Agrees, own_or, over}
 use Rattle.mlt_held.specs.Views.{View}
 use Rattle.mlt_hash.specs.Walks.{HasPassed, Stands}
@@ -28,13 +28,13 @@ use Rattle.mlt_meeting.proofs.Walks.{found_is_record}
 -- the operation is told what the record of its cell asks for, and makes the change that goes with it
 pub record IsAnswered (world : World) (i : ℕ) (op : ObjOp) (reply : ObjReply) (pages : map.FinMap nat_cmp Page) : Type 0 where
   pub told : (reply_of op (record_of world op)).0 ≡ reply
-  pub changes : ChangesPages world i op (reply_of op (record_of world op)).1 pages
+  pub changes : ChangesPages world i (changes_on op (reply_of op (record_of world op)).1) pages
 
 answered_by : (world : World) (i : ℕ) (op : ObjOp) (reply : ObjReply) (pages : map.FinMap nat_cmp Page) (change : Option RecChange) → reply_of op (record_of world op) ≡ (reply, change)
-    → ChangesPages world i op change pages → IsAnswered world i op reply pages
+    → ChangesPages world i (changes_on op change) pages → IsAnswered world i op reply pages
 answered_by world i op reply pages change is changes = record {
   told = ap (λ (d : ObjReply × Option RecChange). d.0) is;
-  changes = subst (λ (c : Option RecChange). ChangesPages world i op c pages) (sym (ap (λ (d : ObjReply × Option RecChange). d.1) is)) changes;
+  changes = subst (λ (c : Option RecChange). ChangesPages world i (changes_on op c) pages) (sym (ap (λ (d : ObjReply × Option RecChange). d.1) is)) changes;
 }
 
 module _ (world : World) (i : ℕ) (o : OperationFields) (view : View) (op : ObjOp) (reply : ObjReply) (pages : map.FinMap nat_cmp Page)

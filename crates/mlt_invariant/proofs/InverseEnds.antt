@@ -6,7 +6,7 @@ use Rattle.mlt_types.specs.declared.mode.Mode.{Mode}
 use Rattle.mlt_kinds.specs.declared.operation.ObjOp.{ObjOp}
 use Rattle.mlt_kinds.specs.declared.operation.ObjReply.{ObjReply}
 use Rattle.mlt_base.specs.declared.record.RecChange.{RecChange}
-use Rattle.mlt_base.specs.Plans.{inverse_of}
+use Rattle.mlt_base.specs.Plans.{inverse_of, changes_on}
 use Rattle.mlt_page_locks.proofs.Maps.{same_entries}
 use Rattle.mlt_page_locks.specs.Requests.{released}
 use Rattle.mlt_subtx.specs.Images.{Running}
@@ -33,6 +33,7 @@ use Rattle.mlt_transaction.specs.Endings.{EndsSubtx}
 use Rattle.mlt_invariant.specs.Sound.{HasInverse, IsSound}
 use Rattle.mlt_invariant.specs.States.{State, all_of, images_kept, world_of}
 use Rattle.mlt_invariant.proofs.Tables.{inserted_elsewhere, inserted_here}
+use Rattle.mlt_kinds.specs.Operations.{cell_of}
 
 -- an inverse at its end has made its change
 record HasChanged (basis : Basis) (o : OperationFields) (view : View) (item : ObjOp × ObjReply) : Type 0 where
@@ -82,7 +83,7 @@ cleared s i commons = record {
 pub record IsCleared (s : State) (i : ℕ) (commons : Commons) (item : ObjOp × ObjReply) : Type 0 where
   pub keeps : KeepsRunning i (all_of s) (cleared s i commons)
   pub nothing : HoldsNothing (cleared s i commons) i
-  pub changes : ChangesPages (world_of s) i item.0 (inverse_of item) (clean_pages (map.insert s.images i map.empty) commons.pages.store.pages)
+  pub changes : ChangesPages (world_of s) i (changes_on item.0 (inverse_of item)) (clean_pages (map.insert s.images i map.empty) commons.pages.store.pages)
 
 pub open_there : (s : State) (i : ℕ) (t : Transaction) → IsSound s → map.get s.txs i ≡ Some t → is_open (all_of s) i ≡ true
 open_there s i t sound was = ap is_some (sound.kept i ∙ ap images_kept was)
@@ -101,7 +102,7 @@ module _ (s : State) (i : ℕ) (before : Transaction) (between commons : Commons
     clean_at_end : (q : ℕ) → clean_of (cleared s i commons) q ≡ clean_of (after_end (all_of s) i) q
     clean_at_end q = ap (λ all. clean_of all q) (sym is_end)
 
-    ends_walk : EndsWalk (world_of s) i fits.last.0 has.change (clean_pages (map.insert s.images i map.empty) commons.pages.store.pages)
+    ends_walk : EndsWalk (world_of s) i (cell_of fits.last.0) has.change (clean_pages (map.insert s.images i map.empty) commons.pages.store.pages)
     ends_walk =
         let view = view_of (moment_of (all_of s) i) in
         let agrees = agrees_with_each (all_of s) i sound.running (open_there s i before sound was) in
@@ -122,7 +123,7 @@ module _ (s : State) (i : ℕ) (before : Transaction) (between commons : Commons
     cleared_by_inverse = record {
       keeps = subst (KeepsRunning i (all_of s)) is_end (end_keeps (all_of s) i sound.running (open_there s i before sound was));
       nothing = subst (λ all. HoldsNothing all i) is_end (nothing_at_end (all_of s) i);
-      changes = subst (λ c. ChangesPages (world_of s) i fits.last.0 c (clean_pages (map.insert s.images i map.empty) commons.pages.store.pages)) (sym has.is) ends_walk;
+      changes = subst (λ c. ChangesPages (world_of s) i (changes_on fits.last.0 c) (clean_pages (map.insert s.images i map.empty) commons.pages.store.pages)) (sym has.is) ends_walk;
     }
 
   module _ (item : ObjOp × ObjReply) (nothing : HoldsNothing (all_of s) i) (same : between ≡ s.commons) (none : inverse_of item ≡ None) where
@@ -144,6 +145,6 @@ module _ (s : State) (i : ℕ) (before : Transaction) (between commons : Commons
     cleared_without = record {
       keeps = subst (KeepsRunning i (all_of s)) is_same stays;
       nothing = subst (λ all. HoldsNothing all i) is_same nothing;
-      changes = subst (λ c. ChangesPages (world_of s) i item.0 c (clean_pages (map.insert s.images i map.empty) commons.pages.store.pages)) (sym none)
+      changes = subst (λ c. ChangesPages (world_of s) i (changes_on item.0 c) (clean_pages (map.insert s.images i map.empty) commons.pages.store.pages)) (sym none)
           (λ q. ap (λ all. clean_of all q) (sym is_same));
     }

@@ -8,7 +8,7 @@ use Rattle.mlt_kinds.specs.declared.operation.ObjOp.{ObjOp}
 use Rattle.mlt_kinds.specs.Operations.{cell_of}
 use Rattle.mlt_base.specs.declared.record.RecChange.{RecChange}
 use Rattle.mlt_base.specs.declared.record.RecChange.TheVariants as rec
-use Rattle.mlt_base.specs.Plans.{reply_of}
+use Rattle.mlt_base.specs.Plans.{reply_of, changes_on}
 use Rattle.mlt_ghosts.specs.Ghosts.{PagesMatchOperations}
 use Rattle.mlt_ghosts.specs.Ledgers.{last_by}
 use Rattle.mlt_ghosts.specs.Operations.{Added, Presence, Removed, Standing}
@@ -24,7 +24,7 @@ use Rattle.mlt_meeting.proofs.Standings.{IsUnopposed, Says, nothing_on_counters}
 module _ (world : World) (tx : ℕ) (op : ObjOp) (pages : map.FinMap nat_cmp Page) (standing : Standing) (h : PagesMeanHistory world) (is_open : IsOpenAt world tx) (forward : world.undoing tx ≡ false) (is : IsInRange (cell_of op)) where
   -- where this was done to the presence of the key, and this to its record
   abbrev KeepsGhosts : Option Presence → Option RecChange → Type 0
-  KeepsGhosts said change = ChangesPages world tx op change pages → Says said (ledger_of world).standing standing tx (op_key op) → IsUnopposed said (ledger_of world) tx (op_key op)
+  KeepsGhosts said change = ChangesPages world tx (changes_on op change) pages → Says said (ledger_of world).standing standing tx (op_key op) → IsUnopposed said (ledger_of world) tx (op_key op)
       → PagesMatchOperations (record (ledger_of world) { standing = standing; pages = map.get pages })
 
   added : (v : ℕ) → KeepsGhosts (Some Added) (Some (rec.Add v))

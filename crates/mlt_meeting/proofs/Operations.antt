@@ -12,7 +12,7 @@ use Rattle.mlt_kinds.specs.Bases.{Base, Step, with_entry as with_live}
 use Rattle.mlt_kinds.specs.Operations.{cell_of}
 use Rattle.mlt_base.specs.declared.record.RecChange.{RecChange}
 use Rattle.mlt_base.specs.Meaning.{Means}
-use Rattle.mlt_base.specs.Plans.{reply_of}
+use Rattle.mlt_base.specs.Plans.{reply_of, changes_on}
 use Rattle.mlt_base.specs.Records.{HasWhatIsUndone, record_after}
 use Rattle.mlt_base.proofs.Meanings.{means_step}
 use Rattle.mlt_commute.proofs.BaseOrder.{did_may_come}
@@ -64,7 +64,7 @@ module _ (world : World) (tx : ℕ) (op : ObjOp) (pages : map.FinMap nat_cmp Pag
   abbrev lists : Lists (ObjOp × ObjReply)
   lists = lists_in world
 
-  module _ (may : MayDo world tx item) (changes : ChangesPages world tx op change pages) where
+  module _ (may : MayDo world tx item) (changes : ChangesPages world tx (changes_on op change) pages) where
     file : BecomesFile world pages (with_live (live_records world.pages) (op_key op) (record_after change live))
     file = pages_become world tx op change pages h changes
 

@@ -27,8 +27,9 @@ use Rattle.mlt_meeting.specs.Ends.{EndsWalk}
 use Rattle.mlt_meeting.specs.Presences.{op_key}
 use Rattle.mlt_meeting.specs.Events.{IsOpenAt}
 use Rattle.mlt_meeting.specs.Worlds.{PagesMeanHistory, World, basis_of, ledger_of}
+use Rattle.mlt_kinds.specs.Operations.{cell_of}
 
-module _ (world : World) (tx : ℕ) (op : ObjOp) (change : RecChange) (pages : map.FinMap nat_cmp Page) (h : PagesMeanHistory world) (e : EndsWalk world tx op change pages) where
+module _ (world : World) (tx : ℕ) (op : ObjOp) (change : RecChange) (pages : map.FinMap nat_cmp Page) (h : PagesMeanHistory world) (e : EndsWalk world tx (cell_of op) change pages) where
   -- the clean pages with the slots rearranged, and with all that is written
   abbrev rested : Ledger
   rested = record (ledger_of world) { pages = over (map.get world.pages) e.changed.rest }

@@ -12,7 +12,7 @@ use Rattle.mlt_kinds.specs.Bases.{Base, Step, empty_base, state_at, with_entry a
 use Rattle.mlt_kinds.specs.Cells.{CellState, CellStep}
 use Rattle.mlt_kinds.specs.Operations.{cell_of}
 use Rattle.mlt_base.specs.Meaning.{Means}
-use Rattle.mlt_base.specs.Plans.{inverse_of}
+use Rattle.mlt_base.specs.Plans.{inverse_of, changes_on}
 use Rattle.mlt_base.specs.Records.{CanChange, IsRecord, record_after, state_of_record}
 use Rattle.mlt_base.proofs.Meanings.{means_step_back}
 use Rattle.mlt_commute.proofs.BaseOrder.{base_functional, base_injective}
@@ -61,7 +61,7 @@ module _ (world : World) (tx : ℕ) (item : ObjOp × ObjReply) (h : PagesMeanHis
   pub inverse_can : CanChange (inverse_of item) live
   inverse_can = back.2
 
-  module _ (pages : map.FinMap nat_cmp Page) (changes : ChangesPages world tx item.0 (inverse_of item) pages) where
+  module _ (pages : map.FinMap nat_cmp Page) (changes : ChangesPages world tx (changes_on item.0 (inverse_of item)) pages) where
     file : BecomesFile world pages (with_live (live_records world.pages) (op_key item.0) (record_after (inverse_of item) live))
     file = pages_become world tx item.0 (inverse_of item) pages h changes
 

@@ -7,7 +7,7 @@ use Rattle.mlt_kinds.specs.declared.operation.ObjOp.{ObjOp}
 use Rattle.mlt_kinds.specs.declared.operation.ObjReply.{ObjReply}
 use Rattle.mlt_base.specs.declared.record.RecChange.{RecChange}
 use Rattle.mlt_base.specs.declared.record.RecChange.TheVariants as rec
-use Rattle.mlt_base.specs.Plans.{inverse_of}
+use Rattle.mlt_base.specs.Plans.{inverse_of, changes_on}
 use Rattle.mlt_hash.specs.declared.pass.Change.{Change}
 use Rattle.mlt_hash.specs.declared.pass.Change.TheVariants.{Set}
 use Rattle.mlt_ghosts.specs.Ghosts.{PagesMatchOperations}
@@ -34,7 +34,7 @@ sets_less n None done is = absurd is
 module _ (world : World) (tx : ℕ) (op : ObjOp) (pages : map.FinMap nat_cmp Page) (standing : Standing) (h : PagesMeanHistory world) (is_open : IsOpenAt world tx) (backward : world.undoing tx ≡ true) where
   -- where this is taken back of the presence of the key, and this is done to its record
   abbrev KeepsGhosts : Option Presence → Option RecChange → Type 0
-  KeepsGhosts said change = ChangesPages world tx op change pages → Says said standing (ledger_of world).standing tx (op_key op)
+  KeepsGhosts said change = ChangesPages world tx (changes_on op change) pages → Says said standing (ledger_of world).standing tx (op_key op)
       → PagesMatchOperations (record (ledger_of world) { standing = standing; pages = map.get pages })
 
   added : KeepsGhosts (Some Added) (Some rec.ToGhost)

@@ -23,6 +23,8 @@ use Rattle.mlt_operation.specs.Performing.{Performs}
 use Rattle.mlt_meeting.specs.Ends.{ChangesPages, EndsWalk, KeepsPages}
 use Rattle.mlt_meeting.specs.Presences.{op_key}
 use Rattle.mlt_meeting.specs.Worlds.{PagesMeanHistory, World, record_of}
+use Rattle.mlt_base.specs.Plans.{changes_on}
+use Rattle.mlt_kinds.specs.Operations.{cell_of}
 
 -- a walk's change leaves the value that the change of the record asks for
 performed : (change : RecChange) (live : Option ℕ) (done : Change) → Performs change live done → value_after done ≡ record_after (Some change) live
@@ -55,7 +57,7 @@ pub record BecomesFile (world : World) (pages : map.FinMap nat_cmp Page) (record
   pub shallow : depth_of (map.get pages) world.root ≤ world.max_depth
   pub records_are : live_records pages ≡ records
 
-module _ (world : World) (tx : ℕ) (op : ObjOp) (change : RecChange) (pages : map.FinMap nat_cmp Page) (h : PagesMeanHistory world) (e : EndsWalk world tx op change pages) where
+module _ (world : World) (tx : ℕ) (op : ObjOp) (change : RecChange) (pages : map.FinMap nat_cmp Page) (h : PagesMeanHistory world) (e : EndsWalk world tx (cell_of op) change pages) where
   header_now : map.get pages world.root ≡ Some (page.Head e.changed.header)
   header_now =
       let passed = e.changed.passed in
@@ -79,7 +81,7 @@ pub kept_pages : (world : World) (pages : map.FinMap nat_cmp Page) → KeepsPage
 kept_pages world pages same = map.same_map nat_cmp_total map.nat_cmp-IsAntisymmetric pages world.pages same
 
 -- whatever the change of the record is, and where there is none
-pub pages_become : (world : World) (tx : ℕ) (op : ObjOp) (change : Option RecChange) (pages : map.FinMap nat_cmp Page) → PagesMeanHistory world → ChangesPages world tx op change pages
+pub pages_become : (world : World) (tx : ℕ) (op : ObjOp) (change : Option RecChange) (pages : map.FinMap nat_cmp Page) → PagesMeanHistory world → ChangesPages world tx (changes_on op change) pages
     → BecomesFile world pages (with_entry (live_records world.pages) (op_key op) (record_after change (record_of world op)))
 pages_become world tx op None pages h keeps =
     let same = kept_pages world pages keeps in

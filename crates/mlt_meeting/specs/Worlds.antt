@@ -3,7 +3,8 @@ use Rattle.std.specs.Prelude.{ℕ, ◌≡◌, ◌≤◌, ◌<◌, ◌↔◌, Boo
 use Rattle.std.specs.Ordering.{nat_cmp}
 use Rattle.std.specs.FinMap as map
 use Rattle.std.specs.FinSet as set
-use Rattle.mlt_types.specs.Cells.{IsInRange}
+use Rattle.mlt_types.specs.Cells.{IsInRange, key_number}
+use Rattle.mlt_types.specs.declared.cell.Cell.{Cell}
 use Rattle.mlt_page.specs.declared.page.Page.{Page}
 use Rattle.mlt_kinds.specs.Bases.{Base, Step, empty_base}
 use Rattle.mlt_kinds.specs.Operations.{cell_of}
@@ -18,7 +19,7 @@ use Rattle.mlt_hash_form.specs.Records.{live_records}
 use Rattle.mlt_hash.specs.Walks.{Basis}
 use Rattle.mlt_ghosts.specs.Ghosts.{PagesMatchOperations}
 use Rattle.mlt_ghosts.specs.Ledgers.{Ledger}
-use Rattle.mlt_meeting.specs.Presences.{op_key, standing_of}
+use Rattle.mlt_meeting.specs.Presences.{standing_of}
 
 pub record World : Type 0 where
   -- the hash file: the function from keys to pseudokeys, the page of the header, how deep the directory may get, and
@@ -62,9 +63,13 @@ basis_of world tx = record {
   tx = tx;
 }
 
--- the record of the cell that an operation is on, on the clean pages
+-- the record of a cell, on the clean pages
+abbrev pub record_at : World → Cell → Option ℕ
+record_at world cell = map.get (live_records world.pages) (key_number cell)
+
+-- the record of the cell that an operation is on
 abbrev pub record_of : World → ObjOp → Option ℕ
-record_of world op = map.get (live_records world.pages) (op_key op)
+record_of world op = record_at world (cell_of op)
 
 -- The clean pages are a hash file that means the base to which the history leads, and they have what its open
 -- transactions may take back.

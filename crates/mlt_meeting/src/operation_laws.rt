@@ -7,7 +7,7 @@ ghost use Rattle.mlt_page.specs.declared.page.Page.{Page};
 ghost use Rattle.mlt_kinds.specs.Bases.{Base, Step};
 ghost use Rattle.mlt_kinds.specs.declared.operation.ObjOp.{ObjOp};
 ghost use Rattle.mlt_kinds.specs.declared.operation.ObjReply.{ObjReply};
-ghost use Rattle.mlt_base.specs.Plans.{inverse_of, reply_of};
+ghost use Rattle.mlt_base.specs.Plans.{inverse_of, reply_of, changes_on};
 ghost use Rattle.mlt_meeting.specs.Ends.{ChangesPages};
 ghost use Rattle.mlt_meeting.specs.Events.{MayDo, MayUndo, with_done, with_undone};
 ghost use Rattle.mlt_meeting.specs.Worlds.{PagesMeanHistory, World, record_of};
@@ -19,7 +19,7 @@ pub fn operation_keeps_the_match()
     ensures { (world : World) (tx : ℕ) (op : ObjOp) (pages : map.FinMap nat_cmp Page)
         → let done = reply_of op (record_of world op) in
         PagesMeanHistory world → MayDo world tx (op, done.0)
-        → ChangesPages world tx op done.1 pages
+        → ChangesPages world tx (changes_on op done.1) pages
         → (base : Base) × Step world.base (op, done.0) base
         × PagesMeanHistory (with_done world tx (op, done.0) pages base) }
 {}
@@ -29,7 +29,7 @@ pub fn operation_keeps_the_match()
 pub fn undoing_keeps_the_match()
     ensures { (world : World) (tx : ℕ) (item : ObjOp × ObjReply) (pages : map.FinMap nat_cmp Page)
         → PagesMeanHistory world → MayUndo world tx item
-        → ChangesPages world tx item.0 (inverse_of item) pages
+        → ChangesPages world tx (changes_on item.0 (inverse_of item)) pages
         → (base : Base) × Step base item world.base
         × PagesMeanHistory (with_undone world tx pages base) }
 {}

@@ -1,3 +1,4 @@
+use Rattle.std.proofs.Common.{arith}
 use Rattle.mlt_kinds.specs.BaseLaws.{base_one_answer, base_one_start, same_base, step_to}
 use Rattle.mlt_kinds.proofs.laws.steps_of_bases_are_fixed.Goals as goal
 
@@ -12,3 +13,6 @@ returns-clause-one_start c = base_one_start
 
 pub returns-clause-of_the_cell : goal.returns-clause-of_the_cell
 returns-clause-of_the_cell c = step_to
+
+pub returns-clause-few : goal.returns-clause-few
+returns-clause-few c = λ op. omega arith
