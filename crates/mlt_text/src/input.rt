@@ -79,8 +79,12 @@ fn read_piece<R: Read>(
     Ok(count == 0)
 }
 
-// One read, tried again while it is interrupted.
-fn read_some<R: Read>(reader: &mut R, buffer: &mut [u8]) -> Result<usize, Refusal>
+/// One read, tried again while it is interrupted. It answers how many bytes came, and 0 at the end of the input, or where
+/// the buffer has no room.
+///
+/// # Errors
+/// `Io`, where the reader failed.
+pub fn read_some<R: Read>(reader: &mut R, buffer: &mut [u8]) -> Result<usize, Refusal>
     ensures bound { ReadsAtMost result buffer.new }
     ensures bytes { ReadConsumes (R.remaining reader.old)
         (R.remaining reader.new) result buffer.new }

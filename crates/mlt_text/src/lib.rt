@@ -4,5 +4,5 @@
 mod input;
 mod output;
 
-pub use input::{MAX_INPUT, read_input};
+pub use input::{MAX_INPUT, read_input, read_some};
 pub use output::{flush, write_text};

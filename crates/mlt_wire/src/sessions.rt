@@ -1,8 +1,7 @@
 //! Sessions over a reader and a writer.
 
 ghost use Rattle.std.specs.Prelude.{◌≡◌, ◌≢◌, ◌<◌, ◌≤◌, ◌+◌, ◌-◌, ◌^◌, ◌⊎◌, ℕ, List, false, None, length, take, drop, vec_len, IfOk, IfErr, OnOk, OnErr, IsErrOf, ◌++◌};
-ghost use Rattle.std.specs.Io.{ReadsAtMost};
-ghost use Rattle.std.specs.Io.KnownBytes.{Consumes, IsAtEnd, Keeps, ReadConsumes};
+ghost use Rattle.std.specs.Io.KnownBytes.{Consumes, IsAtEnd, Keeps};
 ghost use Rattle.mlt_wire.specs.Desks.{Answers, moves};
 ghost use Rattle.mlt_wire.specs.Noting.{receipts_in};
 ghost use Rattle.mlt_wire.specs.Rounds.{Replied, Stopped, Talked, Broken};
@@ -15,34 +14,14 @@ use crate::notes::Notes;
 use crate::turn::abort;
 use mlt_desk::Desk;
 use mlt_serial::Outcome;
-use mlt_text::{MAX_INPUT, write_text};
+use mlt_text::{MAX_INPUT, read_some, write_text};
 use mlt_types::Refusal;
 use std::alloc::Global;
-use std::io::{ErrorKind, Read, Write};
+use std::io::{Read, Write};
 use std::mem;
 
 // How many bytes a session holds.
 const BUFFER: usize = 16_384;
-
-// One read, tried again while it is interrupted.
-fn read_some<R: Read>(reader: &mut R, buffer: &mut [u8]) -> Result<usize, Refusal>
-    ensures bound { ReadsAtMost result buffer.new }
-    ensures bytes { ReadConsumes (R.remaining reader.old)
-        (R.remaining reader.new) result buffer.new }
-    ensures refusal { IfErr result (λ refusal. refusal ≡ Refusal.Io) }
-{
-    for _ in 0..u64::MAX {
-        match reader.read(buffer) {
-            Ok(count) => return Ok(count),
-            Err(error) => {
-                if error.kind() != ErrorKind::Interrupted {
-                    return Err(Refusal::Io);
-                }
-            }
-        }
-    }
-    Err(Refusal::Io)
-}
 
 // Reads behind the bytes that are held, and answers how many bytes came.
 fn fill<R: Read>(
