@@ -72,24 +72,19 @@ impl ObjOp {
 /// An operation that was done, with its reply. A contract sees the pair of the two.
 #[derive(Clone, Copy, Debug, PartialEq, Eq)]
 pub struct Done {
-    cell: Cell,
     op: ObjOp,
     reply: ObjReply,
 }
 
 impl Model for Done {
-    ghost use Rattle.std.specs.Prelude.{◌≡◌};
     ghost use Rattle.mlt_kinds.specs.declared.operation.ObjOp.{ObjOp};
     ghost use Rattle.mlt_kinds.specs.declared.operation.ObjReply.{ObjReply};
-    ghost use Rattle.mlt_kinds.specs.Operations.{cell_of};
 
     ghost Value = { ObjOp × ObjReply };
 
     ghost view = { λ d. (d.op, d.reply) };
 
-    ghost invariant = { λ d. d.cell ≡ cell_of d.op };
-
-    ghost inverse = { λ p. record { cell = cell_of p.0; op = p.0; reply = p.1 } };
+    ghost inverse = { λ p. record { op = p.0; reply = p.1 } };
 }
 
 impl Done {
@@ -97,15 +92,14 @@ impl Done {
     pub fn new(op: ObjOp, reply: ObjReply) -> Done
         ensures { result ≡ (op, reply) }
     {
-        let cell = op.cell();
-        Done { cell, op, reply }
+        Done { op, reply }
     }
 
     /// The cell that the operation is on.
     pub fn cell(&self) -> Cell
         ensures { result ≡ cell_of self.now.0 }
     {
-        self.cell
+        self.op.cell()
     }
 
     /// The operation.

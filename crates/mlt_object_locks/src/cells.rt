@@ -200,10 +200,13 @@ fn give_up_place(cells: &mut Cells, key: u64, tx: TxId)
         ≡ filter (is_not_open_of tx) (list_at cells.old key) }
     ensures gone { HasPlaceIfThere cells.new key }
 {
-    if let Some(places) = cells.get_mut(&key) {
-        places.give_up(tx);
+    let Some(places) = cells.get_mut(&key) else {
+        return;
+    };
+    places.give_up(tx);
+    if places.is_empty() {
+        cells.swap_remove(&key);
     }
-    remove_if_empty(cells, key);
 }
 
 // Takes all places of the transaction at a cell away.
@@ -212,10 +215,13 @@ fn release_places(cells: &mut Cells, key: u64, tx: TxId)
     ensures released { list_at cells.new key ≡ filter (is_not_of tx) (list_at cells.old key) }
     ensures gone { HasPlaceIfThere cells.new key }
 {
-    if let Some(places) = cells.get_mut(&key) {
-        places.release(tx);
+    let Some(places) = cells.get_mut(&key) else {
+        return;
+    };
+    places.release(tx);
+    if places.is_empty() {
+        cells.swap_remove(&key);
     }
-    remove_if_empty(cells, key);
 }
 
 /// Takes all places of the transaction away, at the cells that are noted of it.
@@ -237,17 +243,5 @@ fn release_all_places(cells: &mut Cells, keys: &[u64], tx: TxId)
 {
     for key in keys {
         release_places(cells, *key, tx);
-    }
-}
-
-// Removes the entry of a cell that has no place.
-fn remove_if_empty(cells: &mut Cells, key: u64)
-    requires { IsUnique nat_eq cells.old }
-    ensures others { ChangesAt cells.old cells.new key }
-    ensures same { list_at cells.new key ≡ list_at cells.old key }
-    ensures gone { HasPlaceIfThere cells.new key }
-{
-    if cells.get(&key).is_some_and(|places| places.is_empty()) {
-        cells.swap_remove(&key);
     }
 }
