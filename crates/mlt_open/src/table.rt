@@ -9,6 +9,7 @@ ghost use Rattle.mlt_transaction.specs.Transactions.{IsPending, MayStepIn};
 ghost use Rattle.mlt_kinds.specs.Bases.{with_entry};
 ghost use Rattle.mlt_open.specs.Tables.{CallsNone, CallsOne, CancelsOne, KeepsImage, KeepsNoImage, PutsOneAt, StepsOne};
 
+use crate::place::Place;
 use mlt_event::Answer;
 use mlt_hash_form::Root;
 use mlt_kinds::ObjOp;
@@ -22,7 +23,8 @@ use std::marker::Model;
 /// The open transactions. A contract sees a finite map from their numbers.
 #[derive(Drop)]
 pub struct OpenTransactions {
-    txs: BTreeMap<u64, Transaction>,
+    alloc: Global,
+    txs: BTreeMap<u64, Place>,
 }
 
 impl Model for OpenTransactions {
@@ -46,6 +48,7 @@ impl OpenTransactions {
         ensures { result ≡ map.empty }
     {
         OpenTransactions {
+            alloc,
             txs: BTreeMap::new(alloc),
         }
     }
@@ -61,7 +64,8 @@ impl OpenTransactions {
     pub fn get(&self, tx: TxId) -> Option<&Transaction>
         ensures { option_copied result ≡ map.get self.now tx }
     {
-        self.txs.get(&tx.0)
+        let place = self.txs.get(&tx.0)?;
+        Some(place.get())
     }
 
     /// The first image of a page that an open transaction keeps, if one does. It takes no memory.
@@ -70,7 +74,7 @@ impl OpenTransactions {
         ensures none { IfNone result (KeepsNoImage self.now page) }
     {
         for (_, transaction) in &self.txs {
-            let first = transaction.subtx.first_image(page);
+            let first = transaction.first_image(page);
             if first.is_some() {
                 return first;
             }
@@ -87,7 +91,8 @@ impl OpenTransactions {
         ensures err { OnErr result (self.new ≡ self.old) }
         ensures refusal { IfErr result (λ refusal. refusal ≡ Refusal.OutOfMemory) }
     {
-        self.txs.insert(tx.0, transaction)?;
+        let place = Place::new(self.alloc, transaction)?;
+        self.txs.insert(tx.0, place)?;
         Ok(())
     }
 
@@ -156,6 +161,6 @@ impl OpenTransactions {
         let Some(transaction) = self.txs.get_mut(&tx.0) else {
             unreachable!()
         };
-        transaction.at = at;
+        transaction.put_at(at);
     }
 }

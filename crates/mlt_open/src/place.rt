@@ -1,0 +1,103 @@
+//! The place of one open transaction.
+
+ghost use Rattle.std.specs.Prelude.{◌≡◌, ◌≤◌, None, Some, OnOk, OnErr, IfOk, IfErr, option_copied};
+ghost use Rattle.mlt_subtx.specs.Images.{AreThere, image_of};
+ghost use Rattle.mlt_hash.specs.Walks.{basis_by};
+ghost use Rattle.mlt_transaction.specs.Transactions.{IsNotCalled, IsPending, MayStepIn, TellsOfCall, TellsOfCancel, TellsOfTransaction};
+
+use mlt_event::Answer;
+use mlt_hash_form::Root;
+use mlt_kinds::ObjOp;
+use mlt_page::Page;
+use mlt_transaction::{At, Commons, Transaction};
+use mlt_types::{OpenSet, PageNo, Pseudo, Refusal};
+use std::alloc::{AllocError, Global};
+use std::marker::Model;
+
+/// A transaction that stays where it is, however the table around it moves: with room for two pages it is large. A
+/// contract sees the transaction.
+#[derive(Drop)]
+pub(crate) struct Place {
+    transaction: Box<Transaction>,
+}
+
+impl Model for Place {
+    ghost use Rattle.mlt_transaction.specs.declared.transaction.Transaction.{Transaction};
+    ghost use Rattle.mlt_transaction.specs.contracts.transaction.Transaction.{the_row};
+
+    ghost Value = { Transaction };
+
+    ghost coded = { the_row.coded };
+
+    ghost view = { λ place. place.transaction.value };
+}
+
+impl Place {
+    /// A place for a transaction.
+    ///
+    /// # Errors
+    /// A growth was refused.
+    pub(crate) fn new(alloc: Global, transaction: Transaction) -> Result<Place, AllocError>
+        ensures { IfOk result (λ place. place ≡ transaction) }
+    {
+        Ok(Place {
+            transaction: Box::new(alloc, transaction)?,
+        })
+    }
+
+    /// The transaction.
+    pub(crate) fn get(&self) -> &Transaction
+        ensures { result.now ≡ self.now }
+    {
+        &self.transaction
+    }
+
+    /// The first image of a page that the transaction keeps, if it keeps one.
+    pub(crate) fn first_image(&self, page: PageNo) -> Option<&Option<Page>>
+        ensures { option_copied result ≡ image_of self.now.subtx.images page }
+    {
+        self.transaction.subtx.first_image(page)
+    }
+
+    /// [`Transaction::call`].
+    pub(crate) fn call(&mut self, commons: &mut Commons, op: ObjOp) -> Result<(), Refusal>
+        requires idle { self.old.at ≡ At.Idle }
+        ensures calls { OnOk result (TellsOfCall op self.old self.new commons.old commons.new) }
+        ensures err { OnErr result (IsNotCalled self.old self.new commons.old commons.new) }
+        ensures refusal { IfErr result (λ refusal. refusal ≡ Refusal.OutOfMemory) }
+    {
+        self.transaction.call(commons, op)
+    }
+
+    /// [`Transaction::step`].
+    pub(crate) fn step<P: Pseudo>(
+        &mut self,
+        commons: &mut Commons,
+        root: &Root<P>,
+        opens: &OpenSet,
+    ) -> Answer
+        requires ready { MayStepIn (basis_by P.bits_of root.now opens.now self.old.subtx.tx)
+            self.old commons.old }
+        ensures tells { TellsOfTransaction (basis_by P.bits_of root.now opens.now self.old.subtx.tx)
+            self.old self.new commons.old commons.new result }
+    {
+        self.transaction.step(commons, root, opens)
+    }
+
+    /// [`Transaction::cancel`].
+    pub(crate) fn cancel(&mut self, commons: &mut Commons)
+        requires pending { IsPending self.old.at }
+        requires there { AreThere self.old.subtx.images commons.old.pages.store.pages }
+        requires room { 2 ≤ commons.old.history.room }
+        ensures tells { TellsOfCancel self.old self.new commons.old commons.new }
+    {
+        self.transaction.cancel(commons);
+    }
+
+    /// Puts the transaction at something else.
+    pub(crate) fn put_at(&mut self, at: At)
+        ensures { self.new ≡ record self.old { at = at } }
+    {
+        self.transaction.at = at;
+    }
+}
