@@ -27,7 +27,7 @@ impl<'a, P: Pseudo, L: Ledger, R: Wait, G: Gate> LockDesk<'a, P, L, R, G> {
         requires part { share.parts ≡ 1 }
         requires amount { share.amount ≡ 0 }
     {
-        shared.hall.lock(rt).desks.enter();
+        shared.lock(rt).desks.enter();
         LockDesk {
             rt,
             shared,
@@ -64,7 +64,7 @@ impl<'a, P: Pseudo, L: Ledger, R: Wait, G: Gate> LockDesk<'a, P, L, R, G> {
             share,
             events,
         } = self;
-        let wakes = shared.hall.lock(rt).desks.leave();
+        let wakes = shared.lock(rt).desks.leave();
         if wakes {
             shared.moved.notify_all();
         }
@@ -85,7 +85,7 @@ impl<'a, P: Pseudo, L: Ledger, R: Wait, G: Gate> LockDesk<'a, P, L, R, G> {
             events,
             ..
         } = self;
-        let mut hall = shared.hall.lock(*rt);
+        let mut hall = shared.lock(*rt);
         let (told, wakes) = hall.act(event, share);
         *objects = hall.desks.version(Awaited::Objects);
         *pages = hall.desks.version(Awaited::Pages);
@@ -115,7 +115,7 @@ impl<'a, P: Pseudo, L: Ledger, R: Wait, G: Gate> LockDesk<'a, P, L, R, G> {
             Awaited::Pages => self.pages,
         };
         let wait = Waiting { waiter: tx, holder };
-        let mut hall = self.shared.hall.lock(self.rt);
+        let mut hall = self.shared.lock(self.rt);
         match hall.desks.begin_wait(awaited, seen, wait) {
             Turn::Sleeps => {
                 self.shared

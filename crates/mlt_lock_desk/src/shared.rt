@@ -6,7 +6,14 @@ use crate::hall::Hall;
 use mlt_manager::Manager;
 use mlt_types::Pseudo;
 use std::sync::ledger::{Ledger, Share};
-use std::sync::{Condvar, Mutex};
+use std::hint::spin_loop;
+use std::sync::{Condvar, Mutex, MutexGuard, Wait};
+
+// How often the lock is looked at before a thread sleeps for it.
+const LOOKS: u32 = 30;
+
+// The longest wait between two looks, in turns of `spin`.
+const LONGEST_WAIT: u32 = 512;
 
 /// A lock over the manager, and where desks wait.
 pub struct Shared<P: Pseudo, L: Ledger> {
@@ -21,6 +28,23 @@ impl<P: Pseudo, L: Ledger> Shared<P, L> {
             hall: Mutex::new(hall),
             moved: Condvar::new(),
         }
+    }
+
+    /// The hall, once nobody else has it.
+    ///
+    /// A hold takes a millionth part of a second, and to put a thread to sleep and wake it takes many: so the lock is
+    /// first looked at again and again, each time after twice the wait (exponential backoff: Anderson, IEEE TPDS 1(1),
+    /// 1990, section 3), and only then slept for.
+    pub(crate) fn lock<R: Wait>(&self, rt: &R) -> MutexGuard<'_, Hall<P, L>> {
+        let mut turns = 1;
+        for _ in 0..LOOKS {
+            if let Some(hall) = self.hall.try_lock() {
+                return hall;
+            }
+            spin(turns);
+            turns = (turns * 2).min(LONGEST_WAIT);
+        }
+        self.hall.lock(rt)
     }
 
     /// The manager, whose events are the amount of the whole share.
@@ -38,5 +62,11 @@ impl<P: Pseudo, L: Ledger> Shared<P, L> {
     pub fn into_manager(self) -> Manager<P> {
         let Shared { hall, moved: _ } = self;
         hall.into_inner().into_manager()
+    }
+}
+
+fn spin(turns: u32) {
+    for _ in 0..turns {
+        spin_loop();
     }
 }

@@ -23,7 +23,7 @@ use mlt_page::Page;
 use mlt_page_locks::PageLocks;
 use mlt_store::Store;
 use mlt_trace::TraceItem;
-use mlt_transaction::{At, Commons, Transaction};
+use mlt_transaction::{At, Commons};
 use mlt_types::{Limits, OpenSet, PageNo, Pseudo, Refusal, TxId};
 use std::alloc::Global;
 
@@ -203,8 +203,7 @@ impl<P: Pseudo> Parts<P> {
         }
         self.commons.history.reserve(2)?;
         let tx = TxId(self.begun + 1);
-        let transaction = Transaction::begin(self.commons.alloc, tx);
-        if let Err(refusal) = self.txs.insert(tx, transaction) {
+        if let Err(refusal) = self.txs.begin(tx) {
             self.commons.history.release(2);
             return Err(refusal);
         }

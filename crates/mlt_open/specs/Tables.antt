@@ -1,22 +1,36 @@
 -- What the calls of one transaction make of a table of open ones
-use Rattle.std.specs.Prelude.{ℕ, ◌≡◌, Option, None, Some}
+use Rattle.std.specs.Prelude.{ℕ, ◌≡◌, List, [], Option, None, Some}
 use Rattle.std.specs.Ordering.{nat_cmp}
 use Rattle.std.specs.FinMap as map
 use Rattle.std.specs.FinSet as set
 use Rattle.mlt_page.specs.declared.page.Page.{Page}
-use Rattle.mlt_subtx.specs.Images.{image_of}
+use Rattle.mlt_subtx.specs.Images.{image_of, started}
+use Rattle.mlt_kinds.specs.Bases.{with_entry}
 use Rattle.mlt_kinds.specs.declared.operation.ObjOp.{ObjOp}
 use Rattle.mlt_hash_form.specs.declared.root.Root.{Root}
 use Rattle.mlt_hash.specs.Walks.{basis_by}
 use Rattle.mlt_event.specs.declared.answer.Answer.{Answer}
 use Rattle.mlt_transaction.specs.declared.commons.Commons.{Commons}
 use Rattle.mlt_transaction.specs.declared.transaction.At.{At}
+use Rattle.mlt_transaction.specs.declared.transaction.At.TheVariants.{Idle}
 use Rattle.mlt_transaction.specs.declared.transaction.Transaction.{Transaction}
 use Rattle.mlt_transaction.specs.Transactions.{IsNotCalled, TellsOfCall, TellsOfCancel, TellsOfTransaction}
 
 -- the open transactions, by their numbers
 abbrev pub Table : Type 0
 Table = map.FinMap nat_cmp Transaction
+
+-- a transaction of this number that has done nothing
+pub record HasDoneNothing (tx : ℕ) (one : Transaction) : Type 0 where
+  pub subtx : one.subtx ≡ started tx
+  pub entries : one.undo.entries ≡ []
+  pub idle : one.at ≡ Idle
+
+-- a transaction of this number that has done nothing is open from now on
+pub record BeginsOne (tx : ℕ) (old new : Table) : Type 0 where
+  pub one : Transaction
+  pub nothing : HasDoneNothing tx one
+  pub is : new ≡ with_entry old tx (Some one)
 
 -- the transaction of this number, and no other, is changed
 pub record ChangesOne (tx : ℕ) (old new : Table) : Type 0 where

@@ -3,6 +3,7 @@
 ghost use Rattle.std.specs.Prelude.{◌≡◌, ◌≤◌, None, Some, OnOk, OnErr, IfOk, IfErr, option_copied};
 ghost use Rattle.mlt_subtx.specs.Images.{AreThere, image_of};
 ghost use Rattle.mlt_hash.specs.Walks.{basis_by};
+ghost use Rattle.mlt_open.specs.Tables.{HasDoneNothing};
 ghost use Rattle.mlt_transaction.specs.Transactions.{IsNotCalled, IsPending, MayStepIn, TellsOfCall, TellsOfCancel, TellsOfTransaction};
 
 use mlt_event::Answer;
@@ -10,7 +11,7 @@ use mlt_hash_form::Root;
 use mlt_kinds::ObjOp;
 use mlt_page::Page;
 use mlt_transaction::{At, Commons, Transaction};
-use mlt_types::{OpenSet, PageNo, Pseudo, Refusal};
+use mlt_types::{OpenSet, PageNo, Pseudo, Refusal, TxId};
 use std::alloc::{AllocError, Global};
 use std::marker::Model;
 
@@ -33,16 +34,23 @@ impl Model for Place {
 }
 
 impl Place {
-    /// A place for a transaction.
+    /// A place with a transaction of this number that has done nothing.
     ///
     /// # Errors
     /// A growth was refused.
-    pub(crate) fn new(alloc: Global, transaction: Transaction) -> Result<Place, AllocError>
-        ensures { IfOk result (λ place. place ≡ transaction) }
+    pub(crate) fn new(alloc: Global, tx: TxId) -> Result<Place, AllocError>
+        ensures { IfOk result (HasDoneNothing tx) }
     {
         Ok(Place {
-            transaction: Box::new(alloc, transaction)?,
+            transaction: Box::new(alloc, Transaction::begin(alloc, tx))?,
         })
+    }
+
+    /// Puts a transaction of this number that has done nothing here, in the place of another.
+    pub(crate) fn restart(&mut self, alloc: Global, tx: TxId)
+        ensures { HasDoneNothing tx self.new }
+    {
+        self.transaction.restart(alloc, tx);
     }
 
     /// The transaction.
@@ -100,4 +108,29 @@ impl Place {
     {
         self.transaction.at = at;
     }
+}
+
+/// A place with a transaction of this number that has done nothing: one that was left, where there is one.
+///
+/// # Errors
+/// A growth was refused.
+pub(crate) fn take_place(
+    left: &mut Vec<Place>,
+    alloc: Global,
+    tx: TxId,
+) -> Result<Place, AllocError>
+    ensures { IfOk result (HasDoneNothing tx) }
+{
+    match left.pop() {
+        Some(mut place) => {
+            place.restart(alloc, tx);
+            Ok(place)
+        }
+        None => Place::new(alloc, tx),
+    }
+}
+
+/// Leaves a place for a transaction to come. Where a growth is refused, its memory is given back.
+pub(crate) fn leave_place(left: &mut Vec<Place>, place: Place) {
+    let _ = left.push(place);
 }

@@ -7,9 +7,9 @@ ghost use Rattle.mlt_hash.specs.Walks.{basis_by};
 ghost use Rattle.mlt_transaction.specs.declared.transaction.Transaction.{Transaction as TransactionFields};
 ghost use Rattle.mlt_transaction.specs.Transactions.{IsPending, MayStepIn};
 ghost use Rattle.mlt_kinds.specs.Bases.{with_entry};
-ghost use Rattle.mlt_open.specs.Tables.{CallsNone, CallsOne, CancelsOne, KeepsImage, KeepsNoImage, PutsOneAt, StepsOne};
+ghost use Rattle.mlt_open.specs.Tables.{BeginsOne, CallsNone, CallsOne, CancelsOne, KeepsImage, KeepsNoImage, PutsOneAt, StepsOne};
 
-use crate::place::Place;
+use crate::place::{Place, leave_place, take_place};
 use mlt_event::Answer;
 use mlt_hash_form::Root;
 use mlt_kinds::ObjOp;
@@ -21,10 +21,13 @@ use std::collections::BTreeMap;
 use std::marker::Model;
 
 /// The open transactions. A contract sees a finite map from their numbers.
+///
+/// The place of a transaction that has ended is used again, with the room of its undo list.
 #[derive(Drop)]
 pub struct OpenTransactions {
     alloc: Global,
     txs: BTreeMap<u64, Place>,
+    left: Vec<Place>,
 }
 
 impl Model for OpenTransactions {
@@ -50,6 +53,7 @@ impl OpenTransactions {
         OpenTransactions {
             alloc,
             txs: BTreeMap::new(alloc),
+            left: Vec::new(alloc),
         }
     }
 
@@ -82,16 +86,16 @@ impl OpenTransactions {
         None
     }
 
-    /// Adds a transaction under a number.
+    /// Opens a transaction of a number, which has done nothing.
     ///
     /// # Errors
     /// `OutOfMemory`, where a growth was refused; the table is then as before.
-    pub fn insert(&mut self, tx: TxId, transaction: Transaction) -> Result<(), Refusal>
-        ensures inserted { OnOk result (self.new ≡ with_entry self.old tx (Some transaction)) }
+    pub fn begin(&mut self, tx: TxId) -> Result<(), Refusal>
+        ensures begins { OnOk result (BeginsOne tx self.old self.new) }
         ensures err { OnErr result (self.new ≡ self.old) }
         ensures refusal { IfErr result (λ refusal. refusal ≡ Refusal.OutOfMemory) }
     {
-        let place = Place::new(self.alloc, transaction)?;
+        let place = take_place(&mut self.left, self.alloc, tx)?;
         self.txs.insert(tx.0, place)?;
         Ok(())
     }
@@ -100,7 +104,9 @@ impl OpenTransactions {
     pub fn remove(&mut self, tx: TxId)
         ensures { self.new ≡ with_entry self.old tx None }
     {
-        self.txs.remove(&tx.0);
+        if let Some(place) = self.txs.remove(&tx.0) {
+            leave_place(&mut self.left, place);
+        }
     }
 
     /// Calls the transaction of a number, which is open and at nothing, with an operation.

@@ -4,6 +4,7 @@
 #![tactic(auto)]
 
 mod image;
+mod near;
 mod subtx;
 
 pub use subtx::Subtx;

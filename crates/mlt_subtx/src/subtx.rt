@@ -11,7 +11,7 @@ ghost use Rattle.mlt_subtx.specs.ImageLists.{images_in, images_of, IsKept};
 ghost use Rattle.mlt_subtx.specs.Locking.{LocksPagesThere, HasRoomForOneMore};
 
 use crate::image::{Image, find_image};
-use arrayvec::ArrayVec;
+use crate::near::NearImages;
 use indexmap::IndexMap;
 use mlt_page::{Page, Slot};
 use mlt_page_locks::{Grant, PageLocks};
@@ -30,7 +30,7 @@ type FarImages = IndexMap<PageNo, Option<Page>>;
 #[derive(Drop)]
 pub struct Subtx {
     tx: TxId,
-    near: ArrayVec<Image, 2>,
+    near: NearImages,
     far: FarImages,
 }
 
@@ -43,9 +43,9 @@ impl Model for Subtx {
 
     ghost coded = { coded_running };
 
-    ghost view = { λ s. record { tx = s.tx; images = images_of (s.near.items ++ images_in s.far.entries) } };
+    ghost view = { λ s. record { tx = s.tx; images = images_of (s.near ++ images_in s.far.entries) } };
 
-    ghost invariant = { λ s. IsKept s.near.items (images_in s.far.entries) };
+    ghost invariant = { λ s. IsKept s.near (images_in s.far.entries) };
 }
 
 impl Subtx {
@@ -55,9 +55,20 @@ impl Subtx {
     {
         Subtx {
             tx,
-            near: ArrayVec::new(),
+            near: NearImages::new(),
             far: IndexMap::new(alloc),
         }
+    }
+
+    /// Makes it a subtransaction of `tx` that has written nothing, as [`Subtx::start`] does, in the place of this one. It
+    /// takes no memory, and gives back what is taken for images behind the first two.
+    pub fn restart(&mut self, alloc: Global, tx: TxId)
+        ensures { self.new ≡ started tx }
+    {
+        let Subtx { tx: own, near, far } = self;
+        *own = tx;
+        near.clear();
+        *far = IndexMap::new(alloc);
     }
 
     /// The transaction that the subtransaction is part of.
@@ -194,7 +205,7 @@ impl Subtx {
     pub fn first_image(&self, page: PageNo) -> Option<&Option<Page>>
         ensures { option_copied result ≡ image_of self.now.images page }
     {
-        match find_image(&self.near, page) {
+        match find_image(self.near.as_slice(), page) {
             Some(image) => Some(&image.first),
             None => self.far.get(&page),
         }
@@ -235,37 +246,19 @@ impl Subtx {
         if self.near.is_full() {
             self.far.insert(page, first.copied())?;
         } else {
-            push_image(&mut self.near, page, first);
+            self.near.push(page, first);
         }
         Ok(())
     }
 }
 
-// Puts an image behind the others. Of a bucket no more is copied than it takes, a quarter of the room of a page.
-fn push_image(near: &mut ArrayVec<Image, 2>, page: PageNo, first: Option<&Page>)
-    requires { length near.old.items < 2 }
-    ensures { near.new.items
-        ≡ near.old.items ++ record { page = page; first = option_copied first.entry } ∷ [] }
-{
-    match first {
-        Some(Page::Bucket(bucket)) => near.push(Image {
-            page,
-            first: Some(Page::Bucket(*bucket)),
-        }),
-        _ => near.push(Image {
-            page,
-            first: first.copied(),
-        }),
-    }
-}
-
-fn put_all_back(far: &mut FarImages, near: &mut ArrayVec<Image, 2>, store: &mut Store)
-    requires kept { IsKept near.old.items (images_in far.old.entries) }
-    requires there { AreThere (images_of (near.old.items ++ images_in far.old.entries)) store.old.pages }
-    ensures store { let images = images_of (near.old.items ++ images_in far.old.entries) in
+fn put_all_back(far: &mut FarImages, near: &mut NearImages, store: &mut Store)
+    requires kept { IsKept near.old (images_in far.old.entries) }
+    requires there { AreThere (images_of (near.old ++ images_in far.old.entries)) store.old.pages }
+    ensures store { let images = images_of (near.old ++ images_in far.old.entries) in
         store.new ≡ record store.old { pages = put_back images store.old.pages } }
     ensures far { far.new.entries ≡ [] }
-    ensures near { near.new.items ≡ [] }
+    ensures near { near.new ≡ [] }
 {
     while let Some(entry) = far.pop() {
         let (page, first) = entry;

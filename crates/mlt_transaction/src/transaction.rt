@@ -52,6 +52,18 @@ impl Transaction {
         }
     }
 
+    /// Makes it a transaction of this number that has done nothing, as [`Transaction::begin`] does, in the place of this
+    /// one. It takes no memory; the room of its undo list stays.
+    pub fn restart(&mut self, alloc: Global, tx: TxId)
+        ensures subtx { self.new.subtx ≡ started tx }
+        ensures entries { self.new.undo.entries ≡ [] }
+        ensures at { self.new.at ≡ At.Idle }
+    {
+        self.subtx.restart(alloc, tx);
+        self.undo.clear();
+        self.at = At::Idle;
+    }
+
     /// Calls the transaction, which is at nothing, with an operation, which is pending from then on. Room is made for its
     /// undo entry, its object lock, and its two items of the history: that it is done, and that it is taken back.
     ///

@@ -74,6 +74,14 @@ impl UndoList {
         self.done.last().copied()
     }
 
+    /// Takes all entries off. The room stays.
+    pub fn clear(&mut self)
+        ensures entries { self.new.entries ≡ [] }
+        ensures spare { self.new.spare ≡ self.old.spare + length self.old.entries }
+    {
+        self.done.clear();
+    }
+
     /// Takes the last entry off.
     pub fn pop(&mut self) -> Option<Done>
         ensures last { IsPopped result self.old.entries self.new.entries }

@@ -4,13 +4,13 @@ use Rattle.mlt_subtx.proofs.Lists.{PutBackSoFar}
 use Rattle.mlt_subtx.proofs.subtx.put_all_back.Given as goal
 
 abbrev pub invariant-loop-entry : goal.invariant-loop-entry
-invariant-loop-entry l = PutBackSoFar (l.near.items ++ images_in l.far.entries) l.store (l.initial.near.items ++ images_in l.initial.far.entries) l.initial.store
+invariant-loop-entry l = PutBackSoFar (l.near ++ images_in l.far.entries) l.store (l.initial.near ++ images_in l.initial.far.entries) l.initial.store
 
 abbrev pub decreases-loop-entry : goal.decreases-loop-entry
 decreases-loop-entry l = length l.far.entries
 
 abbrev pub invariant-loop-image : goal.invariant-loop-image
-invariant-loop-image l = PutBackSoFar l.near.items l.store l.initial.near.items l.initial.store
+invariant-loop-image l = PutBackSoFar l.near l.store l.initial.near l.initial.store
 
 abbrev pub decreases-loop-image : goal.decreases-loop-image
-decreases-loop-image l = length l.near.items
+decreases-loop-image l = length l.near

@@ -10,21 +10,21 @@ use Rattle.mlt_subtx.proofs.Lists.{KeptOneMore, images_in-append, kept_near, kep
 use Rattle.mlt_subtx.proofs.subtx.Subtx.keep.Goals as goal
 
 behind : (c : goal.In_ok-insert)
-    → KeptOneMore c.self.inside.near.items (images_in c.self.inside.far.entries) c.self.inside.near.items (images_in c.insert.new.self.entries) (record { page = c.args.page; first = c.copied.result })
+    → KeptOneMore c.self.inside.near (images_in c.self.inside.far.entries) c.self.inside.near (images_in c.insert.new.self.entries) (record { page = c.args.page; first = c.copied.result })
 behind c =
     let far = c.self.inside.far in
-    let none : image_of (images_of (c.self.inside.near.items ++ images_in far.entries)) c.args.page ≡ None = ap (λ (r : Running). image_of r.images c.args.page) c.self.view_is ∙ c.requires in
-    let full : length c.self.inside.near.items ≡ 2 = grind (arith, nat_tests, c.if-is_full.ensures.value) in
+    let none : image_of (images_of (c.self.inside.near ++ images_in far.entries)) c.args.page ≡ None = ap (λ (r : Running). image_of r.images c.args.page) c.self.view_is ∙ c.requires in
+    let full : length c.self.inside.near ≡ 2 = grind (arith, nat_tests, c.if-is_full.ensures.value) in
     let more : images_in c.insert.new.self.entries ≡ images_in far.entries ++ record { page = c.args.page; first = c.copied.result } ∷ [] =
-    ap images_in (c.in_ok-insert.ensures.entries ∙ insert_entry-new nat_eq far c.args.page (c.copied.result) (no_entry c.self.inside.near.items far.entries c.args.page none)) ∙ images_in-append far.entries ((c.args.page, c.copied.result) ∷ []) in
-    kept_far c.self.inside.near.items (images_in far.entries) (images_in c.insert.new.self.entries) (record { page = c.args.page; first = c.copied.result }) c.self.invariant none full more
+    ap images_in (c.in_ok-insert.ensures.entries ∙ insert_entry-new nat_eq far c.args.page (c.copied.result) (no_entry c.self.inside.near far.entries c.args.page none)) ∙ images_in-append far.entries ((c.args.page, c.copied.result) ∷ []) in
+    kept_far c.self.inside.near (images_in far.entries) (images_in c.insert.new.self.entries) (record { page = c.args.page; first = c.copied.result }) c.self.invariant none full more
 
-in_front : (c : goal.After-push_image)
-    → KeptOneMore c.self.inside.near.items (images_in c.self.inside.far.entries) c.push_image.new.near.items (images_in c.self.inside.far.entries) (record { page = c.args.page; first = option_copied c.args.first })
+in_front : (c : goal.After-push)
+    → KeptOneMore c.self.inside.near (images_in c.self.inside.far.entries) c.push.new.self (images_in c.self.inside.far.entries) (record { page = c.args.page; first = option_copied c.args.first })
 in_front c =
-    let none : image_of (images_of (c.self.inside.near.items ++ images_in c.self.inside.far.entries)) c.args.page ≡ None = ap (λ (r : Running). image_of r.images c.args.page) c.self.view_is ∙ c.requires in
-    kept_near c.self.inside.near.items (images_in c.self.inside.far.entries) c.push_image.new.near.items (record { page = c.args.page; first = option_copied c.args.first }) c.self.invariant none
-    (grind (arith, nat_tests, c.if-is_full.ensures.value, c.if-is_full.ensures.fits)) c.push_image.ensures
+    let none : image_of (images_of (c.self.inside.near ++ images_in c.self.inside.far.entries)) c.args.page ≡ None = ap (λ (r : Running). image_of r.images c.args.page) c.self.view_is ∙ c.requires in
+    kept_near c.self.inside.near (images_in c.self.inside.far.entries) c.push.new.self (record { page = c.args.page; first = option_copied c.args.first }) c.self.invariant none
+    (grind (arith, nat_tests, c.if-is_full.ensures.value, c.if-is_full.ensures.fits)) c.push.ensures
 
 pub invariant_of-self : goal.invariant_of-self
 invariant_of-self c = (behind c).kept

@@ -1,9 +1,0 @@
-use Rattle.std.proofs.Common.{Some, ◌∙◌}
-use Rattle.mlt_kinds.specs.Bases.{with_entry}
-use Rattle.mlt_open.proofs.Tables.{entries_updated}
-use Rattle.mlt_open.proofs.table.OpenTransactions.insert.Goals as goal
-
-pub returns-clause-inserted : goal.returns-clause-inserted
-returns-clause-inserted c =
-    entries_updated c.self.inside.txs.entries c.insert.new.self.entries c.tx.inside.0 (Some c.in_ok-place.place) c.in_ok-insert.ensures.updates.0
-    ∙ (λ i. with_entry (c.self.view_is i) (c.tx.view_is i) (Some (c.in_ok-place.ensures i)))
