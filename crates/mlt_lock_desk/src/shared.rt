@@ -12,8 +12,8 @@ use std::sync::{Condvar, Mutex, MutexGuard, Wait};
 // How often the lock is looked at before a thread sleeps for it.
 const LOOKS: u32 = 30;
 
-// The longest wait between two looks, in turns of `spin`.
-const LONGEST_WAIT: u32 = 512;
+// The longest wait between two looks is 2^9 pauses of the processor.
+const MOST_DOUBLINGS: u32 = 9;
 
 /// A lock over the manager, and where desks wait.
 pub struct Shared<P: Pseudo, L: Ledger> {
@@ -36,13 +36,11 @@ impl<P: Pseudo, L: Ledger> Shared<P, L> {
     /// first looked at again and again, each time after twice the wait (exponential backoff: Anderson, IEEE TPDS 1(1),
     /// 1990, section 3), and only then slept for.
     pub(crate) fn lock<R: Wait>(&self, rt: &R) -> MutexGuard<'_, Hall<P, L>> {
-        let mut turns = 1;
-        for _ in 0..LOOKS {
+        for look in 0..LOOKS {
             if let Some(hall) = self.hall.try_lock() {
                 return hall;
             }
-            spin(turns);
-            turns = (turns * 2).min(LONGEST_WAIT);
+            spin(look);
         }
         self.hall.lock(rt)
     }
@@ -65,8 +63,9 @@ impl<P: Pseudo, L: Ledger> Shared<P, L> {
     }
 }
 
-fn spin(turns: u32) {
-    for _ in 0..turns {
+// Waits twice as long at each look as at the one before, up to the longest wait.
+fn spin(look: u32) {
+    for _ in 0..1u32 << look.min(MOST_DOUBLINGS) {
         spin_loop();
     }
 }

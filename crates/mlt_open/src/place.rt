@@ -130,7 +130,9 @@ pub(crate) fn take_place(
     }
 }
 
-/// Leaves a place for a transaction to come. Where a growth is refused, its memory is given back.
-pub(crate) fn leave_place(left: &mut Vec<Place>, place: Place) {
-    let _ = left.push(place);
+/// Leaves the place, if there is one, for a transaction to come. Where a growth is refused, its memory is given back.
+pub(crate) fn leave_place(left: &mut Vec<Place>, place: Option<Place>) {
+    if let Some(place) = place {
+        let _ = left.push(place);
+    }
 }

@@ -104,9 +104,8 @@ impl OpenTransactions {
     pub fn remove(&mut self, tx: TxId)
         ensures { self.new ≡ with_entry self.old tx None }
     {
-        if let Some(place) = self.txs.remove(&tx.0) {
-            leave_place(&mut self.left, place);
-        }
+        let place = self.txs.remove(&tx.0);
+        leave_place(&mut self.left, place);
     }
 
     /// Calls the transaction of a number, which is open and at nothing, with an operation.

@@ -6,4 +6,3 @@ mod Runs
 mod Scripts
 mod Ends
 mod Alls
-mod Texts

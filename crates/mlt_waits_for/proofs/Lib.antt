@@ -1,3 +1,4 @@
 pub mod Found
 pub mod Ways
 pub mod Acyclic
+pub mod Ends

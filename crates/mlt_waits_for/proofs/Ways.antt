@@ -1,6 +1,6 @@
 -- Ways along waits, one after another
-use Rattle.std.proofs.Common.{◌≡◌, ℕ, ◌+◌, ◌≤◌, List, [], ◌∷◌, ◌++◌, length, None, Some, refl, sym, subst, arith}
-use Rattle.mlt_waits_for.specs.Waits.{IsFor, IsFunctional, LeadsBy, LeadsOn, LeadsTo, Waits, holder_of}
+use Rattle.std.proofs.Common.{◌≡◌, ℕ, ◌+◌, List, [], ◌∷◌, ◌++◌, length, None, Some, refl, sym, subst, arith}
+use Rattle.mlt_waits_for.specs.Waits.{IsFor, IsFunctional, LeadsBy, LeadsTo, Waits, holder_of}
 use Rattle.mlt_waits_for.proofs.Found.{found_is_for, none_is_for}
 
 -- no way leads on from one that waits for nobody,
@@ -21,7 +21,3 @@ one_more_by waits x y z (next ∷ more) (first, rest) last = (first, one_more_by
 pub one_longer : (path : List ℕ) (z : ℕ) → length (path ++ z ∷ []) ≡ length path + 1
 one_longer [] z = refl
 one_longer (x ∷ path) z = let longer = one_longer path z in omega (arith, longer)
-
--- as many waits follow each other as there are, and one more
-pub goes_on : (waits : Waits) (x y z : ℕ) (path : List ℕ) → LeadsBy waits x path y → holder_of waits y ≡ Some z → length waits.objects + length waits.pages ≤ length path → LeadsOn waits x
-goes_on waits x y z path by found all = (path ++ z ∷ [], z, one_more_by waits x y z path by (found_is_for waits y z found), let longer = one_longer path z in omega (arith, longer, all))

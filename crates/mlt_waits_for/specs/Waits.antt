@@ -1,5 +1,5 @@
 -- Which transactions wait for which.
-use Rattle.std.specs.Prelude.{ℕ, ◌≡◌, ◌==◌, ◌+◌, ◌<◌, ◌⊎◌, List, [], ◌∷◌, ◌++◌, length, find, Option}
+use Rattle.std.specs.Prelude.{ℕ, ◌≡◌, ◌==◌, ◌<◌, ◌⊎◌, List, [], ◌∷◌, ◌++◌, length, find, Option}
 use Rattle.std.specs.Option.{option_map, option_or}
 use Rattle.mlt_waits_for.specs.declared.waits.Awaited.{Awaited}
 use Rattle.mlt_waits_for.specs.declared.waits.Awaited.TheVariants as awaited
@@ -52,11 +52,13 @@ LeadsBy waits x (next ∷ more) y = IsFor waits x next × LeadsBy waits next mor
 abbrev pub LeadsTo : Waits → ℕ → ℕ → Type 0
 LeadsTo waits x y = (path : List ℕ) × LeadsBy waits x path y
 
--- more waits follow each other from x on than there are
-abbrev pub LeadsOn : Waits → ℕ → Type 0
-LeadsOn waits x =
-    (path : List ℕ) × (y : ℕ) × LeadsBy waits x path y
-    × (length waits.objects + length waits.pages < length path)
+-- x waits for nobody
+abbrev pub IsAwake : Waits → ℕ → Type 0
+IsAwake waits x = (y : ℕ) → IsFor waits x y → ⊥
+
+-- from each the waits lead to one that waits for nobody
+abbrev pub LeadToAwake : Waits → Type 0
+LeadToAwake waits = (x : ℕ) → (y : ℕ) × LeadsTo waits x y × IsAwake waits y
 
 -- nobody waits for two
 abbrev pub IsFunctional : Waits → Type 0
@@ -70,7 +72,7 @@ pub record IsAcyclic (waits : Waits) : Type 0 where
 -- One more wait finds room, is the first of its transaction, and closes no circle.
 pub record CanJoin (awaited : Awaited) (wait : Waiting) (waits : Waits) : Type 0 where
   pub room : length (waits_of awaited waits) < 64
-  pub first : (y : ℕ) → IsFor waits wait.waiter y → ⊥
+  pub first : IsAwake waits wait.waiter
   pub open_end : LeadsTo waits wait.holder wait.waiter → ⊥
 
 -- there is no room for one more wait, or it waits already, or the wait would close a circle
@@ -78,4 +80,4 @@ abbrev pub CantJoin : Awaited → Waiting → Waits → Type 0
 CantJoin awaited wait waits =
     (length (waits_of awaited waits) ≡ 64)
     ⊎ (((y : ℕ) × IsFor waits wait.waiter y)
-    ⊎ (LeadsTo waits wait.holder wait.waiter ⊎ LeadsOn waits wait.holder))
+    ⊎ LeadsTo waits wait.holder wait.waiter)

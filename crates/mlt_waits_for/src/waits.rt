@@ -1,7 +1,7 @@
 //! The graph.
 
 ghost use Rattle.std.specs.Prelude.{◌≡◌, ◌+◌, ◌≤◌, ◌⊎◌, ◌<◌, true, false, length, nat_lt};
-ghost use Rattle.mlt_waits_for.specs.Waits.{CanJoin, CantJoin, IsFunctional, LeadsOn, LeadsTo, holder_in, holder_of, joined, nobody_waits, released, waits_of};
+ghost use Rattle.mlt_waits_for.specs.Waits.{CanJoin, CantJoin, IsAcyclic, LeadToAwake, LeadsTo, holder_in, holder_of, joined, nobody_waits, released, waits_of};
 
 use arrayvec::ArrayVec;
 use mlt_types::TxId;
@@ -88,6 +88,7 @@ impl WaitsFor {
         ensures joins { result ≡ true → self.new ≡ joined awaited wait self.old }
         ensures cant { result ≡ false → CantJoin awaited wait self.old }
         ensures stays { result ≡ false → self.new ≡ self.old }
+        ensures awake { LeadToAwake self.new }
     {
         if !self.can_join(awaited, &wait) {
             return false;
@@ -102,7 +103,8 @@ impl WaitsFor {
     /// Nobody waits for such locks from now on.
     #[tactic(auto, using(crate::proofs::Acyclic::fewer_are_acyclic))]
     pub fn release(&mut self, awaited: Awaited)
-        ensures { self.new ≡ released awaited self.old }
+        ensures releases { self.new ≡ released awaited self.old }
+        ensures awake { LeadToAwake self.new }
     {
         match awaited {
             Awaited::Objects => self.objects.clear(),
@@ -112,8 +114,8 @@ impl WaitsFor {
 
     /// Whether one more wait finds room, is the first of its transaction, and closes no circle.
     fn can_join(&self, awaited: Awaited, wait: &Waiting) -> bool
-        ensures can { IsFunctional self.now → result ≡ true → CanJoin awaited wait.now self.now }
-        ensures cant { result ≡ false → CantJoin awaited wait.now self.now }
+        ensures can { IsAcyclic self.now → result ≡ true → CanJoin awaited wait.now self.now }
+        ensures cant { IsAcyclic self.now → result ≡ false → CantJoin awaited wait.now self.now }
     {
         if self.is_full(awaited) {
             return false;
@@ -142,10 +144,10 @@ impl WaitsFor {
         holder_in(&self.objects, waiter).or(holder_in(&self.pages, waiter))
     }
 
-    /// Whether waits lead from one transaction to another. So it says too where more follow each other than there are.
+    /// Whether waits lead from one transaction to another. No more follow each other than there are.
     fn leads(&self, from: TxId, to: TxId) -> bool
-        ensures leads { IsFunctional self.now → LeadsTo self.now from to → result ≡ true }
-        ensures cause { result ≡ true → LeadsTo self.now from to ⊎ LeadsOn self.now from }
+        ensures leads { IsAcyclic self.now → LeadsTo self.now from to → result ≡ true }
+        ensures cause { IsAcyclic self.now → result ≡ true → LeadsTo self.now from to }
     {
         let mut at = from;
         for _ in 0..=self.count() {

@@ -1,9 +1,9 @@
 use Rattle.std.proofs.Common.{◌≡◌, Err, inr}
+use Rattle.std.proofs.lemmas.Option.{IfSome_then}
 use Rattle.std.specs.List.{flat_map}
 use Rattle.mlt_types.specs.declared.refusal.Refusal.TheVariants as refusal
 use Rattle.mlt_serial.specs.Texts.{outcome_text}
 use Rattle.mlt_solo.proofs.Alls.{new_rests, solo_text}
-use Rattle.mlt_solo.proofs.Texts.{not_too_long}
 use Rattle.mlt_solo.proofs.engine.solo.Goals as goal
 
 pub run_all-requires : goal.run_all-requires
@@ -29,4 +29,4 @@ returns-clause-io g c = λ failed.
     inr (input, flat_map outcome_text outcomes, c.run_all.new.manager, (c.in_ok-input.ensures.ok, text), c.in-Err-write_outcomes.ensures.io (λ i. Err (same i)))
 
 pub returns-clause-long : goal.returns-clause-long
-returns-clause-long g c = not_too_long (g.R.Read.remaining c.args.reader.now) _ c.in_ok-input.ensures.long
+returns-clause-long g c = IfSome_then (g.R.Read.remaining c.args.reader.now) c.in_ok-input.ensures.long (λ input refused long. absurd (cc (refused long)))

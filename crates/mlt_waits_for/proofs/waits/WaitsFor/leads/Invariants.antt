@@ -1,10 +1,10 @@
 use Rattle.std.proofs.Common.{◌≡◌, ℕ, List, length}
-use Rattle.mlt_waits_for.specs.Waits.{IsFunctional, LeadsBy, LeadsTo}
+use Rattle.mlt_waits_for.specs.Waits.{IsAcyclic, LeadsBy, LeadsTo}
 use Rattle.mlt_waits_for.proofs.waits.WaitsFor.leads.Given as goal
 
 abbrev pub invariant-loop : goal.invariant-loop
 invariant-loop l = record {
-  leads : IsFunctional l.fn.self → LeadsTo l.fn.self l.fn.from l.fn.to → LeadsTo l.fn.self l.at l.fn.to;
+  leads : IsAcyclic l.fn.self → LeadsTo l.fn.self l.fn.from l.fn.to → LeadsTo l.fn.self l.at l.fn.to;
   path : List ℕ;
   by : LeadsBy l.fn.self l.fn.from path l.at;
   long : length path ≡ l.counter;

@@ -2,12 +2,25 @@ use Rattle.std.proofs.Common.{sym, subst}
 use Rattle.mlt_waits_for.specs.Waits.{IsAcyclic}
 use Rattle.mlt_waits_for.specs.declared.waits.Awaited.TheVariants as awaited
 use Rattle.mlt_waits_for.proofs.Acyclic.{fewer_are_acyclic}
+use Rattle.mlt_waits_for.proofs.Ends.{lead_to_awake}
 use Rattle.mlt_waits_for.proofs.waits.WaitsFor.release.Goals as goal
 
-pub invariant_of-self : goal.invariant_of-self
-invariant_of-self c =
+fewer_objects : (c : goal.After-clear) → IsAcyclic (record { objects = c.clear.new.self.items; pages = c.self.inside.pages.items })
+fewer_objects c =
     subst (λ items. IsAcyclic (record { objects = items; pages = c.self.inside.pages.items })) (sym c.clear.ensures) (fewer_are_acyclic awaited.Objects _ c.self.invariant)
 
-pub invariant_of-self-in-Pages : goal.invariant_of-self-in-Pages
-invariant_of-self-in-Pages c =
+fewer_pages : (c : goal.After-clear-in-Pages) → IsAcyclic (record { objects = c.self.inside.objects.items; pages = c.clear-in-Pages.new.self.items })
+fewer_pages c =
     subst (λ items. IsAcyclic (record { objects = c.self.inside.objects.items; pages = items })) (sym c.clear-in-Pages.ensures) (fewer_are_acyclic awaited.Pages _ c.self.invariant)
+
+pub invariant_of-self : goal.invariant_of-self
+invariant_of-self c = fewer_objects c
+
+pub invariant_of-self-in-Pages : goal.invariant_of-self-in-Pages
+invariant_of-self-in-Pages c = fewer_pages c
+
+pub returns-in-Objects-clause-awake : goal.returns-in-Objects-clause-awake
+returns-in-Objects-clause-awake c = lead_to_awake _ (fewer_objects c)
+
+pub returns-in-Pages-clause-awake : goal.returns-in-Pages-clause-awake
+returns-in-Pages-clause-awake c = lead_to_awake _ (fewer_pages c)
