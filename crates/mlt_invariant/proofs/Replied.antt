@@ -5,16 +5,13 @@ use Rattle.mlt_page.specs.declared.page.Page.{Page}
 use Rattle.mlt_kinds.specs.Bases.{Base, Step}
 use Rattle.mlt_kinds.specs.declared.operation.ObjOp.{ObjOp}
 use Rattle.mlt_kinds.specs.declared.operation.ObjReply.{ObjReply}
-use Rattle.mlt_base.specs.Plans.{reply_of}
 use Rattle.mlt_held.specs.Views.{view_of}
-use Rattle.mlt_hash_form.specs.Held.{over}
 use Rattle.mlt_running.specs.CleanPages.{clean_pages}
-use Rattle.mlt_running.specs.Running.{clean_of, is_open, moment_of}
+use Rattle.mlt_running.specs.Running.{is_open, moment_of}
 use Rattle.mlt_running.proofs.AllRunning.{agrees_with_each}
 use Rattle.mlt_running.proofs.AllEvents.{end_clean}
 use Rattle.mlt_operation.specs.declared.request.Request.TheVariants.{Do}
 use Rattle.mlt_operation.specs.Operating.{OperationFields}
-use Rattle.mlt_meeting.specs.Worlds.{record_of}
 use Rattle.mlt_meeting.proofs.Fixed.{step_there}
 use Rattle.mlt_meeting.specs.Presences.{IsOpInRange}
 use Rattle.mlt_transaction.specs.declared.transaction.At.{At}

@@ -14,7 +14,6 @@ use Rattle.mlt_invariant.specs.Events.{KeepsCleanPages, with_transaction}
 use Rattle.mlt_invariant.specs.Sound.{FitsAt, IsSound}
 use Rattle.mlt_invariant.specs.States.{State, all_of, images_kept, is_undoing, room_of}
 use Rattle.mlt_invariant.proofs.MaySteps.{is_open_now, same_moment}
-use Rattle.mlt_invariant.proofs.Stays.{stays_sound}
 use Rattle.mlt_invariant.proofs.Tables.{inserted_here}
 use Rattle.mlt_invariant.proofs.Turned.{LeavesAll, after_turn, turn_leaves}
 

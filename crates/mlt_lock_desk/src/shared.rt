@@ -5,8 +5,8 @@ ghost use Rattle.std.specs.Prelude.{◌≡◌, ◌-◌, ◌^◌, min};
 use crate::hall::Hall;
 use mlt_manager::Manager;
 use mlt_types::Pseudo;
-use std::sync::ledger::{Ledger, Share};
 use std::hint::spin_loop;
+use std::sync::ledger::{Ledger, Share};
 use std::sync::{Condvar, Mutex, MutexGuard, Wait};
 
 // How often the lock is looked at before a thread sleeps for it.

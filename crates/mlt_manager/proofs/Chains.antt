@@ -1,5 +1,5 @@
 -- Steps of one transaction, one after another
-use Rattle.std.proofs.Common.{◌≡◌, ℕ, List, [], ◌∷◌, ◌++◌, Option, Some, refl, sym, ap, subst, ◌∙◌}
+use Rattle.std.proofs.Common.{◌≡◌, ℕ, List, [], ◌∷◌, ◌++◌, Some, refl, sym, ap, subst, ◌∙◌}
 use Rattle.std.specs.FinMap as map
 use Rattle.mlt_event.specs.declared.answer.Answer.{Answer}
 use Rattle.mlt_transaction.specs.declared.transaction.At.{At}

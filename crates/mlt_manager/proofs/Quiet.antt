@@ -1,31 +1,22 @@
 -- Among whole events nobody waits
-use Rattle.std.proofs.lemmas.Bool.{cases_eq}
-use Rattle.std.proofs.Common.{◌≡◌, ◌≢◌, ℕ, List, [], ◌∷◌, Bool, true, false, Option, None, Some, Result, Ok, Err, inl, inr, refl, sym, ap, subst, ◌∙◌}
+use Rattle.std.proofs.Common.{◌≡◌, ℕ, List, [], ◌∷◌, None, Some, Ok, Err, sym, ap, subst, ◌∙◌}
 use Rattle.std.specs.FinMap as map
 use Rattle.std.specs.Ordering.{nat_cmp}
 use Rattle.mlt_types.specs.declared.limits.Limits.{Limits}
-use Rattle.mlt_types.specs.declared.refusal.Refusal.{Refusal}
-use Rattle.mlt_types.specs.declared.refusal.Refusal.TheVariants as refusal
-use Rattle.mlt_kinds.specs.declared.operation.ObjOp.{ObjOp}
 use Rattle.mlt_event.specs.declared.answer.Answer.{Answer}
 use Rattle.mlt_event.specs.declared.answer.Answer.TheVariants as answer
 use Rattle.mlt_event.specs.declared.event.Event.{Event}
 use Rattle.mlt_event.specs.declared.event.Event.TheVariants as event
 use Rattle.mlt_event.specs.declared.told.Told.{Told}
 use Rattle.mlt_event.specs.declared.told.Told.TheVariants as told
-use Rattle.mlt_transaction.specs.declared.transaction.At.{At}
-use Rattle.mlt_transaction.specs.declared.transaction.At.TheVariants as at
 use Rattle.mlt_transaction.specs.declared.transaction.Transaction.{Transaction}
-use Rattle.mlt_transaction.specs.Transactions.{IsPending}
 use Rattle.mlt_open.specs.Tables.{Table}
-use Rattle.mlt_invariant.proofs.Tables.{inserted_elsewhere, inserted_here, removed_elsewhere, removed_here}
-use Rattle.mlt_manager.specs.Answers.{AnswersAbort, AnswersBegin, AnswersCommit, HasBegun, HasCalled, HasStepped, IsByAnother, IsOpenAt, IsRunning, counted, txs_after}
-use Rattle.mlt_manager.specs.Chains.{StepsBy, StepsUpTo}
+use Rattle.mlt_manager.specs.Answers.{IsByAnother, IsRunning, counted}
+use Rattle.mlt_manager.specs.Chains.{StepsUpTo}
 use Rattle.mlt_manager.specs.Events.{AreWholeEvents, IsNoWait, IsRun, IsWholeEvent, Meets, NoneWaits}
 use Rattle.mlt_manager.specs.Managers.{ManagerFields}
 use Rattle.mlt_manager.specs.Openings.{IsNew}
 use Rattle.mlt_manager.specs.Undoings.{AnswersWholeUndo, GoesOnBack, StopsBack}
-use Rattle.mlt_manager.specs.Wholes.{AnswersWhole, DropsIfItStands, GoesOn, HasRun, Stops}
 use Rattle.mlt_manager.proofs.EachOpen.{Each, EachOther, LooksAt, abort_each, begin_each, commit_each, each_without, others_of, others_with, same_each, step_each, steps_each, table_is, whole_each}
 
 -- no operation and no inverse of it runs

@@ -1,13 +1,11 @@
 -- The history has what the events were told
 use Rattle.std.proofs.lemmas.List.{append_assoc, append-nil}
-use Rattle.std.proofs.Common.{◌≡◌, ◌≢◌, ℕ, List, [], ◌∷◌, ◌++◌, length, replicate, Bool, true, false, Option, None, Some, Result, Ok, Err, inl, inr, refl, sym, ap, subst, ◌∙◌}
+use Rattle.std.proofs.Common.{◌≡◌, ℕ, List, [], ◌∷◌, ◌++◌, length, replicate, true, false, Option, None, Some, Ok, Err, refl, sym, ap, subst, ◌∙◌}
 use Rattle.std.specs.FinMap as map
 use Rattle.std.specs.Ordering.{nat_cmp}
 use Rattle.mlt_types.specs.declared.limits.Limits.{Limits}
-use Rattle.mlt_types.specs.declared.refusal.Refusal.{Refusal}
 use Rattle.mlt_types.specs.declared.refusal.Refusal.TheVariants as refusal
 use Rattle.mlt_kinds.specs.declared.operation.ObjOp.{ObjOp}
-use Rattle.mlt_kinds.specs.declared.operation.ObjReply.{ObjReply}
 use Rattle.mlt_order.specs.Tables.{with_entry}
 use Rattle.mlt_order.proofs.Tables.{with_entry-other, with_entry-same}
 use Rattle.mlt_trace.specs.declared.item.TraceItem.{TraceItem}
@@ -21,22 +19,21 @@ use Rattle.mlt_event.specs.declared.told.Told.TheVariants as told
 use Rattle.mlt_hash.specs.Walks.{Basis, basis_by}
 use Rattle.mlt_held.specs.Moments.{moment}
 use Rattle.mlt_operation.specs.Operating.{OperationFields}
-use Rattle.mlt_operation.specs.declared.request.Request.{Request}
 use Rattle.mlt_operation.specs.declared.request.Request.TheVariants.{Do}
 use Rattle.mlt_transaction.specs.declared.commons.Commons.{Commons}
 use Rattle.mlt_transaction.specs.declared.transaction.At.{At}
 use Rattle.mlt_transaction.specs.declared.transaction.At.TheVariants as at
 use Rattle.mlt_transaction.specs.declared.transaction.Transaction.{Transaction}
-use Rattle.mlt_transaction.specs.Transactions.{IsPending, TellsAt}
+use Rattle.mlt_transaction.specs.Transactions.{TellsAt}
 use Rattle.mlt_open.specs.Tables.{Table}
-use Rattle.mlt_manager.specs.Answers.{AnswersAbort, AnswersBegin, AnswersCall, AnswersCancel, AnswersCommit, AnswersStep, HasStepped, counted, txs_after}
-use Rattle.mlt_manager.specs.Bases.{IsPendingWith, LeavesBase, UndoingLeavesBase, WholeLeavesBase}
+use Rattle.mlt_manager.specs.Answers.{HasStepped, counted, txs_after}
+use Rattle.mlt_manager.specs.Bases.{IsPendingWith, LeavesBase, WholeLeavesBase}
 use Rattle.mlt_manager.specs.Chains.{StepsBy, StepsUpTo}
 use Rattle.mlt_manager.specs.Events.{IsRun, Meets}
 use Rattle.mlt_manager.specs.Managers.{ManagerFields}
 use Rattle.mlt_manager.specs.Openings.{IsNew}
 use Rattle.mlt_manager.specs.Tolds.{AddsItems, AreToldBy, CalledOps, called_after, none_called}
-use Rattle.mlt_manager.specs.Undoings.{AnswersWholeUndo, GoesOnBack, StopsBack}
+use Rattle.mlt_manager.specs.Undoings.{GoesOnBack, StopsBack}
 use Rattle.mlt_manager.proofs.EachOpen.{Each, EachOther, LooksAt, abort_each, begin_each, commit_each, each_with, each_without, others_of, others_with, same_each, table_is, whole_each}
 use Rattle.mlt_manager.proofs.WholeBases.{same_request}
 

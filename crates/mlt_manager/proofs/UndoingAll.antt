@@ -1,5 +1,5 @@
 -- The steps of an abort, one after another, come to an end
-use Rattle.std.proofs.Common.{◌≡◌, ◌<◌, ℕ, ◌+◌, ◌*◌, List, [], ◌∷◌, ◌++◌, length, Option, None, Some, refl, sym, ap, subst, ◌∙◌, ◌⊎◌, inl, inr, arith}
+use Rattle.std.proofs.Common.{◌≡◌, ◌<◌, ℕ, ◌+◌, ◌*◌, [], ◌∷◌, length, Option, None, Some, refl, sym, ap, subst, ◌∙◌, ◌⊎◌, inl, inr, arith}
 use Rattle.std.specs.FinMap as map
 use Rattle.std.proofs.lemmas.List.{length-append}
 use Rattle.mlt_undo.specs.Undo.{Undo}
@@ -15,10 +15,8 @@ use Rattle.mlt_transaction.specs.declared.transaction.At.TheVariants as at
 use Rattle.mlt_transaction.specs.declared.transaction.Transaction.{Transaction}
 use Rattle.mlt_transaction.specs.Steps.{TellsOfBack}
 use Rattle.mlt_transaction.specs.Transactions.{StepsBack, TellsAt}
-use Rattle.mlt_open.specs.Tables.{Table}
-use Rattle.mlt_invariant.proofs.Tables.{inserted_here}
 use Rattle.mlt_manager.specs.Answers.{HasStepped, IsOpenAt, IsUndoing, txs_after}
-use Rattle.mlt_manager.specs.Managers.{IsManager, ManagerFields}
+use Rattle.mlt_manager.specs.Managers.{ManagerFields}
 use Rattle.mlt_manager.specs.Undoings.{GoesOnBack, StepsBackUpTo, StopsBack}
 use Rattle.mlt_manager.proofs.Chains.{IsUnderWay, found_before, last_taken, one_taken, there_after}
 

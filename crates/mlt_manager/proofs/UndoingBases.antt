@@ -14,7 +14,7 @@ use Rattle.mlt_event.specs.declared.answer.Answer.{Answer}
 use Rattle.mlt_event.specs.declared.answer.Answer.TheVariants as answer
 use Rattle.mlt_transaction.specs.declared.transaction.Transaction.{Transaction}
 use Rattle.mlt_manager.specs.Answers.{HasStepped, IsOpenAt, IsUndoing}
-use Rattle.mlt_manager.specs.Bases.{HasBase, KeepsWhatCounts, LeavesBase, TakesStepBack, TakesStepsBack, UndoingLeavesBase}
+use Rattle.mlt_manager.specs.Bases.{HasBase, KeepsWhatCounts, LeavesBase, TakesStepBack, UndoingLeavesBase}
 use Rattle.mlt_manager.specs.Chains.{StepsBy, StepsUpTo}
 use Rattle.mlt_manager.specs.Managers.{IsManager, ManagerFields}
 use Rattle.mlt_manager.specs.Undoings.{AnswersWholeUndo, GoesOnBack, StopsBack}

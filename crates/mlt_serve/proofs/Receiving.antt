@@ -4,7 +4,6 @@ use Rattle.std.specs.Prelude.{All, Option, Some, None, Result, Ok, Err, IfOk, If
 use Rattle.std.proofs.lemmas.List.Elements.{All-append, All-nil, All-push}
 use Rattle.mlt_types.specs.declared.refusal.Refusal.{Refusal}
 use Rattle.mlt_types.specs.declared.refusal.Refusal.TheVariants as refusal
-use Rattle.mlt_serial.specs.declared.outcome.Outcome.{Outcome}
 use Rattle.mlt_wire.specs.Desks.{Moves}
 use Rattle.mlt_wire.specs.Talks.{Turn}
 use Rattle.mlt_wire.specs.Receipts.{begins_by, begun_in, call_of, receipt_if, receipt_of, receipts_of}

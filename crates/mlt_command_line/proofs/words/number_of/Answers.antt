@@ -1,5 +1,5 @@
 use Rattle.std.specs.Str.Parse.{without_leading_plus}
-use Rattle.std.proofs.Common.{arith, rules}
+use Rattle.std.proofs.Common.{rules}
 use Rattle.mlt_command_line.proofs.Numbers.{no_number, number_within}
 use Rattle.mlt_command_line.proofs.words.number_of.Goals as goal
 

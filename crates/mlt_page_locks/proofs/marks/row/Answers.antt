@@ -1,4 +1,4 @@
-use Rattle.std.proofs.Common.{◌≡◌, ◌<◌, ◌≤◌, ◌-◌, ℕ, List, length, bit_and, arith}
+use Rattle.std.proofs.Common.{◌≤◌, ◌-◌, length, bit_and, arith}
 use Rattle.std.proofs.lemmas.Nat.{and_le_r}
 use Rattle.mlt_page_locks.proofs.marks.row.Goals as goal
 

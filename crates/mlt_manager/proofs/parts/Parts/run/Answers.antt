@@ -1,5 +1,4 @@
 use Rattle.std.proofs.Common.{refl, subst, sym}
-use Rattle.mlt_event.specs.declared.answer.Answer.TheVariants as answer
 use Rattle.mlt_manager.specs.Parts.{fields_of}
 use Rattle.mlt_manager.specs.Wholes.{GoesOn, RunsToEnd, Stops}
 use Rattle.mlt_manager.proofs.Chains.{up_to_keeps}
