@@ -130,9 +130,12 @@ pub(crate) fn take_place(
     }
 }
 
-/// Leaves the place, if there is one, for a transaction to come. Where a growth is refused, its memory is given back.
+/// Leaves the place, if there is one, for a transaction to come. It takes no memory: where there is no room, the place is
+/// given back.
 pub(crate) fn leave_place(left: &mut Vec<Place>, place: Option<Place>) {
     if let Some(place) = place {
-        let _ = left.push(place);
+        if left.len() < left.capacity() {
+            left.push_reserved(place);
+        }
     }
 }

@@ -95,12 +95,14 @@ impl OpenTransactions {
         ensures err { OnErr result (self.new ≡ self.old) }
         ensures refusal { IfErr result (λ refusal. refusal ≡ Refusal.OutOfMemory) }
     {
+        // Room for all places, so that none is taken when a transaction ends.
+        self.left.reserve(self.txs.len().saturating_add(1))?;
         let place = take_place(&mut self.left, self.alloc, tx)?;
         self.txs.insert(tx.0, place)?;
         Ok(())
     }
 
-    /// Takes the transaction of a number out, if it is open.
+    /// Takes the transaction of a number out, if it is open. It takes no memory.
     pub fn remove(&mut self, tx: TxId)
         ensures { self.new ≡ with_entry self.old tx None }
     {
