@@ -1,0 +1,258 @@
+"""What all tests share: the program under test, its runs and servers, and the list of tests.
+
+A test is a function under `@test` that takes the program and raises where something else comes than is wanted. Its name on
+the command line is the function's, with `-` for `_`. A table of cases is `@each(TABLE)`: each case is a test of its own."""
+import dataclasses
+import difflib
+import os
+import shutil
+import socket
+import subprocess
+import tempfile
+import time
+from contextlib import contextmanager
+from pathlib import Path
+
+ROOT = Path(__file__).resolve().parent.parent
+# The greatest number of bytes of an input.
+MOST_BYTES = 16_777_216
+# How long one run may take, in seconds, on a slow machine.
+PATIENCE = 120
+
+# Each test by its name.
+TESTS = {}
+# The seed of random tests, and how many times as many cases they try as in a usual run. `tests/run` sets both.
+SEED, CASES = 1, 1
+
+
+class Failed(Exception):
+    """Something else came than is wanted."""
+
+
+@dataclasses.dataclass(frozen=True)
+class Test:
+    """A test, the group that it is in (its file), about how many seconds it takes, and what runs it."""
+
+    name: str
+    group: str
+    seconds: float
+    call: object
+
+
+def test(function=None, *, seconds=0.1):
+    """Lists a function as a test. Where it takes some time, `seconds` says how much, so that it begins early."""
+
+    def enlist(function):
+        _enlist(function.__name__.replace("_", "-"), function, seconds, function)
+        return function
+
+    return enlist(function) if function else enlist
+
+
+def each(table, *, seconds=0.1):
+    """Lists a test for each case of a table, a dictionary by name. The function takes the program and the case."""
+
+    def enlist(function):
+        for name, case in table.items():
+            _enlist(name, function, seconds, lambda mltx, case=case: function(mltx, case))
+        return function
+
+    return enlist
+
+
+def _enlist(name, function, seconds, call):
+    if name in TESTS:
+        raise ValueError(f"two tests have the name {name}")
+    TESTS[name] = Test(name, function.__module__.replace("_", "-"), seconds, call)
+
+
+@dataclasses.dataclass(frozen=True)
+class Ran:
+    """What a run came to: its status, and all bytes of its two outputs."""
+
+    status: int
+    out: bytes
+    err: bytes
+
+    def __str__(self):
+        return f"status {self.status}, standard output {_short(self.out)}, standard error {_short(self.err)}"
+
+
+def _short(text, most=600):
+    return repr(text) if len(text) <= most else f"{text[:most]!r}.. ({len(text)} bytes)"
+
+
+def as_bytes(text):
+    return text.encode() if isinstance(text, str) else text
+
+
+def lines(row):
+    """The text of a worked row: its lines stand between bars, and each ends in a line feed."""
+    return "".join(line + "\n" for line in row.split("|")) if row else ""
+
+
+def expect(ran, *, status=0, out=b"", err=b"", what=""):
+    """Fails where a run came to anything else: its status and both outputs are compared whole."""
+    wanted = Ran(status, as_bytes(out), as_bytes(err))
+    if ran != wanted:
+        raise Failed(f"{what + ': ' if what else ''}{ran}\nwanted {wanted}\n{_difference(wanted.out, ran.out)}")
+
+
+def same(found, wanted, what=""):
+    """Fails where two values differ."""
+    if found != wanted:
+        raise Failed(f"{what + ': ' if what else ''}{_short(found)}\nwanted {_short(wanted)}")
+
+
+def holds(is_so, what):
+    """Fails where something is not so."""
+    if not is_so:
+        raise Failed(what)
+
+
+def _difference(wanted, found, most=20):
+    pair = [text.decode(errors="replace").splitlines() for text in (wanted, found)]
+    return "\n".join(list(difflib.unified_diff(*pair, "wanted", "found", lineterm="", n=1))[:most])
+
+
+class Program:
+    """The program under test, run in a folder of its own that is removed afterwards."""
+
+    def __init__(self, path, folder):
+        self.path, self.folder = str(path), Path(folder)
+
+    def file(self, name, text):
+        """Writes a file into the folder and returns its path."""
+        path = self.folder / name
+        path.write_bytes(as_bytes(text))
+        return str(path)
+
+    def run(self, *words, given=b"", env=None, stdout=subprocess.PIPE, timeout=PATIENCE):
+        """Runs the program with these words and this standard input, to its end."""
+        try:
+            ran = subprocess.run(
+                [self.path, *map(str, words)],
+                input=as_bytes(given),
+                stdout=stdout,
+                stderr=subprocess.PIPE,
+                cwd=self.folder,
+                env={**os.environ, **(env or {})},
+                timeout=timeout,
+            )
+        except subprocess.TimeoutExpired:
+            raise Failed(f"{' '.join(map(str, words))} had not ended after {timeout} seconds") from None
+        return Ran(ran.returncode, ran.stdout or b"", ran.stderr)
+
+    def check(self, trace):
+        """What `check` says of a trace: the text of one, or the path of its file."""
+        if isinstance(trace, Path):
+            return self.run("check", trace)
+        return self.run("check", "-", given=trace)
+
+    @contextmanager
+    def serve(self, *options, limit=1, env=None, timeout=PATIENCE):
+        """A server on a port of its own, as long as the block lasts. It ends by itself once `limit` connections have
+        ended; where the block ends earlier, it is killed."""
+        server = Server(self, [*options, "--limit", limit], env, timeout)
+        try:
+            yield server
+        finally:
+            server.kill()
+
+
+class Server:
+    """A running `mltx serve`."""
+
+    def __init__(self, mltx, options, env, timeout):
+        self.address, self.timeout = free_address(), timeout
+        words = [mltx.path, "serve", "%s:%d" % self.address, *map(str, options)]
+        how = {"stdout": subprocess.PIPE, "stderr": subprocess.PIPE, "cwd": mltx.folder}
+        self.process = subprocess.Popen(words, stdin=subprocess.DEVNULL, env={**os.environ, **(env or {})}, **how)
+
+    def connect(self):
+        """A new connection, as soon as the server is there."""
+        for _ in range(int(self.timeout / 0.01)):
+            try:
+                return Peer(socket.create_connection(self.address, self.timeout))
+            except ConnectionRefusedError:
+                if self.process.poll() is not None:
+                    break
+                time.sleep(0.01)
+        raise Failed(f"the server does not answer at {self.address}; its status is {self.process.poll()}")
+
+    def talk(self, sent):
+        """All that is answered to these bytes, sent at once, with the end of the input after them."""
+        with self.connect() as peer:
+            peer.send(sent)
+            peer.end()
+            return peer.rest()
+
+    def end(self):
+        """What the server came to, once it ended by itself."""
+        try:
+            out, err = self.process.communicate(timeout=self.timeout)
+        except subprocess.TimeoutExpired:
+            raise Failed(f"the server had not ended after {self.timeout} seconds") from None
+        return Ran(self.process.returncode, out, err)
+
+    def kill(self):
+        self.process.kill()
+        self.process.communicate()
+
+
+class Peer:
+    """One connection of a client."""
+
+    def __init__(self, connected):
+        self.socket, self.heard = connected, b""
+        connected.setsockopt(socket.IPPROTO_TCP, socket.TCP_NODELAY, 1)
+
+    def __enter__(self):
+        return self
+
+    def __exit__(self, *_):
+        self.socket.close()
+
+    def send(self, text):
+        self.socket.sendall(as_bytes(text))
+
+    def end(self):
+        """Says that nothing more will be sent."""
+        self.socket.shutdown(socket.SHUT_WR)
+
+    def line(self):
+        """The next line that the server answers, without its line feed."""
+        while b"\n" not in self.heard:
+            piece = self.socket.recv(65_536)
+            if not piece:
+                raise Failed(f"the server closed the connection after {self.heard!r}")
+            self.heard += piece
+        line, _, self.heard = self.heard.partition(b"\n")
+        return line.decode()
+
+    def ask(self, line):
+        """Sends one line and returns the line that answers it."""
+        self.send(line + "\n")
+        return self.line()
+
+    def rest(self):
+        """All that is answered to the end of the connection."""
+        heard = [self.heard, *iter(lambda: self.socket.recv(65_536), b"")]
+        self.heard = b""
+        return b"".join(heard)
+
+
+def free_address():
+    with socket.socket() as free:
+        free.bind(("127.0.0.1", 0))
+        return free.getsockname()
+
+
+@contextmanager
+def folder():
+    """A folder that is removed afterwards."""
+    path = tempfile.mkdtemp(prefix="mltx-test-")
+    try:
+        yield Path(path)
+    finally:
+        shutil.rmtree(path, ignore_errors=True)
