@@ -7,7 +7,7 @@ ghost use Rattle.mlt_text.specs.Inputs.{GivesWhole};
 
 use mlt_types::Refusal;
 use std::alloc::Global;
-use std::io::{ErrorKind, Read};
+use std::io::Read;
 
 /// The greatest number of bytes of an input: 16,777,216.
 pub const MAX_INPUT: usize = 16_777_216;
@@ -15,11 +15,11 @@ pub const MAX_INPUT: usize = 16_777_216;
 // How many bytes one read asks for at most.
 const PIECE: usize = 65_536;
 
-/// All that the reader has, up to its end. A read that is interrupted is tried again.
+/// All that the reader has, up to its end.
 ///
 /// # Errors
-/// `Io` where a read fails, or the reader has more than `MAX_INPUT` bytes; of these at most one is read
-/// past the limit. `OutOfMemory` where a growth is refused. What was read before is lost.
+/// `Io` where a read fails, for whatever reason, or the reader has more than `MAX_INPUT` bytes; of these at most
+/// one is read past the limit. `OutOfMemory` where a growth is refused. What was read before is lost.
 pub fn read_input<R: Read>(alloc: Global, reader: &mut R) -> Result<Vec<u8>, Refusal>
     // all that the reader had, which fits
     ensures ok { IfOk result
@@ -79,26 +79,18 @@ fn read_piece<R: Read>(
     Ok(count == 0)
 }
 
-/// One read, tried again while it is interrupted. It answers how many bytes came, and 0 at the end of the input, or where
-/// the buffer has no room.
+/// One read. It answers how many bytes came, and 0 at the end of the input, or where the buffer has no room.
 ///
 /// # Errors
-/// `Io`, where the reader failed.
+/// `Io`, where the read failed, for whatever reason: a read that was interrupted is not tried again.
 pub fn read_some<R: Read>(reader: &mut R, buffer: &mut [u8]) -> Result<usize, Refusal>
     ensures bound { ReadsAtMost result buffer.new }
     ensures bytes { ReadConsumes (R.remaining reader.old)
         (R.remaining reader.new) result buffer.new }
     ensures refusal { IfErr result (λ refusal. refusal ≡ Refusal.Io) }
 {
-    for _ in 0..u64::MAX {
-        match reader.read(buffer) {
-            Ok(count) => return Ok(count),
-            Err(error) => {
-                if error.kind() != ErrorKind::Interrupted {
-                    return Err(Refusal::Io);
-                }
-            }
-        }
+    match reader.read(buffer) {
+        Ok(count) => Ok(count),
+        Err(_) => Err(Refusal::Io),
     }
-    Err(Refusal::Io)
 }

@@ -5,14 +5,13 @@ ghost use Rattle.std.specs.Io.KnownBytes.{Appends, Keeps};
 ghost use Rattle.mlt_text.specs.Texts.{AppendsFront};
 
 use mlt_types::Refusal;
-use std::io::{ErrorKind, Write};
+use std::io::Write;
 
-/// Writes the text, in as many writes as it takes, and flushes. A write that is interrupted is tried
-/// again.
+/// Writes the text, in as many writes as it takes, and flushes.
 ///
 /// # Errors
-/// `Io` where a write fails or takes nothing, or the flush fails. The writer then has a front of the
-/// text.
+/// `Io` where a write fails, for whatever reason, or takes nothing, or the flush fails: nothing is tried again. The
+/// writer then has a prefix of the text.
 pub fn write_text<W: Write>(writer: &mut W, text: &[u8]) -> Result<(), Refusal>
     ensures ok { OnOk result (Appends (W.contents writer.old) (W.contents writer.new) text.now) }
     ensures err { OnErr result
@@ -27,7 +26,7 @@ pub fn write_text<W: Write>(writer: &mut W, text: &[u8]) -> Result<(), Refusal>
     flush(writer)
 }
 
-// One write of at least one byte, tried again while it is interrupted.
+// One write of at least one byte.
 fn write_some<W: Write>(writer: &mut W, text: &[u8]) -> Result<usize, Refusal>
     ensures count { IfOk result (λ count. (0 < count) × (count ≤ length text.now)) }
     ensures ok { IfOk result
@@ -35,37 +34,22 @@ fn write_some<W: Write>(writer: &mut W, text: &[u8]) -> Result<usize, Refusal>
     ensures err { OnErr result (Keeps (W.contents writer.old) (W.contents writer.new)) }
     ensures refusal { IfErr result (λ refusal. refusal ≡ Refusal.Io) }
 {
-    for _ in 0..u64::MAX {
-        match writer.write(text) {
-            Ok(0) => return Err(Refusal::Io),
-            Ok(count) => return Ok(count),
-            Err(error) => {
-                if error.kind() != ErrorKind::Interrupted {
-                    return Err(Refusal::Io);
-                }
-            }
-        }
+    match writer.write(text) {
+        Ok(0) | Err(_) => Err(Refusal::Io),
+        Ok(count) => Ok(count),
     }
-    Err(Refusal::Io)
 }
 
-/// Flushes, again while it is interrupted.
+/// Flushes.
 ///
 /// # Errors
-/// `Io` where the flush fails.
+/// `Io` where the flush fails, for whatever reason.
 pub fn flush<W: Write>(writer: &mut W) -> Result<(), Refusal>
     ensures bytes { Keeps (W.contents writer.old) (W.contents writer.new) }
     ensures refusal { IfErr result (λ refusal. refusal ≡ Refusal.Io) }
 {
-    for _ in 0..u64::MAX {
-        match writer.flush() {
-            Ok(()) => return Ok(()),
-            Err(error) => {
-                if error.kind() != ErrorKind::Interrupted {
-                    return Err(Refusal::Io);
-                }
-            }
-        }
+    match writer.flush() {
+        Ok(()) => Ok(()),
+        Err(_) => Err(Refusal::Io),
     }
-    Err(Refusal::Io)
 }

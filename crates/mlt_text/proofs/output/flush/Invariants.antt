@@ -1,6 +1,0 @@
--- What is interrupted appends nothing.
-use Rattle.std.specs.Io.KnownBytes.{Keeps}
-use Rattle.mlt_text.proofs.output.flush.Given as goal
-
-abbrev pub invariant-loop : goal.invariant-loop
-invariant-loop g l = Keeps (g.W.Write.contents l.initial.writer) (g.W.Write.contents l.writer)
