@@ -145,16 +145,15 @@ pub(crate) fn mltx_command<'a>(
     ensures { IfOk result (λ command. app_of command ≡ mltx_app names.entry) }
 {
     let solo = run_command(alloc, "solo", FILE, names, SOLO_ABOUT, SOLO_EXAMPLE)?;
+    let command = bare_command(alloc)?.subcommand(solo)?;
     let steps = run_command(alloc, "steps", FILE, names, STEPS_ABOUT, STEPS_EXAMPLE)?;
+    let command = command.subcommand(steps)?;
     let run = work_command(alloc, names)?;
+    let command = command.subcommand(run)?;
     let check = input_command(alloc, "check", FILE, CHECK_ABOUT, CHECK_EXAMPLE)?;
+    let command = command.subcommand(check)?;
     let serve = serve_command(alloc, names)?;
-    bare_command(alloc)?
-        .subcommand(solo)?
-        .subcommand(steps)?
-        .subcommand(run)?
-        .subcommand(check)?
-        .subcommand(serve)
+    command.subcommand(serve)
 }
 
 fn bare_command<'a>(alloc: Global) -> Result<Command<'a>, AllocError>
