@@ -1,0 +1,371 @@
+"""The worked rows of `solo`, `run` and `check`: scripts and traces, with all that is written of them."""
+import dataclasses
+
+from harness import ROOT, each, expect, lines, same, test
+
+HASHES = ((), ("--hash", "mult"), ("--hash", "low"))
+
+
+@dataclasses.dataclass(frozen=True)
+class Solo:
+    """Scripts as `solo` runs them: what is written, the trace, and what `check` says of it."""
+
+    text: object
+    output: str
+    trace: str = ""
+    checked: str = ""
+
+
+SOLO = {
+    "first-run": Solo(
+        lines("begin|open 1|deposit 1 50|balance 1|commit"),
+        lines("opened|done|is 50|committed 1"),
+        lines("begin 1|op 1 open 1 opened|op 1 deposit 1 50 done|op 1 balance 1 is 50|commit 1 1"),
+        lines("serial 1|account 1 50"),
+    ),
+    "empty-script": Solo("", ""),
+    "amount-over-limit": Solo(
+        lines("begin|open 1|deposit 1 18446744073709551615|commit"),
+        lines("opened|over|committed 1"),
+        lines("begin 1|op 1 open 1 opened|op 1 deposit 1 18446744073709551615 over|commit 1 1"),
+        lines("serial 1|account 1 0"),
+    ),
+    "if-else-script": Solo(
+        lines(
+            "begin|open 1|deposit 1 9|let v = balance 1|if withdraw 1 v is done|close 1|else|balance 1|end|commit"
+        ),
+        lines("opened|done|is 9|done|closed|committed 1"),
+        lines(
+            "begin 1|op 1 open 1 opened|op 1 deposit 1 9 done|op 1 balance 1 is 9|op 1 withdraw 1 9 done"
+            "|op 1 close 1 closed|commit 1 1"
+        ),
+        lines("serial 1"),
+    ),
+    "nine-accounts": Solo(
+        lines("begin|" + "|".join(f"open {number}" for number in range(9)) + "|commit|begin|balance 0|commit"),
+        lines("opened|" * 9 + "committed 1|is 0|committed 2"),
+        lines(
+            "begin 1|" + "|".join(f"op 1 open {number} opened" for number in range(9))
+            + "|commit 1 1|begin 2|op 2 balance 0 is 0|commit 2 2"
+        ),
+        lines("serial 1|serial 2|" + "|".join(f"account {number} 0" for number in range(9))),
+    ),
+    "aborted-open": Solo(
+        lines("begin|open 1|abort|begin|open 1|commit"),
+        lines("opened|aborted|opened|committed 1"),
+        lines("begin 1|op 1 open 1 opened|back 1|abort 1|begin 2|op 2 open 1 opened|commit 2 1"),
+        lines("serial 2|account 1 0"),
+    ),
+    "need-without-last-line-feed": Solo(
+        "begin\nneed read 7 is 1\ncommit",
+        lines("is 0|aborted"),
+        lines("begin 1|op 1 read 7 is 0|back 1|abort 1"),
+    ),
+    "any-byte-in-a-comment": Solo(
+        b"begin\n#\xff\x00\r\x1f\n \t# \xfe\nup 7 1\ncommit\n",
+        lines("done|committed 1"),
+        lines("begin 1|op 1 up 7 1 done|commit 1 1"),
+        lines("serial 1|counter 7 1"),
+    ),
+    # A script that commits without an operation has its number, and one that aborts leaves two lines.
+    "scripts-without-operations": Solo(
+        lines("begin|commit|begin 999|abort|begin 0|commit"),
+        lines("committed 1|aborted|committed 2"),
+        lines("begin 1|commit 1 1|begin 2|abort 2|begin 3|commit 3 2"),
+        lines("serial 1|serial 3"),
+    ),
+    # The text's order counts here, whatever the clients.
+    "solo-keeps-the-order-of-the-text": Solo(
+        lines("begin 2|up 7 1|commit|begin 1|read 7|commit|begin 2|read 7|abort"),
+        lines("done|committed 1|is 1|committed 2|is 1|aborted"),
+        lines(
+            "begin 1|op 1 up 7 1 done|commit 1 1|begin 2|op 2 read 7 is 1|commit 2 2|begin 3|op 3 read 7 is 1|back 3|abort 3"
+        ),
+        lines("serial 1|serial 2|counter 7 1"),
+    ),
+    # Spaces, tabs, leading zeros and a CR before the LF may stand; what is written has none of them.
+    "words-parted-anyhow": Solo(
+        "\r\n \t\r\nbegin \t 007\r\n\t open  00000000000000000001\r\n deposit\t1 \t 0050 \n\n# done\r\ncommit\t\r\n",
+        lines("opened|done|committed 1"),
+        lines("begin 1|op 1 open 1 opened|op 1 deposit 1 50 done|commit 1 1"),
+        lines("serial 1|account 1 50"),
+    ),
+    # The greatest numbers of each place.
+    "greatest-numbers": Solo(
+        lines("begin 999|open 4294967295|add 65535 4294967295|up 4294967295 18446744073709551615|read 4294967295|commit"),
+        lines("opened|added|done|is 18446744073709551615|committed 1"),
+        lines(
+            "begin 1|op 1 open 4294967295 opened|op 1 add 65535 4294967295 added"
+            "|op 1 up 4294967295 18446744073709551615 done|op 1 read 4294967295 is 18446744073709551615|commit 1 1"
+        ),
+        lines("serial 1|account 4294967295 0|element 65535 4294967295|counter 4294967295 18446744073709551615"),
+    ),
+    # A variable is 0 until it is set, is 0 where the account is missing, and is of its script alone.
+    "variables-of-a-script": Solo(
+        lines(
+            "begin|open 1|deposit 1 v|let v = balance 2|need balance 1 is v|deposit 1 7|let v = balance 1|up 3 v"
+            "|let z = read 3|need balance 1 is z|commit|begin|withdraw 1 v|need balance 1 is 7|abort"
+        ),
+        lines("opened|done|missing|is 0|done|is 7|done|is 7|is 7|committed 1|done|is 7|aborted"),
+        lines(
+            "begin 1|op 1 open 1 opened|op 1 deposit 1 0 done|op 1 balance 2 missing|op 1 balance 1 is 0|op 1 deposit 1 7 done"
+            "|op 1 balance 1 is 7|op 1 up 3 7 done|op 1 read 3 is 7|op 1 balance 1 is 7|commit 1 1"
+            "|begin 2|op 2 withdraw 1 0 done|op 2 balance 1 is 7|back 2|back 2|abort 2"
+        ),
+        lines("serial 1|account 1 7|counter 3 7"),
+    ),
+    # Each operation with each of its replies.
+    "each-reply": Solo(
+        lines(
+            "begin|close 1|deposit 1 1|withdraw 1 1|balance 1|open 1|open 1|withdraw 1 1|deposit 1 1000000000000000000"
+            "|deposit 1 1|close 1|withdraw 1 1000000000000000000|close 1|remove 2 3|has 2 3|add 2 3|add 2 3|has 2 3"
+            "|remove 2 3|down 4 1|up 4 2|read 4|commit"
+        ),
+        lines(
+            "missing|missing|missing|missing|opened|exists|short|done|over|notempty|done|closed|absent|no|added|present|yes"
+            "|removed|done|done|is 1|committed 1"
+        ),
+        lines(
+            "begin 1|op 1 close 1 missing|op 1 deposit 1 1 missing|op 1 withdraw 1 1 missing|op 1 balance 1 missing"
+            "|op 1 open 1 opened|op 1 open 1 exists|op 1 withdraw 1 1 short|op 1 deposit 1 1000000000000000000 done"
+            "|op 1 deposit 1 1 over|op 1 close 1 notempty|op 1 withdraw 1 1000000000000000000 done|op 1 close 1 closed"
+            "|op 1 remove 2 3 absent|op 1 has 2 3 no|op 1 add 2 3 added|op 1 add 2 3 present|op 1 has 2 3 yes"
+            "|op 1 remove 2 3 removed|op 1 down 4 1 done|op 1 up 4 2 done|op 1 read 4 is 1|commit 1 1"
+        ),
+        lines("serial 1|counter 4 1"),
+    ),
+    # A reply that the operation can't give is never met.
+    "reply-that-never-comes": Solo(
+        lines("begin|if open 1 is yes|up 7 1|else|up 7 2|end|commit|begin|need read 7 is absent|commit"),
+        lines("opened|done|committed 1|is 2|aborted"),
+        lines("begin 1|op 1 open 1 opened|op 1 up 7 2 done|commit 1 1|begin 2|op 2 read 7 is 2|back 2|abort 2"),
+        lines("serial 1|account 1 0|counter 7 2"),
+    ),
+}
+
+
+@each(SOLO)
+def solo(mltx, row):
+    """All that is written is as the row says, from a file and from standard input, by each hash function."""
+    file, trace = mltx.file("scripts.txt", row.text), mltx.folder / "solo.trace"
+    for options in HASHES:
+        what = f"solo {' '.join(options)}"
+        expect(mltx.run("solo", *options, file), out=row.output, what=f"{what} FILE")
+        expect(mltx.run("solo", *options, "-", given=row.text), out=row.output, what=f"{what} -")
+        expect(mltx.run("solo", "--trace", trace, *options, file), out=row.output, what=f"{what} --trace TRACE FILE")
+        same(trace.read_text(), row.trace, f"the trace of {what}")
+    expect(mltx.run(given=row.text), out=row.output, what="no words")
+    expect(mltx.check(trace), out=row.checked, what="check")
+
+
+@dataclasses.dataclass(frozen=True)
+class Run:
+    """Scripts as `run` runs them, by any number of workers, where one client alone has scripts that meet."""
+
+    text: str
+    output: str
+    trace: str = ""
+    workers: tuple = (1, 2, 8)
+
+
+RUN = {
+    "later-script-sees-commit": Run(
+        lines("begin|up 7 1|commit|begin|need read 7 is 1|commit"),
+        lines("client 0 script 1|done|committed 1|client 0 script 2|is 1|committed 2|counter 7 1"),
+        lines("begin 1|op 1 up 7 1 done|commit 1 1|begin 2|op 2 read 7 is 1|commit 2 2"),
+    ),
+    "run-of-no-scripts": Run("", ""),
+    "run-of-a-script-that-aborts": Run(
+        lines("begin 5|open 1|need balance 1 is 1|deposit 1 1|commit|begin 5|has 4 9|abort"),
+        lines("client 5 script 1|opened|is 0|aborted|client 5 script 2|no|aborted"),
+        lines(
+            "begin 1|op 1 open 1 opened|op 1 balance 1 is 0|back 1|back 1|abort 1|begin 2|op 2 has 4 9 no|back 2|abort 2"
+        ),
+    ),
+    # A script of another client that aborts at once takes no number of a commit.
+    "clients-by-rising-number": Run(
+        lines("begin 30|abort|begin 4|up 7 1|commit|begin 30|abort|begin 4|read 7|commit|begin|abort"),
+        lines(
+            "client 0 script 1|aborted|client 4 script 1|done|committed 1|client 4 script 2|is 1|committed 2"
+            "|client 30 script 1|aborted|client 30 script 2|aborted|counter 7 1"
+        ),
+        None,
+    ),
+    # By one worker the clients run in turn, by rising number.
+    "one-worker-runs-the-clients-in-turn": Run(
+        lines("begin 2|up 7 2|commit|begin 1|read 7|commit|begin 2|read 7|commit"),
+        lines(
+            "client 1 script 1|is 0|committed 1|client 2 script 1|done|committed 2|client 2 script 2|is 2|committed 3"
+            "|counter 7 2"
+        ),
+        lines(
+            "begin 1|op 1 read 7 is 0|commit 1 1|begin 2|op 2 up 7 2 done|commit 2 2|begin 3|op 3 read 7 is 2|commit 3 3"
+        ),
+        (1,),
+    ),
+}
+
+
+@each(RUN)
+def run(mltx, row):
+    """All that is written is as the row says, whatever the workers and the hash function, and so is the trace."""
+    file, trace = mltx.file("scripts.txt", row.text), mltx.folder / "run.trace"
+    for workers in row.workers:
+        for options in (*HASHES, ("--tries", "1")):
+            words = ["run", "--workers", workers, *options]
+            expect(mltx.run(*words, "--trace", trace, file), out=row.output, what=f"{words} FILE")
+            if row.trace is not None:
+                same(trace.read_text(), row.trace, f"the trace of {words}")
+            expect(mltx.run(*words, "-", given=row.text), out=row.output, what=f"{words} -")
+    if 8 in row.workers:
+        expect(mltx.run("run", file), out=row.output, what="run FILE")
+
+
+@test
+def two_clients_commit_in_either_order(mltx):
+    """Which of two clients commits first is free, and the trace tells the same as the output."""
+    text, trace = lines("begin 1|open 1|commit|begin 2|up 7 1|commit"), mltx.folder / "run.trace"
+    for workers in (1, 2, 8):
+        ran = mltx.run("run", "--workers", workers, "--trace", trace, "-", given=text)
+        first = 1 if b"opened\ncommitted 1\n" in ran.out else 2
+        told = f"client 1 script 1|opened|committed {first}|client 2 script 1|done|committed {3 - first}"
+        expect(ran, out=lines(f"{told}|account 1 0|counter 7 1"), what=f"{workers} workers")
+        opened = "opened" in trace.read_text().split("commit")[0]
+        same(opened, first == 1, f"whether client 1 is first in {trace.read_text()!r}")
+        same(mltx.check(trace).out.splitlines()[2:], [b"account 1 0", b"counter 7 1"], "the base that check writes")
+
+
+CHECK = {
+    "check-two-serials": (
+        "begin 1|begin 2|op 2 open 1 opened|op 2 deposit 1 7 done|commit 2 1|op 1 balance 1 is 7|commit 1 2",
+        "serial 2|serial 1|account 1 7",
+    ),
+    "check-of-an-empty-trace": ("", ""),
+    # Who is open at the end is left out, with all that it did.
+    "check-leaves-out-who-is-open": (
+        "begin 1|op 1 open 1 opened|begin 2|op 2 up 7 1 done|commit 2 1|op 1 deposit 1 5 done|back 1",
+        "serial 2|counter 7 1",
+    ),
+    # Numbers rise, and need not follow each other.
+    "check-of-numbers-with-gaps": (
+        "begin 3|begin 18446744073709551615|commit 18446744073709551615 1|abort 3",
+        "serial 18446744073709551615",
+    ),
+    "check-of-words-parted-anyhow": (
+        " begin\t1 \r|op 01  open 000000000001  opened\t|\top 1 deposit 1 07 done\r|op 1 balance 1 is  07|commit 1 01\r",
+        "serial 1|account 1 7",
+    ),
+    # A reply that the operation can't give is lawful in a line, where the transaction does not commit.
+    "check-of-an-odd-reply-that-is-taken-back": (
+        "begin 1|op 1 open 1 yes|op 1 read 7 closed|back 1|back 1|abort 1|begin 2|op 2 up 7 1 short",
+        "",
+    ),
+    # What was told side by side is judged in the order of the commits.
+    "check-goes-by-the-order-of-commits": (
+        "begin 1|begin 2|op 1 read 7 is 0|op 2 up 7 1 done|commit 1 1|commit 2 2|begin 3|op 3 read 7 is 1|commit 3 3",
+        "serial 1|serial 2|serial 3|counter 7 1",
+    ),
+    "check-of-more-transactions-than-may-be-open": (
+        "|".join(
+            [f"begin {number}" for number in range(1, 101)]
+            + [f"commit {number} {101 - number}" for number in range(100, 0, -1)]
+        ),
+        "|".join(f"serial {number}" for number in range(100, 0, -1)),
+    ),
+    "check-of-each-reply": (SOLO["each-reply"].trace.strip().replace("\n", "|"), "serial 1|counter 4 1"),
+}
+
+
+@each(CHECK)
+def check(mltx, row):
+    """The serial order and the base, of a file and of standard input."""
+    text, wanted = map(lines, row)
+    expect(mltx.run("check", mltx.file("some.trace", text)), out=wanted, what="check FILE")
+    expect(mltx.run("check", "-", given=text), out=wanted, what="check -")
+
+
+@test
+def check_of_a_trace_cut_at_any_byte(mltx):
+    """At the end of a line it is a shorter trace, and else the line is cut, wherever the cut is."""
+    text = lines(CHECK["check-two-serials"][0])
+    wanted = [""] * 5 + [lines("serial 2|account 1 7")] * 2 + [lines("serial 2|serial 1|account 1 7")]
+    for end in range(len(text) + 1):
+        begun = text[:end]
+        whole = begun.count("\n")
+        if begun.endswith("\n") or not begun:
+            expect(mltx.check(begun), out=wanted[whole], what=f"{begun!r}")
+        else:
+            expect(mltx.check(begun), status=1, err=f"mltx: 11 TraceFault line {whole + 1} Cut\n", what=f"{begun!r}")
+
+
+def shown_examples():
+    """The blocks of the examples' own page, by the file that is named last before each."""
+    blocks, name = {}, ""
+    for line in (ROOT / "examples" / "README.md").read_text().splitlines(keepends=True):
+        if line.startswith("    "):
+            blocks[name] = blocks.get(name, "") + line[4:]
+        for word in line.split("`")[1::2]:
+            name = word if (ROOT / "examples" / word).is_file() else name
+    return blocks
+
+
+# How each example is run whose output the examples' page shows.
+EXAMPLES = {
+    "side-by-side.txt": ("run", "--workers", "1"),
+    "wait-for-a-page.txt": ("steps",),
+    "block-by-reply.txt": ("steps",),
+    "abort-under-later-deposit.txt": ("steps",),
+    "split-beside-a-reader.txt": ("steps", "--hash", "low"),
+    "abort-under-deposit.trace": ("check",),
+}
+# Scripts of the examples whose output is shown nowhere else: by the tables of replies.
+SCRIPTS = {
+    "first-run.txt": "opened|done|is 50|committed 1",
+    "transfer.txt": (
+        "opened|opened|done|committed 1|done|done|committed 2|short|aborted|is 70|is 30|aborted"
+    ),
+    "conditional-close.txt": "opened|done|committed 1|is 70|done|closed|committed 2",
+    "sets-and-counters.txt": (
+        "added|done|added|done|committed 1|present|aborted|yes|removed|done|is 1|is 1|committed 2"
+    ),
+}
+
+
+@each({f"example-{name.split('.')[0]}": name for name in EXAMPLES})
+def example(mltx, name):
+    """The program writes what the page of examples shows."""
+    expect(mltx.run(*EXAMPLES[name], ROOT / "examples" / name), out=shown_examples()[name])
+
+
+@each({f"example-{name.split('.')[0]}": name for name in SCRIPTS})
+def example_script(mltx, name):
+    expect(mltx.run("solo", ROOT / "examples" / name), out=lines(SCRIPTS[name]))
+
+
+@test
+def example_of_a_false_reply(mltx):
+    shown = shown_examples()["false-reply.trace"]
+    expect(mltx.run("check", ROOT / "examples" / "false-reply.trace"), status=1, err=shown)
+
+
+@test
+def each_example_is_run(mltx):
+    """Each file of the examples is run by a test, and each output that their page shows is compared."""
+    run_here = {*EXAMPLES, *SCRIPTS, "false-reply.trace", "move_money.py"}
+    same({path.name for path in (ROOT / "examples").iterdir()}, {*run_here, "README.md"}, "the files of examples")
+    same(set(shown_examples()), run_here - set(SCRIPTS), "the files whose output is shown")
+
+
+@test
+def example_of_side_by_side_by_more_workers(mltx):
+    """By more workers the numbers of commits may differ, and the base is the same."""
+    base = "".join(shown_examples()["side-by-side.txt"].splitlines(keepends=True)[-5:])
+    for workers in (2, 4, 8):
+        trace = mltx.folder / "side-by-side.trace"
+        ran = mltx.run("run", "--workers", workers, "--trace", trace, ROOT / "examples" / "side-by-side.txt")
+        same((ran.status, ran.err), (0, b""), f"{workers} workers")
+        same(ran.out.decode()[-len(base) :], base, f"the base by {workers} workers")
+        checked = mltx.check(trace)
+        same((checked.status, checked.err), (0, b""), "check")
+        same(sorted(checked.out.decode().splitlines()[:6]), [f"serial {number}" for number in range(1, 7)], "the commits")
+        same(checked.out.decode().splitlines()[6:], base.splitlines(), "the base of the trace")

@@ -1,0 +1,541 @@
+"""Schedules: the worked rows of `steps`, what each leaves as its trace, and what the two hash functions make of keys.
+
+A schedule is written as in the rows: `event > line, line`. `step T` with more lines than one stands for so many steps. Lines
+without `>` are what is written at the end: the base, and the depth of the directory."""
+import dataclasses
+from collections import Counter
+
+from harness import each, expect, lines, same, test
+
+# The greatest balance of an account.
+MOST = 10**18
+# The options for each hash function. Without one it is `mult`.
+MULT = ((), ("--hash", "mult"))
+LOW = (("--hash", "low"),)
+EITHER = MULT + LOW
+
+
+@dataclasses.dataclass(frozen=True)
+class Schedule:
+    """A schedule with all that is written, and the options for hash functions under which it is."""
+
+    text: str
+    options: tuple = EITHER
+
+    def told(self):
+        """Each event with the lines that it is told."""
+        parted = [line.split(" > ") for line in self.text.strip().splitlines() if ">" in line]
+        return [(event, answers.split(", ")) for event, answers in parted]
+
+    def end(self):
+        """The lines of the base, and the one of the depth."""
+        return "".join(line + "\n" for line in self.text.strip().splitlines() if ">" not in line)
+
+    def events(self, together=True):
+        """The text to be run: `step T N` where steps are together, else a line for each of them."""
+        return "".join(_event(event, len(answers), together) for event, answers in self.told())
+
+    def output(self):
+        return "".join(line + "\n" for _, answers in self.told() for line in answers) + self.end()
+
+    def trace(self):
+        history = History()
+        for event, answers in self.told():
+            for answer in answers:
+                history.tell(event, answer)
+        return "".join(item + "\n" for item in history.items)
+
+    def checked(self):
+        """What `check` says of the trace: the commits in their order, and the base."""
+        commits = [item.split()[1] for item in self.trace().splitlines() if item.startswith("commit")]
+        base = [line for line in self.end().splitlines() if not line.startswith("depth")]
+        return "".join(line + "\n" for line in [*(f"serial {number}" for number in commits), *base])
+
+
+def _event(event, count, together):
+    if count == 1:
+        return event + "\n"
+    return f"{event} {count}\n" if together else f"{event}\n" * count
+
+
+class History:
+    """The items of a trace, by the table of traces."""
+
+    def __init__(self):
+        self.items, self.pending, self.standing = [], {}, Counter()
+
+    def tell(self, event, answer):
+        """Notes what an event was told."""
+        name, number, operation = [*event.split(" ", 2), "", ""][:3]
+        word, rest = [*answer.split(" ", 1), ""][:2]
+        if name in ("call", "whole") and word != "refused":
+            self.pending[number] = operation
+        if word == "begun":
+            self.items.append(f"begin {rest}")
+        elif word == "done":
+            self.items.append(f"op {number} {self.pending[number]} {rest}")
+            self.standing[number] += 1
+        elif word == "committed":
+            self.items.append(f"commit {number} {rest}")
+        elif word == "undone":
+            self._take_back(number, 1)
+        elif word == "aborted":
+            self._take_back(number, self.standing[number])
+            self.items.append(f"abort {number}")
+
+    def _take_back(self, number, count):
+        self.items += [f"back {number}"] * count
+        self.standing[number] -= count
+
+
+def going(count):
+    return ", ".join(["going"] * count)
+
+
+def made(*accounts, holding=0):
+    """Transaction 1 opens the accounts, deposits into them if they are to hold something, and commits."""
+    events = ["begin > begun 1"]
+    for account in accounts:
+        events.append(f"whole 1 open {account} > done opened")
+        if holding:
+            events.append(f"whole 1 deposit {account} {holding} > done done")
+    return "\n".join([*events, "commit 1 > committed 1"])
+
+
+def empty(*accounts):
+    """The lines of a base in which these accounts hold nothing."""
+    return "\n".join(f"account {account} 0" for account in accounts)
+
+
+# Eight accounts in one bucket: their low pseudokeys lead to one half of the directory, or are one and the same.
+EIGHT = range(8)
+ALIKE = range(0, 8 * 65536, 65536)
+# Seventeen that make a directory of depth 13 by low pseudokeys.
+DEEP = (*range(9), *range(1024, 1032))
+
+ROWS = {
+    "abort-under-later-deposit": Schedule(f"""
+{made(1)}
+begin > begun 2
+begin > begun 3
+call 2 deposit 1 5 > called
+step 2 > going, going
+call 3 deposit 1 7 > called
+step 3 > going, going
+step 2 > going
+step 3 > waiting by 2
+step 2 > done done
+step 3 > going
+step 3 > done done
+abort 2 > aborting
+step 2 > going, going, going, aborted
+commit 3 > committed 2
+account 1 7
+depth 0"""),
+    "blocked-by-reply": Schedule(f"""
+{made(1, holding=5)}
+begin > begun 2
+whole 2 withdraw 1 3 > done done
+begin > begun 3
+call 3 withdraw 1 4 > called
+step 3 > going, going, going
+step 3 > blocked by 2
+commit 3 > refused 5 Running
+abort 2 > aborting
+undo 2 > aborted
+step 3 > going, going, going, done done
+commit 3 > committed 2
+account 1 1
+depth 0"""),
+    "over-after-undo": Schedule(f"""
+{made(1, holding=MOST)}
+begin > begun 2
+whole 2 withdraw 1 1 > done done
+begin > begun 3
+whole 3 deposit 1 1 > blocked by 2
+abort 2 > aborting
+undo 2 > aborted
+whole 3 deposit 1 1 > done over
+account 1 {MOST}
+depth 0"""),
+    "remove-add-remove-undone": Schedule("""
+begin > begun 1
+whole 1 add 4 9 > done added
+commit 1 > committed 1
+begin > begun 2
+whole 2 remove 4 9 > done removed
+whole 2 add 4 9 > done added
+whole 2 remove 4 9 > done removed
+abort 2 > aborting
+undo 2 > aborted
+element 4 9
+depth 0"""),
+    "other-adds-after-undo": Schedule("""
+begin > begun 1
+whole 1 up 1 1 > done done
+whole 1 add 4 9 > done added
+abort 1 > aborting
+step 1 > going, going, going, undone
+begin > begun 2
+whole 2 add 4 9 > done added
+commit 2 > committed 1
+step 1 > going, going, going, aborted
+element 4 9
+depth 0"""),
+    "split-waits-for-reader": Schedule(f"""
+{made(*EIGHT)}
+begin > begun 2
+call 2 balance 3 > called
+step 2 > going
+begin > begun 3
+call 3 open 32768 > called
+step 3 > going, going, going, waiting by 2
+step 2 > going, going, done is 0
+step 3 > {going(8)}, done opened
+{empty(*EIGHT)}
+depth 1""", LOW),
+    "split-stays-after-abort": Schedule(f"""
+{made(*EIGHT)}
+begin > begun 2
+whole 2 open 32768 > done opened
+abort 2 > aborting
+undo 2 > aborted
+{empty(*EIGHT)}
+depth 1""", LOW),
+    "no-room-at-depth": Schedule(f"""
+{made(*ALIKE)}
+begin > begun 2
+whole 2 open 524288 > refused 2 NoRoom
+commit 2 > committed 2
+{empty(*ALIKE)}
+depth 0""", LOW),
+    "ghost-keeps-room": Schedule(f"""
+{made(*ALIKE)}
+begin > begun 2
+whole 2 open 524288 > refused 2 NoRoom
+commit 2 > committed 2
+begin > begun 3
+whole 3 close 0 > done closed
+begin > begun 4
+whole 4 open 524288 > refused 2 NoRoom
+abort 3 > aborting
+undo 3 > aborted
+whole 4 balance 0 > done is 0
+{empty(*ALIKE)}
+depth 0""", LOW),
+    "ghost-of-a-commit-gives-room": Schedule(f"""
+{made(*ALIKE)}
+begin > begun 2
+whole 2 open 524288 > refused 2 NoRoom
+commit 2 > committed 2
+begin > begun 3
+whole 3 close 0 > done closed
+begin > begun 4
+whole 4 open 524288 > refused 2 NoRoom
+commit 3 > committed 3
+whole 4 open 524288 > done opened
+{empty(*ALIKE[1:])}
+depth 0""", LOW),
+    "counter-wraps": Schedule("""
+begin > begun 1
+whole 1 up 2 5 > done done
+begin > begun 2
+whole 2 up 2 5 > done done
+abort 1 > aborting
+undo 1 > aborted
+commit 2 > committed 1
+begin > begun 3
+whole 3 read 2 > done is 5
+whole 3 down 2 6 > done done
+commit 3 > committed 2
+counter 2 18446744073709551615
+depth 0"""),
+    "thirteen-splits": Schedule(f"""
+{made(*EIGHT)}
+begin > begun 2
+whole 2 open 8 > done opened
+{empty(*EIGHT)}
+depth 13""", LOW),
+    "no-room-by-steps": Schedule(f"""
+{made(*ALIKE)}
+begin > begun 2
+call 2 open 524288 > called
+step 2 > {going(5)}, refused 2 NoRoom
+step 2 > refused 6 NotRunning
+commit 2 > committed 2
+{empty(*ALIKE)}
+depth 0""", LOW),
+    "thirteen-splits-by-steps": Schedule(f"""
+{made(*EIGHT)}
+begin > begun 2
+call 2 open 8 > called
+step 2 > {going(116)}, done opened
+{empty(*EIGHT)}
+depth 13""", LOW),
+    "narrow-split-beside-reader": Schedule(f"""
+{made(*DEEP)}
+begin > begun 2
+call 2 balance 40000 > called
+step 2 > going, going
+begin > begun 3
+call 3 open 1536 > called
+step 3 > {going(10)}, done opened
+step 2 > going, done missing
+{empty(*DEEP)}
+depth 13""", LOW),
+    "narrow-split-waits-for-its-page": Schedule(f"""
+{made(*DEEP)}
+begin > begun 2
+call 2 balance 0 > called
+step 2 > going, going
+begin > begun 3
+call 3 open 1536 > called
+step 3 > going, going, going, going, waiting by 2
+{empty(*DEEP)}
+depth 13""", LOW),
+    "over-passes-deposit": Schedule(f"""
+{made(1, holding=MOST - 10)}
+begin > begun 2
+whole 2 deposit 1 11 > done over
+begin > begun 3
+whole 3 deposit 1 10 > done done
+commit 3 > committed 2
+commit 2 > committed 3
+account 1 {MOST}
+depth 0"""),
+    "over-blocks-withdrawal": Schedule(f"""
+{made(1, holding=MOST - 10)}
+begin > begun 2
+whole 2 deposit 1 11 > done over
+begin > begun 3
+whole 3 withdraw 1 1 > blocked by 2
+account 1 {MOST - 10}
+depth 0"""),
+    "withdrawals-around-short": Schedule(f"""
+{made(1, holding=5)}
+begin > begun 2
+whole 2 deposit 1 1 > done done
+begin > begun 3
+whole 3 withdraw 1 7 > done short
+whole 3 withdraw 1 6 > blocked by 2
+account 1 5
+depth 0"""),
+    "short-after-not-empty": Schedule(f"""
+{made(1, holding=5)}
+begin > begun 2
+whole 2 close 1 > done notempty
+begin > begun 3
+whole 3 deposit 1 3 > done done
+begin > begun 4
+whole 4 withdraw 1 8 > blocked by 2
+account 1 5
+depth 0"""),
+    # Each refusal of an event that the limits of the program allow to be seen, with its place in the order of causes.
+    "refusals-of-events": Schedule("""
+begin > begun 1
+begin > begun 2
+commit 9 > refused 3 NoSuchTx
+step 0 > refused 3 NoSuchTx
+whole 18446744073709551615 up 7 1 > refused 3 NoSuchTx
+step 1 > refused 6 NotRunning
+cancel 1 > refused 6 NotRunning
+call 1 up 7 1 > called
+call 1 read 7 > refused 5 Running
+whole 1 read 7 > refused 5 Running
+commit 1 > refused 5 Running
+abort 1 > refused 5 Running
+undo 1 > refused 6 NotRunning
+cancel 1 > cancelled
+cancel 1 > refused 6 NotRunning
+whole 1 up 7 1 > done done
+undo 1 > refused 6 NotRunning
+abort 1 > aborting
+commit 1 > refused 4 Undoing
+call 1 read 7 > refused 4 Undoing
+whole 1 read 7 > refused 4 Undoing
+abort 1 > refused 4 Undoing
+cancel 1 > refused 4 Undoing
+undo 1 > aborted
+step 1 > refused 3 NoSuchTx
+undo 1 > refused 3 NoSuchTx
+cancel 1 > refused 3 NoSuchTx
+abort 1 > refused 3 NoSuchTx
+call 1 read 7 > refused 3 NoSuchTx
+abort 2 > aborted
+begin > begun 3
+commit 3 > committed 1
+depth 0"""),
+    # Each step is an event: those after the answer are told that there is nothing to step.
+    "steps-after-the-answer": Schedule("""
+begin > begun 1
+call 1 up 7 1 > called
+step 1 > going, going, going, done done, refused 6 NotRunning, refused 6 NotRunning
+abort 1 > aborting
+step 1 > going, going, going, aborted, refused 3 NoSuchTx, refused 3 NoSuchTx
+depth 0"""),
+    # What changes nothing is taken back in one step, and the last one tells of the abort.
+    "inverses-last-to-first": Schedule("""
+begin > begun 1
+whole 1 read 7 > done is 0
+whole 1 up 7 2 > done done
+whole 1 has 4 9 > done no
+abort 1 > aborting
+step 1 > undone
+step 1 > going, going, going, undone
+step 1 > aborted
+depth 0"""),
+    # The depth is that of the clean pages: a pass that has written the header and not ended does not count.
+    "depth-is-that-of-clean-pages": Schedule(f"""
+{made(*EIGHT)}
+begin > begun 2
+call 2 open 32768 > called
+step 2 > {going(11)}
+{empty(*EIGHT)}
+depth 0""", LOW),
+    # A wide pass that is dropped gives its pages back, and the next one splits.
+    "cancelled-split-leaves-no-depth": Schedule(f"""
+{made(*EIGHT)}
+begin > begun 2
+call 2 open 32768 > called
+step 2 > {going(11)}
+cancel 2 > cancelled
+whole 2 open 32769 > done opened
+commit 2 > committed 2
+{empty(*EIGHT, 32769)}
+depth 1""", LOW),
+    "commits-are-numbered-as-they-come": Schedule("""
+begin > begun 1
+begin > begun 2
+begin > begun 3
+whole 3 up 7 3 > done done
+whole 2 add 4 9 > done added
+commit 3 > committed 1
+abort 2 > aborting
+undo 2 > aborted
+commit 1 > committed 2
+counter 7 3
+depth 0"""),
+    # What is committed in one kind of cell is told by rising number, and a counter at 0 is not told.
+    "base-in-order": Schedule("""
+begin > begun 1
+whole 1 up 9 1 > done done
+whole 1 up 3 5 > done done
+whole 1 up 5 4 > done done
+whole 1 down 5 4 > done done
+whole 1 add 4 10 > done added
+whole 1 add 4 9 > done added
+whole 1 add 3 4294967295 > done added
+whole 1 add 65535 0 > done added
+whole 1 open 4294967295 > done opened
+whole 1 open 10 > done opened
+whole 1 open 9 > done opened
+whole 1 deposit 10 6 > done done
+commit 1 > committed 1
+account 9 0
+account 10 6
+account 4294967295 0
+element 3 4294967295
+element 4 9
+element 4 10
+element 65535 0
+counter 3 5
+counter 9 1
+depth 1""", LOW),
+}
+
+
+@each(ROWS)
+def schedule(mltx, row):
+    """All that is written is as the row says, from a file and from standard input, and so are the trace and its check."""
+    file, trace = mltx.file("schedule.txt", row.events()), mltx.folder / "steps.trace"
+    for options in row.options:
+        what = f"steps {' '.join(options)}"
+        expect(mltx.run("steps", *options, "--trace", trace, file), out=row.output(), what=f"{what} FILE")
+        same(trace.read_text(), row.trace(), f"the trace of {what}")
+        expect(mltx.run("steps", *options, "-", given=row.events(together=False)), out=row.output(), what=f"{what} -")
+    expect(mltx.check(trace), out=row.checked(), what="check")
+
+
+@test
+def trace_of_the_abort(mltx):
+    trace = mltx.folder / "abort.trace"
+    mltx.run("steps", "-", "--trace", trace, given=ROWS["abort-under-later-deposit"].events())
+    wanted = lines(
+        "begin 1|op 1 open 1 opened|commit 1 1|begin 2|begin 3|op 2 deposit 1 5 done|op 3 deposit 1 7 done|back 2|abort 2"
+        "|commit 3 2"
+    )
+    same(trace.read_text(), wanted, "the trace")
+    expect(mltx.check(trace), out=lines("serial 1|serial 3|account 1 7"), what="check")
+
+
+def keys_of(count):
+    """The numbers of the keys of as many accounts, counters and elements of set 5."""
+    return [kind * 2**48 + rest + number for kind, rest in ((1, 0), (2, 0), (3, 5 * 2**32)) for number in range(count)]
+
+
+def mult(key):
+    return key * 0x9E3779B97F4A7C15 % 2**64
+
+
+def low(key):
+    return key % 2**16 * 2**48
+
+
+def depth_of(keys, pseudokey):
+    """The depth of a directory into which these keys came and none left: the least at which no nine keys agree in so many
+    first bits, since a bucket has room for eight."""
+    return next(depth for depth in range(17) if most_alike(keys, pseudokey, depth) <= 8)
+
+
+def most_alike(keys, pseudokey, depth):
+    return max(Counter(pseudokey(key) >> (64 - depth) for key in keys).values())
+
+
+def additions(count):
+    """Schedules that add as many accounts, counters and elements, a kind in each transaction."""
+    kinds = ("open {} > done opened", "up {} 1 > done done", "add 5 {} > done added")
+    for number, kind in enumerate(kinds, 1):
+        yield f"begin > begun {number}"
+        yield from (f"whole {number} {kind.format(place)}" for place in range(count))
+        yield f"commit {number} > committed {number}"
+
+
+def base_of(count):
+    for line in ("account {} 0", "element 5 {}", "counter {} 1"):
+        yield from (line.format(place) for place in range(count))
+
+
+@each({f"depth-of-{3 * count}-keys": count for count in (2, 3, 10, 40, 150, 600)})
+def depth_of_many_keys(mltx, count):
+    """Each hash function gives the depth that its definition says."""
+    keys = keys_of(count)
+    for pseudokey, options in ((mult, MULT), (low, LOW)):
+        text = "\n".join([*additions(count), *base_of(count), f"depth {depth_of(keys, pseudokey)}"])
+        row = Schedule(text)
+        for option in options:
+            expect(mltx.run("steps", *option, "-", given=row.events()), out=row.output(), what=f"{count} {option}")
+
+
+@test
+def hash_functions_differ(mltx):
+    """Nine accounts whose low pseudokeys are one have no room by `low`, and have it by `mult`."""
+    opened = [f"whole 1 open {account} > done opened" for account in ALIKE]
+    refused = ["begin > begun 1", *opened, "whole 1 open 524288 > refused 2 NoRoom", "commit 1 > committed 1"]
+    depth = depth_of([2**48 + account for account in (*ALIKE, 524288)], mult)
+    for options, row in (
+        (LOW, Schedule("\n".join([*refused, empty(*ALIKE), "depth 0"]))),
+        (MULT, Schedule("\n".join([made(*ALIKE, 524288), empty(*ALIKE, 524288), f"depth {depth}"]))),
+    ):
+        for option in options:
+            expect(mltx.run("steps", *option, "-", given=row.events()), out=row.output(), what=f"{option}")
+
+
+@test
+def low_pseudokeys_of_each_kind_are_one(mltx):
+    """Cells of three kinds with the same 16 low bits of their numbers share a bucket, and the ninth finds no room."""
+    asked = ["open 5", "up 5 1", "add 0 5", "add 1 5", "add 65535 5", "open 65541", "up 4294901765 1", "add 7 65541"]
+    replies = ["opened", "done", "added", "added", "added", "opened", "done", "added"]
+    text = "".join(f"whole 1 {operation}\n" for operation in [*asked, "add 2 5"])
+    told = "".join(f"done {reply}\n" for reply in replies)
+    ran = mltx.run("steps", "--hash", "low", "-", given=f"begin\n{text}")
+    expect(ran, out=f"begun 1\n{told}refused 2 NoRoom\ndepth 0\n")
