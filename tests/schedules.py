@@ -384,6 +384,19 @@ step 1 > undone
 step 1 > going, going, going, undone
 step 1 > aborted
 depth 0"""),
+    # An addition that would split, and has to wait to do so, is told it and dropped.
+    "whole-split-is-told-that-it-waits": Schedule(f"""
+{made(*EIGHT)}
+begin > begun 2
+call 2 balance 3 > called
+step 2 > going
+begin > begun 3
+whole 3 open 32768 > waiting by 2
+step 3 > refused 6 NotRunning
+step 2 > going, going, done is 0
+whole 3 open 32768 > done opened
+{empty(*EIGHT)}
+depth 1""", LOW),
     # The depth is that of the clean pages: a pass that has written the header and not ended does not count.
     "depth-is-that-of-clean-pages": Schedule(f"""
 {made(*EIGHT)}

@@ -1,0 +1,265 @@
+"""Command lines: what is asked by the words, help and the version, and words that are wrong."""
+import subprocess
+
+from harness import Server, each, expect, holds, lines, same, test
+
+FIRST_RUN = lines("begin|open 1|deposit 1 50|balance 1|commit")
+TOLD = lines("opened|done|is 50|committed 1")
+EVENTS = lines("begin|whole 1 open 1|commit 1")
+EVENTS_TOLD = lines("begun 1|done opened|committed 1|account 1 0|depth 0")
+RUN_TOLD = lines("client 0 script 1|opened|done|is 50|committed 1|account 1 50")
+TRACE = lines("begin 1|op 1 open 1 opened|commit 1 1")
+CHECKED = lines("serial 1|account 1 0")
+# Files with names that could be taken for something else.
+FILES = {
+    **{name: FIRST_RUN for name in ("a.txt", "a b", "-x", "help", "--hash", "--help", "run", "./-")},
+    "events": EVENTS,
+    **{name: TRACE for name in ("a.trace", "solo", "--trace")},
+}
+# Words with what is written: the file that is named is read, and standard input, which is faulty, is not.
+OF_FILES = [
+    (("solo", "a.txt"), TOLD),
+    (("solo", "a b"), TOLD),
+    (("solo", "help"), TOLD),
+    (("solo", "run"), TOLD),
+    (("solo", "./-"), TOLD),
+    (("solo", "--", "-x"), TOLD),
+    (("solo", "--", "--help"), TOLD),
+    (("solo", "--hash", "low", "a.txt"), TOLD),
+    (("solo", "--hash=mult", "a.txt"), TOLD),
+    (("solo", "a.txt", "--hash", "low"), TOLD),
+    (("solo", "a.txt", "--trace", "b.txt"), TOLD),
+    (("solo", "--trace=b.txt", "--hash=low", "--", "--hash"), TOLD),
+    (("steps", "events"), EVENTS_TOLD),
+    (("steps", "--hash=mult", "events"), EVENTS_TOLD),
+    (("steps", "--trace=b.txt", "events", "--hash=low"), EVENTS_TOLD),
+    (("check", "a.trace"), CHECKED),
+    (("check", "solo"), CHECKED),
+    (("check", "--", "--trace"), CHECKED),
+    (("run", "a.txt"), RUN_TOLD),
+    (("run", "--workers", "1", "--tries", "1", "a.txt"), RUN_TOLD),
+    (("run", "a.txt", "--tries=1000000", "--workers=8", "--hash", "low"), RUN_TOLD),
+    (("run", "a.txt", "--trace", "b.txt", "--workers", "02", "--tries", "0010"), RUN_TOLD),
+]
+# Words by which standard input is read.
+OF_STANDARD_INPUT = [
+    ((), FIRST_RUN, TOLD),
+    (("solo", "-"), FIRST_RUN, TOLD),
+    (("solo", "--hash", "low", "-"), FIRST_RUN, TOLD),
+    (("solo", "-", "--trace", "b.txt"), FIRST_RUN, TOLD),
+    (("steps", "-"), EVENTS, EVENTS_TOLD),
+    (("steps", "--trace=b.txt", "--hash=low", "-"), EVENTS, EVENTS_TOLD),
+    (("run", "-"), FIRST_RUN, RUN_TOLD),
+    (("run", "-", "--tries=1000000", "--workers=8", "--hash", "low"), FIRST_RUN, RUN_TOLD),
+    (("check", "-"), TRACE, CHECKED),
+]
+
+
+@test
+def file_that_is_named_is_read(mltx):
+    for name, text in FILES.items():
+        mltx.file(name, text)
+    for words, wanted in OF_FILES:
+        (mltx.folder / "b.txt").unlink(missing_ok=True)
+        expect(mltx.run(*words, given="no text of any kind\n"), out=wanted, what=" ".join(words))
+        asked = any(word.startswith("--trace") for word in words) and words[-1] != "--trace"
+        same((mltx.folder / "b.txt").exists(), asked, f"whether there is a trace of {' '.join(words)}")
+
+
+@test
+def standard_input_is_read(mltx):
+    """No words at all are `solo -`, and a file whose name is `-` is not what `-` names."""
+    mltx.file("-", "no text of any kind\n")
+    for words, given, wanted in OF_STANDARD_INPUT:
+        expect(mltx.run(*words, given=given), out=wanted, what=" ".join(words) or "no words")
+
+
+# What the help has to name: the subcommands or arguments, the options and their ranges.
+OPTIONS = ("--hash", "mult", "low", "--trace <FILE>")
+HELP = {
+    "help": ("Usage: mltx", "solo", "steps", "run", "check", "serve", "--help", "--version", "solo -"),
+    "help-solo": ("mltx solo [OPTIONS] <FILE>", "standard input", *OPTIONS),
+    "help-steps": ("mltx steps [OPTIONS] <FILE>", "standard input", *OPTIONS),
+    "help-run": ("mltx run [OPTIONS] <FILE>", *OPTIONS, "--workers <N>", "1 to 8", "4", "--tries <N>", "10000"),
+    "help-check": ("mltx check <FILE>", "standard input"),
+    "help-serve": (
+        *("mltx serve [OPTIONS] <ADDR>", "127.0.0.1:7000", *OPTIONS, "--sessions <N>", "1 to 64", "8"),
+        *("--limit <N>", "1 to 1000000", "--tries <N>", "10000"),
+    ),
+}
+
+
+@each(HELP)
+def help_text(mltx, wanted):
+    """The same text by each way to ask for it, on standard output, and it names what there is."""
+    name = wanted[0].split()[1] if wanted[0] != "Usage: mltx" else None
+    ways = [(name, "--help"), (name, "-h"), ("help", name)] if name else [("--help",), ("-h",), ("help",)]
+    told = [mltx.run(*words) for words in ways]
+    for words, ran in zip(ways, told):
+        same((ran.status, ran.err, ran.out), (0, b"", told[0].out), " ".join(words))
+    missing = [text for text in wanted if text.encode() not in told[0].out]
+    holds(not missing, f"the help {ways[0]} does not name {missing}:\n{told[0].out.decode()}")
+
+
+@test
+def help_of_check_has_no_options_of_a_run(mltx):
+    told = mltx.run("check", "--help").out
+    same([option for option in (b"--hash", b"--trace", b"--workers", b"--tries") if option in told], [])
+
+
+@test
+def help_is_told_where_words_are_missing(mltx):
+    """Help counts also where FILE or ADDR is missing, or where an option stands before it."""
+    for words in (("solo", "--hash", "low", "--help"), ("run", "--workers", "2", "-h"), ("serve", "--help")):
+        ran = mltx.run(*words)
+        same((ran.status, ran.err), (0, b""), " ".join(words))
+        holds(b"Usage: mltx " + words[0].encode() in ran.out, f"{words}: {ran}")
+
+
+@test
+def version(mltx):
+    for word in ("--version", "-V"):
+        expect(mltx.run(word, given=FIRST_RUN), out="mltx 0.1.0\n", what=word)
+
+
+@test
+def examples_of_the_help_are_true(mltx):
+    """The text on the left of the help's example gives what stands on its right."""
+    for subcommand in ("solo", "steps", "run", "check"):
+        told = mltx.run(subcommand, "--help").out.decode()
+        left, right = columns(told[told.index("Example:") :])
+        file = mltx.file("example", left)
+        options = ("--workers", "1") if subcommand == "run" else ()
+        expect(mltx.run(subcommand, *options, file), out=right, what=f"{subcommand} of the help's {left!r}")
+
+
+def columns(example):
+    """The two columns of an example, below the line that names the second one."""
+    head, _, rows = example.partition("standard output\n")
+    place = len(head.splitlines()[-1]) if not head.endswith("\n") else 0
+    sides = ["", ""]
+    for row in rows.split("\n\n")[0].splitlines():
+        for side, text in enumerate((row[:place].strip(), row[place:].strip())):
+            sides[side] += text + "\n" if text else ""
+    return sides
+
+
+# Words that are wrong, with what standard error has to say of them.
+WRONG = {
+    "unknown-subcommand": (("play", "a.txt"), "'play'"),
+    "a-file-without-a-subcommand": (("a.txt",), "'a.txt'"),
+    "options-without-a-subcommand": (("--hash", "low"), "'--hash'"),
+    "trace-without-a-subcommand": (("--trace", "b.txt", "solo", "a.txt"), "'--trace'"),
+    "unknown-option": (("solo", "--fast", "a.txt"), "'--fast'"),
+    "unknown-short-option": (("solo", "-x"), "'-x'"),
+    "dash-alone": (("-",), "'-'"),
+    "two-dashes-alone": (("--",), "subcommand"),
+    "a-word-without-letters": (("",), "''"),
+    "solo-without-a-file": (("solo",), "<FILE>"),
+    "steps-without-a-file": (("steps", "--hash", "low"), "<FILE>"),
+    "run-without-a-file": (("run",), "<FILE>"),
+    "check-without-a-file": (("check",), "<FILE>"),
+    "serve-without-an-address": (("serve",), "<ADDR>"),
+    "solo-of-two-files": (("solo", "a.txt", "b.txt"), "'b.txt'"),
+    "steps-of-two-files": (("steps", "-", "-"), "'-'"),
+    "run-of-two-files": (("run", "a.txt", "--hash", "low", "b.txt"), "'b.txt'"),
+    "check-of-two-files": (("check", "a.txt", "b.txt"), "'b.txt'"),
+    "serve-of-two-addresses": (("serve", "127.0.0.1:1", "127.0.0.1:2"), "'127.0.0.1:2'"),
+    "unknown-hash-function": (("solo", "--hash", "other", "a.txt"), "'other'"),
+    "hash-function-in-capitals": (("steps", "--hash", "Low", "a.txt"), "mult, low"),
+    "hash-without-a-value": (("steps", "a.txt", "--hash"), "'--hash <HASH>'"),
+    "trace-without-a-file": (("solo", "a.txt", "--trace"), "'--trace <FILE>'"),
+    "hash-twice": (("solo", "--hash", "low", "--hash", "low", "a.txt"), "'--hash <HASH>'"),
+    "check-has-no-hash": (("check", "--hash", "low", "a.txt"), "'--hash'"),
+    "check-has-no-trace": (("check", "--trace", "b.txt", "a.txt"), "'--trace'"),
+    "solo-has-no-workers": (("solo", "--workers", "2", "a.txt"), "'--workers'"),
+    "steps-has-no-tries": (("steps", "--tries", "2", "a.txt"), "'--tries'"),
+    "run-has-no-sessions": (("run", "--sessions", "2", "a.txt"), "'--sessions'"),
+    "run-has-no-limit": (("run", "--limit", "2", "a.txt"), "'--limit'"),
+    "serve-has-no-workers": (("serve", "--workers", "2", "127.0.0.1:0"), "'--workers'"),
+    "no-help-of-what-is-not-there": (("help", "play"), "'play'"),
+}
+# For each option with a number: its subcommand, the greatest number, and what else stands there.
+NUMBERS = {
+    "workers": ("run", 8, "a.txt"),
+    "tries": ("run", 1_000_000, "a.txt"),
+    "tries-of-a-server": ("serve", 1_000_000, "127.0.0.1:0"),
+    "sessions": ("serve", 64, "127.0.0.1:0"),
+    "limit": ("serve", 1_000_000, "127.0.0.1:0"),
+}
+
+
+def is_wrong(mltx, words, said):
+    """Status 2, nothing on standard output, and on standard error what is wrong."""
+    mltx.file("a.txt", FIRST_RUN)
+    ran = mltx.run(*words, given=FIRST_RUN)
+    same((ran.status, ran.out), (2, b""), " ".join(words))
+    holds(said.encode() in ran.err and ran.err.endswith(b"\n"), f"{words}: {said} does not stand in {ran.err!r}")
+
+
+@each({f"wrong-{name}": case for name, case in WRONG.items()})
+def wrong_words(mltx, case):
+    is_wrong(mltx, *case)
+
+
+@each({f"numbers-of-{name}": (name.split("-")[0], *case) for name, case in NUMBERS.items()})
+def numbers_out_of_range(mltx, case):
+    """0, one more than the greatest number, and what is no number, are refused."""
+    option, subcommand, most, rest = case
+    for number in (0, most + 1, "00", "-1", "two", "1.0", "", 2**64 + 1, "1 "):
+        is_wrong(mltx, (subcommand, f"--{option}={number}", rest), f"--{option}")
+
+
+@test
+def greatest_numbers_of_workers_and_tries(mltx):
+    file = mltx.file("a.txt", FIRST_RUN)
+    for workers in range(1, 9):
+        for tries in (1, 1_000_000):
+            words = ("run", "--workers", workers, "--tries", tries, file)
+            expect(mltx.run(*words), out=RUN_TOLD, what=f"{words}")
+
+
+@test
+def numbers_of_a_server(mltx):
+    """The least and the greatest number of sessions and of tries, and a limit of a million."""
+    for options in (("--sessions", 64, "--tries", 1_000_000), ("--sessions=1", "--tries", "007", "--hash", "low")):
+        with mltx.serve(*options, limit=2) as server:
+            for number in (1, 2):
+                same(server.talk("begin\nquit\n"), f"begun {number}\nbye\n".encode(), f"serve {options}")
+            expect(server.end(), out="served 2\n", what=f"serve {options}")
+    with mltx.serve(limit=1_000_000) as server:
+        same(server.talk("begin\nquit\n"), b"begun 1\nbye\n", "serve --limit 1000000")
+
+
+@test
+def one_connection_is_served_without_a_limit(mltx):
+    server = Server(mltx, [], None, 60)
+    try:
+        same(server.talk("begin\nquit\n"), b"begun 1\nbye\n")
+        expect(server.end(), out="served 1\n")
+    finally:
+        server.kill()
+
+
+@test
+def wrong_words_come_before_all_else(mltx):
+    """A file that is not there, a faulty text or an address in use is not looked at where words are wrong."""
+    faulty = mltx.file("faulty", "opn\n")
+    for words in (
+        ("solo", "--hash", "other", "missing"),
+        ("steps", "--hash", "other", faulty),
+        ("run", faulty, "--trace", "missing/folder", "--workers", "9"),
+        ("serve", "no address", "--limit", "0"),
+    ):
+        is_wrong(mltx, words, "--")
+
+
+@test
+def status_is_told_where_nothing_can_be_written(mltx):
+    """A closed standard error changes no status."""
+    faulty = mltx.file("faulty", "opn\n")
+    for words, status in ((("play",), 2), (("solo", faulty), 1), (("solo", "missing"), 1), (("check", faulty), 1)):
+        for target in ("&-", "/dev/full"):
+            command = ["/bin/sh", "-c", f'exec "$0" "$@" 2>{target}', mltx.path, *words]
+            ran = subprocess.run(command, capture_output=True, stdin=subprocess.DEVNULL, cwd=mltx.folder, timeout=60)
+            same((ran.returncode, ran.stdout), (status, b""), f"{words} 2>{target}")
