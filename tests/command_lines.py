@@ -1,7 +1,5 @@
 """Command lines: what is asked by the words, help and the version, and words that are wrong."""
-import subprocess
-
-from harness import Server, each, expect, holds, lines, same, test
+from harness import each, expect, holds, lines, same, test
 
 FIRST_RUN = lines("begin|open 1|deposit 1 50|balance 1|commit")
 TOLD = lines("opened|done|is 50|committed 1")
@@ -80,11 +78,11 @@ HELP = {
     "help": ("Usage: mltx", "solo", "steps", "run", "check", "serve", "--help", "--version", "solo -"),
     "help-solo": ("mltx solo [OPTIONS] <FILE>", "standard input", *OPTIONS),
     "help-steps": ("mltx steps [OPTIONS] <FILE>", "standard input", *OPTIONS),
-    "help-run": ("mltx run [OPTIONS] <FILE>", *OPTIONS, "--workers <N>", "1 to 8", "4", "--tries <N>", "10000"),
+    "help-run": ("mltx run [OPTIONS] <FILE>", *OPTIONS, "--workers <N>", "1 to 8; without it 4", "--tries <N>", "10000"),
     "help-check": ("mltx check <FILE>", "standard input"),
     "help-serve": (
-        *("mltx serve [OPTIONS] <ADDR>", "127.0.0.1:7000", *OPTIONS, "--sessions <N>", "1 to 64", "8"),
-        *("--limit <N>", "1 to 1000000", "--tries <N>", "10000"),
+        *("mltx serve [OPTIONS] <ADDR>", "127.0.0.1:7000", *OPTIONS, "--sessions <N>", "1 to 64; without it 8"),
+        *("--limit <N>", "1 to 1000000; without it 1", "--tries <N>", "10000"),
     ),
 }
 
@@ -128,6 +126,7 @@ def examples_of_the_help_are_true(mltx):
     for subcommand in ("solo", "steps", "run", "check"):
         told = mltx.run(subcommand, "--help").out.decode()
         left, right = columns(told[told.index("Example:") :])
+        holds(left and right, f"no example in the help of {subcommand}:\n{told}")
         file = mltx.file("example", left)
         options = ("--workers", "1") if subcommand == "run" else ()
         expect(mltx.run(subcommand, *options, file), out=right, what=f"{subcommand} of the help's {left!r}")
@@ -233,12 +232,9 @@ def numbers_of_a_server(mltx):
 
 @test
 def one_connection_is_served_without_a_limit(mltx):
-    server = Server(mltx, [], None, 60)
-    try:
+    with mltx.serve(limit=None) as server:
         same(server.talk("begin\nquit\n"), b"begun 1\nbye\n")
         expect(server.end(), out="served 1\n")
-    finally:
-        server.kill()
 
 
 @test
@@ -256,10 +252,8 @@ def wrong_words_come_before_all_else(mltx):
 
 @test
 def status_is_told_where_nothing_can_be_written(mltx):
-    """A closed standard error changes no status."""
+    """Where standard error is closed or full the status is the same."""
     faulty = mltx.file("faulty", "opn\n")
     for words, status in ((("play",), 2), (("solo", faulty), 1), (("solo", "missing"), 1), (("check", faulty), 1)):
-        for target in ("&-", "/dev/full"):
-            command = ["/bin/sh", "-c", f'exec "$0" "$@" 2>{target}', mltx.path, *words]
-            ran = subprocess.run(command, capture_output=True, stdin=subprocess.DEVNULL, cwd=mltx.folder, timeout=60)
-            same((ran.returncode, ran.stdout), (status, b""), f"{words} 2>{target}")
+        for redirect in ("2>&-", "2>/dev/full"):
+            expect(mltx.run(*words, redirect=redirect), status=status, what=f"{words} {redirect}")

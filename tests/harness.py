@@ -127,11 +127,12 @@ class Program:
         path.write_bytes(as_bytes(text))
         return str(path)
 
-    def run(self, *words, given=b"", env=None, stdout=subprocess.PIPE, timeout=PATIENCE):
-        """Runs the program with these words and this standard input, to its end."""
+    def run(self, *words, given=b"", env=None, stdout=subprocess.PIPE, redirect="", timeout=PATIENCE):
+        """Runs the program with these words and this standard input, to its end. `redirect` is what a shell is to do with
+        its streams before, as `>/dev/full`."""
         try:
             ran = subprocess.run(
-                [self.path, *map(str, words)],
+                command([self.path, *words], redirect),
                 input=as_bytes(given),
                 stdout=stdout,
                 stderr=subprocess.PIPE,
@@ -150,10 +151,10 @@ class Program:
         return self.run("check", "-", given=trace)
 
     @contextmanager
-    def serve(self, *options, limit=1, env=None, timeout=PATIENCE):
+    def serve(self, *options, limit=1, env=None, redirect="", timeout=PATIENCE):
         """A server on a port of its own, as long as the block lasts. It ends by itself once `limit` connections have
-        ended; where the block ends earlier, it is killed."""
-        server = Server(self, [*options, "--limit", limit], env, timeout)
+        ended; where the block ends earlier, it is killed. With `limit` None the option is left out."""
+        server = Server(self, [*options, *(["--limit", limit] if limit is not None else [])], env, redirect, timeout)
         try:
             yield server
         finally:
@@ -163,9 +164,9 @@ class Program:
 class Server:
     """A running `mltx serve`."""
 
-    def __init__(self, mltx, options, env, timeout):
+    def __init__(self, mltx, options, env, redirect, timeout):
         self.address, self.timeout = free_address(), timeout
-        words = [mltx.path, "serve", "%s:%d" % self.address, *map(str, options)]
+        words = command([mltx.path, "serve", "%s:%d" % self.address, *options], redirect)
         how = {"stdout": subprocess.PIPE, "stderr": subprocess.PIPE, "cwd": mltx.folder}
         self.process = subprocess.Popen(words, stdin=subprocess.DEVNULL, env={**os.environ, **(env or {})}, **how)
 
@@ -240,6 +241,12 @@ class Peer:
         heard = [self.heard, *iter(lambda: self.socket.recv(65_536), b"")]
         self.heard = b""
         return b"".join(heard)
+
+
+def command(words, redirect=""):
+    """The words of a command, or of a shell that redirects its streams and then becomes it."""
+    shell = ["/bin/sh", "-c", f'exec "$0" "$@" {redirect}'] if redirect else []
+    return [*shell, *map(str, words)]
 
 
 def free_address():

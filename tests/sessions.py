@@ -1,0 +1,362 @@
+"""Sessions over TCP: the worked rows, the table of lines and their answers, and sessions side by side."""
+import dataclasses
+import select
+import socket
+import struct
+import subprocess
+import sys
+
+from harness import PATIENCE, ROOT, as_bytes, each, expect, holds, lines, same, test
+
+# How long to listen for an answer that must not come, in seconds.
+SILENCE = 0.2
+
+
+@dataclasses.dataclass(frozen=True)
+class Talk:
+    """What one client sends, up to the end of its input, with all that it is answered, the trace and what `check` says."""
+
+    sent: object
+    answers: str
+    trace: str
+    checked: str = ""
+
+
+ROWS = {
+    "session-lines": Talk(
+        lines("begin|open 1|foo|deposit 1 5|commit|begin|balance 1"),
+        lines("begun 1|opened|error 10 ScriptFault|done|committed 1|begun 2|is 5"),
+        lines(
+            "begin 1|op 1 open 1 opened|op 1 deposit 1 5 done|commit 1 1|begin 2|op 2 balance 1 is 5|back 2|abort 2"
+        ),
+        lines("serial 1|account 1 5"),
+    ),
+    "session-cut-line": Talk(
+        "begin\nup 7 1\ncomm", lines("begun 1|done"), lines("begin 1|op 1 up 7 1 done|back 1|abort 1")
+    ),
+    "session-line-of-200-spaces": Talk(" " * 200 + "\nbegin\nquit\n", lines("begun 1|bye"), lines("begin 1|abort 1")),
+    "session-without-a-transaction": Talk(
+        lines("open 1|begin|begin|quit"), lines("error 3 NoSuchTx|begun 1|error 5 Running|bye"), lines("begin 1|abort 1")
+    ),
+    "session-of-no-bytes": Talk("", "", ""),
+    "session-of-a-cut-line-alone": Talk("begin", "", ""),
+    # Blank lines have no answer; words may be parted anyhow, and a CR before the LF is dropped.
+    "session-of-words-parted-anyhow": Talk(
+        "\n \t \r\n\t begin \r\n\n up\t 07  001\r\n\r\ncommit\t\r\n  quit \n",
+        lines("begun 1|done|committed 1|bye"),
+        lines("begin 1|op 1 up 7 1 done|commit 1 1"),
+        lines("serial 1|counter 7 1"),
+    ),
+    # After an error the transaction is open as before.
+    "session-goes-on-after-errors": Talk(
+        lines("begin|up 7 1|begin|up 7|# one more|commit now|up 7 2|commit|commit|abort"),
+        lines(
+            "begun 1|done|error 5 Running|error 10 ScriptFault|error 10 ScriptFault|error 10 ScriptFault|done|committed 1"
+            "|error 3 NoSuchTx|error 3 NoSuchTx"
+        ),
+        lines("begin 1|op 1 up 7 1 done|op 1 up 7 2 done|commit 1 1"),
+        lines("serial 1|counter 7 3"),
+    ),
+    "session-that-aborts": Talk(
+        lines("begin|open 1|deposit 1 5|abort|begin|balance 1|commit"),
+        lines("begun 1|opened|done|aborted|begun 2|missing|committed 1"),
+        lines(
+            "begin 1|op 1 open 1 opened|op 1 deposit 1 5 done|back 1|back 1|abort 1|begin 2|op 2 balance 1 missing|commit 2 1"
+        ),
+        lines("serial 2"),
+    ),
+    "session-that-quits-in-a-transaction": Talk(
+        lines("begin|add 4 9|quit"), lines("begun 1|added|bye"), lines("begin 1|op 1 add 4 9 added|back 1|abort 1")
+    ),
+    # Each operation with each of its replies.
+    "session-of-each-reply": Talk(
+        lines(
+            "begin|close 1|deposit 1 1|withdraw 1 1|balance 1|open 1|open 1|withdraw 1 1|deposit 1 5|deposit 1 1000000000000000000"
+            "|close 1|balance 1|withdraw 1 5|close 1|remove 2 3|has 2 3|add 2 3|add 2 3|has 2 3|remove 2 3|down 4 1|up 4 3"
+            "|read 4|commit"
+        ),
+        lines(
+            "begun 1|missing|missing|missing|missing|opened|exists|short|done|over|notempty|is 5|done|closed|absent|no|added"
+            "|present|yes|removed|done|done|is 2|committed 1"
+        ),
+        lines(
+            "begin 1|op 1 close 1 missing|op 1 deposit 1 1 missing|op 1 withdraw 1 1 missing|op 1 balance 1 missing"
+            "|op 1 open 1 opened|op 1 open 1 exists|op 1 withdraw 1 1 short|op 1 deposit 1 5 done"
+            "|op 1 deposit 1 1000000000000000000 over|op 1 close 1 notempty|op 1 balance 1 is 5|op 1 withdraw 1 5 done"
+            "|op 1 close 1 closed|op 1 remove 2 3 absent|op 1 has 2 3 no|op 1 add 2 3 added|op 1 add 2 3 present"
+            "|op 1 has 2 3 yes|op 1 remove 2 3 removed|op 1 down 4 1 done|op 1 up 4 3 done|op 1 read 4 is 2|commit 1 1"
+        ),
+        lines("serial 1|counter 4 2"),
+    ),
+}
+
+
+def served_alone(mltx, row, *options, pieces=None):
+    """The row's answers, however its bytes were cut into pieces, what the server comes to, and its trace."""
+    trace = mltx.folder / "serve.trace"
+    with mltx.serve("--trace", trace, *options) as server, server.connect() as peer:
+        for piece in pieces or [row.sent]:
+            peer.send(piece)
+        peer.end()
+        same(peer.rest(), as_bytes(row.answers), f"the answers to {row.sent!r}")
+        expect(server.end(), out="served 1\n")
+    same(trace.read_text(), row.trace, "the trace")
+    expect(mltx.check(trace), out=row.checked, what="check")
+
+
+@each(ROWS)
+def session(mltx, row):
+    for options in ((), ("--hash", "mult"), ("--hash", "low")):
+        served_alone(mltx, row, *options)
+    served_alone(mltx, row, pieces=list(row.sent))
+    served_alone(mltx, row, pieces=row.sent.splitlines(keepends=True))
+
+
+# Lines that are none of the forms, whether or not a transaction is open.
+FAULTY = [
+    *("foo", "begin 1", "begin now", "Begin", "commit 1", "abort 1", "quit 1", "QUIT", "exit", "end", "else"),
+    *("# a comment", "#", "need open 1 is opened", "let v = balance 1", "if open 1 is opened", "call 1 open 1", "step 1"),
+    *("open", "open 1 2", "open 4294967296", "open -1", "open +1", "open 000000000000000000001", "open a", "add 65536 0"),
+    *("deposit 1 v", "deposit 1", "deposit 1 18446744073709551616", "up 7 1 # one", "up 4294967296 1", "op 1 open 1 opened"),
+    *("up 7 1 \x7f", "up 7 \x01 1", "\x00", "up 7 1\r ", "up 7 1\r\r", "up 7 1 \xb5", "\x0c"),
+]
+
+
+@test
+def faulty_lines_of_a_session(mltx):
+    """Each is answered `error 10 ScriptFault`, and changes nothing."""
+    faulty = "".join(f"{line}\n" for line in FAULTY)
+    sent = f"{faulty}begin\nup 7 1\n{faulty}up 7 1\ncommit\n{faulty}"
+    errors = "error 10 ScriptFault\n" * len(FAULTY)
+    answers = f"{errors}begun 1\ndone\n{errors}done\ncommitted 1\n{errors}"
+    trace = lines("begin 1|op 1 up 7 1 done|op 1 up 7 1 done|commit 1 1")
+    served_alone(mltx, Talk(sent.encode("latin-1"), answers, trace, lines("serial 1|counter 7 2")))
+
+
+# A line with its answers: where no transaction is open, and where one is.
+TABLE = {
+    "begin": ("begun 1", "error 5 Running"),
+    "open 1": ("error 3 NoSuchTx", "opened"),
+    "balance 1": ("error 3 NoSuchTx", "missing"),
+    "has 4 9": ("error 3 NoSuchTx", "no"),
+    "read 7": ("error 3 NoSuchTx", "is 0"),
+    "commit": ("error 3 NoSuchTx", "committed 1"),
+    "abort": ("error 3 NoSuchTx", "aborted"),
+    "quit": ("bye", "bye"),
+}
+
+
+@test
+def table_of_session_lines(mltx):
+    """Each line is answered without the end of the input, and `quit` alone ends the session."""
+    for line, (without, within) in TABLE.items():
+        for begin, wanted in (((), without), (("begin",), within)):
+            with mltx.serve() as server, server.connect() as peer:
+                for earlier in begin:
+                    same(peer.ask(earlier), "begun 1", earlier)
+                same(peer.ask(line), wanted, f"{line} after {begin}")
+                if line != "quit":
+                    same(peer.ask("foo"), "error 10 ScriptFault", f"a line after {line}")
+                    peer.end()
+                same(peer.rest(), b"", f"what follows {line}")
+                expect(server.end(), out="served 1\n", what=line)
+
+
+@test
+def session_line_too_long(mltx):
+    """As soon as a line has 201 bytes the session ends, and what its transaction did is taken back."""
+    for long in (" " * 201, "x" * 201, "#" + "y" * 200, "up 7 1" + " " * 195, " " * 200 + "\r"):
+        trace = mltx.folder / "serve.trace"
+        with mltx.serve("--trace", trace, limit=3) as server:
+            with server.connect() as peer:
+                peer.send(long)
+                same(peer.rest(), b"error 12 LineTooLong\n", f"a line {long[:9]!r}..")
+            with server.connect() as peer:
+                peer.send("begin\nup 7 1\n" + long)
+                same(peer.rest(), lines("begun 1|done|error 12 LineTooLong").encode(), f"a line {long[:9]!r}..")
+            same(server.talk(lines("begin|read 7|commit")), lines("begun 2|is 0|committed 1").encode(), "read 7")
+            expect(server.end(), out="served 3\n")
+        same(trace.read_text(), lines("begin 1|op 1 up 7 1 done|back 1|abort 1|begin 2|op 2 read 7 is 0|commit 2 1"))
+
+
+@test
+def session_line_too_long_with_a_cr(mltx):
+    """A CR before the LF counts: 200 bytes, CR and LF are too long, and 199 are not."""
+    with mltx.serve(limit=2) as server:
+        same(server.talk("begin" + " " * 194 + "\r\n"), b"begun 1\n", "199 bytes, CR and LF")
+        with server.connect() as peer:
+            peer.send("begin" + " " * 195 + "\r\n")
+            same(peer.line(), "error 12 LineTooLong", "200 bytes, CR and LF")
+        expect(server.end(), out="served 2\n")
+
+
+@test
+def cut_transaction_is_taken_back(mltx):
+    """The end of the input, also in a line, and a connection that breaks: the next client sees nothing of it."""
+    with mltx.serve(limit=4) as server:
+        same(server.talk("begin\nup 7 1\n"), b"begun 1\ndone\n", "a session that ends")
+        same(server.talk("begin\nup 7 1\ncommit"), b"begun 2\ndone\n", "a session that ends in a line")
+        with server.connect() as peer:
+            same([peer.ask("begin"), peer.ask("up 7 1")], ["begun 3", "done"])
+            break_off(peer)
+        same(server.talk(lines("begin|read 7|commit")), lines("begun 4|is 0|committed 1").encode(), "the next client")
+        expect(server.end(), out="served 4\n")
+
+
+def break_off(peer):
+    """Resets the connection."""
+    peer.socket.setsockopt(socket.SOL_SOCKET, socket.SO_LINGER, struct.pack("ii", 1, 0))
+    peer.socket.close()
+
+
+@test
+def numbers_are_those_of_the_server(mltx):
+    """Transactions and commits are counted over all sessions, and what one commits the next one sees."""
+    trace = mltx.folder / "serve.trace"
+    with mltx.serve("--trace", trace, limit=3) as server:
+        same(server.talk(lines("begin|open 1|commit")), lines("begun 1|opened|committed 1").encode())
+        same(server.talk(lines("begin|open 1|abort")), lines("begun 2|exists|aborted").encode())
+        same(server.talk(lines("begin|deposit 1 5|commit|quit")), lines("begun 3|done|committed 2|bye").encode())
+        expect(server.end(), out="served 3\n")
+    same(
+        trace.read_text(),
+        lines(
+            "begin 1|op 1 open 1 opened|commit 1 1|begin 2|op 2 open 1 exists|back 2|abort 2|begin 3|op 3 deposit 1 5 done"
+            "|commit 3 2"
+        ),
+    )
+    expect(mltx.check(trace), out=lines("serial 1|serial 3|account 1 5"))
+
+
+def says_nothing(peer, why):
+    """Fails where an answer comes that must not come yet."""
+    patience = peer.socket.gettimeout()
+    peer.socket.settimeout(SILENCE)
+    try:
+        heard = peer.socket.recv(65_536)
+    except TimeoutError:
+        peer.socket.settimeout(patience)
+        return
+    holds(False, f"{heard!r} came, though {why}")
+
+
+@test
+def deposits_of_two_sessions_do_not_wait(mltx):
+    """Both are done while both transactions are open, and the one that is taken back takes nothing from the other."""
+    trace = mltx.folder / "serve.trace"
+    with mltx.serve("--trace", trace, limit=3) as server:
+        server.talk(lines("begin|open 1|commit"))
+        with server.connect() as first, server.connect() as second:
+            same([first.ask("begin"), second.ask("begin")], ["begun 2", "begun 3"])
+            same([first.ask("deposit 1 5"), second.ask("deposit 1 7")], ["done", "done"])
+            same([first.ask("abort"), second.ask("commit")], ["aborted", "committed 2"])
+        expect(server.end(), out="served 3\n")
+    expect(mltx.check(trace), out=lines("serial 1|serial 3|account 1 7"))
+
+
+@test
+def session_waits_for_a_transaction(mltx):
+    """A balance is not told while another session may take its deposit back: it comes with the end of that transaction."""
+    for ending, answer, balance in (("commit", "committed 2", "is 5"), ("abort", "aborted", "is 0"), ("quit", "bye", "is 0")):
+        with mltx.serve(limit=3) as server:
+            server.talk(lines("begin|open 1|commit"))
+            with server.connect() as first, server.connect() as second:
+                same([first.ask("begin"), first.ask("deposit 1 5"), second.ask("begin")], ["begun 2", "done", "begun 3"])
+                second.send("balance 1\n")
+                says_nothing(second, "the deposit is not committed")
+                same(first.ask(ending), answer)
+                same(second.line(), balance, f"the balance after {ending}")
+            expect(server.end(), out="served 3\n", what=ending)
+
+
+@test
+def tries_spent_in_a_session(mltx):
+    """With one try an operation that is told to wait is answered `error 14 GaveUp`, and its transaction can commit."""
+    trace = mltx.folder / "serve.trace"
+    with mltx.serve("--tries", 1, "--trace", trace, limit=3) as server:
+        server.talk(lines("begin|open 1|deposit 1 5|commit"))
+        with server.connect() as first, server.connect() as second:
+            same([first.ask("begin"), first.ask("withdraw 1 1")], ["begun 2", "done"])
+            same([second.ask("begin"), second.ask("up 7 1")], ["begun 3", "done"])
+            same([second.ask("balance 1"), second.ask("balance 1")], ["error 14 GaveUp"] * 2)
+            same([second.ask("commit"), first.ask("commit")], ["committed 2", "committed 3"])
+        expect(server.end(), out="served 3\n")
+    expect(mltx.check(trace), out=lines("serial 1|serial 3|serial 2|account 1 4|counter 7 1"))
+
+
+@test
+def sessions_never_wait_in_a_circle(mltx):
+    """Of two sessions that wait for each other one gives up, and the other goes on once that one has ended."""
+    with mltx.serve(limit=2) as server, server.connect() as first, server.connect() as second:
+        same([first.ask("begin"), second.ask("begin")], ["begun 1", "begun 2"])
+        same([first.ask("up 1 1"), second.ask("up 2 1")], ["done", "done"])
+        first.send("read 2\n")
+        second.send("read 1\n")
+        gave_up, waits = (first, second) if answers_first(first, second) is first else (second, first)
+        same(gave_up.line(), "error 14 GaveUp", "the first answer")
+        says_nothing(waits, "the other session has not ended")
+        same(gave_up.ask("abort"), "aborted")
+        same([waits.line(), waits.ask("commit")], ["is 0", "committed 1"])
+        gave_up.end()
+        waits.end()
+        expect(server.end(), out="served 2\n")
+
+
+def answers_first(*peers):
+    """The peer that has an answer first."""
+    readable, _, _ = select.select([peer.socket for peer in peers], [], [], PATIENCE)
+    holds(readable, "no session has an answer")
+    return next(peer for peer in peers if peer.socket in readable)
+
+
+@test
+def no_room_in_a_session(mltx):
+    """Nine accounts with one low pseudokey have no room by `low`; the transaction goes on. By `mult` they have it."""
+    opens = [f"open {number * 65536}" for number in range(9)]
+    for options, ninth in ((("--hash", "low"), "error 2 NoRoom"), ((), "opened"), (("--hash", "mult"), "opened")):
+        with mltx.serve(*options) as server:
+            answers = server.talk(lines("|".join(["begin", *opens, "balance 0", "commit"])))
+            same(answers, lines("|".join(["begun 1", *["opened"] * 8, ninth, "is 0", "committed 1"])).encode(), f"{options}")
+            expect(server.end(), out="served 1\n")
+
+
+@test
+def so_many_sessions_at_once(mltx):
+    """Eight sessions are held where no number is given; the ninth client is served once one of them has ended."""
+    for options, most in (((), 8), (("--sessions", 1), 1), (("--sessions", 3), 3)):
+        with mltx.serve(*options, limit=most + 1) as server:
+            peers = [server.connect() for _ in range(most)]
+            same([peer.ask("begin") for peer in peers], [f"begun {number}" for number in range(1, most + 1)])
+            with server.connect() as late:
+                late.send("begin\n")
+                says_nothing(late, f"{most} sessions are held")
+                same(peers[0].ask("quit"), "bye")
+                same(late.line(), f"begun {most + 1}", "the client that waited")
+            for peer in peers:
+                peer.socket.close()
+            expect(server.end(), out=f"served {most + 1}\n", what=f"{options}")
+
+
+@test
+def sixty_four_sessions_at_once(mltx):
+    with mltx.serve("--sessions", 64, limit=64) as server:
+        peers = [server.connect() for _ in range(64)]
+        same([peer.ask("begin") for peer in peers], [f"begun {number}" for number in range(1, 65)])
+        same({peer.ask("up 7 1") for peer in peers}, {"done"}, "what each is told, while all are open")
+        same([peer.ask("commit") for peer in peers], [f"committed {number}" for number in range(1, 65)])
+        for peer in peers:
+            same(peer.ask("quit"), "bye")
+        expect(server.end(), out="served 64\n")
+
+
+@test
+def example_move_money(mltx):
+    """The client that is an example writes what the page of examples shows."""
+    page = (ROOT / "examples" / "README.md").read_text()
+    shown = page[page.index("`move_money.py`") :].split("\n\n")[1]
+    with mltx.serve(limit=2) as server:
+        server.talk("")  # The server is there.
+        words = [sys.executable, "-B", ROOT / "examples" / "move_money.py", *map(str, server.address)]
+        ran = subprocess.run(words, capture_output=True, timeout=PATIENCE)
+        same(ran.stdout.decode().splitlines(), [line.strip() for line in shown.splitlines()], f"{ran.stderr}")
+        expect(server.end(), out="served 2\n")
