@@ -78,7 +78,10 @@ HELP = {
     "help": ("Usage: mltx", "solo", "steps", "run", "check", "serve", "--help", "--version", "solo -"),
     "help-solo": ("mltx solo [OPTIONS] <FILE>", "standard input", *OPTIONS),
     "help-steps": ("mltx steps [OPTIONS] <FILE>", "standard input", *OPTIONS),
-    "help-run": ("mltx run [OPTIONS] <FILE>", *OPTIONS, "--workers <N>", "1 to 8; without it 4", "--tries <N>", "10000"),
+    "help-run": (
+        *("mltx run [OPTIONS] <FILE>", "standard input", *OPTIONS),
+        *("--workers <N>", "1 to 8; without it 4", "--tries <N>", "10000"),
+    ),
     "help-check": ("mltx check <FILE>", "standard input"),
     "help-serve": (
         *("mltx serve [OPTIONS] <ADDR>", "127.0.0.1:7000", *OPTIONS, "--sessions <N>", "1 to 64; without it 8"),

@@ -1,7 +1,8 @@
 """What all tests share: the program under test, its runs and servers, and the list of tests.
 
-A test is a function under `@test` that takes the program and raises where something else comes than is wanted. Its name on
-the command line is the function's, with `-` for `_`. A table of cases is `@each(TABLE)`: each case is a test of its own."""
+A test is a function under `@test` that takes the program and raises where something else comes than is wanted. Its name
+on the command line is the function's, with `-` for `_`. A table of cases is `@each(TABLE)`: each case is a test of its
+own."""
 import dataclasses
 import difflib
 import os
@@ -128,8 +129,8 @@ class Program:
         return str(path)
 
     def run(self, *words, given=b"", env=None, stdout=subprocess.PIPE, redirect="", timeout=PATIENCE):
-        """Runs the program with these words and this standard input, to its end. `redirect` is what a shell is to do with
-        its streams before, as `>/dev/full`."""
+        """Runs the program with these words and this standard input, to its end. `redirect` is what a shell is to do
+        with its streams before, as `>/dev/full`."""
         try:
             ran = subprocess.run(
                 command([self.path, *words], redirect),

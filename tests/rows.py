@@ -5,6 +5,9 @@ from harness import ROOT, each, expect, lines, same, test
 
 HASHES = ((), ("--hash", "mult"), ("--hash", "low"))
 
+# Accounts whose low pseudokeys agree in all of their bits, and one that does so in all but the 16th.
+APART = (*range(0, 8 * 65536, 65536), 1)
+
 
 @dataclasses.dataclass(frozen=True)
 class Solo:
@@ -50,6 +53,13 @@ SOLO = {
         ),
         lines("serial 1|serial 2|" + "|".join(f"account {number} 0" for number in range(9))),
     ),
+    # By `low` eight of the keys are one, and the ninth is apart from them at the 16th bit alone.
+    "sixteen-splits-in-a-script": Solo(
+        lines("begin|" + "|".join(f"open {account}" for account in APART) + "|commit"),
+        lines("opened|" * 9 + "committed 1"),
+        lines("begin 1|" + "|".join(f"op 1 open {account} opened" for account in APART) + "|commit 1 1"),
+        lines("serial 1|" + "|".join(f"account {account} 0" for account in sorted(APART))),
+    ),
     "aborted-open": Solo(
         lines("begin|open 1|abort|begin|open 1|commit"),
         lines("opened|aborted|opened|committed 1"),
@@ -79,7 +89,8 @@ SOLO = {
         lines("begin 2|up 7 1|commit|begin 1|read 7|commit|begin 2|read 7|abort"),
         lines("done|committed 1|is 1|committed 2|is 1|aborted"),
         lines(
-            "begin 1|op 1 up 7 1 done|commit 1 1|begin 2|op 2 read 7 is 1|commit 2 2|begin 3|op 3 read 7 is 1|back 3|abort 3"
+            "begin 1|op 1 up 7 1 done|commit 1 1|begin 2|op 2 read 7 is 1|commit 2 2|begin 3|op 3 read 7 is 1|back 3"
+            "|abort 3"
         ),
         lines("serial 1|serial 2|counter 7 1"),
     ),
@@ -92,7 +103,9 @@ SOLO = {
     ),
     # The greatest numbers of each place.
     "greatest-numbers": Solo(
-        lines("begin 999|open 4294967295|add 65535 4294967295|up 4294967295 18446744073709551615|read 4294967295|commit"),
+        lines(
+            "begin 999|open 4294967295|add 65535 4294967295|up 4294967295 18446744073709551615|read 4294967295|commit"
+        ),
         lines("opened|added|done|is 18446744073709551615|committed 1"),
         lines(
             "begin 1|op 1 open 4294967295 opened|op 1 add 65535 4294967295 added"
@@ -108,9 +121,9 @@ SOLO = {
         ),
         lines("opened|done|missing|is 0|done|is 7|done|is 7|is 7|committed 1|done|is 7|aborted"),
         lines(
-            "begin 1|op 1 open 1 opened|op 1 deposit 1 0 done|op 1 balance 2 missing|op 1 balance 1 is 0|op 1 deposit 1 7 done"
-            "|op 1 balance 1 is 7|op 1 up 3 7 done|op 1 read 3 is 7|op 1 balance 1 is 7|commit 1 1"
-            "|begin 2|op 2 withdraw 1 0 done|op 2 balance 1 is 7|back 2|back 2|abort 2"
+            "begin 1|op 1 open 1 opened|op 1 deposit 1 0 done|op 1 balance 2 missing|op 1 balance 1 is 0"
+            "|op 1 deposit 1 7 done|op 1 balance 1 is 7|op 1 up 3 7 done|op 1 read 3 is 7|op 1 balance 1 is 7"
+            "|commit 1 1|begin 2|op 2 withdraw 1 0 done|op 2 balance 1 is 7|back 2|back 2|abort 2"
         ),
         lines("serial 1|account 1 7|counter 3 7"),
     ),
@@ -122,8 +135,8 @@ SOLO = {
             "|remove 2 3|down 4 1|up 4 2|read 4|commit"
         ),
         lines(
-            "missing|missing|missing|missing|opened|exists|short|done|over|notempty|done|closed|absent|no|added|present|yes"
-            "|removed|done|done|is 1|committed 1"
+            "missing|missing|missing|missing|opened|exists|short|done|over|notempty|done|closed|absent|no|added|present"
+            "|yes|removed|done|done|is 1|committed 1"
         ),
         lines(
             "begin 1|op 1 close 1 missing|op 1 deposit 1 1 missing|op 1 withdraw 1 1 missing|op 1 balance 1 missing"
@@ -174,12 +187,21 @@ RUN = {
         lines("client 0 script 1|done|committed 1|client 0 script 2|is 1|committed 2|counter 7 1"),
         lines("begin 1|op 1 up 7 1 done|commit 1 1|begin 2|op 2 read 7 is 1|commit 2 2"),
     ),
+    "sixteen-splits-in-a-run": Run(
+        SOLO["sixteen-splits-in-a-script"].text,
+        lines(
+            "client 0 script 1|" + "opened|" * 9 + "committed 1|"
+            + "|".join(f"account {account} 0" for account in sorted(APART))
+        ),
+        SOLO["sixteen-splits-in-a-script"].trace,
+    ),
     "run-of-no-scripts": Run("", ""),
     "run-of-a-script-that-aborts": Run(
         lines("begin 5|open 1|need balance 1 is 1|deposit 1 1|commit|begin 5|has 4 9|abort"),
         lines("client 5 script 1|opened|is 0|aborted|client 5 script 2|no|aborted"),
         lines(
-            "begin 1|op 1 open 1 opened|op 1 balance 1 is 0|back 1|back 1|abort 1|begin 2|op 2 has 4 9 no|back 2|abort 2"
+            "begin 1|op 1 open 1 opened|op 1 balance 1 is 0|back 1|back 1|abort 1|begin 2|op 2 has 4 9 no|back 2"
+            "|abort 2"
         ),
     ),
     # A script of another client that aborts at once takes no number of a commit.
@@ -199,7 +221,8 @@ RUN = {
             "|counter 7 2"
         ),
         lines(
-            "begin 1|op 1 read 7 is 0|commit 1 1|begin 2|op 2 up 7 2 done|commit 2 2|begin 3|op 3 read 7 is 2|commit 3 3"
+            "begin 1|op 1 read 7 is 0|commit 1 1|begin 2|op 2 up 7 2 done|commit 2 2|begin 3|op 3 read 7 is 2"
+            "|commit 3 3"
         ),
         (1,),
     ),
@@ -252,7 +275,7 @@ CHECK = {
         "serial 18446744073709551615",
     ),
     "check-of-words-parted-anyhow": (
-        " begin\t1 \r|op 01  open 000000000001  opened\t|\top 1 deposit 1 07 done\r|op 1 balance 1 is  07|commit 1 01\r",
+        " begin\t1 \r|op 01  open 00000000001  opened\t|\top 1 deposit 1 07 done\r|op 1 balance 1 is  07|commit 1 01\r",
         "serial 1|account 1 7",
     ),
     # A reply that the operation can't give is lawful in a line, where the transaction does not commit.
@@ -367,5 +390,6 @@ def example_of_side_by_side_by_more_workers(mltx):
         same(ran.out.decode()[-len(base) :], base, f"the base by {workers} workers")
         checked = mltx.check(trace)
         same((checked.status, checked.err), (0, b""), "check")
-        same(sorted(checked.out.decode().splitlines()[:6]), [f"serial {number}" for number in range(1, 7)], "the commits")
+        commits = sorted(checked.out.decode().splitlines()[:6])
+        same(commits, [f"serial {number}" for number in range(1, 7)], "the commits")
         same(checked.out.decode().splitlines()[6:], base.splitlines(), "the base of the trace")

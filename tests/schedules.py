@@ -1,7 +1,7 @@
 """Schedules: the worked rows of `steps`, what each leaves as its trace, and what the two hash functions make of keys.
 
-A schedule is written as in the rows: `event > line, line`. `step T` with more lines than one stands for so many steps. Lines
-without `>` are what is written at the end: the base, and the depth of the directory."""
+A schedule is written as in the rows: `event > line, line`. `step T` with more lines than one stands for so many steps.
+Lines without `>` are what is written at the end: the base, and the depth of the directory."""
 import dataclasses
 from collections import Counter
 
@@ -110,6 +110,8 @@ def empty(*accounts):
 # Eight accounts in one bucket: their low pseudokeys lead to one half of the directory, or are one and the same.
 EIGHT = range(8)
 ALIKE = range(0, 8 * 65536, 65536)
+# Eight more that are alike, in the other half.
+HIGH = range(32768, 8 * 65536, 65536)
 # Seventeen that make a directory of depth 13 by low pseudokeys.
 DEEP = (*range(9), *range(1024, 1032))
 
@@ -384,6 +386,40 @@ step 1 > undone
 step 1 > going, going, going, undone
 step 1 > aborted
 depth 0"""),
+    # Eight keys are one, and the ninth is apart from them at the last bit that counts.
+    "sixteen-splits": Schedule(f"""
+{made(*ALIKE)}
+begin > begun 2
+whole 2 open 1 > done opened
+whole 2 open 524288 > refused 2 NoRoom
+commit 2 > committed 2
+{empty(0, 1, *ALIKE[1:])}
+depth 16""", LOW),
+    # Without room at any depth the next pass is narrow where the bucket is at most 8 less deep than the directory: a
+    # reader of the header does not stand against it. It is wide where the bucket is less deep: there the reader does.
+    "addition-without-room-passes-narrow": Schedule(f"""
+{made(*ALIKE)}
+begin > begun 2
+call 2 balance 0 > called
+step 2 > going
+begin > begun 3
+call 3 open 524288 > called
+step 3 > {going(5)}, refused 2 NoRoom
+step 2 > going, going, done is 0
+{empty(*ALIKE)}
+depth 0""", LOW),
+    "addition-without-room-passes-wide": Schedule(f"""
+{made(*ALIKE, 1, *HIGH)}
+begin > begun 2
+call 2 balance 0 > called
+step 2 > going
+begin > begun 3
+call 3 open 557056 > called
+step 3 > going, going, going, waiting by 2
+step 2 > going, going, done is 0
+step 3 > going, going, refused 2 NoRoom
+{empty(*sorted([*ALIKE, 1, *HIGH]))}
+depth 16""", LOW),
     # An addition that would split, and has to wait to do so, is told it and dropped.
     "whole-split-is-told-that-it-waits": Schedule(f"""
 {made(*EIGHT)}
@@ -459,7 +495,8 @@ depth 1""", LOW),
 
 @each(ROWS)
 def schedule(mltx, row):
-    """All that is written is as the row says, from a file and from standard input, and so are the trace and its check."""
+    """All that is written is as the row says, from a file and from standard input, and so are the trace and its
+    check."""
     file, trace = mltx.file("schedule.txt", row.events()), mltx.folder / "steps.trace"
     for options in row.options:
         what = f"steps {' '.join(options)}"
@@ -474,8 +511,8 @@ def trace_of_the_abort(mltx):
     trace = mltx.folder / "abort.trace"
     mltx.run("steps", "-", "--trace", trace, given=ROWS["abort-under-later-deposit"].events())
     wanted = lines(
-        "begin 1|op 1 open 1 opened|commit 1 1|begin 2|begin 3|op 2 deposit 1 5 done|op 3 deposit 1 7 done|back 2|abort 2"
-        "|commit 3 2"
+        "begin 1|op 1 open 1 opened|commit 1 1|begin 2|begin 3|op 2 deposit 1 5 done|op 3 deposit 1 7 done|back 2"
+        "|abort 2|commit 3 2"
     )
     same(trace.read_text(), wanted, "the trace")
     expect(mltx.check(trace), out=lines("serial 1|serial 3|account 1 7"), what="check")
@@ -495,8 +532,8 @@ def low(key):
 
 
 def depth_of(keys, pseudokey):
-    """The depth of a directory into which these keys came and none left: the least at which no nine keys agree in so many
-    first bits, since a bucket has room for eight."""
+    """The depth of a directory into which these keys came and none left: the least at which no nine keys agree in so
+    many first bits, since a bucket has room for eight."""
     return next(depth for depth in range(17) if most_alike(keys, pseudokey, depth) <= 8)
 
 

@@ -14,7 +14,7 @@ SILENCE = 0.2
 
 @dataclasses.dataclass(frozen=True)
 class Talk:
-    """What one client sends, up to the end of its input, with all that it is answered, the trace and what `check` says."""
+    """What one client sends, up to the end of its input, all that it is answered, the trace, and what `check` says."""
 
     sent: object
     answers: str
@@ -36,7 +36,18 @@ ROWS = {
     ),
     "session-line-of-200-spaces": Talk(" " * 200 + "\nbegin\nquit\n", lines("begun 1|bye"), lines("begin 1|abort 1")),
     "session-without-a-transaction": Talk(
-        lines("open 1|begin|begin|quit"), lines("error 3 NoSuchTx|begun 1|error 5 Running|bye"), lines("begin 1|abort 1")
+        lines("open 1|begin|begin|quit"),
+        lines("error 3 NoSuchTx|begun 1|error 5 Running|bye"),
+        lines("begin 1|abort 1"),
+    ),
+    # By `low` the last key is apart from the others, which are one, at the 16th bit alone.
+    "sixteen-splits-in-a-session": Talk(
+        lines("begin|" + "|".join(f"add {number} 0" for number in range(8)) + "|up 1 1|commit"),
+        lines("begun 1|" + "added|" * 8 + "done|committed 1"),
+        lines(
+            "begin 1|" + "|".join(f"op 1 add {number} 0 added" for number in range(8)) + "|op 1 up 1 1 done|commit 1 1"
+        ),
+        lines("serial 1|" + "|".join(f"element {number} 0" for number in range(8)) + "|counter 1 1"),
     ),
     "session-of-no-bytes": Talk("", "", ""),
     "session-of-a-cut-line-alone": Talk("begin", "", ""),
@@ -51,8 +62,8 @@ ROWS = {
     "session-goes-on-after-errors": Talk(
         lines("begin|up 7 1|begin|up 7|# one more|commit now|up 7 2|commit|commit|abort"),
         lines(
-            "begun 1|done|error 5 Running|error 10 ScriptFault|error 10 ScriptFault|error 10 ScriptFault|done|committed 1"
-            "|error 3 NoSuchTx|error 3 NoSuchTx"
+            "begun 1|done|error 5 Running|error 10 ScriptFault|error 10 ScriptFault|error 10 ScriptFault|done"
+            "|committed 1|error 3 NoSuchTx|error 3 NoSuchTx"
         ),
         lines("begin 1|op 1 up 7 1 done|op 1 up 7 2 done|commit 1 1"),
         lines("serial 1|counter 7 3"),
@@ -61,7 +72,8 @@ ROWS = {
         lines("begin|open 1|deposit 1 5|abort|begin|balance 1|commit"),
         lines("begun 1|opened|done|aborted|begun 2|missing|committed 1"),
         lines(
-            "begin 1|op 1 open 1 opened|op 1 deposit 1 5 done|back 1|back 1|abort 1|begin 2|op 2 balance 1 missing|commit 2 1"
+            "begin 1|op 1 open 1 opened|op 1 deposit 1 5 done|back 1|back 1|abort 1|begin 2|op 2 balance 1 missing"
+            "|commit 2 1"
         ),
         lines("serial 2"),
     ),
@@ -71,13 +83,13 @@ ROWS = {
     # Each operation with each of its replies.
     "session-of-each-reply": Talk(
         lines(
-            "begin|close 1|deposit 1 1|withdraw 1 1|balance 1|open 1|open 1|withdraw 1 1|deposit 1 5|deposit 1 1000000000000000000"
-            "|close 1|balance 1|withdraw 1 5|close 1|remove 2 3|has 2 3|add 2 3|add 2 3|has 2 3|remove 2 3|down 4 1|up 4 3"
-            "|read 4|commit"
+            "begin|close 1|deposit 1 1|withdraw 1 1|balance 1|open 1|open 1|withdraw 1 1|deposit 1 5"
+            "|deposit 1 1000000000000000000|close 1|balance 1|withdraw 1 5|close 1|remove 2 3|has 2 3|add 2 3|add 2 3"
+            "|has 2 3|remove 2 3|down 4 1|up 4 3|read 4|commit"
         ),
         lines(
-            "begun 1|missing|missing|missing|missing|opened|exists|short|done|over|notempty|is 5|done|closed|absent|no|added"
-            "|present|yes|removed|done|done|is 2|committed 1"
+            "begun 1|missing|missing|missing|missing|opened|exists|short|done|over|notempty|is 5|done|closed|absent|no"
+            "|added|present|yes|removed|done|done|is 2|committed 1"
         ),
         lines(
             "begin 1|op 1 close 1 missing|op 1 deposit 1 1 missing|op 1 withdraw 1 1 missing|op 1 balance 1 missing"
@@ -115,9 +127,10 @@ def session(mltx, row):
 # Lines that are none of the forms, whether or not a transaction is open.
 FAULTY = [
     *("foo", "begin 1", "begin now", "Begin", "commit 1", "abort 1", "quit 1", "QUIT", "exit", "end", "else"),
-    *("# a comment", "#", "need open 1 is opened", "let v = balance 1", "if open 1 is opened", "call 1 open 1", "step 1"),
-    *("open", "open 1 2", "open 4294967296", "open -1", "open +1", "open 000000000000000000001", "open a", "add 65536 0"),
-    *("deposit 1 v", "deposit 1", "deposit 1 18446744073709551616", "up 7 1 # one", "up 4294967296 1", "op 1 open 1 opened"),
+    *("# a comment", "#", "need open 1 is opened", "let v = balance 1", "if open 1 is opened", "call 1 open 1"),
+    *("step 1", "op 1 open 1 opened", "open", "open 1 2", "open 4294967296", "open -1", "open +1", "open a"),
+    *("open 000000000000000000001", "add 65536 0", "deposit 1 v", "deposit 1", "deposit 1 18446744073709551616"),
+    *("up 7 1 # one", "up 4294967296 1"),
     *("up 7 1 \x7f", "up 7 \x01 1", "\x00", "up 7 1\r ", "up 7 1\r\r", "up 7 1 \xb5", "\x0c"),
 ]
 
@@ -221,8 +234,8 @@ def numbers_are_those_of_the_server(mltx):
     same(
         trace.read_text(),
         lines(
-            "begin 1|op 1 open 1 opened|commit 1 1|begin 2|op 2 open 1 exists|back 2|abort 2|begin 3|op 3 deposit 1 5 done"
-            "|commit 3 2"
+            "begin 1|op 1 open 1 opened|commit 1 1|begin 2|op 2 open 1 exists|back 2|abort 2|begin 3"
+            "|op 3 deposit 1 5 done|commit 3 2"
         ),
     )
     expect(mltx.check(trace), out=lines("serial 1|serial 3|account 1 5"))
@@ -256,12 +269,14 @@ def deposits_of_two_sessions_do_not_wait(mltx):
 
 @test
 def session_waits_for_a_transaction(mltx):
-    """A balance is not told while another session may take its deposit back: it comes with the end of that transaction."""
-    for ending, answer, balance in (("commit", "committed 2", "is 5"), ("abort", "aborted", "is 0"), ("quit", "bye", "is 0")):
+    """A balance is not told while another session may take its deposit back: it comes once that transaction ended."""
+    endings = (("commit", "committed 2", "is 5"), ("abort", "aborted", "is 0"), ("quit", "bye", "is 0"))
+    for ending, answer, balance in endings:
         with mltx.serve(limit=3) as server:
             server.talk(lines("begin|open 1|commit"))
             with server.connect() as first, server.connect() as second:
-                same([first.ask("begin"), first.ask("deposit 1 5"), second.ask("begin")], ["begun 2", "done", "begun 3"])
+                same([first.ask("begin"), second.ask("begin")], ["begun 2", "begun 3"])
+                same(first.ask("deposit 1 5"), "done")
                 second.send("balance 1\n")
                 says_nothing(second, "the deposit is not committed")
                 same(first.ask(ending), answer)
@@ -316,7 +331,8 @@ def no_room_in_a_session(mltx):
     for options, ninth in ((("--hash", "low"), "error 2 NoRoom"), ((), "opened"), (("--hash", "mult"), "opened")):
         with mltx.serve(*options) as server:
             answers = server.talk(lines("|".join(["begin", *opens, "balance 0", "commit"])))
-            same(answers, lines("|".join(["begun 1", *["opened"] * 8, ninth, "is 0", "committed 1"])).encode(), f"{options}")
+            wanted = lines("|".join(["begun 1", *["opened"] * 8, ninth, "is 0", "committed 1"]))
+            same(answers, wanted.encode(), f"serve {options}")
             expect(server.end(), out="served 1\n")
 
 

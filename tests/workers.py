@@ -1,0 +1,77 @@
+"""`run` by many workers: how many clients run side by side, and scripts that spend their tries."""
+from harness import each, holds, lines, same, test
+
+# How often a run is tried until something is seen that a schedule need not show.
+ATTEMPTS = 20
+CLIENTS, SCRIPTS = 12, 3_000
+
+
+def outcomes(out):
+    """For each script its client, and the lines that it was told."""
+    told = []
+    for line in out.decode().splitlines():
+        if line.startswith("client "):
+            told.append((line.split()[1], []))
+        elif not line.startswith(("account", "element", "counter")):
+            told[-1][1].append(line)
+    return told
+
+
+def most_side_by_side(out):
+    """The greatest number of clients that had a commit and had another one to come, at any commit."""
+    commits = {}
+    for client, told in outcomes(out):
+        commits.setdefault(client, []).append(int(told[-1].removeprefix("committed ")))
+    begins = [(numbers[0], 1) for numbers in commits.values()]
+    ends = [(numbers[-1] + 0.5, -1) for numbers in commits.values()]
+    running = most = 0
+    for _, change in sorted(begins + ends):
+        running += change
+        most = max(most, running)
+    return most
+
+
+WORKERS = {f"clients-side-by-side-by-{workers or 'the-usual'}-workers": workers for workers in (1, 2, 3, 8, None)}
+
+
+@each(WORKERS, seconds=2)
+def clients_side_by_side(mltx, workers):
+    """So many clients run side by side as there are workers, which are 4 where no number is given, and never more."""
+    text = "".join(lines(f"begin {client}|up 7 1|commit") * SCRIPTS for client in range(CLIENTS))
+    file, seen = mltx.file("scripts.txt", text), []
+    while len(seen) < ATTEMPTS and (workers or 4) not in seen:
+        ran = mltx.run("run", *(["--workers", workers] if workers else []), file)
+        same((ran.status, ran.err), (0, b""), f"{workers} workers")
+        same(ran.out.splitlines()[-1], b"counter 7 %d" % (CLIENTS * SCRIPTS), "the base")
+        seen.append(most_side_by_side(ran.out))
+    same(max(seen), workers or 4, f"how many clients were side by side in {len(seen)} runs, at most")
+
+
+def gave_up(mltx, *options):
+    """How many scripts of a reader and a writer gave up; the base is what the others leave."""
+    ups = lines("begin 1|up 7 1" + "|up 8 1" * 20 + "|commit") * 200
+    reads = lines("begin 2|read 7|commit") * 400
+    ran = mltx.run("run", *options, "-", given=ups + reads)
+    same((ran.status, ran.err), (0, b""), f"run {options}")
+    committed, count = {"1": 0, "2": 0}, 0
+    for client, told in outcomes(ran.out):
+        if told[-1] == "aborted":
+            same(told[-2], "refused 14 GaveUp", f"why a script of client {client} was aborted")
+            count += 1
+        else:
+            committed[client] += 1
+    base = [f"counter 7 {committed['1']}", f"counter 8 {20 * committed['1']}"] if committed["1"] else []
+    same(ran.out.decode().splitlines()[-len(base) :] if base else [], base, "the base")
+    return count
+
+
+@test(seconds=1)
+def scripts_give_up_with_their_tries_spent(mltx):
+    """With one try some do, once they are told to wait; with the usual tries, and with the most, none does. No circle
+    of waits comes about here, since the reader holds nothing while it waits."""
+    counts = []
+    while len(counts) < ATTEMPTS and not any(counts):
+        counts.append(gave_up(mltx, "--tries", 1))
+    holds(any(counts), f"no script gave up in {ATTEMPTS} runs with one try")
+    for options in ((), ("--tries", 10_000), ("--tries", 1_000_000)):
+        same(gave_up(mltx, *options), 0, f"how many scripts gave up with {options}")
