@@ -1,0 +1,420 @@
+"""A small model of the tables, of scripts and of traces, for expected values. It is written from docs/FORMATS.md alone.
+
+An operation is a tuple, as `("open", 1)`, `("deposit", 1, 50)` or `("has", 4, 9)`. A reply is its text, as `done` or `is 5`.
+A cell is `("account", a)`, `("element", s, e)` or `("counter", c)`. What a cell holds is None where it is absent, else its
+number, which is 0 for an element."""
+import re
+from dataclasses import dataclass, field
+
+MOST_BALANCE = 10**18
+MOST_LINE, MOST_OPERATIONS, MOST_NESTING = 200, 256, 16
+
+# How many numbers each operation takes: those that name its cell, and its amount.
+NAMES = {"open": 1, "close": 1, "deposit": 1, "withdraw": 1, "balance": 1}
+NAMES |= {"add": 2, "remove": 2, "has": 2, "up": 1, "down": 1, "read": 1}
+WITH_AMOUNT = ("deposit", "withdraw", "up", "down")
+REPLIES = "opened exists closed notempty done over short missing added present removed absent yes no".split()
+
+
+def cell_of(op):
+    """The cell of an operation."""
+    kind = {"add": "element", "remove": "element", "has": "element", "up": "counter", "down": "counter", "read": "counter"}
+    return (kind.get(op[0], "account"), *op[1 : 1 + NAMES[op[0]]])
+
+
+def text_of(op):
+    return " ".join(map(str, op))
+
+
+def apply(held, op):
+    """What an operation is told where its cell holds this, and what the cell holds then."""
+    kind = cell_of(op)[0]
+    return {"account": _account, "element": _element, "counter": _counter}[kind](held, op[0], op[-1])
+
+
+def _account(held, name, n):
+    if name == "open":
+        return ("opened", 0) if held is None else ("exists", held)
+    if held is None:
+        return "missing", None
+    if name == "close":
+        return ("closed", None) if held == 0 else ("notempty", held)
+    if name == "deposit":
+        return ("done", held + n) if held + n <= MOST_BALANCE else ("over", held)
+    if name == "withdraw":
+        return ("done", held - n) if held >= n else ("short", held)
+    return f"is {held}", held
+
+
+def _element(held, name, _):
+    there = held is not None
+    if name == "add":
+        return ("present" if there else "added"), 0
+    if name == "remove":
+        return ("removed" if there else "absent"), None
+    return ("yes" if there else "no"), held
+
+
+def _counter(held, name, n):
+    value = held or 0
+    if name == "read":
+        return f"is {value}", held
+    return "done", (value + n if name == "up" else value - n) % 2**64
+
+
+def take_back(held, op, reply):
+    """What a cell holds once an operation that was told this reply is taken back."""
+    if reply in ("opened", "added"):
+        return None
+    if reply in ("closed", "removed"):
+        return 0
+    if reply == "done":
+        n = op[-1] if op[0] in ("withdraw", "down") else -op[-1]
+        return (held + n) % 2**64
+    return held
+
+
+# The letter of each class, by operation and reply, and which classes conflict: held first, then those requested later.
+CLASSES = {"opened": "O", "exists": "E", "closed": "C", "notempty": "N", "over": "V", "short": "S", "missing": "X"}
+CLASSES |= {"added": "A", "present": "P", "removed": "R", "absent": "Z", "yes": "Y", "no": "Q"}
+BY_OPERATION = {"deposit": "D", "withdraw": "W", "up": "K", "down": "K", "balance": "B", "read": "G"}
+CONFLICTS = {"O": "ECDVWSB", "E": "C", "C": "OX", "N": "W", "D": "CNVWB", "V": "CW", "W": "CDSB", "S": "CD", "B": "CDW"}
+CONFLICTS |= {"X": "O", "A": "PRY", "P": "R", "Y": "R", "R": "AZQ", "Z": "A", "Q": "A", "K": "G", "G": "K"}
+
+
+def clash(held, requested):
+    """Whether a pair of operation and reply may not pass one that another transaction holds."""
+    first, second = (CLASSES.get(reply) or BY_OPERATION[op[0]] for op, reply in (held, requested))
+    return cell_of(held[0]) == cell_of(requested[0]) and second in CONFLICTS[first]
+
+
+class Base:
+    """What all cells hold."""
+
+    def __init__(self):
+        self.cells, self.changed = {}, []
+
+    def held(self, op):
+        return self.cells.get(cell_of(op))
+
+    def put(self, op, value):
+        self.changed.append((cell_of(op), self.held(op)))
+        self._set(cell_of(op), value)
+
+    def _set(self, cell, value):
+        if value is None:
+            self.cells.pop(cell, None)
+        else:
+            self.cells[cell] = value
+
+    def ask(self, op):
+        """Does an operation, and returns its reply."""
+        reply, value = apply(self.held(op), op)
+        self.put(op, value)
+        return reply
+
+    def keep(self):
+        self.changed.clear()
+
+    def undo(self):
+        """Takes back all since the last `keep`."""
+        while self.changed:
+            self._set(*self.changed.pop())
+
+    def text(self):
+        """The text of a base: accounts, elements and counters, each by rising number."""
+        by_kind = {kind: [] for kind in ("account", "element", "counter")}
+        for (kind, *names), value in sorted(self.cells.items()):
+            shown = [kind, *names] if kind == "element" else [kind, *names, value]
+            if kind != "counter" or value:
+                by_kind[kind].append(" ".join(map(str, shown)) + "\n")
+        return "".join(sum(by_kind.values(), []))
+
+
+class Fault(Exception):
+    """A text is faulty: in this line, for this cause."""
+
+    def __init__(self, line, cause):
+        super().__init__(f"line {line} {cause}")
+
+
+@dataclass
+class Script:
+    """A client, statements, and whether it ends in `commit`. A statement is ("op", op), ("need", op, reply),
+    ("let", variable, op) or ("if", op, reply, then, otherwise). An amount may be a letter, which is a variable."""
+
+    client: int
+    statements: list = field(default_factory=list)
+    commits: bool = True
+
+
+def run_script(script, base):
+    """The replies of a script that is run alone, and whether it committed. One that aborts leaves no change."""
+    replies, variables = [], {}
+    kept = _run(script.statements, base, replies, variables) and script.commits
+    if kept:
+        base.keep()
+    else:
+        base.undo()
+    return replies, kept
+
+
+def _run(statements, base, replies, variables):
+    """Runs statements; False where a `need` was not met."""
+    for kind, *rest in statements:
+        op = rest[1] if kind == "let" else rest[0]
+        if op[0] in WITH_AMOUNT:
+            op = (*op[:-1], _value(op[-1], variables))
+        reply = base.ask(op)
+        replies.append(reply)
+        if kind == "let":
+            variables[rest[0]] = int(reply[3:]) if reply.startswith("is ") else 0
+        elif kind in ("need", "if"):
+            met = reply == (rest[1] if rest[1] in REPLIES else f"is {_value(rest[1], variables)}")
+            if kind == "need" and not met:
+                return False
+            if kind == "if" and not _run(rest[2] if met else rest[3], base, replies, variables):
+                return False
+    return True
+
+
+def _value(amount, variables):
+    return variables.get(amount, 0) if isinstance(amount, str) else amount
+
+
+def solo(scripts, base):
+    """What `solo` writes of scripts."""
+    written, commits = [], 0
+    for script in scripts:
+        replies, kept = run_script(script, base)
+        commits += kept
+        written += [*replies, f"committed {commits}" if kept else "aborted"]
+    return "".join(line + "\n" for line in written)
+
+
+def numbered_lines(text, comments):
+    """The lines of a text with their numbers, whether each ends in a line feed, and its words."""
+    pieces = text.split(b"\n")
+    for number, piece in enumerate(pieces, 1):
+        ended = number < len(pieces)
+        if not ended and not piece:
+            return
+        line = piece.removesuffix(b"\r") if ended else piece
+        comment = comments and line.lstrip(b" \t").startswith(b"#")
+        if len(piece) > MOST_LINE or not comment and re.search(rb"[^\t\x20-\x7e]", line):
+            raise Fault(number, "Line")
+        yield number, ended, [] if comment else line.decode("latin-1").split()
+
+
+def number(word, below):
+    """The number that a word spells, or None."""
+    if word and re.fullmatch("[0-9]{1,20}", word) and int(word) < below:
+        return int(word)
+    return None
+
+
+def read_op(words, variables=False):
+    """The operation that these words spell, or None."""
+    name, *rest = words or [""]
+    places = NAMES.get(name, -1)
+    if len(rest) != places + (name in WITH_AMOUNT):
+        return None
+    bounds = [2**16, 2**32] if places == 2 else [2**32]
+    numbers = [number(word, bound) for word, bound in zip(rest, bounds)]
+    if name in WITH_AMOUNT:
+        numbers.append(_amount(rest[-1], variables))
+    return None if None in numbers else (name, *numbers)
+
+
+def _amount(word, variables=True):
+    return word if variables and re.fullmatch("[a-z]", word) else number(word, 2**64)
+
+
+def _statement(words):
+    """The statement that these words spell, with no other statements in it, or None."""
+    first, rest = words[0], words[1:]
+    if first in ("need", "if") and len(rest) >= 3 and rest[-2] == "is":
+        op, reply = read_op(rest[:-2], True), rest[-1] if rest[-1] in REPLIES else _amount(rest[-1])
+        if op is not None and reply is not None:
+            return (first, op, reply, [], []) if first == "if" else (first, op, reply)
+    elif first == "let" and len(rest) == 4 and re.fullmatch("[a-z]", rest[0]) and rest[1] == "=":
+        op = read_op(rest[2:])
+        if op and op[0] in ("balance", "read"):
+            return "let", rest[0], op
+    op = read_op(words, True)
+    return None if op is None else ("op", op)
+
+
+class Parser:
+    """Reads scripts line by line. `open_ifs` are the statements that are open, each with the longest path to it, the longest
+    through its first part, and whether its `else` stood."""
+
+    def __init__(self):
+        self.scripts, self.script, self.open_ifs, self.longest = [], None, [], 0
+
+    def parse(self, text):
+        """The scripts of a text; raises its first fault."""
+        last = 0
+        for last, _, words in numbered_lines(text, comments=True):
+            cause = self._line(words) if words else None
+            if cause:
+                raise Fault(last, cause)
+        # The last line of an input decides too where it has no other fault.
+        if self.script:
+            raise Fault(text.count(b"\n") + (not text.endswith(b"\n")), "Unfinished")
+        return self.scripts
+
+    def _line(self, words):
+        """Takes a line; the cause, where it is faulty."""
+        if words[0] == "begin" and len(words) <= 2:
+            client = number(words[1], 1000) if len(words) == 2 else 0
+            return "Words" if client is None else self._begin(client)
+        if words in (["commit"], ["abort"]):
+            return self._ending(words[0] == "commit")
+        if words in (["else"], ["end"]):
+            return self._else() if words == ["else"] else self._end()
+        statement = _statement(words)
+        if statement is None:
+            return "Words"
+        return self._add(statement) if self.script else "Place"
+
+    def _begin(self, client):
+        if self.script:
+            return "Place"
+        self.script, self.longest = Script(client), 0
+
+    def _ending(self, commits):
+        if not self.script or self.open_ifs:
+            return "Place"
+        self.script.commits = commits
+        self.scripts.append(self.script)
+        self.script = None
+
+    def _add(self, statement):
+        if statement[0] == "if" and len(self.open_ifs) == MOST_NESTING:
+            return "Deep"
+        if self.longest == MOST_OPERATIONS:
+            return "Long"
+        self.longest += 1
+        self._place().append(statement)
+        if statement[0] == "if":
+            self.open_ifs.append([statement, self.longest, None])
+
+    def _place(self):
+        if not self.open_ifs:
+            return self.script.statements
+        statement, _, first_part = self.open_ifs[-1]
+        return statement[3] if first_part is None else statement[4]
+
+    def _else(self):
+        if not self.open_ifs or self.open_ifs[-1][2] is not None:
+            return "Place"
+        self.open_ifs[-1][2], self.longest = self.longest, self.open_ifs[-1][1]
+
+    def _end(self):
+        if not self.open_ifs:
+            return "Place"
+        _, _, first_part = self.open_ifs.pop()
+        self.longest = max(self.longest, first_part or 0)
+
+
+def parse(text):
+    """The scripts of a text; raises its first fault."""
+    return Parser().parse(text)
+
+
+def read_events(text):
+    """The events of a text, each as its words with numbers read; raises its first fault."""
+    events = []
+    for line, _, words in numbered_lines(text, comments=True):
+        if words:
+            event = _event(words)
+            if event is None:
+                raise Fault(line, "Words")
+            events.append(event)
+    return events
+
+
+def _event(words):
+    """("begin",), ("step", t, n), ("call" or "whole", t, op), or another name with its t; None where it is none."""
+    name, rest = words[0], words[1:]
+    if name == "begin":
+        return ("begin",) if not rest else None
+    t = number(rest[0], 2**64) if rest else None
+    if t is None:
+        return None
+    if name in ("call", "whole"):
+        op = read_op(rest[1:])
+        return (name, t, op) if op else None
+    if name == "step" and len(rest) <= 2:
+        times = number(rest[1], 1001) if len(rest) == 2 else 1
+        return (name, t, times) if times else None
+    return (name, t) if name in ("cancel", "commit", "abort", "undo") and len(rest) == 1 else None
+
+
+def check(text):
+    """What `check` writes of a trace; raises its first fault."""
+    base, order, transactions, begun = Base(), [], {}, 0
+    for line, ended, words in numbered_lines(text, comments=False):
+        if not ended:
+            raise Fault(line, "Cut")
+        item = _item(words)
+        if item is None:
+            raise Fault(line, "Words")
+        name, t, rest = item
+        if name == "begin":
+            if t <= begun:
+                raise Fault(line, "Place")
+            begun, transactions[t] = t, ([], [])
+            continue
+        if t not in transactions or not _follows(name, transactions[t], rest, len(order)):
+            raise Fault(line, "Place")
+        ops, backs = transactions[t]
+        if name == "op":
+            ops.append((line, *rest))
+        elif name == "back":
+            backs.append(ops.pop())
+        else:
+            del transactions[t]
+            if name == "commit":
+                _replay(base, ops)
+                order.append(t)
+    return "".join(f"serial {t}\n" for t in order) + base.text()
+
+
+def _item(words):
+    """A line of a trace as its name, its transaction and the rest; None where it is none."""
+    t = number(words[1], 2**64) if len(words) > 1 else None
+    if not t:
+        return None
+    if words[0] in ("begin", "back", "abort") and len(words) == 2:
+        return words[0], t, None
+    if words[0] == "commit" and len(words) == 3 and number(words[2], 2**64):
+        return "commit", t, number(words[2], 2**64)
+    if words[0] == "op" and len(words) > 3:
+        asked, reply = words[2:-1], words[-1]
+        if asked[-1] == "is":
+            value = number(reply, 2**64)
+            asked, reply = asked[:-1], None if value is None else f"is {value}"
+        elif reply not in REPLIES:
+            reply = None
+        op = read_op(asked)
+        return ("op", t, (op, reply)) if op and reply else None
+    return None
+
+
+def _follows(name, transaction, number_of_commit, commits):
+    """Whether a line of this name may follow those of its transaction."""
+    ops, backs = transaction
+    if name == "op":
+        return not backs
+    if name == "commit":
+        return not backs and number_of_commit == commits + 1
+    return bool(ops) if name == "back" else not ops
+
+
+def _replay(base, ops):
+    for line, op, reply in ops:
+        if base.ask(op) != reply:
+            raise Fault(line, "Reply")
+    base.keep()

@@ -1,0 +1,554 @@
+"""Seeded random work: scripts one after another, schedules of single steps, scripts side by side, and sessions at once.
+
+What the program says is compared with a small model of the tables. The main test is the promise of the program, seen from
+outside: the committed transactions, run alone in the order of their commits, give exactly the replies that they were told,
+and lead to the base that is printed. `tests/run --seed N NAME` repeats a test that failed; its message shows the text."""
+import random
+import re
+from concurrent.futures import ThreadPoolExecutor
+from contextlib import contextmanager
+from dataclasses import dataclass, field
+
+import harness
+import model
+from harness import Failed, each, expect, holds, same
+
+# Cells: accounts, elements and counters. FEW are fought for. Of WIDE some have one pseudokey of `low`, and some buckets
+# split, but none ever has nine. CROWD are eleven accounts of one pseudokey, for which a bucket has eight slots.
+FEW = ((1, 2, 3), ((4, 9), (4, 10)), (7, 8))
+WIDE = ((*range(20), 65_536, 65_537, 32_768, 256, 4_096), ((1, 0), (2, 0), (2, 1)), (0, 1, 2))
+CROWD = (tuple(65_536 * place for place in range(11)), ((4, 1),), (2,))
+AMOUNTS = (0, 1, 1, 2, 3, 5, 9, 10**18 - 3, 10**18, 2**64 - 1)
+
+
+def dice_of(name, case):
+    """The dice of a case. They fall alike for the same seed."""
+    return random.Random(f"{harness.SEED} {name} {case}")
+
+
+@contextmanager
+def told_in(name, case, text):
+    """Adds to what failed how it is repeated: the seed, the case and its text."""
+    try:
+        yield
+    except Failed as failure:
+        shown = text if len(text) < 6_000 else text[:6_000] + ".."
+        raise Failed(f"seed {harness.SEED}, case {case} of {name}: {failure}\nthe text was\n{shown}") from None
+
+
+def random_op(dice, cells, amount=None):
+    """An operation on one of the cells. An account is often opened first."""
+    accounts, elements, counters = cells
+    kind = dice.choice(("account", "account", "account", "element", "counter"))
+    if kind == "account":
+        name = dice.choice("open open close deposit deposit deposit withdraw withdraw balance balance".split())
+        op = (name, dice.choice(accounts))
+    elif kind == "element":
+        op = (dice.choice(("add", "remove", "has")), *dice.choice(elements))
+    else:
+        op = (dice.choice(("up", "up", "down", "read")), dice.choice(counters))
+    if op[0] in model.WITH_AMOUNT:
+        op = (*op, dice.choice(AMOUNTS) if amount is None else amount)
+    return op
+
+
+def likely_reply(dice, op):
+    """A reply that the operation may have, the more usual ones more often, and rarely one that it can't have."""
+    usual = {"open": "opened exists", "close": "closed notempty missing", "deposit": "done done over missing"}
+    usual |= {"withdraw": "done done short missing", "add": "added present", "remove": "removed absent", "has": "yes no"}
+    usual |= {"up": "done", "down": "done", "balance": "0 1 5 a b missing", "read": "0 1 5 a b"}
+    if dice.random() < 0.04:
+        return dice.choice(model.REPLIES)
+    return dice.choice(usual[op[0]].split())
+
+
+def random_statements(dice, cells, most, nesting=0):
+    """The lines of some statements."""
+    lines = []
+    for _ in range(dice.randint(0 if nesting else 1, most)):
+        op = random_op(dice, cells, dice.choice("abc") if dice.random() < 0.2 else None)
+        form = dice.choices(("op", "need", "let", "if"), (60, 12, 15, 13 if nesting < 3 else 0))[0]
+        if form == "op":
+            lines.append(model.text_of(op))
+        elif form == "let":
+            asked = dice.choice((("balance", dice.choice(cells[0])), ("read", dice.choice(cells[2]))))
+            lines.append(f"let {dice.choice('abc')} = {model.text_of(asked)}")
+        else:
+            lines.append(f"{form} {model.text_of(op)} is {likely_reply(dice, op)}")
+        if form == "if":
+            lines += random_statements(dice, cells, 3, nesting + 1)
+            if dice.random() < 0.6:
+                lines += ["else", *random_statements(dice, cells, 3, nesting + 1)]
+            lines.append("end")
+    return lines
+
+
+def dressed(dice, line):
+    """A line in another lawful dress: more blanks, zeros that lead, a CR, a comment or a blank line before it."""
+    roll = dice.random()
+    if roll < 0.03:
+        line = "\t" + line.replace(" ", dice.choice(("  ", "\t", " \t "))) + " "
+    elif roll < 0.05:
+        line = re.sub(r"\b(\d{1,6})\b", r"00\1", line)
+    elif roll < 0.07:
+        line += "\r"
+    elif roll < 0.09:
+        line = dice.choice(("# open 1\n", "\n", "  #\n", " \t\n")) + line
+    return line + "\n"
+
+
+def random_script(dice, cells, clients):
+    """The text of a script of one of so many clients."""
+    client = dice.randrange(clients)
+    begin = f"begin {client}" if client or dice.random() < 0.1 else "begin"
+    ending = "commit" if dice.random() < 0.9 else "abort"
+    return "".join(dressed(dice, line) for line in (begin, *random_statements(dice, cells, 6), ending))
+
+
+def random_scripts(dice, cells, clients):
+    """The texts of up to sixty scripts."""
+    return [random_script(dice, cells, clients) for _ in range(dice.randint(1, 60))]
+
+
+SCRIPTS = {
+    "random-scripts-over-few-cells": ("mult", FEW),
+    "random-scripts-over-many-cells": ("mult", WIDE),
+    "random-scripts-that-split-buckets": ("low", WIDE),
+}
+
+
+@each(SCRIPTS, seconds=4)
+def random_scripts_one_after_another(mltx, case):
+    """All replies, commit numbers and aborts of `solo` are those of the model."""
+    hash_name, cells = case
+    for number in range(20 * harness.CASES):
+        dice = dice_of(f"scripts {case}", number)
+        text = "".join(random_scripts(dice, cells, 3))
+        with told_in("scripts", number, text):
+            base, scripts = model.Base(), model.parse(text.encode())
+            written = model.solo(scripts, base)
+            expect(mltx.run("solo", "--hash", hash_name, "--trace", "trace", "-", given=text), out=written)
+            checked_trace(mltx, base, written.count("committed "))
+
+
+def checked_trace(mltx, base, commits):
+    """Fails where the file `trace` isn't accepted with so many commits and this base; the serial order that is printed."""
+    ran = mltx.run("check", "trace")
+    printed = ran.out.decode().splitlines(keepends=True)
+    order = [line for line in printed if line.startswith("serial ")]
+    expect(ran, out="".join(order) + base.text(), what="the check of the trace")
+    same(len(order), commits, "serial lines in the check of the trace")
+    return [int(line.split()[1]) for line in order]
+
+
+@dataclass
+class Transaction:
+    """What is known of an open transaction: its pending operation, whether it may hold page locks, what it did and did not
+    take back, and all for which it holds a lock."""
+
+    pending: tuple = None
+    inside: bool = False
+    undoing: bool = False
+    done: list = field(default_factory=list)
+    held: list = field(default_factory=list)
+
+
+class Watch:
+    """Follows a schedule event by event, and fails where one is told what the texts don't allow.
+
+    `base` is what the pages mean: the operations of open transactions are in it. Replies are predicted as long as it is
+    sure: an `undo` that waits doesn't say how much it took back."""
+
+    def __init__(self, low):
+        self.base, self.open, self.begun, self.committed = model.Base(), {}, 0, []
+        self.low, self.ghosts, self.records = low, set(), set()
+        self.sure, self.trace = True, []
+
+    def tell(self, event, told):
+        """Takes one event and the line that it was told."""
+        name, t = event[0], event[1] if len(event) > 1 else None
+        refusal = self.refusal(name, t)
+        if refusal:
+            same(told, f"refused {refusal}", f"told to {show(event)}")
+        else:
+            getattr(self, "_" + name)(told, *event[1:])
+
+    def refusal(self, name, t):
+        """The refusal that this event meets before anything else, or None."""
+        if name == "begin":
+            return "7 TooManyOpen" if len(self.open) == 64 else None
+        if t not in self.open:
+            return "3 NoSuchTx"
+        it = self.open[t]
+        if it.undoing and name not in ("step", "undo"):
+            return "4 Undoing"
+        if it.pending and name in ("call", "whole", "commit", "abort"):
+            return "5 Running"
+        idle = {"step": not it.pending and not it.undoing, "cancel": not it.pending, "undo": not it.undoing}
+        return "6 NotRunning" if idle.get(name) else None
+
+    def _begin(self, told):
+        self.begun += 1
+        same(told, f"begun {self.begun}", "told to begin")
+        self.open[self.begun] = Transaction()
+        self.trace.append(f"begin {self.begun}")
+
+    def _call(self, told, t, op):
+        same(told, "called", f"told to call {t} {op}")
+        self.open[t].pending = op
+
+    def _cancel(self, told, t):
+        same(told, "cancelled", f"told to cancel {t}")
+        self._idle(t)
+
+    def _commit(self, told, t):
+        same(told, f"committed {len(self.committed) + 1}", f"told to commit {t}")
+        self.committed.append((t, self.open[t].done))
+        self.trace.append(f"commit {t} {len(self.committed)}")
+        self._close(t)
+
+    def _abort(self, told, t):
+        if self.open[t].done:
+            same(told, "aborting", f"told to abort {t}, which did something")
+            self.open[t].undoing = True
+        else:
+            same(told, "aborted", f"told to abort {t}, which did nothing")
+            self._closed_by_abort(t)
+
+    def _step(self, told, t, _):
+        it = self.open[t]
+        if told == "going":
+            it.inside = True
+        elif told.startswith("waiting by "):
+            self._waits(told, t)
+        elif it.pending:
+            self._ended(told, t, it.pending)
+        else:
+            same(told, "undone" if len(it.done) > 1 else "aborted", f"told to a step of {t}, which is being undone")
+            self._taken_back(t)
+
+    def _whole(self, told, t, op):
+        if told.startswith("waiting by "):
+            self._waits(told, t)
+        else:
+            self._ended(told, t, op)
+
+    def _undo(self, told, t):
+        if told.startswith("waiting by "):
+            self._waits(told, t)
+            self.sure = False
+            return
+        same(told, "aborted", f"told to undo {t}")
+        while t in self.open:
+            self._taken_back(t)
+
+    def _waits(self, told, t):
+        by = int(told.split()[2])
+        inside = by in self.open and self.open[by].inside
+        holds(by != t and inside, f"{t} was told {told!r}, but {by} has no page lock")
+
+    def _ended(self, told, t, op):
+        """A pass of an operation came to its end, which is Done, Blocked or Refused."""
+        if self.sure:
+            wanted = self._end_of(t, op)
+            same(told, wanted, f"the end of {op} of {t}")
+        forms = "refused 2 NoRoom|blocked by [1-9][0-9]*|done (is [0-9]+|%s)" % "|".join(model.REPLIES)
+        holds(re.fullmatch(forms, told), f"{op} of {t} was told {told!r}")
+        if told.startswith("blocked"):
+            self.open[t].inside = False
+            return
+        self._idle(t)
+        if told.startswith("done "):
+            self._done(t, op, told.removeprefix("done "))
+
+    def _end_of(self, t, op):
+        """What the tables say is the end of a pass that ends now."""
+        reply, _ = model.apply(self.base.held(op), op)
+        if self._adds(op, reply) and not self._has_room(t, op):
+            return "refused 2 NoRoom"
+        blocks = [by for by, it in self.open.items() if by != t and any(model.clash(held, (op, reply)) for held in it.held)]
+        return f"blocked by {min(blocks)}" if blocks else f"done {reply}"
+
+    def _adds(self, op, reply):
+        return reply in ("opened", "added") or op[0] in ("up", "down") and model.cell_of(op) not in self.records
+
+    def _has_room(self, t, op):
+        """Whether a cell can be added: with `low` eight of a pseudokey can be live or kept, also at the greatest depth."""
+        cell = model.cell_of(op)
+        if not self.low or (cell, t) in self.ghosts:
+            return True
+        live = [it for it in (*self.base.cells, *self.records) if it[0] != "counter" or it in self.records]
+        taken = len(set(it for it in live if it[-1] % 2**16 == cell[-1] % 2**16))
+        return taken + sum(ghost[-1] % 2**16 == cell[-1] % 2**16 for ghost, _ in self.ghosts) < 8
+
+    def _done(self, t, op, reply):
+        it, cell = self.open[t], model.cell_of(op)
+        it.done.append((op, reply))
+        it.held.append((op, reply))
+        self.trace.append(f"op {t} {model.text_of(op)} {reply}")
+        self.base.ask(op)
+        if op[0] in ("up", "down"):
+            self.records.add(cell)
+        if reply in ("opened", "added"):
+            self.ghosts.discard((cell, t))
+        elif reply in ("closed", "removed"):
+            self.ghosts.add((cell, t))
+
+    def _taken_back(self, t):
+        """The last operation of a transaction is taken back; after the last of all it is closed."""
+        op, reply = self.open[t].done.pop()
+        self.open[t].inside = False
+        self.base.put(op, model.take_back(self.base.held(op), op, reply))
+        self.trace.append(f"back {t}")
+        if reply in ("opened", "added"):
+            self.ghosts.add((model.cell_of(op), t))
+        elif reply in ("closed", "removed"):
+            self.ghosts.discard((model.cell_of(op), t))
+        if not self.open[t].done:
+            self._closed_by_abort(t)
+
+    def _idle(self, t):
+        self.open[t].pending, self.open[t].inside = None, False
+
+    def _closed_by_abort(self, t):
+        self.trace.append(f"abort {t}")
+        self._close(t)
+
+    def _close(self, t):
+        del self.open[t]
+        self.ghosts = {ghost for ghost in self.ghosts if ghost[1] != t}
+
+
+def show(event):
+    """The line of an event."""
+    name, *rest = event
+    words = [model.text_of(word) if isinstance(word, tuple) else str(word) for word in rest]
+    return " ".join([name, *words]) if name != "step" or rest[1] > 1 else f"step {rest[0]}"
+
+
+def random_schedule(dice, cells, length):
+    """Events over up to six open transactions. It goes by guesses of how far each is, so that some events are wrong. At
+    the end all transactions are closed: what is pending is cancelled, and who can't commit is taken back."""
+    events, guesses, begun = [], {}, 0
+    while len(events) < length:
+        if not guesses or len(guesses) < 6 and dice.random() < 0.15:
+            begun += 1
+            events.append(("begin",))
+            guesses[begun] = "idle"
+        elif dice.random() < 0.04:
+            events.append(random_event(dice, cells, dice.randint(0, begun + 1)))
+        else:
+            t = dice.choice(list(guesses))
+            more, guesses[t] = next_events(dice, cells, t, guesses[t])
+            events += more
+            if guesses[t] == "closed":
+                del guesses[t]
+    for closing in ("cancel", "abort", "undo", "undo"):
+        events += [(closing, t) for t in range(1, begun + 1)]
+    return events
+
+
+def random_event(dice, cells, t):
+    """Any event of a transaction, which may be wrong."""
+    name = dice.choice("call step cancel commit abort whole undo".split())
+    if name in ("call", "whole"):
+        return (name, t, random_op(dice, cells))
+    return (name, t, dice.randint(1, 4)) if name == "step" else (name, t)
+
+
+def next_events(dice, cells, t, guess):
+    """What a transaction does next, and how far it is then, as far as can be guessed."""
+    if guess == "idle":
+        what = dice.choices(("call", "whole", "commit", "cancelled", "abort"), (45, 25, 14, 6, 10))[0]
+        if what in ("call", "whole"):
+            return [(what, t, random_op(dice, cells))], "pending" if what == "call" else "idle"
+        if what == "abort":
+            return [("abort", t)], "undoing"
+        return [("cancel", t), ("commit", t)] if what == "cancelled" else [("commit", t)], "closed"
+    times = dice.choice((1, 1, 1, 2, 3, 4, 9))
+    if guess == "pending":
+        if dice.random() < 0.05:
+            return [("cancel", t)], "idle"
+        return [("step", t, times)], "idle" if dice.random() < 0.3 or times > 3 else "pending"
+    if dice.random() < 0.1:
+        return [("undo", t)], "closed"
+    return [("step", t, times)], "closed" if dice.random() < 0.15 else "undoing"
+
+
+SCHEDULES = {
+    "random-schedules-over-few-cells": ("mult", FEW),
+    "random-schedules-that-split-buckets": ("low", WIDE),
+    "random-schedules-with-full-buckets": ("low", CROWD),
+}
+
+
+@each(SCHEDULES, seconds=6)
+def random_schedules(mltx, case):
+    """Each event is told what the tables and the locks allow, and what committed is serial in the order of its commits."""
+    hash_name, cells = case
+    for number in range(120 * harness.CASES):
+        dice = dice_of(f"schedules {case}", number)
+        events = random_schedule(dice, cells, dice.randint(5, 160))
+        text = "".join(show(event) + "\n" for event in events)
+        with told_in("schedules", number, text):
+            ran = mltx.run("steps", "--hash", hash_name, "--trace", "trace", "-", given=text)
+            expect(ran, out=ran.out)
+            watched_schedule(mltx, events, ran.out.decode().splitlines(), hash_name == "low")
+
+
+def watched_schedule(mltx, events, told, low):
+    watch = Watch(low)
+    singles = [event for event in events for _ in range(event[2] if event[0] == "step" else 1)]
+    holds(len(told) > len(singles), f"{len(singles)} events and steps were told {len(told)} lines")
+    for event, line in zip(singles, told):
+        watch.tell(event, line)
+    holds(not watch.open, f"still open at the end: {list(watch.open)}")
+    base = serial_base([done for _, done in watch.committed])
+    *ending, depth = told[len(singles) :]
+    same("".join(line + "\n" for line in ending), base.text(), "the base at the end")
+    holds(re.fullmatch("depth ([0-9]|1[0-6])", depth), f"the last line is {depth!r}")
+    order = checked_trace(mltx, base, len(watch.committed))
+    same(order, [t for t, _ in watch.committed], "the serial order")
+    if watch.sure:
+        same((mltx.folder / "trace").read_text().splitlines(), watch.trace, "the trace")
+
+
+def serial_base(transcripts):
+    """The base to which transcripts lead, one after another. Fails where one was told another reply than the tables give."""
+    base = model.Base()
+    for number, done in enumerate(transcripts, 1):
+        for op, reply in done:
+            same(base.ask(op), reply, f"in the serial run, the reply to {op} of the one that committed as {number}")
+    return base
+
+
+SIDE_BY_SIDE = {
+    f"random-scripts-of-{workers}-workers": (workers, *rest)
+    for workers, *rest in ((1, "mult", FEW), (2, "low", WIDE), (4, "mult", FEW), (8, "low", FEW))
+}
+
+
+@each(SIDE_BY_SIDE, seconds=4)
+def random_scripts_side_by_side(mltx, case):
+    """Scripts of several clients: what committed is what `solo` says of the same scripts in the order of the commits."""
+    workers, hash_name, cells = case
+    for number in range(20 * harness.CASES):
+        dice = dice_of(f"side by side {case}", number)
+        scripts = random_scripts(dice, cells, dice.randint(1, 10))
+        text = "".join(scripts)
+        options = ["--workers", workers, "--hash", hash_name, "--trace", "trace", "--tries", dice.choice((3, 100, 10_000))]
+        with told_in("side by side", number, text):
+            ran = mltx.run("run", *options, "-", given=text)
+            expect(ran, out=ran.out)
+            compared_with_solo(mltx, scripts, ran.out.decode())
+
+
+@dataclass
+class Outcome:
+    """What became of a script: its text, its client, its number, its lines but the last, and its last one."""
+
+    text: str
+    client: int
+    number: int
+    replies: list
+    end: str
+
+    def commit(self):
+        """The number of its commit, or None."""
+        return int(self.end.split()[1]) if self.end.startswith("committed ") else None
+
+    def __str__(self):
+        return f"client {self.client} script {self.number}"
+
+
+def outcomes_of(printed, scripts):
+    """The outcome of each script, clients by rising number, and the text of the base that follows them."""
+    lines, found = printed.splitlines(), []
+    by_client = {}
+    for text in scripts:
+        by_client.setdefault(model.parse(text.encode())[0].client, []).append(text)
+    for client in sorted(by_client):
+        for number, text in enumerate(by_client[client], 1):
+            same(lines[:1], [f"client {client} script {number}"], f"the head after {len(found)} outcomes of {printed!r}")
+            ends = [at for at, line in enumerate(lines) if re.fullmatch("committed [1-9][0-9]*|aborted", line)]
+            holds(ends, f"client {client} script {number} has no end in {printed!r}")
+            found.append(Outcome(text, client, number, lines[1 : ends[0]], lines[ends[0]]))
+            del lines[: ends[0] + 1]
+    return found, "".join(line + "\n" for line in lines)
+
+
+def compared_with_solo(mltx, scripts, printed):
+    """What `run` printed of these scripts against `solo` and the model, which run the committed ones by commit number."""
+    outcomes, base_text = outcomes_of(printed, scripts)
+    committed = sorted((it for it in outcomes if it.commit()), key=Outcome.commit)
+    same([it.commit() for it in committed], list(range(1, len(committed) + 1)), "the numbers of the commits")
+    told = "".join(line + "\n" for it in committed for line in (*it.replies, it.end))
+    in_order, base = "".join(it.text for it in committed), model.Base()
+    same(told, model.solo(model.parse(in_order.encode()), base), "the replies, beside the model in the order of commits")
+    expect(mltx.run("solo", "-", given=in_order), out=told, what="`solo` of the committed scripts in the order of commits")
+    same(base_text, base.text(), "the base")
+    for client in {it.client for it in committed}:
+        own = [it.number for it in committed if it.client == client]
+        same(own, sorted(own), f"the order in which client {client} committed")
+    checked_outcomes(outcomes)
+    checked_trace(mltx, base, len(committed))
+
+
+def checked_outcomes(outcomes):
+    """A script that asks for its abort never commits, and one that was refused gave up: there is room for all."""
+    for it in outcomes:
+        holds(model.parse(it.text.encode())[0].commits or not it.commit(), f"{it} ends in `abort`, and was told {it.end}")
+        refused = [reply for reply in it.replies if reply.startswith("refused")]
+        holds(refused in ([], ["refused 14 GaveUp"]), f"{it} was told {refused}")
+
+
+SESSIONS = {
+    f"random-sessions-{sessions}-at-once": (sessions, *rest)
+    for sessions, *rest in ((2, "low", FEW), (5, "mult", FEW), (8, "low", WIDE))
+}
+
+
+@each(SESSIONS, seconds=4)
+def random_sessions_at_once(mltx, case):
+    """Clients at once over sockets: what each was told of what it committed is serial in the order of the commits."""
+    sessions, hash_name, cells = case
+    for number in range(4 * harness.CASES):
+        options = ["--sessions", sessions, "--hash", hash_name, "--trace", "trace", "--tries", 200]
+        with told_in(f"sessions {case}", number, "(sessions are made by threads; they need not fall alike)"):
+            with mltx.serve(*options, limit=sessions) as server, ThreadPoolExecutor(sessions) as threads:
+                dice = [dice_of(f"sessions {case} client {client}", number) for client in range(sessions)]
+                talks = [threads.submit(random_session, server, it, cells) for it in dice]
+                committed = dict(pair for talk in talks for pair in talk.result())
+                expect(server.end(), out=f"served {sessions}\n")
+            same(sorted(committed), list(range(1, len(committed) + 1)), "the numbers of the commits")
+            base = serial_base([done for _, done in sorted(committed.items())])
+            checked_trace(mltx, base, len(committed))
+
+
+def random_session(server, dice, cells):
+    """Talks to the server for some transactions. For each that committed its number and what it was told."""
+    committed = []
+    with server.connect() as peer:
+        for _ in range(dice.randint(1, 20)):
+            holds(re.fullmatch("begun [1-9][0-9]*", begun := peer.ask("begin")), f"begin was told {begun!r}")
+            done = random_transaction(dice, cells, peer)
+            if done is None or dice.random() < 0.1:
+                same(peer.ask("abort"), "aborted", "told to abort")
+            else:
+                told = peer.ask("commit")
+                holds(re.fullmatch("committed [1-9][0-9]*", told), f"commit was told {told!r}")
+                committed.append((int(told.split()[1]), done))
+    return committed
+
+
+def random_transaction(dice, cells, peer):
+    """Asks some operations and returns them with their replies; None once one gave up."""
+    done = []
+    for _ in range(dice.randint(0, 5)):
+        op = random_op(dice, cells)
+        told = peer.ask(model.text_of(op))
+        if told == "error 14 GaveUp":
+            return None
+        holds(told in model.REPLIES or re.fullmatch("is (0|[1-9][0-9]*)", told), f"{op} was told {told!r}")
+        done.append((op, told))
+    return done
