@@ -13,10 +13,10 @@ import harness
 import model
 from harness import Failed, each, expect, holds, same
 
-# Cells: accounts, elements and counters. FEW are fought for. Of WIDE some have one pseudokey of `low`, and some buckets
-# split, but none ever has nine. CROWD are eleven accounts of one pseudokey, for which a bucket has eight slots.
+# Cells: accounts, elements and counters. FEW are fought for. Of WIDE buckets split, now and then thirteen times, but no
+# pseudokey of `low` has nine. CROWD are eleven accounts of one pseudokey, for which a bucket has eight slots.
 FEW = ((1, 2, 3), ((4, 9), (4, 10)), (7, 8))
-WIDE = ((*range(20), 65_536, 65_537, 32_768, 256, 4_096), ((1, 0), (2, 0), (2, 1)), (0, 1, 2))
+WIDE = ((*range(0, 65_536, 4_096), *range(9), 65_536), ((1, 0), (2, 0), (2, 20_000)), (0, 1, 50_000))
 CROWD = (tuple(65_536 * place for place in range(11)), ((4, 1),), (2,))
 AMOUNTS = (0, 1, 1, 2, 3, 5, 9, 10**18 - 3, 10**18, 2**64 - 1)
 
@@ -236,7 +236,7 @@ class Watch:
     def _undo(self, told, t):
         if told.startswith("waiting by "):
             self._waits(told, t)
-            self.sure = False
+            self.open[t].inside, self.sure = True, False
             return
         same(told, "aborted", f"told to undo {t}")
         while t in self.open:
@@ -327,10 +327,14 @@ def show(event):
 
 
 def random_schedule(dice, cells, length):
-    """Events over up to six open transactions. It goes by guesses of how far each is, so that some events are wrong. At
-    the end all transactions are closed: what is pending is cancelled, and who can't commit is taken back."""
-    events, guesses, begun = [], {}, 0
-    while len(events) < length:
+    """Events over up to six open transactions. It goes by guesses of how far each is, so that some events are wrong. The
+    first transaction makes some accounts. At the end all are closed: what is pending is cancelled, and who is open is
+    taken back."""
+    accounts = dice.sample(cells[0], dice.randint(0, min(len(cells[0]), 12)))
+    events = [("begin",), *(("whole", 1, ("open", a)) for a in accounts)]
+    events += [*(("whole", 1, ("deposit", a, dice.choice(AMOUNTS))) for a in accounts), ("commit", 1)]
+    guesses, begun = {}, 1
+    for _ in range(length):
         if not guesses or len(guesses) < 6 and dice.random() < 0.15:
             begun += 1
             events.append(("begin",))
@@ -343,9 +347,7 @@ def random_schedule(dice, cells, length):
             events += more
             if guesses[t] == "closed":
                 del guesses[t]
-    for closing in ("cancel", "abort", "undo", "undo"):
-        events += [(closing, t) for t in range(1, begun + 1)]
-    return events
+    return events + [(closing, t) for closing in ("cancel", "abort", "undo", "undo") for t in range(1, begun + 1)]
 
 
 def random_event(dice, cells, t):
@@ -358,21 +360,23 @@ def random_event(dice, cells, t):
 
 def next_events(dice, cells, t, guess):
     """What a transaction does next, and how far it is then, as far as can be guessed."""
-    if guess == "idle":
-        what = dice.choices(("call", "whole", "commit", "cancelled", "abort"), (45, 25, 14, 6, 10))[0]
-        if what in ("call", "whole"):
-            return [(what, t, random_op(dice, cells))], "pending" if what == "call" else "idle"
-        if what == "abort":
-            return [("abort", t)], "undoing"
-        return [("cancel", t), ("commit", t)] if what == "cancelled" else [("commit", t)], "closed"
-    times = dice.choice((1, 1, 1, 2, 3, 4, 9))
+    times = dice.choice((1, 1, 2, 2, 3, 4, 4, 9))
     if guess == "pending":
-        if dice.random() < 0.05:
+        if dice.random() < 0.04:
             return [("cancel", t)], "idle"
         return [("step", t, times)], "idle" if dice.random() < 0.3 or times > 3 else "pending"
-    if dice.random() < 0.1:
-        return [("undo", t)], "closed"
-    return [("step", t, times)], "closed" if dice.random() < 0.15 else "undoing"
+    if guess == "undoing":
+        if dice.random() < 0.1:
+            return [("undo", t)], "ended"
+        return [("step", t, times)], "ended" if dice.random() < 0.15 else "undoing"
+    if guess == "ended":
+        return [("cancel", t), ("abort", t), ("step", t, 4)], "closed"
+    what = dice.choices(("call", "whole", "abort", "commit"), (40, 35, 8, 17))[0]
+    if what in ("call", "whole"):
+        return [(what, t, random_op(dice, cells))], "pending" if what == "call" else "idle"
+    if what == "abort":
+        return [("abort", t)], "undoing"
+    return [*dice.choice(([], [("step", t, 9)], [("cancel", t)])), ("commit", t)], "ended"
 
 
 SCHEDULES = {
@@ -388,7 +392,7 @@ def random_schedules(mltx, case):
     hash_name, cells = case
     for number in range(120 * harness.CASES):
         dice = dice_of(f"schedules {case}", number)
-        events = random_schedule(dice, cells, dice.randint(5, 160))
+        events = random_schedule(dice, cells, dice.randint(1, 120))
         text = "".join(show(event) + "\n" for event in events)
         with told_in("schedules", number, text):
             ran = mltx.run("steps", "--hash", hash_name, "--trace", "trace", "-", given=text)
