@@ -143,12 +143,13 @@ def checked_trace(mltx, base, commits):
 
 @dataclass
 class Transaction:
-    """What is known of an open transaction: its pending operation, whether it may hold page locks, what it did and did not
-    take back, and all for which it holds a lock."""
+    """What is known of an open transaction: its pending operation, whether it may hold page locks, whether it is being
+    undone, whether it took back more than is known, what it did and did not take back, and all that it holds locks for."""
 
     pending: tuple = None
     inside: bool = False
     undoing: bool = False
+    vague: bool = False
     done: list = field(default_factory=list)
     held: list = field(default_factory=list)
 
@@ -224,8 +225,7 @@ class Watch:
         elif it.pending:
             self._ended(told, t, it.pending)
         else:
-            same(told, "undone" if len(it.done) > 1 else "aborted", f"told to a step of {t}, which is being undone")
-            self._taken_back(t)
+            self._step_back(told, t)
 
     def _whole(self, told, t, op):
         if told.startswith("waiting by "):
@@ -236,9 +236,22 @@ class Watch:
     def _undo(self, told, t):
         if told.startswith("waiting by "):
             self._waits(told, t)
-            self.open[t].inside, self.sure = True, False
+            self.open[t].inside, self.open[t].vague, self.sure = True, True, False
             return
         same(told, "aborted", f"told to undo {t}")
+        self._all_taken_back(t)
+
+    def _step_back(self, told, t):
+        """A pass of an inverse came to its end."""
+        it = self.open[t]
+        ends = ("undone", "aborted") if it.vague and len(it.done) > 1 else ("undone",) if len(it.done) > 1 else ("aborted",)
+        holds(told in ends, f"{t}, which is being undone with {len(it.done)} left, was told {told!r}")
+        if told == "aborted":
+            self._all_taken_back(t)
+        else:
+            self._taken_back(t)
+
+    def _all_taken_back(self, t):
         while t in self.open:
             self._taken_back(t)
 
@@ -390,23 +403,24 @@ SCHEDULES = {
 def random_schedules(mltx, case):
     """Each event is told what the tables and the locks allow, and what committed is serial in the order of its commits."""
     hash_name, cells = case
-    for number in range(120 * harness.CASES):
+    for number in range(200 * harness.CASES):
         dice = dice_of(f"schedules {case}", number)
         events = random_schedule(dice, cells, dice.randint(1, 120))
         text = "".join(show(event) + "\n" for event in events)
         with told_in("schedules", number, text):
             ran = mltx.run("steps", "--hash", hash_name, "--trace", "trace", "-", given=text)
             expect(ran, out=ran.out)
-            watched_schedule(mltx, events, ran.out.decode().splitlines(), hash_name == "low")
+            watch = watched_schedule(mltx, events, ran.out.decode().splitlines(), hash_name == "low")
+            holds(not watch.open, f"still open at the end: {list(watch.open)}")
 
 
 def watched_schedule(mltx, events, told, low):
+    """Watches what the events of a schedule were told, and what is printed after it, and checks its trace."""
     watch = Watch(low)
     singles = [event for event in events for _ in range(event[2] if event[0] == "step" else 1)]
     holds(len(told) > len(singles), f"{len(singles)} events and steps were told {len(told)} lines")
     for event, line in zip(singles, told):
         watch.tell(event, line)
-    holds(not watch.open, f"still open at the end: {list(watch.open)}")
     base = serial_base([done for _, done in watch.committed])
     *ending, depth = told[len(singles) :]
     same("".join(line + "\n" for line in ending), base.text(), "the base at the end")
@@ -415,6 +429,7 @@ def watched_schedule(mltx, events, told, low):
     same(order, [t for t, _ in watch.committed], "the serial order")
     if watch.sure:
         same((mltx.folder / "trace").read_text().splitlines(), watch.trace, "the trace")
+    return watch
 
 
 def serial_base(transcripts):
