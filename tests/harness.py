@@ -5,6 +5,7 @@ on the command line is the function's, with `-` for `_`. A table of cases is `@e
 own."""
 import dataclasses
 import difflib
+import errno
 import os
 import shutil
 import socket
@@ -19,6 +20,9 @@ ROOT = Path(__file__).resolve().parent.parent
 MOST_BYTES = 16_777_216
 # How long one run may take, in seconds, on a slow machine.
 PATIENCE = 120
+
+# What a client is told of a connection that the server has broken off.
+BROKEN_OFF = (errno.ECONNRESET, errno.EPIPE, errno.ENOTCONN)
 
 # Each test by its name.
 TESTS = {}
@@ -237,6 +241,16 @@ class Peer:
         self.send(line + "\n")
         return self.line()
 
+    def say_all(self, text):
+        """All that is answered to this text, until the connection ends or the server breaks it off, while it is sent too."""
+        with may_break_off():
+            self.send(text)
+            self.end()
+        with may_break_off():
+            for piece in iter(lambda: self.socket.recv(65_536), b""):
+                self.heard += piece
+        return self.heard
+
     def rest(self):
         """All that is answered to the end of the connection."""
         heard = [self.heard, *iter(lambda: self.socket.recv(65_536), b"")]
@@ -248,6 +262,16 @@ def command(words, redirect=""):
     """The words of a command, or of a shell that redirects its streams and then becomes it."""
     shell = ["/bin/sh", "-c", f'exec "$0" "$@" {redirect}'] if redirect else []
     return [*shell, *map(str, words)]
+
+
+@contextmanager
+def may_break_off():
+    """What stands here may find that the server has broken the connection off."""
+    try:
+        yield
+    except OSError as fault:
+        if fault.errno not in BROKEN_OFF:
+            raise
 
 
 def free_address():

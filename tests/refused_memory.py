@@ -1,0 +1,445 @@
+"""What the program does where requests for memory are refused: each one in turn, all from one on, large ones, or threads.
+
+A run is given up as a whole, or the event, script or line is refused in its place and all else is as if it did not stand.
+What that gives comes from a run with ample memory over the text without it. The C compiler `cc` is needed."""
+import dataclasses
+import re
+import subprocess
+from pathlib import Path
+
+from harness import Failed, Ran, each, holds, lines, same
+
+SOURCE = Path(__file__).with_name("refuse_growths.c")
+WANT = b"mltx: 1 OutOfMemory\n"
+REFUSED = "refused 1 OutOfMemory"
+# A number above that of each request.
+LAST = 1 << 40
+
+HASHES = ("mult", "low")
+EIGHT = [f"whole 1 open {n}" for n in range(8)]
+# Each kind of event. A split has to wait for a reader's page, a withdrawal is blocked, and aborts are made by steps and at
+# once. With low pseudokeys transaction 4 splits a bucket of eight records again and again.
+ALL_KINDS = (
+    ["begin", *EIGHT, *(f"whole 1 open {n}" for n in range(1024, 1032)), "commit 1"]
+    + ["begin", "call 2 balance 40000", "step 2", "step 2", "begin", "call 3 open 1536"] + ["step 3"] * 6
+    + ["step 2"] * 2 + ["step 3"] * 12 + ["commit 2", "commit 3"]
+    + ["begin", "call 4 open 8"] + ["step 4"] * 300 + ["abort 4"] + ["step 4"] * 4
+    + ["begin", "begin", "whole 5 deposit 1 9", "call 6 withdraw 1 3"] + ["step 6"] * 4
+    + ["call 6 up 7 2", "step 6", "cancel 6", "whole 6 up 7 5", "whole 6 add 3 4", "abort 6", "undo 6", "commit 5"]
+    + ["begin", "whole 7 remove 3 4", "whole 7 read 7", "whole 7 close 2", "commit 7"]
+)
+SPLIT_STAYS = ["begin", *EIGHT, "commit 1", "begin", "whole 2 open 32768", "abort 2", "undo 2"]
+COUNTER_WRAPS = (
+    ["begin", "begin", "whole 1 up 2 5", "whole 2 up 2 5", "abort 1", "undo 1", "commit 2"]
+    + ["begin", "whole 3 read 2", "whole 3 down 2 6", "commit 3"]
+)
+ACCOUNTS = "|".join(f"account {n} 0" for n in range(8))
+OPENED = "begun 1|" + "done opened|" * 8 + "committed 1|begun 2|"
+# What the two rows come to with ample memory.
+SPLIT_STAYS_TELLS = lines(f"{OPENED}done opened|aborting|aborted|{ACCOUNTS}|depth 1")
+COUNTER_WRAPS_TELLS = lines(
+    "begun 1|begun 2|done done|done done|aborting|aborted|committed 1|begun 3|done is 5|done done|committed 2"
+    "|counter 2 18446744073709551615|depth 0"
+)
+
+FIRST_RUN = lines("begin|open 1|deposit 1 50|balance 1|commit")
+LATER_SCRIPT = lines("begin|up 7 1|commit|begin|need read 7 is 1|commit")
+SCRIPTS = lines(
+    "begin 1|open 1|deposit 1 100|up 7 1|commit|begin 1|need withdraw 1 30 is done|up 7 1|commit"
+    "|begin 2|up 7 2|add 3 4|commit|begin 2|open 1|up 7 5|read 7|abort|begin 2|balance 1|open 2|commit"
+)
+
+TWO_SERIALS = "begin 1|begin 2|op 2 open 1 opened|op 2 deposit 1 7 {}|commit 2 1|op 1 balance 1 is 7|commit 1 2"
+
+# A session's lines: two transactions that commit, with one between them that is taken back.
+SESSION = (
+    "begin|open 1|deposit 1 100|up 7 1|commit|begin|withdraw 1 30|add 3 4|abort"
+    "|begin|read 7|balance 1|remove 3 4|commit|quit"
+)
+SESSION_TELLS = (
+    "begun 1|opened|done|done|committed 1|begun 2|done|added|aborted|begun 3|is 1|is 100|absent|committed 2|bye"
+)
+SESSION_LINES = "begin|open 1|foo|deposit 1 5|commit|begin|balance 1"
+SESSION_LINES_TELLS = "begun 1|opened|error 10 ScriptFault|done|committed 1|begun 2|is 5"
+
+
+@dataclasses.dataclass(frozen=True)
+class Came:
+    """What a run came to, and the bytes of its trace, if the file was made."""
+
+    status: int
+    out: str
+    err: str
+    trace: str | None = None
+
+
+class Runs:
+    """Runs of one subcommand, with requests for memory refused."""
+
+    def __init__(self, mltx, job, *options, traced=True):
+        self.mltx, self.job, self.options, self.traced = mltx, job, options, traced
+        self.shim, self.requests, self.trace = (mltx.folder / name for name in ("refuse.so", "requests", "trace"))
+        self.kept = {}
+        try:
+            words = ["cc", "-O1", "-shared", "-fPIC", "-o", self.shim, SOURCE, "-ldl"]
+            made = subprocess.run(words, capture_output=True, text=True)
+        except FileNotFoundError:
+            raise Failed("there is no C compiler `cc`: this test needs one") from None
+        holds(made.returncode == 0, f"cc does not compile {SOURCE}: {made.stderr}")
+
+    def refusing(self, first=0, last=None, least=0, threads=False):
+        """The environment in which these requests are refused, and all threads: without arguments nothing is."""
+        self.requests.unlink(missing_ok=True)
+        self.trace.unlink(missing_ok=True)
+        refuse = f"{first} {first if last is None else last} {least}"
+        place = {"LD_PRELOAD": str(self.shim), "REFUSE": refuse, "REQUESTS": str(self.requests)}
+        return place | ({"REFUSE_THREADS": "1"} if threads else {})
+
+    def asked(self):
+        """How many requests for memory the last run made."""
+        holds(self.requests.exists(), f"the run of {self.job} did not end by itself")
+        return int(self.requests.read_text())
+
+    def run(self, text, **refused):
+        env = self.refusing(**refused)
+        options = [*self.options, *(["--trace", self.trace] if self.traced else [])]
+        ran = self.mltx.run(self.job, *options, self.mltx.file("text", text), env=env)
+        return Came(ran.status, ran.out.decode(), ran.err.decode(), self.traced_text())
+
+    def traced_text(self):
+        return self.trace.read_text() if self.trace.exists() else None
+
+    def ample(self, text):
+        """What comes where no memory is refused."""
+        if text not in self.kept:
+            self.kept[text] = came = self.run(text)
+            holds((came.status, came.err) == (0, ""), f"{self.job} of {text!r} with ample memory: {came}")
+        return self.kept[text]
+
+    def one_refused(self, run):
+        """What comes with request 1, 2, 3, .. refused, until a run makes no such request."""
+        number = 1
+        while True:
+            came = run(number)
+            if self.asked() < number:
+                return
+            yield f"{self.job} {' '.join(self.options)} with request {number} refused", came
+            number += 1
+
+    def serial(self, trace):
+        """How many commits `check` finds in a trace, and its base."""
+        ran = self.mltx.run("check", self.mltx.file("checked", trace))
+        holds(ran.status == 0, f"check refuses the trace {trace!r}: {ran}")
+        base = re.sub("(?m)^serial .*\n", "", ran.out.decode())
+        return ran.out.count(b"serial "), base
+
+
+def is_given_up(came, ample):
+    """All of the run is refused, and that is told. Nothing is written then, and no trace is made; or all but the trace."""
+    if (came.status, came.err) != (1, WANT.decode()):
+        return False
+    return (came.out, came.trace) in (("", None), (ample.out, ""))
+
+
+def parts(text, start):
+    """The parts of a text, each of which begins with a line of this start."""
+    return re.split(f"(?m)^(?={start})", text)[1:]
+
+
+def as_text(events):
+    return "".join(event + "\n" for event in events)
+
+
+def with_refusal(runs, events, place, what):
+    """What comes where this event is refused: all others are told what they are told where it does not stand. A refused
+    step takes its operation with it, as a cancel does."""
+    kind, *words = events[place].split()
+    never = kind not in ("begin", "call", "step", "whole") or kind == "step" and f"abort {words[0]}" in events[:place]
+    holds(not never, f"{what}: `{events[place]}` takes no memory and is refused it")
+    instead = [f"cancel {words[0]}"] if kind == "step" else []
+    wanted = runs.ample(as_text(events[:place] + instead + events[place + 1 :]))
+    told = wanted.out.splitlines()
+    told[place : place + len(instead)] = [REFUSED]
+    return dataclasses.replace(wanted, out=as_text(told))
+
+
+STEPS = {
+    "refused-growths-of-steps-mult": ("mult", ALL_KINDS, None),
+    "refused-growths-of-steps-low": ("low", ALL_KINDS, None),
+    "refused-growths-of-split-stays-after-abort": ("low", SPLIT_STAYS, SPLIT_STAYS_TELLS),
+    "refused-growths-of-counter-wraps-mult": ("mult", COUNTER_WRAPS, COUNTER_WRAPS_TELLS),
+    "refused-growths-of-counter-wraps-low": ("low", COUNTER_WRAPS, COUNTER_WRAPS_TELLS),
+}
+
+
+@each(STEPS, seconds=3)
+def steps(mltx, case):
+    """One event is refused and no other is told anything else; or the run is given up."""
+    hashing, events, tells = case
+    runs = Runs(mltx, "steps", "--hash", hashing)
+    ample = runs.ample(as_text(events))
+    same(ample.out, tells or ample.out, "steps with ample memory")
+    ways = set()
+    for what, came in runs.one_refused(lambda number: runs.run(as_text(events), first=number, last=number)):
+        if is_given_up(came, ample):
+            ways.add("given up")
+            continue
+        told = came.out.splitlines()
+        is_told = REFUSED in told
+        same(came, with_refusal(runs, events, told.index(REFUSED), what) if is_told else ample, what)
+        ways.add("told" if is_told else "not seen")
+    holds(ways >= {"given up", "told"}, f"only this came: {ways}")
+
+
+@each({"growth-refused-in-split": None}, seconds=2)
+def growth_refused_in_split(mltx, _case):
+    """Each growth of the split is refused: the pages and the base are as before, and the call repeated splits."""
+    runs = Runs(mltx, "steps", "--hash", "low")
+    split = ["begin", *EIGHT, "commit 1", "begin", "whole 2 open 32768"]
+    refused = lines(f"{OPENED}{REFUSED}|{ACCOUNTS}|depth 0")
+    again = lines(f"{OPENED}{REFUSED}|done opened|committed 2|{ACCOUNTS}|account 32768 0|depth 1")
+    met = 0
+    for what, came in runs.one_refused(lambda number: runs.run(as_text(split), first=number, last=number)):
+        if f"committed 1\nbegun 2\n{REFUSED}\n" in came.out:
+            met += 1
+            same((came.status, came.out, came.err), (0, refused, ""), what)
+            number = int(what.split()[-2])
+            came = runs.run(as_text([*split, "whole 2 open 32768", "commit 2"]), first=number, last=number)
+            same((came.status, came.out, came.err), (0, again, ""), f"{what}, and the call repeated")
+    holds(met > 0, "no request for memory of the split was refused")
+
+
+SOLOS = {
+    f"refused-growths-of-{name}-{hashing}": (hashing, text, tells)
+    for hashing in HASHES
+    for name, text, tells in [
+        ("solo", SCRIPTS, None),
+        ("first-run", FIRST_RUN, lines("opened|done|is 50|committed 1")),
+    ]
+}
+
+
+@each(SOLOS, seconds=2)
+def solo(mltx, case):
+    """One script is refused and leaves nothing, and all others are as if it did not stand; or the run is given up."""
+    hashing, text, tells = case
+    runs = Runs(mltx, "solo", "--hash", hashing)
+    ample = runs.ample(text)
+    same(ample.out, tells or ample.out, "solo with ample memory")
+    ways = set()
+    for what, came in runs.one_refused(lambda number: runs.run(text, first=number, last=number)):
+        if is_given_up(came, ample):
+            ways.add("given up")
+            continue
+        before, mark, after = came.out.partition(f"{REFUSED}\naborted\n")
+        if not mark:
+            ways.add("not seen")
+            same(came, ample, what)
+            continue
+        ways.add("told")
+        holds(ample.out.startswith(before), f"{what}: before the refusal came {before!r}, not a front of {ample.out!r}")
+        ends = [it.end() for it in re.finditer(r"(?m)^(?:committed \d+|aborted)\n", before)]
+        scripts = parts(text, "begin")
+        del scripts[len(ends)]
+        wanted = runs.ample("".join(scripts))
+        same((came.status, before[: ends[-1] if ends else 0] + after, came.err), (0, wanted.out, ""), what)
+        same(runs.serial(came.trace), runs.serial(wanted.trace), f"{what}: the trace")
+    holds(ways >= {"given up", "told"}, f"only this came: {ways}")
+
+
+def committed(written):
+    """Of what `run` wrote of SCRIPTS: the committed scripts by the order of commits, with what they were told; the base."""
+    outcomes = parts(written, "client ")
+    ended = re.fullmatch(r"(?s)(.*?\n(?:committed \d+|aborted)\n)(.*)", outcomes.pop() if outcomes else "")
+    holds(ended, f"this is no report: {written!r}")
+    found = []
+    for script, outcome in zip(parts(SCRIPTS, "begin "), [*outcomes, ended[1]], strict=True):
+        number = re.search(r"(?m)^committed (\d+)$", outcome)
+        if number:
+            found.append((int(number[1]), re.sub("begin .", "begin 1", script), outcome.split("\n", 1)[1]))
+    return sorted(found), ended[2]
+
+
+def is_serial(runs, came, what):
+    """The committed scripts, run by one client in the order of commits, are told the same and leave this base. So says the
+    trace, where it is not refused."""
+    found, base = committed(came.out)
+    told = "".join(f"client 1 script {number}\n{told}" for number, _script, told in found)
+    same(told + base, runs.ample("".join(script for _number, script, _told in found)).out, what)
+    if came.trace:
+        same(runs.serial(came.trace), (len(found), base), f"{what}: the trace")
+
+
+RUNS = {
+    f"refused-growths-of-run-{hashing}-{workers}": (hashing, workers) for hashing in HASHES for workers in ("1", "2")
+}
+
+
+@each(RUNS, seconds=4)
+def run(mltx, case):
+    """What committed is a serial run with this base, and at most one script is refused; or the run is given up."""
+    hashing, workers = case
+    runs = Runs(mltx, "run", "--hash", hashing, "--workers", workers)
+    alone = Runs(mltx, "run", "--hash", hashing, "--workers", "1", traced=False)
+    ways = set()
+    for what, came in runs.one_refused(lambda number: runs.run(SCRIPTS, first=number, last=number)):
+        if came.status:
+            ways.add("given up")
+            same((came.status, came.err), (1, WANT.decode()), what)
+            same(came.trace, "" if came.out else None, f"{what}: the trace")
+        if came.out:
+            is_serial(alone, came, what)
+            refusals = came.out.splitlines().count(REFUSED)
+            holds(refusals <= 1 and came.out.count(" Out") == refusals, f"{what}: {came}")
+            ways |= {"told"} if refusals else set()
+    holds(ways >= {"given up", "told"}, f"only this came: {ways}")
+
+
+@each({f"refused-growths-of-later-script-{workers}": workers for workers in ("1", "2")}, seconds=2)
+def later_script(mltx, workers):
+    """The later script sees the commit of the one before, where there is one."""
+    runs = Runs(mltx, "run", "--workers", workers)
+    first, second = "client 0 script 1|", "client 0 script 2|"
+    without = f"{second}is 0|aborted"
+    refused = f"{REFUSED}|aborted|"
+    seen = f"{first}done|committed 1|{second}"
+    wanted = [f"{seen}is 1|committed 2|counter 7 1", f"{first}{refused}{without}", f"{first}done|{refused}{without}"]
+    wanted += [f"{seen}{refused}counter 7 1", f"{seen}is 1|{refused}counter 7 1"]
+    ample = runs.ample(LATER_SCRIPT)
+    same(ample.out, lines(wanted[0]), "run with ample memory")
+    for what, came in runs.one_refused(lambda number: runs.run(LATER_SCRIPT, first=number, last=number)):
+        if not is_given_up(came, ample):
+            same((came.status, came.err), (0, ""), what)
+            holds(came.out in map(lines, wanted), f"{what}: {came.out!r}, which is none of {wanted}")
+
+
+CHECKS = {
+    "refused-growths-of-check": (TWO_SERIALS.format("done"), (0, "serial 2|serial 1|account 1 7", "")),
+    "refused-growths-of-check-of-a-fault": (TWO_SERIALS.format("over"), (1, "", "mltx: 11 TraceFault line 4 Reply")),
+    "refused-growths-of-check-of-words": ("begin 1|commit", (1, "", "mltx: 11 TraceFault line 2 Words")),
+}
+
+
+@each(CHECKS, seconds=1)
+def check(mltx, case):
+    """The trace is told of as with ample memory, or 1 is told and nothing else."""
+    text, (status, out, err) = case
+    runs = Runs(mltx, "check", traced=False)
+    wanted = Came(status, lines(out), lines(err))
+    same(runs.run(lines(text)), wanted, "check with ample memory")
+    given_up = 0
+    for what, came in runs.one_refused(lambda number: runs.run(lines(text), first=number, last=number)):
+        if came == Came(1, "", WANT.decode()):
+            given_up += 1
+        else:
+            same(came, wanted, what)
+    holds(given_up > 0, "no run was given up")
+
+
+def talk(runs, said, **refused):
+    """What a server of one connection answers to these lines, and what it comes to."""
+    env = runs.refusing(**refused)
+    with runs.mltx.serve(*runs.options, "--trace", runs.trace, env=env) as server:
+        try:
+            with server.connect() as peer:
+                heard = peer.say_all(as_text(said))
+        except Failed:
+            # The server did not come up.
+            heard = b""
+        ended = server.end()
+    return Came(ended.status, ended.out.decode(), ended.err.decode(), runs.traced_text()), heard.decode().splitlines()
+
+
+FOR_GOOD = {
+    "out-of-memory-for-good-in-steps": ("steps", ["--hash", "low"], as_text(SPLIT_STAYS)),
+    "out-of-memory-for-good-in-solo": ("solo", [], SCRIPTS),
+    "out-of-memory-for-good-in-run": ("run", ["--workers", "1"], SCRIPTS),
+    "out-of-memory-for-good-in-check": ("check", [], lines(TWO_SERIALS.format("done"))),
+}
+
+
+@each(FOR_GOOD, seconds=2)
+def for_good(mltx, case):
+    """Where all requests from one on are refused, the run is given up."""
+    job, options, text = case
+    runs = Runs(mltx, job, *options, traced=job != "check")
+    ample = runs.ample(text)
+    for what, came in runs.one_refused(lambda number: runs.run(text, first=number, last=LAST)):
+        holds(is_given_up(came, ample), f"{what}, and all after it: {came}")
+
+
+LARGE = {
+    f"large-requests-refused-in-{job}-{least}": (job, options, text, least)
+    for job, options, text in [("steps", ["--hash", "low"], as_text(ALL_KINDS)), ("solo", [], SCRIPTS)]
+    for least in (100, 1_000, 10_000, 1_000_000)
+}
+
+
+@each(LARGE)
+def large(mltx, case):
+    """Where requests from a size on are refused, the run is given up, or what comes is right up to the first that is told
+    refused. The trace says which base is left."""
+    job, options, text, least = case
+    runs = Runs(mltx, job, *options)
+    ample, came = runs.ample(text), runs.run(text, first=1, last=LAST, least=least)
+    if is_given_up(came, ample):
+        return
+    what = f"{job} with requests of {least} bytes and more refused: {came}"
+    same((came.status, came.err), (0, ""), what)
+    before = came.out.partition(REFUSED)[0]
+    holds(ample.out.startswith(before), f"{what}, where {before!r} is no front of {ample.out!r}")
+    commits, base = runs.serial(came.trace)
+    same(commits, came.out.count("committed "), what)
+    if job == "steps":
+        holds(re.search(f"(?m)^{base}depth", came.out), f"{what}, and the base of the trace is {base!r}")
+
+
+@each({f"threads-refused-in-run-{workers}": workers for workers in ("1", "2", "8")})
+def threads(mltx, workers):
+    """A run that gets no thread does all by itself, or is given up."""
+    runs = Runs(mltx, "run", "--workers", workers)
+    came = runs.run(SCRIPTS, threads=True)
+    if not is_given_up(came, Came(0, "", "")):
+        same((came.status, came.err, came.out.count("committed ")), (0, "", 4), f"no thread for {workers} workers: {came}")
+        is_serial(Runs(mltx, "run", "--workers", "1", traced=False), came, f"no thread for {workers} workers")
+
+
+@each({"threads-refused-in-serve": None})
+def no_thread_accepts(mltx, _case):
+    """A server that gets no thread ends, and says why."""
+    runs = Runs(mltx, "serve")
+    with mltx.serve(env=runs.refusing(threads=True)) as server:
+        same(server.end(), Ran(1, b"", WANT), "serve without threads")
+
+
+SERVES = {
+    "refused-growths-of-serve-mult": ("mult", SESSION, SESSION_TELLS),
+    "refused-growths-of-serve-low": ("low", SESSION, SESSION_TELLS),
+    "refused-growths-of-session-lines": ("mult", SESSION_LINES, SESSION_LINES_TELLS),
+}
+
+
+@each(SERVES, seconds=6)
+def serve(mltx, case):
+    """One line is answered by the refusal and all others as if it did not stand; or the session and the server end."""
+    hashing, said, tells = case[0], case[1].split("|"), case[2].split("|")
+    runs = Runs(mltx, "serve", "--hash", hashing)
+    kept = {None: talk(runs, said)}
+    same(kept[None][1], tells, "serve with ample memory")
+    ways = set()
+    for what, (ended, heard) in runs.one_refused(lambda number: talk(runs, said, first=number, last=number)):
+        if (ended.status, ended.err) == (1, WANT.decode()):
+            ways.add("given up")
+            holds(heard == tells[: len(heard)], f"{what}: {heard}, which is no front of {tells}")
+            continue
+        place = heard.index("error 1 OutOfMemory") if "error 1 OutOfMemory" in heard else None
+        ways.add("told" if place is not None else "not seen")
+        if place not in kept:
+            kept[place] = talk(runs, said[:place] + said[place + 1 :])
+        wanted = list(kept[place][1])
+        if place is not None:
+            wanted.insert(place, "error 1 OutOfMemory")
+            holds(said[place] not in ("commit", "abort", "quit"), f"{what}: `{said[place]}` is refused memory")
+        same(heard, wanted, what)
+        same(ended, kept[place][0], f"{what}: the end of the server")
+    holds(ways >= {"given up", "told"}, f"only this came: {ways}")
