@@ -242,7 +242,7 @@ class Peer:
         return self.line()
 
     def say_all(self, text):
-        """All that is answered to this text, until the connection ends or the server breaks it off, while it is sent too."""
+        """All that is answered to this text, until the connection ends or the server breaks it off, be it early."""
         with may_break_off():
             self.send(text)
             self.end()

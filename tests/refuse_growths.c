@@ -1,8 +1,8 @@
 /* Loaded before the C library, it refuses requests for memory of the program.
 
-   REFUSE is `FIRST LAST LEAST`: of the requests for at least LEAST bytes, which are counted from 1, those with the numbers
-   FIRST to LAST are refused. With REFUSE_THREADS each thread is refused too. At the end of the program, the number of the
-   requests that were counted is written into the file REQUESTS. */
+   REFUSE is `FIRST LAST LEAST`: of the requests for at least LEAST bytes, which are counted from 1, those with the
+   numbers FIRST to LAST are refused. With REFUSE_THREADS each thread is refused too. At the end of the program, the
+   number of the requests that were counted is written into the file REQUESTS. */
 #define _GNU_SOURCE
 #include <dlfcn.h>
 #include <errno.h>

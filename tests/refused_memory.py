@@ -1,7 +1,7 @@
-"""What the program does where requests for memory are refused: each one in turn, all from one on, large ones, or threads.
+"""What the program does where memory is refused: each request in turn, all from one on, large ones, or threads.
 
-A run is given up as a whole, or the event, script or line is refused in its place and all else is as if it did not stand.
-What that gives comes from a run with ample memory over the text without it. The C compiler `cc` is needed."""
+A run is given up as a whole, or the event, script or line is refused in its place, and all else is as if it did not
+stand. What that gives comes from a run with ample memory over the text without it. The C compiler `cc` is needed."""
 import dataclasses
 import re
 import subprocess
@@ -17,8 +17,8 @@ LAST = 1 << 40
 
 HASHES = ("mult", "low")
 EIGHT = [f"whole 1 open {n}" for n in range(8)]
-# Each kind of event. A split has to wait for a reader's page, a withdrawal is blocked, and aborts are made by steps and at
-# once. With low pseudokeys transaction 4 splits a bucket of eight records again and again.
+# Each kind of event. A split has to wait for a reader's page, a withdrawal is blocked, and aborts are made by steps and
+# at once. With low pseudokeys transaction 4 splits a bucket of eight records again and again.
 ALL_KINDS = (
     ["begin", *EIGHT, *(f"whole 1 open {n}" for n in range(1024, 1032)), "commit 1"]
     + ["begin", "call 2 balance 40000", "step 2", "step 2", "begin", "call 3 open 1536"] + ["step 3"] * 6
@@ -135,7 +135,7 @@ class Runs:
 
 
 def is_given_up(came, ample):
-    """All of the run is refused, and that is told. Nothing is written then, and no trace is made; or all but the trace."""
+    """All of the run is refused, and that is told. Nothing is written then, and no trace made; or all but the trace."""
     if (came.status, came.err) != (1, WANT.decode()):
         return False
     return (came.out, came.trace) in (("", None), (ample.out, ""))
@@ -248,7 +248,7 @@ def solo(mltx, case):
 
 
 def committed(written):
-    """Of what `run` wrote of SCRIPTS: the committed scripts by the order of commits, with what they were told; the base."""
+    """Of what `run` wrote of SCRIPTS: the committed scripts in their order, with what they were told, and the base."""
     outcomes = parts(written, "client ")
     ended = re.fullmatch(r"(?s)(.*?\n(?:committed \d+|aborted)\n)(.*)", outcomes.pop() if outcomes else "")
     holds(ended, f"this is no report: {written!r}")
@@ -261,8 +261,8 @@ def committed(written):
 
 
 def is_serial(runs, came, what):
-    """The committed scripts, run by one client in the order of commits, are told the same and leave this base. So says the
-    trace, where it is not refused."""
+    """The committed scripts, run by one client in the order of commits, are told the same and leave this base. So says
+    the trace, where it is not refused."""
     found, base = committed(came.out)
     told = "".join(f"client 1 script {number}\n{told}" for number, _script, told in found)
     same(told + base, runs.ample("".join(script for _number, script, _told in found)).out, what)
@@ -377,8 +377,8 @@ LARGE = {
 
 @each(LARGE)
 def large(mltx, case):
-    """Where requests from a size on are refused, the run is given up, or what comes is right up to the first that is told
-    refused. The trace says which base is left."""
+    """Where requests from a size on are refused, the run is given up, or what comes is right up to the first that is
+    told refused. The trace says which base is left."""
     job, options, text, least = case
     runs = Runs(mltx, job, *options)
     ample, came = runs.ample(text), runs.run(text, first=1, last=LAST, least=least)
@@ -400,8 +400,9 @@ def threads(mltx, workers):
     runs = Runs(mltx, "run", "--workers", workers)
     came = runs.run(SCRIPTS, threads=True)
     if not is_given_up(came, Came(0, "", "")):
-        same((came.status, came.err, came.out.count("committed ")), (0, "", 4), f"no thread for {workers} workers: {came}")
-        is_serial(Runs(mltx, "run", "--workers", "1", traced=False), came, f"no thread for {workers} workers")
+        what = f"no thread for {workers} workers: {came}"
+        same((came.status, came.err, came.out.count("committed ")), (0, "", 4), what)
+        is_serial(Runs(mltx, "run", "--workers", "1", traced=False), came, what)
 
 
 @each({"threads-refused-in-serve": None})

@@ -72,7 +72,7 @@ def take_care(server, counter):
 
 @each({f"strangers-{number}": number for number in range(3 * harness.CASES)}, seconds=3)
 def strangers(mltx, number):
-    """Honest clients are answered as if nobody else had been there, the server ends by itself, and its trace is right."""
+    """Honest clients are answered as if nobody else were there, the server ends by itself, and its trace is right."""
     trace = mltx.folder / "trace"
     connections = STRANGERS + 5
     with mltx.serve("--tries", 100, "--trace", trace, limit=connections) as server:
