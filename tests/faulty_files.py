@@ -2,6 +2,7 @@
 import os
 import subprocess
 import threading
+from contextlib import suppress
 
 from harness import PATIENCE, Failed, Ran, each, expect, holds, lines, same
 
@@ -15,21 +16,16 @@ TEXTS = {
 }
 
 
-def write_pieces(path, pieces):
-    """Writes each piece alone, until nobody reads them any more."""
-    try:
-        with open(path, "wb", buffering=0) as writer:
-            for piece in pieces:
-                writer.write(piece)
-    except BrokenPipeError:
-        pass
+def write_once(path, text):
+    with suppress(BrokenPipeError):
+        path.write_text(text)
 
 
 def through_fifo(mltx, job, text):
     """What a run comes to whose FILE is a pipe with a name, into which this text is written and no more."""
     path = mltx.folder / "fifo"
     os.mkfifo(path)
-    writer = threading.Thread(target=write_pieces, args=(path, [text.encode()]))
+    writer = threading.Thread(target=write_once, args=(path, text))
     writer.start()
     try:
         return mltx.run(job, path)
@@ -62,49 +58,10 @@ def cut(mltx, case):
     expect(through_fifo(mltx, job, text), status=1, err=f"mltx: {fault}\n")
 
 
-def in_packets(mltx, job, pieces):
-    """What a run comes to whose standard input gives one of these pieces at each read."""
-    reads, writes = os.pipe2(os.O_DIRECT | os.O_CLOEXEC)
-    writer = threading.Thread(target=write_pieces, args=(writes, pieces))
-    how = {"stdout": subprocess.PIPE, "stderr": subprocess.PIPE, "cwd": mltx.folder}
-    with subprocess.Popen([mltx.path, job, "-"], stdin=reads, **how) as running:
-        os.close(reads)
-        writer.start()
-        ran = ended(running, job)
-    writer.join()
-    return ran
-
-
-def ended(running, job):
-    """What a running program comes to, once it has ended."""
-    try:
-        out, err = running.communicate(timeout=PATIENCE)
-    except subprocess.TimeoutExpired:
-        running.kill()
-        raise Failed(f"{job} had not ended after {PATIENCE} seconds") from None
-    return Ran(running.returncode, out, err)
-
-
-# Thousands of bytes around each text that change nothing of what is told. A trace has no blank lines, but transactions
-# of it may stay open, and words may have many spaces between them.
-FILLED = {job: "\n" * 3000 + text for job, (text, _told) in TEXTS.items()} | {
-    "check": TEXTS["check"][0] + "".join(f"begin{' ' * 180}{number}\n" for number in range(2, 20))
-}
-
-
-@each({f"{job}-is-given-a-byte-at-a-time": job for job in TEXTS})
-def byte_by_byte(mltx, job):
-    """An input that gives a byte at each read, thousands of times, is read to its end."""
-    expect(in_packets(mltx, job, [bytes([byte]) for byte in FILLED[job].encode()]), out=TEXTS[job][1])
-
-
-UNREADABLE = {"a-folder": ".", "a-file-that-fails-to-be-read": "/proc/self/mem"}
-
-
-@each({f"{job}-of-{name}": (job, path) for job in TEXTS for name, path in UNREADABLE.items()})
-def read_fails(mltx, case):
+@each({f"{job}-of-a-file-that-fails-to-be-read": job for job in TEXTS})
+def read_fails(mltx, job):
     """FILE opens and its first read fails: that is 13, and nothing is written."""
-    expect(mltx.run(*case), status=1, err=FAULT)
+    expect(mltx.run(job, "/proc/self/mem"), status=1, err=FAULT)
 
 
 def with_closed(mltx, closed, *words):
@@ -119,13 +76,6 @@ def with_closed(mltx, closed, *words):
 def no_input(mltx, job):
     """Where standard input is closed its read fails."""
     expect(with_closed(mltx, "<&-", *([job, "-"] if job else [])), status=1, err=FAULT)
-
-
-@each({f"{job}-of-a-file-without-standard-input": (job, *texts) for job, texts in TEXTS.items()})
-def input_not_needed(mltx, case):
-    """Where standard input is closed a file is read all the same."""
-    job, text, wanted = case
-    expect(with_closed(mltx, "<&-", job, mltx.file("text", text)), out=wanted)
 
 
 @each({f"{job}-without-standard-output": (job, *texts) for job, texts in TEXTS.items()})
@@ -144,23 +94,23 @@ def no_error(mltx, _case):
     expect(with_closed(mltx, "2>&-", "solo", mltx.file("text", "begin\n")), status=1)
 
 
-@each({f"{job}-to-a-reader-that-{how}": (job, most) for job in TEXTS for how, most in (("is-gone", 0), ("goes", 1000))})
-def reader_goes(mltx, case):
+@each({f"{job}-to-a-reader-that-goes": job for job in TEXTS})
+def reader_goes(mltx, job):
     """The reader of a pipe goes before all is written: that is 13, and a prefix went out."""
-    job, most = case
     text, wanted = large(job)
     reads, writes = os.pipe2(os.O_CLOEXEC)
-    if not most:
-        os.close(reads)
     words = [mltx.path, job, mltx.file("text", text)]
     with subprocess.Popen(words, stdout=writes, stderr=subprocess.PIPE, cwd=mltx.folder) as running:
         os.close(writes)
-        if most:
-            heard = os.read(reads, most)
-            os.close(reads)
-            holds(wanted.startswith(heard.decode()), f"{job} wrote {heard!r}")
-        ran = ended(running, job)
-    same((ran.status, ran.err), (1, FAULT), f"{job} to a reader that reads {most} bytes")
+        heard = os.read(reads, 1000)
+        os.close(reads)
+        try:
+            _, err = running.communicate(timeout=PATIENCE)
+        except subprocess.TimeoutExpired:
+            running.kill()
+            raise Failed(f"{job} had not ended after {PATIENCE} seconds") from None
+    holds(heard and wanted.encode().startswith(heard), f"{job} wrote {heard!r}")
+    same((running.returncode, err), (1, FAULT), f"{job} to a reader that goes")
 
 
 def large(job):

@@ -120,6 +120,16 @@ def _difference(wanted, found, most=20):
     return "\n".join(list(difflib.unified_diff(*pair, "wanted", "found", lineterm="", n=1))[:most])
 
 
+@contextmanager
+def may_break_off():
+    """What stands here may find that the server has broken the connection off."""
+    try:
+        yield
+    except OSError as fault:
+        if fault.errno not in BROKEN_OFF:
+            raise
+
+
 class Program:
     """The program under test, run in a folder of its own that is removed afterwards."""
 
@@ -262,16 +272,6 @@ def command(words, redirect=""):
     """The words of a command, or of a shell that redirects its streams and then becomes it."""
     shell = ["/bin/sh", "-c", f'exec "$0" "$@" {redirect}'] if redirect else []
     return [*shell, *map(str, words)]
-
-
-@contextmanager
-def may_break_off():
-    """What stands here may find that the server has broken the connection off."""
-    try:
-        yield
-    except OSError as fault:
-        if fault.errno not in BROKEN_OFF:
-            raise
 
 
 def free_address():
