@@ -1,4 +1,4 @@
-"""Files, pipes and standard streams that end early, give little at a time, or fail."""
+"""Files, pipes and standard streams that end early or fail."""
 import os
 import subprocess
 import threading
