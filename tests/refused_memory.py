@@ -12,6 +12,7 @@ from harness import Failed, Ran, each, holds, lines, same
 SOURCE = Path(__file__).with_name("refuse_growths.c")
 WANT = b"mltx: 1 OutOfMemory\n"
 REFUSED = "refused 1 OutOfMemory"
+ERROR = "error 1 OutOfMemory"
 # A number above that of each request.
 LAST = 1 << 40
 
@@ -433,14 +434,26 @@ def serve(mltx, case):
             ways.add("given up")
             holds(heard == tells[: len(heard)], f"{what}: {heard}, which is no front of {tells}")
             continue
-        place = heard.index("error 1 OutOfMemory") if "error 1 OutOfMemory" in heard else None
+        place = heard.index(ERROR) if ERROR in heard else None
         ways.add("told" if place is not None else "not seen")
         if place not in kept:
             kept[place] = talk(runs, said[:place] + said[place + 1 :])
         wanted = list(kept[place][1])
         if place is not None:
-            wanted.insert(place, "error 1 OutOfMemory")
+            wanted.insert(place, ERROR)
             holds(said[place] not in ("commit", "abort", "quit"), f"{what}: `{said[place]}` is refused memory")
         same(heard, wanted, what)
         same(ended, kept[place][0], f"{what}: the end of the server")
     holds(ways >= {"given up", "told"}, f"only this came: {ways}")
+
+
+@each({"out-of-memory-for-good-in-serve": None}, seconds=5)
+def serve_for_good(mltx, _case):
+    """Where all requests from one on are refused, the server ends. What the client was told before that is right."""
+    said, tells = SESSION_LINES.split("|"), SESSION_LINES_TELLS.split("|")
+    runs = Runs(mltx, "serve")
+    for what, (ended, heard) in runs.one_refused(lambda number: talk(runs, said, first=number, last=LAST)):
+        same((ended.status, ended.err), (1, WANT.decode()), f"{what}, and all after it: {ended}")
+        holds((ended.out, ended.trace) in (("", None), ("served 1\n", "")), f"{what}, and all after it: {ended}")
+        before = heard[: heard.index(ERROR)] if ERROR in heard else heard
+        holds(before == tells[: len(before)], f"{what}, and all after it: {heard}, which is no front of {tells}")
