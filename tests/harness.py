@@ -130,6 +130,15 @@ def may_break_off():
             raise
 
 
+def _compile(source, library):
+    try:
+        words = ["cc", "-O1", "-shared", "-fPIC", "-o", library, source, "-ldl"]
+        made = subprocess.run(words, capture_output=True, text=True)
+    except FileNotFoundError:
+        raise Failed("there is no C compiler `cc`: this test needs one") from None
+    holds(made.returncode == 0, f"cc does not compile {source}: {made.stderr}")
+
+
 class Program:
     """The program under test, run in a folder of its own that is removed afterwards."""
 
@@ -158,6 +167,20 @@ class Program:
         except subprocess.TimeoutExpired:
             raise Failed(f"{' '.join(map(str, words))} had not ended after {timeout} seconds") from None
         return Ran(ran.returncode, ran.stdout or b"", ran.stderr)
+
+    def shim(self, **told):
+        """The environment in which tests/shim.c is loaded into the program, and told these things."""
+        library, counted = self.folder / "shim.so", self.folder / "counted"
+        if not library.exists():
+            _compile(ROOT / "tests/shim.c", library)
+        counted.unlink(missing_ok=True)
+        return {"LD_PRELOAD": str(library), "COUNTED": str(counted), **told}
+
+    def counted(self):
+        """How many requests for memory, and how many calls, the shim counted in the last run."""
+        counted = self.folder / "counted"
+        holds(counted.exists(), "the run did not end by itself")
+        return tuple(map(int, counted.read_text().split()))
 
     def check(self, trace):
         """What `check` says of a trace: the text of one, or the path of its file."""

@@ -4,12 +4,9 @@ A run is given up as a whole, or the event, script or line is refused in its pla
 stand. What that gives comes from a run with ample memory over the text without it. The C compiler `cc` is needed."""
 import dataclasses
 import re
-import subprocess
-from pathlib import Path
 
 from harness import Failed, Ran, each, holds, lines, same
 
-SOURCE = Path(__file__).with_name("refuse_growths.c")
 WANT = b"mltx: 1 OutOfMemory\n"
 REFUSED = "refused 1 OutOfMemory"
 ERROR = "error 1 OutOfMemory"
@@ -79,27 +76,17 @@ class Runs:
 
     def __init__(self, mltx, job, *options, traced=True):
         self.mltx, self.job, self.options, self.traced = mltx, job, options, traced
-        self.shim, self.requests, self.trace = (mltx.folder / name for name in ("refuse.so", "requests", "trace"))
-        self.kept = {}
-        try:
-            words = ["cc", "-O1", "-shared", "-fPIC", "-o", self.shim, SOURCE, "-ldl"]
-            made = subprocess.run(words, capture_output=True, text=True)
-        except FileNotFoundError:
-            raise Failed("there is no C compiler `cc`: this test needs one") from None
-        holds(made.returncode == 0, f"cc does not compile {SOURCE}: {made.stderr}")
+        self.trace, self.kept = mltx.folder / "trace", {}
 
     def refusing(self, first=0, last=None, least=0, threads=False):
         """The environment in which these requests are refused, and all threads: without arguments nothing is."""
-        self.requests.unlink(missing_ok=True)
         self.trace.unlink(missing_ok=True)
         refuse = f"{first} {first if last is None else last} {least}"
-        place = {"LD_PRELOAD": str(self.shim), "REFUSE": refuse, "REQUESTS": str(self.requests)}
-        return place | ({"REFUSE_THREADS": "1"} if threads else {})
+        return self.mltx.shim(REFUSE=refuse, **({"REFUSE_THREADS": "1"} if threads else {}))
 
     def asked(self):
         """How many requests for memory the last run made."""
-        holds(self.requests.exists(), f"the run of {self.job} did not end by itself")
-        return int(self.requests.read_text())
+        return self.mltx.counted()[0]
 
     def run(self, text, **refused):
         env = self.refusing(**refused)

@@ -1,0 +1,241 @@
+"""Files, pipes, sockets and standard streams that end early, fail at any call, or take and give little."""
+import errno
+import os
+import subprocess
+import threading
+from contextlib import suppress
+
+from harness import PATIENCE, Failed, Ran, each, expect, holds, lines, same
+
+FAULT = b"mltx: 13 Io\n"
+
+TEXTS = {
+    "solo": (lines("begin|open 1|commit"), lines("opened|committed 1")),
+    "steps": (lines("begin|whole 1 open 1|commit 1"), lines("begun 1|done opened|committed 1|account 1 0|depth 0")),
+    "run": (lines("begin|open 1|commit"), lines("client 0 script 1|opened|committed 1|account 1 0")),
+    "check": (lines("begin 1|op 1 open 1 opened|commit 1 1"), lines("serial 1|account 1 0")),
+}
+
+
+def write_once(path, text):
+    with suppress(BrokenPipeError):
+        path.write_text(text)
+
+
+def through_fifo(mltx, job, text):
+    """What a run comes to whose FILE is a pipe with a name, into which this text is written and no more."""
+    path = mltx.folder / "fifo"
+    os.mkfifo(path)
+    writer = threading.Thread(target=write_once, args=(path, text))
+    writer.start()
+    try:
+        return mltx.run(job, path)
+    finally:
+        # The writer goes on where the program has never opened it.
+        os.close(os.open(path, os.O_RDONLY | os.O_NONBLOCK))
+        writer.join()
+
+
+@each({f"{job}-reads-a-fifo": (job, *texts) for job, texts in TEXTS.items()})
+def fifo(mltx, case):
+    """A pipe with a name is read to its end as a file is."""
+    job, text, wanted = case
+    expect(through_fifo(mltx, job, text), out=wanted)
+
+
+CUT = {
+    "solo-of-a-fifo-that-ends-in-a-script": ("solo", "begin\nopen 1\n", "10 ScriptFault line 2 Unfinished"),
+    "solo-of-a-fifo-that-ends-in-a-line": ("solo", "begin\nopen 1\ncomm", "10 ScriptFault line 3 Words"),
+    "run-of-a-fifo-that-ends-in-a-script": ("run", "begin\nopen 1\n", "10 ScriptFault line 2 Unfinished"),
+    "steps-of-a-fifo-that-ends-in-a-line": ("steps", "begin\nwhole 1 op", "10 ScriptFault line 2 Words"),
+    "check-of-a-fifo-that-ends-in-a-line": ("check", "begin 1\nop 1 op", "11 TraceFault line 2 Cut"),
+}
+
+
+@each(CUT)
+def cut(mltx, case):
+    """A pipe whose writer ends early is a text that ends there."""
+    job, text, fault = case
+    expect(through_fifo(mltx, job, text), status=1, err=f"mltx: {fault}\n")
+
+
+@each({f"{job}-of-a-file-that-fails-to-be-read": job for job in TEXTS})
+def read_fails(mltx, job):
+    """FILE opens and its first read fails: that is 13, and nothing is written."""
+    expect(mltx.run(job, "/proc/self/mem"), status=1, err=FAULT)
+
+
+def with_closed(mltx, closed, *words):
+    """What a run comes to whose standard stream is closed by this redirection."""
+    script = f'exec "$0" "$@" {closed}'
+    words = ["sh", "-c", script, mltx.path, *words]
+    ran = subprocess.run(words, capture_output=True, cwd=mltx.folder, timeout=PATIENCE)
+    return Ran(ran.returncode, ran.stdout, ran.stderr)
+
+
+@each({f"{job or 'no-words'}-without-standard-input": job for job in (*TEXTS, "")})
+def no_input(mltx, job):
+    """Where standard input is closed its read fails."""
+    expect(with_closed(mltx, "<&-", *([job, "-"] if job else [])), status=1, err=FAULT)
+
+
+@each({f"{job}-without-standard-output": (job, *texts) for job, texts in TEXTS.items()})
+def no_output(mltx, case):
+    """Where standard output is closed its write fails, and no trace is made."""
+    job, text, _wanted = case
+    trace = mltx.folder / "trace"
+    options = [] if job == "check" else ["--trace", trace]
+    expect(with_closed(mltx, ">&-", job, *options, mltx.file("text", text)), status=1, err=FAULT)
+    holds(not trace.exists(), f"{job} without standard output has made the file of the trace")
+
+
+@each({"a-fault-without-standard-error": None})
+def no_error(mltx, _case):
+    """The status tells of a fault where its line can't be written."""
+    expect(with_closed(mltx, "2>&-", "solo", mltx.file("text", "begin\n")), status=1)
+
+
+@each({f"{job}-to-a-reader-that-goes": job for job in TEXTS})
+def reader_goes(mltx, job):
+    """The reader of a pipe goes before all is written: that is 13, and a prefix went out."""
+    text, wanted = large(job)
+    reads, writes = os.pipe2(os.O_CLOEXEC)
+    words = [mltx.path, job, mltx.file("text", text)]
+    with subprocess.Popen(words, stdout=writes, stderr=subprocess.PIPE, cwd=mltx.folder) as running:
+        os.close(writes)
+        heard = os.read(reads, 1000)
+        os.close(reads)
+        try:
+            _, err = running.communicate(timeout=PATIENCE)
+        except subprocess.TimeoutExpired:
+            running.kill()
+            raise Failed(f"{job} had not ended after {PATIENCE} seconds") from None
+    holds(heard and wanted.encode().startswith(heard), f"{job} wrote {heard!r}")
+    same((running.returncode, err), (1, FAULT), f"{job} to a reader that goes")
+
+
+def large(job):
+    """A text whose output is larger than a pipe holds, and the start of that output."""
+    if job == "steps":
+        return "step 1\n" * 10_000, "refused 3 NoSuchTx\n" * 10_000
+    if job == "check":
+        opened = "".join(f"op 1 open {n} opened\n" for n in range(10_000))
+        return f"begin 1\n{opened}commit 1 1\n", "serial 1\n" + "".join(f"account {n} 0\n" for n in range(10_000))
+    scripts = "begin\n" + "balance 1\n" * 250 + "abort\n"
+    told = "missing\n" * 250 + "aborted\n"
+    if job == "solo":
+        return scripts * 50, told * 50
+    return scripts * 50, "".join(f"client 0 script {n}\n{told}" for n in range(1, 51))
+
+
+TRACES = {
+    "solo": lines("begin 1|op 1 open 1 opened|commit 1 1"),
+    "steps": lines("begin 1|op 1 open 1 opened|commit 1 1"),
+    "run": lines("begin 1|op 1 open 1 opened|commit 1 1"),
+    "check": "",
+}
+# A device that fails, a call that is interrupted, and one that takes nothing: the last is the end of an input.
+WRITE_FAULTS = {"fails": errno.EIO, "is-interrupted": errno.EINTR, "takes-nothing": 0}
+READ_FAULTS = {"fails": errno.EIO, "is-interrupted": errno.EINTR}
+
+
+def one_fails(mltx, job, call, fault, most):
+    """What comes where call 1, 2, 3, .. fails, which takes or gives so many bytes at most, until a run has none such."""
+    trace, text = mltx.folder / "trace", mltx.file("text", TEXTS[job][0])
+    options = [] if job == "check" else ["--trace", trace]
+    number = 1
+    while True:
+        trace.unlink(missing_ok=True)
+        ran = mltx.run(job, *options, text, env=mltx.shim(FAIL=f"{call} {number} {fault} {most}"))
+        if mltx.counted()[1] < number:
+            return
+        yield number, ran, trace.read_text() if trace.exists() else None
+        number += 1
+
+
+@each({f"each-read-of-{job}-{name}": (job, fault) for job in TEXTS for name, fault in READ_FAULTS.items()}, seconds=0.5)
+def reads_fail(mltx, case):
+    """Whichever read fails, that is 13, nothing is written, and no trace is made."""
+    job, fault = case
+    reads = 0
+    for number, ran, trace in one_fails(mltx, job, "read", fault, 1):
+        expect(ran, status=1, err=FAULT, what=f"{job}, whose read {number} fails by {errno.errorcode[fault]}")
+        same(trace, None, f"{job}, whose read {number} fails: the trace")
+        reads = number
+    same(reads, len(TEXTS[job][0]) + 1, f"{job}: reads that fail, of a byte each, and one at the end of the input")
+
+
+@each({f"each-write-of-{job}-{name}": (job, fault) for job in TEXTS for name, fault in WRITE_FAULTS.items()}, seconds=0.5)
+def writes_fail(mltx, case):
+    """Whichever write fails, that is 13, and what went out before is a front of the text, and then of the trace."""
+    job, fault = case
+    text, trace = TEXTS[job][1], TRACES[job]
+    for number, ran, left in one_fails(mltx, job, "write", fault, 1):
+        if number > len(text + trace):
+            # What tells of no fault is not written.
+            raise Failed(f"{job} writes more than it tells and its trace")
+        what = f"{job}, whose write {number} {'takes nothing' if not fault else 'fails by ' + errno.errorcode[fault]}"
+        expect(ran, status=1, out=text[: number - 1], err=FAULT, what=what)
+        same(left, None if number <= len(text) else trace[: number - 1 - len(text)], f"{what}: the trace")
+    same(number, len(text + trace), f"{job}: writes that fail, of a byte each")
+
+
+@each({"one-byte-writer": None})
+def one_byte_writer(mltx, _case):
+    """A writer of one byte per write that fails at its sixth."""
+    text = mltx.file("text", lines("begin|open 1|deposit 1 50|balance 1|commit"))
+    ran = mltx.run("solo", text, env=mltx.shim(FAIL=f"write 6 {errno.EIO} 1"))
+    expect(ran, status=1, out="opene", err=FAULT)
+
+
+SAID = lines("begin|open 1|deposit 1 5|commit|begin|up 7 1|quit")
+TOLD = lines("begun 1|opened|done|committed 1|begun 2|done|bye")
+
+
+def served(mltx, fail, limit=1):
+    """What the first client hears that sends all of SAID, what the server comes to, and its trace."""
+    trace = mltx.folder / "trace"
+    trace.unlink(missing_ok=True)
+    with mltx.serve("--trace", trace, limit=limit, env=mltx.shim(FAIL=fail)) as server:
+        with server.connect() as peer:
+            heard = peer.say_all(SAID)
+        return heard.decode(), server.end(), trace.read_text() if trace.exists() else None
+
+
+@each({f"each-receipt-of-a-session-{name}": fault for name, fault in READ_FAULTS.items()}, seconds=3)
+def receipts_fail(mltx, fault):
+    """Whichever byte does not come, the lines before it are answered, and an open transaction is taken back."""
+    for number in range(1, len(SAID) + 1, 3):
+        what = f"a session whose byte {number} does not come"
+        whole = SAID[: number - 1].count("\n")
+        told = "".join(TOLD.splitlines(keepends=True)[:whole])
+        heard, ended, trace = served(mltx, f"recv {number} {fault} 1")
+        same(heard, told, what)
+        expect(ended, out="served 1\n", what=what)
+        begun, closed = (sum(line.startswith(words) for line in trace.splitlines()) for words in ("begin", ("commit", "abort")))
+        same((begun, closed, "commit 1 1" in trace), (told.count("begun"),) * 2 + ("committed" in told,), f"{what}: {trace!r}")
+
+
+@each({f"each-sending-of-a-session-{name}": fault for name, fault in WRITE_FAULTS.items()}, seconds=3)
+def sendings_fail(mltx, fault):
+    """Whichever byte of an answer is not taken, those before it went out, and an open transaction is taken back."""
+    for number in range(1, len(TOLD) + 1, 3):
+        what = f"a session whose answers' byte {number} is not taken"
+        heard, ended, trace = served(mltx, f"send {number} {fault} 1")
+        same(heard, TOLD[: number - 1], what)
+        expect(ended, out="served 1\n", what=what)
+        begun, closed = (sum(line.startswith(words) for line in trace.splitlines()) for words in ("begin", ("commit", "abort")))
+        same(begun, closed, f"{what}: all that are begun are closed in {trace!r}")
+
+
+@each({f"accept-{number}-fails": number for number in (1, 2)})
+def accepts_fail(mltx, number):
+    """An accept that fails ends the server by 13, once the connections that were taken are served."""
+    fail = f"accept {number} {errno.EINVAL} 0"
+    if number == 1:
+        with mltx.serve(env=mltx.shim(FAIL=fail)) as server:
+            expect(server.end(), status=1, err=FAULT, what="a server that accepts nobody")
+        return
+    heard, ended, trace = served(mltx, fail, limit=2)
+    same((heard, trace), (TOLD, None), "a server that accepts one")
+    expect(ended, status=1, err=FAULT, what="a server that accepts one")

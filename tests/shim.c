@@ -1,0 +1,110 @@
+/* Loaded before the C library, it refuses memory and threads, and fails calls of the program.
+
+   REFUSE is `FIRST LAST LEAST`: of the requests for at least LEAST bytes, which are counted from 1, those with the
+   numbers FIRST to LAST are refused. With REFUSE_THREADS each thread is refused.
+
+   FAIL is `CALL NUMBER FAULT MOST`: of the calls `read`, `write`, `recv`, `send` or `accept`, the one with this number,
+   counted from 1, fails with the number FAULT of a fault, or does nothing and answers 0 where FAULT is 0. The others take
+   or give at most MOST bytes.
+
+   At the end of the program, how many requests and how many calls were counted is written into the file COUNTED. */
+#define _GNU_SOURCE
+#include <dlfcn.h>
+#include <errno.h>
+#include <fcntl.h>
+#include <pthread.h>
+#include <stdatomic.h>
+#include <stdio.h>
+#include <stdlib.h>
+#include <string.h>
+#include <sys/socket.h>
+#include <unistd.h>
+
+typedef void *ask(size_t);
+typedef void *ask_again(void *, size_t);
+typedef int start_thread(pthread_t *, const pthread_attr_t *, void *(*)(void *), void *);
+typedef ssize_t read_some(int, void *, size_t);
+typedef ssize_t write_some(int, const void *, size_t);
+typedef ssize_t receive(int, void *, size_t, int);
+typedef ssize_t send_some(int, const void *, size_t, int);
+typedef int accept_one(int, struct sockaddr *, socklen_t *, int);
+typedef void leave(int);
+
+/* The function of this name that the C library has. */
+#define NEXT(type, name) ((type *)dlsym(RTLD_NEXT, name))
+
+static atomic_long asked, called;
+static long first, last, least, failing;
+static size_t most;
+static int fault;
+static char call[16];
+
+__attribute__((constructor)) static void read_what_to_do(void) {
+    const char *refuse = getenv("REFUSE"), *fail = getenv("FAIL");
+    if (refuse) sscanf(refuse, "%ld %ld %ld", &first, &last, &least);
+    if (fail) sscanf(fail, "%15s %ld %d %zu", call, &failing, &fault, &most);
+    atomic_store(&asked, 0);
+}
+
+static int is_refused(size_t size) {
+    if (size < (size_t)least) return 0;
+    long number = atomic_fetch_add(&asked, 1) + 1;
+    if (number < first || number > last) return 0;
+    errno = ENOMEM;
+    return 1;
+}
+
+void *malloc(size_t size) {
+    static ask *next;
+    if (!next) next = NEXT(ask, "malloc");
+    return is_refused(size) ? 0 : next(size);
+}
+
+void *realloc(void *old, size_t size) {
+    static ask_again *next;
+    if (!next) next = NEXT(ask_again, "realloc");
+    return is_refused(size) ? 0 : next(old, size);
+}
+
+int pthread_create(pthread_t *thread, const pthread_attr_t *how, void *(*start)(void *), void *given) {
+    return getenv("REFUSE_THREADS") ? EAGAIN : NEXT(start_thread, "pthread_create")(thread, how, start, given);
+}
+
+/* Whether this call is to fail. Its size is made smaller where that is asked for. */
+static int fails(const char *name, size_t *size) {
+    if (strcmp(name, call)) return 0;
+    if (size && *size > most) *size = most;
+    if (atomic_fetch_add(&called, 1) + 1 != failing) return 0;
+    errno = fault;
+    return 1;
+}
+
+ssize_t read(int file, void *bytes, size_t size) {
+    return fails("read", &size) ? -!!fault : NEXT(read_some, "read")(file, bytes, size);
+}
+
+ssize_t write(int file, const void *bytes, size_t size) {
+    return fails("write", &size) ? -!!fault : NEXT(write_some, "write")(file, bytes, size);
+}
+
+ssize_t recv(int peer, void *bytes, size_t size, int how) {
+    return fails("recv", &size) ? -!!fault : NEXT(receive, "recv")(peer, bytes, size, how);
+}
+
+ssize_t send(int peer, const void *bytes, size_t size, int how) {
+    return fails("send", &size) ? -!!fault : NEXT(send_some, "send")(peer, bytes, size, how);
+}
+
+int accept4(int listener, struct sockaddr *address, socklen_t *size, int how) {
+    return fails("accept", 0) ? -1 : NEXT(accept_one, "accept4")(listener, address, size, how);
+}
+
+void _exit(int status) {
+    char line[64];
+    const char *path = getenv("COUNTED");
+    int size = snprintf(line, sizeof line, "%ld %ld\n", (long)asked, (long)called);
+    int file = path ? open(path, O_WRONLY | O_CREAT | O_TRUNC, 0600) : -1;
+    if (file >= 0 && NEXT(write_some, "write")(file, line, size) != size) status = 99;
+    NEXT(leave, "_exit")(status);
+    __builtin_unreachable();
+}
