@@ -1,0 +1,22 @@
+//! What the crates of tests share: comparisons, texts with many spaces, and readers and writers that give little, take
+//! little and fail.
+#![tactic(auto)]
+
+mod compare;
+mod reader;
+mod text;
+mod writer;
+
+pub use compare::{same, same_at};
+pub use reader::FaultyReader;
+use std::io::ErrorKind;
+pub use text::with_spaces;
+pub use writer::FaultyWriter;
+
+/// Kinds of errors that a read, a write or a flush can fail with. The first is an interruption.
+pub const KINDS: [ErrorKind; 4] = [
+    ErrorKind::Interrupted,
+    ErrorKind::WouldBlock,
+    ErrorKind::BrokenPipe,
+    ErrorKind::Other,
+];
