@@ -5,8 +5,6 @@
 #[cfg(test)]
 mod bases;
 #[cfg(test)]
-mod checks;
-#[cfg(test)]
 mod histories;
 #[cfg(test)]
 mod kinds;
@@ -18,7 +16,5 @@ mod scanned;
 mod tables;
 #[cfg(test)]
 mod texts;
-#[cfg(test)]
-mod undo_lists;
 #[cfg(test)]
 mod values;

@@ -2,87 +2,104 @@
 
 ghost use Rattle.std.specs.Prelude.{◌≡◌};
 
-use crate::checks::{same, same_at};
 use mlt_kinds::{AccountOp, Done, ObjOp, ObjReply};
 use mlt_object_locks::ObjectLocks;
+use mlt_test_tools::{same, same_at};
 use mlt_types::{Cell, Refusal, TxId};
-use std::process::Abort;
+use mlt_undo::UndoList;
+use std::alloc::Global;
+use std::test::Fail;
 
-const ACCOUNT: u32 = 1;
-
-fn on_account(account: u32, op: AccountOp, reply: ObjReply) -> Done
-    ensures { result ≡ (ObjOp.Account account op, reply) }
-{
-    Done::new(ObjOp::Account(account, op), reply)
+/// What one transaction asks for, or that it is closed.
+#[derive(Clone, Copy)]
+enum Act {
+    /// An operation on an account with its reply, and the transaction that it waits for.
+    Ask(u64, u32, (AccountOp, ObjReply), Option<u64>),
+    Release(u64),
 }
 
-// Reserves and asks.
-fn grant(locks: &mut ObjectLocks, tx: u64, done: Done) -> Result<Result<(), TxId>, Refusal> {
-    locks.reserve(TxId(tx), &done.cell())?;
-    Ok(locks.ask(TxId(tx), &done))
-}
+const WITHDRAWN: (AccountOp, ObjReply) = (AccountOp::Withdraw(2), ObjReply::Done);
 
-// A request of a transaction, and how it is answered.
-type Request = (u64, Done, Result<(), TxId>);
+const BALANCE: (AccountOp, ObjReply) = (AccountOp::Balance, ObjReply::Is(5));
 
-// Each request in turn is answered so.
-fn answers(rt: &impl Abort, locks: &mut ObjectLocks, requests: &[Request]) -> Result<(), Refusal> {
-    for (tx, done, wanted) in requests {
-        same_at(rt, tx, &grant(locks, *tx, *done)?, wanted);
+const DEPOSITED: (AccountOp, ObjReply) = (AccountOp::Deposit(1), ObjReply::Done);
+
+const SHORT: (AccountOp, ObjReply) = (AccountOp::Withdraw(7), ObjReply::Short);
+
+// The lowest of two holders is told. Operations on another account stand in no way, nor do the transaction's own.
+const LOWEST: &[Act] = &[
+    Act::Ask(5, 1, WITHDRAWN, None),
+    Act::Ask(5, 1, BALANCE, None),
+    Act::Ask(4, 2, BALANCE, None),
+    Act::Release(5),
+    Act::Ask(5, 1, WITHDRAWN, None),
+    Act::Ask(3, 1, WITHDRAWN, None),
+    Act::Ask(4, 1, BALANCE, Some(3)),
+    Act::Release(3),
+    Act::Ask(4, 1, BALANCE, Some(5)),
+    Act::Release(5),
+    Act::Ask(4, 1, BALANCE, None),
+];
+
+// Which of two comes first matters.
+const PASSES: &[Act] = &[Act::Ask(1, 1, DEPOSITED, None), Act::Ask(2, 1, SHORT, None)];
+
+const CLASHES: &[Act] = &[
+    Act::Ask(1, 1, SHORT, None),
+    Act::Ask(2, 1, DEPOSITED, Some(1)),
+];
+
+// Each act in turn is answered so, by new locks.
+fn goes(alloc: Global, acts: &[Act]) -> Result<(), Fail> {
+    let mut locks = ObjectLocks::new(alloc);
+    for act in acts {
+        match *act {
+            Act::Ask(tx, account, (op, reply), wanted) => {
+                let done = Done::new(ObjOp::Account(account, op), reply);
+                let holder = grant(&mut locks, TxId(tx), done)?;
+                same_at(&done, &holder, &wanted)?;
+            }
+            Act::Release(tx) => locks.release_all(TxId(tx)),
+        }
     }
     Ok(())
 }
 
+// Reserves and asks: the transaction that it waits for, if there is one.
+fn grant(locks: &mut ObjectLocks, tx: TxId, done: Done) -> Result<Option<u64>, Refusal> {
+    locks.reserve(tx, &done.cell())?;
+    match locks.ask(tx, &done) {
+        Ok(()) => Ok(None),
+        Err(holder) => Ok(Some(holder.0)),
+    }
+}
+
 #[test]
-fn reservation_released(rt: HostRuntime) -> Result<(), Refusal> {
+fn grants(rt: HostRuntime) -> Result<(), Fail> {
+    goes(rt.alloc(), LOWEST)?;
+    goes(rt.alloc(), PASSES)?;
+    goes(rt.alloc(), CLASHES)
+}
+
+fn deposited() -> Done
+    ensures { result ≡ (ObjOp.Account 1 (AccountOp.Deposit 5), ObjReply.Done) }
+{
+    Done::new(ObjOp::Account(1, AccountOp::Deposit(5)), ObjReply::Done)
+}
+
+#[test]
+fn reservation_released(rt: HostRuntime) -> Result<(), Fail> {
     let mut locks = ObjectLocks::new(rt.alloc());
-    let deposit = on_account(ACCOUNT, AccountOp::Deposit(5), ObjReply::Done);
-    locks.reserve(TxId(1), &Cell::Account(ACCOUNT))?;
-    locks.reserve(TxId(2), &Cell::Account(ACCOUNT))?;
+    locks.reserve(TxId(1), &Cell::Account(1))?;
+    locks.reserve(TxId(2), &Cell::Account(1))?;
     locks.release_all(TxId(1));
-    same(&rt, &locks.ask(TxId(2), &deposit), &Ok(()));
-    Ok(())
+    same(&locks.ask(TxId(2), &deposited()), &Ok(()))
 }
 
 #[test]
-fn lowest_of_two_holders(rt: HostRuntime) -> Result<(), Refusal> {
-    let mut locks = ObjectLocks::new(rt.alloc());
-    let withdrawal = on_account(ACCOUNT, AccountOp::Withdraw(2), ObjReply::Done);
-    let balance = on_account(ACCOUNT, AccountOp::Balance, ObjReply::Is(5));
-    let first = [
-        (5, withdrawal, Ok(())),
-        (3, withdrawal, Ok(())),
-        (4, balance, Err(TxId(3))),
-    ];
-    answers(&rt, &mut locks, &first)?;
-    locks.release_all(TxId(3));
-    answers(&rt, &mut locks, &[(4, balance, Err(TxId(5)))])?;
-    locks.release_all(TxId(5));
-    answers(&rt, &mut locks, &[(4, balance, Ok(()))])
-}
-
-#[test]
-fn held_first_requested_second(rt: HostRuntime) -> Result<(), Refusal> {
-    let deposit = on_account(ACCOUNT, AccountOp::Deposit(1), ObjReply::Done);
-    let short = on_account(ACCOUNT, AccountOp::Withdraw(7), ObjReply::Short);
-    let mut locks = ObjectLocks::new(rt.alloc());
-    let passing = [(1, deposit, Ok(())), (2, short, Ok(()))];
-    answers(&rt, &mut locks, &passing)?;
-    let mut locks = ObjectLocks::new(rt.alloc());
-    let clashing = [(1, short, Ok(())), (2, deposit, Err(TxId(1)))];
-    answers(&rt, &mut locks, &clashing)
-}
-
-#[test]
-fn own_and_other_cells_stand_in_no_way(rt: HostRuntime) -> Result<(), Refusal> {
-    let mut locks = ObjectLocks::new(rt.alloc());
-    let withdrawal = on_account(ACCOUNT, AccountOp::Withdraw(2), ObjReply::Done);
-    let balance = on_account(ACCOUNT, AccountOp::Balance, ObjReply::Is(5));
-    let other = on_account(2, AccountOp::Balance, ObjReply::Is(5));
-    let requests = [
-        (1, withdrawal, Ok(())),
-        (1, balance, Ok(())),
-        (2, other, Ok(())),
-    ];
-    answers(&rt, &mut locks, &requests)
+fn direct_calls(rt: HostRuntime) -> Result<(), Fail> {
+    let mut list = UndoList::new(rt.alloc());
+    list.reserve()?;
+    list.push(deposited());
+    same(&list.pop(), &Some(deposited()))
 }

@@ -1,10 +1,11 @@
 //! The table of object locks beside a plain list that is scanned: both answer alike.
 
-use crate::checks::same_at;
 use mlt_commute::clash;
 use mlt_kinds::{AccountOp, Done, ObjOp, ObjReply};
 use mlt_object_locks::ObjectLocks;
+use mlt_test_tools::same_at;
 use mlt_types::{Refusal, TxId};
+use std::test::Fail;
 
 const CALLS: u32 = 2_000;
 
@@ -66,7 +67,7 @@ fn chosen(number: u64) -> Done {
 
 // Three of four calls ask for an operation. The others release, or reserve and never ask.
 #[test]
-fn scanned_list_answers_alike(rt: HostRuntime) -> Result<(), Refusal> {
+fn scanned_list_answers_alike(rt: HostRuntime) -> Result<(), Fail> {
     let mut locks = ObjectLocks::new(rt.alloc());
     let mut scanned = ScanCells {
         held: Vec::new(rt.alloc()),
@@ -85,7 +86,7 @@ fn scanned_list_answers_alike(rt: HostRuntime) -> Result<(), Refusal> {
             1 => {}
             _ => {
                 let answer = locks.ask(tx, &done);
-                same_at(&rt, &call, &answer, &scanned.ask(tx, done)?);
+                same_at(&call, &answer, &scanned.ask(tx, done)?)?;
             }
         }
     }

@@ -2,18 +2,14 @@
 
 ghost use Rattle.std.specs.Prelude.{◌≡◌};
 
-use crate::checks::{same, same_at};
-use mlt_commute::{
-    AccountClass, CounterClass, ElementClass, Example, Table, clash, clashes_are_exact,
-    every_history_of_bases_is_serializable, operation_without_clash_may_come,
-    steps_of_bases_meet_the_laws,
-};
+use mlt_commute::{AccountClass, CounterClass, ElementClass, Example, Table, clash};
 use mlt_kinds::{
     Account, AccountOp, Counter, CounterOp, Done, Element, ElementOp, Kind, ObjOp, ObjReply,
 };
-use std::process::Abort;
+use mlt_test_tools::{same, same_at};
+use std::test::Fail;
 
-const ACCOUNT_CLASSES: [AccountClass; 10] = [
+const ACCOUNT_CLASSES: &[AccountClass] = &[
     AccountClass::Opened,
     AccountClass::Exists,
     AccountClass::Closed,
@@ -26,7 +22,7 @@ const ACCOUNT_CLASSES: [AccountClass; 10] = [
     AccountClass::Missing,
 ];
 
-const ELEMENT_CLASSES: [ElementClass; 6] = [
+const ELEMENT_CLASSES: &[ElementClass] = &[
     ElementClass::Added,
     ElementClass::Present,
     ElementClass::Removed,
@@ -35,28 +31,22 @@ const ELEMENT_CLASSES: [ElementClass; 6] = [
     ElementClass::No,
 ];
 
-const COUNTER_CLASSES: [CounterClass; 2] = [CounterClass::Counted, CounterClass::Read];
+const COUNTER_CLASSES: &[CounterClass] = &[CounterClass::Counted, CounterClass::Read];
 
 #[test]
-fn accounts_mark_28_pairs(rt: HostRuntime) {
-    let marked = shown::<Account>(&rt, &ACCOUNT_CLASSES);
-    same(&rt, &marked, &28);
+fn marked_pairs() -> Result<(), Fail> {
+    let accounts = shown::<Account>(ACCOUNT_CLASSES);
+    let elements = shown::<Element>(ELEMENT_CLASSES);
+    let counters = shown::<Counter>(COUNTER_CLASSES);
+    same(
+        &(accounts, elements, counters),
+        &(Some(28), Some(10), Some(2)),
+    )
 }
 
-#[test]
-fn elements_mark_10_pairs(rt: HostRuntime) {
-    let marked = shown::<Element>(&rt, &ELEMENT_CLASSES);
-    same(&rt, &marked, &10);
-}
-
-#[test]
-fn counters_mark_2_pairs(rt: HostRuntime) {
-    let marked = shown::<Counter>(&rt, &COUNTER_CLASSES);
-    same(&rt, &marked, &2);
-}
-
-// How many pairs of the classes are marked; each has an example that shows its conflict, and no other has one.
-fn shown<K: Table>(rt: &impl Abort, classes: &[K::Class]) -> u64
+// How many pairs of the classes are marked; None unless each has an example that shows its conflict, and no other has
+// one.
+fn shown<K: Table>(classes: &[K::Class]) -> Option<u64>
 where
     K::State: Copy + PartialEq,
     K::Op: Copy,
@@ -65,86 +55,92 @@ where
     let mut marked: u64 = 0;
     for held in classes {
         for requested in classes {
-            let example = K::example(*held, *requested);
-            same(rt, &example.is_some(), &K::conflicts(*held, *requested));
-            if let Some(example) = example {
-                shows::<K>(rt, &example);
-                marked = marked.saturating_add(1);
+            let is_marked = K::conflicts(*held, *requested);
+            match K::example(*held, *requested) {
+                Some(example) if is_marked && shows::<K>(&example) => {
+                    marked = marked.saturating_add(1);
+                }
+                None if !is_marked => {}
+                _ => return None,
             }
         }
     }
-    marked
+    Some(marked)
 }
 
-// Runs the two operations of an example in both orders.
-fn shows<K: Table>(rt: &impl Abort, example: &Example<K::State, K::Op, K::Reply>)
+// Whether the two operations of an example have its replies in one order, and another end or other replies in the other.
+fn shows<K: Table>(example: &Example<K::State, K::Op, K::Reply>) -> bool
 where
     K::State: Copy + PartialEq,
     K::Op: Copy,
     K::Reply: Copy + PartialEq,
     requires { K.is_state example.now.state }
 {
-    let (middle, first_reply) = K::apply(&example.state, &example.first);
-    let (after, second_reply) = K::apply(&middle, &example.second);
-    assert!(rt; first_reply == example.first_reply && second_reply == example.second_reply);
-    let (other, second_reply) = K::apply(&example.state, &example.second);
-    let (end, first_reply) = K::apply(&other, &example.first);
-    let is_same = first_reply == example.first_reply
-        && second_reply == example.second_reply
-        && end == after;
-    assert!(rt; !is_same);
+    let (middle, first) = K::apply(&example.state, &example.first);
+    let (after, second) = K::apply(&middle, &example.second);
+    let (other, later_second) = K::apply(&example.state, &example.second);
+    let (end, later_first) = K::apply(&other, &example.first);
+    first == example.first_reply
+        && second == example.second_reply
+        && !(later_first == first && later_second == second && end == after)
 }
 
+// An operation with its reply that is held, one that is requested, and whether they clash.
+type Pair = ((ObjOp, ObjReply), (ObjOp, ObjReply), bool);
+
+const WITHDRAWN: (ObjOp, ObjReply) = (ObjOp::Account(7, AccountOp::Withdraw(5)), ObjReply::Done);
+
+const SHORT: (ObjOp, ObjReply) = (ObjOp::Account(7, AccountOp::Withdraw(5)), ObjReply::Short);
+
+const DEPOSITED: (ObjOp, ObjReply) = (ObjOp::Account(7, AccountOp::Deposit(3)), ObjReply::Done);
+
+const ELSEWHERE: (ObjOp, ObjReply) = (ObjOp::Account(8, AccountOp::Deposit(3)), ObjReply::Done);
+
+const WITHOUT_CLASS: (ObjOp, ObjReply) = (
+    ObjOp::Account(7, AccountOp::Deposit(3)),
+    ObjReply::Opened,
+);
+
+const UP: (ObjOp, ObjReply) = (ObjOp::Counter(7, CounterOp::Up(5)), ObjReply::Done);
+
+const DOWN: (ObjOp, ObjReply) = (ObjOp::Counter(7, CounterOp::Down(5)), ObjReply::Done);
+
+const READ: (ObjOp, ObjReply) = (ObjOp::Counter(7, CounterOp::Read), ObjReply::Is(5));
+
+const ADDED: (ObjOp, ObjReply) = (ObjOp::Element(1, 2, ElementOp::Add), ObjReply::Added);
+
+const YES: (ObjOp, ObjReply) = (ObjOp::Element(1, 2, ElementOp::Has), ObjReply::Yes);
+
+const YES_BESIDE: (ObjOp, ObjReply) = (ObjOp::Element(1, 3, ElementOp::Has), ObjReply::Yes);
+
+const YES_ELSEWHERE: (ObjOp, ObjReply) = (ObjOp::Element(2, 2, ElementOp::Has), ObjReply::Yes);
+
+// Clashes need one cell and marked classes.
+const PAIRS: &[Pair] = &[
+    (SHORT, DEPOSITED, true),
+    (DEPOSITED, SHORT, false),
+    (DEPOSITED, WITHDRAWN, true),
+    (WITHDRAWN, DEPOSITED, true),
+    (DEPOSITED, DEPOSITED, false),
+    (SHORT, ELSEWHERE, false),
+    (SHORT, WITHOUT_CLASS, false),
+    (UP, DOWN, false),
+    (DOWN, READ, true),
+    (SHORT, UP, false),
+    (ADDED, YES, true),
+    (YES, ADDED, false),
+    (ADDED, YES_BESIDE, false),
+    (ADDED, YES_ELSEWHERE, false),
+];
+
 #[test]
-fn clashes_need_one_cell_and_marked_classes(rt: HostRuntime) {
-    let withdrawn = account(7, AccountOp::Withdraw(5), ObjReply::Done);
-    let short = account(7, AccountOp::Withdraw(5), ObjReply::Short);
-    let deposited = account(7, AccountOp::Deposit(3), ObjReply::Done);
-    let elsewhere = account(8, AccountOp::Deposit(3), ObjReply::Done);
-    let without_class = account(7, AccountOp::Deposit(3), ObjReply::Opened);
-    let up = Done::new(ObjOp::Counter(7, CounterOp::Up(5)), ObjReply::Done);
-    let down = Done::new(ObjOp::Counter(7, CounterOp::Down(5)), ObjReply::Done);
-    let read = Done::new(ObjOp::Counter(7, CounterOp::Read), ObjReply::Is(5));
-    for (held, requested, wanted) in [
-        (short, deposited, true),
-        (deposited, short, false),
-        (deposited, withdrawn, true),
-        (withdrawn, deposited, true),
-        (deposited, deposited, false),
-        (short, elsewhere, false),
-        (short, without_class, false),
-        (up, down, false),
-        (down, read, true),
-        (short, up, false),
-    ] {
-        same_at(&rt, &(held, requested), &clash(&held, &requested), &wanted);
+fn clashes() -> Result<(), Fail> {
+    for (held, requested, wanted) in PAIRS {
+        let found = clash(
+            &Done::new(held.0, held.1),
+            &Done::new(requested.0, requested.1),
+        );
+        same_at(&(held, requested), &found, wanted)?;
     }
-}
-
-#[test]
-fn clashes_of_elements_need_one_set_and_one_element(rt: HostRuntime) {
-    let added = Done::new(ObjOp::Element(1, 2, ElementOp::Add), ObjReply::Added);
-    let yes = Done::new(ObjOp::Element(1, 2, ElementOp::Has), ObjReply::Yes);
-    let beside = Done::new(ObjOp::Element(1, 3, ElementOp::Has), ObjReply::Yes);
-    let elsewhere = Done::new(ObjOp::Element(2, 2, ElementOp::Has), ObjReply::Yes);
-    for (held, requested, wanted) in [
-        (added, yes, true),
-        (yes, added, false),
-        (added, beside, false),
-        (added, elsewhere, false),
-    ] {
-        same_at(&rt, &(held, requested), &clash(&held, &requested), &wanted);
-    }
-}
-
-#[test]
-fn laws_hold() {
-    clashes_are_exact();
-    steps_of_bases_meet_the_laws();
-    operation_without_clash_may_come();
-    every_history_of_bases_is_serializable();
-}
-
-fn account(number: u32, op: AccountOp, reply: ObjReply) -> Done {
-    Done::new(ObjOp::Account(number, op), reply)
+    Ok(())
 }

