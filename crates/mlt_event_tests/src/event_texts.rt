@@ -1,16 +1,15 @@
 //! Texts of events: their forms, and the faults of other texts.
 
-use crate::checks::{same, same_at};
 use mlt_event::Event;
 use mlt_event_text::parse_events;
 use mlt_kinds::{AccountOp, CounterOp, ElementOp, ObjOp};
+use mlt_test_tools::{same_at, with_spaces};
 use mlt_types::{Refusal, ScriptCause, TxId};
-use std::alloc::{AllocError, Global};
-use std::process::Abort;
+use std::alloc::Global;
 use std::test::Fail;
 
-// Texts of one line, with the event that each asks for, and how many times.
-const FORMS: [(&str, Event, usize); 10] = [
+// Texts of one event, so many times. First each form, and then numbers at the ends of their ranges and other spellings.
+const FORMS: [(&str, Event, usize); 19] = [
     ("begin\n", Event::Begin, 1),
     ("call 2 deposit 1 5\n", Event::Call(TxId(2), DEPOSIT), 1),
     ("step 2\n", Event::Step(TxId(2)), 1),
@@ -21,12 +20,6 @@ const FORMS: [(&str, Event, usize); 10] = [
     ("abort 5\n", Event::Abort(TxId(5)), 1),
     ("whole 6 deposit 1 5\n", Event::Whole(TxId(6), DEPOSIT), 1),
     ("undo 7\n", Event::WholeUndo(TxId(7)), 1),
-];
-
-const DEPOSIT: ObjOp = ObjOp::Account(1, AccountOp::Deposit(5));
-
-// Numbers at the ends of their ranges, and other spellings.
-const SPELLINGS: [(&str, Event, usize); 9] = [
     ("step 0\n", Event::Step(TxId(0)), 1),
     (
         "undo 18446744073709551615\n",
@@ -42,6 +35,8 @@ const SPELLINGS: [(&str, Event, usize); 9] = [
     ("begin\r\n", Event::Begin, 1),
 ];
 
+const DEPOSIT: ObjOp = ObjOp::Account(1, AccountOp::Deposit(5));
+
 // Texts of blank lines and comments alone.
 const SKIPPED: &[&[u8]] = &[
     b"",
@@ -51,7 +46,7 @@ const SKIPPED: &[&[u8]] = &[
 ];
 
 // Every operation, called.
-const OPERATIONS: [(&str, ObjOp); 12] = [
+const OPERATIONS: &[(&str, ObjOp)] = &[
     ("call 1 open 2", ObjOp::Account(2, AccountOp::Open)),
     ("call 1 close 2", ObjOp::Account(2, AccountOp::Close)),
     (
@@ -156,152 +151,81 @@ const LONG_LINES: &[(&[u8], usize, &[u8], Option<ScriptCause>)] = &[
     (b"", 201, b"\n", Some(ScriptCause::Line)),
 ];
 
-fn fault_of(alloc: Global, text: &[u8]) -> Option<Refusal> {
-    parse_events(alloc, text).err()
-}
-
-fn with_spaces(
-    alloc: Global,
-    start: &[u8],
-    spaces: usize,
-    end: &[u8],
-) -> Result<Vec<u8>, AllocError> {
-    let mut text = Vec::new(alloc);
-    text.extend_from_slice(start)?;
-    for _ in 0..spaces {
-        text.push(b' ')?;
-    }
-    text.extend_from_slice(end)?;
-    Ok(text)
-}
-
 // The text is this event, so many times, and nothing else.
-fn same_events(
-    rt: &impl Abort,
-    alloc: Global,
-    text: &str,
-    event: Event,
-    times: usize,
-) -> Result<(), Refusal> {
+fn is_event(alloc: Global, text: &str, event: Event, times: usize) -> Result<(), Fail> {
     let found = parse_events(alloc, text.as_bytes())?;
-    same_at(rt, &text, &found.len(), &times);
     for one in &found {
-        same_at(rt, &text, one, &event);
+        same_at(&text, one, &event)?;
     }
-    Ok(())
+    same_at(&text, &found.len(), &times)
 }
 
 #[test]
-fn forms(rt: HostRuntime) -> Result<(), Refusal> {
+fn forms(rt: HostRuntime) -> Result<(), Fail> {
     for (text, event, times) in FORMS {
-        same_events(&rt, rt.alloc(), text, event, times)?;
+        is_event(rt.alloc(), text, event, times)?;
     }
     Ok(())
 }
 
 #[test]
-fn spellings(rt: HostRuntime) -> Result<(), Refusal> {
-    for (text, event, times) in SPELLINGS {
-        same_events(&rt, rt.alloc(), text, event, times)?;
-    }
-    Ok(())
-}
-
-#[test]
-fn operations(rt: HostRuntime) -> Result<(), Refusal> {
+fn operations(rt: HostRuntime) -> Result<(), Fail> {
     for (text, op) in OPERATIONS {
-        same_events(&rt, rt.alloc(), text, Event::Call(TxId(1), op), 1)?;
+        is_event(rt.alloc(), text, Event::Call(TxId(1), *op), 1)?;
     }
     Ok(())
 }
 
 #[test]
-fn skipped_lines(rt: HostRuntime) -> Result<(), Refusal> {
+fn skipped_lines(rt: HostRuntime) -> Result<(), Fail> {
     for text in SKIPPED {
-        let found = parse_events(rt.alloc(), text)?;
-        same_at(&rt, text, &found.len(), &0);
+        same_at(text, &parse_events(rt.alloc(), text)?.len(), &0)?;
     }
     Ok(())
 }
 
-// Lines that end in CR LF, in LF and in neither, with others that are skipped between them.
-#[test]
-fn several_lines(rt: HostRuntime) -> Result<(), Refusal> {
-    let text = b"begin\r\n\r\n# note\r\nstep 1 2\n  # two\n\nbegin\ncommit 2\nundo 1";
-    let wanted = [
-        Event::Begin,
-        Event::Step(TxId(1)),
-        Event::Step(TxId(1)),
-        Event::Begin,
-        Event::Commit(TxId(2)),
-        Event::WholeUndo(TxId(1)),
-    ];
-    let found = parse_events(rt.alloc(), text)?;
-    same(&rt, &found.as_slice(), &wanted.as_slice());
-    Ok(())
+// The text has its first fault in this line, with this cause, or no fault.
+fn has_fault(
+    alloc: Global,
+    text: &[u8],
+    line: u64,
+    cause: Option<ScriptCause>,
+) -> Result<(), Fail> {
+    let found = parse_events(alloc, text).err();
+    let wanted = match cause {
+        Some(cause) => Some(Refusal::ScriptFault { line, cause }),
+        None => None,
+    };
+    same_at(&text, &found, &wanted)
 }
 
-// The events of an addition that is refused by steps.
-const REFUSED_ADDITION: [Event; 10] = [
-    Event::Begin,
-    Event::Call(TxId(2), ObjOp::Account(524288, AccountOp::Open)),
-    Event::Step(TxId(2)),
-    Event::Step(TxId(2)),
-    Event::Step(TxId(2)),
-    Event::Step(TxId(2)),
-    Event::Step(TxId(2)),
-    Event::Step(TxId(2)),
-    Event::Step(TxId(2)),
-    Event::Commit(TxId(2)),
-];
-
-#[test]
-fn no_room_by_steps(rt: HostRuntime) -> Result<(), Refusal> {
-    let text = b"begin\ncall 2 open 524288\nstep 2 6\nstep 2\ncommit 2\n";
-    let found = parse_events(rt.alloc(), text)?;
-    same(&rt, &found.as_slice(), &REFUSED_ADDITION.as_slice());
+fn are_faulty(alloc: Global, rows: &[(&[u8], u64, ScriptCause)]) -> Result<(), Fail> {
+    for (text, line, cause) in rows {
+        has_fault(alloc, text, *line, Some(*cause))?;
+    }
     Ok(())
 }
 
 #[test]
-fn faulty_words(rt: HostRuntime) {
-    for (text, line, cause) in WORDS {
-        let wanted = Refusal::ScriptFault {
-            line: *line,
-            cause: *cause,
-        };
-        same_at(&rt, text, &fault_of(rt.alloc(), text), &Some(wanted));
-    }
+fn faulty_words(rt: HostRuntime) -> Result<(), Fail> {
+    are_faulty(rt.alloc(), WORDS)
 }
 
 #[test]
-fn faulty_operations(rt: HostRuntime) {
-    for (text, line, cause) in OPERATION_WORDS {
-        let wanted = Refusal::ScriptFault {
-            line: *line,
-            cause: *cause,
-        };
-        same_at(&rt, text, &fault_of(rt.alloc(), text), &Some(wanted));
-    }
+fn faulty_operations(rt: HostRuntime) -> Result<(), Fail> {
+    are_faulty(rt.alloc(), OPERATION_WORDS)
 }
 
 #[test]
-fn faulty_lines(rt: HostRuntime) {
-    for (text, line, cause) in LINES {
-        let wanted = Refusal::ScriptFault {
-            line: *line,
-            cause: *cause,
-        };
-        same_at(&rt, text, &fault_of(rt.alloc(), text), &Some(wanted));
-    }
+fn faulty_lines(rt: HostRuntime) -> Result<(), Fail> {
+    are_faulty(rt.alloc(), LINES)
 }
 
 #[test]
 fn long_lines(rt: HostRuntime) -> Result<(), Fail> {
     for (start, spaces, end, cause) in LONG_LINES {
         let text = with_spaces(rt.alloc(), start, *spaces, end)?;
-        let wanted = cause.map(|cause| Refusal::ScriptFault { line: 1, cause });
-        same_at(&rt, spaces, &fault_of(rt.alloc(), text.as_slice()), &wanted);
+        has_fault(rt.alloc(), text.as_slice(), 1, *cause)?;
     }
     Ok(())
 }

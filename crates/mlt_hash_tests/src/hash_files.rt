@@ -1,21 +1,35 @@
 //! Hash files for one caller.
 
 use mlt_hash_file::HashFile;
+use mlt_test_tools::same_at;
 use mlt_types::{Cell, Key, Limits, Low, Pseudo, Refusal, Value};
 use std::alloc::Global;
 use std::process::Abort;
 use std::test::Fail;
 
+/// What is done to a hash file, or is then to be seen of it.
+#[derive(Clone, Copy, Debug)]
+enum Act {
+    /// Adds this account, which is not there, with a value of its number and 100. This is the answer.
+    Insert(u32, Result<(), Refusal>),
+    /// Adds these accounts likewise.
+    InsertAll(&'static [u32]),
+    /// Gives this account, which is there, another value.
+    Update(u32, Value),
+    /// Removes this account, which is there.
+    Remove(u32),
+    /// This account has this value.
+    Get(u32, Option<Value>),
+    /// Each of these accounts has the value that it was added with.
+    HasAll(&'static [u32]),
+    /// The depth of the directory, and the number of pages.
+    Form(u8, usize),
+}
+
 fn account(number: u32) -> Key {
     Key::of(&Cell::Account(number))
 }
 
-fn empty(alloc: Global, max_pages: u32, max_depth: u32) -> Result<HashFile<Low>, Refusal> {
-    let limits = Limits::checked(1, 1, max_pages, max_depth, 1)?;
-    HashFile::new(alloc, &limits, Low)
-}
-
-// Adds this account, which is not there.
 fn insert<P: Pseudo>(rt: &impl Abort, file: &mut HashFile<P>, number: u32) -> Result<(), Refusal> {
     let key = account(number);
     let found = file.get(key);
@@ -23,18 +37,6 @@ fn insert<P: Pseudo>(rt: &impl Abort, file: &mut HashFile<P>, number: u32) -> Re
     file.insert(key, Value::from(number) + 100)
 }
 
-fn insert_all<P: Pseudo>(
-    rt: &impl Abort,
-    file: &mut HashFile<P>,
-    numbers: &[u32],
-) -> Result<(), Refusal> {
-    for number in numbers {
-        insert(rt, file, *number)?;
-    }
-    Ok(())
-}
-
-// Gives this account, which is there, another value.
 fn update<P: Pseudo>(rt: &impl Abort, file: &mut HashFile<P>, number: u32, value: Value) {
     let key = account(number);
     let found = file.get(key);
@@ -42,7 +44,6 @@ fn update<P: Pseudo>(rt: &impl Abort, file: &mut HashFile<P>, number: u32, value
     file.update(key, value);
 }
 
-// Removes this account, which is there.
 fn remove<P: Pseudo>(rt: &impl Abort, file: &mut HashFile<P>, number: u32) {
     let key = account(number);
     let found = file.get(key);
@@ -50,7 +51,7 @@ fn remove<P: Pseudo>(rt: &impl Abort, file: &mut HashFile<P>, number: u32) {
     file.remove(key);
 }
 
-// Whether each of these accounts is there with the value that it was inserted with.
+// Whether each of these accounts is there with the value that it was added with.
 fn has_all<P: Pseudo>(file: &mut HashFile<P>, numbers: &[u32]) -> bool {
     for number in numbers {
         if file.get(account(*number)) != Some(Value::from(*number) + 100) {
@@ -60,100 +61,127 @@ fn has_all<P: Pseudo>(file: &mut HashFile<P>, numbers: &[u32]) -> bool {
     true
 }
 
-// The pseudokeys of these accounts are alike in their first 13 bits, and start with 0.
-const ZEROS: [u32; 8] = [0, 1, 2, 3, 4, 5, 6, 7];
+// Each act in turn is answered so.
+fn goes_through<P: Pseudo>(
+    rt: &impl Abort,
+    file: &mut HashFile<P>,
+    acts: &[Act],
+) -> Result<(), Fail> {
+    for act in acts {
+        match *act {
+            Act::Insert(number, wanted) => same_at(act, &insert(rt, file, number), &wanted)?,
+            Act::InsertAll(numbers) => {
+                for number in numbers {
+                    insert(rt, file, *number)?;
+                }
+            }
+            Act::Update(number, value) => update(rt, file, number, value),
+            Act::Remove(number) => remove(rt, file, number),
+            Act::Get(number, wanted) => same_at(act, &file.get(account(number)), &wanted)?,
+            Act::HasAll(numbers) => same_at(act, &has_all(file, numbers), &true)?,
+            Act::Form(depth, pages) => {
+                same_at(act, &(file.depth(), file.page_count()), &(depth, pages))?;
+            }
+        }
+    }
+    Ok(())
+}
 
-// The pseudokeys of these start with 000001.
-const SIXTHS: [u32; 8] = [1_024, 1_025, 1_026, 1_027, 1_028, 1_029, 1_030, 1_031];
-
-// A file with one bucket, which is full.
-fn full(
+// A file with so many pages at most, up to this depth, goes through these acts.
+fn goes(
     rt: &impl Abort,
     alloc: Global,
     max_pages: u32,
     max_depth: u32,
-) -> Result<HashFile<Low>, Refusal> {
-    let mut file = empty(alloc, max_pages, max_depth)?;
-    insert_all(rt, &mut file, &ZEROS)?;
-    Ok(file)
+    acts: &[Act],
+) -> Result<(), Fail> {
+    let limits = Limits::checked(1, 1, max_pages, max_depth, 1)?;
+    let mut file = HashFile::new(alloc, &limits, Low)?;
+    goes_through(rt, &mut file, acts)
 }
+
+// The pseudokeys of these accounts are alike in their first 13 bits, and start with 0.
+const ZEROS: &[u32] = &[0, 1, 2, 3, 4, 5, 6, 7];
+
+// The pseudokeys of these start with 000001.
+const SIXTHS: &[u32] = &[1_024, 1_025, 1_026, 1_027, 1_028, 1_029, 1_030, 1_031];
+
+const DIRECT: &[Act] = &[
+    Act::InsertAll(ZEROS),
+    Act::Form(0, 3),
+    Act::Insert(32_768, Ok(())),
+    Act::HasAll(ZEROS),
+    Act::HasAll(&[32_768]),
+    Act::Get(8, None),
+    Act::Form(1, 4),
+    Act::Update(3, 5),
+    Act::Get(3, Some(5)),
+    Act::Remove(3),
+    Act::Get(3, None),
+    Act::HasAll(&[0, 1, 2, 4, 5, 6, 7, 32_768]),
+];
 
 #[test]
 fn direct_calls(rt: HostRuntime) -> Result<(), Fail> {
-    let mut file = full(&rt, rt.alloc(), 100, 16)?;
-    assert_eq!(rt; file.depth(), 0);
-    assert_eq!(rt; file.page_count(), 3);
-    insert(&rt, &mut file, 32_768)?;
-    assert!(rt; has_all(&mut file, &ZEROS));
-    assert!(rt; has_all(&mut file, &[32_768]));
-    assert_eq!(rt; file.get(account(8)), None);
-    assert_eq!(rt; file.depth(), 1);
-    assert_eq!(rt; file.page_count(), 4);
-    update(&rt, &mut file, 3, 5);
-    assert_eq!(rt; file.get(account(3)), Some(5));
-    remove(&rt, &mut file, 3);
-    assert_eq!(rt; file.get(account(3)), None);
-    assert!(rt; has_all(&mut file, &[0, 1, 2, 4, 5, 6, 7, 32_768]));
-    Ok(())
+    goes(&rt, rt.alloc(), 100, 16, DIRECT)
 }
+
+const DEPTH_EIGHT: &[Act] = &[
+    Act::InsertAll(ZEROS),
+    Act::Insert(8, Err(Refusal::NoRoom)),
+    Act::Form(0, 3),
+    Act::Insert(256, Ok(())),
+    Act::HasAll(ZEROS),
+    Act::HasAll(&[256]),
+];
+
+// The room of a removed record.
+const AFTER_A_REMOVAL: &[Act] = &[
+    Act::InsertAll(ZEROS),
+    Act::Remove(0),
+    Act::Insert(8, Ok(())),
+    Act::Form(0, 3),
+    Act::HasAll(&[1, 2, 3, 4, 5, 6, 7, 8]),
+    Act::Get(0, None),
+];
 
 #[test]
 fn hash_file_depth_eight(rt: HostRuntime) -> Result<(), Fail> {
-    let mut file = full(&rt, rt.alloc(), 100, 8)?;
-    assert_eq!(rt; insert(&rt, &mut file, 8), Err(Refusal::NoRoom));
-    assert_eq!(rt; file.depth(), 0);
-    assert_eq!(rt; insert(&rt, &mut file, 256), Ok(()));
-    assert_eq!(rt; file.depth(), 8);
-    assert!(rt; has_all(&mut file, &ZEROS));
-    assert!(rt; has_all(&mut file, &[256]));
-    Ok(())
+    goes(&rt, rt.alloc(), 100, 8, DEPTH_EIGHT)?;
+    goes(&rt, rt.alloc(), 100, 8, AFTER_A_REMOVAL)
 }
 
-#[test]
-fn room_of_a_removed_record(rt: HostRuntime) -> Result<(), Fail> {
-    let mut file = full(&rt, rt.alloc(), 100, 8)?;
-    remove(&rt, &mut file, 0);
-    assert_eq!(rt; insert(&rt, &mut file, 8), Ok(()));
-    assert_eq!(rt; file.depth(), 0);
-    assert!(rt; has_all(&mut file, &[1, 2, 3, 4, 5, 6, 7, 8]));
-    assert_eq!(rt; file.get(account(0)), None);
-    Ok(())
-}
+// After thirteen splits, a bucket of depth 6 in a directory of depth 13: one page of the directory has all its entries,
+// so a narrow pass splits it.
+const SPLITS: &[Act] = &[
+    Act::InsertAll(ZEROS),
+    Act::Insert(8, Ok(())),
+    Act::Form(13, 47),
+    Act::HasAll(ZEROS),
+    Act::HasAll(&[8]),
+    Act::InsertAll(SIXTHS),
+    Act::Form(13, 47),
+    Act::Insert(1_536, Ok(())),
+    Act::Form(13, 48),
+    Act::HasAll(ZEROS),
+    Act::HasAll(SIXTHS),
+    Act::HasAll(&[8, 1_536]),
+];
 
 #[test]
-fn thirteen_splits(rt: HostRuntime) -> Result<(), Fail> {
-    let mut file = full(&rt, rt.alloc(), 100, 16)?;
-    assert_eq!(rt; insert(&rt, &mut file, 8), Ok(()));
-    assert_eq!(rt; file.depth(), 13);
-    assert_eq!(rt; file.page_count(), 47);
-    assert!(rt; has_all(&mut file, &ZEROS));
-    assert!(rt; has_all(&mut file, &[8]));
-    Ok(())
+fn thirteen_splits_and_a_narrow_one(rt: HostRuntime) -> Result<(), Fail> {
+    goes(&rt, rt.alloc(), 100, 16, SPLITS)
 }
+
+const WITHOUT_ROOM: &[Act] = &[
+    Act::InsertAll(ZEROS),
+    Act::Insert(32_768, Err(Refusal::NoRoom)),
+    Act::HasAll(ZEROS),
+    Act::Get(32_768, None),
+    Act::Form(0, 3),
+];
 
 #[test]
 fn no_room_for_pages(rt: HostRuntime) -> Result<(), Fail> {
-    let mut file = full(&rt, rt.alloc(), 3, 16)?;
-    assert_eq!(rt; insert(&rt, &mut file, 32_768), Err(Refusal::NoRoom));
-    assert!(rt; has_all(&mut file, &ZEROS));
-    assert_eq!(rt; file.get(account(32_768)), None);
-    assert_eq!(rt; file.depth(), 0);
-    assert_eq!(rt; file.page_count(), 3);
-    Ok(())
-}
-
-// A bucket of depth 6 in a directory of depth 13: one page of the directory has all its entries, so a narrow pass splits it.
-#[test]
-fn a_narrow_split(rt: HostRuntime) -> Result<(), Fail> {
-    let mut file = full(&rt, rt.alloc(), 100, 16)?;
-    insert(&rt, &mut file, 8)?;
-    insert_all(&rt, &mut file, &SIXTHS)?;
-    assert_eq!(rt; file.page_count(), 47);
-    insert(&rt, &mut file, 1_536)?;
-    assert_eq!(rt; file.depth(), 13);
-    assert_eq!(rt; file.page_count(), 48);
-    assert!(rt; has_all(&mut file, &ZEROS));
-    assert!(rt; has_all(&mut file, &SIXTHS));
-    assert!(rt; has_all(&mut file, &[8, 1_536]));
-    Ok(())
+    goes(&rt, rt.alloc(), 3, 16, WITHOUT_ROOM)
 }

@@ -1,10 +1,8 @@
-//! Tests of hash files in their pages, of the pages that a walk holds, and of ghosts: what no contract says, or a
-//! reader wants to see. They stand apart, since a crate with tests is proved twice.
+//! Tests of hash files in their pages, and of ghosts: what no contract says, or a reader wants to see. They stand apart,
+//! since a crate with tests is proved twice.
 #![tactic(auto)]
 
 #[cfg(test)]
 mod ghosts;
 #[cfg(test)]
 mod hash_files;
-#[cfg(test)]
-mod held_pages;

@@ -1,155 +1,121 @@
-//! Pseudokeys and their places, new buckets' places, and when an addition finds room.
+//! Pseudokeys and their places, new buckets' places, when an addition finds room, and what a split moves.
 
-use mlt_hash_form::{
-    NewPlaces, Place, depth_with_room, doubled_page, first_bits, is_crowded, page_with_new_places,
-};
-use mlt_page::{Bucket, DirPage, SLOTS, Slot};
-use mlt_types::{Cell, Key, Low, Mult, OpenSet, PageNo, Pseudo, TxId};
+use mlt_hash_form::{NewPlaces, Place, depth_with_room, first_bits};
+use mlt_page::{Bucket, Page, SLOTS, Slot};
+use mlt_test_tools::{same, same_at};
+use mlt_types::{Cell, Key, Low, Mult, OpenSet, Pseudo, TxId};
+use std::mem::size_of;
+use std::test::Fail;
 
 fn account(number: u32) -> Key {
     Key::of(&Cell::Account(number))
 }
 
+// The pseudokey of account 1 by Mult: 0x1A4C_79B9_7F4A_7C15. At each depth, its first bits, and the directory page and
+// the entry there that it leads to.
+const PLACES: &[(u8, u64, usize, usize)] = &[
+    (0, 0, 0, 0),
+    (1, 0, 0, 0),
+    (4, 0x1, 0, 0x1),
+    (8, 0x1A, 0, 0x1A),
+    (9, 0x34, 0, 0x34),
+    (12, 0x1A4, 0x1, 0xA4),
+    (16, 0x1A4C, 0x1A, 0x4C),
+];
+
 #[test]
-fn first_bits_of_pseudokeys(rt: HostRuntime) {
+fn places_of_pseudokeys(rt: HostRuntime) -> Result<(), Fail> {
     let bits = Mult.bits(&account(1));
-    let table = [
-        (0, 0),
-        (1, 0),
-        (4, 0x1),
-        (8, 0x1A),
-        (16, 0x1A4C),
-        (64, 0x1A4C_79B9_7F4A_7C15),
-    ];
-    for (count, first) in table {
-        assert_eq!(rt; first_bits(bits, count), first, "{count} bits");
+    for (depth, first, dir, entry) in PLACES {
+        assert!(rt; *depth <= 16);
+        let place = Place {
+            dir: *dir,
+            entry: *entry,
+        };
+        let found = (first_bits(bits, *depth), Place::of(bits, *depth));
+        same_at(depth, &found, &(*first, place))?;
     }
-    assert_eq!(rt; first_bits(Mult.bits(&account(0)), 16), 0x7C15);
-    assert_eq!(rt; first_bits(Low.bits(&account(32_768)), 1), 1);
+    Ok(())
 }
+
+// A pseudokey, the depths of the bucket that is split and of the new one, and the first place of that one with how many
+// there are.
+const NEW_PLACES: &[(u64, u8, u8, u64, u64)] = &[
+    (0, 0, 1, 1, 1),
+    (0, 0, 8, 128, 128),
+    (0, 0, 16, 32_768, 32_768),
+    (0x8000_0000_0000_0000, 1, 3, 6, 2),
+    (0x7C15_0000_0000_0000, 15, 16, 0x7C15, 1),
+];
 
 #[test]
-fn places_of_pseudokeys(rt: HostRuntime) {
-    let bits = Mult.bits(&account(1));
-    let table = [
-        (0, 0, 0),
-        (8, 0, 0x1A),
-        (9, 0, 0x34),
-        (12, 0x1, 0xA4),
-        (16, 0x1A, 0x4C),
-    ];
-    for (depth, dir, entry) in table {
-        assert_eq!(rt;
-            Place::of(bits, depth),
-            Place { dir, entry },
-            "depth {depth}"
-        );
+fn places_of_new_buckets(rt: HostRuntime) -> Result<(), Fail> {
+    for (bits, bucket_depth, depth, first, count) in NEW_PLACES {
+        assert!(rt; *bucket_depth < *depth && *depth <= 16);
+        let wanted = NewPlaces {
+            first: *first,
+            count: *count,
+        };
+        let found = NewPlaces::of(*bits, *bucket_depth, *depth);
+        same_at(&(bucket_depth, depth), &found, &wanted)?;
     }
+    Ok(())
 }
+
+// Beside accounts 0 to 7, an account, the greatest depth, and the depth at which there is room, if there is one.
+const DEPTHS: &[(u32, u8, Option<u8>)] = &[
+    (32_768, 16, Some(1)),
+    (256, 8, Some(8)),
+    (256, 7, None),
+    (8, 8, None),
+    (8, 16, Some(13)),
+    (65_536, 13, None),
+    (65_536, 16, Some(14)),
+];
 
 #[test]
-fn places_of_new_buckets(rt: HostRuntime) {
-    let table = [
-        (0, 0, 1, 1, 1),
-        (0, 0, 8, 128, 128),
-        (0, 0, 16, 32_768, 32_768),
-        (0x8000_0000_0000_0000, 1, 3, 6, 2),
-        (0x7C15_0000_0000_0000, 15, 16, 0x7C15, 1),
-    ];
-    for (bits, bucket_depth, depth, first, count) in table {
-        let places = NewPlaces::of(bits, bucket_depth, depth);
-        assert_eq!(rt;
-            places,
-            NewPlaces { first, count },
-            "depth {bucket_depth} in {depth}"
-        );
-    }
-}
-
-/// A bucket of depth 0 with eight accounts, each some numbers behind the one before.
-fn bucket_of(step: u32) -> Bucket {
-    let mut bucket = Bucket::empty(0);
+fn depths_with_room(rt: HostRuntime) -> Result<(), Fail> {
+    let mut neighbors = Bucket::empty(0);
     for at in 0..SLOTS {
-        bucket.slots[at] = Slot::Live(account((at as u32).wrapping_mul(step)), 0);
+        neighbors.slots[at] = Slot::Live(account(at as u32), 0);
     }
-    bucket
-}
-
-#[test]
-fn depths_with_room(rt: HostRuntime) {
     let opens = OpenSet::new();
-    let neighbors = bucket_of(1);
-    let table = [
-        (32_768, 16, Some(1)),
-        (256, 8, Some(8)),
-        (256, 7, None),
-        (8, 8, None),
-        (8, 16, Some(13)),
-        (65_536, 13, None),
-        (65_536, 16, Some(14)),
-    ];
-    for (number, most, depth) in table {
-        let bits = Low.bits(&account(number));
-        assert_eq!(rt;
-            depth_with_room(&neighbors, most, bits, &Low, &opens),
-            depth,
-            "account {number} to depth {most}"
-        );
+    for (number, most, depth) in DEPTHS {
+        assert!(rt; *most <= 16);
+        let bits = Low.bits(&account(*number));
+        let found = depth_with_room(&neighbors, *most, bits, &Low, &opens);
+        same_at(&(number, most), &found, depth)?;
     }
+    Ok(())
 }
 
+// Accounts 0, 32768 and 4 are live; ghosts of accounts 1 and 32769 are of the open transaction 5, and that of account 2
+// of the closed transaction 6.
 #[test]
-fn room_of_a_ghost(rt: HostRuntime) {
-    let mut bucket = bucket_of(65_536);
-    let bits = Low.bits(&account(524_288));
+fn halves_of_a_split(rt: HostRuntime) -> Result<(), Fail> {
     let mut opens = OpenSet::new();
-    assert!(rt; !opens.is_full());
-    opens.insert(TxId(3));
-    bucket.slots[0] = Slot::Ghost(account(0), 0, TxId(3));
-    assert!(rt; is_crowded(&bucket, 16, bits, &Low, &opens));
-    assert_eq!(rt; depth_with_room(&bucket, 16, bits, &Low, &opens), None);
-    opens.remove(TxId(3));
-    assert!(rt; !is_crowded(&bucket, 16, bits, &Low, &opens));
-    assert_eq!(rt; depth_with_room(&bucket, 16, bits, &Low, &opens), Some(0));
+    opens.insert(TxId(5));
+    let mut bucket = Bucket::empty(0);
+    bucket.slots[0] = Slot::Live(account(0), 10);
+    bucket.slots[1] = Slot::Live(account(32_768), 11);
+    bucket.slots[2] = Slot::Ghost(account(1), 0, TxId(5));
+    bucket.slots[3] = Slot::Ghost(account(32_769), 0, TxId(5));
+    bucket.slots[4] = Slot::Ghost(account(2), 0, TxId(6));
+    bucket.slots[7] = Slot::Live(account(4), 12);
+    let halves = bucket.part(0, &Low, &opens);
+    let mut zeros = Bucket::empty(1);
+    zeros.slots[0] = bucket.slots[0];
+    zeros.slots[2] = bucket.slots[2];
+    zeros.slots[7] = bucket.slots[7];
+    let mut ones = Bucket::empty(1);
+    ones.slots[1] = bucket.slots[1];
+    ones.slots[3] = bucket.slots[3];
+    assert!(rt; halves == (zeros, ones));
+    Ok(())
 }
 
 #[test]
-fn doubled_directory_pages(rt: HostRuntime) {
-    let mut old = DirPage::new(PageNo(2));
-    old.set_entry(1, PageNo(3));
-    old.set_entry(128, PageNo(4));
-    let first = doubled_page(&old, 0, 261, PageNo(9));
-    let second = doubled_page(&old, 1, 261, PageNo(9));
-    let table = [
-        (0, 2, 4),
-        (1, 2, 4),
-        (2, 3, 2),
-        (3, 3, 2),
-        (4, 2, 2),
-        (5, 2, 9),
-    ];
-    for (at, in_first, in_second) in table {
-        assert_eq!(rt; first.entry(at), PageNo(in_first), "entry {at}");
-        assert_eq!(rt; second.entry(at), PageNo(in_second), "entry {at}");
-    }
-}
-
-#[test]
-fn pages_with_new_places(rt: HostRuntime) {
-    let old = DirPage::new(PageNo(2));
-    let few = NewPlaces { first: 6, count: 2 };
-    let page = page_with_new_places(&old, 0, few, PageNo(9));
-    for (at, number) in [(5, 2), (6, 9), (7, 9), (8, 2)] {
-        assert_eq!(rt; page.entry(at), PageNo(number), "entry {at}");
-    }
-    assert_eq!(rt; page_with_new_places(&old, 1, few, PageNo(9)), old);
-    let whole = NewPlaces {
-        first: 256,
-        count: 512,
-    };
-    assert_eq!(rt; page_with_new_places(&old, 0, whole, PageNo(9)), old);
-    assert_eq!(rt;
-        page_with_new_places(&old, 2, whole, PageNo(9)),
-        DirPage::new(PageNo(9))
-    );
+fn a_page_is_about_a_kilobyte(rt: HostRuntime) -> Result<(), Fail> {
+    assert!(rt; size_of::<Page>() <= 1_040);
+    same(&size_of::<Slot>(), &32)
 }

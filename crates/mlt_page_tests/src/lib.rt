@@ -1,18 +1,12 @@
-//! Tests of pages, their store, locks and subtransactions, and of the form and the records of a hash file: what no
-//! contract says, or a reader wants to see. They stand apart, since a crate with tests is proved twice.
+//! Tests of pages, their store, locks and subtransactions, and of the form of a hash file: what no contract says, or a
+//! reader wants to see. They stand apart, since a crate with tests is proved twice.
 #![tactic(auto)]
 
-#[cfg(test)]
-mod buckets;
 #[cfg(test)]
 mod forms;
 #[cfg(test)]
 mod page_locks;
 #[cfg(test)]
-mod records;
-#[cfg(test)]
 mod scanned;
 #[cfg(test)]
 mod stores;
-#[cfg(test)]
-mod subtransactions;

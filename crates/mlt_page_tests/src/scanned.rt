@@ -1,11 +1,11 @@
 //! Page locks beside a plain list that is scanned: both answer alike.
 
-use crate::page_locks::new_desk;
-use mlt_page_locks::Grant;
-use mlt_types::{Mode, Refusal, TxId};
+use crate::page_locks::{Desk, new_desk};
+use mlt_test_tools::same_at;
+use mlt_types::Mode;
 use std::alloc::AllocFailed;
-use std::fmt::Debug;
 use std::process::Abort;
+use std::test::Fail;
 
 // A desk takes 64 requests, so the 2,000 calls go to 40 of them.
 const DESKS: u32 = 40;
@@ -28,7 +28,7 @@ impl ScanPages {
         tx: u64,
         page: u32,
         mode: Mode,
-    ) -> Result<Grant, AllocFailed<(u64, u32, Mode)>> {
+    ) -> Result<Option<u64>, AllocFailed<(u64, u32, Mode)>> {
         let mut lowest = None;
         for (holder, at, held) in &self.held {
             let shared = *held == Mode::Shared && mode == Mode::Shared;
@@ -36,11 +36,10 @@ impl ScanPages {
                 lowest = Some(lower(lowest, *holder));
             }
         }
-        if let Some(by) = lowest {
-            return Ok(Grant::Waiting(TxId(by)));
+        if lowest.is_none() {
+            self.held.push((tx, page, mode))?;
         }
-        self.held.push((tx, page, mode))?;
-        Ok(Grant::Held)
+        Ok(lowest)
     }
 
     fn mode_of(&self, tx: u64, page: u32) -> Option<Mode> {
@@ -72,37 +71,46 @@ fn next_number(state: u64) -> u64 {
         .wrapping_add(1_442_695_040_888_963_407)
 }
 
-fn same<T: PartialEq + Debug>(rt: &impl Abort, found: &T, wanted: &T) {
-    assert_eq!(rt; found, wanted);
+// Some calls of both, which answer alike: one call in four releases. Each page and its fellow 4,096 above it have one
+// remainder. The numbers go on from `state`.
+fn are_alike(
+    rt: &impl Abort,
+    desk: &mut Desk,
+    scanned: &mut ScanPages,
+    mut state: u64,
+) -> Result<u64, Fail> {
+    for _ in 0..CALLS {
+        state = next_number(state);
+        let tx = 1 + (state >> 40) % TRANSACTIONS;
+        let page = ((state >> 20) % PAGES + (state >> 50) % 2 * 4_096) as u32;
+        let mode = if (state >> 30) % 3 == 0 {
+            Mode::Exclusive
+        } else {
+            Mode::Shared
+        };
+        let mut answers = (None, None);
+        if (state >> 56) % 4 == 0 {
+            desk.release_all(tx);
+            scanned.release_all(tx);
+        } else {
+            answers = (desk.ask(rt, tx, page, mode), scanned.ask(tx, page, mode)?);
+        }
+        let found = (answers.0, desk.mode_of(tx, page));
+        let wanted = (answers.1, scanned.mode_of(tx, page));
+        same_at(&(tx, page, mode), &found, &wanted)?;
+    }
+    Ok(state)
 }
 
-// One call in four releases. Each page and its fellow 4,096 above it have one remainder.
 #[test]
-fn scanned_list_answers_alike(rt: HostRuntime) -> Result<(), Refusal> {
+fn scanned_list_answers_alike(rt: HostRuntime) -> Result<(), Fail> {
     let mut state = 1;
     for _ in 0..DESKS {
-        let mut desk = new_desk(&rt)?;
+        let mut desk = new_desk(rt.alloc())?;
         let mut scanned = ScanPages {
             held: Vec::new(rt.alloc()),
         };
-        for _ in 0..CALLS {
-            state = next_number(state);
-            let tx = 1 + (state >> 40) % TRANSACTIONS;
-            let page = ((state >> 20) % PAGES + (state >> 50) % 2 * 4_096) as u32;
-            let mode = if (state >> 30) % 3 == 0 {
-                Mode::Exclusive
-            } else {
-                Mode::Shared
-            };
-            if (state >> 56) % 4 == 0 {
-                desk.release_all(tx);
-                scanned.release_all(tx);
-            } else {
-                let grant = desk.ask(&rt, tx, page, mode);
-                same(&rt, &grant, &scanned.ask(tx, page, mode)?);
-            }
-            same(&rt, &desk.mode_of(tx, page), &scanned.mode_of(tx, page));
-        }
+        state = are_alike(&rt, &mut desk, &mut scanned, state)?;
     }
     Ok(())
 }

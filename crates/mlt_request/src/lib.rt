@@ -3,8 +3,6 @@
 
 mod line;
 mod request;
-#[cfg(test)]
-mod tests;
 
 pub use line::{Line, next_line};
 pub use request::Request;

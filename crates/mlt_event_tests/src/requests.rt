@@ -1,9 +1,9 @@
 //! Lines of sessions, and what they ask.
 
-use crate::{Line, Request, next_line};
 use mlt_kinds::{AccountOp, CounterOp, ElementOp, ObjOp};
-use std::alloc::{AllocError, Global};
-use std::process::Abort;
+use mlt_request::{Line, Request, next_line};
+use mlt_test_tools::{same_at, with_spaces};
+use std::test::Fail;
 
 // Lines that end in LF, with what each asks.
 const REQUESTS: &[(&[u8], Request)] = &[
@@ -65,9 +65,6 @@ const OTHERS: &[&[u8]] = &[
     b"open x\n",
     b"open 1 2\n",
     b"open 1 # new\n",
-];
-
-const OTHER_OPERATIONS: &[&[u8]] = &[
     b"deposit 1\n",
     b"deposit 1 v\n",
     b"withdraw 1 v\n",
@@ -108,68 +105,54 @@ const LONG_LINES: &[(&[u8], usize, &[u8], Option<Line>)] = &[
     (b"", 0, b"", None),
 ];
 
-fn same_line(rt: &impl Abort, text: &[u8], wanted: Option<(Line, usize)>) {
-    assert_eq!(rt; next_line(text), wanted, "{text:?}");
-}
+// A line goes up to its first LF, whatever stands behind it.
+const SEVERAL: &[(&[u8], Option<(Line, usize)>)] = &[
+    (b"begin\nquit\n", Some((Line::Says(Request::Begin), 6))),
+    (b"begin\r\nqu", Some((Line::Says(Request::Begin), 7))),
+    (b"\n\n", Some((Line::Says(Request::Blank), 1))),
+    (b"begin\r", None),
+];
 
-fn same_request(rt: &impl Abort, text: &[u8], wanted: Request) {
-    same_line(rt, text, Some((Line::Says(wanted), text.len())));
-}
-
-fn with_spaces(
-    alloc: Global,
-    start: &[u8],
-    spaces: usize,
-    end: &[u8],
-) -> Result<Vec<u8>, AllocError> {
-    let mut text = Vec::new(alloc);
-    text.extend_from_slice(start)?;
-    for _ in 0..spaces {
-        text.push(b' ')?;
-    }
-    text.extend_from_slice(end)?;
-    Ok(text)
+// The whole text is one line, and asks this.
+fn asks(text: &[u8], request: Request) -> Result<(), Fail> {
+    same_at(
+        &text,
+        &next_line(text),
+        &Some((Line::Says(request), text.len())),
+    )
 }
 
 #[test]
-fn requests(rt: HostRuntime) {
-    for (text, wanted) in REQUESTS {
-        same_request(&rt, text, *wanted);
+fn requests() -> Result<(), Fail> {
+    for (text, request) in REQUESTS {
+        asks(text, *request)?;
     }
-}
-
-#[test]
-fn operations(rt: HostRuntime) {
-    for (text, wanted) in OPERATIONS {
-        same_request(&rt, text, Request::Op(*wanted));
+    for (text, op) in OPERATIONS {
+        asks(text, Request::Op(*op))?;
     }
-}
-
-#[test]
-fn other_lines(rt: HostRuntime) {
     for text in OTHERS {
-        same_request(&rt, text, Request::Other);
-    }
-    for text in OTHER_OPERATIONS {
-        same_request(&rt, text, Request::Other);
-    }
-}
-
-#[test]
-fn long_lines(rt: HostRuntime) -> Result<(), AllocError> {
-    for (start, spaces, end, wanted) in LONG_LINES {
-        let text = with_spaces(rt.alloc(), start, *spaces, end)?;
-        let found = next_line(text.as_slice()).map(|(line, _)| line);
-        assert_eq!(rt; found, *wanted, "{spaces}");
+        asks(text, Request::Other)?;
     }
     Ok(())
 }
 
-// A line goes up to its first LF, whatever stands behind it.
 #[test]
-fn several_lines(rt: HostRuntime) {
-    same_line(&rt, b"begin\nquit\n", Some((Line::Says(Request::Begin), 6)));
-    same_line(&rt, b"begin\r\nqu", Some((Line::Says(Request::Begin), 7)));
-    same_line(&rt, b"\n\n", Some((Line::Says(Request::Blank), 1)));
-    same_line(&rt, b"begin\r", None);
+fn lines_of_several() -> Result<(), Fail> {
+    for (text, wanted) in SEVERAL {
+        same_at(text, &next_line(text), wanted)?;
+    }
+    Ok(())
+}
+
+#[test]
+fn long_session_lines(rt: HostRuntime) -> Result<(), Fail> {
+    for (start, spaces, end, wanted) in LONG_LINES {
+        let text = with_spaces(rt.alloc(), start, *spaces, end)?;
+        let found = match next_line(text.as_slice()) {
+            Some((line, _)) => Some(line),
+            None => None,
+        };
+        same_at(spaces, &found, wanted)?;
+    }
+    Ok(())
 }
