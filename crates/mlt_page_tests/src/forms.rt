@@ -94,6 +94,7 @@ fn depths_with_room(rt: HostRuntime) -> Result<(), Fail> {
 #[test]
 fn halves_of_a_split(rt: HostRuntime) -> Result<(), Fail> {
     let mut opens = OpenSet::new();
+    assert!(rt; !opens.is_full());
     opens.insert(TxId(5));
     let mut bucket = Bucket::empty(0);
     bucket.slots[0] = Slot::Live(account(0), 10);
