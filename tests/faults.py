@@ -53,6 +53,8 @@ SCRIPT = {
     "need-of-no-reply": ("begin|need open 1 is open|commit", 2, "Words"),
     "need-of-a-value-out-of-range": ("begin|need read 7 is 18446744073709551616|commit", 2, "Words"),
     "need-alone": ("begin|need|commit", 2, "Words"),
+    "need-without-is": ("begin|need open 1 opened|commit", 2, "Words"),
+    "need-of-a-need": ("begin|need need open 1 is done|commit", 2, "Words"),
     "let-of-a-capital": ("begin|let V = read 7|commit", 2, "Words"),
     "let-of-two-letters": ("begin|let vv = read 7|commit", 2, "Words"),
     "let-of-an-operation-without-a-value": ("begin|let v = open 1|commit", 2, "Words"),
@@ -60,6 +62,8 @@ SCRIPT = {
     "let-of-a-number": ("begin|let v = 7|commit", 2, "Words"),
     "let-with-a-word-more": ("begin|let v = read 7 1|commit", 2, "Words"),
     "let-without-spaces": ("begin|let v=read 7|commit", 2, "Words"),
+    "let-with-one-space": ("begin|let v= read 7|commit", 2, "Words"),
+    "let-of-a-digit": ("begin|let 1 = read 7|commit", 2, "Words"),
     "variable-as-an-account": ("begin|let v = read 7|balance v|commit", 3, "Words"),
     "variable-in-capitals": ("begin|deposit 1 V|commit", 2, "Words"),
     "variable-of-two-letters": ("begin|deposit 1 ab|commit", 2, "Words"),
@@ -101,6 +105,7 @@ SCRIPT = {
     "words-before-place": ("opn 1", 1, "Words"),
     "number-out-of-range-before-place": ("begin|commit|open 4294967296", 3, "Words"),
     "ending-with-a-word-before-place": ("commit 1", 1, "Words"),
+    "client-1000-before-place": ("begin|begin 1000|commit", 2, "Words"),
     "words-before-unfinished": ("begin|opn 1", 2, "Words"),
     "place-before-unfinished": ("begin|begin", 2, "Place"),
     "first-line-before-a-worse-one": ("begin|commit|commit|opn 1", 3, "Place"),
@@ -132,7 +137,10 @@ DEEP_AND_LONG = {
     "257th-inside-a-second-part": (
         "begin" + "|up 7 1" * 254 + "|if has 4 9 is yes|up 7 1|else|up 7 1|up 7 1|end|commit", 260, "Long",
     ),
+    "257th-in-a-chain-of-ifs": ("begin" + "|if has 4 9 is yes|end" * 257 + "|commit", 514, "Long"),
+    "257th-inside-a-first-part": ("begin|if has 4 9 is yes" + "|up 7 1" * 256 + "|end|commit", 258, "Long"),
     "words-before-long": (f"{MOST_OPERATIONS}|up 7", 258, "Words"),
+    "begin-after-256-operations": (f"{MOST_OPERATIONS}|begin", 258, "Place"),
     "long-before-unfinished": (f"{MOST_OPERATIONS}|up 7 1", 258, "Long"),
     "deep-before-long": (
         "begin|" + "up 7 1|" * 240 + "if has 4 9 is yes|" * 17 + "end|" * 17 + "commit", 258, "Deep",
@@ -201,7 +209,24 @@ def bad_line(mltx, bad):
             refused(mltx, subcommands, begin + bad + end, 2, "Line")
 
 
+@each({f"each-byte-of-a-line-of-{name}": name for name in ("solo", "run", "steps", "check")}, seconds=1)
+def each_byte(mltx, subcommand):
+    """A byte before an `x`: one that is not allowed is a fault of the line, and any other but a comment's of the words."""
+    begin = b"begin 1\n" if subcommand == "check" else b"begin\n"
+    for byte in range(256):
+        if byte == ord("\n") or (byte == ord("#") and subcommand != "check"):
+            continue
+        cause = "Words" if byte == ord("\t") or 0x20 <= byte <= 0x7E else "Line"
+        refused(mltx, (subcommand,), begin + bytes([byte]) + b"x\n", 2, cause)
+
+
 EVENTS = {
+    "begin-in-capitals": ("BEGIN", 1, "Words"),
+    "begin-with-a-letter-more": ("begins", 1, "Words"),
+    "number-alone": ("1", 1, "Words"),
+    "step-of-66537": ("begin|step 1 66537", 2, "Words"),
+    "undo-with-an-operation": ("begin|undo 1 open 1", 2, "Words"),
+    "whole-with-a-comment": ("begin|whole 1 open 1 # made", 2, "Words"),
     "begin-of-a-number": ("begin 1", 1, "Words"),
     "step-of-0": ("begin|step 1 0", 2, "Words"),
     "step-of-1001": ("begin|step 1 1001", 2, "Words"),
@@ -264,7 +289,15 @@ TRACES = {
     "begin-of-two": ("begin 1 2", 1, "Words"),
     "begin-past-64-bits": ("begin 18446744073709551616", 1, "Words"),
     "begin-of-21-digits": ("begin 000000000000000000001", 1, "Words"),
+    "begin-in-capitals": ("Begin 1", 1, "Words"),
+    "begin-without-a-space": ("begin1", 1, "Words"),
+    "begin-with-a-comment": ("begin 1 # one", 1, "Words"),
     "op-of-0": ("begin 1|op 0 open 1 opened", 2, "Words"),
+    "op-without-a-number": ("begin 1|op open 1 opened", 2, "Words"),
+    "op-without-an-operation": ("begin 1|op 1", 2, "Words"),
+    "op-of-an-operation-without-its-cell": ("begin 1|op 1 open opened", 2, "Words"),
+    "op-of-a-reply-in-capitals": ("begin 1|op 1 open 1 Opened", 2, "Words"),
+    "op-of-two-values": ("begin 1|op 1 read 1 is 0 0", 2, "Words"),
     "op-without-a-reply": ("begin 1|op 1 open 1", 2, "Words"),
     "op-with-two-replies": ("begin 1|op 1 open 1 opened opened", 2, "Words"),
     "op-of-no-reply": ("begin 1|op 1 open 1 open", 2, "Words"),
@@ -290,7 +323,9 @@ TRACES = {
     "begin-again-after-a-commit": ("begin 1|commit 1 1|begin 1", 3, "Place"),
     "begin-below-another": ("begin 5|begin 4", 2, "Place"),
     "begin-below-one-that-is-closed": ("begin 5|abort 5|begin 4", 3, "Place"),
+    "begin-below-the-greatest": ("begin 5|begin 18446744073709551615|begin 6", 3, "Place"),
     "op-before-its-begin": ("begin 1|op 2 open 1 opened", 2, "Place"),
+    "op-of-a-number-that-was-passed-over": ("begin 2|op 1 open 1 opened", 2, "Place"),
     "op-after-a-commit": ("begin 1|commit 1 1|op 1 open 1 opened", 3, "Place"),
     "op-after-an-abort": ("begin 1|abort 1|op 1 open 1 opened", 3, "Place"),
     "op-after-a-back": (f"{TAKEN_BACK}|op 1 balance 1 is 0", 5, "Place"),
@@ -302,6 +337,8 @@ TRACES = {
     "commit-of-number-2-at-first": ("begin 1|commit 1 2", 2, "Place"),
     "commit-of-a-number-again": ("begin 1|begin 2|commit 2 1|commit 1 1", 4, "Place"),
     "commit-that-leaves-a-number-out": ("begin 1|begin 2|commit 2 1|commit 1 3", 4, "Place"),
+    "commit-that-counts-an-abort": ("begin 1|abort 1|begin 2|commit 2 2", 4, "Place"),
+    "commit-after-one-of-two-was-taken-back": (f"{OPENED}|op 1 open 2 opened|back 1|commit 1 1", 5, "Place"),
     "back-before-its-begin": ("begin 1|back 2", 2, "Place"),
     "back-of-nothing": ("begin 1|back 1", 2, "Place"),
     "back-once-more-than-there-were": (f"{OPENED}|back 1|back 1", 4, "Place"),
@@ -329,6 +366,12 @@ TRACES = {
         f"{OPENED}|op 1 deposit 1 1000000000000000000 done|op 1 deposit 1 1 done|commit 1 1", 4, "Reply",
     ),
     "reply-of-another-value": (f"{OPENED}|op 1 deposit 1 5 done|op 1 balance 1 is 6|commit 1 1", 4, "Reply"),
+    "reply-that-another-commit-made-false": (
+        "begin 1|begin 2|op 2 read 7 is 0|op 1 up 7 1 done|commit 1 1|commit 2 2", 3, "Reply",
+    ),
+    "reply-behind-lines-of-another": (
+        "begin 1|begin 2|op 1 up 1 1 done|op 2 up 2 1 done|op 1 read 1 is 0|commit 2 1|commit 1 2", 5, "Reply",
+    ),
     "reply-from-what-did-not-commit": (f"{OPENED}|begin 2|op 2 balance 1 is 0|commit 2 1", 4, "Reply"),
     "reply-from-what-was-taken-back": (
         f"{TAKEN_BACK}|back 1|abort 1|begin 2|op 2 deposit 1 5 done|commit 2 1", 8, "Reply",
@@ -348,6 +391,11 @@ RAW_TRACES = {
     "cut-in-spaces": ("begin 1\n ", 2, "Cut"),
     "cut-before-words": ("begin 1\nno trace at all", 2, "Cut"),
     "cut-before-place": ("back 1", 1, "Cut"),
+    "cut-before-reply": ("begin 1\nop 1 read 1 is 5\ncommit 1 1", 3, "Cut"),
+    "cut-after-200-bytes": ("begin 1" + " " * 193, 1, "Cut"),
+    "200-spaces": (" " * 200 + "\n", 1, "Words"),
+    "201-bytes": ("begin 1" + " " * 194 + "\n", 1, "Line"),
+    "200-bytes-and-a-cr": ("begin 1" + " " * 193 + "\r\n", 1, "Line"),
     "line-before-cut": ("begin 1\nabort 1\x7f", 2, "Line"),
     "cr-at-the-end-before-cut": ("begin 1\nabort 1\r", 2, "Line"),
     "line-before-words": ("begin 1\nback\x01\n", 2, "Line"),
@@ -388,6 +436,24 @@ LAWFUL = {
     "a-line-of-199-bytes-and-a-cr": ("solo", "begin" + " " * 194 + "\r|commit" + " " * 193 + "\r", "committed 1"),
     "else-without-statements": (
         "solo", "begin|if has 4 9 is yes|else|end|if read 7 is 0|end|commit", "no|is 0|committed 1",
+    ),
+    "ifs-in-ifs-with-both-parts": (
+        "solo", f"{SIXTEEN}up 7 1|" + "else|read 7|end|" * 16 + "commit", "no|is 0|committed 1",
+    ),
+    "256-ifs-one-after-another": (
+        "solo", "begin" + "|if has 4 9 is yes|else|end" * 256 + "|commit", "no|" * 256 + "committed 1",
+    ),
+    "if-whose-parts-have-an-else-each": (
+        "solo",
+        "begin|if read 1 is 0|if read 2 is 1|up 7 1|else|up 7 2|end|else|up 7 4|end|read 7|commit",
+        "is 0|is 0|done|is 2|committed 1",
+    ),
+    "a-line-of-a-trace-of-200-bytes": ("check", "begin 1" + " " * 193 + "|begin 2" + " " * 192 + "\r", ""),
+    "events-of-blank-lines-and-comments": ("steps", "| \t|\r||# begin| \t#\u00b5\r\0|#", "depth 0"),
+    "events-of-several-lines": (
+        "steps",
+        "begin\r|\r|# note\r|step 1 2|  # two||begin|commit 2|undo 1",
+        "begun 1|refused 6 NotRunning|refused 6 NotRunning|begun 2|committed 1|refused 6 NotRunning|depth 0",
     ),
     "step-of-1000": ("steps", "begin|step 1 1000", "begun 1" + "|refused 6 NotRunning" * 1000 + "|depth 0"),
     "step-of-1-with-leading-zeros": ("steps", "begin|step 01 0001", "begun 1|refused 6 NotRunning|depth 0"),

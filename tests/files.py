@@ -2,6 +2,7 @@
 import os
 import socket
 import subprocess
+import threading
 from contextlib import contextmanager
 
 from harness import PATIENCE, each, expect, holds, lines, same, test
@@ -43,6 +44,17 @@ def closed_pipe():
         yield writer
     finally:
         os.close(writer)
+
+
+@contextmanager
+def ends_in_time(process):
+    """Kills the process where the block takes too long."""
+    timer = threading.Timer(PATIENCE, process.kill)
+    timer.start()
+    try:
+        yield
+    finally:
+        timer.cancel()
 
 
 def bad_traces(mltx):
@@ -119,14 +131,13 @@ def output_that_breaks_off(mltx):
     """A reader that stops in the middle has got the first bytes of the text."""
     scripts = lines("begin 1|up 7 1|read 7|commit") * 20_000
     told = "".join(f"done\nis {number}\ncommitted {number}\n" for number in range(1, 20_001))
-    file = mltx.file("scripts.txt", scripts)
-    words = [mltx.path, "solo", file]
-    with subprocess.Popen(words, stdout=subprocess.PIPE, stderr=subprocess.PIPE) as process:
-        heard = process.stdout.read(10_000)
-        process.stdout.close()
-        error = process.stderr.read()
-        status = process.wait(PATIENCE)
-    same((status, error), (1, IO.encode()), "solo into a pipe that is closed after 10,000 bytes")
+    words, errors = [mltx.path, "solo", mltx.file("scripts.txt", scripts)], mltx.folder / "errors"
+    with open(errors, "wb") as error, subprocess.Popen(words, stdout=subprocess.PIPE, stderr=error) as process:
+        with ends_in_time(process):
+            heard = process.stdout.read(10_000)
+            process.stdout.close()
+            status = process.wait()
+    same((status, errors.read_bytes()), (1, IO.encode()), "solo into a pipe that is closed after 10,000 bytes")
     same(heard, told.encode()[:10_000], "what was read before")
 
 

@@ -147,6 +147,34 @@ SOLO = {
         ),
         lines("serial 1|counter 4 1"),
     ),
+    "if-takes-the-second-part": Solo(
+        lines("begin|let v = balance 1|if withdraw 1 v is done|close 1|else|balance 1|end|need up 7 v is done|abort"),
+        lines("missing|missing|missing|done|aborted"),
+        lines(
+            "begin 1|op 1 balance 1 missing|op 1 withdraw 1 0 missing|op 1 balance 1 missing|op 1 up 7 0 done"
+            "|back 1|back 1|back 1|back 1|abort 1"
+        ),
+    ),
+    "scripts-run-in-order": Solo(
+        lines(
+            "begin|open 1|need deposit 1 5 is done|commit|begin|need withdraw 1 9 is done|close 1|commit"
+            "|begin|balance 1|abort"
+        ),
+        lines("opened|done|committed 1|short|aborted|is 5|aborted"),
+        lines(
+            "begin 1|op 1 open 1 opened|op 1 deposit 1 5 done|commit 1 1|begin 2|op 2 withdraw 1 9 short|back 2|abort 2"
+            "|begin 3|op 3 balance 1 is 5|back 3|abort 3"
+        ),
+        lines("serial 1|account 1 5"),
+    ),
+    "aborted-script-leaves-nothing": Solo(
+        lines("begin|open 1|open 2|abort|begin|open 2|commit"),
+        lines("opened|opened|aborted|opened|committed 1"),
+        lines(
+            "begin 1|op 1 open 1 opened|op 1 open 2 opened|back 1|back 1|abort 1|begin 2|op 2 open 2 opened|commit 2 1"
+        ),
+        lines("serial 2|account 2 0"),
+    ),
     # A reply that the operation can't give is never met.
     "reply-that-never-comes": Solo(
         lines("begin|if open 1 is yes|up 7 1|else|up 7 2|end|commit|begin|need read 7 is absent|commit"),
@@ -282,6 +310,13 @@ CHECK = {
     "check-of-an-odd-reply-that-is-taken-back": (
         "begin 1|op 1 open 1 yes|op 1 read 7 closed|back 1|back 1|abort 1|begin 2|op 2 up 7 1 short",
         "",
+    ),
+    "check-of-a-reply-that-is-true-at-the-commit": (
+        "begin 1|begin 2|op 1 read 1 is 1|op 2 up 1 1 done|commit 2 1|commit 1 2", "serial 2|serial 1|counter 1 1",
+    ),
+    "check-of-each-kind": (
+        "begin 4|op 4 up 9 2 done|op 4 add 3 8 added|op 4 open 5 opened|commit 4 1|begin 6|op 6 up 9 1 done",
+        "serial 4|account 5 0|element 3 8|counter 9 2",
     ),
     # What was told side by side is judged in the order of the commits.
     "check-goes-by-the-order-of-commits": (
