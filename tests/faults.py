@@ -2,7 +2,7 @@
 
 A case is a text between bars, as the worked rows have it, with its faulty line and cause. In the tables `RAW_..` it is
 a text as it stands."""
-from harness import as_bytes, each, expect, lines, test
+from harness import each, expect, lines
 
 # Lines that are faulty wherever they stand, in each of the three forms: too long, or with a byte that is not allowed.
 BAD_LINES = {
@@ -164,15 +164,24 @@ RAW_SCRIPTS = {
 }
 
 
+def fault(subcommand, line, cause):
+    name = "11 TraceFault" if subcommand == "check" else "10 ScriptFault"
+    return f"mltx: {name} line {line} {cause}\n"
+
+
+def refused_input(mltx, subcommand, text, line, cause):
+    """From standard input: the fault's line is written and nothing else."""
+    ran = mltx.run(subcommand, "-", given=text)
+    expect(ran, status=1, err=fault(subcommand, line, cause), what=f"{subcommand} - of {text[-300:]!r}")
+
+
 def refused(mltx, subcommands, text, line, cause):
-    """Each subcommand writes the fault's line and nothing else, from a file and from standard input."""
-    file, text = mltx.file("faulty", text), as_bytes(text)
+    """The same from a file and from standard input, by each subcommand."""
+    file = mltx.file("faulty", text)
     for subcommand in subcommands:
-        name = "11 TraceFault" if subcommand == "check" else "10 ScriptFault"
-        wanted = f"mltx: {name} line {line} {cause}\n"
-        for words, given in (((subcommand, file), b""), ((subcommand, "-"), text)):
-            ran = mltx.run(*words, given=given)
-            expect(ran, status=1, err=wanted, what=f"{' '.join(words)} of {text[-300:]!r}")
+        refused_input(mltx, subcommand, text, line, cause)
+        ran = mltx.run(subcommand, file)
+        expect(ran, status=1, err=fault(subcommand, line, cause), what=f"{subcommand} FILE of {text[-300:]!r}")
 
 
 def cases(prefix, table):
@@ -190,15 +199,21 @@ def raw_script(mltx, case):
     refused(mltx, ("solo", "run"), *case)
 
 
-@test(seconds=2)
-def words_that_are_no_operation(mltx):
-    """They are refused as statements, after `need`, `if` and `let`, as events and as items of a trace."""
+# Texts in whose second line an operation is to stand.
+OPERATIONS_STAND_IN = {
+    "statements": ("solo", "begin|{}|commit", "begin|need {} is done|commit", "begin|if {} is 7|end|commit"),
+    "variables": ("run", "begin|let v = {}|commit"),
+    "events": ("steps", "begin|call 1 {}", "begin|whole 1 {}"),
+    "traces": ("check", "begin 1|op 1 {} done"),
+}
+
+
+@each({f"words-of-no-operation-in-{name}": case for name, case in OPERATIONS_STAND_IN.items()}, seconds=1)
+def words_of_no_operation(mltx, case):
+    subcommand, *texts = case
     for words in NO_OPERATIONS:
-        for statement in (words, f"need {words} is done", f"if {words} is 7", f"let v = {words}"):
-            refused(mltx, ("solo",), lines(f"begin|{statement}|commit"), 2, "Words")
-        for event in (f"call 1 {words}", f"whole 1 {words}"):
-            refused(mltx, ("steps",), lines(f"begin|{event}"), 2, "Words")
-        refused(mltx, ("check",), lines(f"begin 1|op 1 {words} done"), 2, "Words")
+        for text in texts:
+            refused_input(mltx, subcommand, lines(text.format(words)), 2, "Words")
 
 
 @each(cases("line", BAD_LINES))
@@ -211,13 +226,14 @@ def bad_line(mltx, bad):
 
 @each({f"each-byte-of-a-line-of-{name}": name for name in ("solo", "run", "steps", "check")}, seconds=1)
 def each_byte(mltx, subcommand):
-    """A byte before an `x`: one that is not allowed is a fault of the line, and any other but a comment's of the words."""
+    """A byte before an `x`: one that is not allowed is a fault of the line, and else of the words, but in
+    a comment."""
     begin = b"begin 1\n" if subcommand == "check" else b"begin\n"
     for byte in range(256):
         if byte == ord("\n") or (byte == ord("#") and subcommand != "check"):
             continue
         cause = "Words" if byte == ord("\t") or 0x20 <= byte <= 0x7E else "Line"
-        refused(mltx, (subcommand,), begin + bytes([byte]) + b"x\n", 2, cause)
+        refused_input(mltx, subcommand, begin + bytes([byte]) + b"x\n", 2, cause)
 
 
 EVENTS = {
