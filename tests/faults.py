@@ -459,6 +459,11 @@ LAWFUL = {
     "256-ifs-one-after-another": (
         "solo", "begin" + "|if has 4 9 is yes|else|end" * 256 + "|commit", "no|" * 256 + "committed 1",
     ),
+    "greatest-numbers-of-statements": (
+        "solo",
+        "begin|let z = read 4294967295|need read 7 is z|need balance 4294967295 is 18446744073709551615|commit",
+        "is 0|is 0|missing|aborted",
+    ),
     "if-whose-parts-have-an-else-each": (
         "solo",
         "begin|if read 1 is 0|if read 2 is 1|up 7 1|else|up 7 2|end|else|up 7 4|end|read 7|commit",

@@ -117,15 +117,15 @@ SOLO = {
     "variables-of-a-script": Solo(
         lines(
             "begin|open 1|deposit 1 v|let v = balance 2|need balance 1 is v|deposit 1 7|let v = balance 1|up 3 v"
-            "|let z = read 3|need balance 1 is z|commit|begin|withdraw 1 v|need balance 1 is 7|abort"
+            "|let z = read 3|down 3 z|need balance 1 is z|commit|begin|withdraw 1 v|need balance 1 is 7|abort"
         ),
-        lines("opened|done|missing|is 0|done|is 7|done|is 7|is 7|committed 1|done|is 7|aborted"),
+        lines("opened|done|missing|is 0|done|is 7|done|is 7|done|is 7|committed 1|done|is 7|aborted"),
         lines(
             "begin 1|op 1 open 1 opened|op 1 deposit 1 0 done|op 1 balance 2 missing|op 1 balance 1 is 0"
-            "|op 1 deposit 1 7 done|op 1 balance 1 is 7|op 1 up 3 7 done|op 1 read 3 is 7|op 1 balance 1 is 7"
-            "|commit 1 1|begin 2|op 2 withdraw 1 0 done|op 2 balance 1 is 7|back 2|back 2|abort 2"
+            "|op 1 deposit 1 7 done|op 1 balance 1 is 7|op 1 up 3 7 done|op 1 read 3 is 7|op 1 down 3 7 done"
+            "|op 1 balance 1 is 7|commit 1 1|begin 2|op 2 withdraw 1 0 done|op 2 balance 1 is 7|back 2|back 2|abort 2"
         ),
-        lines("serial 1|account 1 7|counter 3 7"),
+        lines("serial 1|account 1 7"),
     ),
     # Each operation with each of its replies.
     "each-reply": Solo(
