@@ -13,12 +13,13 @@ import harness
 import model
 from harness import Failed, each, expect, holds, same
 
-# Cells: accounts, elements and counters. FEW are fought for. Of WIDE buckets split, now and then thirteen times, but no
+# Cells: accounts, elements and counters. ONE of each, and FEW, are fought for. Of WIDE buckets split, now and then thirteen times, but no
 # pseudokey of `low` has nine. CROWD are eleven accounts of one pseudokey, for which a bucket has eight slots.
+ONE = ((1,), ((4, 9),), (7,))
 FEW = ((1, 2, 3), ((4, 9), (4, 10)), (7, 8))
 WIDE = ((*range(0, 65_536, 4_096), *range(9), 65_536), ((1, 0), (2, 0), (2, 20_000)), (0, 1, 50_000))
 CROWD = (tuple(65_536 * place for place in range(11)), ((4, 1),), (2,))
-AMOUNTS = (0, 1, 1, 2, 3, 5, 9, 10**18 - 3, 10**18, 2**64 - 1)
+AMOUNTS = (0, 0, 1, 1, 2, 3, 5, 10**18 - 3, 10**18, 2**64 - 1)
 
 
 def dice_of(name, case):
@@ -41,7 +42,7 @@ def random_op(dice, cells, amount=None):
     accounts, elements, counters = cells
     kind = dice.choice(("account", "account", "account", "element", "counter"))
     if kind == "account":
-        name = dice.choice("open open close deposit deposit deposit withdraw withdraw balance balance".split())
+        name = dice.choice("open open close close close deposit deposit deposit withdraw withdraw withdraw balance".split())
         op = (name, dice.choice(accounts))
     elif kind == "element":
         op = (dice.choice(("add", "remove", "has")), *dice.choice(elements))
@@ -339,13 +340,14 @@ def show(event):
     return " ".join([name, *words]) if name != "step" or rest[1] > 1 else f"step {rest[0]}"
 
 
-def random_schedule(dice, cells, length):
-    """Events over up to six open transactions. It goes by guesses of how far each is, so that some events are wrong. The
-    first transaction makes some accounts. At the end all are closed: what is pending is cancelled, and who is open is
-    taken back."""
+def random_schedule(dice, cells, calls, length):
+    """Events over up to six open transactions; `calls` of 75 operations are by single steps. It goes by guesses of how far
+    each transaction is, so that some events are wrong. The first one makes some accounts. At the end all are closed: what
+    is pending is cancelled, and who is open is taken back."""
     accounts = dice.sample(cells[0], dice.randint(0, min(len(cells[0]), 12)))
     events = [("begin",), *(("whole", 1, ("open", a)) for a in accounts)]
-    events += [*(("whole", 1, ("deposit", a, dice.choice(AMOUNTS))) for a in accounts), ("commit", 1)]
+    rich = [account for account in accounts if dice.random() < 0.5]
+    events += [*(("whole", 1, ("deposit", a, dice.choice(AMOUNTS))) for a in rich), ("commit", 1)]
     guesses, begun = {}, 1
     for _ in range(length):
         if not guesses or len(guesses) < 6 and dice.random() < 0.15:
@@ -356,7 +358,7 @@ def random_schedule(dice, cells, length):
             events.append(random_event(dice, cells, dice.randint(0, begun + 1)))
         else:
             t = dice.choice(list(guesses))
-            more, guesses[t] = next_events(dice, cells, t, guesses[t])
+            more, guesses[t] = next_events(dice, cells, calls, t, guesses[t])
             events += more
             if guesses[t] == "closed":
                 del guesses[t]
@@ -371,7 +373,7 @@ def random_event(dice, cells, t):
     return (name, t, dice.randint(1, 4)) if name == "step" else (name, t)
 
 
-def next_events(dice, cells, t, guess):
+def next_events(dice, cells, calls, t, guess):
     """What a transaction does next, and how far it is then, as far as can be guessed."""
     times = dice.choice((1, 1, 2, 2, 3, 4, 4, 9))
     if guess == "pending":
@@ -384,7 +386,7 @@ def next_events(dice, cells, t, guess):
         return [("step", t, times)], "ended" if dice.random() < 0.15 else "undoing"
     if guess == "ended":
         return [("cancel", t), ("abort", t), ("step", t, 4)], "closed"
-    what = dice.choices(("call", "whole", "abort", "commit"), (40, 35, 8, 17))[0]
+    what = dice.choices(("call", "whole", "abort", "commit"), (calls, 75 - calls, 8, 17))[0]
     if what in ("call", "whole"):
         return [(what, t, random_op(dice, cells))], "pending" if what == "call" else "idle"
     if what == "abort":
@@ -393,19 +395,20 @@ def next_events(dice, cells, t, guess):
 
 
 SCHEDULES = {
-    "random-schedules-over-few-cells": ("mult", FEW),
-    "random-schedules-that-split-buckets": ("low", WIDE),
-    "random-schedules-with-full-buckets": ("low", CROWD),
+    "random-schedules-of-whole-operations": ("mult", ONE, 2),
+    "random-schedules-over-few-cells": ("mult", FEW, 40),
+    "random-schedules-that-split-buckets": ("low", WIDE, 40),
+    "random-schedules-with-full-buckets": ("low", CROWD, 40),
 }
 
 
 @each(SCHEDULES, seconds=6)
 def random_schedules(mltx, case):
     """Each event is told what the tables and the locks allow, and what committed is serial in the order of its commits."""
-    hash_name, cells = case
+    hash_name, cells, calls = case
     for number in range(200 * harness.CASES):
         dice = dice_of(f"schedules {case}", number)
-        events = random_schedule(dice, cells, dice.randint(1, 120))
+        events = random_schedule(dice, cells, calls, dice.randint(1, 120))
         text = "".join(show(event) + "\n" for event in events)
         with told_in("schedules", number, text):
             ran = mltx.run("steps", "--hash", hash_name, "--trace", "trace", "-", given=text)
