@@ -1,7 +1,7 @@
 """Each limit, and one past it: what docs/FORMATS.md says comes on each side.
 
-Many of these refuse a program that gives up early for no good reason: it would be within its contracts, since no contract
-can say that memory really ran out, and only a test sees it."""
+Many of these refuse a program that gives up early for no good reason: it would be within its contracts, since no
+contract can say that memory really ran out, and only a test sees it."""
 import fcntl
 import os
 import random
@@ -9,14 +9,16 @@ import subprocess
 import termios
 import threading
 import time
+from contextlib import contextmanager, suppress
 
 import harness
 import model
-from harness import MOST_BYTES, Failed, Ran, each, expect, same, test
+from harness import MOST_BYTES, Ran, each, expect, holds, same, test
 from random_work import FEW, random_script
 
 PSEUDOKEYS = 2**16
-MOST_BALANCE = 10**18
+# The greatest balance, and the greatest amount.
+MOST, LAST = 10**18, 2**64 - 1
 
 
 def text(*parts):
@@ -36,9 +38,9 @@ def sixty_four_are_open_and_the_next_is_refused(mltx):
     given = text(["begin"] * 65, work, *ends)
     begun = [f"begun {t}" for t in numbers]
     full = "refused 7 TooManyOpen"
-    committed = [f"committed {n}" for n in range(2, 65)]
-    told = text(begun, full, ["done done"] * 64, "committed 1", "begun 65", full, "aborted", "begun 66", full, committed)
-    expect(mltx.run("steps", "-", given=given), out=told + text(f"counter 1 {sum(numbers)}", "depth 0"))
+    told = [begun, full, ["done done"] * 64, "committed 1", "begun 65", full, "aborted", "begun 66", full]
+    told += [[f"committed {n}" for n in range(2, 65)], f"counter 1 {sum(numbers)}", "depth 0"]
+    expect(mltx.run("steps", "-", given=given), out=text(told))
 
 
 @test(seconds=1)
@@ -78,12 +80,12 @@ def connections_that_wait_are_served_later(mltx):
 
 
 def every_bucket():
-    """Lists of 1,024 accounts each, all five accounts of each pseudokey of `low`. Account a has the pseudokey a mod 2^16.
+    """Lists of 1,024 accounts each, in all five of each pseudokey of `low`. Account a has the pseudokey a mod 2^16.
 
     With five of each all 65,536 buckets are made, and with four they need not be. A bucket has eight slots, so one of
-    depth 15 holds four of each of its two pseudokeys: 32,768 buckets are enough. Ten go into no bucket, so each of depth
-    15 is split, and each pseudokey has a bucket of its own. With 256 pages of directory and the header these are 65,793
-    pages, so a program whose page numbers have 16 bits is out of numbers before the last accounts."""
+    depth 15 holds four of each of its two pseudokeys: 32,768 buckets are enough. Ten go into no bucket, so each of
+    depth 15 is split, and each pseudokey has a bucket of its own. With 256 pages of directory and the header these are
+    65,793 pages, so a program whose page numbers have 16 bits is out of numbers before the last accounts."""
     return [range(first, first + 1_024) for first in range(0, 5 * PSEUDOKEYS, 1_024)]
 
 
@@ -107,8 +109,7 @@ def all_pages_that_can_be_made_are_made_by_steps(mltx):
 @test(seconds=3)
 def all_pages_that_can_be_made_are_made_by_scripts(mltx):
     """The same by `solo`: the script that opens the ninth account of a pseudokey is refused and aborted."""
-    scripts = [part for accounts in every_bucket() for part in (accounts[place : place + 256] for place in range(0, 1_024, 256))]
-    scripts.append(MORE)
+    scripts = [accounts[place : place + 256] for accounts in every_bucket() for place in range(0, 1_024, 256)] + [MORE]
     given = [line for part in scripts for line in ("begin", *(f"open {account}" for account in part), "commit")]
     told = [line for n, part in enumerate(scripts, 1) for line in (*["opened"] * len(part), f"committed {n}")]
     given += ["begin", "open 1", f"open {NINTH}", "commit", "begin", f"balance {NINTH}", f"open {MORE[2]}", "commit"]
@@ -119,10 +120,11 @@ def all_pages_that_can_be_made_are_made_by_scripts(mltx):
 # Operations of a transaction.
 
 MOST_OPERATIONS = 1_024
-CHANGES = "open 1|deposit 1 5|withdraw 1 3|add 4 9|balance 1|remove 4 9|up 7 11|down 2 1|withdraw 1 2|close 1|read 7|has 4 9|add 4 8"
+MIX = ["open 1", "deposit 1 5", "withdraw 1 3", "add 4 9", "balance 1", "remove 4 9", "up 7 11", "down 2 1"]
+MIX += ["withdraw 1 2", "close 1", "read 7", "has 4 9", "add 4 8"]
 OPERATIONS = {
     "a-transaction-has-1024-operations": ["up 2 3"] * MOST_OPERATIONS,
-    "a-transaction-has-1024-operations-of-all-kinds": (CHANGES.split("|") * 100)[:MOST_OPERATIONS],
+    "a-transaction-has-1024-operations-of-all-kinds": (MIX * 100)[:MOST_OPERATIONS],
 }
 
 
@@ -132,7 +134,8 @@ def operations_of_a_transaction(mltx, ops):
     base = model.Base()
     given = ["begin", "whole 1 up 2 40", "whole 1 add 4 9", "commit 1"]
     told = ["begun 1", *(f"done {base.ask(op)}" for op in (("up", 2, 40), ("add", 4, 9))), "committed 1"]
-    for t, ends, told_at_end in ((2, ["abort 2", "undo 2"], ["aborting", "aborted"]), (3, ["commit 3"], ["committed 2"])):
+    endings = {2: (["abort 2", "undo 2"], ["aborting", "aborted"]), 3: (["commit 3"], ["committed 2"])}
+    for t, (ends, told_at_end) in endings.items():
         base.keep()
         given += ["begin", *(f"whole {t} {op}" for op in ops), f"whole {t} up 2 1", f"call {t} read 2", *ends]
         told += [f"begun {t}", *(f"done {base.ask(model.read_op(op.split()))}" for op in ops)]
@@ -144,17 +147,18 @@ def operations_of_a_transaction(mltx, ops):
 
 @test
 def taking_back_1024_operations_takes_four_steps_each(mltx):
+    """A program that takes back other than all of them, one by one, or in other steps, fails."""
     ups = [f"whole 1 up 2 {n}" for n in range(1, 1_025)]
     given = text("begin", ups, "whole 1 up 2 1", "abort 1", ["step 1 1000"] * 4, "step 1 96", "step 1")
     going = ["going"] * 3
     backs = [line for _ in range(1_023) for line in (*going, "undone")]
-    told = text("begun 1", ["done done"] * 1_024, "refused 8 LogFull", "aborting", backs, going, "aborted", "refused 3 NoSuchTx")
-    expect(mltx.run("steps", "-", given=given), out=told + "depth 0\n")
+    told = ["begun 1", ["done done"] * 1_024, "refused 8 LogFull", "aborting", backs, going, "aborted"]
+    expect(mltx.run("steps", "-", given=given), out=text(told, "refused 3 NoSuchTx", "depth 0"))
 
 
 @test
 def a_session_has_1024_operations_in_a_transaction(mltx):
-    """The 1,025th is `error 8 LogFull`; the session goes on. What was committed stays, and what was aborted does not."""
+    """The 1,025th is `error 8 LogFull`, and the session goes on. What committed stays, and what was aborted doesn't."""
     ups = ["up 7 1"] * 1_024
     given = text("begin", ups, "up 7 1", "read 7", "commit", "begin", ups, "up 7 1", "abort", "begin", "read 7", "quit")
     full = "error 8 LogFull"
@@ -172,7 +176,7 @@ def script_of(*statements):
 
 
 def longest_path(else_part):
-    """A script whose longest path has 256 operations with an `else` of 253: one before it, the `if`, and one after it."""
+    """Statements whose longest path has 256 operations with an `else` of 253: one before, the `if`, and one after."""
     first_part = ["up 1 1"] * 20
     return ["up 1 1", "if up 1 1 is done", first_part, "else", ["up 1 1"] * else_part, "end", "up 1 1"]
 
@@ -182,6 +186,7 @@ def nested(depth):
 
 
 LETTERS = "abcdefghijklmnopqrstuvwxyz"
+LETS = [f"let {v} = read {n}" for n, v in enumerate(LETTERS)]
 UPS = ["up 1 1"] * 256
 LONG_ELSE = ["if up 1 1 is over", "else", ["up 1 1"] * 255, "end"]
 # By name a script, and what `solo` writes of it; or the line and the cause of its fault.
@@ -210,9 +215,9 @@ SCRIPTS = {
         text(["is 0"] * 17, "committed 1"),
     ),
     "twenty-six-variables": (
-        script_of([f"up {n} {n + 100}" for n in range(26)], [f"let {v} = read {n}" for n, v in enumerate(LETTERS)])
+        script_of([f"up {n} {n + 100}" for n in range(26)], LETS)
         + script_of("open 1", [f"deposit 1 {v}" for v in LETTERS], "balance 1")
-        + script_of(*([f"let {v} = read {n}" for n, v in enumerate(LETTERS)], [f"up 99 {v}" for v in LETTERS]), "read 99"),
+        + script_of(LETS, [f"up 99 {v}" for v in LETTERS], "read 99"),
         text(["done"] * 26, [f"is {n + 100}" for n in range(26)], "committed 1")
         + text("opened", ["done"] * 26, "is 0", "committed 2")
         + text([f"is {n + 100}" for n in range(26)], ["done"] * 26, f"is {sum(range(100, 126))}", "committed 3"),
@@ -220,16 +225,16 @@ SCRIPTS = {
     "client-999": ("begin 999\nup 1 1\ncommit\n", text("done", "committed 1")),
     "client-1000": ("begin 1000\nup 1 1\ncommit\n", (1, "Words")),
     "a-balance-of-10^18": (
-        script_of("open 1", f"deposit 1 {MOST_BALANCE}", "balance 1", "deposit 1 1", "deposit 1 0", f"withdraw 1 {MOST_BALANCE + 1}")
-        + script_of("withdraw 1 1", "deposit 1 2", "deposit 1 1", f"need balance 1 is {MOST_BALANCE}", f"withdraw 1 {MOST_BALANCE}")
-        + script_of("withdraw 1 1", f"deposit 1 {MOST_BALANCE + 1}", f"deposit 1 {2**64 - 1}", "close 1"),
-        text("opened", "done", f"is {MOST_BALANCE}", "over", "done", "short", "committed 1")
-        + text("done", "over", "done", f"is {MOST_BALANCE}", "done", "committed 2")
+        script_of("open 1", f"deposit 1 {MOST}", "balance 1", "deposit 1 1", "deposit 1 0", f"withdraw 1 {MOST + 1}")
+        + script_of("withdraw 1 1", "deposit 1 2", "deposit 1 1", f"need balance 1 is {MOST}", f"withdraw 1 {MOST}")
+        + script_of("withdraw 1 1", f"deposit 1 {MOST + 1}", f"deposit 1 {LAST}", "close 1"),
+        text("opened", "done", f"is {MOST}", "over", "done", "short", "committed 1")
+        + text("done", "over", "done", f"is {MOST}", "done", "committed 2")
         + text("short", "over", "over", "closed", "committed 3"),
     ),
     "a-counter-goes-round-at-2^64": (
-        script_of(f"up 1 {2**64 - 1}", "read 1", "up 1 1", "read 1", "down 1 1", "read 1", f"down 1 {2**64 - 1}", "read 1"),
-        text("done", f"is {2**64 - 1}", "done", "is 0", "done", f"is {2**64 - 1}", "done", "is 0", "committed 1"),
+        script_of(f"up 1 {LAST}", "read 1", "up 1 1", "read 1", "down 1 1", "read 1", f"down 1 {LAST}", "read 1"),
+        text("done", f"is {LAST}", "done", "is 0", "done", f"is {LAST}", "done", "is 0", "committed 1"),
     ),
 }
 
@@ -250,8 +255,8 @@ def limits_of_scripts(mltx, case):
 
 
 def in_each_text(mltx, line_of, reply, base, cause="Words", told_in_session="error 10 ScriptFault"):
-    """Puts an operation into a script, a schedule, a trace and a session. `line_of` makes its line out of the words before it,
-    and of the operation's own and its reply, as far as they stand there. Where `reply` is None it is faulty."""
+    """Puts an operation into a script, a schedule, a trace and a session. `line_of` makes its line of the words before
+    it, as `op 1`, and of its reply where that stands there. Where `reply` is None the line is faulty."""
     lawful = reply is not None
     script, schedule = ["begin", line_of(""), "commit"], ["begin", line_of("whole 1 "), "commit 1"]
     trace = ["begin 1", line_of("op 1 ", f" {reply or 'done'}"), "commit 1 1"]
@@ -294,6 +299,7 @@ NUMBERS = {
 
 @each(NUMBERS, seconds=0.2)
 def limits_of_numbers(mltx, case):
+    """A number at its limit is read as it stands, and one past it is a fault, in each kind of text."""
     op, reply, base = case
     in_each_text(mltx, lambda before, after="": before + op + after, reply, base)
 
@@ -332,10 +338,12 @@ SKIPPED = {
 
 @each(SKIPPED)
 def limits_of_lines_that_are_skipped(mltx, case):
+    """The rule of 200 bytes holds for comments and blank lines too."""
     line, lawful = case
+    told = ["begun 1", "done done", "committed 1", "counter 1 1", "depth 0"]
     texts = {
         "solo": (["begin", "up 1 1", "commit", line], ["done", "committed 1"]),
-        "steps": (["begin", "whole 1 up 1 1", "commit 1", line], ["begun 1", "done done", "committed 1", "counter 1 1", "depth 0"]),
+        "steps": (["begin", "whole 1 up 1 1", "commit 1", line], told),
     }
     for command, (given, told) in texts.items():
         wanted = {"out": text(told)} if lawful else {"status": 1, "err": "mltx: 10 ScriptFault line 4 Line\n"}
@@ -355,15 +363,19 @@ EVENTS = {
 
 @each(EVENTS)
 def limits_of_events(mltx, case):
+    """What `steps` says of an event at a limit or one past it."""
     event, told = case
-    wanted = {"status": 1, "err": "mltx: 10 ScriptFault line 2 Words\n"} if told is None else {"out": text("begun 1", told, "depth 0")}
+    faulty = {"status": 1, "err": "mltx: 10 ScriptFault line 2 Words\n"}
+    wanted = faulty if told is None else {"out": text("begun 1", told, "depth 0")}
     expect(mltx.run("steps", "-", given=text("begin", event)), **wanted)
 
 
-LAST = 2**64 - 1
 # By name a trace, and what `check` says of it: lines, or the line and the cause of its fault.
 TRACES = {
-    "the-last-transaction-of-a-trace": ([f"begin {LAST}", f"op {LAST} up 1 1 done", f"commit {LAST} 1"], [f"serial {LAST}", "counter 1 1"]),
+    "the-last-transaction-of-a-trace": (
+        [f"begin {LAST}", f"op {LAST} up 1 1 done", f"commit {LAST} 1"],
+        [f"serial {LAST}", "counter 1 1"],
+    ),
     "a-transaction-too-many-in-a-trace": ([f"begin {LAST + 1}"], (1, "Words")),
     "transaction-0-in-a-trace": (["begin 0"], (1, "Words")),
     "a-commit-of-the-last-number": (["begin 1", f"commit 1 {LAST}"], (2, "Place")),
@@ -371,12 +383,16 @@ TRACES = {
     "a-reply-of-the-last-number": (["begin 1", f"op 1 read 1 is {LAST}"], []),
     "a-reply-of-a-number-too-many": (["begin 1", f"op 1 read 1 is {LAST + 1}"], (2, "Words")),
     "a-trace-may-have-65-open": ([f"begin {t}" for t in range(1, 66)], []),
-    "a-trace-may-have-1025-operations": (["begin 1", *["op 1 up 1 1 done"] * 1_025, "commit 1 1"], ["serial 1", "counter 1 1025"]),
+    "a-trace-may-have-1025-operations": (
+        ["begin 1", *["op 1 up 1 1 done"] * 1_025, "commit 1 1"],
+        ["serial 1", "counter 1 1025"],
+    ),
 }
 
 
 @each(TRACES)
 def limits_of_traces(mltx, case):
+    """What `check` says of a trace at a limit or one past it; for what is open and how much it does, it has none."""
     trace, said = case
     faulty = isinstance(said, tuple)
     wanted = {"status": 1, "err": "mltx: 11 TraceFault line %d %s\n" % said} if faulty else {"out": text(said)}
@@ -403,11 +419,17 @@ def trace_of_all_bytes():
     return lines + last.replace("\n", " " * (MOST_BYTES - len(lines) - len(last)) + "\n", 1)
 
 
-# By the command a text of all bytes, and what is written of it.
+# By the command what makes a text of all bytes, and what is written of it.
 WHOLE = {
     "solo": (lambda: of_all_bytes("begin\nup 1 1\n", COMMENT, "commit\n"), ["done", "committed 1"]),
-    "run": (lambda: of_all_bytes("begin\nup 1 1\n", "\n", "commit\n"), ["client 0 script 1", "done", "committed 1", "counter 1 1"]),
-    "steps": (lambda: of_all_bytes("begin\nwhole 1 up 1 1\n", COMMENT, "commit 1\n"), ["begun 1", "done done", "committed 1", "counter 1 1", "depth 0"]),
+    "run": (
+        lambda: of_all_bytes("begin\nup 1 1\n", "\n", "commit\n"),
+        ["client 0 script 1", "done", "committed 1", "counter 1 1"],
+    ),
+    "steps": (
+        lambda: of_all_bytes("begin\nwhole 1 up 1 1\n", COMMENT, "commit 1\n"),
+        ["begun 1", "done done", "committed 1", "counter 1 1", "depth 0"],
+    ),
     "check": (trace_of_all_bytes, ["serial 90000", "counter 1 1"]),
 }
 
@@ -427,23 +449,23 @@ def greatest_input(mltx, case):
 
 
 BLANKS = " " * 199 + "\n"
-# By name what a session is given, whether it reads the last line of it, and whether the client ends the input.
+# By name the end of all bytes that a session is given, what comes after them, and what is told at the end.
 SESSIONS = {
-    "a-session-reads-16777216-bytes": (of_all_bytes("begin\nup 7 1\n", BLANKS, "commit\n"), ["committed 1"]),
-    "a-session-ends-after-one-byte-more": (of_all_bytes("begin\nup 7 1\n", BLANKS, "commit\n") + "\n", ["committed 1"]),
-    "a-session-reads-no-line-that-ends-too-late": (of_all_bytes("begin\nup 7 1\n", BLANKS, "commit") + "\n", []),
-    "a-session-that-reads-too-much-is-taken-back": (of_all_bytes("begin\nup 7 1\n", BLANKS) + "\n", []),
+    "a-session-reads-16777216-bytes": ("commit\n", "", ["committed 1"]),
+    "a-session-ends-after-one-byte-more": ("commit\n", "\n", ["committed 1"]),
+    "a-session-reads-no-line-that-ends-too-late": ("commit", "\n", []),
+    "a-session-that-reads-too-much-is-taken-back": ("", "\n", []),
 }
 
 
 @each(SESSIONS, seconds=2)
 def greatest_session(mltx, case):
-    """What was complete is answered. After the last byte that may be read the session ends by itself."""
-    given, told = case
+    """What was complete is answered. Of one byte more the session ends by itself, and what is open is taken back."""
+    tail, more, told = case
     with mltx.serve("--sessions", 1, limit=2) as server:
         with server.connect() as peer:
-            peer.send(given)
-            if len(given) == MOST_BYTES:
+            peer.send(of_all_bytes("begin\nup 7 1\n", BLANKS, tail) + more)
+            if not more:
                 peer.end()
             same(peer.rest().decode(), text("begun 1", "done", told), "the answers")
         same(server.talk("begin\nread 7\n").decode(), text("begun 2", f"is {len(told)}"), "the session after it")
@@ -460,37 +482,47 @@ def large_scripts():
     return once * (1_500_000 // len(once) + 1)
 
 
-def read_slowly(mltx, words, given, most):
-    """Runs the program, and takes its output in pieces, after a moment for each of the first few."""
-    how = {"stdin": subprocess.PIPE, "stdout": subprocess.PIPE, "stderr": subprocess.PIPE, "cwd": mltx.folder}
-    with subprocess.Popen([mltx.path, *words], **how) as process:
-        process.stdin.write(given)
-        process.stdin.close()
+@contextmanager
+def started(mltx, words):
+    """The program, started with pipes. It is killed where it takes too long."""
+    how = {"stdin": subprocess.PIPE, "stdout": subprocess.PIPE, "stderr": subprocess.PIPE, "bufsize": 0}
+    with subprocess.Popen([mltx.path, *words], cwd=mltx.folder, **how) as process:
+        timer = threading.Timer(harness.PATIENCE, process.kill)
+        timer.start()
+        try:
+            yield process
+        finally:
+            timer.cancel()
+            process.kill()
+
+
+def read_slowly(mltx, words, most):
+    """Runs the program, and takes its output in small pieces, the first of them after a moment each."""
+    with started(mltx, words) as process:
         pieces = []
         while piece := os.read(process.stdout.fileno(), most):
             pieces.append(piece)
             if len(pieces) <= 20:
                 time.sleep(0.005)
-        return Ran(process.wait(harness.PATIENCE), b"".join(pieces), process.stderr.read())
+        return Ran(process.wait(), b"".join(pieces), process.stderr.read())
 
 
 @test(seconds=3)
 def scripts_of_more_than_a_megabyte(mltx):
-    """Their report is compared whole, read slowly and at once; and so is the check of their trace, of more than 1 MB."""
+    """Their report is compared whole, read slowly and at once, and so is the check of their trace of over 1 MB."""
     given, base = large_scripts(), model.Base()
-    scripts = model.parse(given.encode())
-    told = model.solo(scripts, base)
-    expect(read_slowly(mltx, ["solo", "-"], given.encode(), 1_000), out=told)
-    expect(mltx.run("solo", "--trace", "trace", mltx.file("scripts", given)), out=told)
+    told = model.solo(model.parse(given.encode()), base)
+    file = mltx.file("scripts", given)
+    expect(read_slowly(mltx, ["solo", file], 1_000), out=told, what="read slowly")
+    expect(mltx.run("solo", "--trace", "trace", file), out=told)
     size = (mltx.folder / "trace").stat().st_size
-    harness.holds(size > 1_000_000 and len(told) > 65_536, f"the trace has {size} bytes, and the report {len(told)}")
+    holds(size > 1_000_000 and len(told) > 65_536, f"the trace has {size} bytes, and the report {len(told)}")
     ends = [line for line in told.splitlines() if line == "aborted" or line.startswith("committed")]
     serial = [f"serial {t}" for t, end in enumerate(ends, 1) if end != "aborted"]
     expect(mltx.run("check", "trace"), out=text(serial) + base.text(), what="the check of the trace")
 
 
-# The sizes, in bytes, of outputs and of traces around 65,536.
-@test
+@test(seconds=1)
 def reports_and_traces_around_65536_bytes(mltx):
     """A script of 250 operations more at a time: reports and traces grow past 65,536 bytes."""
     for count in range(40, 60):
@@ -501,37 +533,41 @@ def reports_and_traces_around_65536_bytes(mltx):
         expect(mltx.check(mltx.folder / "trace"), out=counted, what="the check of the trace")
 
 
-def write_in_pieces(pipe, given, size):
-    """Writes pieces into a pipe, each once the one before was read, so that each comes by a read of its own."""
-    for place in range(0, len(given), size):
-        os.write(pipe.fileno(), given[place : place + size])
-        until_read(pipe)
-    pipe.close()
+def write_in_pieces(process, given, size):
+    """Writes pieces into the program, each once the one before was read, so that each comes by a read of its own. It
+    ends where the program does."""
+    with suppress(BrokenPipeError):
+        for place in range(0, len(given), size):
+            process.stdin.write(given[place : place + size])
+            while is_unread(process.stdin) and process.poll() is None:
+                os.sched_yield()
 
 
-def until_read(pipe):
-    end = time.monotonic() + harness.PATIENCE
-    while int.from_bytes(fcntl.ioctl(pipe, termios.FIONREAD, bytes(4)), "little"):
-        if time.monotonic() > end:
-            raise Failed(f"the program had not read its input after {harness.PATIENCE} seconds")
-        os.sched_yield()
+def is_unread(pipe):
+    return any(fcntl.ioctl(pipe, termios.FIONREAD, bytes(4)))
 
 
 COUNTED = 250
+COMMITTED = [["done"] * COUNTED, "committed 1"]
 # By name a command, what it is given, what it writes of it, and the size of the pieces.
 PIECES = {
-    "solo-reads-pieces-of-7-bytes": ("solo", script_of(["up 1 1"] * COUNTED) * 8, [*["done"] * COUNTED, "committed {}"] * 8, 7),
-    "solo-reads-single-bytes": ("solo", script_of(["up 1 1"] * COUNTED), [*["done"] * COUNTED, "committed {}"], 1),
+    "solo-reads-pieces-of-7-bytes": (
+        "solo",
+        script_of(["up 1 1"] * COUNTED) * 8,
+        [[["done"] * COUNTED, f"committed {n}"] for n in range(1, 9)],
+        7,
+    ),
+    "solo-reads-single-bytes": ("solo", script_of(["up 1 1"] * COUNTED), COMMITTED, 1),
     "run-reads-single-bytes": (
         "run",
         script_of(["up 1 1"] * COUNTED),
-        ["client 0 script 1", *["done"] * COUNTED, "committed {}", f"counter 1 {COUNTED}"],
+        ["client 0 script 1", COMMITTED, f"counter 1 {COUNTED}"],
         1,
     ),
     "steps-reads-single-bytes": (
         "steps",
         text("begin", ["whole 1 up 1 1"] * COUNTED, "commit 1"),
-        ["begun 1", *["done done"] * COUNTED, "committed {}", f"counter 1 {COUNTED}", "depth 0"],
+        ["begun 1", ["done done"] * COUNTED, "committed 1", f"counter 1 {COUNTED}", "depth 0"],
         1,
     ),
     "check-reads-single-bytes": (
@@ -547,17 +583,10 @@ PIECES = {
 def input_in_small_pieces(mltx, case):
     """More than 1,000 reads, each of which gives little."""
     command, given, told, size = case
-    told, commits = list(told), 0
-    for place, line in enumerate(told):
-        commits += line == "committed {}"
-        told[place] = line.format(commits)
-    how = {"stdin": subprocess.PIPE, "stdout": subprocess.PIPE, "stderr": subprocess.PIPE, "bufsize": 0}
-    with subprocess.Popen([mltx.path, command, "-"], **how) as process:
-        writer = threading.Thread(target=write_in_pieces, args=(process.stdin, given.encode(), size))
-        writer.start()
-        out, err = process.stdout.read(), process.stderr.read()
-        writer.join()
-        expect(Ran(process.wait(), out, err), out=text(told), what=f"{len(given) // size} pieces")
+    with started(mltx, [command, "-"]) as process:
+        write_in_pieces(process, given.encode(), size)
+        out, err = process.communicate()
+        expect(Ran(process.returncode, out, err), out=text(told), what=f"{len(given) // size} pieces")
 
 
 @test(seconds=1)
@@ -586,7 +615,7 @@ def a_million_items_of_history(mltx):
     items = ((f"begin {t}", [f"op {t} up 1 1 done"] * ops, f"commit {t} {t}") for t in range(1, scripts + 1))
     wanted = "".join(text(*parts) for parts in items).encode()
     found = (mltx.folder / "trace").read_bytes()
-    harness.holds(found == wanted, f"the trace of {wanted.count(10)} items has {len(found)} bytes, and {len(wanted)} are wanted")
+    holds(found == wanted, f"the trace has {len(found)} bytes, and {len(wanted)} are wanted, of a million lines")
 
 
 @test(seconds=4)
@@ -594,5 +623,6 @@ def three_hundred_thousand_transactions(mltx):
     """As many begin and end, most with nothing done, and the last one works as the first did."""
     count = 300_000
     given = text("begin", "abort") * (count - 1) + script_of("up 1 1")
-    expect(mltx.run("solo", "--trace", "trace", "-", given=given), out="aborted\n" * (count - 1) + text("done", "committed 1"))
+    told = text(["aborted"] * (count - 1), "done", "committed 1")
+    expect(mltx.run("solo", "--trace", "trace", "-", given=given), out=told)
     expect(mltx.run("check", "trace"), out=text(f"serial {count}", "counter 1 1"))

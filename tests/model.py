@@ -1,8 +1,8 @@
 """A small model of the tables, of scripts and of traces, for expected values. It is written from docs/FORMATS.md alone.
 
-An operation is a tuple, as `("open", 1)`, `("deposit", 1, 50)` or `("has", 4, 9)`. A reply is its text, as `done` or `is 5`.
-A cell is `("account", a)`, `("element", s, e)` or `("counter", c)`. What a cell holds is None where it is absent, else its
-number, which is 0 for an element."""
+An operation is a tuple, as `("open", 1)`, `("deposit", 1, 50)` or `("has", 4, 9)`. A reply is its text, as `done` or
+`is 5`. A cell is `("account", a)`, `("element", s, e)` or `("counter", c)`. What a cell holds is None where it is
+absent, else its number, which is 0 for an element."""
 import re
 from dataclasses import dataclass, field
 
@@ -12,14 +12,14 @@ MOST_LINE, MOST_OPERATIONS, MOST_NESTING = 200, 256, 16
 # How many numbers each operation takes: those that name its cell, and its amount.
 NAMES = {"open": 1, "close": 1, "deposit": 1, "withdraw": 1, "balance": 1}
 NAMES |= {"add": 2, "remove": 2, "has": 2, "up": 1, "down": 1, "read": 1}
+KINDS = {"add": "element", "remove": "element", "has": "element", "up": "counter", "down": "counter", "read": "counter"}
 WITH_AMOUNT = ("deposit", "withdraw", "up", "down")
 REPLIES = "opened exists closed notempty done over short missing added present removed absent yes no".split()
 
 
 def cell_of(op):
     """The cell of an operation."""
-    kind = {"add": "element", "remove": "element", "has": "element", "up": "counter", "down": "counter", "read": "counter"}
-    return (kind.get(op[0], "account"), *op[1 : 1 + NAMES[op[0]]])
+    return (KINDS.get(op[0], "account"), *op[1 : 1 + NAMES[op[0]]])
 
 
 def text_of(op):
@@ -246,8 +246,8 @@ def _statement(words):
 
 
 class Parser:
-    """Reads scripts line by line. `open_ifs` are the statements that are open, each with the longest path to it, the longest
-    through its first part, and whether its `else` stood."""
+    """Reads scripts line by line. `longest` is how many operations the longest path has so far. `open_ifs` are the open
+    `if`s: each with that number at it, and at its `else`, which is None where none stood yet."""
 
     def __init__(self):
         self.scripts, self.script, self.open_ifs, self.longest = [], None, [], 0
@@ -259,9 +259,8 @@ class Parser:
             cause = self._line(words) if words else None
             if cause:
                 raise Fault(last, cause)
-        # The last line of an input decides too where it has no other fault.
         if self.script:
-            raise Fault(text.count(b"\n") + (not text.endswith(b"\n")), "Unfinished")
+            raise Fault(last, "Unfinished")
         return self.scripts
 
     def _line(self, words):

@@ -1,7 +1,7 @@
 """All pairs of operations on one cell in all small states, and what each second one is told beside the first.
 
-A transaction holds the first operation, and another asks for the second: it is done or blocked, just as the table of conflicts
-says. Then they end in each order. A program with one pair more or less in its table fails."""
+A transaction holds the first operation, and another asks for the second: it is done or blocked, just as the table of
+conflicts says. Then they end in each order. A program with one pair more or less in its table fails."""
 from harness import each, expect, holds
 from random_work import show, watched_schedule
 
@@ -10,9 +10,15 @@ ACCOUNT = [("open",), ("close",), ("balance",), *(("deposit", n) for n in (0, 1,
 ACCOUNT += [("withdraw", n) for n in (0, 1, 5, MOST)]
 # By name the operations that bring a cell into each state, and the operations of the pairs, without their cell.
 KINDS = {
-    "all-pairs-on-an-account": ([[], [("open",)], *([("open",), ("deposit", n)] for n in (1, 5, MOST - 1, MOST))], ACCOUNT),
+    "all-pairs-on-an-account": (
+        [[], [("open",)], *([("open",), ("deposit", n)] for n in (1, 5, MOST - 1, MOST))],
+        ACCOUNT,
+    ),
     "all-pairs-on-an-element": ([[], [("add",)]], [("add",), ("remove",), ("has",)]),
-    "all-pairs-on-a-counter": ([[], [("up", 0)], [("up", 5)]], [("up", 0), ("up", 1), ("down", 2**64 - 1), ("down", 6), ("read",)]),
+    "all-pairs-on-a-counter": (
+        [[], [("up", 0)], [("up", 5)]],
+        [("up", 0), ("up", 1), ("down", 2**64 - 1), ("down", 6), ("read",)],
+    ),
 }
 # How the two end, by the places of their numbers.
 ENDS = [
@@ -24,7 +30,7 @@ ENDS = [
 
 
 def pair(first, cell, state, held, requested, end):
-    """The events of a pair on a cell of its own. `first` is the number of the transaction that brings it into its state."""
+    """The events of a pair on a cell of its own. `first` is the transaction that brings it into its state."""
 
     def on(form):
         return (form[0], *((4,) if form[0] in ("add", "remove", "has") else ()), cell, *form[1:])
@@ -36,6 +42,7 @@ def pair(first, cell, state, held, requested, end):
 
 @each(KINDS, seconds=1)
 def all_pairs(mltx, case):
+    """Each reply is the one that the tables give, and who is blocked is blocked by the right one."""
     states, forms = case
     cases = [(state, held, requested, end) for state in states for held in forms for requested in forms for end in ENDS]
     events = [event for cell, parts in enumerate(cases) for event in pair(3 * cell + 1, cell, *parts)]

@@ -1,8 +1,9 @@
 """Seeded random work: scripts one after another, schedules of single steps, scripts side by side, and sessions at once.
 
-What the program says is compared with a small model of the tables. The main test is the promise of the program, seen from
-outside: the committed transactions, run alone in the order of their commits, give exactly the replies that they were told,
-and lead to the base that is printed. `tests/run --seed N NAME` repeats a test that failed; its message shows the text."""
+What the program says is compared with a small model of the tables. The main test is the promise of the program, seen
+from outside: the committed transactions, run alone in the order of their commits, give exactly the replies that they
+were told, and lead to the base that is printed. `tests/run --seed N NAME` repeats a test that failed; its message shows
+the text."""
 import random
 import re
 from concurrent.futures import ThreadPoolExecutor
@@ -13,8 +14,9 @@ import harness
 import model
 from harness import Failed, each, expect, holds, same
 
-# Cells: accounts, elements and counters. ONE of each, and FEW, are fought for. Of WIDE buckets split, now and then thirteen times, but no
-# pseudokey of `low` has nine. CROWD are eleven accounts of one pseudokey, for which a bucket has eight slots.
+# Cells: accounts, elements and counters. ONE of each, and FEW, are fought for. Of WIDE buckets split, now and then
+# thirteen times, but no pseudokey of `low` has nine. CROWD are eleven accounts of one pseudokey, for which a bucket has
+# eight slots.
 ONE = ((1,), ((4, 9),), (7,))
 FEW = ((1, 2, 3), ((4, 9), (4, 10)), (7, 8))
 WIDE = ((*range(0, 65_536, 4_096), *range(9), 65_536), ((1, 0), (2, 0), (2, 20_000)), (0, 1, 50_000))
@@ -42,8 +44,8 @@ def random_op(dice, cells, amount=None):
     accounts, elements, counters = cells
     kind = dice.choice(("account", "account", "account", "element", "counter"))
     if kind == "account":
-        name = dice.choice("open open close close close deposit deposit deposit withdraw withdraw withdraw balance".split())
-        op = (name, dice.choice(accounts))
+        names = "open open close close close deposit deposit deposit withdraw withdraw withdraw balance"
+        op = (dice.choice(names.split()), dice.choice(accounts))
     elif kind == "element":
         op = (dice.choice(("add", "remove", "has")), *dice.choice(elements))
     else:
@@ -56,8 +58,8 @@ def random_op(dice, cells, amount=None):
 def likely_reply(dice, op):
     """A reply that the operation may have, the more usual ones more often, and rarely one that it can't have."""
     usual = {"open": "opened exists", "close": "closed notempty missing", "deposit": "done done over missing"}
-    usual |= {"withdraw": "done done short missing", "add": "added present", "remove": "removed absent", "has": "yes no"}
-    usual |= {"up": "done", "down": "done", "balance": "0 1 5 a b missing", "read": "0 1 5 a b"}
+    usual |= {"withdraw": "done done short missing", "add": "added present", "remove": "removed absent"}
+    usual |= {"has": "yes no", "up": "done", "down": "done", "balance": "0 1 5 a b missing", "read": "0 1 5 a b"}
     if dice.random() < 0.04:
         return dice.choice(model.REPLIES)
     return dice.choice(usual[op[0]].split())
@@ -133,7 +135,7 @@ def random_scripts_one_after_another(mltx, case):
 
 
 def checked_trace(mltx, base, commits):
-    """Fails where the file `trace` isn't accepted with so many commits and this base; the serial order that is printed."""
+    """Fails where the file `trace` isn't accepted with so many commits and this base. Returns the order it has."""
     ran = mltx.run("check", "trace")
     printed = ran.out.decode().splitlines(keepends=True)
     order = [line for line in printed if line.startswith("serial ")]
@@ -145,7 +147,8 @@ def checked_trace(mltx, base, commits):
 @dataclass
 class Transaction:
     """What is known of an open transaction: its pending operation, whether it may hold page locks, whether it is being
-    undone, whether it took back more than is known, what it did and did not take back, and all that it holds locks for."""
+    undone, whether it may have taken back more than is known, what it did and did not take back, and all that it did,
+    for which it holds locks."""
 
     pending: tuple = None
     inside: bool = False
@@ -245,8 +248,9 @@ class Watch:
     def _step_back(self, told, t):
         """A pass of an inverse came to its end."""
         it = self.open[t]
-        ends = ("undone", "aborted") if it.vague and len(it.done) > 1 else ("undone",) if len(it.done) > 1 else ("aborted",)
-        holds(told in ends, f"{t}, which is being undone with {len(it.done)} left, was told {told!r}")
+        last = len(it.done) == 1
+        lawful = told == ("aborted" if last else "undone") or it.vague and told == "aborted"
+        holds(lawful, f"{t}, which is being undone with {len(it.done)} left, was told {told!r}")
         if told == "aborted":
             self._all_taken_back(t)
         else:
@@ -280,14 +284,16 @@ class Watch:
         reply, _ = model.apply(self.base.held(op), op)
         if self._adds(op, reply) and not self._has_room(t, op):
             return "refused 2 NoRoom"
-        blocks = [by for by, it in self.open.items() if by != t and any(model.clash(held, (op, reply)) for held in it.held)]
+        held_by_others = ((by, held) for by, it in self.open.items() if by != t for held in it.held)
+        blocks = [by for by, held in held_by_others if model.clash(held, (op, reply))]
         return f"blocked by {min(blocks)}" if blocks else f"done {reply}"
 
     def _adds(self, op, reply):
         return reply in ("opened", "added") or op[0] in ("up", "down") and model.cell_of(op) not in self.records
 
     def _has_room(self, t, op):
-        """Whether a cell can be added: with `low` eight of a pseudokey can be live or kept, also at the greatest depth."""
+        """Whether a cell can be added. At the greatest depth `low` has a bucket for each pseudokey, and it has eight
+        slots: for live records, and for ghosts whose owners are open."""
         cell = model.cell_of(op)
         if not self.low or (cell, t) in self.ghosts:
             return True
@@ -341,9 +347,9 @@ def show(event):
 
 
 def random_schedule(dice, cells, calls, length):
-    """Events over up to six open transactions; `calls` of 75 operations are by single steps. It goes by guesses of how far
-    each transaction is, so that some events are wrong. The first one makes some accounts. At the end all are closed: what
-    is pending is cancelled, and who is open is taken back."""
+    """Events over up to six open transactions; `calls` of 75 operations are by single steps. It goes by guesses of how
+    far each transaction is, so that some events are wrong. The first one makes some accounts. At the end all are
+    closed: what is pending is cancelled, and who is open is taken back."""
     accounts = dice.sample(cells[0], dice.randint(0, min(len(cells[0]), 12)))
     events = [("begin",), *(("whole", 1, ("open", a)) for a in accounts)]
     rich = [account for account in accounts if dice.random() < 0.5]
@@ -404,7 +410,7 @@ SCHEDULES = {
 
 @each(SCHEDULES, seconds=6)
 def random_schedules(mltx, case):
-    """Each event is told what the tables and the locks allow, and what committed is serial in the order of its commits."""
+    """Each event is told what the tables and the locks allow, and what committed is serial in commit order."""
     hash_name, cells, calls = case
     for number in range(200 * harness.CASES):
         dice = dice_of(f"schedules {case}", number)
@@ -436,11 +442,11 @@ def watched_schedule(mltx, events, told, low):
 
 
 def serial_base(transcripts):
-    """The base to which transcripts lead, one after another. Fails where one was told another reply than the tables give."""
+    """The base to which transcripts lead, one after another. Fails where one was told what the tables don't give."""
     base = model.Base()
     for number, done in enumerate(transcripts, 1):
-        for op, reply in done:
-            same(base.ask(op), reply, f"in the serial run, the reply to {op} of the one that committed as {number}")
+        for op, told in done:
+            same(told, base.ask(op), f"told to {op} of the one that committed as {number}, beside the serial run")
     return base
 
 
@@ -452,15 +458,15 @@ SIDE_BY_SIDE = {
 
 @each(SIDE_BY_SIDE, seconds=4)
 def random_scripts_side_by_side(mltx, case):
-    """Scripts of several clients: what committed is what `solo` says of the same scripts in the order of the commits."""
+    """Scripts of several clients: what committed is what `solo` says of these scripts in the order of their commits."""
     workers, hash_name, cells = case
     for number in range(20 * harness.CASES):
         dice = dice_of(f"side by side {case}", number)
         scripts = random_scripts(dice, cells, dice.randint(1, 10))
         text = "".join(scripts)
-        options = ["--workers", workers, "--hash", hash_name, "--trace", "trace", "--tries", dice.choice((3, 100, 10_000))]
+        options = ["--workers", workers, "--hash", hash_name, "--tries", dice.choice((3, 100, 10_000))]
         with told_in("side by side", number, text):
-            ran = mltx.run("run", *options, "-", given=text)
+            ran = mltx.run("run", *options, "--trace", "trace", "-", given=text)
             expect(ran, out=ran.out)
             compared_with_solo(mltx, scripts, ran.out.decode())
 
@@ -491,23 +497,24 @@ def outcomes_of(printed, scripts):
         by_client.setdefault(model.parse(text.encode())[0].client, []).append(text)
     for client in sorted(by_client):
         for number, text in enumerate(by_client[client], 1):
-            same(lines[:1], [f"client {client} script {number}"], f"the head after {len(found)} outcomes of {printed!r}")
+            head = f"client {client} script {number}"
+            same(lines[:1], [head], f"the head after {len(found)} outcomes of {printed!r}")
             ends = [at for at, line in enumerate(lines) if re.fullmatch("committed [1-9][0-9]*|aborted", line)]
-            holds(ends, f"client {client} script {number} has no end in {printed!r}")
+            holds(ends, f"{head} has no end in {printed!r}")
             found.append(Outcome(text, client, number, lines[1 : ends[0]], lines[ends[0]]))
             del lines[: ends[0] + 1]
     return found, "".join(line + "\n" for line in lines)
 
 
 def compared_with_solo(mltx, scripts, printed):
-    """What `run` printed of these scripts against `solo` and the model, which run the committed ones by commit number."""
+    """What `run` printed of scripts beside `solo` and the model, which run the committed ones by commit number."""
     outcomes, base_text = outcomes_of(printed, scripts)
     committed = sorted((it for it in outcomes if it.commit()), key=Outcome.commit)
     same([it.commit() for it in committed], list(range(1, len(committed) + 1)), "the numbers of the commits")
     told = "".join(line + "\n" for it in committed for line in (*it.replies, it.end))
     in_order, base = "".join(it.text for it in committed), model.Base()
-    same(told, model.solo(model.parse(in_order.encode()), base), "the replies, beside the model in the order of commits")
-    expect(mltx.run("solo", "-", given=in_order), out=told, what="`solo` of the committed scripts in the order of commits")
+    same(told, model.solo(model.parse(in_order.encode()), base), "the replies, beside the model in commit order")
+    expect(mltx.run("solo", "-", given=in_order), out=told, what="`solo` of the committed scripts in commit order")
     same(base_text, base.text(), "the base")
     for client in {it.client for it in committed}:
         own = [it.number for it in committed if it.client == client]
@@ -519,7 +526,8 @@ def compared_with_solo(mltx, scripts, printed):
 def checked_outcomes(outcomes):
     """A script that asks for its abort never commits, and one that was refused gave up: there is room for all."""
     for it in outcomes:
-        holds(model.parse(it.text.encode())[0].commits or not it.commit(), f"{it} ends in `abort`, and was told {it.end}")
+        asks_to_commit = model.parse(it.text.encode())[0].commits
+        holds(asks_to_commit or not it.commit(), f"{it} ends in `abort`, and was told {it.end}")
         refused = [reply for reply in it.replies if reply.startswith("refused")]
         holds(refused in ([], ["refused 14 GaveUp"]), f"{it} was told {refused}")
 
