@@ -542,7 +542,7 @@ SESSIONS = {
 def random_sessions_at_once(mltx, case):
     """Clients at once over sockets: what each was told of what it committed is serial in the order of the commits."""
     sessions, hash_name, cells = case
-    for number in range(4 * harness.CASES):
+    for number in range(8 * harness.CASES):
         options = ["--sessions", sessions, "--hash", hash_name, "--trace", "trace", "--tries", 200]
         with told_in(f"sessions {case}", number, "(sessions are made by threads; they need not fall alike)"):
             with mltx.serve(*options, limit=sessions) as server, ThreadPoolExecutor(sessions) as threads:
