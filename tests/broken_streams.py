@@ -1,11 +1,12 @@
 """Files, pipes, sockets and standard streams that end early, fail at any call, or take and give little."""
 import errno
 import os
+import re
 import subprocess
 import threading
 from contextlib import suppress
 
-from harness import PATIENCE, Failed, Ran, each, expect, holds, lines, same
+from harness import PATIENCE, each, expect, holds, lines, same, test
 
 FAULT = b"mltx: 13 Io\n"
 
@@ -65,18 +66,10 @@ def read_fails(mltx, job):
     expect(mltx.run(job, "/proc/self/mem"), status=1, err=FAULT)
 
 
-def with_closed(mltx, closed, *words):
-    """What a run comes to whose standard stream is closed by this redirection."""
-    script = f'exec "$0" "$@" {closed}'
-    words = ["sh", "-c", script, mltx.path, *words]
-    ran = subprocess.run(words, capture_output=True, cwd=mltx.folder, timeout=PATIENCE)
-    return Ran(ran.returncode, ran.stdout, ran.stderr)
-
-
 @each({f"{job or 'no-words'}-without-standard-input": job for job in (*TEXTS, "")})
 def no_input(mltx, job):
     """Where standard input is closed its read fails."""
-    expect(with_closed(mltx, "<&-", *([job, "-"] if job else [])), status=1, err=FAULT)
+    expect(mltx.run(*([job, "-"] if job else []), redirect="<&-"), status=1, err=FAULT)
 
 
 @each({f"{job}-without-standard-output": (job, *texts) for job, texts in TEXTS.items()})
@@ -85,33 +78,31 @@ def no_output(mltx, case):
     job, text, _wanted = case
     trace = mltx.folder / "trace"
     options = [] if job == "check" else ["--trace", trace]
-    expect(with_closed(mltx, ">&-", job, *options, mltx.file("text", text)), status=1, err=FAULT)
+    expect(mltx.run(job, *options, mltx.file("text", text), redirect=">&-"), status=1, err=FAULT)
     holds(not trace.exists(), f"{job} without standard output has made the file of the trace")
 
 
 @each({"a-fault-without-standard-error": None})
 def no_error(mltx, _case):
     """The status tells of a fault where its line can't be written."""
-    expect(with_closed(mltx, "2>&-", "solo", mltx.file("text", "begin\n")), status=1)
+    expect(mltx.run("solo", mltx.file("text", "begin\n"), redirect="2>&-"), status=1)
 
 
 @each({f"{job}-to-a-reader-that-goes": job for job in TEXTS})
 def reader_goes(mltx, job):
     """The reader of a pipe goes before all is written: that is 13, and a prefix went out."""
     text, wanted = large(job)
-    reads, writes = os.pipe2(os.O_CLOEXEC)
+    errors = mltx.folder / "errors"
     words = [mltx.path, job, mltx.file("text", text)]
-    with subprocess.Popen(words, stdout=writes, stderr=subprocess.PIPE, cwd=mltx.folder) as running:
-        os.close(writes)
-        heard = os.read(reads, 1000)
-        os.close(reads)
-        try:
-            _, err = running.communicate(timeout=PATIENCE)
-        except subprocess.TimeoutExpired:
-            running.kill()
-            raise Failed(f"{job} had not ended after {PATIENCE} seconds") from None
+    with errors.open("wb") as told, subprocess.Popen(words, stdout=subprocess.PIPE, stderr=told) as running:
+        patience = threading.Timer(PATIENCE, running.kill)
+        patience.start()
+        heard = running.stdout.read(1000)
+        running.stdout.close()
+        status = running.wait()
+        patience.cancel()
     holds(heard and wanted.encode().startswith(heard), f"{job} wrote {heard!r}")
-    same((running.returncode, err), (1, FAULT), f"{job} to a reader that goes")
+    same((status, errors.read_bytes()), (1, FAULT), f"{job} to a reader that goes")
 
 
 def large(job):
@@ -134,13 +125,13 @@ TRACES = {
     "run": lines("begin 1|op 1 open 1 opened|commit 1 1"),
     "check": "",
 }
-# A device that fails, a call that is interrupted, and one that takes nothing: the last is the end of an input.
+# A device that fails, a call that is interrupted, and one that takes nothing.
 WRITE_FAULTS = {"fails": errno.EIO, "is-interrupted": errno.EINTR, "takes-nothing": 0}
 READ_FAULTS = {"fails": errno.EIO, "is-interrupted": errno.EINTR}
 
 
 def one_fails(mltx, job, call, fault, most):
-    """What comes where call 1, 2, 3, .. fails, which takes or gives so many bytes at most, until a run has none such."""
+    """What comes where call 1, 2, 3, .. fails, until a run has none such. The others take or give so many bytes."""
     trace, text = mltx.folder / "trace", mltx.file("text", TEXTS[job][0])
     options = [] if job == "check" else ["--trace", trace]
     number = 1
@@ -165,19 +156,21 @@ def reads_fail(mltx, case):
     same(reads, len(TEXTS[job][0]) + 1, f"{job}: reads that fail, of a byte each, and one at the end of the input")
 
 
-@each({f"each-write-of-{job}-{name}": (job, fault) for job in TEXTS for name, fault in WRITE_FAULTS.items()}, seconds=0.5)
+WRITES = {f"each-write-of-{job}-{name}": (job, fault) for job in TEXTS for name, fault in WRITE_FAULTS.items()}
+
+
+@each(WRITES, seconds=0.5)
 def writes_fail(mltx, case):
     """Whichever write fails, that is 13, and what went out before is a front of the text, and then of the trace."""
     job, fault = case
     text, trace = TEXTS[job][1], TRACES[job]
+    writes = 0
     for number, ran, left in one_fails(mltx, job, "write", fault, 1):
-        if number > len(text + trace):
-            # What tells of no fault is not written.
-            raise Failed(f"{job} writes more than it tells and its trace")
-        what = f"{job}, whose write {number} {'takes nothing' if not fault else 'fails by ' + errno.errorcode[fault]}"
+        what = f"{job}, whose write {number} fails by {errno.errorcode.get(fault, 'taking nothing')}"
         expect(ran, status=1, out=text[: number - 1], err=FAULT, what=what)
         same(left, None if number <= len(text) else trace[: number - 1 - len(text)], f"{what}: the trace")
-    same(number, len(text + trace), f"{job}: writes that fail, of a byte each")
+        writes = number
+    same(writes, len(text + trace), f"{job}: writes that fail, of a byte each")
 
 
 @each({"one-byte-writer": None})
@@ -202,30 +195,47 @@ def served(mltx, fail, limit=1):
         return heard.decode(), server.end(), trace.read_text() if trace.exists() else None
 
 
-@each({f"each-receipt-of-a-session-{name}": fault for name, fault in READ_FAULTS.items()}, seconds=3)
+def has_ended_all(trace, what):
+    """Each transaction that began has ended."""
+    begun, ended = (len(re.findall(f"(?m)^(?:{words}) ", trace)) for words in ("begin", "commit|abort"))
+    same(ended, begun, f"{what}: how many of the transactions have ended in {trace!r}")
+
+
+@each({f"each-receipt-of-a-session-{name}": fault for name, fault in READ_FAULTS.items()}, seconds=2)
 def receipts_fail(mltx, fault):
     """Whichever byte does not come, the lines before it are answered, and an open transaction is taken back."""
-    for number in range(1, len(SAID) + 1, 3):
-        what = f"a session whose byte {number} does not come"
-        whole = SAID[: number - 1].count("\n")
-        told = "".join(TOLD.splitlines(keepends=True)[:whole])
+    for number in range(1, len(SAID) + 1):
+        what = f"a session whose byte {number} fails to come by {errno.errorcode[fault]}"
         heard, ended, trace = served(mltx, f"recv {number} {fault} 1")
-        same(heard, told, what)
+        same(heard, "".join(TOLD.splitlines(keepends=True)[: SAID[: number - 1].count("\n")]), what)
         expect(ended, out="served 1\n", what=what)
-        begun, closed = (sum(line.startswith(words) for line in trace.splitlines()) for words in ("begin", ("commit", "abort")))
-        same((begun, closed, "commit 1 1" in trace), (told.count("begun"),) * 2 + ("committed" in told,), f"{what}: {trace!r}")
+        has_ended_all(trace, what)
+        same("commit 1 1" in trace, "committed 1" in heard, f"{what}: whether it has committed in {trace!r}")
 
 
-@each({f"each-sending-of-a-session-{name}": fault for name, fault in WRITE_FAULTS.items()}, seconds=3)
+@each({f"each-sending-of-a-session-{name}": fault for name, fault in WRITE_FAULTS.items()}, seconds=2)
 def sendings_fail(mltx, fault):
     """Whichever byte of an answer is not taken, those before it went out, and an open transaction is taken back."""
-    for number in range(1, len(TOLD) + 1, 3):
-        what = f"a session whose answers' byte {number} is not taken"
+    for number in range(1, len(TOLD) + 1):
+        what = f"a session whose answers' byte {number} fails to go by {errno.errorcode.get(fault, 'taking nothing')}"
         heard, ended, trace = served(mltx, f"send {number} {fault} 1")
         same(heard, TOLD[: number - 1], what)
         expect(ended, out="served 1\n", what=what)
-        begun, closed = (sum(line.startswith(words) for line in trace.splitlines()) for words in ("begin", ("commit", "abort")))
-        same(begun, closed, f"{what}: all that are begun are closed in {trace!r}")
+        has_ended_all(trace, what)
+
+
+@test(seconds=3)
+def each_write_of_serve_fails(mltx):
+    """Whichever write at the end of a server fails, that is 13, and what went out is a front of the line, then of the
+    trace. The sessions are not touched."""
+    text = "served 1\n"
+    trace = lines("begin 1|op 1 open 1 opened|op 1 deposit 1 5 done|commit 1 1|begin 2|op 2 up 7 1 done|back 2|abort 2")
+    for number in range(1, len(text + trace) + 1):
+        what = f"a server whose write {number} fails"
+        heard, ended, left = served(mltx, f"write {number} {errno.EIO} 1")
+        same(heard, TOLD, what)
+        expect(ended, status=1, out=text[: number - 1], err=FAULT, what=what)
+        same(left, None if number <= len(text) else trace[: number - 1 - len(text)], f"{what}: the trace")
 
 
 @each({f"accept-{number}-fails": number for number in (1, 2)})

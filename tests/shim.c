@@ -4,8 +4,8 @@
    numbers FIRST to LAST are refused. With REFUSE_THREADS each thread is refused.
 
    FAIL is `CALL NUMBER FAULT MOST`: of the calls `read`, `write`, `recv`, `send` or `accept`, the one with this number,
-   counted from 1, fails with the number FAULT of a fault, or does nothing and answers 0 where FAULT is 0. The others take
-   or give at most MOST bytes.
+   counted from 1, fails with the number FAULT of a fault, or does nothing and answers 0 where FAULT is 0. The others
+   take or give at most MOST bytes.
 
    At the end of the program, how many requests and how many calls were counted is written into the file COUNTED. */
 #define _GNU_SOURCE
