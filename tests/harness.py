@@ -83,8 +83,9 @@ class Ran:
         return f"status {self.status}, standard output {_short(self.out)}, standard error {_short(self.err)}"
 
 
-def _short(text, most=600):
-    return repr(text) if len(text) <= most else f"{text[:most]!r}.. ({len(text)} bytes)"
+def _short(value, most=600):
+    shown = repr(value)
+    return shown if len(shown) <= most else f"{shown[:most]}.. ({len(shown)} characters)"
 
 
 def as_bytes(text):
