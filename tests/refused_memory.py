@@ -168,7 +168,7 @@ def steps(mltx, case):
     ample = runs.ample(as_text(events))
     same(ample.out, tells or ample.out, "steps with ample memory")
     ways = set()
-    for what, came in runs.one_refused(lambda number: runs.run(as_text(events), first=number, last=number)):
+    for what, came in runs.one_refused(lambda number: runs.run(as_text(events), first=number)):
         if is_given_up(came, ample):
             ways.add("given up")
             continue
@@ -179,21 +179,26 @@ def steps(mltx, case):
     holds(ways >= {"given up", "told"}, f"only this came: {ways}")
 
 
-@each({"growth-refused-in-split": None}, seconds=2)
-def growth_refused_in_split(mltx, _case):
+SPLIT = ["begin", *EIGHT, "commit 1", "begin", "whole 2 open 32768"]
+IN_SPLIT = {
+    "growth-refused-in-split": (SPLIT, f"{OPENED}{REFUSED}|{ACCOUNTS}|depth 0"),
+    "growth-refused-in-split-and-the-call-repeated": (
+        [*SPLIT, "whole 2 open 32768", "commit 2"],
+        f"{OPENED}{REFUSED}|done opened|committed 2|{ACCOUNTS}|account 32768 0|depth 1",
+    ),
+}
+
+
+@each(IN_SPLIT, seconds=2)
+def in_split(mltx, case):
     """Each growth of the split is refused: the pages and the base are as before, and the call repeated splits."""
+    events, tells = case
     runs = Runs(mltx, "steps", "--hash", "low")
-    split = ["begin", *EIGHT, "commit 1", "begin", "whole 2 open 32768"]
-    refused = lines(f"{OPENED}{REFUSED}|{ACCOUNTS}|depth 0")
-    again = lines(f"{OPENED}{REFUSED}|done opened|committed 2|{ACCOUNTS}|account 32768 0|depth 1")
     met = 0
-    for what, came in runs.one_refused(lambda number: runs.run(as_text(split), first=number, last=number)):
-        if f"committed 1\nbegun 2\n{REFUSED}\n" in came.out:
+    for what, came in runs.one_refused(lambda number: runs.run(as_text(events), first=number)):
+        if came.out.startswith(lines(f"{OPENED}{REFUSED}")):
             met += 1
-            same((came.status, came.out, came.err), (0, refused, ""), what)
-            number = int(what.split()[-2])
-            came = runs.run(as_text([*split, "whole 2 open 32768", "commit 2"]), first=number, last=number)
-            same((came.status, came.out, came.err), (0, again, ""), f"{what}, and the call repeated")
+            same((came.status, came.out, came.err), (0, lines(tells), ""), what)
     holds(met > 0, "no request for memory of the split was refused")
 
 
@@ -215,7 +220,7 @@ def solo(mltx, case):
     ample = runs.ample(text)
     same(ample.out, tells or ample.out, "solo with ample memory")
     ways = set()
-    for what, came in runs.one_refused(lambda number: runs.run(text, first=number, last=number)):
+    for what, came in runs.one_refused(lambda number: runs.run(text, first=number)):
         if is_given_up(came, ample):
             ways.add("given up")
             continue
@@ -270,7 +275,7 @@ def run(mltx, case):
     runs = Runs(mltx, "run", "--hash", hashing, "--workers", workers)
     alone = Runs(mltx, "run", "--hash", hashing, "--workers", "1", traced=False)
     ways = set()
-    for what, came in runs.one_refused(lambda number: runs.run(SCRIPTS, first=number, last=number)):
+    for what, came in runs.one_refused(lambda number: runs.run(SCRIPTS, first=number)):
         if came.status:
             ways.add("given up")
             same((came.status, came.err), (1, WANT.decode()), what)
@@ -295,7 +300,7 @@ def later_script(mltx, workers):
     wanted += [f"{seen}{refused}counter 7 1", f"{seen}is 1|{refused}counter 7 1"]
     ample = runs.ample(LATER_SCRIPT)
     same(ample.out, lines(wanted[0]), "run with ample memory")
-    for what, came in runs.one_refused(lambda number: runs.run(LATER_SCRIPT, first=number, last=number)):
+    for what, came in runs.one_refused(lambda number: runs.run(LATER_SCRIPT, first=number)):
         if not is_given_up(came, ample):
             same((came.status, came.err), (0, ""), what)
             holds(came.out in map(lines, wanted), f"{what}: {came.out!r}, which is none of {wanted}")
@@ -316,7 +321,7 @@ def check(mltx, case):
     wanted = Came(status, lines(out), lines(err))
     same(runs.run(lines(text)), wanted, "check with ample memory")
     given_up = 0
-    for what, came in runs.one_refused(lambda number: runs.run(lines(text), first=number, last=number)):
+    for what, came in runs.one_refused(lambda number: runs.run(lines(text), first=number)):
         if came == Came(1, "", WANT.decode()):
             given_up += 1
         else:
@@ -416,7 +421,7 @@ def serve(mltx, case):
     kept = {None: talk(runs, said)}
     same(kept[None][1], tells, "serve with ample memory")
     ways = set()
-    for what, (ended, heard) in runs.one_refused(lambda number: talk(runs, said, first=number, last=number)):
+    for what, (ended, heard) in runs.one_refused(lambda number: talk(runs, said, first=number)):
         if (ended.status, ended.err) == (1, WANT.decode()):
             ways.add("given up")
             holds(heard == tells[: len(heard)], f"{what}: {heard}, which is no front of {tells}")
