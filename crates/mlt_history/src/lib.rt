@@ -14,3 +14,6 @@ pub use laws::{
     items_count_the_committed, items_grow_by_entries,
 };
 pub use rooms::{Rooms, rooms_add_up};
+
+#[cfg(test)]
+mod tests;
