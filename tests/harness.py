@@ -299,8 +299,10 @@ def command(words, redirect=""):
 
 
 def free_address():
+    """An address that nobody else takes before a server does: that of this process, by its number, and a free port."""
+    process = os.getpid()
     with socket.socket() as free:
-        free.bind(("127.0.0.1", 0))
+        free.bind(("127.%d.%d.%d" % (64 + (process >> 16 & 63), process >> 8 & 255, process & 255), 0))
         return free.getsockname()
 
 
