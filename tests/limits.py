@@ -602,6 +602,21 @@ def a_session_of_five_thousand_lines_one_at_a_time(mltx):
         same(peer.ask("read 7"), "is 5000", "read")
 
 
+@test(seconds=1)
+def three_thousand_transactions_of_sessions(mltx):
+    """Each transaction has its receipt: thousands in one session, and hundreds in one session after the other."""
+    many, sessions, trace = 3000, 200, mltx.folder / "trace"
+    said = "begin\nup 7 1\ncommit\n"
+    with mltx.serve("--sessions", 1, "--trace", trace, limit=1 + sessions) as server:
+        told = [f"begun {t}\ndone\ncommitted {t}\n" for t in range(1, many + sessions + 1)]
+        same(server.talk(said * many).decode(), "".join(told[:many]), f"{many} transactions of a session")
+        for t in range(many, many + sessions):
+            same(server.talk(said).decode(), told[t], f"session {t - many + 2}")
+        expect(server.end(), out=f"served {1 + sessions}\n")
+    serial = "".join(f"serial {t}\n" for t in range(1, many + sessions + 1))
+    expect(mltx.check(trace), out=f"{serial}counter 7 {many + sessions}\n", what="the check of the trace")
+
+
 # A long life.
 
 
