@@ -223,9 +223,7 @@ class Server:
     def talk(self, sent):
         """All that is answered to these bytes, sent at once, with the end of the input after them."""
         with self.connect() as peer:
-            peer.send(sent)
-            peer.end()
-            return peer.rest()
+            return peer.say_all(sent)
 
     def end(self):
         """What the server came to, once it ended by itself."""
