@@ -256,11 +256,14 @@ fn text_of_a_base(rt: HostRuntime) -> Result<(), Fail> {
     is_written(&base, FaultyWriter::new(rt.alloc()), Ok(()), TEXT)
 }
 
-// The writer takes at most seven bytes at a time.
+// How many writes of seven bytes at most the text takes.
+const WRITES: usize = 24;
+
 #[test]
 fn write_fault_leaves_a_front(rt: HostRuntime) -> Result<(), Fail> {
     let base = base_after(rt.alloc(), MAKING)?;
-    for at in 0..TEXT.len().div_ceil(7) {
+    same(&TEXT.len().div_ceil(7), &WRITES)?;
+    for at in 0..WRITES {
         let writer = FaultyWriter::of_pieces(rt.alloc(), 7).failing(at, KINDS[at % 4]);
         let front = TEXT.get(..at * 7).unwrap_or_default();
         is_written(&base, writer, Err(Refusal::Io), front)?;

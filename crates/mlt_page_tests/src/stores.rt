@@ -12,6 +12,7 @@ use mlt_subtx::Subtx;
 use mlt_test_tools::same;
 use mlt_types::{Limits, PageNo, Refusal, TxId};
 use std::alloc::Global;
+use std::process::Abort;
 use std::test::Fail;
 
 fn bucket(depth: u8) -> Page {
@@ -44,46 +45,67 @@ fn numbers_come_again(rt: HostRuntime) -> Result<(), Fail> {
     )
 }
 
-// A subtransaction of transaction 7 at work.
+// A subtransaction of transaction 7 at work, which has asked for so many locks, with room for 64.
 #[derive(Drop)]
 struct Bench {
     subtx: Subtx,
     store: Store,
     locks: PageLocks,
+    asked: u32,
     ghost there: { AreThere subtx.images store.pages },
     ghost locked: { LocksPagesThere locks store.pages },
-    ghost few: { HasAtMost 0 locks },
+    ghost few: { HasAtMost asked locks },
     ghost room: { locks.max_open ≡ 64 },
 }
 
-fn at_work(alloc: Global) -> Result<Bench, Refusal> {
+// A store with three pages, and room for one page more.
+fn three_pages(alloc: Global) -> Result<(Store, [PageNo; 3]), Refusal> {
+    let mut store = empty(alloc, 4)?;
+    let first = store.grow(bucket(1))?;
+    let second = store.grow(bucket(2))?;
+    let third = store.grow(bucket(3))?;
+    Ok((store, [first, second, third]))
+}
+
+fn at_work(alloc: Global, store: Store) -> Result<Bench, Refusal> {
+    let locks = PageLocks::new(alloc, &Limits::program())?;
+    let subtx = Subtx::start(alloc, TxId(7));
     Ok(Bench {
-        subtx: Subtx::start(alloc, TxId(7)),
-        store: empty(alloc, 4)?,
-        locks: PageLocks::new(alloc, &Limits::program())?,
+        subtx,
+        store,
+        locks,
+        asked: 0,
     })
 }
 
 impl Bench {
-    // Makes a page in the store, and writes it.
-    fn write(&mut self) -> Result<(), Refusal> {
-        let number = self.store.grow(bucket(0))?;
-        self.subtx.write(&mut self.store, number, bucket(8))
+    fn write(&mut self, number: PageNo) -> Result<(), Refusal> {
+        if self.store.read(number).is_none() {
+            return Err(Refusal::NoRoom);
+        }
+        self.subtx.write(&mut self.store, number, bucket(8))?;
+        Ok(())
+    }
+
+    fn grow(&mut self, rt: &impl Abort) -> Result<PageNo, Refusal> {
+        assert!(rt; self.asked < 64);
+        let number = self
+            .subtx
+            .grow(&mut self.store, &mut self.locks, bucket(4))?;
+        self.asked += 1;
+        Ok(number)
     }
 }
 
+// Writes of three pages, and a page that is made. What is written of the first one, and the number of pages, is seen.
 #[test]
 fn direct_calls(rt: HostRuntime) -> Result<(), Fail> {
-    let mut bench = at_work(rt.alloc())?;
-    for _ in 0..3 {
-        bench.write()?;
+    let (store, pages) = three_pages(rt.alloc())?;
+    let mut bench = at_work(rt.alloc(), store)?;
+    for page in pages {
+        bench.write(page)?;
     }
-    let Bench {
-        mut subtx,
-        mut store,
-        mut locks,
-    } = bench;
-    let made = subtx.grow(&mut store, &mut locks, bucket(4))?;
-    assert!(rt; store.read(made).is_some());
-    same(&store.len(), &4)
+    bench.grow(&rt)?;
+    assert!(rt; bench.store.read(pages[0]).copied() == Some(bucket(8)));
+    same(&bench.store.len(), &4)
 }
