@@ -4,9 +4,11 @@ use mlt_audit::audit;
 use mlt_check::committed_base;
 use mlt_kinds::{AccountOp, Done, ObjOp, ObjReply};
 use mlt_serial::{End, Outcome, Transcript};
+use mlt_test_tools::same;
 use mlt_trace::TraceItem;
 use mlt_types::{Refusal, TxId};
 use std::alloc::Global;
+use std::test::Fail;
 
 // The receipt of a script that did this and committed, under this number.
 fn receipt(alloc: Global, one: Done, number: u64) -> Result<Outcome, Refusal> {
@@ -22,7 +24,7 @@ fn receipt(alloc: Global, one: Done, number: u64) -> Result<Outcome, Refusal> {
 }
 
 #[test]
-fn receipt_of_another_commit(rt: HostRuntime) -> Result<(), Refusal> {
+fn receipt_of_another_commit(rt: HostRuntime) -> Result<(), Fail> {
     let open = Done::new(ObjOp::Account(1, AccountOp::Open), ObjReply::Opened);
     let items = [
         TraceItem::Begin(TxId(1)),
@@ -32,8 +34,7 @@ fn receipt_of_another_commit(rt: HostRuntime) -> Result<(), Refusal> {
     // Accepted items have their places.
     let _base = committed_base(rt.alloc(), &items)?;
     let own = [receipt(rt.alloc(), open, 1)?];
-    assert!(rt; audit(&own, &items) == Ok(()));
+    same(&audit(&own, &items), &Ok(()))?;
     let other = [receipt(rt.alloc(), open, 2)?];
-    assert!(rt; audit(&other, &items) == Err(Refusal::Audit));
-    Ok(())
+    same(&audit(&other, &items), &Err(Refusal::Audit))
 }

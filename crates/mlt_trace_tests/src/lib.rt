@@ -8,12 +8,8 @@ mod audits;
 #[cfg(test)]
 mod checks;
 #[cfg(test)]
+mod failing;
+#[cfg(test)]
 mod faults;
 #[cfg(test)]
-mod items;
-#[cfg(test)]
-mod orders;
-#[cfg(test)]
 mod rows;
-#[cfg(test)]
-mod texts;
