@@ -1,14 +1,13 @@
-//! Texts of scripts, cursors, and words of operations and replies.
+//! Texts of scripts, cursors, and the clients of scripts.
 
-use crate::checks::{same, same_at};
 use mlt_cursor::{Cursor, Next};
 use mlt_kinds::{AccountOp, CounterOp, ElementOp, ObjOp, ObjReply};
 use mlt_print::print;
-use mlt_script::{parse, read_op, read_reply};
+use mlt_script::parse;
+use mlt_test_tools::{same, same_at};
 use mlt_tree::by_client;
 use mlt_types::{Refusal, ScriptCause};
 use std::alloc::{AllocError, Global};
-use std::process::Abort;
 use std::test::Fail;
 
 /// How many scripts a text has, or the line of its first fault and why.
@@ -39,8 +38,9 @@ fn repeated(
     Ok(text)
 }
 
-// Statements between a `begin` and a `commit`: words of operations.
-const OPERATIONS: &[(&[u8], Outcome)] = &[
+// Statements between a `begin` and a `commit`.
+const STATEMENTS: &[(&[u8], Outcome)] = &[
+    // Words of operations.
     (b"frob 1", Err((2, ScriptCause::Words))),
     (b"open", Err((2, ScriptCause::Words))),
     (b"open x", Err((2, ScriptCause::Words))),
@@ -79,10 +79,7 @@ const OPERATIONS: &[(&[u8], Outcome)] = &[
     (b"read 1 1", Err((2, ScriptCause::Words))),
     (b"commit 1", Err((2, ScriptCause::Words))),
     (b"begin 1000", Err((2, ScriptCause::Words))),
-];
-
-// Statements between a `begin` and a `commit`: words of other statements.
-const STATEMENTS: &[(&[u8], Outcome)] = &[
+    // Words of other statements.
     (b"need open 1 is opened", Ok(1)),
     (b"need open 1 is yes", Ok(1)),
     (b"need open 1 opened", Err((2, ScriptCause::Words))),
@@ -112,8 +109,9 @@ const STATEMENTS: &[(&[u8], Outcome)] = &[
     (b"if has 4 9 is yes\nend if", Err((3, ScriptCause::Words))),
 ];
 
-// Scripts, and what may stand where.
-const SCRIPTS: &[(&[u8], Outcome)] = &[
+// Whole texts.
+const TEXTS: &[(&[u8], Outcome)] = &[
+    // Scripts, and what may stand where.
     (b"", Ok(0)),
     (b"\n \t\n# x", Ok(0)),
     (b"begin\ncommit", Ok(1)),
@@ -139,10 +137,7 @@ const SCRIPTS: &[(&[u8], Outcome)] = &[
     (b"begin\nopen 1", Err((2, ScriptCause::Unfinished))),
     (b"begin\nbegin", Err((2, ScriptCause::Place))),
     (b"begin\nfrob\nopen x\n", Err((2, ScriptCause::Words))),
-];
-
-// Where an `else` and an `end` may stand.
-const IFS: &[(&[u8], Outcome)] = &[
+    // Where an `else` and an `end` may stand.
     (b"else\n", Err((1, ScriptCause::Place))),
     (b"end\n", Err((1, ScriptCause::Place))),
     (b"begin\nelse\n", Err((2, ScriptCause::Place))),
@@ -175,10 +170,7 @@ const IFS: &[(&[u8], Outcome)] = &[
         b"begin\nif read 1 is 0\nif read 2 is 0\nelse\nend\nelse\nend\ncommit\n",
         Ok(1),
     ),
-];
-
-// Bytes that may stand in a line.
-const LINES: &[(&[u8], Outcome)] = &[
+    // Bytes that may stand in a line.
     (b"#\xFF\x00\r\x07\n", Ok(0)),
     (b" \t#\xFF", Ok(0)),
     (b"begin\nopen \xFF\ncommit\n", Err((2, ScriptCause::Line))),
@@ -310,269 +302,181 @@ const PATHS: &[(&[u8], &[u8], usize, &[u8], Outcome)] = &[
         b"commit\n",
         Err((514, ScriptCause::Long)),
     ),
+    // The limit of ifs in ifs: 16.
+    (
+        b"begin\n",
+        b"if read 1 is 0\n",
+        16,
+        b"open 1\n",
+        Err((18, ScriptCause::Unfinished)),
+    ),
+    (
+        b"begin\n",
+        b"if read 1 is 0\n",
+        17,
+        b"",
+        Err((18, ScriptCause::Deep)),
+    ),
 ];
 
-/// Each statement has this outcome between a `begin` and a `commit`.
-fn statements_are_read(
-    rt: &impl Abort,
+/// Each text, between these two, has this outcome.
+fn are_read(
     alloc: Global,
+    before: &[u8],
     table: &[(&[u8], Outcome)],
+    after: &[u8],
 ) -> Result<(), Fail> {
-    for (statement, expected) in table {
-        let text = repeated(alloc, b"begin\n", statement, 1, b"\ncommit\n")?;
-        same_at(rt, statement, &outcome(alloc, &text)?, expected);
+    for (middle, expected) in table {
+        let text = repeated(alloc, before, middle, 1, after)?;
+        same_at(middle, &outcome(alloc, &text)?, expected)?;
     }
     Ok(())
 }
 
 #[test]
-fn words_of_operations(rt: HostRuntime) -> Result<(), Fail> {
-    statements_are_read(&rt, rt.alloc(), OPERATIONS)
-}
-
-#[test]
-fn words_of_statements(rt: HostRuntime) -> Result<(), Fail> {
-    statements_are_read(&rt, rt.alloc(), STATEMENTS)
-}
-
-/// Each text has this outcome.
-fn texts_are_read(rt: &impl Abort, alloc: Global, table: &[(&[u8], Outcome)]) -> Result<(), Fail> {
-    for (text, expected) in table {
-        same_at(rt, text, &outcome(alloc, text)?, expected);
-    }
-    Ok(())
+fn statements_are_read(rt: HostRuntime) -> Result<(), Fail> {
+    are_read(rt.alloc(), b"begin\n", STATEMENTS, b"\ncommit\n")
 }
 
 #[test]
 fn script_faults(rt: HostRuntime) -> Result<(), Fail> {
-    texts_are_read(&rt, rt.alloc(), SCRIPTS)
-}
-
-#[test]
-fn places_of_ifs(rt: HostRuntime) -> Result<(), Fail> {
-    texts_are_read(&rt, rt.alloc(), IFS)
-}
-
-#[test]
-fn bytes_of_lines(rt: HostRuntime) -> Result<(), Fail> {
-    texts_are_read(&rt, rt.alloc(), LINES)
-}
-
-/// Each byte but the LF, alone on a line: a fault of the line, or of its words, or blank.
-#[test]
-fn each_byte(rt: HostRuntime) -> Result<(), Fail> {
-    for byte in 0..=255u8 {
-        let text = repeated(rt.alloc(), b"begin\n", &[byte], 1, b"x\ncommit\n")?;
-        let expected: Outcome = match byte {
-            b'\n' => Err((3, ScriptCause::Words)),
-            b'#' => Ok(1),
-            b'\t' | b' '..=b'~' => Err((2, ScriptCause::Words)),
-            _ => Err((2, ScriptCause::Line)),
-        };
-        same(&rt, &outcome(rt.alloc(), &text)?, &expected);
-    }
-    Ok(())
+    are_read(rt.alloc(), b"", TEXTS, b"")
 }
 
 /// Each text, its middle repeated, has this outcome.
 fn repeated_texts_are_read(
-    rt: &impl Abort,
     alloc: Global,
     table: &[(&[u8], &[u8], usize, &[u8], Outcome)],
 ) -> Result<(), Fail> {
     for (before, middle, times, after, expected) in table {
         let text = repeated(alloc, before, middle, *times, after)?;
-        same_at(rt, times, &outcome(alloc, &text)?, expected);
+        same_at(times, &outcome(alloc, &text)?, expected)?;
     }
     Ok(())
 }
 
 #[test]
 fn line_limits(rt: HostRuntime) -> Result<(), Fail> {
-    repeated_texts_are_read(&rt, rt.alloc(), LONG_LINES)
+    repeated_texts_are_read(rt.alloc(), LONG_LINES)
 }
 
 #[test]
 fn operations_on_a_path(rt: HostRuntime) -> Result<(), Fail> {
-    repeated_texts_are_read(&rt, rt.alloc(), PATHS)
-}
-
-#[test]
-fn ifs_in_ifs(rt: HostRuntime) -> Result<(), Fail> {
-    let mut text = repeated(rt.alloc(), b"begin\n", b"if read 1 is 0\n", 16, b"open 1\n")?;
-    for _ in 0..16 {
-        text.extend_from_slice(b"else\nopen 2\nend\n")?;
-    }
-    text.extend_from_slice(b"commit\n")?;
-    same(&rt, &outcome(rt.alloc(), &text)?, &Ok(1));
-    let deep = repeated(rt.alloc(), b"begin\n", b"if read 1 is 0\n", 17, b"")?;
-    same(
-        &rt,
-        &outcome(rt.alloc(), &deep)?,
-        &Err((18, ScriptCause::Deep)),
-    );
-    Ok(())
-}
-
-/// The operation that the cursor told of, where it was told the reply to it.
-fn told(cursor: &mut Cursor, reply: ObjReply) -> Option<ObjOp> {
-    match cursor.next() {
-        Next::Op(op) => {
-            cursor.tell(reply);
-            Some(op)
-        }
-        _ => None,
-    }
+    repeated_texts_are_read(rt.alloc(), PATHS)
 }
 
 const TRANSFER: &[u8] =
     b"begin\nopen 1\ndeposit 1 9\nlet v = balance 1\nif withdraw 1 v is done\nclose 1\nelse\nbalance 1\nend\ncommit\n";
 
-#[test]
-fn cursors_take_the_first_part(rt: HostRuntime) -> Result<(), Fail> {
-    let scripts = parse(rt.alloc(), TRANSFER)?;
-    assert!(rt; scripts.len() == 1);
-    let mut cursor = Cursor::new(&scripts[0]);
-    for (op, reply) in [
-        (AccountOp::Open, ObjReply::Opened),
-        (AccountOp::Deposit(9), ObjReply::Done),
-        (AccountOp::Balance, ObjReply::Is(7)),
-        (AccountOp::Withdraw(7), ObjReply::Done),
-        (AccountOp::Close, ObjReply::NotEmpty),
-    ] {
-        same(&rt, &told(&mut cursor, reply), &Some(ObjOp::Account(1, op)));
+const NEEDS: &[u8] =
+    b"begin\nneed add 4 9 is added\nlet c = read 7\nneed up 7 c is done\nneed read 7 is c\nabort\n";
+
+// A script, the operations that a cursor asks for with the reply to each, and what comes then.
+type Path = (&'static [u8], &'static [(ObjOp, ObjReply)], Next);
+
+const PATHS_OF_CURSORS: &[Path] = &[
+    // The first part of an `if`, and the second.
+    (
+        TRANSFER,
+        &[
+            (ObjOp::Account(1, AccountOp::Open), ObjReply::Opened),
+            (ObjOp::Account(1, AccountOp::Deposit(9)), ObjReply::Done),
+            (ObjOp::Account(1, AccountOp::Balance), ObjReply::Is(7)),
+            (ObjOp::Account(1, AccountOp::Withdraw(7)), ObjReply::Done),
+            (ObjOp::Account(1, AccountOp::Close), ObjReply::NotEmpty),
+        ],
+        Next::Commit,
+    ),
+    (
+        TRANSFER,
+        &[
+            (ObjOp::Account(1, AccountOp::Open), ObjReply::Exists),
+            (ObjOp::Account(1, AccountOp::Deposit(9)), ObjReply::Missing),
+            (ObjOp::Account(1, AccountOp::Balance), ObjReply::Missing),
+            (ObjOp::Account(1, AccountOp::Withdraw(0)), ObjReply::Missing),
+            (ObjOp::Account(1, AccountOp::Balance), ObjReply::Missing),
+        ],
+        Next::Commit,
+    ),
+    // Needs that are met, and one that is not.
+    (
+        NEEDS,
+        &[
+            (ObjOp::Element(4, 9, ElementOp::Add), ObjReply::Added),
+            (ObjOp::Counter(7, CounterOp::Read), ObjReply::Is(3)),
+            (ObjOp::Counter(7, CounterOp::Up(3)), ObjReply::Done),
+            (ObjOp::Counter(7, CounterOp::Read), ObjReply::Is(3)),
+        ],
+        Next::Abort,
+    ),
+    (
+        NEEDS,
+        &[(ObjOp::Element(4, 9, ElementOp::Add), ObjReply::Present)],
+        Next::Abort,
+    ),
+];
+
+// The cursor asks for these operations.
+fn asks(cursor: &mut Cursor, path: &[(ObjOp, ObjReply)]) -> Result<(), Fail> {
+    for (wanted, reply) in path {
+        let Next::Op(op) = cursor.next() else {
+            return Err(Fail::new("no operation"));
+        };
+        same(&op, wanted)?;
+        cursor.tell(*reply);
     }
-    same(&rt, &cursor.next(), &Next::Commit);
     Ok(())
 }
 
 #[test]
-fn cursors_take_the_second_part(rt: HostRuntime) -> Result<(), Fail> {
-    let scripts = parse(rt.alloc(), TRANSFER)?;
-    assert!(rt; scripts.len() == 1);
-    let mut cursor = Cursor::new(&scripts[0]);
-    for (op, reply) in [
-        (AccountOp::Open, ObjReply::Exists),
-        (AccountOp::Deposit(9), ObjReply::Missing),
-        (AccountOp::Balance, ObjReply::Missing),
-        (AccountOp::Withdraw(0), ObjReply::Missing),
-        (AccountOp::Balance, ObjReply::Missing),
-    ] {
-        same(&rt, &told(&mut cursor, reply), &Some(ObjOp::Account(1, op)));
-    }
-    same(&rt, &cursor.next(), &Next::Commit);
-    Ok(())
-}
-
-#[test]
-fn cursors_follow_needs(rt: HostRuntime) -> Result<(), Fail> {
-    let text =
-        b"begin\nneed add 4 9 is added\nlet c = read 7\nneed up 7 c is done\nneed read 7 is c\nabort\n";
-    let scripts = parse(rt.alloc(), text)?;
-    assert!(rt; scripts.len() == 1);
-    let mut passing = Cursor::new(&scripts[0]);
-    for (op, reply) in [
-        (ObjOp::Element(4, 9, ElementOp::Add), ObjReply::Added),
-        (ObjOp::Counter(7, CounterOp::Read), ObjReply::Is(3)),
-        (ObjOp::Counter(7, CounterOp::Up(3)), ObjReply::Done),
-        (ObjOp::Counter(7, CounterOp::Read), ObjReply::Is(3)),
-    ] {
-        same(&rt, &told(&mut passing, reply), &Some(op));
-    }
-    same(&rt, &passing.next(), &Next::Abort);
-    let mut failing = Cursor::new(&scripts[0]);
-    let first = ObjOp::Element(4, 9, ElementOp::Add);
-    same(&rt, &told(&mut failing, ObjReply::Present), &Some(first));
-    same(&rt, &failing.next(), &Next::Abort);
-    Ok(())
-}
-
-#[test]
-fn operations_are_read(rt: HostRuntime) {
-    for (text, expected, left) in [
-        (
-            b"deposit 1 5".as_slice(),
-            Some(ObjOp::Account(1, AccountOp::Deposit(5))),
-            b"".as_slice(),
-        ),
-        (
-            b" \tadd 4\t9 added",
-            Some(ObjOp::Element(4, 9, ElementOp::Add)),
-            b" added",
-        ),
-        (
-            b"read 7 is 1",
-            Some(ObjOp::Counter(7, CounterOp::Read)),
-            b" is 1",
-        ),
-        (b"deposit 1 v", None, b""),
-        (b"deposit 1", None, b""),
-        (b"", None, b""),
-    ] {
-        match read_op(text) {
-            Some((op, rest)) => {
-                same(&rt, &Some(op), &expected);
-                same(&rt, &rest, &left);
-            }
-            None => same(&rt, &None, &expected),
+fn cursors_follow_scripts(rt: HostRuntime) -> Result<(), Fail> {
+    for (text, path, end) in PATHS_OF_CURSORS {
+        for script in &parse(rt.alloc(), text)? {
+            let mut cursor = Cursor::new(script);
+            asks(&mut cursor, path)?;
+            same(&cursor.next(), end)?;
         }
     }
+    Ok(())
 }
 
-#[test]
-fn replies_are_read(rt: HostRuntime) {
-    for (text, expected) in [
-        (b"opened".as_slice(), Some(ObjReply::Opened)),
-        (b"is 7", Some(ObjReply::Is(7))),
-        (b"is 18446744073709551616", None),
-        (b"is", None),
-        (b"7", None),
-        (b"absent more", Some(ObjReply::Absent)),
-        (b"open", None),
-    ] {
-        match read_reply(text) {
-            Some((reply, _)) => same(&rt, &Some(reply), &expected),
-            None => same(&rt, &None, &expected),
-        }
-    }
-}
-
-/// The text of the scripts that a text spells.
-fn printed(rt: &HostRuntime, text: &[u8]) -> Result<String, Refusal> {
-    let scripts = parse(rt.alloc(), text)?;
-    print(rt.alloc(), scripts.as_slice())
-}
+// Scripts, and how they are printed.
+const PRINTED: &[(&[u8], &[u8])] = &[
+    (TRANSFER, TRANSFER),
+    (
+        b"# two scripts\n\nbegin 7\nopen 1\r\n\tdeposit  1\t0005 \nneed balance 1 is 5\nif has 4 9 is yes\nelse\nend\n\
+if read 1 is v\nelse\nup 1 v\nend\ncommit\n\nbegin 0\nneed withdraw 4294967295 18446744073709551615 is short\n\
+let z = read 2\nabort",
+        b"begin 7\nopen 1\ndeposit 1 5\nneed balance 1 is 5\nif has 4 9 is yes\nend\nif read 1 is v\nelse\nup 1 v\n\
+end\ncommit\nbegin\nneed withdraw 4294967295 18446744073709551615 is short\nlet z = read 2\nabort\n",
+    ),
+];
 
 #[test]
 fn scripts_are_printed(rt: HostRuntime) -> Result<(), Fail> {
-    same(&rt, &printed(&rt, TRANSFER)?.as_bytes(), &TRANSFER);
-    let text =
-        b"# two scripts\n\nbegin 7\nopen 1\r\n\tdeposit  1\t0005 \nneed balance 1 is 5\nif has 4 9 is yes\nelse\nend\nif read 1 is v\nelse\nup 1 v\nend\ncommit\n\nbegin 0\nneed withdraw 4294967295 18446744073709551615 is short\nlet z = read 2\nabort";
-    let wanted =
-        b"begin 7\nopen 1\ndeposit 1 5\nneed balance 1 is 5\nif has 4 9 is yes\nend\nif read 1 is v\nelse\nup 1 v\nend\ncommit\nbegin\nneed withdraw 4294967295 18446744073709551615 is short\nlet z = read 2\nabort\n";
-    same(&rt, &printed(&rt, text)?.as_bytes(), &wanted.as_slice());
+    for (text, wanted) in PRINTED {
+        let scripts = parse(rt.alloc(), text)?;
+        let printed = print(rt.alloc(), &scripts)?;
+        same(&printed.as_bytes(), wanted)?;
+    }
     Ok(())
 }
 
+const OF_CLIENTS: &[u8] =
+    b"begin 999\nopen 1\ncommit\nbegin\nopen 2\ncommit\nbegin 7\nopen 3\ncommit\nbegin 999\nopen 4\nabort\n";
+
+// The scripts of each client, those of the client with the lowest number first.
+const BY_CLIENT: &[u8] =
+    b"begin\nopen 2\ncommit\n|begin 7\nopen 3\ncommit\n|begin 999\nopen 1\ncommit\nbegin 999\nopen 4\nabort\n|";
+
 #[test]
 fn scripts_are_parted_by_client(rt: HostRuntime) -> Result<(), Fail> {
-    let text =
-        b"begin 999\nopen 1\ncommit\nbegin\nopen 2\ncommit\nbegin 7\nopen 3\ncommit\nbegin 999\nopen 4\nabort\n";
-    let scripts = parse(rt.alloc(), text)?;
-    let parts = by_client(rt.alloc(), scripts)?;
-    same(&rt, &parts.len(), &3);
-    for (part, wanted) in [
-        (0usize, b"begin\nopen 2\ncommit\n".as_slice()),
-        (1, b"begin 7\nopen 3\ncommit\n"),
-        (2, b"begin 999\nopen 1\ncommit\nbegin 999\nopen 4\nabort\n"),
-    ] {
-        match parts.get(part) {
-            Some(part) => {
-                let text = print(rt.alloc(), part.as_slice())?;
-                same(&rt, &text.as_bytes(), &wanted);
-            }
-            None => same(&rt, &part, &parts.len()),
-        }
+    let scripts = parse(rt.alloc(), OF_CLIENTS)?;
+    let mut found = Vec::new(rt.alloc());
+    for part in &by_client(rt.alloc(), scripts)? {
+        let text = print(rt.alloc(), part)?;
+        found.extend_from_slice(text.as_bytes())?;
+        found.push(b'|')?;
     }
-    Ok(())
+    same(&found.as_slice(), &BY_CLIENT)
 }
