@@ -1,6 +1,5 @@
 //! Runs each schedule three ways on new managers, and compares what is told, written and seen with what it says.
 
-use crate::checks::same;
 use crate::schedule::{
     Part, Row, Schedule, Sight, lines_of, push_lines, push_tells, tells_of, text_of,
 };
@@ -8,105 +7,95 @@ use mlt_base::write_base;
 use mlt_event_text::{parse_events, told_text};
 use mlt_manager::Manager;
 use mlt_steps::steps;
+use mlt_test_tools::same;
 use mlt_trace::write_trace;
-use mlt_types::{Limits, Pseudo, Refusal};
+use mlt_types::{Limits, Low, Mult, Pseudo};
 use std::alloc::Global;
-use std::process::Abort;
+use std::test::Fail;
 
 /// Runs a schedule event by event, by `play`, and as a text by `steps`.
-pub fn runs<P: Pseudo + Copy + Drop>(
-    rt: &impl Abort,
-    alloc: Global,
-    limits: Limits,
-    pseudo: P,
-    schedule: &Schedule,
-) -> Result<(), Refusal> {
-    by_act(rt, alloc, limits, pseudo, schedule)?;
-    by_play(rt, alloc, limits, pseudo, schedule)?;
-    by_steps(rt, alloc, limits, pseudo, schedule)
+pub fn runs(alloc: Global, schedule: &Schedule) -> Result<(), Fail> {
+    let (open, ids, pages, depth, ops) = schedule.bounds;
+    let limits = Limits::checked(open, ids, pages, depth, ops)?;
+    if schedule.is_low {
+        runs_with(alloc, limits, Low, schedule)
+    } else {
+        runs_with(alloc, limits, Mult, schedule)
+    }
 }
 
-fn by_act<P: Pseudo + Drop>(
-    rt: &impl Abort,
+fn runs_with<P: Pseudo + Copy + Drop>(
     alloc: Global,
     limits: Limits,
     pseudo: P,
     schedule: &Schedule,
-) -> Result<(), Refusal> {
+) -> Result<(), Fail> {
     let manager = Manager::new(alloc, limits, pseudo)?;
-    ends(rt, alloc, manager, schedule.parts, schedule.end)
+    ends(alloc, manager, schedule.parts, schedule.end)?;
+    by_play(alloc, limits, pseudo, schedule)?;
+    by_steps(alloc, limits, pseudo, schedule)
 }
 
 fn by_play<P: Pseudo + Drop>(
-    rt: &impl Abort,
     alloc: Global,
     limits: Limits,
     pseudo: P,
     schedule: &Schedule,
-) -> Result<(), Refusal> {
+) -> Result<(), Fail> {
     let lines = lines_of(alloc, schedule)?;
     let wanted = tells_of(alloc, schedule)?;
     let events = parse_events(alloc, lines.as_bytes())?;
     let (manager, tells) = Manager::play(alloc, limits, pseudo, &events)?;
-    ends(rt, alloc, manager, &[], schedule.end)?;
+    ends(alloc, manager, &[], schedule.end)?;
     let found = told_text(alloc, &tells)?;
-    same(rt, &found.as_str(), &wanted.as_str());
-    Ok(())
+    same(&found.as_str(), &wanted.as_str())
 }
 
 fn by_steps<P: Pseudo + Drop>(
-    rt: &impl Abort,
     alloc: Global,
     limits: Limits,
     pseudo: P,
     schedule: &Schedule,
-) -> Result<(), Refusal> {
+) -> Result<(), Fail> {
     let lines = lines_of(alloc, schedule)?;
     let wanted = text_of(alloc, schedule)?;
     let mut input = lines.as_bytes();
     let mut written = Vec::new(alloc);
     let manager = steps(alloc, &mut input, &mut written, limits, pseudo)?;
-    same(rt, &str::from_utf8(&written).ok(), &Some(wanted.as_str()));
-    ends(rt, alloc, manager, &[], schedule.end)
+    ends(alloc, manager, &[], schedule.end)?;
+    same(&written.as_slice(), &wanted.as_bytes())
 }
 
 /// Takes a manager through these parts, looks at the end for what is to be seen there, and closes it. All managers of
 /// these tests end here.
 pub fn ends<P: Pseudo + Drop>(
-    rt: &impl Abort,
     alloc: Global,
     mut manager: Manager<P>,
     parts: &[Part],
     end: &[Sight],
-) -> Result<(), Refusal> {
-    let result = goes_through(rt, alloc, &mut manager, parts, end);
+) -> Result<(), Fail> {
+    let result = goes_through(alloc, &mut manager, parts, end);
     manager.close();
     result
 }
 
 fn goes_through<P: Pseudo>(
-    rt: &impl Abort,
     alloc: Global,
     manager: &mut Manager<P>,
     parts: &[Part],
     end: &[Sight],
-) -> Result<(), Refusal> {
+) -> Result<(), Fail> {
     for part in parts {
         match part {
-            Part::Told(rows) => are_told(rt, alloc, manager, rows)?,
-            Part::Seen(sights) => are_seen(rt, alloc, manager, sights)?,
+            Part::Told(rows) => are_told(alloc, manager, rows)?,
+            Part::Seen(sights) => are_seen(alloc, manager, sights)?,
         }
     }
-    are_seen(rt, alloc, manager, end)
+    are_seen(alloc, manager, end)
 }
 
 // The events of these rows, one by one, are told what the rows say.
-fn are_told<P: Pseudo>(
-    rt: &impl Abort,
-    alloc: Global,
-    manager: &mut Manager<P>,
-    rows: &[Row],
-) -> Result<(), Refusal> {
+fn are_told<P: Pseudo>(alloc: Global, manager: &mut Manager<P>, rows: &[Row]) -> Result<(), Fail> {
     let mut lines = String::new(alloc);
     push_lines(&mut lines, rows)?;
     let mut wanted = String::new(alloc);
@@ -116,50 +105,32 @@ fn are_told<P: Pseudo>(
         let told = manager.act(event);
         writeln!(found, "{told}")?;
     }
-    same(rt, &found.as_str(), &wanted.as_str());
-    Ok(())
+    same(&found.as_str(), &wanted.as_str())
 }
 
-/// All this is to be seen of a manager.
-pub fn are_seen<P: Pseudo>(
-    rt: &impl Abort,
-    alloc: Global,
-    manager: &Manager<P>,
-    sights: &[Sight],
-) -> Result<(), Refusal> {
+// All this is to be seen of a manager.
+fn are_seen<P: Pseudo>(alloc: Global, manager: &Manager<P>, sights: &[Sight]) -> Result<(), Fail> {
     for sight in sights {
         match *sight {
-            Sight::Base(text) => has_base(rt, alloc, manager, text)?,
-            Sight::Depth(wanted) => same(rt, &manager.depth(), &wanted),
-            Sight::Pages(wanted) => same(rt, &manager.pages().len(), &wanted),
-            Sight::Events(wanted) => same(rt, &manager.events(), &wanted),
-            Sight::Trace(text) => has_trace(rt, alloc, manager, text)?,
+            Sight::Base(text) => has_base(alloc, manager, text)?,
+            Sight::Depth(wanted) => same(&manager.depth(), &wanted)?,
+            Sight::Pages(wanted) => same(&manager.pages().len(), &wanted)?,
+            Sight::Events(wanted) => same(&manager.events(), &wanted)?,
+            Sight::Trace(text) => has_trace(alloc, manager, text)?,
         }
     }
     Ok(())
 }
 
-fn has_base<P: Pseudo>(
-    rt: &impl Abort,
-    alloc: Global,
-    manager: &Manager<P>,
-    wanted: &str,
-) -> Result<(), Refusal> {
+fn has_base<P: Pseudo>(alloc: Global, manager: &Manager<P>, wanted: &str) -> Result<(), Fail> {
     let base = manager.base()?;
     let mut text = Vec::new(alloc);
     write_base(&base, &mut text)?;
-    same(rt, &str::from_utf8(&text).ok(), &Some(wanted));
-    Ok(())
+    same(&text.as_slice(), &wanted.as_bytes())
 }
 
-fn has_trace<P: Pseudo>(
-    rt: &impl Abort,
-    alloc: Global,
-    manager: &Manager<P>,
-    wanted: &str,
-) -> Result<(), Refusal> {
+fn has_trace<P: Pseudo>(alloc: Global, manager: &Manager<P>, wanted: &str) -> Result<(), Fail> {
     let mut text = Vec::new(alloc);
     write_trace(alloc, manager.history(), &mut text)?;
-    same(rt, &str::from_utf8(&text).ok(), &Some(wanted));
-    Ok(())
+    same(&text.as_slice(), &wanted.as_bytes())
 }

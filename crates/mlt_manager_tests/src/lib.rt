@@ -6,13 +6,9 @@
 #[cfg(test)]
 mod buckets;
 #[cfg(test)]
-mod checks;
-#[cfg(test)]
 mod driver;
 #[cfg(test)]
 mod engines;
-#[cfg(test)]
-mod failing;
 #[cfg(test)]
 mod objects;
 #[cfg(test)]

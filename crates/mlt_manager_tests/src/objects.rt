@@ -1,8 +1,8 @@
 //! Operations that clash or pass each other, and what aborts take back.
 
 use crate::driver::runs;
-use crate::schedule::{Part, Row, Schedule, Sight};
-use mlt_types::{Limits, Mult, Refusal};
+use crate::schedule::{PROGRAM, Part, Row, Schedule, Sight};
+use std::test::Fail;
 
 const ACCOUNT: &[Row] = &[
     ("begin", 1, "begun 1"),
@@ -52,6 +52,8 @@ const TWO_DEPOSITS: &[Row] = &[
 ];
 
 const UNDER_LATER_DEPOSIT: Schedule = Schedule {
+    bounds: PROGRAM,
+    is_low: false,
     parts: &[
         Part::Told(ACCOUNT),
         Part::Told(TWO_DEPOSITS),
@@ -67,18 +69,14 @@ const UNDER_LATER_DEPOSIT: Schedule = Schedule {
 };
 
 #[test]
-fn abort_under_later_deposit(rt: HostRuntime) -> Result<(), Refusal> {
-    runs(
-        &rt,
-        rt.alloc(),
-        Limits::program(),
-        Mult,
-        &UNDER_LATER_DEPOSIT,
-    )
+fn abort_under_later_deposit(rt: HostRuntime) -> Result<(), Fail> {
+    runs(rt.alloc(), &UNDER_LATER_DEPOSIT)
 }
 
 // The same, and its history at the end.
 const WITH_ITS_TRACE: Schedule = Schedule {
+    bounds: PROGRAM,
+    is_low: false,
     parts: &[
         Part::Told(ACCOUNT),
         Part::Told(TWO_DEPOSITS),
@@ -95,12 +93,14 @@ op 3 deposit 1 7 done\nback 2\nabort 2\ncommit 3 2\n",
 };
 
 #[test]
-fn trace_of_the_abort(rt: HostRuntime) -> Result<(), Refusal> {
-    runs(&rt, rt.alloc(), Limits::program(), Mult, &WITH_ITS_TRACE)
+fn trace_of_the_abort(rt: HostRuntime) -> Result<(), Fail> {
+    runs(rt.alloc(), &WITH_ITS_TRACE)
 }
 
 // The reply would be `short`, which does not pass the withdrawal that is held.
 const BLOCKED_BY_REPLY: Schedule = Schedule {
+    bounds: PROGRAM,
+    is_low: false,
     parts: &[
         Part::Told(ACCOUNT_WITH_5),
         Part::Told(&[
@@ -124,11 +124,13 @@ const BLOCKED_BY_REPLY: Schedule = Schedule {
 };
 
 #[test]
-fn blocked_by_reply(rt: HostRuntime) -> Result<(), Refusal> {
-    runs(&rt, rt.alloc(), Limits::program(), Mult, &BLOCKED_BY_REPLY)
+fn blocked_by_reply(rt: HostRuntime) -> Result<(), Fail> {
+    runs(rt.alloc(), &BLOCKED_BY_REPLY)
 }
 
 const OVER_AFTER_UNDO: Schedule = Schedule {
+    bounds: PROGRAM,
+    is_low: false,
     parts: &[
         Part::Told(ACCOUNT_WITH_MOST),
         Part::Told(&[
@@ -150,11 +152,13 @@ const OVER_AFTER_UNDO: Schedule = Schedule {
 };
 
 #[test]
-fn over_after_undo(rt: HostRuntime) -> Result<(), Refusal> {
-    runs(&rt, rt.alloc(), Limits::program(), Mult, &OVER_AFTER_UNDO)
+fn over_after_undo(rt: HostRuntime) -> Result<(), Fail> {
+    runs(rt.alloc(), &OVER_AFTER_UNDO)
 }
 
 const REMOVE_ADD_REMOVE: Schedule = Schedule {
+    bounds: PROGRAM,
+    is_low: false,
     parts: &[Part::Told(&[
         ("begin", 1, "begun 1"),
         ("whole 1 add 4 9", 1, "done added"),
@@ -172,12 +176,14 @@ const REMOVE_ADD_REMOVE: Schedule = Schedule {
 };
 
 #[test]
-fn remove_add_remove_undone(rt: HostRuntime) -> Result<(), Refusal> {
-    runs(&rt, rt.alloc(), Limits::program(), Mult, &REMOVE_ADD_REMOVE)
+fn remove_add_remove_undone(rt: HostRuntime) -> Result<(), Fail> {
+    runs(rt.alloc(), &REMOVE_ADD_REMOVE)
 }
 
 // The second transaction adds what the first has taken back, and the first goes on taking back.
 const OTHER_ADDS: Schedule = Schedule {
+    bounds: PROGRAM,
+    is_low: false,
     parts: &[Part::Told(&[
         ("begin", 1, "begun 1"),
         ("whole 1 up 1 1", 1, "done done"),
@@ -198,11 +204,13 @@ const OTHER_ADDS: Schedule = Schedule {
 };
 
 #[test]
-fn other_adds_after_undo(rt: HostRuntime) -> Result<(), Refusal> {
-    runs(&rt, rt.alloc(), Limits::program(), Mult, &OTHER_ADDS)
+fn other_adds_after_undo(rt: HostRuntime) -> Result<(), Fail> {
+    runs(rt.alloc(), &OTHER_ADDS)
 }
 
 const COUNTER_WRAPS: Schedule = Schedule {
+    bounds: PROGRAM,
+    is_low: false,
     parts: &[Part::Told(&[
         ("begin", 1, "begun 1"),
         ("whole 1 up 2 5", 1, "done done"),
@@ -225,11 +233,13 @@ const COUNTER_WRAPS: Schedule = Schedule {
 };
 
 #[test]
-fn counter_wraps(rt: HostRuntime) -> Result<(), Refusal> {
-    runs(&rt, rt.alloc(), Limits::program(), Mult, &COUNTER_WRAPS)
+fn counter_wraps(rt: HostRuntime) -> Result<(), Fail> {
+    runs(rt.alloc(), &COUNTER_WRAPS)
 }
 
 const OVER_PASSES_DEPOSIT: Schedule = Schedule {
+    bounds: PROGRAM,
+    is_low: false,
     parts: &[
         Part::Told(ACCOUNT_WITH_LESS),
         Part::Told(&[
@@ -256,6 +266,8 @@ const OVER_PASSES_DEPOSIT: Schedule = Schedule {
 
 // Beside the same deposit that was told `over`, a withdrawal is blocked.
 const OVER_BLOCKS_WITHDRAWAL: Schedule = Schedule {
+    bounds: PROGRAM,
+    is_low: false,
     parts: &[
         Part::Told(ACCOUNT_WITH_LESS),
         Part::Told(&[
@@ -275,24 +287,14 @@ const OVER_BLOCKS_WITHDRAWAL: Schedule = Schedule {
 };
 
 #[test]
-fn over_passes_deposit(rt: HostRuntime) -> Result<(), Refusal> {
-    runs(
-        &rt,
-        rt.alloc(),
-        Limits::program(),
-        Mult,
-        &OVER_PASSES_DEPOSIT,
-    )?;
-    runs(
-        &rt,
-        rt.alloc(),
-        Limits::program(),
-        Mult,
-        &OVER_BLOCKS_WITHDRAWAL,
-    )
+fn over_passes_deposit(rt: HostRuntime) -> Result<(), Fail> {
+    runs(rt.alloc(), &OVER_PASSES_DEPOSIT)?;
+    runs(rt.alloc(), &OVER_BLOCKS_WITHDRAWAL)
 }
 
 const AROUND_SHORT: Schedule = Schedule {
+    bounds: PROGRAM,
+    is_low: false,
     parts: &[
         Part::Told(ACCOUNT_WITH_5),
         Part::Told(&[
@@ -308,6 +310,8 @@ const AROUND_SHORT: Schedule = Schedule {
 
 // A close that was told `notempty` lets a deposit pass, and no withdrawal.
 const AROUND_NOT_EMPTY: Schedule = Schedule {
+    bounds: PROGRAM,
+    is_low: false,
     parts: &[
         Part::Told(ACCOUNT_WITH_5),
         Part::Told(&[
@@ -323,7 +327,7 @@ const AROUND_NOT_EMPTY: Schedule = Schedule {
 };
 
 #[test]
-fn withdrawals_around_short(rt: HostRuntime) -> Result<(), Refusal> {
-    runs(&rt, rt.alloc(), Limits::program(), Mult, &AROUND_SHORT)?;
-    runs(&rt, rt.alloc(), Limits::program(), Mult, &AROUND_NOT_EMPTY)
+fn withdrawals_around_short(rt: HostRuntime) -> Result<(), Fail> {
+    runs(rt.alloc(), &AROUND_SHORT)?;
+    runs(rt.alloc(), &AROUND_NOT_EMPTY)
 }

@@ -1,10 +1,12 @@
 //! What events are refused for, and how events and commits are counted.
 
 use crate::driver::runs;
-use crate::schedule::{Part, Schedule, Sight};
-use mlt_types::{Limits, Mult, Refusal};
+use crate::schedule::{PROGRAM, Part, Schedule, Sight};
+use std::test::Fail;
 
 const IN_ORDER: Schedule = Schedule {
+    bounds: (2, 3, 70_000, 16, 1),
+    is_low: false,
     parts: &[Part::Told(&[
         ("begin", 1, "begun 1"),
         ("begin", 1, "begun 2"),
@@ -35,13 +37,14 @@ const IN_ORDER: Schedule = Schedule {
 };
 
 #[test]
-fn refusals_in_order(rt: HostRuntime) -> Result<(), Refusal> {
-    let limits = Limits::checked(2, 3, 70_000, 16, 1)?;
-    runs(&rt, rt.alloc(), limits, Mult, &IN_ORDER)
+fn refusals_in_order(rt: HostRuntime) -> Result<(), Fail> {
+    runs(rt.alloc(), &IN_ORDER)
 }
 
 // One transaction at a time, and two in all.
 const TWO_IN_TURN: Schedule = Schedule {
+    bounds: (1, 2, 70_000, 16, 1_024),
+    is_low: false,
     parts: &[Part::Told(&[
         ("begin", 1, "begun 1"),
         ("begin", 1, "refused 7 TooManyOpen"),
@@ -55,13 +58,14 @@ const TWO_IN_TURN: Schedule = Schedule {
 };
 
 #[test]
-fn refused_begins_are_counted(rt: HostRuntime) -> Result<(), Refusal> {
-    let limits = Limits::checked(1, 2, 70_000, 16, 1_024)?;
-    runs(&rt, rt.alloc(), limits, Mult, &TWO_IN_TURN)
+fn refused_begins_are_counted(rt: HostRuntime) -> Result<(), Fail> {
+    runs(rt.alloc(), &TWO_IN_TURN)
 }
 
 // An undoing asks for an abort that has begun, and an abort for a transaction that is at nothing.
 const WHILE_PENDING: Schedule = Schedule {
+    bounds: PROGRAM,
+    is_low: false,
     parts: &[Part::Told(&[
         ("begin", 1, "begun 1"),
         ("call 1 up 7 1", 1, "called"),
@@ -76,6 +80,6 @@ const WHILE_PENDING: Schedule = Schedule {
 };
 
 #[test]
-fn refused_while_pending(rt: HostRuntime) -> Result<(), Refusal> {
-    runs(&rt, rt.alloc(), Limits::program(), Mult, &WHILE_PENDING)
+fn refused_while_pending(rt: HostRuntime) -> Result<(), Fail> {
+    runs(rt.alloc(), &WHILE_PENDING)
 }

@@ -2,8 +2,8 @@
 
 use crate::buckets::{ALIKE, ALIKE_TEXT, LOWEST, LOWEST_TEXT};
 use crate::driver::runs;
-use crate::schedule::{Part, Row, Schedule, Sight};
-use mlt_types::{Limits, Low, Refusal};
+use crate::schedule::{PROGRAM, Part, Row, Schedule, Sight};
+use std::test::Fail;
 
 const NINTH_IS_REFUSED: &[Row] = &[
     ("begin", 1, "begun 2"),
@@ -12,16 +12,20 @@ const NINTH_IS_REFUSED: &[Row] = &[
 ];
 
 const NO_ROOM_AT_DEPTH: Schedule = Schedule {
+    bounds: PROGRAM,
+    is_low: true,
     parts: &[Part::Told(ALIKE), Part::Told(NINTH_IS_REFUSED)],
     end: &[Sight::Base(ALIKE_TEXT), Sight::Depth(0)],
 };
 
 #[test]
-fn no_room_at_depth(rt: HostRuntime) -> Result<(), Refusal> {
-    runs(&rt, rt.alloc(), Limits::program(), Low, &NO_ROOM_AT_DEPTH)
+fn no_room_at_depth(rt: HostRuntime) -> Result<(), Fail> {
+    runs(rt.alloc(), &NO_ROOM_AT_DEPTH)
 }
 
 const ROOM_IS_KEPT: Schedule = Schedule {
+    bounds: PROGRAM,
+    is_low: true,
     parts: &[
         Part::Told(ALIKE),
         Part::Told(NINTH_IS_REFUSED),
@@ -40,6 +44,8 @@ const ROOM_IS_KEPT: Schedule = Schedule {
 
 // The same with a commit in place of the abort.
 const ROOM_IS_GIVEN: Schedule = Schedule {
+    bounds: PROGRAM,
+    is_low: true,
     parts: &[
         Part::Told(ALIKE),
         Part::Told(NINTH_IS_REFUSED),
@@ -62,12 +68,14 @@ account 327680 0\naccount 393216 0\naccount 458752 0\n",
 };
 
 #[test]
-fn ghost_keeps_room(rt: HostRuntime) -> Result<(), Refusal> {
-    runs(&rt, rt.alloc(), Limits::program(), Low, &ROOM_IS_KEPT)?;
-    runs(&rt, rt.alloc(), Limits::program(), Low, &ROOM_IS_GIVEN)
+fn ghost_keeps_room(rt: HostRuntime) -> Result<(), Fail> {
+    runs(rt.alloc(), &ROOM_IS_KEPT)?;
+    runs(rt.alloc(), &ROOM_IS_GIVEN)
 }
 
 const NO_PAGES: Schedule = Schedule {
+    bounds: (64, 1 << 32, 3, 16, 1_024),
+    is_low: true,
     parts: &[
         Part::Told(LOWEST),
         Part::Told(&[
@@ -80,12 +88,13 @@ const NO_PAGES: Schedule = Schedule {
 };
 
 #[test]
-fn no_room_for_pages(rt: HostRuntime) -> Result<(), Refusal> {
-    let three = Limits::checked(64, 1 << 32, 3, 16, 1_024)?;
-    runs(&rt, rt.alloc(), three, Low, &NO_PAGES)
+fn no_room_for_pages(rt: HostRuntime) -> Result<(), Fail> {
+    runs(rt.alloc(), &NO_PAGES)
 }
 
 const NO_ROOM_BY_STEPS: Schedule = Schedule {
+    bounds: PROGRAM,
+    is_low: true,
     parts: &[
         Part::Told(ALIKE),
         Part::Told(&[
@@ -101,6 +110,6 @@ const NO_ROOM_BY_STEPS: Schedule = Schedule {
 };
 
 #[test]
-fn no_room_by_steps(rt: HostRuntime) -> Result<(), Refusal> {
-    runs(&rt, rt.alloc(), Limits::program(), Low, &NO_ROOM_BY_STEPS)
+fn no_room_by_steps(rt: HostRuntime) -> Result<(), Fail> {
+    runs(rt.alloc(), &NO_ROOM_BY_STEPS)
 }

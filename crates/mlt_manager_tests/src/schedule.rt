@@ -29,8 +29,19 @@ pub enum Part {
     Seen(&'static [Sight]),
 }
 
+/// The limits of a manager: the greatest numbers of open transactions, of begins, of pages, of depth and of operations in
+/// a transaction.
+pub type Bounds = (u32, u64, u32, u32, u32);
+
+/// Those of the program.
+pub const PROGRAM: Bounds = (64, 1 << 32, 70_000, 16, 1_024);
+
 /// What a manager goes through, and what is to be seen of it at the end.
 pub struct Schedule {
+    /// The limits of the manager.
+    pub bounds: Bounds,
+    /// Whether its pseudokeys are the low ones.
+    pub is_low: bool,
     /// What it goes through.
     pub parts: &'static [Part],
     /// What is to be seen at the end. The text that `steps` writes needs the base here, and then the depth.

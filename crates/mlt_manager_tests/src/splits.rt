@@ -1,17 +1,13 @@
-//! Splits step by step, beside readers, under aborts, and where a growth is refused.
+//! Splits step by step, beside readers and under aborts.
 
 use crate::buckets::{DEEP, DEEP_TEXT, LOWEST, LOWEST_TEXT};
-use crate::checks::same;
-use crate::driver::{are_seen, runs};
-use crate::schedule::{Part, Schedule, Sight};
-use mlt_event::Answer;
-use mlt_kinds::{AccountOp, ObjOp, ObjReply};
-use mlt_manager::Manager;
-use mlt_types::{Limits, Low, Refusal, TxId};
-use std::alloc::Global;
-use std::process::Abort;
+use crate::driver::runs;
+use crate::schedule::{PROGRAM, Part, Schedule, Sight};
+use std::test::Fail;
 
 const SPLIT_WAITS: Schedule = Schedule {
+    bounds: PROGRAM,
+    is_low: true,
     parts: &[
         Part::Told(LOWEST),
         Part::Told(&[
@@ -34,11 +30,13 @@ const SPLIT_WAITS: Schedule = Schedule {
 };
 
 #[test]
-fn split_waits_for_reader(rt: HostRuntime) -> Result<(), Refusal> {
-    runs(&rt, rt.alloc(), Limits::program(), Low, &SPLIT_WAITS)
+fn split_waits_for_reader(rt: HostRuntime) -> Result<(), Fail> {
+    runs(rt.alloc(), &SPLIT_WAITS)
 }
 
 const SPLIT_STAYS: Schedule = Schedule {
+    bounds: PROGRAM,
+    is_low: true,
     parts: &[
         Part::Told(LOWEST),
         Part::Told(&[
@@ -55,11 +53,13 @@ const SPLIT_STAYS: Schedule = Schedule {
 };
 
 #[test]
-fn split_stays_after_abort(rt: HostRuntime) -> Result<(), Refusal> {
-    runs(&rt, rt.alloc(), Limits::program(), Low, &SPLIT_STAYS)
+fn split_stays_after_abort(rt: HostRuntime) -> Result<(), Fail> {
+    runs(rt.alloc(), &SPLIT_STAYS)
 }
 
 const BELOW_THIRTEEN: Schedule = Schedule {
+    bounds: (64, 1 << 32, 70_000, 8, 1_024),
+    is_low: true,
     parts: &[
         Part::Told(LOWEST),
         Part::Told(&[
@@ -71,6 +71,8 @@ const BELOW_THIRTEEN: Schedule = Schedule {
 };
 
 const THIRTEEN: Schedule = Schedule {
+    bounds: PROGRAM,
+    is_low: true,
     parts: &[
         Part::Told(LOWEST),
         Part::Told(&[
@@ -82,13 +84,14 @@ const THIRTEEN: Schedule = Schedule {
 };
 
 #[test]
-fn thirteen_splits(rt: HostRuntime) -> Result<(), Refusal> {
-    let eight = Limits::checked(64, 1 << 32, 70_000, 8, 1_024)?;
-    runs(&rt, rt.alloc(), eight, Low, &BELOW_THIRTEEN)?;
-    runs(&rt, rt.alloc(), Limits::program(), Low, &THIRTEEN)
+fn thirteen_splits(rt: HostRuntime) -> Result<(), Fail> {
+    runs(rt.alloc(), &BELOW_THIRTEEN)?;
+    runs(rt.alloc(), &THIRTEEN)
 }
 
 const THIRTEEN_BY_STEPS: Schedule = Schedule {
+    bounds: PROGRAM,
+    is_low: true,
     parts: &[
         Part::Told(LOWEST),
         Part::Told(&[
@@ -102,11 +105,13 @@ const THIRTEEN_BY_STEPS: Schedule = Schedule {
 };
 
 #[test]
-fn thirteen_splits_by_steps(rt: HostRuntime) -> Result<(), Refusal> {
-    runs(&rt, rt.alloc(), Limits::program(), Low, &THIRTEEN_BY_STEPS)
+fn thirteen_splits_by_steps(rt: HostRuntime) -> Result<(), Fail> {
+    runs(rt.alloc(), &THIRTEEN_BY_STEPS)
 }
 
 const BESIDE_READER: Schedule = Schedule {
+    bounds: PROGRAM,
+    is_low: true,
     parts: &[
         Part::Told(DEEP),
         Part::Told(&[
@@ -126,6 +131,8 @@ const BESIDE_READER: Schedule = Schedule {
 
 // The same with a reader of the page of the directory that the split writes.
 const BEHIND_READER: Schedule = Schedule {
+    bounds: PROGRAM,
+    is_low: true,
     parts: &[
         Part::Told(DEEP),
         Part::Told(&[
@@ -142,61 +149,28 @@ const BEHIND_READER: Schedule = Schedule {
 };
 
 #[test]
-fn narrow_split_beside_reader(rt: HostRuntime) -> Result<(), Refusal> {
-    runs(&rt, rt.alloc(), Limits::program(), Low, &BESIDE_READER)?;
-    runs(&rt, rt.alloc(), Limits::program(), Low, &BEHIND_READER)
+fn narrow_split_beside_reader(rt: HostRuntime) -> Result<(), Fail> {
+    runs(rt.alloc(), &BESIDE_READER)?;
+    runs(rt.alloc(), &BEHIND_READER)
 }
 
-// The transaction makes this account.
-fn opens(
-    rt: &impl Abort,
-    manager: &mut Manager<Low>,
-    tx: TxId,
-    account: u32,
-) -> Result<(), Refusal> {
-    match manager.whole(tx, ObjOp::Account(account, AccountOp::Open))? {
-        Answer::Refused(refusal) => Err(refusal),
-        answer => {
-            same(rt, &answer, &Answer::Done(ObjReply::Opened));
-            Ok(())
-        }
-    }
-}
+// Where each growth in turn is refused to what the last event asks for is tried of the built program
+// (`tests/refused_memory.py`): the event is told so, the base and the depth are the same, and asked for again it makes
+// the account.
+const NINTH_OPENS: Schedule = Schedule {
+    bounds: PROGRAM,
+    is_low: true,
+    parts: &[
+        Part::Told(LOWEST),
+        Part::Told(&[
+            ("begin", 1, "begun 2"),
+            ("whole 2 open 32768", 1, "done opened"),
+        ]),
+    ],
+    end: &[Sight::Base(LOWEST_TEXT), Sight::Depth(1)],
+};
 
-const UNSPLIT: &[Sight] = &[Sight::Base(LOWEST_TEXT), Sight::Depth(0)];
-
-const SPLIT: &[Sight] = &[Sight::Base(LOWEST_TEXT), Sight::Depth(1)];
-
-// The lowest accounts fill a bucket, and account 32768 splits it. Where that is refused a growth, the base and the
-// depth are the same; and asked for again, the account is made.
-fn ninth_opens(rt: &impl Abort, alloc: Global, manager: &mut Manager<Low>) -> Result<(), Refusal> {
-    let first = manager.begin()?;
-    for account in 0..8 {
-        opens(rt, manager, first, account)?;
-    }
-    manager.commit(first)?;
-    let second = manager.begin()?;
-    if let Err(refusal) = opens(rt, manager, second, 32768) {
-        same(rt, &refusal, &Refusal::OutOfMemory);
-        are_seen(rt, alloc, manager, UNSPLIT)?;
-        opens(rt, manager, second, 32768)?;
-    }
-    are_seen(rt, alloc, manager, SPLIT)
-}
-
-fn ninth_opens_anew(rt: &impl Abort, alloc: Global) -> Result<(), Refusal> {
-    let mut manager = Manager::new(alloc, Limits::program(), Low)?;
-    let result = ninth_opens(rt, alloc, &mut manager);
-    manager.close();
-    result
-}
-
-// Each growth is refused in turn by runs of `rt try`. Where the one that is refused comes before the split or behind it,
-// all is done once more.
 #[test]
-fn growth_refused_in_split(rt: HostRuntime) -> Result<(), Refusal> {
-    match ninth_opens_anew(&rt, rt.alloc()) {
-        Err(Refusal::OutOfMemory) => ninth_opens_anew(&rt, rt.alloc()),
-        result => result,
-    }
+fn growth_refused_in_split(rt: HostRuntime) -> Result<(), Fail> {
+    runs(rt.alloc(), &NINTH_OPENS)
 }

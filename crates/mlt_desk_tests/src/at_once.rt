@@ -1,7 +1,8 @@
 //! Two sessions at once.
 
 use crate::peers::{have_come, listen, say};
-use crate::texts::served_text;
+use crate::served::served_text;
+use mlt_test_tools::same;
 use std::alloc::Global;
 use std::net::{Net, Shutdown, TcpListener, TcpStream};
 use std::sync::atomic::AtomicU64;
@@ -74,9 +75,8 @@ fn two_sessions_at_once(rt: HostRuntime) -> Result<(), Fail> {
             )
         },
     );
-    assert!(rt; led);
-    assert!(rt; by_one?.as_slice() == FIRST_ANSWERS);
-    assert!(rt; by_two?.as_slice() == SECOND_ANSWERS);
-    assert!(rt; served?.as_slice() == SERVED);
-    Ok(())
+    same(&led, &true)?;
+    same(&by_one?.as_slice(), &FIRST_ANSWERS)?;
+    same(&by_two?.as_slice(), &SECOND_ANSWERS)?;
+    same(&served?.as_slice(), &SERVED)
 }

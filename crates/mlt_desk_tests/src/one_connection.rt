@@ -1,7 +1,8 @@
 //! One connection.
 
 use crate::peers::talk;
-use crate::texts::served_text;
+use crate::served::served_text;
+use mlt_test_tools::same;
 use std::alloc::Global;
 use std::net::{Net, TcpListener, TcpStream};
 use std::test::Fail;
@@ -28,7 +29,6 @@ fn one_connection(rt: HostRuntime) -> Result<(), Fail> {
         || served_text(&rt, alloc, &listener, 1),
         || talk(alloc, &stream, LINES),
     );
-    assert!(rt; heard?.as_slice() == ANSWERS);
-    assert!(rt; served?.as_slice() == SERVED);
-    Ok(())
+    same(&heard?.as_slice(), &ANSWERS)?;
+    same(&served?.as_slice(), &SERVED)
 }

@@ -1,15 +1,14 @@
-//! What comes of a session, and what is wanted of it. A comparison is proved once here, and each test only calls it.
+//! What comes of a session, and what is wanted of it.
 
-use crate::pipes::Narrow;
 use mlt_desk::{Desk, FakeAnswer, FakeDesk};
 use mlt_kinds::{Done, ObjOp, ObjReply};
 use mlt_serial::{End, Outcome};
+use mlt_test_tools::{FaultyReader, FaultyWriter, same_at};
 use mlt_types::Refusal;
 use mlt_wire::{Summary, session};
 use std::alloc::{AllocError, Global};
 use std::fmt::Debug;
-use std::io::Read;
-use std::process::Abort;
+use std::test::Fail;
 
 /// The client of each session.
 const CLIENT: u32 = 3;
@@ -18,7 +17,7 @@ const CLIENT: u32 = 3;
 #[derive(Drop)]
 pub struct Talk {
     answer: Result<Summary, Refusal>,
-    writer: Narrow,
+    writer: FaultyWriter,
     receipts: Vec<Outcome>,
 }
 
@@ -35,21 +34,21 @@ pub struct Receipt {
 
 /// What is wanted of a session.
 #[derive(Clone, Copy)]
-pub struct Wanted<'a> {
+pub struct Wanted {
     /// The numbers of lines and of commits, or the refusal.
     pub answer: Result<(u64, u64), Refusal>,
     /// What was written.
-    pub text: &'a [u8],
+    pub text: &'static [u8],
     /// The receipts, numbered from 1.
-    pub receipts: &'a [Receipt],
+    pub receipts: &'static [Receipt],
 }
 
 /// What came of a session at this desk.
-pub fn talk_at<R: Read + Drop, D: Desk>(
+pub fn talk_at<D: Desk>(
     alloc: Global,
     desk: &mut D,
-    mut reader: R,
-    mut writer: Narrow,
+    mut reader: FaultyReader,
+    mut writer: FaultyWriter,
 ) -> Talk {
     let mut receipts = Vec::new(alloc);
     let answer = session(alloc, &mut reader, &mut writer, desk, CLIENT, &mut receipts);
@@ -61,11 +60,11 @@ pub fn talk_at<R: Read + Drop, D: Desk>(
 }
 
 /// What came of a session at a desk with these answers.
-pub fn talk_with<R: Read + Drop>(
+pub fn talk_with(
     alloc: Global,
     answers: &[FakeAnswer],
-    reader: R,
-    writer: Narrow,
+    reader: FaultyReader,
+    writer: FaultyWriter,
 ) -> Result<Talk, AllocError> {
     let mut list = Vec::new(alloc);
     list.extend_from_slice(answers)?;
@@ -91,26 +90,16 @@ fn is_receipt(number: u64, found: &Outcome, wanted: &Receipt) -> bool {
 }
 
 impl Talk {
-    /// What it answered: the numbers of lines and of commits, or the refusal.
-    pub fn answer(&self) -> Result<(u64, u64), Refusal> {
+    // What it answered: the numbers of lines and of commits, or the refusal.
+    fn answer(&self) -> Result<(u64, u64), Refusal> {
         match self.answer {
             Ok(summary) => Ok((summary.lines, summary.commits)),
             Err(refusal) => Err(refusal),
         }
     }
 
-    /// What was written.
-    pub fn text(&self) -> &[u8] {
-        self.writer.written()
-    }
-
-    /// The receipts.
-    pub fn receipts(&self) -> &[Outcome] {
-        self.receipts.as_slice()
-    }
-
-    /// Its receipts are these, numbered from 1.
-    pub fn has_receipts(&self, wanted: &[Receipt]) -> bool {
+    // Its receipts are these, numbered from 1.
+    fn has_receipts(&self, wanted: &[Receipt]) -> bool {
         for (before, (found, wanted)) in self.receipts.iter().zip(wanted).enumerate() {
             if !is_receipt(before as u64 + 1, found, wanted) {
                 return false;
@@ -119,10 +108,18 @@ impl Talk {
         self.receipts.len() == wanted.len()
     }
 
+    /// The receipts.
+    pub fn receipts(&self) -> &[Outcome] {
+        self.receipts.as_slice()
+    }
+
     /// It is what is wanted.
-    pub fn is(&self, rt: &impl Abort, place: &impl Debug, wanted: &Wanted) {
-        assert_eq!(rt; self.answer(), wanted.answer, "{place:?}");
-        assert_eq!(rt; self.text(), wanted.text, "{place:?}");
-        assert!(rt; self.has_receipts(wanted.receipts), "{place:?}");
+    pub fn is(&self, place: &impl Debug, wanted: &Wanted) -> Result<(), Fail> {
+        let found = (
+            self.answer(),
+            self.writer.written(),
+            self.has_receipts(wanted.receipts),
+        );
+        same_at(place, &found, &(wanted.answer, wanted.text, true))
     }
 }
