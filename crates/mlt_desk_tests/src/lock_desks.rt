@@ -264,6 +264,6 @@ const TRIES: &[Session] = &[Session {
 }];
 
 #[test]
-fn tries_are_spent(rt: HostRuntime) -> Result<(), Fail> {
+fn tries_spent(rt: HostRuntime) -> Result<(), Fail> {
     are_over_managers(&rt, rt.alloc(), TRIES)
 }

@@ -1,4 +1,4 @@
-//! Receipts against the history of one commit.
+//! Receipts against the history of one commit. `mlt_desk_tests` has the other part of the row `tries-spent`.
 
 use mlt_audit::audit;
 use mlt_check::committed_base;
@@ -24,7 +24,7 @@ fn receipt(alloc: Global, one: Done, number: u64) -> Result<Outcome, Refusal> {
 }
 
 #[test]
-fn receipt_of_another_commit(rt: HostRuntime) -> Result<(), Fail> {
+fn tries_spent(rt: HostRuntime) -> Result<(), Fail> {
     let open = Done::new(ObjOp::Account(1, AccountOp::Open), ObjReply::Opened);
     let items = [
         TraceItem::Begin(TxId(1)),
