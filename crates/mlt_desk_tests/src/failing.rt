@@ -64,6 +64,7 @@ fn session_withstands_failures(rt: HostRuntime) -> Result<(), Fail> {
     withstands_failures(rt.alloc(), &Sessions, &SESSION)
 }
 
+#[derive(Drop)]
 struct Workers<'a, T: Threads + Wait + Sync> {
     rt: &'a T,
 }
