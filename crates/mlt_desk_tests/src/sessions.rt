@@ -212,31 +212,3 @@ aborted\nerror 3 NoSuchTx\nbegun 6\ncommitted 18446744073709551615\nbye\n",
 fn session_with_refused_calls(rt: HostRuntime) -> Result<(), Fail> {
     are_wherever_cut(rt.alloc(), REFUSED)
 }
-
-// 262,144 lines of 64 bytes each.
-const OF_MOST_BYTES: Wanted = Wanted {
-    answer: Ok((262_144, 0)),
-    text: b"",
-    receipts: &[],
-};
-
-const OF_ONE_MORE: Wanted = Wanted {
-    answer: Err(Refusal::Io),
-    text: b"",
-    receipts: &[],
-};
-
-// An input of 16,777,216 bytes, and of one more.
-#[test]
-fn session_input_limit(rt: HostRuntime) -> Result<(), Fail> {
-    let line = with_spaces(rt.alloc(), b"", 63, b"\n")?;
-    let mut input = Vec::new(rt.alloc());
-    for _ in 0..262_144 {
-        input.extend_from_slice(&line)?;
-    }
-    let reader = FaultyReader::new(&input);
-    talk_with(rt.alloc(), &[], reader, FaultyWriter::new(rt.alloc()))?.is(&"most", &OF_MOST_BYTES)?;
-    input.push(b'\n')?;
-    let reader = FaultyReader::new(&input);
-    talk_with(rt.alloc(), &[], reader, FaultyWriter::new(rt.alloc()))?.is(&"more", &OF_ONE_MORE)
-}
