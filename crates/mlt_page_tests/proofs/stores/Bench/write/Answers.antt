@@ -4,7 +4,7 @@ use Rattle.mlt_subtx.specs.Images.{Running, AreThere}
 use Rattle.mlt_subtx.proofs.ImageLaws.{there_written}
 use Rattle.mlt_subtx.specs.Locking.{LocksPagesThere}
 use Rattle.mlt_subtx.proofs.LockedPages.{locks_there-written}
-use Rattle.mlt_page_tests.proofs.subtransactions.Bench.write.Goals as goal
+use Rattle.mlt_page_tests.proofs.stores.Bench.write.Goals as goal
 
 either_way : {A E P Q R X : Type 0} (r : Result A E) → OnOk r P → OnOk r Q → OnErr r R → (P → Q → X) → (R → X) → X
 either_way (Ok x) p q r f g = f p q

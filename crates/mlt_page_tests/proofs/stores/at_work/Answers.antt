@@ -5,7 +5,7 @@ use Rattle.mlt_subtx.specs.Images.{Running, AreThere}
 use Rattle.mlt_subtx.proofs.ImageLaws.{there_none}
 use Rattle.mlt_subtx.specs.Locking.{LocksPagesThere}
 use Rattle.mlt_subtx.proofs.LockedPages.{locks_there-none}
-use Rattle.mlt_page_tests.proofs.subtransactions.at_work.Goals as goal
+use Rattle.mlt_page_tests.proofs.stores.at_work.Goals as goal
 
 pub invariant_of-result : goal.invariant_of-result
 invariant_of-result c = record {

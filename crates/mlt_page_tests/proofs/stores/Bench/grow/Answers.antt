@@ -10,7 +10,7 @@ use Rattle.mlt_subtx.specs.Images.{Images, Running, AreThere}
 use Rattle.mlt_subtx.proofs.ImageLaws.{there_made}
 use Rattle.mlt_subtx.specs.Locking.{LocksPagesThere}
 use Rattle.mlt_subtx.proofs.LockedPages.{locks_there-written, locks_there-granted}
-use Rattle.mlt_page_tests.proofs.subtransactions.Bench.grow.Goals as goal
+use Rattle.mlt_page_tests.proofs.stores.Bench.grow.Goals as goal
 
 pub grow-requires-clause-room : goal.grow-requires-clause-room
 grow-requires-clause-room g c = λ q free. let few = c.args.self.now.few in let room = c.args.self.now.room in
