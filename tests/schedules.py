@@ -567,6 +567,19 @@ def depth_of_many_keys(mltx, count):
 
 
 @test
+def hash_functions_differ_in_solo_and_run(mltx):
+    """Nine accounts with one low pseudokey have no room by `low`, and have it by `mult`."""
+    numbers = [number * 65536 for number in range(9)]
+    text = "".join(f"{line}\n" for line in ("begin", *(f"open {number}" for number in numbers), "commit"))
+    fits = ["opened"] * 9 + ["committed 1"], [f"account {number} 0" for number in numbers]
+    fails = ["opened"] * 8 + ["refused 2 NoRoom", "aborted"], []
+    for options, (told, base) in [*((options, fits) for options in MULT), *((options, fails) for options in LOW)]:
+        expect(mltx.run("solo", *options, "-", given=text), out=lines("|".join(told)), what=f"solo {options}")
+        wanted = lines("|".join(["client 0 script 1", *told, *base]))
+        expect(mltx.run("run", *options, "-", given=text), out=wanted, what=f"run {options}")
+
+
+@test
 def hash_functions_differ(mltx):
     """Nine accounts whose low pseudokeys are one have no room by `low`, and have it by `mult`."""
     opened = [f"whole 1 open {account} > done opened" for account in ALIKE]
