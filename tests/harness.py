@@ -214,7 +214,8 @@ class Server:
         for _ in range(int(self.timeout / 0.01)):
             try:
                 return Peer(socket.create_connection(self.address, self.timeout))
-            except ConnectionRefusedError:
+            except ConnectionError:
+                # It does not listen yet, or ends just now.
                 if self.process.poll() is not None:
                     break
                 time.sleep(0.01)
