@@ -37,6 +37,17 @@ fn insert<P: Pseudo>(rt: &impl Abort, file: &mut HashFile<P>, number: u32) -> Re
     file.insert(key, Value::from(number) + 100)
 }
 
+fn insert_all<P: Pseudo>(
+    rt: &impl Abort,
+    file: &mut HashFile<P>,
+    numbers: &[u32],
+) -> Result<(), Refusal> {
+    for number in numbers {
+        insert(rt, file, *number)?;
+    }
+    Ok(())
+}
+
 fn update<P: Pseudo>(rt: &impl Abort, file: &mut HashFile<P>, number: u32, value: Value) {
     let key = account(number);
     let found = file.get(key);
@@ -70,11 +81,7 @@ fn goes_through<P: Pseudo>(
     for act in acts {
         match *act {
             Act::Insert(number, wanted) => same_at(act, &insert(rt, file, number), &wanted)?,
-            Act::InsertAll(numbers) => {
-                for number in numbers {
-                    insert(rt, file, *number)?;
-                }
-            }
+            Act::InsertAll(numbers) => insert_all(rt, file, numbers)?,
             Act::Update(number, value) => update(rt, file, number, value),
             Act::Remove(number) => remove(rt, file, number),
             Act::Get(number, wanted) => same_at(act, &file.get(account(number)), &wanted)?,
