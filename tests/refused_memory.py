@@ -104,15 +104,15 @@ class Runs:
             holds((came.status, came.err) == (0, ""), f"{self.job} of {text!r} with ample memory: {came}")
         return self.kept[text]
 
-    def one_refused(self, run):
-        """What comes with request 1, 2, 3, .. refused, until a run makes no such request."""
+    def one_refused(self, run, step=1):
+        """What comes with request 1, 2, 3, .. refused, or each so many, until a run makes no such request."""
         number = 1
         while True:
             came = run(number)
             if self.asked() < number:
                 return
             yield f"{self.job} {' '.join(self.options)} with request {number} refused", came
-            number += 1
+            number += step
 
     def serial(self, trace):
         """How many commits `check` finds in a trace, and its base."""
@@ -357,7 +357,7 @@ def for_good(mltx, case):
     job, options, text = case
     runs = Runs(mltx, job, *options, traced=job != "check")
     ample = runs.ample(text)
-    for what, came in runs.one_refused(lambda number: runs.run(text, first=number, last=LAST)):
+    for what, came in runs.one_refused(lambda number: runs.run(text, first=number, last=LAST), step=3):
         holds(is_given_up(came, ample), f"{what}, and all after it: {came}")
 
 
@@ -444,7 +444,7 @@ def serve_for_good(mltx, _case):
     """Where all requests from one on are refused, the server ends. What the client was told before that is right."""
     said, tells = SESSION_LINES.split("|"), SESSION_LINES_TELLS.split("|")
     runs = Runs(mltx, "serve")
-    for what, (ended, heard) in runs.one_refused(lambda number: talk(runs, said, first=number, last=LAST)):
+    for what, (ended, heard) in runs.one_refused(lambda number: talk(runs, said, first=number, last=LAST), step=3):
         same((ended.status, ended.err), (1, WANT.decode()), f"{what}, and all after it: {ended}")
         holds((ended.out, ended.trace) in (("", None), ("served 1\n", "")), f"{what}, and all after it: {ended}")
         before = heard[: heard.index(ERROR)] if ERROR in heard else heard
