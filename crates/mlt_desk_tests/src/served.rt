@@ -1,6 +1,6 @@
 //! What was served, as a text.
 
-ghost use Rattle.std.specs.Prelude.{◌≤◌, ◌<◌};
+ghost use Rattle.std.specs.Prelude.{◌<◌};
 
 use mlt_check_text::check_trace;
 use mlt_manager::Manager;

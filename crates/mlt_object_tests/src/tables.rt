@@ -1,7 +1,5 @@
 //! How many pairs the tables mark, their examples run, and clashes.
 
-ghost use Rattle.std.specs.Prelude.{◌≡◌};
-
 use mlt_commute::{AccountClass, CounterClass, ElementClass, Example, Table, clash};
 use mlt_kinds::{
     Account, AccountOp, Counter, CounterOp, Done, Element, ElementOp, Kind, ObjOp, ObjReply,

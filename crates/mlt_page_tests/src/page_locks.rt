@@ -1,6 +1,6 @@
 //! Grants on one page.
 
-ghost use Rattle.std.specs.Prelude.{◌≡◌, ◌≤◌, IfOk};
+ghost use Rattle.std.specs.Prelude.{◌≡◌};
 ghost use Rattle.mlt_page_locks.specs.LockTables.{HasAtMost};
 
 use mlt_page_locks::{Grant, PageLocks};

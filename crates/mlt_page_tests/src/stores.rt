@@ -1,6 +1,6 @@
 //! Calls that take memory, made directly, and numbers of dropped pages.
 
-ghost use Rattle.std.specs.Prelude.{◌≡◌, ◌≤◌, true};
+ghost use Rattle.std.specs.Prelude.{◌≡◌};
 ghost use Rattle.mlt_page_locks.specs.LockTables.{HasAtMost};
 ghost use Rattle.mlt_subtx.specs.Images.{AreThere};
 ghost use Rattle.mlt_subtx.specs.Locking.{LocksPagesThere};
