@@ -1,7 +1,5 @@
 //! What was served, as a text.
 
-ghost use Rattle.std.specs.Prelude.{◌<◌};
-
 use mlt_check_text::check_trace;
 use mlt_manager::Manager;
 use mlt_serial::{Form, Outcomes, Report, write_report};
