@@ -37,6 +37,13 @@ def each_link_leads_to_a_file_and_a_heading(_mltx):
 
 
 @test
+def each_group_of_tests_is_told_of(_mltx):
+    """A file of tests that docs/DEVELOPING.md has no line for fails."""
+    linked = re.findall(r"\]\(\.\./tests/(\w+)\.py\)", (ROOT / "docs/DEVELOPING.md").read_text())
+    same(sorted(set(linked)), sorted(file.stem for file in (ROOT / "tests").glob("*.py")), "the files of tests")
+
+
+@test
 def lines_of_the_headline_are_counted(_mltx):
     """The table of definitions under the headline has the counts of tools/headline-lines, and so do the sentences."""
     counted = subprocess.run([ROOT / "tools/headline-lines"], capture_output=True, text=True, check=True, cwd=ROOT).stdout
