@@ -2,9 +2,12 @@
 import errno
 import os
 import re
+import signal
 import subprocess
 import threading
+import time
 from contextlib import suppress
+from pathlib import Path
 
 from harness import PATIENCE, each, expect, holds, lines, same, test
 
@@ -249,3 +252,44 @@ def accepts_fail(mltx, number):
     heard, ended, trace = served(mltx, fail, limit=2)
     same((heard, trace), (TOLD, None), "a server that accepts one")
     expect(ended, status=1, err=FAULT, what="a server that accepts one")
+
+
+def comes_to(process, states):
+    """Waits until a process is in one of these states of /proc: S is asleep, T is stopped."""
+    for _ in range(100 * PATIENCE):
+        if Path(f"/proc/{process.pid}/stat").read_text().rpartition(") ")[2][0] in states:
+            return
+        time.sleep(0.01)
+    holds(False, f"the process never came to {states}")
+
+
+def stop_and_go_on(process):
+    """Stops a process that waits for its input, as Ctrl-Z does, and has it go on."""
+    comes_to(process, "S")
+    process.send_signal(signal.SIGSTOP)
+    comes_to(process, "T")
+    process.send_signal(signal.SIGCONT)
+    comes_to(process, "SR")
+
+
+@test
+def solo_that_was_stopped_goes_on(mltx):
+    """A read that a stop would interrupt were a fault: no call of the program's is interrupted."""
+    with subprocess.Popen([mltx.path], stdin=subprocess.PIPE, stdout=subprocess.PIPE) as running:
+        running.stdin.write(b"begin\nopen 1\n")
+        running.stdin.flush()
+        stop_and_go_on(running)
+        out, _ = running.communicate(b"commit\n", timeout=PATIENCE)
+    same((running.returncode, out), (0, b"opened\ncommitted 1\n"), "solo that was stopped")
+
+
+@test
+def server_that_was_stopped_goes_on(mltx):
+    """The same of a read from a connection, and of accepting the next one."""
+    with mltx.serve(limit=2) as server:
+        with server.connect() as peer:
+            same(peer.ask("begin"), "begun 1", "begin")
+            stop_and_go_on(server.process)
+            same(peer.say_all("open 1\ncommit\n"), b"opened\ncommitted 1\n", "lines after the stop")
+        same(server.talk("begin\nbalance 1\n"), b"begun 2\nis 0\n", "a connection after the stop")
+        expect(server.end(), out="served 2\n")
