@@ -3,69 +3,49 @@
     mltx serve 127.0.0.1:7000 --limit 1
     python3 move_money.py 127.0.0.1 7000
 
-A transaction that the server gives up is begun again. It needs nothing but Python's standard library.
+It uses the client of clients/python, which runs a transaction again that the server gives up.
 """
 
-import socket
 import sys
+from pathlib import Path
 
-GAVE_UP = "error 14 GaveUp"
+sys.path.insert(0, str(Path(__file__).resolve().parent.parent / "clients/python"))
+from mltx import Client, MltxError, Operation, Reply  # noqa: E402
 
 
-class Server:
-    """A session: lines go out, and each has its answer."""
+def open_with(tx, account, amount):
+    """Opens an account with an amount in it, if there is none."""
+    if tx.open(account) is Reply.OPENED:
+        tx.deposit(account, amount)
 
-    def __init__(self, host, port):
-        self.lines = socket.create_connection((host, port)).makefile("rw", newline="\n")
 
-    def ask(self, *lines):
-        """The answers to these lines, which go out together."""
-        self.lines.write("".join(line + "\n" for line in lines))
-        self.lines.flush()
-        return [self.lines.readline().rstrip("\n") for _ in lines]
+def move(tx, source, target, amount):
+    """Moves an amount, or nothing where the source is short of it. Answers whether it was moved."""
+    told = tx.ask_all([Operation.withdraw(source, amount), Operation.deposit(target, amount)])
+    if told == [Reply.DONE, Reply.DONE]:
+        return True
+    tx.abort()
+    return False
 
-    def transaction(self, lines, wanted):
-        """Runs the lines in a transaction. It commits where these are the answers, and else takes all back.
 
-        Answers whether it committed. Where the server gave it up, it is begun again.
-        """
-        while True:
-            told = self.ask("begin", *lines)[1:]
-            if told == wanted:
-                return self.ask("commit")[0].startswith("committed ")
-            self.ask("abort")
-            if GAVE_UP not in told:
-                return False
-
-    def open(self, account, amount):
-        """Opens an account with an amount in it, if there is none."""
-        opens = [f"open {account}", f"deposit {account} {amount}"]
-        return self.transaction(opens, ["opened", "done"])
-
-    def move(self, source, target, amount):
-        """Moves an amount, or nothing where the source is short of it."""
-        moves = [f"withdraw {source} {amount}", f"deposit {target} {amount}"]
-        return self.transaction(moves, ["done", "done"])
-
-    def balances(self, *accounts):
-        """The balances of accounts, at one moment."""
-        looks = [f"balance {account}" for account in accounts]
-        while True:
-            _begun, *told, _end = self.ask("begin", *looks, "commit")
-            if GAVE_UP not in told:
-                return told
+def balances(tx, *accounts):
+    """The balances of accounts, at one moment."""
+    return tx.ask_all([Operation.balance(account) for account in accounts])
 
 
 def main():
-    host, port = sys.argv[1], int(sys.argv[2])
-    server = Server(host, port)
-    server.open(1, 100)
-    server.open(2, 0)
-    print("moved 30:", server.move(1, 2, 30))
-    print("moved 500:", server.move(1, 2, 500))
-    print("balances:", *server.balances(1, 2))
-    server.ask("quit")
+    if len(sys.argv) != 3 or not sys.argv[2].isdecimal():
+        sys.exit("move_money.py: it needs a host and a port, as 127.0.0.1 7000")
+    with Client(sys.argv[1], int(sys.argv[2])) as client:
+        client.run(lambda tx: open_with(tx, 1, 100))
+        client.run(lambda tx: open_with(tx, 2, 0))
+        print("moved 30:", client.run(lambda tx: move(tx, 1, 2, 30)))
+        print("moved 500:", client.run(lambda tx: move(tx, 1, 2, 500)))
+        print("balances:", *client.run(lambda tx: balances(tx, 1, 2)))
 
 
 if __name__ == "__main__":
-    main()
+    try:
+        main()
+    except (MltxError, ValueError) as error:
+        sys.exit(f"move_money.py: {error}")

@@ -241,10 +241,14 @@ def each_write_of_serve_fails(mltx):
         same(left, None if number <= len(text) else trace[: number - 1 - len(text)], f"{what}: the trace")
 
 
-@each({f"accept-{number}-fails": number for number in (1, 2)})
-def accepts_fail(mltx, number):
+ACCEPT_FAULTS = {"fails": errno.EINVAL, "finds-no-file-number": errno.EMFILE}
+
+
+@each({f"accept-{number}-{name}": (number, fault) for number in (1, 2) for name, fault in ACCEPT_FAULTS.items()})
+def accepts_fail(mltx, case):
     """An accept that fails ends the server by 13, once the connections that were taken are served."""
-    fail = f"accept {number} {errno.EINVAL} 0"
+    number, fault = case
+    fail = f"accept {number} {fault} 0"
     if number == 1:
         with mltx.serve(env=mltx.shim(FAIL=fail)) as server:
             expect(server.end(), status=1, err=FAULT, what="a server that accepts nobody")
@@ -252,6 +256,20 @@ def accepts_fail(mltx, number):
     heard, ended, trace = served(mltx, fail, limit=2)
     same((heard, trace), (TOLD, None), "a server that accepts one")
     expect(ended, status=1, err=FAULT, what="a server that accepts one")
+
+
+GONE = {f"connection-{number}-is-gone-{times}-times": (number, times) for number in (1, 2) for times in (1, 3)}
+
+
+@each(GONE)
+def connections_gone_before_they_are_accepted(mltx, case):
+    """An accept whose connection was gone is tried again, and counts for nothing."""
+    number, times = case
+    with mltx.serve(limit=2, env=mltx.shim(FAIL=f"accept {number} {errno.ECONNABORTED} 0 {times}")) as server:
+        same(server.talk("begin\nquit\n"), b"begun 1\nbye\n", "the first client")
+        same(server.talk("begin\nquit\n"), b"begun 2\nbye\n", "the second client")
+        expect(server.end(), out="served 2\n")
+    same(mltx.counted()[1], 2 + times, "how often the server accepted")
 
 
 def comes_to(process, states):

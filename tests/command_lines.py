@@ -86,6 +86,7 @@ HELP = {
     "help-serve": (
         *("mltx serve [OPTIONS] <ADDR>", "127.0.0.1:7000", *OPTIONS, "--sessions <N>", "1 to 64; without it 8"),
         *("--limit <N>", "1 to 1000000; without it 1", "--tries <N>", "10000"),
+        *("--idle <SECONDS>", "from 0, which is for ever, to 86400; without it 0"),
     ),
 }
 
@@ -178,16 +179,20 @@ WRONG = {
     "steps-has-no-tries": (("steps", "--tries", "2", "a.txt"), "'--tries'"),
     "run-has-no-sessions": (("run", "--sessions", "2", "a.txt"), "'--sessions'"),
     "run-has-no-limit": (("run", "--limit", "2", "a.txt"), "'--limit'"),
+    "run-has-no-idle-time": (("run", "--idle", "2", "a.txt"), "'--idle'"),
+    "idle-without-seconds": (("serve", "127.0.0.1:0", "--idle"), "'--idle <SECONDS>'"),
+    "idle-twice": (("serve", "--idle", "1", "--idle", "1", "127.0.0.1:0"), "'--idle <SECONDS>'"),
     "serve-has-no-workers": (("serve", "--workers", "2", "127.0.0.1:0"), "'--workers'"),
     "no-help-of-what-is-not-there": (("help", "play"), "'play'"),
 }
-# For each option with a number: its subcommand, the greatest number, and what else stands there.
+# For each option with a number: its subcommand, the least and the greatest number, and what else stands there.
 NUMBERS = {
-    "workers": ("run", 8, "a.txt"),
-    "tries": ("run", 1_000_000, "a.txt"),
-    "tries-of-a-server": ("serve", 1_000_000, "127.0.0.1:0"),
-    "sessions": ("serve", 64, "127.0.0.1:0"),
-    "limit": ("serve", 1_000_000, "127.0.0.1:0"),
+    "workers": ("run", 1, 8, "a.txt"),
+    "tries": ("run", 1, 1_000_000, "a.txt"),
+    "tries-of-a-server": ("serve", 1, 1_000_000, "127.0.0.1:0"),
+    "sessions": ("serve", 1, 64, "127.0.0.1:0"),
+    "limit": ("serve", 1, 1_000_000, "127.0.0.1:0"),
+    "idle": ("serve", 0, 86_400, "127.0.0.1:0"),
 }
 
 
@@ -206,9 +211,9 @@ def wrong_words(mltx, case):
 
 @each({f"numbers-of-{name}": (name.split("-")[0], *case) for name, case in NUMBERS.items()})
 def numbers_out_of_range(mltx, case):
-    """0, one more than the greatest number, and what is no number, are refused."""
-    option, subcommand, most, rest = case
-    for number in (0, most + 1, "00", "-1", "two", "1.0", "", 2**64 + 1, "1 "):
+    """One less than the least number, one more than the greatest, and what is no number, are refused."""
+    option, subcommand, least, most, rest = case
+    for number in (least - 1, most + 1, f"{least - 1:02}", "-1", "two", "1.0", "", 2**64 + 1, "1 "):
         is_wrong(mltx, (subcommand, f"--{option}={number}", rest), f"--{option}")
 
 
@@ -223,8 +228,9 @@ def greatest_numbers_of_workers_and_tries(mltx):
 
 @test
 def numbers_of_a_server(mltx):
-    """The least and the greatest number of sessions and of tries, and a limit of a million."""
-    for options in (("--sessions", 64, "--tries", 1_000_000), ("--sessions=1", "--tries", "007", "--hash", "low")):
+    """The least and the greatest number of sessions, of tries and of idle seconds, and a limit of a million."""
+    most = ("--sessions", 64, "--tries", 1_000_000, "--idle", 86_400)
+    for options in (most, ("--sessions=1", "--tries", "007", "--hash", "low", "--idle=0"), ("--idle", "00001")):
         with mltx.serve(*options, limit=2) as server:
             for number in (1, 2):
                 same(server.talk("begin\nquit\n"), f"begun {number}\nbye\n".encode(), f"serve {options}")

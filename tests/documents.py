@@ -10,6 +10,7 @@ LINK = re.compile(r"\]\(([^)\s]+)\)")
 def pages():
     """The documents of the repository, with their texts."""
     found = [ROOT / "README.md", *(ROOT / "docs").glob("*.md"), *(ROOT / "examples").glob("*.md")]
+    found += (ROOT / "clients").glob("*/README.md")
     return {page: page.read_text() for page in [*found, *(ROOT / "crates").glob("*/README.md")]}
 
 

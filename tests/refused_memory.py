@@ -387,6 +387,22 @@ def large(mltx, case):
         holds(re.search(f"(?m)^{base}depth", came.out), f"{what}, and the base of the trace is {base!r}")
 
 
+@each({"cells-of-cancelled-calls-take-no-room": None}, seconds=2)
+def cancelled_calls(mltx, _case):
+    """Calls that are cancelled leave nothing that grows: on ever other cells they ask for memory in pieces of 1,024 bytes or
+    more as often as on one cell. Up to the first step a call has made nothing but its reservation."""
+    runs = Runs(mltx, "steps", traced=False)
+
+    def asked(cells):
+        came = runs.run(as_text(["begin", *(line for cell in cells for line in (f"call 1 up {cell} 1", "cancel 1"))]), least=1024)
+        holds((came.status, came.err) == (0, ""), f"steps of {len(cells)} cancelled calls: {came.err}")
+        same(came.out.count("cancelled\n"), len(cells), "calls that were cancelled")
+        return runs.asked()
+
+    for count in (2_000, 8_000):
+        same(asked(range(10_000, 10_000 + count)), asked([10_000] * count), f"requests of {count} calls on cells of their own")
+
+
 @each({f"threads-refused-in-run-{workers}": workers for workers in ("1", "2", "8")})
 def threads(mltx, workers):
     """A run that gets no thread does all by itself, or is given up."""

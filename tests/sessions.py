@@ -5,8 +5,10 @@ import socket
 import struct
 import subprocess
 import sys
+import threading
+import time
 
-from harness import PATIENCE, ROOT, as_bytes, each, expect, holds, lines, same, test
+from harness import MOST_BYTES, PATIENCE, ROOT, as_bytes, each, expect, holds, lines, may_break_off, same, test
 
 # How long to listen for an answer that must not come, in seconds.
 SILENCE = 0.2
@@ -363,6 +365,142 @@ def sixty_four_sessions_at_once(mltx):
         for peer in peers:
             same(peer.ask("quit"), "bye")
         expect(server.end(), out="served 64\n")
+
+
+# More than a session reads at once: 16,384 bytes.
+MORE = {
+    "lines-behind-quit": ("quit\n" + "begin\n" * 5_000, b"bye\n"),
+    "bytes-behind-a-line-too-long": ("x" * 50_000, b"error 12 LineTooLong\n"),
+    "a-megabyte-behind-quit": ("quit\n" + "y" * 1_000_000, b"bye\n"),
+}
+
+
+@each(MORE)
+def last_answers_are_heard(mltx, case):
+    """A client that sends more than its session reads hears the last answers and then the end, each of twenty times."""
+    sent, told = case
+    with mltx.serve(limit=20) as server:
+        for time_of in range(20):
+            with server.connect() as peer:
+                peer.send(sent)
+                same(peer.rest(), told, f"time {time_of}: the answers to {sent[:9]!r}..")
+        expect(server.end(), out="served 20\n")
+
+
+@test(seconds=1)
+def end_is_heard_behind_too_many_bytes(mltx):
+    """The byte behind 16,777,216 ends a session. A million more are read away, and the client hears the end."""
+    blank = " " * 199 + "\n"
+    with mltx.serve() as server, server.connect() as peer:
+        same(peer.ask("begin"), "begun 1", "begin")
+        peer.send(blank * (MOST_BYTES // 200 + 5_000))
+        same(peer.rest(), b"", "what follows too many bytes")
+        expect(server.end(), out="served 1\n")
+
+
+def send_for_ever(peer, text, pause):
+    """Sends a text again and again, until the server breaks the connection off."""
+    with may_break_off():
+        while True:
+            peer.send(text)
+            time.sleep(pause)
+
+
+FOR_EVER = {
+    "many-bytes-for-ever-behind-quit": ("x" * 100_000, 0),
+    "a-byte-now-and-then-for-ever-behind-quit": ("x", 0.05),
+}
+
+
+@each(FOR_EVER, seconds=1)
+def client_that_sends_for_ever_is_left(mltx, case):
+    """After a second at the latest, or 16,777,216 bytes more, the thread of a session serves the next client."""
+    with mltx.serve("--sessions", 1, limit=2) as server, server.connect() as peer:
+        same(peer.ask("quit"), "bye", "quit")
+        sending = threading.Thread(target=send_for_ever, args=(peer, *case))
+        sending.start()
+        same(server.talk("begin\nquit\n"), b"begun 1\nbye\n", "the next client")
+        expect(server.end(), out="served 2\n")
+        sending.join()
+
+
+@test(seconds=1)
+def silent_client_is_cut(mltx):
+    """With `--idle 1` a client that says nothing for a second is cut, also one that never said a word. Its transaction is
+    taken back, and who waits for it goes on."""
+    trace = mltx.folder / "serve.trace"
+    with mltx.serve("--idle", 1, "--trace", trace, limit=3) as server:
+        with server.connect() as mute, server.connect() as silent, server.connect() as other:
+            same([silent.ask("begin"), silent.ask("up 7 1")], ["begun 1", "done"])
+            begun = time.monotonic()
+            same([other.ask("begin"), other.ask("read 7")], ["begun 2", "is 0"], "once the silent client is cut")
+            waited = time.monotonic() - begun
+            holds(0.9 < waited < PATIENCE / 4, f"the silent client was cut after {waited} seconds")
+            same([silent.rest(), mute.rest()], [b"", b""], "what the silent clients hear")
+            same([other.ask("commit"), other.ask("quit")], ["committed 1", "bye"], "the other client")
+        expect(server.end(), out="served 3\n")
+    same(
+        trace.read_text(),
+        lines("begin 1|op 1 up 7 1 done|begin 2|back 1|abort 1|op 2 read 7 is 0|commit 2 1"),
+    )
+
+
+@test(seconds=3)
+def client_that_takes_nothing_is_cut(mltx):
+    """With `--idle 1` a client that sends many lines and never reads is cut as well, and its transaction taken back."""
+    with mltx.serve("--idle", 1, limit=2) as server, server.connect() as deaf:
+        same([deaf.ask("begin"), deaf.ask("up 7 1")], ["begun 1", "done"])
+        sending = threading.Thread(target=send_and_hear_nothing, args=(deaf, "foo\n" * 2_000_000))
+        sending.start()
+        with server.connect() as other:
+            same([other.ask("begin"), other.ask("read 7")], ["begun 2", "is 0"], "once the deaf client is cut")
+            same([other.ask("commit"), other.ask("quit")], ["committed 1", "bye"], "the other client")
+        sending.join()
+        deaf.socket.close()
+        expect(server.end(), out="served 2\n")
+
+
+def send_and_hear_nothing(peer, text):
+    """Sends a text, as much of it as the server takes."""
+    with may_break_off():
+        peer.send(text)
+
+
+@test(seconds=3)
+def session_that_waits_is_not_idle(mltx):
+    """With `--idle 1` an operation waits for two seconds and more, and its session goes on."""
+    with mltx.serve("--idle", 1, limit=2) as server, server.connect() as first, server.connect() as second:
+        same([first.ask("begin"), second.ask("begin"), first.ask("up 7 1")], ["begun 1", "begun 2", "done"])
+        second.send("read 7\n")
+        for _ in range(6):
+            time.sleep(0.4)
+            same(first.ask("read 8"), "is 0", "the first client")
+        same(first.ask("commit"), "committed 1")
+        same([second.line(), second.ask("commit")], ["is 1", "committed 2"], "the second client")
+        first.end()
+        second.end()
+        expect(server.end(), out="served 2\n")
+
+
+@test(seconds=4)
+def slow_client_is_not_cut(mltx):
+    """With `--idle 1` a client that sends a byte every half second is heard."""
+    with mltx.serve("--idle", 1) as server, server.connect() as slow:
+        for byte in "begin\n":
+            time.sleep(0.5)
+            slow.send(byte)
+        same([slow.line(), slow.ask("commit"), slow.ask("quit")], ["begun 1", "committed 1", "bye"])
+        expect(server.end(), out="served 1\n")
+
+
+@each({"silence-without-an-idle-time": (), "silence-with-an-idle-time-of-0": ("--idle", 0)}, seconds=2)
+def silence_without_an_idle_time(mltx, options):
+    """Where no idle time is set a client may say nothing for as long as it likes."""
+    with mltx.serve(*options) as server, server.connect() as peer:
+        same(peer.ask("begin"), "begun 1", "begin")
+        time.sleep(1.5)
+        same([peer.ask("commit"), peer.ask("quit")], ["committed 1", "bye"], "after a silence")
+        expect(server.end(), out="served 1\n")
 
 
 @test

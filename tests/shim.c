@@ -3,9 +3,9 @@
    REFUSE is `FIRST LAST LEAST`: of the requests for at least LEAST bytes, which are counted from 1, those with the
    numbers FIRST to LAST are refused. With REFUSE_THREADS each thread is refused.
 
-   FAIL is `CALL NUMBER FAULT MOST`: of the calls `read`, `write`, `recv`, `send` or `accept`, the one with this number,
-   counted from 1, fails with the number FAULT of a fault, or does nothing and answers 0 where FAULT is 0. The others
-   take or give at most MOST bytes.
+   FAIL is `CALL NUMBER FAULT MOST TIMES`: of the calls `read`, `write`, `recv`, `send` or `accept`, so many from the one
+   with this number on, counted from 1, fail with the number FAULT of a fault, or do nothing and answer 0 where FAULT
+   is 0. The others take or give at most MOST bytes. Without TIMES it is one.
 
    At the end of the program, how many requests and how many calls were counted is written into the file COUNTED. */
 #define _GNU_SOURCE
@@ -34,7 +34,7 @@ typedef void leave(int);
 #define NEXT(type, name) ((type *)dlsym(RTLD_NEXT, name))
 
 static atomic_long asked, called;
-static long first, last, least, failing;
+static long first, last, least, failing, times = 1;
 static size_t most;
 static int fault;
 static char call[16];
@@ -42,7 +42,7 @@ static char call[16];
 __attribute__((constructor)) static void read_what_to_do(void) {
     const char *refuse = getenv("REFUSE"), *fail = getenv("FAIL");
     if (refuse) sscanf(refuse, "%ld %ld %ld", &first, &last, &least);
-    if (fail) sscanf(fail, "%15s %ld %d %zu", call, &failing, &fault, &most);
+    if (fail) sscanf(fail, "%15s %ld %d %zu %ld", call, &failing, &fault, &most, &times);
     atomic_store(&asked, 0);
 }
 
@@ -74,7 +74,8 @@ int pthread_create(pthread_t *thread, const pthread_attr_t *how, void *(*start)(
 static int fails(const char *name, size_t *size) {
     if (strcmp(name, call)) return 0;
     if (size && *size > most) *size = most;
-    if (atomic_fetch_add(&called, 1) + 1 != failing) return 0;
+    long number = atomic_fetch_add(&called, 1) + 1;
+    if (number < failing || number >= failing + times) return 0;
     errno = fault;
     return 1;
 }

@@ -1,7 +1,7 @@
 -- A history passes the checker.
 use Rattle.std.proofs.Common.{◌≡◌, ◌≢◌, ℕ, List, [], refl, sym, subst}
 use Rattle.mlt_kinds.specs.Bases.{Base, Step, empty_base}
-use Rattle.mlt_kinds.specs.BaseLaws.{base_one_start}
+use Rattle.mlt_kinds.proofs.BaseLaws.{base_one_start}
 use Rattle.mlt_order.specs.Histories.{IsCommitOrderSerializable, IsHistory}
 use Rattle.mlt_order.specs.Histories.Stage.{Running}
 use Rattle.mlt_order.specs.Interleavings.{UndoneTo}

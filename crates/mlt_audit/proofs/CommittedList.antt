@@ -1,5 +1,5 @@
 -- The committed list of a history, and the committed receipts.
-use Rattle.std.proofs.Common.{◌≡◌, ◌≢◌, ◌⊎◌, ℕ, zero, suc, ◌+◌, ◌<◌, ◌≤◌, List, [], ◌∷◌, ◌++◌, length, true, false, cond, nat_eq, Contains, slice_index_or, refl, sym, ap, subst, ◌∙◌, inl, inr, append_assoc, arith}
+use Rattle.std.proofs.Common.{◌≡◌, ◌≢◌, ◌⊎◌, ℕ, zero, suc, ◌+◌, ◌<◌, ◌≤◌, List, [], ◌∷◌, ◌++◌, length, cond, nat_eq, Contains, slice_index_or, refl, sym, ap, subst, ◌∙◌, inl, inr, append_assoc, arith}
 use Rattle.std.specs.Prelude.{◌==◌}
 use Rattle.std.proofs.lemmas.Bool.{cases_eq, eq-eqb, ne_eqb}
 use Rattle.std.proofs.lemmas.List.{length-append, map-append}
@@ -8,21 +8,16 @@ use Rattle.std.proofs.lemmas.List.Sums.{sum_by-cons}
 use Rattle.mlt_kinds.specs.declared.operation.ObjOp.{ObjOp}
 use Rattle.mlt_kinds.specs.declared.operation.ObjReply.{ObjReply}
 use Rattle.mlt_kinds.specs.Bases.{Base, Step, empty_base}
-use Rattle.mlt_order.specs.Histories.{Entry, Lists, Stage, items_done}
-use Rattle.mlt_order.specs.Histories.Entry.{Begun, Closed, Did, TookBack}
-use Rattle.mlt_order.specs.Histories.Entry.{Committed as CommittedEntry}
+use Rattle.mlt_order.specs.Histories.{Lists, Stage}
 use Rattle.mlt_order.specs.Histories.Stage.{Fresh, Running, Ended}
-use Rattle.mlt_order.specs.Interleavings.{items_of}
 use Rattle.mlt_order.specs.Runs.{IsSerialBase}
 use Rattle.mlt_order.proofs.Growing.{one_last}
-use Rattle.mlt_order.proofs.Parts.{items_of-append}
 use Rattle.mlt_order.proofs.RunLemmas.{contains-first, contains-later, contains-nothing}
 use Rattle.mlt_order.proofs.Tables.{changed}
 use Rattle.mlt_trace.specs.declared.item.TraceItem.{TraceItem}
 use Rattle.mlt_trace.specs.declared.item.TraceItem.TheVariants.{Begin, Op, Back, Commit, Abort}
-use Rattle.mlt_history.specs.Entries.{entries_of}
 use Rattle.mlt_history.specs.Numbers.{AreBegunInOrder, begun_txs, commit_count, commit_numbers}
-use Rattle.mlt_history.proofs.ItemLaws.{begun_txs-append, commits_counted, entries_of-append, no_commit}
+use Rattle.mlt_history.proofs.ItemLaws.{commits_counted, no_commit}
 use Rattle.mlt_check.specs.Traces.{ArePlaced, HasPlace, IsRunning, IsWhole, told}
 use Rattle.mlt_check.proofs.Growing.{append_nil, begun_stays, earlier_or_last, last_one, number_in, stage-other, told-push, transcript-other}
 use Rattle.mlt_check.proofs.Lasting.{runs_begun}
@@ -33,45 +28,12 @@ use Rattle.mlt_audit.specs.Agreement.{Agrees, count_of}
 use Rattle.mlt_audit.specs.Committed.{AreCommittedOf, CommitFrom, IsBaseOfReceipts, transcripts_of}
 use Rattle.mlt_audit.specs.Receipts.{Closing, IsClosedSo, IsOfHistory, IsWithoutTx, closing_by, closings_of, ops_of}
 use Rattle.mlt_audit.specs.Receipts.Closing.{ByAbort, ByCommit}
-use Rattle.mlt_audit.proofs.Counts.{is_between}
-use Rattle.mlt_audit.proofs.Placed.{behind_commit, closings_abort, closings_commit, closings_other, ops_other, ops_own, stage_at}
+use Rattle.mlt_audit.proofs.Placed.{behind_commit, begun_in, closings_abort, closings_commit, closings_of-append, closings_other, ops_of-append, ops_other, ops_own, stage_at}
 
 abbrev one_more : List TraceItem → TraceItem → List TraceItem
 one_more items item = items ++ item ∷ []
 
--- ---- two lists of items
-
-items_done-append : (one other : List (Entry (ObjOp × ObjReply))) → items_done (one ++ other) ≡ items_done one ++ items_done other
-items_done-append [] other = refl
-items_done-append (Did i item ∷ one) other = ap (λ l. (i, item) ∷ l) (items_done-append one other)
-items_done-append (Begun i ∷ one) other = items_done-append one other
-items_done-append (TookBack i ∷ one) other = items_done-append one other
-items_done-append (CommittedEntry i ∷ one) other = items_done-append one other
-items_done-append (Closed i ∷ one) other = items_done-append one other
-
-pub ops_of-append : (tx : ℕ) (items later : List TraceItem) → ops_of tx (items ++ later) ≡ ops_of tx items ++ ops_of tx later
-ops_of-append tx items later =
-    ap (λ (es : List (Entry (ObjOp × ObjReply))). items_of tx (items_done es)) (entries_of-append items later)
-    ∙ ap (λ l. items_of tx l) (items_done-append (entries_of items) (entries_of later))
-    ∙ items_of-append tx (items_done (entries_of items)) (items_done (entries_of later))
-
-pub closings_of-append : (tx : ℕ) (items later : List TraceItem) → closings_of tx (items ++ later) ≡ closings_of tx items ++ closings_of tx later
-closings_of-append tx [] later = refl
-closings_of-append tx (Begin i ∷ items) later = closings_of-append tx items later
-closings_of-append tx (Op i done ∷ items) later = closings_of-append tx items later
-closings_of-append tx (Back i ∷ items) later = closings_of-append tx items later
-closings_of-append tx (Commit i number ∷ items) later =
-    let rest = closings_of-append tx items later in
-    elim (nat_eq i tx) as (λ b. cond b (ByCommit number ∷ closings_of tx (items ++ later)) (closings_of tx (items ++ later)) ≡ cond b (ByCommit number ∷ closings_of tx items) (closings_of tx items) ++ closings_of tx later) [
-      | true ↦ ap (λ l. ByCommit number ∷ l) rest
-      | false ↦ rest
-    ]
-closings_of-append tx (Abort i ∷ items) later =
-    let rest = closings_of-append tx items later in
-    elim (nat_eq i tx) as (λ b. cond b (ByAbort ∷ closings_of tx (items ++ later)) (closings_of tx (items ++ later)) ≡ cond b (ByAbort ∷ closings_of tx items) (closings_of tx items) ++ closings_of tx later) [
-      | true ↦ ap (λ l. ByAbort ∷ l) rest
-      | false ↦ rest
-    ]
+-- ---- one more item
 
 -- an item of another transaction at the end
 ops_past : (tx : ℕ) (items : List TraceItem) (item : TraceItem) → ops_of tx (item ∷ []) ≡ [] → ops_of tx (one_more items item) ≡ ops_of tx items
@@ -226,10 +188,6 @@ record Gathers (receipts : List Outcome) (items : List TraceItem) (ordered : Lis
   among : (o : Outcome) → Contains ordered o → Contains receipts o
   all : (o : Outcome) (number : ℕ) → Contains receipts o → o.tx ≢ 0 → closings_of o.tx items ≡ ByCommit number ∷ [] → Contains ordered o
 
-begun_from : (items later all : List TraceItem) (tx : ℕ) → all ≡ items ++ later → Contains (begun_txs items) tx → Contains (begun_txs all) tx
-begun_from items later all tx e h =
-    subst (λ ns. Contains ns tx) (sym (ap begun_txs e ∙ begun_txs-append items later)) (Contains-append_left (begun_txs items) (begun_txs later) tx h)
-
 last_there : (os : List Outcome) (o : Outcome) → Contains (os ++ o ∷ []) o
 last_there os o = last_one os o
 
@@ -238,7 +196,7 @@ last_or_before os o p h = earlier_or_last os o p h
 
 module _ (receipts : List Outcome) (whole : List TraceItem) (placed : ArePlaced whole) (order : AreBegunInOrder whole) (agrees : Agrees receipts whole) where
   begun_of_all : (items later : List TraceItem) (tx : ℕ) → whole ≡ items ++ later → IsRunning items tx → Contains (begun_txs whole) tx
-  begun_of_all items later tx e runs = begun_from items later whole tx e (runs_begun items tx runs)
+  begun_of_all items later tx e runs = begun_in items later whole tx e (runs_begun items tx runs)
 
   module _ (items later : List TraceItem) (ordered : List Outcome) (gathers : Gathers receipts items ordered) (stands : (tx : ℕ) → Stands items tx) where
     -- an item that is no commit
@@ -261,15 +219,15 @@ module _ (receipts : List Outcome) (whole : List TraceItem) (placed : ArePlaced 
       begun = begun_of_all items (Commit tx number ∷ later) tx cut place.0
 
       some : tx ≢ 0
-      some = λ e. let b = is_between whole order tx begun in omega (arith, b.0, e)
+      some = (agrees.of_history.0.once tx begun).0
 
       receipt : (o : Outcome) × Contains receipts o × (o.tx ≡ tx)
-      receipt = receipt_of tx receipts (agrees.once tx begun)
+      receipt = receipt_of tx receipts ((agrees.of_history.0.once tx begun).1)
 
       story : IsClosedSo tx receipt.0.done receipt.0.end whole
       story =
           let there : receipt.0.tx ≢ 0 = λ e. some (sym receipt.2 ∙ e) in
-          subst (λ n. IsClosedSo n receipt.0.done receipt.0.end whole) receipt.2 (All-contains (IsOfHistory whole) receipts receipt.0 agrees.told receipt.1 there)
+          subst (λ n. IsClosedSo n receipt.0.done receipt.0.end whole) receipt.2 (All-contains (IsOfHistory whole) receipts receipt.0 agrees.of_history.1 receipt.1 there)
 
       ends : receipt.0.end ≡ Committed number
       ends =
@@ -293,7 +251,7 @@ module _ (receipts : List Outcome) (whole : List TraceItem) (placed : ArePlaced 
         among = λ o there. elim (last_or_before ordered receipt.0 o there) [ inl before ↦ gathers.among o before | inr last ↦ subst (λ p. Contains receipts p) last receipt.1 ];
         all = λ o n there other closed. elim (cases_eq o.tx tx) [
           | inl own ↦
-              let is : receipt.0 ≡ o = one_receipt receipts receipt.0 o (receipt.2 ∙ sym own) (ap (λ t. count_of t receipts) receipt.2 ∙ agrees.once tx begun) receipt.1 there in
+              let is : receipt.0 ≡ o = one_receipt receipts receipt.0 o (receipt.2 ∙ sym own) (ap (λ t. count_of t receipts) receipt.2 ∙ (agrees.of_history.0.once tx begun).1) receipt.1 there in
               subst (λ p. Contains (ordered ++ receipt.0 ∷ []) p) is (last_there ordered receipt.0)
           | inr apart ↦ Contains-append_left ordered (receipt.0 ∷ []) o
               (gathers.all o n there other (sym (closings_past o.tx items (Commit tx number) (closings_other o.tx (Commit tx number) [] apart)) ∙ closed))
@@ -355,7 +313,7 @@ module _ (receipts : List Outcome) (whole : List TraceItem) (placed : ArePlaced 
         record {
           all = λ o there committed.
               let some = committed_has_tx o committed.0 there committed.1 in
-              let told_so = All-contains (IsOfHistory whole) receipts o agrees.told there some in
+              let told_so = All-contains (IsOfHistory whole) receipts o agrees.of_history.1 there some in
               all.1.all o committed.0 there some (told_so.closed ∙ ap (λ end. closing_by end ∷ []) committed.1);
           no_others = all.1.among;
           counted = all.1.counted;

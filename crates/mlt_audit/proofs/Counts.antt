@@ -1,4 +1,4 @@
--- Agreement, from its parts.
+-- Numbers of receipts, where transactions begin in order.
 use Rattle.std.proofs.Common.{◌≡◌, ◌⊎◌, ℕ, zero, suc, ◌+◌, ◌<◌, ◌≤◌, List, [], ◌∷◌, length, All, Contains, slice_index_or, subst, ◌∙◌, inl, inr, arith}
 use Rattle.std.proofs.lemmas.Bool.{cases_eq}
 use Rattle.std.proofs.lemmas.List.Elements.{All-weaker}
@@ -6,8 +6,7 @@ use Rattle.mlt_order.proofs.RunLemmas.{contains-first, contains-later, contains-
 use Rattle.mlt_trace.specs.declared.item.TraceItem.{TraceItem}
 use Rattle.mlt_history.specs.Numbers.{AreBegunInOrder, CountsFrom, begin_count, begun_txs}
 use Rattle.mlt_serial.specs.declared.outcome.Outcome.{Outcome}
-use Rattle.mlt_audit.specs.Agreement.{Agrees, CommitsRise, IsOfBegunTx, count_of}
-use Rattle.mlt_audit.specs.Receipts.{IsOfHistory, IsWithoutTx}
+use Rattle.mlt_audit.specs.Agreement.{IsOfBegunTx, NumbersAgree, count_of}
 
 -- ---- numbers that count
 
@@ -30,34 +29,27 @@ among (n ∷ ns) first x counts low high = elim (cases_eq first x) [
 ]
 
 module _ (items : List TraceItem) (order : AreBegunInOrder items) where
-  pub is_between : (tx : ℕ) → Contains (begun_txs items) tx → (0 < tx) × (tx ≤ begin_count items)
+  is_between : (tx : ℕ) → Contains (begun_txs items) tx → (0 < tx) × (tx ≤ begin_count items)
   is_between tx h = let b = between (begun_txs items) 1 tx order h in (omega (arith, b.0), omega (arith, b.1))
 
   pub is_begun : (tx : ℕ) → 0 < tx → tx ≤ begin_count items → Contains (begun_txs items) tx
   is_begun tx low high = among (begun_txs items) 1 tx order (omega (arith, low)) (omega (arith, high))
 
   module _ (receipts : List Outcome) (last : ℕ) (counted : last ≡ begin_count items) where
-    pub numbers_agree : All (λ o. o.tx ≤ last) receipts → All (IsOfBegunTx items) receipts
-    numbers_agree most = All-weaker (λ o. o.tx ≤ last) (IsOfBegunTx items) (λ o low some. is_begun o.tx (omega (arith, some)) (omega (arith, low, counted))) receipts most
-
     most_of : (o : Outcome) → IsOfBegunTx items o → o.tx ≤ last
     most_of o begun = elim (cases_eq o.tx 0) [
       | inl none ↦ omega (arith, none)
       | inr some ↦ let b = is_between o.tx (begun some) in omega (arith, b.1, counted)
     ]
 
-    pub numbers_at_most : Agrees receipts items → All (λ o. o.tx ≤ last) receipts
-    numbers_at_most agrees = All-weaker (IsOfBegunTx items) (λ o. o.tx ≤ last) most_of receipts agrees.begun
+    pub numbers_at_most : NumbersAgree receipts items → All (λ o. o.tx ≤ last) receipts
+    numbers_at_most numbers = All-weaker (IsOfBegunTx items) (λ o. o.tx ≤ last) most_of receipts numbers.begun
 
-    pub numbers_once : Agrees receipts items → (tx : ℕ) → 0 < tx → tx ≤ last → count_of tx receipts ≡ 1
-    numbers_once agrees tx low high = agrees.once tx (is_begun tx low (omega (arith, high, counted)))
+    pub numbers_once : NumbersAgree receipts items → (tx : ℕ) → 0 < tx → tx ≤ last → count_of tx receipts ≡ 1
+    numbers_once numbers tx low high = (numbers.once tx (is_begun tx low (omega (arith, high, counted)))).1
 
-    pub agrees_from : All (λ o. o.tx ≤ last) receipts → ((tx : ℕ) → 0 < tx → tx ≤ last → count_of tx receipts ≡ 1) → All (IsOfHistory items) receipts
-        → All IsWithoutTx receipts → CommitsRise receipts → Agrees receipts items
-    agrees_from most once told without rising = record {
-      once = λ tx h. let b = is_between tx h in once tx b.0 (omega (arith, b.1, counted));
-      begun = numbers_agree most;
-      told = told;
-      without_tx = without;
-      rising = rising;
+    pub numbers_agree : All (λ o. o.tx ≤ last) receipts → ((tx : ℕ) → 0 < tx → tx ≤ last → count_of tx receipts ≡ 1) → NumbersAgree receipts items
+    numbers_agree most once = record {
+      once = λ tx h. let b = is_between tx h in (λ none. absurd (let low = b.0 in omega (arith, low, none)), once tx b.0 (omega (arith, b.1, counted)));
+      begun = All-weaker (λ o. o.tx ≤ last) (IsOfBegunTx items) (λ o low some. is_begun o.tx (omega (arith, some)) (omega (arith, low, counted))) receipts most;
     }

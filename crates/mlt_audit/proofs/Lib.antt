@@ -1,8 +1,11 @@
 pub mod Loops
 pub mod Placed
+pub mod Apart
+pub mod Begun
 pub mod Walking
-pub mod Begins
 pub mod Marks
 pub mod Counts
+pub mod Orderly
+pub mod Shares
 pub mod CommitOrder
 pub mod CommittedList

@@ -1,35 +1,12 @@
--- Numbers of receipts, counted and marked.
-use Rattle.std.proofs.Common.{◌≡◌, ◌≢◌, ◌↔◌, ℕ, ◌+◌, ◌-◌, ◌<◌, ◌≤◌, List, [], ◌∷◌, ◌++◌, length, get_or, set, take, replicate, Bool, true, false, cond, Some, slice_get, refl, sym, ap, subst, ◌∙◌, inl, inr, arith}
+-- Numbers of receipts, marked.
+use Rattle.std.proofs.Common.{◌≡◌, ◌≢◌, ◌↔◌, ℕ, ◌+◌, ◌-◌, ◌<◌, ◌≤◌, List, [], length, get_or, set, take, replicate, Bool, true, false, cond, Some, slice_get, refl, sym, ap, subst, ◌∙◌, inl, inr, arith}
 use Rattle.std.specs.Prelude.{◌==◌}
 use Rattle.std.proofs.lemmas.Bool.{cases_eq, eq-eqb, ne_eqb}
-use Rattle.std.proofs.lemmas.List.{get_or-replicate, get_or-set_other, get_or-set_same, length-replicate, take_all, take_more}
+use Rattle.std.proofs.lemmas.List.{get_or-replicate, get_or-set_other, get_or-set_same, length-replicate, take_all}
 use Rattle.std.proofs.lemmas.List.Sums.{count_by_more_no, count_by_more_yes, sum_by-take-le}
 use Rattle.std.proofs.lemmas.Option.{get_or_from_slice_get, slice_get-get_or}
-use Rattle.mlt_trace.specs.declared.item.TraceItem.{TraceItem}
-use Rattle.mlt_trace.specs.declared.item.TraceItem.TheVariants.{Begin, Op, Back, Commit, Abort}
-use Rattle.mlt_history.specs.Numbers.{begin_count, begun_txs}
-use Rattle.mlt_history.proofs.ItemLaws.{begins_counted, no_begin}
 use Rattle.mlt_serial.specs.declared.outcome.Outcome.{Outcome}
 use Rattle.mlt_audit.specs.Agreement.{count_of}
-
--- ---- begins
-
-module _ (history : List TraceItem) (i : ℕ) (item : TraceItem) (within : i < length history) (is : item ≡ get_or history i item) where
-  next_items : take (i + 1) history ≡ take i history ++ item ∷ []
-  next_items = take_more history i item within ∙ ap (λ x. take i history ++ x ∷ []) (sym is)
-
-  pub one_begin : (tx : ℕ) → item ≡ Begin tx → begin_count (take (i + 1) history) ≡ begin_count (take i history) + 1
-  one_begin tx e = ap begin_count next_items ∙ ap (λ x. begin_count (take i history ++ x ∷ [])) e ∙ begins_counted (take i history) tx
-
-  begins_nothing : (x : TraceItem) → ((tx : ℕ) → x ≡ Begin tx → ⊥) → begun_txs (x ∷ []) ≡ []
-  begins_nothing (Begin tx) none = absurd (none tx refl)
-  begins_nothing (Op tx done) none = refl
-  begins_nothing (Back tx) none = refl
-  begins_nothing (Commit tx number) none = refl
-  begins_nothing (Abort tx) none = refl
-
-  pub one_other : ((tx : ℕ) → item ≡ Begin tx → ⊥) → begin_count (take (i + 1) history) ≡ begin_count (take i history)
-  one_other none = ap begin_count next_items ∙ ap length (no_begin (take i history) item (begins_nothing item none))
 
 -- ---- marks
 

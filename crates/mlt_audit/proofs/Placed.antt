@@ -1,22 +1,25 @@
--- What placed items have of a transaction before its begin, and behind its close: nothing.
-use Rattle.std.proofs.Common.{◌≡◌, ◌≢◌, ℕ, List, [], ◌∷◌, ◌++◌, Contains, refl, sym, ap, subst, ◌∙◌, inl, inr, append_assoc, arith}
+-- What items have of a transaction, and that placed ones have nothing of it behind its close.
+use Rattle.std.proofs.Common.{◌≡◌, ◌≢◌, ℕ, List, [], ◌∷◌, ◌++◌, true, false, cond, nat_eq, Contains, refl, sym, ap, subst, ◌∙◌, inl, inr, append_assoc, arith}
 use Rattle.std.proofs.lemmas.Bool.{cases_eq, eq-eqb, ne_eqb}
 use Rattle.std.proofs.lemmas.List.Elements.{Contains-append_left}
 use Rattle.mlt_kinds.specs.declared.operation.ObjOp.{ObjOp}
 use Rattle.mlt_kinds.specs.declared.operation.ObjReply.{ObjReply}
-use Rattle.mlt_order.specs.Histories.{Lists, Stage, after_entry, items_done}
+use Rattle.mlt_order.specs.Histories.{Entry, Lists, Stage, after_entry, items_done}
+use Rattle.mlt_order.specs.Histories.Entry.{Begun, Closed, Did, TookBack}
+use Rattle.mlt_order.specs.Histories.Entry.{Committed as CommittedEntry}
 use Rattle.mlt_order.specs.Histories.Stage.{Running, Ended}
-use Rattle.mlt_order.proofs.Parts.{items_of-other, items_of-same}
+use Rattle.mlt_order.specs.Interleavings.{items_of}
+use Rattle.mlt_order.proofs.Parts.{items_of-append, items_of-other, items_of-same}
 use Rattle.mlt_order.proofs.Tables.{changed}
 use Rattle.mlt_trace.specs.declared.item.TraceItem.{TraceItem}
 use Rattle.mlt_trace.specs.declared.item.TraceItem.TheVariants.{Begin, Op, Back, Commit, Abort}
 use Rattle.mlt_history.specs.Entries.{entries_of, entry_of}
 use Rattle.mlt_history.specs.Numbers.{begun_txs}
-use Rattle.mlt_history.proofs.ItemLaws.{begun_txs-append}
+use Rattle.mlt_history.proofs.ItemLaws.{begun_txs-append, entries_of-append}
 use Rattle.mlt_check.specs.Traces.{ArePlaced, HasPlace, IsRunning, told}
 use Rattle.mlt_check.proofs.Growing.{begun_stays, number_in, stage-other, told-push}
 use Rattle.mlt_check.proofs.Lasting.{runs_begun}
-use Rattle.mlt_audit.specs.Receipts.{closings_of, ops_of}
+use Rattle.mlt_audit.specs.Receipts.{HasNothing, closings_of, ops_of}
 use Rattle.mlt_audit.specs.Receipts.Closing.{ByAbort, ByCommit}
 
 -- ---- one item in front
@@ -44,21 +47,45 @@ closings_commit tx number items = rw (eq-eqb tx tx refl) refl
 pub closings_abort : (tx : ℕ) (items : List TraceItem) → closings_of tx (Abort tx ∷ items) ≡ ByAbort ∷ closings_of tx items
 closings_abort tx items = rw (eq-eqb tx tx refl) refl
 
--- ---- fronts of placed items
+-- ---- two lists of items
 
-pub placed_front : (items later : List TraceItem) → ArePlaced (items ++ later) → ArePlaced items
-placed_front items later placed before rest item e =
-    placed before (rest ++ later) item (ap (λ is. is ++ later) e ∙ append_assoc before (item ∷ rest) later)
+items_done-append : (one other : List (Entry (ObjOp × ObjReply))) → items_done (one ++ other) ≡ items_done one ++ items_done other
+items_done-append [] other = refl
+items_done-append (Did i item ∷ one) other = ap (λ l. (i, item) ∷ l) (items_done-append one other)
+items_done-append (Begun i ∷ one) other = items_done-append one other
+items_done-append (TookBack i ∷ one) other = items_done-append one other
+items_done-append (CommittedEntry i ∷ one) other = items_done-append one other
+items_done-append (Closed i ∷ one) other = items_done-append one other
 
-abbrev IsNotBegun : List TraceItem → ℕ → Type 0
-IsNotBegun items tx = Contains (begun_txs items) tx → ⊥
+pub ops_of-append : (tx : ℕ) (items later : List TraceItem) → ops_of tx (items ++ later) ≡ ops_of tx items ++ ops_of tx later
+ops_of-append tx items later =
+    ap (λ (es : List (Entry (ObjOp × ObjReply))). items_of tx (items_done es)) (entries_of-append items later)
+    ∙ ap (λ l. items_of tx l) (items_done-append (entries_of items) (entries_of later))
+    ∙ items_of-append tx (items_done (entries_of items)) (items_done (entries_of later))
+
+pub closings_of-append : (tx : ℕ) (items later : List TraceItem) → closings_of tx (items ++ later) ≡ closings_of tx items ++ closings_of tx later
+closings_of-append tx [] later = refl
+closings_of-append tx (Begin i ∷ items) later = closings_of-append tx items later
+closings_of-append tx (Op i done ∷ items) later = closings_of-append tx items later
+closings_of-append tx (Back i ∷ items) later = closings_of-append tx items later
+closings_of-append tx (Commit i number ∷ items) later =
+    let rest = closings_of-append tx items later in
+    elim (nat_eq i tx) as (λ b. cond b (ByCommit number ∷ closings_of tx (items ++ later)) (closings_of tx (items ++ later)) ≡ cond b (ByCommit number ∷ closings_of tx items) (closings_of tx items) ++ closings_of tx later) [
+      | true ↦ ap (λ l. ByCommit number ∷ l) rest
+      | false ↦ rest
+    ]
+closings_of-append tx (Abort i ∷ items) later =
+    let rest = closings_of-append tx items later in
+    elim (nat_eq i tx) as (λ b. cond b (ByAbort ∷ closings_of tx (items ++ later)) (closings_of tx (items ++ later)) ≡ cond b (ByAbort ∷ closings_of tx items) (closings_of tx items) ++ closings_of tx later) [
+      | true ↦ ap (λ l. ByAbort ∷ l) rest
+      | false ↦ rest
+    ]
+
+pub begun_in : (items later all : List TraceItem) (tx : ℕ) → all ≡ items ++ later → Contains (begun_txs items) tx → Contains (begun_txs all) tx
+begun_in items later all tx e h =
+    subst (λ ns. Contains ns tx) (sym (ap begun_txs e ∙ begun_txs-append items later)) (Contains-append_left (begun_txs items) (begun_txs later) tx h)
 
 -- ---- behind a close
-
--- nothing is done there, and nothing closed
-pub record HasNothing (tx : ℕ) (items : List TraceItem) : Type 0 where
-  pub ops : ops_of tx items ≡ []
-  pub closed : closings_of tx items ≡ []
 
 module _ (items : List TraceItem) (tx : ℕ) (begun : Contains (begun_txs items) tx) (ended : (told items).stage tx ≡ Ended) where
   not_running : (i : ℕ) → tx ≡ i → IsRunning items i → ⊥
@@ -102,40 +129,3 @@ module _ (items later all : List TraceItem) (placed : ArePlaced all) where
   behind_abort tx e =
       behind (Abort tx) tx e (placed items later (Abort tx) e).0
       (stage_at items (Abort tx) tx Ended (changed (told items).stage tx Ended).0)
-
--- ---- before a begin
-
--- what is in front makes no difference
-pub record Skips (tx : ℕ) (front rest : List TraceItem) : Type 0 where
-  pub ops : ops_of tx (front ++ rest) ≡ ops_of tx rest
-  pub closed : closings_of tx (front ++ rest) ≡ closings_of tx rest
-
-begun_in : (items later all : List TraceItem) (tx : ℕ) → all ≡ items ++ later → Contains (begun_txs items) tx → Contains (begun_txs all) tx
-begun_in items later all tx e h =
-    subst (λ ns. Contains ns tx) (sym (ap begun_txs e ∙ begun_txs-append items later)) (Contains-append_left (begun_txs items) (begun_txs later) tx h)
-
-module _ (all rest : List TraceItem) (tx : ℕ) (placed : ArePlaced all) (none : IsNotBegun all tx) where
-  none_runs : (items later : List TraceItem) → all ≡ items ++ later → (i : ℕ) → tx ≡ i → IsRunning items i → ⊥
-  none_runs items later e i own running = none (begun_in items later all tx e (subst (λ n. Contains (begun_txs items) n) (sym own) (runs_begun items i running)))
-
-  stands_apart : (items later : List TraceItem) (item : TraceItem) → all ≡ items ++ item ∷ later → HasPlace items item → tx ≡ number_in item → Skips tx later rest → Skips tx (item ∷ later) rest
-  stands_apart items later (Begin i) e place own skips = record { ops = skips.ops; closed = skips.closed }
-  stands_apart items later (Back i) e place own skips = record { ops = skips.ops; closed = skips.closed }
-  stands_apart items later (Op i done) e place own skips = absurd (none_runs items (Op i done ∷ later) e i own place.0)
-  stands_apart items later (Commit i number) e place own skips = absurd (none_runs items (Commit i number ∷ later) e i own place.0)
-  stands_apart items later (Abort i) e place own skips = absurd (none_runs items (Abort i ∷ later) e i own place.0)
-
-  skips_from : (front items : List TraceItem) → all ≡ items ++ front → Skips tx front rest
-  skips_from [] items e = record { ops = refl; closed = refl }
-  skips_from (item ∷ front) items e =
-      let skips = skips_from front (items ++ item ∷ []) (e ∙ sym (append_assoc items (item ∷ []) front)) in
-      elim (cases_eq tx (number_in item)) [
-        | inl own ↦ stands_apart items front item e (placed items front item e) own skips
-        | inr apart ↦ record {
-          ops = ops_other tx item (front ++ rest) apart ∙ skips.ops;
-          closed = closings_other tx item (front ++ rest) apart ∙ skips.closed;
-        }
-      ]
-
-  pub skips_unbegun : Skips tx all rest
-  skips_unbegun = skips_from all [] refl

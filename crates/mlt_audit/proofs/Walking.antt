@@ -1,151 +1,139 @@
--- A walk from a transaction's begin to its close.
-use Rattle.std.proofs.Common.{◌≡◌, ◌≢◌, ◌↔◌, ℕ, suc, ◌+◌, ◌<◌, ◌≤◌, List, [], ◌∷◌, ◌++◌, length, get_or, take, drop, Contains, sym, ap, subst, ◌∙◌, arith}
-use Rattle.std.proofs.lemmas.List.{drop_more, drop_all, get_or-drop, length-drop, take-append-drop}
+-- A walk over items, up to where they have a transaction's operations and its close.
+use Rattle.std.proofs.Common.{◌≡◌, ℕ, ◌+◌, ◌<◌, ◌≤◌, List, [], ◌∷◌, ◌++◌, Bool, true, false, cond, length, get_or, take, drop, refl, sym, ap, ◌∙◌, append_assoc, arith}
+use Rattle.std.proofs.lemmas.List.{append_cancel_left, drop_more, get_or-drop, length-append, length-drop, length-take, take-append-drop, take_all, take_more}
 use Rattle.mlt_kinds.specs.declared.operation.ObjOp.{ObjOp}
 use Rattle.mlt_kinds.specs.declared.operation.ObjReply.{ObjReply}
 use Rattle.mlt_trace.specs.declared.item.TraceItem.{TraceItem}
-use Rattle.mlt_trace.specs.declared.item.TraceItem.TheVariants.{Begin, Op, Back, Commit, Abort}
-use Rattle.mlt_history.specs.Numbers.{begun_txs}
-use Rattle.mlt_check.specs.Traces.{ArePlaced}
-use Rattle.mlt_check.proofs.Growing.{number_in}
-use Rattle.mlt_check.proofs.Knowing.{cut_at}
+use Rattle.mlt_trace.specs.declared.item.TraceItem.TheVariants.{Op, Commit, Abort}
 use Rattle.mlt_serial.specs.declared.outcome.End.{End}
-use Rattle.mlt_audit.specs.Receipts.{IsClosedSo, closing_by, closings_of, ops_of}
+use Rattle.mlt_audit.specs.Receipts.{Closing, IsClosedBefore, IsClosedSo, closing_by, closings_of, ops_of}
 use Rattle.mlt_audit.specs.Receipts.Closing.{ByAbort, ByCommit}
-use Rattle.mlt_audit.proofs.Placed.{HasNothing, behind_abort, behind_commit, closings_abort, closings_commit, closings_other, ops_other, ops_own, placed_front, skips_unbegun}
+use Rattle.mlt_audit.proofs.Apart.{Dones, IsApart, same_past}
+use Rattle.mlt_audit.proofs.Placed.{closings_abort, closings_commit, ops_own}
 
-abbrev Dones : Type 0
-Dones = List (ObjOp × ObjReply)
+-- the close, if it was met
+abbrev pub met : End → Bool → List Closing
+met end closed = cond closed (closing_by end ∷ []) []
 
--- what two lists of items have of a transaction is the same
-same_story : (tx : ℕ) (done : Dones) (end : End) (one other : List TraceItem) → ops_of tx one ≡ ops_of tx other → closings_of tx one ≡ closings_of tx other
-    → IsClosedSo tx done end one ↔ IsClosedSo tx done end other
-same_story tx done end one other ops closed =
-    (λ h. record { ops = sym ops ∙ h.ops; closed = sym closed ∙ h.closed }, λ h. record { ops = ops ∙ h.ops; closed = closed ∙ h.closed })
+-- the items have so many of the operations, and the close if it was met, and then what the rest has
+pub record IsGoneOver (tx : ℕ) (done : Dones) (end : End) (items : List TraceItem) (count : ℕ) (closed : Bool) (rest : List TraceItem) : Type 0 where
+  pub ops : ops_of tx items ≡ take count done ++ ops_of tx rest
+  pub close : closings_of tx items ≡ met end closed ++ closings_of tx rest
 
--- before the begin there is nothing of it
-pub from_begin : (history : List TraceItem) (from tx : ℕ) (done : Dones) (end : End) → ArePlaced history → (Contains (begun_txs (take from history)) tx → ⊥)
-    → IsClosedSo tx done end history ↔ IsClosedSo tx done end (drop from history)
-from_begin history from tx done end placed none =
-    let whole : take from history ++ drop from history ≡ history = take-append-drop from history in
-    let skips = skips_unbegun (take from history) (drop from history) tx (placed_front (take from history) (drop from history) (subst ArePlaced (sym whole) placed)) none in
-    same_story tx done end history (drop from history) (ap (ops_of tx) (sym whole) ∙ skips.ops) (ap (closings_of tx) (sym whole) ∙ skips.closed)
-
-module _ (tx : ℕ) (end : End) (rest : List TraceItem) where
-  pub past_other : (done : Dones) (item : TraceItem) → tx ≢ number_in item → IsClosedSo tx done end (item ∷ rest) ↔ IsClosedSo tx done end rest
-  past_other done item apart = same_story tx done end (item ∷ rest) rest (ops_other tx item rest apart) (closings_other tx item rest apart)
-
-  pub past_op : (one : ObjOp × ObjReply) (more : Dones) → IsClosedSo tx (one ∷ more) end (Op tx one ∷ rest) ↔ IsClosedSo tx more end rest
-  past_op one more = (
-    λ h. record { ops = let f : one ∷ ops_of tx rest ≡ one ∷ more = sym (ops_own tx one rest) ∙ h.ops in cc f; closed = h.closed },
-    λ h. record { ops = ops_own tx one rest ∙ ap (λ l. one ∷ l) h.ops; closed = h.closed },
-  )
-
-  pub next_op : (one : ObjOp × ObjReply) (done : Dones) → IsClosedSo tx done end (Op tx one ∷ rest) → done ≡ one ∷ ops_of tx rest
-  next_op one done h = sym h.ops ∙ ops_own tx one rest
-
-  pub at_commit : (number : ℕ) (done : Dones) → HasNothing tx rest
-      → IsClosedSo tx done end (Commit tx number ∷ rest) ↔ ((done ≡ []) × (closing_by end ≡ ByCommit number))
-  at_commit number done nothing =
-      let closed : closings_of tx (Commit tx number ∷ rest) ≡ ByCommit number ∷ [] = closings_commit tx number rest ∙ ap (λ l. ByCommit number ∷ l) nothing.closed in (
-        λ h. (sym h.ops ∙ nothing.ops, let f : closing_by end ∷ [] ≡ ByCommit number ∷ [] = sym h.closed ∙ closed in cc f),
-        λ h. record { ops = nothing.ops ∙ sym h.0; closed = closed ∙ ap (λ x. x ∷ []) (sym h.1) },
-      )
-
-  pub at_abort : (done : Dones) → HasNothing tx rest → IsClosedSo tx done end (Abort tx ∷ rest) ↔ ((done ≡ []) × (closing_by end ≡ ByAbort))
-  at_abort done nothing =
-      let closed : closings_of tx (Abort tx ∷ rest) ≡ ByAbort ∷ [] = closings_abort tx rest ∙ ap (λ l. ByAbort ∷ l) nothing.closed in (
-        λ h. (sym h.ops ∙ nothing.ops, let f : closing_by end ∷ [] ≡ ByAbort ∷ [] = sym h.closed ∙ closed in cc f),
-        λ h. record { ops = nothing.ops ∙ sym h.0; closed = closed ∙ ap (λ x. x ∷ []) (sym h.1) },
-      )
-
-pub not_closed : (tx : ℕ) (done : Dones) (end : End) → IsClosedSo tx done end [] → ⊥
-not_closed tx done end h = let f : [] ≡ closing_by end ∷ [] = h.closed in cc f
-
--- ---- the walk, item by item
-
--- what is asked of the items from the begin on is asked of those from here on, but for the operations that were gone over
-abbrev pub IsLeft : List TraceItem → ℕ → ℕ → Dones → End → ℕ → ℕ → Type 0
-IsLeft history from tx done end count i = IsClosedSo tx done end (drop from history) ↔ IsClosedSo tx (drop count done) end (drop i history)
-
-rest_is_none : (done : Dones) (count : ℕ) → count ≤ length done → (drop count done ≡ []) ↔ (count ≡ length done)
-rest_is_none done count within = (
-  λ none. let n = ap length none in let l = length-drop count done in omega (arith, n, l, within),
-  λ all. drop_all count done (omega (arith, all)),
-)
+pub gone_none : (tx : ℕ) (done : Dones) (end : End) (items : List TraceItem) → IsGoneOver tx done end items 0 false items
+gone_none tx done end items = record { ops = refl; close = refl }
 
 -- the operations that are left begin with the one at the place
-rest_begins : (done rest : Dones) (count : ℕ) (one : ObjOp × ObjReply) → drop count done ≡ one ∷ rest → (count < length done) × (get_or done count one ≡ one)
-rest_begins done rest count one e =
-    let n = ap length e in
+left_begins : (done rest : Dones) (count : ℕ) (one : ObjOp × ObjReply) → take count done ++ one ∷ rest ≡ done → (count < length done) × (get_or done count one ≡ one)
+left_begins done rest count one whole =
+    let left : one ∷ rest ≡ drop count done = append_cancel_left (take count done) (one ∷ rest) (drop count done) (whole ∙ sym (take-append-drop count done)) in
+    let n = ap length left in
     let l = length-drop count done in
     let same : count + 0 ≡ count = omega arith in (
       omega (arith, n, l),
-      ap (λ k. get_or done k one) (sym same) ∙ sym (get_or-drop count done 0 one) ∙ ap (λ (ops : Dones). get_or ops 0 one) e,
+      ap (λ k. get_or done k one) (sym same) ∙ sym (get_or-drop count done 0 one) ∙ ap (λ (ops : Dones). get_or ops 0 one) (sym left),
     )
 
-module _ (history : List TraceItem) (from tx : ℕ) (done : Dones) (end : End) (count i : ℕ) (item : TraceItem)
-    (within : i < length history) (is : item ≡ get_or history i item) (left : IsLeft history from tx done end count i) where
-  from_item : IsClosedSo tx done end (drop from history) ↔ IsClosedSo tx (drop count done) end (item ∷ drop (i + 1) history)
-  from_item =
-      let here : drop i history ≡ item ∷ drop (i + 1) history = drop_more history i item within ∙ ap (λ x. x ∷ drop (i + 1) history) (sym is) in
-      subst (λ l. IsClosedSo tx done end (drop from history) ↔ IsClosedSo tx (drop count done) end l) here left
+module _ (tx : ℕ) (done : Dones) (end : End) (items history : List TraceItem) (count : ℕ) (closed : Bool) (i : ℕ) (item : TraceItem)
+    (within : i < length history) (is : item ≡ get_or history i item) (gone : IsGoneOver tx done end items count closed (drop i history)) where
+  abbrev rest : List TraceItem
+  rest = drop (i + 1) history
 
-  steps_to : (next : ℕ) → IsClosedSo tx (drop count done) end (item ∷ drop (i + 1) history) ↔ IsClosedSo tx (drop next done) end (drop (i + 1) history)
-      → IsLeft history from tx done end next (i + 1)
-  steps_to next step = (λ h. step.0 (from_item.0 h), λ h. from_item.1 (step.1 h))
+  here : drop i history ≡ item ∷ rest
+  here = drop_more history i item within ∙ ap (λ x. x ∷ rest) (sym is)
 
-  pub walks_other : tx ≢ number_in item → IsLeft history from tx done end count (i + 1)
-  walks_other apart = steps_to count (past_other tx end (drop (i + 1) history) (drop count done) item apart)
+  ops_here : ops_of tx items ≡ take count done ++ ops_of tx (item ∷ rest)
+  ops_here = gone.ops ∙ ap (λ l. take count done ++ ops_of tx l) here
 
-  pub walks_begin : (own : ℕ) → item ≡ Begin own → IsLeft history from tx done end count (i + 1)
-  walks_begin own e = steps_to count (same_story tx (drop count done) end (item ∷ drop (i + 1) history) (drop (i + 1) history)
-      (ap (λ x. ops_of tx (x ∷ drop (i + 1) history)) e) (ap (λ x. closings_of tx (x ∷ drop (i + 1) history)) e))
+  closings_here : closings_of tx items ≡ met end closed ++ closings_of tx (item ∷ rest)
+  closings_here = gone.close ∙ ap (λ l. met end closed ++ closings_of tx l) here
 
-  pub walks_back : (own : ℕ) → item ≡ Back own → IsLeft history from tx done end count (i + 1)
-  walks_back own e = steps_to count (same_story tx (drop count done) end (item ∷ drop (i + 1) history) (drop (i + 1) history)
-      (ap (λ x. ops_of tx (x ∷ drop (i + 1) history)) e) (ap (λ x. closings_of tx (x ∷ drop (i + 1) history)) e))
+  pub goes_past : IsApart tx item → IsGoneOver tx done end items count closed (drop (i + 1) history)
+  goes_past apart =
+      let same = same_past tx item rest apart in
+      record { ops = ops_here ∙ ap (λ l. take count done ++ l) same.ops; close = closings_here ∙ ap (λ l. met end closed ++ l) same.closed }
 
   module _ (one : ObjOp × ObjReply) (is_op : item ≡ Op tx one) where
-    pub walks_op : count < length done → get_or done count one ≡ one → IsLeft history from tx done end (count + 1) (i + 1)
-    walks_op more at =
-        let cut : drop count done ≡ one ∷ drop (count + 1) done = drop_more done count one more ∙ ap (λ x. x ∷ drop (count + 1) done) at in
-        steps_to (count + 1) (subst (λ x. IsClosedSo tx (drop count done) end (x ∷ drop (i + 1) history) ↔ IsClosedSo tx (drop (count + 1) done) end (drop (i + 1) history)) (sym is_op)
-        (subst (λ l. IsClosedSo tx l end (Op tx one ∷ drop (i + 1) history) ↔ IsClosedSo tx (drop (count + 1) done) end (drop (i + 1) history)) (sym cut)
-        (past_op tx end (drop (i + 1) history) one (drop (count + 1) done))))
+    next_ops : ops_of tx items ≡ take count done ++ one ∷ ops_of tx rest
+    next_ops = ops_here ∙ ap (λ x. take count done ++ ops_of tx (x ∷ rest)) is_op ∙ ap (λ l. take count done ++ l) (ops_own tx one rest)
 
-    pub stops_at_op : ((count < length done) × (get_or done count one ≡ one) → ⊥) → IsClosedSo tx done end (drop from history) → ⊥
-    stops_at_op other h =
-        let here : IsClosedSo tx (drop count done) end (Op tx one ∷ drop (i + 1) history) = subst (λ x. IsClosedSo tx (drop count done) end (x ∷ drop (i + 1) history)) is_op (from_item.0 h) in
-        other (rest_begins done (ops_of tx (drop (i + 1) history)) count one (next_op tx end (drop (i + 1) history) one (drop count done) here))
+    pub goes_over_op : count < length done → get_or done count one ≡ one → IsGoneOver tx done end items (count + 1) closed (drop (i + 1) history)
+    goes_over_op more at =
+        let front : take (count + 1) done ≡ take count done ++ one ∷ [] = take_more done count one more ∙ ap (λ x. take count done ++ x ∷ []) at in
+        record {
+          ops = next_ops ∙ sym (append_assoc (take count done) (one ∷ []) (ops_of tx rest)) ∙ ap (λ l. l ++ ops_of tx rest) (sym front);
+          close = closings_here ∙ ap (λ x. met end closed ++ closings_of tx (x ∷ rest)) is_op;
+        }
 
-  module _ (placed : ArePlaced history) (few : count ≤ length done) where
-    cut_here : (x : TraceItem) → item ≡ x → history ≡ take i history ++ x ∷ drop (i + 1) history
-    cut_here x e =
-        let next : suc i ≡ i + 1 = omega arith in
-        cut_at history i item within is ∙ ap (λ y. take i history ++ y ∷ drop (suc i) history) e ∙ ap (λ n. take i history ++ x ∷ drop n history) next
+    pub stops_at_op : ((count < length done) × (get_or done count one ≡ one) → ⊥) → IsClosedSo tx done end items → ⊥
+    stops_at_op other h = other (left_begins done (ops_of tx rest) count one (sym next_ops ∙ h.ops))
 
-    pub ends_by_commit : (number : ℕ) → item ≡ Commit tx number
-        → IsClosedSo tx done end (drop from history) ↔ ((count ≡ length done) × (closing_by end ≡ ByCommit number))
-    ends_by_commit number e =
-        let none = behind_commit (take i history) (drop (i + 1) history) history placed tx number (cut_here (Commit tx number) e) in
-        let at = at_commit tx end (drop (i + 1) history) number (drop count done) none in
-        let all = rest_is_none done count few in (
-          λ h. let k = at.0 (subst (λ x. IsClosedSo tx (drop count done) end (x ∷ drop (i + 1) history)) e (from_item.0 h)) in (all.0 k.0, k.1),
-          λ h. from_item.1 (subst (λ x. IsClosedSo tx (drop count done) end (x ∷ drop (i + 1) history)) (sym e) (at.1 (all.1 h.0, h.1))),
-        )
+  -- a close
+  module _ (closing : Closing) (ops_same : ops_of tx (item ∷ rest) ≡ ops_of tx rest) (closes : closings_of tx (item ∷ rest) ≡ closing ∷ closings_of tx rest) where
+    next_closings : closings_of tx items ≡ met end closed ++ closing ∷ closings_of tx rest
+    next_closings = closings_here ∙ ap (λ l. met end closed ++ l) closes
 
-    pub ends_by_abort : item ≡ Abort tx → IsClosedSo tx done end (drop from history) ↔ ((count ≡ length done) × (closing_by end ≡ ByAbort))
-    ends_by_abort e =
-        let none = behind_abort (take i history) (drop (i + 1) history) history placed tx (cut_here (Abort tx) e) in
-        let at = at_abort tx end (drop (i + 1) history) (drop count done) none in
-        let all = rest_is_none done count few in (
-          λ h. let k = at.0 (subst (λ x. IsClosedSo tx (drop count done) end (x ∷ drop (i + 1) history)) e (from_item.0 h)) in (all.0 k.0, k.1),
-          λ h. from_item.1 (subst (λ x. IsClosedSo tx (drop count done) end (x ∷ drop (i + 1) history)) (sym e) (at.1 (all.1 h.0, h.1))),
-        )
+    goes_over_close : closed ≡ false → closing_by end ≡ closing → IsGoneOver tx done end items count true (drop (i + 1) history)
+    goes_over_close unmet so = record {
+      ops = ops_here ∙ ap (λ l. take count done ++ l) ops_same;
+      close = next_closings ∙ ap (λ b. met end b ++ closing ∷ closings_of tx rest) unmet ∙ ap (λ x. x ∷ closings_of tx rest) (sym so);
+    }
 
--- at the end of the history it was not closed
-pub ends_open : (history : List TraceItem) (from tx : ℕ) (done : Dones) (end : End) (count i : ℕ) → length history ≤ i → IsLeft history from tx done end count i
-    → IsClosedSo tx done end (drop from history) → ⊥
-ends_open history from tx done end count i past left h =
-    not_closed tx (drop count done) end (subst (λ l. IsClosedSo tx (drop count done) end l) (drop_all i history past) (left.0 h))
+    stops_at_second : closed ≡ true → IsClosedSo tx done end items → ⊥
+    stops_at_second twice h =
+        let f : closing_by end ∷ closing ∷ closings_of tx rest ≡ closing_by end ∷ [] = ap (λ b. met end b ++ closing ∷ closings_of tx rest) (sym twice) ∙ sym next_closings ∙ h.closed in
+        absurd (cc f)
+
+    stops_at_other : closed ≡ false → (closing_by end ≡ closing → ⊥) → IsClosedSo tx done end items → ⊥
+    stops_at_other unmet other h =
+        let f : closing ∷ closings_of tx rest ≡ closing_by end ∷ [] = ap (λ b. met end b ++ closing ∷ closings_of tx rest) (sym unmet) ∙ sym next_closings ∙ h.closed in
+        other (let g : closing ≡ closing_by end = cc f in sym g)
+
+  module _ (number : ℕ) (is_commit : item ≡ Commit tx number) where
+    commit_ops : ops_of tx (item ∷ rest) ≡ ops_of tx rest
+    commit_ops = ap (λ x. ops_of tx (x ∷ rest)) is_commit
+
+    commit_closes : closings_of tx (item ∷ rest) ≡ ByCommit number ∷ closings_of tx rest
+    commit_closes = ap (λ x. closings_of tx (x ∷ rest)) is_commit ∙ closings_commit tx number rest
+
+    pub goes_over_commit : closed ≡ false → closing_by end ≡ ByCommit number → IsGoneOver tx done end items count true (drop (i + 1) history)
+    goes_over_commit = goes_over_close (ByCommit number) commit_ops commit_closes
+
+    pub stops_at_second_commit : closed ≡ true → IsClosedSo tx done end items → ⊥
+    stops_at_second_commit = stops_at_second (ByCommit number) commit_ops commit_closes
+
+    pub stops_at_other_commit : closed ≡ false → (closing_by end ≡ ByCommit number → ⊥) → IsClosedSo tx done end items → ⊥
+    stops_at_other_commit = stops_at_other (ByCommit number) commit_ops commit_closes
+
+  module _ (is_abort : item ≡ Abort tx) where
+    abort_ops : ops_of tx (item ∷ rest) ≡ ops_of tx rest
+    abort_ops = ap (λ x. ops_of tx (x ∷ rest)) is_abort
+
+    abort_closes : closings_of tx (item ∷ rest) ≡ ByAbort ∷ closings_of tx rest
+    abort_closes = ap (λ x. closings_of tx (x ∷ rest)) is_abort ∙ closings_abort tx rest
+
+    pub goes_over_abort : closed ≡ false → closing_by end ≡ ByAbort → IsGoneOver tx done end items count true (drop (i + 1) history)
+    goes_over_abort = goes_over_close ByAbort abort_ops abort_closes
+
+    pub stops_at_second_abort : closed ≡ true → IsClosedSo tx done end items → ⊥
+    stops_at_second_abort = stops_at_second ByAbort abort_ops abort_closes
+
+    pub stops_at_other_abort : closed ≡ false → (closing_by end ≡ ByAbort → ⊥) → IsClosedSo tx done end items → ⊥
+    stops_at_other_abort = stops_at_other ByAbort abort_ops abort_closes
+
+-- all operations and the close were met
+pub met_all : (tx : ℕ) (done : Dones) (end : End) (items rest : List TraceItem) (count : ℕ) → count ≡ length done → IsGoneOver tx done end items count true rest → IsClosedBefore rest tx done end items
+met_all tx done end items rest count all gone = record {
+  ops = gone.ops ∙ ap (λ l. l ++ ops_of tx rest) (take_all count done (omega (arith, all)));
+  closed = gone.close;
+}
+
+-- nothing is left, and an operation or the close was not met
+pub ends_short : (tx : ℕ) (done : Dones) (end : End) (items : List TraceItem) (count : ℕ) (closed : Bool) → count ≤ length done → (closed ≡ true → count ≡ length done → ⊥)
+    → IsGoneOver tx done end items count closed [] → IsClosedSo tx done end items → ⊥
+ends_short tx done end items count true within short gone h =
+    let all = ap length (sym gone.ops ∙ h.ops) in
+    let parts = length-append (take count done) [] in
+    let front = length-take count done in
+    short refl (omega (arith, all, parts, front))
+ends_short tx done end items count false within short gone h = let f : [] ≡ closing_by end ∷ [] = sym gone.close ∙ h.closed in absurd (cc f)

@@ -1,4 +1,5 @@
 pub mod Receipts
 pub mod Agreement
+pub mod Ordered
 pub mod Orders
 pub mod Committed

@@ -1,5 +1,5 @@
 -- What a history has of a transaction, and the receipts of transactions.
-use Rattle.std.specs.Prelude.{◌≡◌, ◌≢◌, ℕ, ◌<◌, List, [], ◌∷◌, ◌==◌, if◌then◌else◌}
+use Rattle.std.specs.Prelude.{◌≡◌, ◌≢◌, ℕ, ◌<◌, List, [], ◌∷◌, ◌++◌, ◌==◌, if◌then◌else◌}
 use Rattle.mlt_types.specs.declared.refusal.Refusal.{Refusal}
 use Rattle.mlt_kinds.specs.declared.operation.ObjOp.{ObjOp}
 use Rattle.mlt_kinds.specs.declared.operation.ObjReply.{ObjReply}
@@ -23,7 +23,7 @@ pub data Closing : Type 0 where
 abbrev pub ops_of : ℕ → List TraceItem → List (ObjOp × ObjReply)
 ops_of tx items = items_of tx (items_done (entries_of items))
 
--- how the transaction was closed: in a history, once at most
+-- how the transaction was closed, each time: in the history of a manager, once at most
 abbrev pub closings_of : ℕ → List TraceItem → List Closing
 closings_of tx [] = []
 closings_of tx (Commit i number ∷ items) = if i == tx then ByCommit number ∷ closings_of tx items else closings_of tx items
@@ -36,10 +36,21 @@ closing_by (Committed number) = ByCommit number
 closing_by Aborted = ByAbort
 closing_by (Refused refusal) = ByAbort
 
--- these items have of the transaction just these operations, and it is closed there as the end says
+-- these items have of the transaction just these operations, and it is closed there once, as the end says
 pub record IsClosedSo (tx : ℕ) (done : List (ObjOp × ObjReply)) (end : End) (items : List TraceItem) : Type 0 where
   pub ops : ops_of tx items ≡ done
   pub closed : closings_of tx items ≡ closing_by end ∷ []
+
+-- these items have nothing of the transaction: no operation, and no close
+pub record HasNothing (tx : ℕ) (items : List TraceItem) : Type 0 where
+  pub ops : ops_of tx items ≡ []
+  pub closed : closings_of tx items ≡ []
+
+-- these items have of the transaction just these operations and one close, as the end says, and then the rest
+pub record IsClosedBefore (rest : List TraceItem) (tx : ℕ) (done : List (ObjOp × ObjReply)) (end : End)
+    (items : List TraceItem) : Type 0 where
+  pub ops : ops_of tx items ≡ done ++ ops_of tx rest
+  pub closed : closings_of tx items ≡ closing_by end ∷ closings_of tx rest
 
 -- the receipt tells what the history has of its transaction
 abbrev pub IsOfHistory : List TraceItem → Outcome → Type 0

@@ -1,34 +1,39 @@
 //! Receipts against a history.
 
-ghost use Rattle.std.specs.Prelude.{◌≡◌, OnOk, OnErr, IfErr};
-ghost use Rattle.mlt_check.specs.Traces.{ArePlaced};
-ghost use Rattle.mlt_history.specs.Numbers.{AreBegunInOrder};
-ghost use Rattle.mlt_audit.specs.Agreement.{Agrees};
+ghost use Rattle.std.specs.Prelude.{◌≡◌, ◌↔◌, IsTrue, OnOk, OnErr, IfErr};
+ghost use Rattle.mlt_audit.specs.Agreement.{Agrees, AreOfHistory};
 
-use crate::numbers::{are_at_most, are_each_once, count_begins};
+use crate::any::are_of_any;
+use crate::ordered::{are_of_ordered, count_ordered};
 use crate::rising::commits_rise;
-use crate::stories::{are_of_history, are_refused_without_tx};
+use crate::stories::are_refused_without_tx;
 use mlt_serial::Outcome;
 use mlt_trace::TraceItem;
 use mlt_types::Refusal;
 
+/// Whether the receipts tell just what the history has of each transaction begun. Where transactions begin in order, it
+/// goes over the history about once; of any other history, once for each receipt.
+fn are_of_history(receipts: &[Outcome], history: &[TraceItem]) -> bool
+    ensures { IsTrue result ↔ AreOfHistory receipts.now history.now }
+{
+    match count_ordered(history) {
+        Some(last) => are_of_ordered(receipts, history, last),
+        None => are_of_any(receipts, history),
+    }
+}
+
 /// Whether the receipts are those of the history: each transaction begun has one, which tells its operations
 /// and how it was closed; no other receipt but a refused and empty one stands beside them; and the commits of
-/// each client rise. It takes no memory.
+/// each client rise. It asks nothing of either list, and takes no memory.
 ///
 /// # Errors
 /// `Audit`, exactly where they are not.
 pub fn audit(receipts: &[Outcome], history: &[TraceItem]) -> Result<(), Refusal>
-    requires placed { ArePlaced history.now }
-    requires begun { AreBegunInOrder history.now }
     ensures ok { OnOk result (Agrees receipts.now history.now) }
     ensures err { OnErr result (Agrees receipts.now history.now → ⊥) }
     ensures refusal { IfErr result (λ refusal. refusal ≡ Refusal.Audit) }
 {
-    let last = count_begins(history);
-    if are_at_most(receipts, last)
-        && are_each_once(receipts, last)
-        && are_of_history(receipts, history)
+    if are_of_history(receipts, history)
         && are_refused_without_tx(receipts)
         && commits_rise(receipts)
     {

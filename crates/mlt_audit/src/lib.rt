@@ -1,9 +1,11 @@
 //! Receipts against a history: whether what clients were told is what the manager has done.
 #![tactic(auto)]
 
+mod any;
 mod auditing;
 mod laws;
 mod numbers;
+mod ordered;
 mod rising;
 mod stories;
 

@@ -1,24 +1,9 @@
-//! Whether the numbers of receipts are those begun, each once.
+//! Whether the numbers of receipts are those up to a last one, each once.
 
 ghost use Rattle.std.specs.Prelude.{◌≡◌, ◌≢◌, ◌≤◌, ◌<◌, ◌+◌, ◌↔◌, ℕ, IsTrue, All, Some, false, true, replicate, slice_get, length};
-ghost use Rattle.mlt_history.specs.Numbers.{begin_count};
 ghost use Rattle.mlt_audit.specs.Agreement.{count_of};
 
 use mlt_serial::Outcome;
-use mlt_trace::TraceItem;
-
-/// How many transactions were begun.
-pub(crate) fn count_begins(history: &[TraceItem]) -> u64
-    ensures { result ≡ begin_count history.now }
-{
-    let mut count = 0;
-    for item in history {
-        if let TraceItem::Begin(_) = item {
-            count += 1;
-        }
-    }
-    count
-}
 
 /// Whether no receipt has a number above the last.
 pub(crate) fn are_at_most(receipts: &[Outcome], last: u64) -> bool

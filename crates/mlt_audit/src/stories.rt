@@ -1,14 +1,12 @@
-//! Whether a receipt tells what a history has of its transaction.
+//! What a history has of a transaction, and receipts that have none.
 
-ghost use Rattle.std.specs.Prelude.{◌≡◌, ◌≤◌, ◌<◌, ◌↔◌, IsTrue, IfSome, Contains, Some, slice_get, slice_index_or, length, take, drop, All};
-ghost use Rattle.mlt_check.specs.Traces.{ArePlaced};
-ghost use Rattle.mlt_history.specs.Numbers.{begun_txs};
-ghost use Rattle.mlt_audit.specs.Receipts.{Closing, IsClosedSo, IsOfHistory, IsRefusedEmpty, IsWithoutTx, closing_by};
+ghost use Rattle.std.specs.Prelude.{◌≡◌, ◌≤◌, ◌<◌, ◌↔◌, IsTrue, IfSome, IfNone, slice_index_or, length, drop, All};
+ghost use Rattle.mlt_audit.specs.Ordered.{is_told, tx_of};
+ghost use Rattle.mlt_audit.specs.Receipts.{Closing, IsClosedBefore, IsClosedSo, IsRefusedEmpty, IsWithoutTx, closing_by};
 
 use mlt_kinds::Done;
 use mlt_serial::{End, Outcome};
 use mlt_trace::TraceItem;
-use mlt_types::TxId;
 
 /// Whether the end is a commit of this number.
 fn is_commit_of(end: End, number: u64) -> bool
@@ -45,114 +43,76 @@ fn stands_at(done: &[Done], place: usize, one: &Done) -> bool
     place < done.len() && is_same(&done[place], one)
 }
 
-/// Whether the items from this place on have these operations of the transaction, and it is closed there as
-/// the end says. It goes on to the close.
-fn is_closed_so(history: &[TraceItem], from: usize, tx: u64, done: &[Done], end: End) -> bool
-    requires placed { ArePlaced history.now }
+/// The transaction of which the item is.
+pub(crate) fn tx_of(item: &TraceItem) -> u64
+    ensures { result ≡ tx_of item.now }
+{
+    match item {
+        TraceItem::Begin(tx) => tx.0,
+        TraceItem::Op(tx, _) => tx.0,
+        TraceItem::Back(tx) => tx.0,
+        TraceItem::Commit(tx, _) => tx.0,
+        TraceItem::Abort(tx) => tx.0,
+    }
+}
+
+/// Whether receipts tell of the item: it is an operation, or a close.
+pub(crate) fn is_told(item: &TraceItem) -> bool
+    ensures { result ≡ is_told item.now }
+{
+    match item {
+        TraceItem::Op(_, _) | TraceItem::Commit(_, _) | TraceItem::Abort(_) => true,
+        TraceItem::Begin(_) | TraceItem::Back(_) => false,
+    }
+}
+
+/// Goes over the items from this place on, until they have these operations of the transaction and its close, as the end
+/// says. It answers the place behind; or nothing, where the items do not have just these of it.
+pub(crate) fn place_behind(
+    history: &[TraceItem],
+    from: usize,
+    tx: u64,
+    done: &[Done],
+    end: End,
+) -> Option<usize>
     requires within { from ≤ length history.now }
-    ensures { IsTrue result ↔ IsClosedSo tx done.now end (drop from history.now) }
+    ensures place { IfSome result (λ place. place ≤ length history.now) }
+    ensures closed { IfSome result (λ place.
+        IsClosedBefore (drop place history.now) tx done.now end (drop from history.now)) }
+    ensures other { IfNone result (IsClosedSo tx done.now end (drop from history.now) → ⊥) }
 {
     let mut count = 0;
+    let mut closed = false;
     for i in from..history.len() {
-        match &history[i] {
-            TraceItem::Op(own, one) => {
-                if own.0 == tx {
+        let item = &history[i];
+        if tx_of(item) == tx {
+            match item {
+                TraceItem::Op(_, one) => {
                     if !stands_at(done, count, one) {
-                        return false;
+                        return None;
                     }
                     count += 1;
                 }
-            }
-            TraceItem::Commit(own, number) => {
-                if own.0 == tx {
-                    return count == done.len() && is_commit_of(end, *number);
+                TraceItem::Commit(_, number) => {
+                    if closed || !is_commit_of(end, *number) {
+                        return None;
+                    }
+                    closed = true;
                 }
-            }
-            TraceItem::Abort(own) => {
-                if own.0 == tx {
-                    return count == done.len() && is_no_commit(end);
+                TraceItem::Abort(_) => {
+                    if closed || !is_no_commit(end) {
+                        return None;
+                    }
+                    closed = true;
                 }
+                TraceItem::Begin(_) | TraceItem::Back(_) => (),
             }
-            TraceItem::Begin(_) => (),
-            TraceItem::Back(_) => (),
-        }
-    }
-    false
-}
-
-/// The first begin of a transaction at these places, with its number.
-fn next_begin(history: &[TraceItem], from: usize, to: usize) -> Option<(usize, u64)>
-    requires { to ≤ length history.now }
-    ensures { IfSome result (λ found. (from ≤ found.0) × (found.0 < to)
-        × (slice_get history.now found.0 ≡ Some (TraceItem.Begin found.1))) }
-{
-    for i in from..to {
-        let item = history[i];
-        if let TraceItem::Begin(TxId(tx)) = item {
-            return Some((i, tx));
+            if closed && count == done.len() {
+                return Some(i + 1);
+            }
         }
     }
     None
-}
-
-/// A place before which the transaction is not begun: that of its begin, if there is one. It is found by
-/// halves, since the numbers begun rise.
-fn place_of_begin(history: &[TraceItem], tx: u64) -> usize
-    requires placed { ArePlaced history.now }
-    ensures within { result ≤ length history.now }
-    ensures fresh { Contains (begun_txs (take result history.now)) tx → ⊥ }
-{
-    let mut low = 0;
-    let mut high = history.len();
-    while low < high {
-        let middle = low + (high - low) / 2;
-        match next_begin(history, middle, high) {
-            Some((place, begun)) => {
-                if begun == tx {
-                    return place;
-                }
-                if begun < tx {
-                    low = place + 1;
-                } else {
-                    high = middle;
-                }
-            }
-            None => high = middle,
-        }
-    }
-    low
-}
-
-/// Whether the receipt tells what the history has of its transaction. Of the history it goes over those items
-/// that stand between the transaction's begin and its close.
-fn is_of_history(receipt: &Outcome, history: &[TraceItem]) -> bool
-    requires placed { ArePlaced history.now }
-    ensures { IsTrue result ↔ IsOfHistory history.now receipt.now }
-{
-    if receipt.tx == 0 {
-        return true;
-    }
-    let from = place_of_begin(history, receipt.tx);
-    is_closed_so(
-        history,
-        from,
-        receipt.tx,
-        receipt.done.as_slice(),
-        receipt.end,
-    )
-}
-
-/// Whether each of the receipts tells what the history has of its transaction.
-pub(crate) fn are_of_history(receipts: &[Outcome], history: &[TraceItem]) -> bool
-    requires placed { ArePlaced history.now }
-    ensures { IsTrue result ↔ All (IsOfHistory history.now) receipts.now }
-{
-    for receipt in receipts {
-        if !is_of_history(receipt, history) {
-            return false;
-        }
-    }
-    true
 }
 
 fn is_refused_empty(receipt: &Outcome) -> bool

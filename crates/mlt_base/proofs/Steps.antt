@@ -9,7 +9,7 @@ use Rattle.mlt_kinds.specs.declared.operation.ObjOp.{ObjOp}
 use Rattle.mlt_kinds.specs.declared.operation.ObjOp.TheVariants as op
 use Rattle.mlt_kinds.specs.declared.operation.ObjReply.{ObjReply}
 use Rattle.mlt_kinds.specs.Accounts.{AccountStep}
-use Rattle.mlt_kinds.specs.BaseLaws.{step_to}
+use Rattle.mlt_kinds.proofs.BaseLaws.{step_to}
 use Rattle.mlt_kinds.specs.Bases.{Base, Step, counter_entry, counter_value, element_cmp, element_entry, state_at, with_entry}
 use Rattle.mlt_kinds.specs.Cells.{CellStep}
 use Rattle.mlt_kinds.specs.Cells.CellState.{AccountState, CounterState, ElementState}

@@ -11,7 +11,7 @@ use Rattle.std.specs.List.{All, flat_map}
 use Rattle.std.specs.List.Sorted.{IsStrictlySortedBy}
 use Rattle.std.specs.Map.{keys_of, lookup, values_of}
 use Rattle.std.specs.Ordering.{nat_cmp}
-use Rattle.mlt_kinds.specs.BaseLaws.{element_cmp_total}
+use Rattle.mlt_kinds.proofs.BaseLaws.{element_cmp_total}
 use Rattle.mlt_kinds.specs.Bases.{element_cmp}
 use Rattle.mlt_base.specs.BaseText.{account_line, account_lines, counter_line, counter_lines, element_line, element_lines, key_line, value_line}
 use Rattle.mlt_base.specs.Kept.{AreNotZero, IsNotZero, less_one, with_nothing}

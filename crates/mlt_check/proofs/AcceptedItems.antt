@@ -23,7 +23,7 @@ use Rattle.mlt_check.proofs.Knowing.{cut_at}
 pub one_base : (items : List TraceItem) (one other : Base) → AreAccepted items one → AreAccepted items other → one ≡ other
 one_base items one other h k = serial_to_one Step base_functional (told items).committed empty_base one other h.serial k.serial
 
-no_first_fault : (items : List TraceItem) (base : Base) (line : ℕ) (fault : TraceCause) → AreAccepted items base → IsFirstFaultIn items line fault → ⊥
+pub no_first_fault : (items : List TraceItem) (base : Base) (line : ℕ) (fault : TraceCause) → AreAccepted items base → IsFirstFaultIn items line fault → ⊥
 no_first_fault items base line fault all h =
     let whole : IsSerialBase Step empty_base (told (h.before ++ h.item ∷ h.later)).committed base = subst (λ is. IsSerialBase Step empty_base (told is).committed base) h.cut all.serial in
     no_item_fault h.before h.base h.item line fault (all.placed h.before h.later h.item h.cut)

@@ -5,12 +5,13 @@ use Rattle.std.specs.Io.KnownBytes.{Consumes, IsAtEnd}
 use Rattle.mlt_types.specs.declared.refusal.Refusal.{Refusal}
 use Rattle.mlt_types.specs.declared.refusal.Refusal.TheVariants.{OutOfMemory, TraceFault}
 use Rattle.mlt_types.specs.declared.refusal.TraceCause.{TraceCause}
+use Rattle.mlt_text.specs.Failures.{IsWant}
 use Rattle.mlt_kinds.specs.Bases.{Base}
 use Rattle.mlt_words.specs.Lines.{lines}
 use Rattle.mlt_history.specs.Numbers.{committed_txs}
 use Rattle.mlt_check.specs.declared.trace_check.Order.{Order}
 use Rattle.mlt_check.specs.Answering.{Answers}
-use Rattle.mlt_check.specs.Traces.{IsAcceptedTrace, IsFirstFault, IsWant}
+use Rattle.mlt_check.specs.Traces.{IsAcceptedTrace, IsFirstFault}
 use Rattle.mlt_check.proofs.Deciding.{accepted_no_fault}
 use Rattle.mlt_check.proofs.Faults.{one_first_fault}
 use Rattle.mlt_check.proofs.Fronts.{one_trace}

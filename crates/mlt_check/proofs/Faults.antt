@@ -21,10 +21,10 @@ use Rattle.mlt_check.proofs.Growing.{begun_stays, told-push}
 use Rattle.mlt_check.proofs.Lasting.{grows, runs_begun}
 
 -- one list, cut at two of its elements
-abbrev CutTwice : {A : Type 0} → List A → List A → A → A → Type 0
+abbrev pub CutTwice : {A : Type 0} → List A → List A → A → A → Type 0
 CutTwice {A} xs us x u = ((middle : List A) × (us ≡ xs ++ x ∷ middle)) ⊎ ((xs ≡ us) ⊎ ((middle : List A) × (xs ≡ us ++ u ∷ middle)))
 
-cut_twice : {A : Type 0} (xs us ys vs : List A) (x u : A) → xs ++ x ∷ ys ≡ us ++ u ∷ vs → CutTwice xs us x u
+pub cut_twice : {A : Type 0} (xs us ys vs : List A) (x u : A) → xs ++ x ∷ ys ≡ us ++ u ∷ vs → CutTwice xs us x u
 cut_twice [] [] ys vs x u e = inr (inl refl)
 cut_twice [] (w ∷ us) ys vs x u e = inl (us, let head : w ≡ x = cc e in ap (λ z. z ∷ us) head)
 cut_twice (z ∷ xs) [] ys vs x u e = inr (inr (xs, let head : z ≡ u = cc e in ap (λ w. w ∷ xs) head))
@@ -68,10 +68,10 @@ one_false_reply items base tx line other placed h k =
       ]
     ]
 
-abbrev SameFault : ℕ → ℕ → TraceCause → TraceCause → Type 0
+abbrev pub SameFault : ℕ → ℕ → TraceCause → TraceCause → Type 0
 SameFault line other fault another = (line ≡ other) × (fault ≡ another)
 
-one_item_fault : (items : List TraceItem) (base : Base) (item : TraceItem) (line other : ℕ) (fault another : TraceCause) → ArePlaced items
+pub one_item_fault : (items : List TraceItem) (base : Base) (item : TraceItem) (line other : ℕ) (fault another : TraceCause) → ArePlaced items
     → IsItemFault items base item line fault → IsItemFault items base item other another → SameFault line other fault another
 one_item_fault items base item line other cause.Place cause.Place placed h k = (h.1 ∙ sym k.1, refl)
 one_item_fault items base item line other cause.Place cause.Reply placed h k = absurd (h.0 k.3)
@@ -114,7 +114,7 @@ one_line_fault items base raw (Says item) line other fault another is placed h k
     one_item_fault items base item line other fault another placed (item_fault items base raw item line fault is h) (item_fault items base raw item other another is k)
 
 -- what stands behind a front
-next_same : {A : Type 0} (front ys vs : List A) (x u : A) → front ++ x ∷ ys ≡ front ++ u ∷ vs → x ≡ u
+pub next_same : {A : Type 0} (front ys vs : List A) (x u : A) → front ++ x ∷ ys ≡ front ++ u ∷ vs → x ≡ u
 next_same [] ys vs x u e = cc e
 next_same (z ∷ front) ys vs x u e = let tails : front ++ x ∷ ys ≡ front ++ u ∷ vs = cc e in next_same front ys vs x u tails
 

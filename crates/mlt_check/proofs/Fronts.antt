@@ -3,7 +3,7 @@ use Rattle.std.proofs.Common.{◌≡◌, ℕ, List, [], ◌∷◌, ◌++◌, map
 use Rattle.mlt_kinds.specs.declared.operation.ObjOp.{ObjOp}
 use Rattle.mlt_kinds.specs.declared.operation.ObjReply.{ObjReply}
 use Rattle.mlt_kinds.specs.Bases.{Base, Step, empty_base}
-use Rattle.mlt_kinds.specs.BaseLaws.{base_one_answer}
+use Rattle.mlt_kinds.proofs.BaseLaws.{base_one_answer}
 use Rattle.mlt_order.specs.Histories.{Entry, Lists, after_entries, after_entry, no_lists}
 use Rattle.mlt_order.specs.Runs.{IsFunctional, IsSerialBase, Runs}
 use Rattle.mlt_order.proofs.RunLemmas.{serial_to_one}

@@ -61,7 +61,7 @@ append_nil (x ∷ xs) = ap (λ ys. x ∷ ys) (append_nil xs)
 pub no_commit : (items : List TraceItem) (item : TraceItem) → committed_txs (item ∷ []) ≡ [] → committed_txs (items ++ item ∷ []) ≡ committed_txs items
 no_commit items item none = committed_txs-append items (item ∷ []) ∙ ap (λ ns. committed_txs items ++ ns) none ∙ append_nil (committed_txs items)
 
-one_only : {X : Type 0} (x y : X) → Contains (x ∷ []) y → x ≡ y
+pub one_only : {X : Type 0} (x y : X) → Contains (x ∷ []) y → x ≡ y
 one_only x y h =
     let first : h.0 ≡ 0 = omega (arith, h.1) in
     subst (λ k. slice_index_or (x ∷ []) k y ≡ y) first h.2

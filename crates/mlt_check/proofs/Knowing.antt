@@ -11,7 +11,7 @@ use Rattle.mlt_types.specs.declared.refusal.TraceCause.TheVariants as cause
 use Rattle.mlt_kinds.specs.declared.operation.ObjOp.{ObjOp}
 use Rattle.mlt_kinds.specs.declared.operation.ObjReply.{ObjReply}
 use Rattle.mlt_kinds.specs.Bases.{Base, Step, empty_base}
-use Rattle.mlt_kinds.specs.BaseLaws.{base_one_answer}
+use Rattle.mlt_kinds.proofs.BaseLaws.{base_one_answer}
 use Rattle.mlt_order.specs.Histories.{Lists, but_last}
 use Rattle.mlt_order.specs.Histories.{Stage}
 use Rattle.mlt_order.specs.Histories.Stage.{Running, Ended}

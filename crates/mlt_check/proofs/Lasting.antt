@@ -15,7 +15,7 @@ use Rattle.mlt_history.proofs.ItemLaws.{begun_txs-append}
 use Rattle.mlt_check.specs.Traces.{ArePlaced, HasPlace, IsRunning, IsWhole, told}
 use Rattle.mlt_check.proofs.Growing.{append_nil, begun_stays, last_one, number_in, stage-other, told-push, transcript-other}
 
-abbrev one_more : List TraceItem → TraceItem → List TraceItem
+abbrev pub one_more : List TraceItem → TraceItem → List TraceItem
 one_more items item = items ++ item ∷ []
 
 stage_more : (items : List TraceItem) (item : TraceItem) (tx : ℕ) (stage : Stage) → (after_entry (told items) (entry_of item)).stage tx ≡ stage → (told (one_more items item)).stage tx ≡ stage

@@ -1,7 +1,5 @@
 -- Which traces are accepted, and where the first fault of any other text stands.
-use Rattle.std.specs.Prelude.{◌≡◌, ◌≢◌, ◌⊎◌, ℕ, ◌+◌, ◌<◌, List, [], ◌∷◌, ◌++◌, length, map, Contains}
-use Rattle.mlt_types.specs.declared.refusal.Refusal.{Refusal}
-use Rattle.mlt_types.specs.declared.refusal.Refusal.TheVariants.{OutOfMemory, Io}
+use Rattle.std.specs.Prelude.{◌≡◌, ◌≢◌, ℕ, ◌+◌, ◌<◌, List, [], ◌∷◌, ◌++◌, length, map, Contains}
 use Rattle.mlt_types.specs.declared.refusal.TraceCause.{TraceCause}
 use Rattle.mlt_types.specs.declared.refusal.TraceCause.TheVariants as cause
 use Rattle.mlt_kinds.specs.declared.operation.ObjOp.{ObjOp}
@@ -84,7 +82,3 @@ IsFirstFaultOf raws line fault =
 
 abbrev pub IsFirstFault : List ℕ → ℕ → TraceCause → Type 0
 IsFirstFault text line fault = IsFirstFaultOf (lines text) line fault
-
--- the refusal says nothing of the input: memory ran out, or a read failed
-abbrev pub IsWant : Refusal → Type 0
-IsWant refusal = (refusal ≡ OutOfMemory) ⊎ (refusal ≡ Io)

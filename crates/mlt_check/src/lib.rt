@@ -11,5 +11,8 @@ mod trace_check;
 mod words;
 
 pub use committed::committed_base;
-pub use laws::{accepted_traces_have_one_answer, texts_have_one_first_fault};
+pub use laws::{
+    accepted_traces_have_one_answer, items_are_accepted_or_faulty, texts_are_accepted_or_faulty,
+    texts_have_one_first_fault,
+};
 pub use trace_check::{Order, check};

@@ -1,12 +1,12 @@
 //! The check of a trace.
 
-ghost use Rattle.std.specs.Prelude.{◌≡◌, ◌≤◌, ◌<◌, ◌⊎◌, ℕ, List, length, Err, IfErr, IfOk, IfSome, IsErrAnd, MatchResult, Some};
-ghost use Rattle.std.specs.Io.KnownBytes.{Consumes, IsAtEnd};
+ghost use Rattle.std.specs.Prelude.{◌≡◌, ◌⊎◌, ℕ, List, Err, IfErr, IfOk, IsErrAnd, MatchResult, Some};
 ghost use Rattle.mlt_types.specs.declared.refusal.TraceCause.{TraceCause};
+ghost use Rattle.mlt_text.specs.Failures.{IsTraceFault, IsWant, ReadsWithinLimit, RefusesLong};
 ghost use Rattle.mlt_text.specs.Inputs.{GivesWhole};
 ghost use Rattle.mlt_check.specs.Answering.{Answers, TakesLine};
 ghost use Rattle.mlt_kinds.specs.Bases.{Base as ObjectBase};
-ghost use Rattle.mlt_check.specs.Traces.{IsAcceptedTrace, IsFirstFault, IsWant};
+ghost use Rattle.mlt_check.specs.Traces.{IsAcceptedTrace, IsFirstFault};
 
 use crate::checker::Checker;
 use crate::reading::{Reading, read_line};
@@ -90,14 +90,9 @@ pub fn check<R: Read>(alloc: Global, reader: &mut R) -> Result<Order, Refusal>
         → R.remaining reader.old ≡ Some input → IsFirstFault input line cause
         → IsErrAnd result (λ refusal. (refusal ≡ Refusal.TraceFault line cause)
         ⊎ IsWant refusal) }
-    // an input that is too long is refused, and not read on
-    ensures long { IfSome (R.remaining reader.old)
-        (λ input. 16777216 < length input → IsErrAnd result IsWant) }
-    ensures bounded { (taken : List ℕ)
-        × Consumes (R.remaining reader.old) (R.remaining reader.new) taken
-        × (length taken ≤ 16777217) }
-    ensures refusals { IfErr result (λ refusal. IsWant refusal
-        ⊎ ((line : ℕ) × (cause : TraceCause) × (refusal ≡ Refusal.TraceFault line cause))) }
+    ensures long { RefusesLong (R.remaining reader.old) result }
+    ensures bounded { ReadsWithinLimit (R.remaining reader.old) (R.remaining reader.new) }
+    ensures refusals { IfErr result (λ refusal. IsWant refusal ⊎ IsTraceFault refusal) }
 {
     let input = read_input(alloc, reader)?;
     check_text(alloc, input.as_slice())

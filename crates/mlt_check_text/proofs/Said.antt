@@ -1,14 +1,16 @@
 -- What the steps of `check_trace` give together.
-use Rattle.std.proofs.Common.{◌≡◌, ◌∙◌, ℕ, List, Option, Result, Ok, Err, OnOk, OnErr, ap₂, inr, subst}
-use Rattle.std.specs.Prelude.{◌⊎◌, IfErr, MatchResult}
-use Rattle.std.specs.Io.KnownBytes.{Appends, Keeps}
+use Rattle.std.proofs.Common.{◌≡◌, ◌∙◌, ℕ, List, Option, Result, Ok, Err, OnOk, OnErr, ap₂, inr, subst, sym}
+use Rattle.std.specs.Prelude.{IfErr, MatchResult}
+use Rattle.std.specs.Io.KnownBytes.{Appends}
 use Rattle.mlt_types.specs.declared.refusal.Refusal.{Refusal}
-use Rattle.mlt_types.specs.declared.refusal.Refusal.TheVariants.{Io}
+use Rattle.mlt_types.specs.declared.refusal.Refusal.TheVariants.{Io, OutOfMemory}
+use Rattle.mlt_text.specs.Failures.{FailsCleanly, IsWant}
 use Rattle.mlt_text.specs.Inputs.{GivesWhole}
 use Rattle.mlt_text.specs.Texts.{AppendsFront}
+use Rattle.mlt_text.proofs.Failing.{finished, unfinished}
 use Rattle.mlt_kinds.specs.Bases.{Base}
-use Rattle.mlt_check.specs.Traces.{IsAcceptedTrace, IsWant}
-use Rattle.mlt_check_text.specs.OrderTexts.{IsCheckOf, order_text}
+use Rattle.mlt_check.specs.Traces.{IsAcceptedTrace}
+use Rattle.mlt_check_text.specs.OrderTexts.{IsCheckOf, IsCheckText, order_text}
 
 -- the reader gave a trace, of which this is said
 abbrev pub IsSaid : Option (List ℕ) → Option (List ℕ) → List ℕ → Type 0
@@ -24,10 +26,11 @@ module _ (before after old new : Option (List ℕ)) (text : List ℕ) where
   all_written (Ok done) (input, check) appends = (input, text, check, appends)
   all_written (Err refusal) said appends = tt
 
-  pub prefix_written : (r : Result (Unit {0}) Refusal) → IsSaid before after text → OnErr r (AppendsFront old new text) → r ≡ Err Io
-      → Keeps old new ⊎ ((input : List ℕ) × (whole : List ℕ) × IsCheckOf before after input whole × AppendsFront old new whole)
-  prefix_written (Ok done) said appends is = cc
-  prefix_written (Err refusal) (input, check) appends is = inr (input, text, check, appends)
+  pub fails_cleanly : (r : Result (Unit {0}) Refusal) → IsSaid before after text → OnErr r (AppendsFront old new text) → IfErr r (λ refusal. refusal ≡ Io)
+      → FailsCleanly before after old new r (λ input text _. IsCheckText input text)
+  fails_cleanly (Ok done) (input, check) front io = finished _ _ _ _ _ done input check.0
+  fails_cleanly (Err refusal) (input, check) front io =
+      unfinished _ _ _ _ _ refusal input text tt check.0 check.1 (inr io) (λ memory. let both : Io ≡ OutOfMemory = sym io ∙ memory in absurd (cc)) (λ same. front)
 
 module _ (old new : Option (List ℕ)) (text : List ℕ) where
   -- of the order and the base nothing else is written

@@ -1,14 +1,14 @@
 //! A trace from a reader, and what the check says of it to a writer.
 
-ghost use Rattle.std.specs.Prelude.{◌≡◌, ◌≤◌, ◌<◌, ◌⊎◌, ℕ, List, length, Err, IfErr, IfOk, IfSome, IsErrAnd, MatchResult, OnOk, Some};
-ghost use Rattle.std.specs.Io.KnownBytes.{Appends, Consumes, Keeps};
+ghost use Rattle.std.specs.Prelude.{◌≡◌, ◌⊎◌, ℕ, List, Err, IfErr, IfOk, IsErrAnd, MatchResult, OnOk, Some};
+ghost use Rattle.std.specs.Io.KnownBytes.{Appends};
 ghost use Rattle.std.specs.String.{string_bytes};
 ghost use Rattle.mlt_types.specs.declared.refusal.TraceCause.{TraceCause};
+ghost use Rattle.mlt_text.specs.Failures.{FailsCleanly, IsTraceFault, IsWant};
 ghost use Rattle.mlt_text.specs.Inputs.{GivesWhole};
-ghost use Rattle.mlt_text.specs.Texts.{AppendsFront};
 ghost use Rattle.mlt_kinds.specs.Bases.{Base as ObjectBase};
-ghost use Rattle.mlt_check.specs.Traces.{IsAcceptedTrace, IsFirstFault, IsWant};
-ghost use Rattle.mlt_check_text.specs.OrderTexts.{IsCheckOf, order_text, serial_lines};
+ghost use Rattle.mlt_check.specs.Traces.{IsAcceptedTrace, IsFirstFault};
+ghost use Rattle.mlt_check_text.specs.OrderTexts.{IsCheckOf, IsCheckText, order_text, serial_lines};
 
 use mlt_base::write_base;
 use mlt_check::{Order, check};
@@ -59,8 +59,8 @@ pub fn check_trace<R: Read, W: Write>(
         × Appends (W.contents writer.old) (W.contents writer.new) text) }
     // a fault is the first one of the input
     ensures fault { (line : ℕ) (cause : TraceCause) → result ≡ Err (Refusal.TraceFault line cause)
-        → ((input : List ℕ) × GivesWhole (R.remaining reader.old) (R.remaining reader.new) input
-        × IsFirstFault input line cause) × Keeps (W.contents writer.old) (W.contents writer.new) }
+        → (input : List ℕ) × GivesWhole (R.remaining reader.old) (R.remaining reader.new) input
+        × IsFirstFault input line cause }
     // of a trace nothing else is said
     ensures only_accepted { (input txs : List ℕ) (base : ObjectBase)
         → R.remaining reader.old ≡ Some input → IsAcceptedTrace input txs base
@@ -71,21 +71,11 @@ pub fn check_trace<R: Read, W: Write>(
         → R.remaining reader.old ≡ Some input → IsFirstFault input line cause
         → IsErrAnd result (λ refusal. (refusal ≡ Refusal.TraceFault line cause)
         ⊎ IsWant refusal) }
-    // an input that is too long is refused, and not read on
-    ensures long { IfSome (R.remaining reader.old) (λ input. 16777216 < length input
-        → IsErrAnd result IsWant × Keeps (W.contents writer.old) (W.contents writer.new)) }
-    ensures bounded { (taken : List ℕ)
-        × Consumes (R.remaining reader.old) (R.remaining reader.new) taken
-        × (length taken ≤ 16777217) }
-    // after a failed read nothing was written, and after a failed write a prefix of the text
-    ensures io { result ≡ Err Refusal.Io → Keeps (W.contents writer.old) (W.contents writer.new)
-        ⊎ ((input text : List ℕ)
-        × IsCheckOf (R.remaining reader.old) (R.remaining reader.new) input text
-        × AppendsFront (W.contents writer.old) (W.contents writer.new) text) }
-    ensures memory { result ≡ Err Refusal.OutOfMemory
-        → Keeps (W.contents writer.old) (W.contents writer.new) }
-    ensures refusals { IfErr result (λ refusal. IsWant refusal
-        ⊎ ((line : ℕ) × (cause : TraceCause) × (refusal ≡ Refusal.TraceFault line cause))) }
+    // where it fails, nothing was written, or a prefix of such a text; and too long an input is not read on
+    ensures failure { FailsCleanly (R.remaining reader.old) (R.remaining reader.new)
+        (W.contents writer.old) (W.contents writer.new) result
+        (λ input text _. IsCheckText input text) }
+    ensures refusals { IfErr result (λ refusal. IsWant refusal ⊎ IsTraceFault refusal) }
 {
     let order = check(alloc, reader)?;
     let text = text_of(alloc, &order)?;

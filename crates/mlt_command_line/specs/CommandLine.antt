@@ -67,13 +67,15 @@ abbrev pub work_app : NameList → App
 work_app names =
     with_rule (with_rule (run_app names (codes "run")) (number_rule (codes "workers") 1 8)) tries_rule
 
--- `serve`, which has sessions and a limit
+-- `serve`, which has sessions, a limit and an idle time
 abbrev pub serve_app : NameList → App
 serve_app names =
     with_rule
     (with_rule
+    (with_rule
     (with_rule (run_app names (codes "serve")) (number_rule (codes "sessions") 1 64))
-    (number_rule (codes "limit") 1 1000000)) tries_rule
+    (number_rule (codes "limit") 1 1000000)) tries_rule)
+    (number_rule (codes "idle") 0 86400)
 
 abbrev pub bare_app : App
 bare_app = let named = new_app (codes "mltx") in
@@ -112,12 +114,14 @@ pub record WorkForm : Type 0 where
   pub workers : ℕ
   pub tries : ℕ
 
--- how many sessions there are at once, how many connections in all, and how often an operation may be told to wait
+-- how many sessions there are at once, how many connections in all, how often an operation may be told to wait, and after
+-- how many seconds a connection is cut that gives and takes nothing; 0 is never
 pub record ServeForm : Type 0 where
   pub run : RunForm
   pub sessions : ℕ
   pub limit : ℕ
   pub tries : ℕ
+  pub idle : ℕ
 
 -- what is asked for
 pub data Asked : Type 0 where
@@ -144,6 +148,7 @@ form_of_serve serve = record {
   sessions = serve.sessions;
   limit = serve.limit;
   tries = serve.tries;
+  idle = serve.idle;
 }
 
 -- what a job asks for
@@ -160,6 +165,7 @@ IsWithinBounds (job.Work work) = (0 < work.workers) × (work.workers ≤ 8)
     × (0 < work.tries) × (work.tries ≤ 1000000)
 IsWithinBounds (job.Serve serve) = (0 < serve.sessions) × (serve.sessions ≤ 64)
     × (0 < serve.limit) × (serve.limit ≤ 1000000) × (0 < serve.tries) × (serve.tries ≤ 1000000)
+    × (serve.idle ≤ 86400)
 IsWithinBounds other = Unit {0}
 
 -- an input with no options
@@ -187,7 +193,7 @@ with_input steps input = to_steps (plain_run input)
 with_input run input = to_work (record { run = plain_run input; workers = 4; tries = 10000 })
 with_input check input = to_check input
 with_input serve input =
-    to_serve (record { run = plain_run input; sessions = 8; limit = 1; tries = 10000 })
+    to_serve (record { run = plain_run input; sessions = 8; limit = 1; tries = 10000; idle = 0 })
 
 -- ---- what the words ask for
 
@@ -236,18 +242,20 @@ work_of (Some r) (Some workers) (Some tries) =
 abbrev pub work_in : List Row → Option WorkForm
 work_in rows = work_of (run_in rows) (number_named 1 8 4 (first_of (codes "workers") rows)) (tries_in rows)
 
-abbrev pub serve_of : Option RunForm → Option ℕ → Option ℕ → Option ℕ → Option ServeForm
-serve_of None sessions limit tries = None
-serve_of (Some r) None limit tries = None
-serve_of (Some r) (Some sessions) None tries = None
-serve_of (Some r) (Some sessions) (Some limit) None = None
-serve_of (Some r) (Some sessions) (Some limit) (Some tries) =
-    Some (record { run = r; sessions = sessions; limit = limit; tries = tries })
+abbrev pub serve_of : Option RunForm → Option ℕ → Option ℕ → Option ℕ → Option ℕ → Option ServeForm
+serve_of None sessions limit tries idle = None
+serve_of (Some r) None limit tries idle = None
+serve_of (Some r) (Some sessions) None tries idle = None
+serve_of (Some r) (Some sessions) (Some limit) None idle = None
+serve_of (Some r) (Some sessions) (Some limit) (Some tries) None = None
+serve_of (Some r) (Some sessions) (Some limit) (Some tries) (Some idle) =
+    Some (record { run = r; sessions = sessions; limit = limit; tries = tries; idle = idle })
 
 -- what the matches of `serve` ask for
 abbrev pub serve_in : List Row → Option ServeForm
 serve_in rows = serve_of (run_in rows) (number_named 1 64 8 (first_of (codes "sessions") rows))
     (number_named 1 1000000 1 (first_of (codes "limit") rows)) (tries_in rows)
+    (number_named 0 86400 0 (first_of (codes "idle") rows))
 
 -- what the subcommand of this name asks for, by its matches
 abbrev pub asked_by : Text → List Row → Option Asked

@@ -130,6 +130,9 @@ const SESSIONS_HELP: &str = "How many sessions are held at once, from 1 to 64; w
 
 const LIMIT_HELP: &str = "How many connections are served in all, from 1 to 1000000; without it 1";
 
+const IDLE_HELP: &str =
+    "How many seconds a connection may be idle, from 0, which is for ever, to 86400; without it 0";
+
 // How help shows what a subcommand takes, and what it says of it.
 #[derive(Clone, Copy)]
 struct InputHelp {
@@ -215,14 +218,21 @@ fn run_command<'a>(
         .arg(trace)
 }
 
-// An option that takes a number within these bounds.
-fn number_option<'a>(alloc: Global, name: &'a str, help: &'a str, least: u64, most: u64) -> Arg<'a>
+// An option that takes a number within these bounds. Help shows it by this name.
+fn number_option<'a>(
+    alloc: Global,
+    name: &'a str,
+    value_name: &'a str,
+    help: &'a str,
+    least: u64,
+    most: u64,
+) -> Arg<'a>
     ensures rule { rule_of result ≡ number_rule name.entry.now least most }
     ensures local { result.global ≡ false }
 {
     Arg::new(alloc, name)
         .long(name)
-        .value_name("N")
+        .value_name(value_name)
         .help(help)
         .value_parser(ValueParser::unsigned(least, most))
 }
@@ -231,8 +241,8 @@ fn work_command<'a>(alloc: Global, names: &'a [&'a str]) -> Result<Command<'a>, 
     ensures app { IfOk result (λ command. app_of command ≡ work_app names.entry) }
     ensures globals { IfOk result (λ command. (out-Command command).has_globals ≡ false) }
 {
-    let workers = number_option(alloc, "workers", WORKERS_HELP, 1, 8);
-    let tries = number_option(alloc, "tries", TRIES_HELP, 1, 1_000_000);
+    let workers = number_option(alloc, "workers", "N", WORKERS_HELP, 1, 8);
+    let tries = number_option(alloc, "tries", "N", TRIES_HELP, 1, 1_000_000);
     run_command(alloc, "run", FILE, names, RUN_ABOUT, RUN_EXAMPLE)?
         .arg(workers)?
         .arg(tries)
@@ -242,11 +252,13 @@ fn serve_command<'a>(alloc: Global, names: &'a [&'a str]) -> Result<Command<'a>,
     ensures app { IfOk result (λ command. app_of command ≡ serve_app names.entry) }
     ensures globals { IfOk result (λ command. (out-Command command).has_globals ≡ false) }
 {
-    let sessions = number_option(alloc, "sessions", SESSIONS_HELP, 1, 64);
-    let limit = number_option(alloc, "limit", LIMIT_HELP, 1, 1_000_000);
-    let tries = number_option(alloc, "tries", TRIES_HELP, 1, 1_000_000);
-    run_command(alloc, "serve", ADDRESS, names, SERVE_ABOUT, SERVE_EXAMPLE)?
-        .arg(sessions)?
-        .arg(limit)?
-        .arg(tries)
+    let command = run_command(alloc, "serve", ADDRESS, names, SERVE_ABOUT, SERVE_EXAMPLE)?;
+    let sessions = number_option(alloc, "sessions", "N", SESSIONS_HELP, 1, 64);
+    let command = command.arg(sessions)?;
+    let limit = number_option(alloc, "limit", "N", LIMIT_HELP, 1, 1_000_000);
+    let command = command.arg(limit)?;
+    let tries = number_option(alloc, "tries", "N", TRIES_HELP, 1, 1_000_000);
+    let command = command.arg(tries)?;
+    let idle = number_option(alloc, "idle", "SECONDS", IDLE_HELP, 0, 86_400);
+    command.arg(idle)
 }

@@ -54,6 +54,9 @@ pub struct Serve {
     pub limit: u32,
     /// How often an operation may be told to wait, from 1 to 1,000,000; 10,000 where none is said.
     pub tries: u64,
+    /// After how many seconds a connection is cut that gives and takes nothing, from 0 to 86,400. 0 is never, also where
+    /// none is said.
+    pub idle: u64,
 }
 
 /// What the program is asked to do.
@@ -215,11 +218,15 @@ fn serve_found(alloc: Global, found: &ArgMatches<'_>) -> Result<Option<Serve>, A
     let Some(tries) = tries_found(found) else {
         return Ok(None);
     };
+    let Some(idle) = number_found(found, "idle", 0, 86_400, 0) else {
+        return Ok(None);
+    };
     Ok(Some(Serve {
         run,
         sessions: sessions as usize,
         limit: limit as u32,
         tries,
+        idle,
     }))
 }
 

@@ -15,7 +15,7 @@ use Rattle.mlt_kinds.specs.Counters.{CounterStep}
 use Rattle.mlt_kinds.specs.Cells.{CellState, CellStep}
 use Rattle.mlt_kinds.specs.Cells.CellState.{AccountState, ElementState, CounterState}
 use Rattle.mlt_kinds.specs.Bases.{Base, Step, state_at, with_state, empty_base}
-use Rattle.mlt_kinds.specs.BaseLaws.{step_to, state_here, cell_step_states}
+use Rattle.mlt_kinds.proofs.BaseLaws.{step_to, state_here, cell_step_states}
 use Rattle.mlt_kinds.specs.Operations.{cell_of}
 use Rattle.std.specs.Bool.{MatchBool}
 use Rattle.mlt_order.specs.Runs.{RightCommutesBackward}

@@ -1,7 +1,7 @@
 -- The laws of commit order at the steps of bases.
 use Rattle.std.proofs.Common.{◌≡◌, ◌≢◌, ◌↔◌, ℕ, [], ◌∷◌, false, Contains}
 use Rattle.mlt_kinds.specs.Bases.{Base, Step, Transcript, Runs}
-use Rattle.mlt_kinds.specs.BaseLaws.{base_one_answer, base_one_start}
+use Rattle.mlt_kinds.proofs.BaseLaws.{base_one_answer, base_one_start}
 use Rattle.mlt_kinds.specs.declared.operation.ObjOp.{ObjOp}
 use Rattle.mlt_kinds.specs.declared.operation.ObjReply.{ObjReply}
 use Rattle.mlt_order.specs.Histories.{Lists, MayCome}

@@ -14,8 +14,9 @@ use Rattle.mlt_kinds.specs.Elements.{ElementStep, IsLegal as element_legal, next
 use Rattle.mlt_kinds.specs.Counters.{CounterStep, IsLegal as counter_legal, next_of as counter_next}
 use Rattle.mlt_kinds.specs.Cells.CellState.{AccountState, ElementState, CounterState}
 use Rattle.mlt_kinds.specs.Bases.{Step}
-use Rattle.mlt_kinds.specs.BaseLaws.{PassesOnCell, apart_steps_pass, cell_steps_pass}
+use Rattle.mlt_kinds.proofs.BaseLaws.{apart_steps_pass, cell_steps_pass}
 use Rattle.mlt_kinds.specs.Operations.{cell_of}
+use Rattle.mlt_kinds.specs.Passing.{PassesOnCell}
 use Rattle.mlt_commute.specs.AccountTable.{account_class, account_marks}
 use Rattle.mlt_commute.specs.ElementTable.{element_class, element_marks}
 use Rattle.mlt_commute.specs.CounterTable.{counter_class, counter_marks}

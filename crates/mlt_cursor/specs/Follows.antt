@@ -1,5 +1,5 @@
 -- What a script asks, and which transcripts follow it.
-use Rattle.std.specs.Prelude.{◌≡◌, ℕ, List, [], ◌∷◌, ◌++◌, Bool, true, false, ◌==◌, slice_index, slice_set, replicate, if◌then◌else◌}
+use Rattle.std.specs.Prelude.{◌≡◌, ◌≤◌, ℕ, List, [], ◌∷◌, ◌++◌, length, Bool, true, false, ◌==◌, slice_index, slice_set, replicate, if◌then◌else◌}
 use Rattle.mlt_kinds.specs.declared.account.AccountOp.TheVariants as account
 use Rattle.mlt_kinds.specs.declared.counter.CounterOp.TheVariants as counter
 use Rattle.mlt_kinds.specs.declared.operation.ObjOp.{ObjOp}
@@ -119,6 +119,10 @@ Follows s t end = Reaches (plan_of_script s) t (Ends end)
 -- The transcript is the front of one that follows the script.
 abbrev pub IsPartial : ScriptForm → Transcript → Type 0
 IsPartial s t = (more : Transcript) × (end : Ending) × Follows s (t ++ more) end
+
+-- Whatever it is told, a plan asks at most so many operations.
+abbrev pub AsksAtMost : ℕ → Plan → Type 0
+AsksAtMost most p = (t : Transcript) (q : Plan) → Reaches p t q → length t ≤ most
 
 -- what a plan says next
 abbrev pub IsNext : Next → Plan → Type 0

@@ -2,3 +2,4 @@ pub mod Follows
 pub mod Runs
 pub mod Hearing
 pub mod Cursors
+pub mod Plays

@@ -1,7 +1,13 @@
-//! How a script goes on at each reply.
+//! How a script goes on at each reply, and what plays it.
 #![tactic(auto)]
 
+mod answering;
 mod cursor;
+mod most;
+mod playing;
 mod skipping;
 
+pub use answering::Answering;
 pub use cursor::{Cursor, Next};
+pub use most::most_asked;
+pub use playing::play;

@@ -2,20 +2,15 @@
 
 ghost use Rattle.std.specs.Prelude.{ℕ, Result};
 ghost use Rattle.mlt_types.specs.declared.refusal.Refusal.{Refusal as RefusalForm};
-ghost use Rattle.mlt_kinds.specs.declared.operation.ObjOp.{ObjOp as OpForm};
-ghost use Rattle.mlt_kinds.specs.declared.operation.ObjReply.{ObjReply as ReplyForm};
 
-use mlt_kinds::{ObjOp, ObjReply};
+use mlt_cursor::Answering;
 use mlt_types::{Refusal, TxId};
 
-/// Where scripts are run. A desk states how each call, its answer, the state before it and the state after it stand to
-/// each other.
-pub trait Desk {
+/// Where scripts are run. It answers their operations, and begins and ends their transactions. A desk states how each call,
+/// its answer, the state before it and the state after it stand to each other.
+pub trait Desk: Answering {
     /// Of the state before, the answer and the state after.
     ghost begins: { Self → Result ℕ RefusalForm → Self → Type 0 };
-
-    /// Of the state before, the transaction, the operation, the answer and the state after.
-    ghost answers: { Self → ℕ → OpForm → Result ReplyForm RefusalForm → Self → Type 0 };
 
     /// Of the state before, the transaction, the answer and the state after.
     ghost commits: { Self → ℕ → Result ℕ RefusalForm → Self → Type 0 };
@@ -29,13 +24,6 @@ pub trait Desk {
     /// Why none begins.
     fn begin(&mut self) -> Result<TxId, Refusal>
         ensures { begins self.old result self.new };
-
-    /// Does an operation, and answers its reply.
-    ///
-    /// # Errors
-    /// Why it is not done.
-    fn operation(&mut self, tx: TxId, op: ObjOp) -> Result<ObjReply, Refusal>
-        ensures { answers self.old tx op result self.new };
 
     /// Commits, and answers the number of the commit.
     ///

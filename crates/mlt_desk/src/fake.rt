@@ -5,6 +5,7 @@ ghost use Rattle.mlt_desk.specs.Fakes.{after_answer, next_answer, number_in, rep
 
 use crate::desk::Desk;
 use crate::fake_desk::{FakeAnswer, FakeDesk};
+use mlt_cursor::Answering;
 use mlt_kinds::{ObjOp, ObjReply};
 use mlt_types::{Refusal, TxId};
 
@@ -51,13 +52,22 @@ fn reply(answer: FakeAnswer) -> Result<ObjReply, Refusal>
     }
 }
 
-impl Desk for FakeDesk {
+impl Answering for FakeDesk {
     ghost use Rattle.std.specs.Prelude.{◌≡◌};
-    ghost use Rattle.mlt_desk.specs.Fakes.{after_answer, next_answer, number_in, reply_in};
-
-    ghost begins = { λ s r t. (r ≡ number_in (next_answer s)) × (t ≡ after_answer s) };
+    ghost use Rattle.mlt_desk.specs.Fakes.{after_answer, next_answer, reply_in};
 
     ghost answers = { λ s tx op r t. (r ≡ reply_in (next_answer s)) × (t ≡ after_answer s) };
+
+    fn operation(&mut self, _tx: TxId, _op: ObjOp) -> Result<ObjReply, Refusal> {
+        reply(self.take())
+    }
+}
+
+impl Desk for FakeDesk {
+    ghost use Rattle.std.specs.Prelude.{◌≡◌};
+    ghost use Rattle.mlt_desk.specs.Fakes.{after_answer, next_answer, number_in};
+
+    ghost begins = { λ s r t. (r ≡ number_in (next_answer s)) × (t ≡ after_answer s) };
 
     ghost commits = { λ s tx r t. (r ≡ number_in (next_answer s)) × (t ≡ after_answer s) };
 
@@ -68,10 +78,6 @@ impl Desk for FakeDesk {
             Ok(number) => Ok(TxId(number)),
             Err(refusal) => Err(refusal),
         }
-    }
-
-    fn operation(&mut self, _tx: TxId, _op: ObjOp) -> Result<ObjReply, Refusal> {
-        reply(self.take())
     }
 
     fn commit(&mut self, _tx: TxId) -> Result<u64, Refusal> {

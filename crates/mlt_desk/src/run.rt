@@ -1,45 +1,25 @@
 //! One script at a desk.
 
-ghost use Rattle.std.specs.Prelude.{◌≡◌, [], IfErr, IfOk};
-ghost use Rattle.mlt_cursor.specs.Follows.{Follows};
-ghost use Rattle.mlt_desk.specs.Runs.{ClosesAs, Gives, HasEndedAs, IsRunAt, StopsAt};
+ghost use Rattle.std.specs.Prelude.{◌≡◌, [], IfErr, IfOk, OnErr, vec_capacity};
+ghost use Rattle.mlt_cursor.specs.Follows.{AsksAtMost, plan_of_script};
+ghost use Rattle.mlt_desk.specs.Runs.{ClosesAs, HasEndedAs, IsRunAt, refusal_of_script};
 
 use crate::desk::Desk;
-use mlt_cursor::{Cursor, Next};
+use mlt_cursor::{most_asked, play};
 use mlt_kinds::Done;
 use mlt_serial::{End, Outcome, Transcript};
 use mlt_tree::{Ending, Script};
 use mlt_types::{Refusal, TxId};
 use std::alloc::Global;
 
-/// Asks what the script asks, until it ends or a call is refused; what was done is added to the list. There is room for
-/// each reply before its operation is asked, so that no reply is lost.
-///
-/// # Errors
-/// Why an operation was not done, or `OutOfMemory`, where there was no room for one more reply and none was asked for.
-fn play<D: Desk>(
-    desk: &mut D,
-    tx: TxId,
-    script: &Script,
-    done: &mut Vec<Done>,
-) -> Result<Ending, Refusal>
-    requires empty { done.old.items ≡ [] }
-    ensures follows { IfOk result (λ ending. Follows script.now done.new.items ending) }
-    ensures gives { IfOk result
-        (λ ending. Gives D.answers tx desk.old done.new.items desk.new) }
-    ensures stops { IfErr result (λ refusal.
-        StopsAt D.answers script.now tx desk.old done.new.items refusal desk.new) }
+/// What a script is refused with whose transaction was refused this: one that comes only where another acts for the
+/// transaction gives the script up.
+fn refusal_of_script(refusal: Refusal) -> Refusal
+    ensures { result ≡ refusal_of_script refusal }
 {
-    let mut cursor = Cursor::new(script);
-    while let Next::Op(op) = cursor.next() {
-        done.reserve(1)?;
-        let reply = desk.operation(tx, op)?;
-        done.push_reserved(Done::new(op, reply));
-        cursor.tell(reply);
-    }
-    match cursor.next() {
-        Next::Commit => Ok(Ending::Commit),
-        _ => Ok(Ending::Abort),
+    match refusal {
+        Refusal::NoSuchTx | Refusal::Undoing | Refusal::Running => Refusal::GaveUp,
+        other => other,
     }
 }
 
@@ -52,7 +32,7 @@ fn close<D: Desk>(desk: &mut D, tx: TxId, ended: Result<Ending, Refusal>) -> End
             Ok(number) => End::Committed(number),
             Err(refusal) => {
                 desk.abort(tx);
-                End::Refused(refusal)
+                End::Refused(refusal_of_script(refusal))
             }
         },
         Ok(Ending::Abort) => {
@@ -61,15 +41,16 @@ fn close<D: Desk>(desk: &mut D, tx: TxId, ended: Result<Ending, Refusal>) -> End
         }
         Err(refusal) => {
             desk.abort(tx);
-            End::Refused(refusal)
+            End::Refused(refusal_of_script(refusal))
         }
     }
 }
 
-/// Runs a script in a transaction of its own; what was done is added to the list. It answers the transaction's number, 0
-/// where none began, and how the script ended.
+/// Runs a script in a transaction of its own; what was done is added to the list, which has room for it. It answers the
+/// transaction's number, 0 where none began, and how the script ended.
 fn run_transaction<D: Desk>(desk: &mut D, script: &Script, done: &mut Vec<Done>) -> (u64, End)
     requires empty { done.old.items ≡ [] }
+    requires room { AsksAtMost (vec_capacity done.old) (plan_of_script script.now) }
     ensures ended { HasEndedAs script.now done.new.items result.1 }
     ensures run { IsRunAt D.begins D.answers D.commits D.aborts script.now
         desk.old result.0 done.new.items result.1 desk.new }
@@ -84,22 +65,33 @@ fn run_transaction<D: Desk>(desk: &mut D, script: &Script, done: &mut Vec<Done>)
     }
 }
 
-/// Runs a script, which has this number within its client, in a transaction of its own. It always ends, and has an
-/// outcome: what it was told is what the desk answered.
-pub fn run_script<D: Desk>(alloc: Global, desk: &mut D, script: &Script, number: u64) -> Outcome
-    ensures client { result.client ≡ script.now.client }
-    ensures number { result.number ≡ number }
-    ensures ended { HasEndedAs script.now result.done result.end }
-    ensures run { IsRunAt D.begins D.answers D.commits D.aborts script.now
-        desk.old result.tx result.done result.end desk.new }
+/// Runs a script, which has this number within its client, in a transaction of its own: what it was told is what the desk
+/// answered. There is room for all its replies before it begins, so that none is lost; this is all the memory that it takes.
+///
+/// # Errors
+/// `OutOfMemory`, where there is no such room. Nothing was asked then.
+pub fn run_script<D: Desk>(
+    alloc: Global,
+    desk: &mut D,
+    script: &Script,
+    number: u64,
+) -> Result<Outcome, Refusal>
+    ensures client { IfOk result (λ outcome. outcome.client ≡ script.now.client) }
+    ensures number { IfOk result (λ outcome. outcome.number ≡ number) }
+    ensures ended { IfOk result (λ outcome. HasEndedAs script.now outcome.done outcome.end) }
+    ensures run { IfOk result (λ outcome.
+        IsRunAt D.begins D.answers D.commits D.aborts script.now
+        desk.old outcome.tx outcome.done outcome.end desk.new) }
+    ensures refusal { IfErr result (λ refusal. refusal ≡ Refusal.OutOfMemory) }
+    ensures unasked { OnErr result (desk.new ≡ desk.old) }
 {
-    let mut done = Vec::new(alloc);
+    let mut done = Vec::with_capacity(alloc, most_asked(script))?;
     let (tx, end) = run_transaction(desk, script, &mut done);
-    Outcome {
+    Ok(Outcome {
         client: u32::from(script.client()),
         number,
         tx,
         done: Transcript::new(done),
         end,
-    }
+    })
 }

@@ -10,6 +10,7 @@ use std::alloc::Global;
 use std::net::TcpListener;
 use std::sync::Wait;
 use std::thread::Threads;
+use std::time::Clock;
 
 /// Each receipt with its client, its number, its replies and its end, and then the base; the history as a trace; and what the
 /// checker says of that trace.
@@ -29,7 +30,7 @@ fn text_of(alloc: Global, outcomes: Outcomes, manager: &Manager<Mult>) -> Result
 }
 
 /// The text of what that many connections were served, by two session threads.
-pub fn served_text<R: Threads + Wait + Sync>(
+pub fn served_text<R: Threads + Wait + Clock + Sync>(
     rt: &R,
     alloc: Global,
     listener: &TcpListener,
@@ -44,6 +45,7 @@ pub fn served_text<R: Threads + Wait + Sync>(
         2,
         connections,
         10_000,
+        None,
     )?;
     let text = text_of(alloc, outcomes, &manager);
     manager.close();

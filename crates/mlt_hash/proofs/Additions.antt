@@ -13,15 +13,16 @@ use Rattle.mlt_page.specs.Values.{BucketFields}
 use Rattle.mlt_page_locks.specs.LockTables.{can_write}
 use Rattle.mlt_hash_form.specs.Form.{value_in}
 use Rattle.mlt_held.specs.Moments.{Moment}
-use Rattle.mlt_held.specs.Views.{View, view_of}
-use Rattle.mlt_record.specs.Plans.{IsNowhere, SetsFirst, WriteFields, has_room}
+use Rattle.mlt_held.specs.Views.{ReadsHeldBucket, View, WritesPage, view_of}
+use Rattle.mlt_record.specs.Plans.{IsNowhere, SetsFirst, WriteFields, has_room, planned_page}
 use Rattle.mlt_hash.specs.Passes.{slot_after}
 use Rattle.mlt_hash.specs.Walks.{Basis, FoundBefore, Stands, StoodBefore, WalkFields}
-use Rattle.mlt_hash.specs.Changes.{HasOwnGhost, IsAtAbsent, IsFull, Makes, SeesBucket, TellsOfAddition, TellsOfChange, directory_depth_of, page_of, PlansSlot}
+use Rattle.mlt_hash.specs.Changes.{FillsFirst, HasOwnGhost, IsAtAbsent, IsFull, Makes, PlansSlot, RevivesFirst, SeesBucket, TakesSlot, TellsOfAddition, TellsOfChange, directory_depth_of, page_of}
 use Rattle.mlt_hash.specs.declared.pass.Change.{Change}
 use Rattle.mlt_hash.specs.declared.pass.Change.TheVariants as change
 use Rattle.mlt_hash.specs.declared.answer.WalkAnswer.{WalkAnswer}
-use Rattle.mlt_hash.proofs.InPlace.{ReadsBucket, WritesPlan, absent_at, found_there, makes_change, may_write_bucket, plans_slot, no_live_slot, same_bucket, tells_change}
+use Rattle.mlt_hash.specs.declared.answer.WalkAnswer.TheVariants as answer
+use Rattle.mlt_hash.proofs.InPlace.{ReadsBucket, WritesPlan, absent_at, found_there, makes_change, may_write_bucket, no_live_slot, plan_reads, plans_slot, same_bucket, tells_change}
 
 -- where a search ends that finds nothing
 pub nowhere_found : (has : Slot → Bool) (slots : List Slot) (place : Option ℕ) → position has slots ≡ place → IsNowhere has slots → place ≡ None
@@ -105,3 +106,46 @@ module _ (basis : Basis) (walk after : WalkFields) (old new : Moment) (number ke
       let free : is_kept basis.opens (slice_index_or fields.slots of_walk.slot Free) ≡ false = not-true (is_kept basis.opens (slice_index_or fields.slots of_walk.slot Free)) of_walk.was in
       let makes : Makes basis new walk after (change.Put value) = absent_makes (change.Put value) (has_room basis.opens) refl of_walk (no_value, no_ghost, free) told in
       subst (λ r. TellsOfAddition basis new walk after value r) (sym told.answer_is) (inr makes)
+
+  -- The slot that its plan names is the first one with the property.
+  fills : (has : Slot → Bool) (s : Slot) (done : Change) → (plan : SetsFirst number fields has s write) → WritesPlan walk after old new write done result → FillsFirst (view_of old) (view_of new) (page_of walk.phase) has s
+  fills has s done plan told =
+      let unwritten = (absent_at basis walk (view_of old) walk.phase none reads.stands).unwritten in
+      let on : write.number ≡ page_of walk.phase = ap (λ (w : WriteFields). w.number) plan.written ∙ reads.here in
+      let here : ReadsHeldBucket (view_of old) write.number fields = plan_reads walk (view_of old) number fields has s write unwritten reads.sees reads.here plan in
+      record {
+        bucket = fields;
+        reads = subst (λ q. ReadsHeldBucket (view_of old) q fields) on here;
+        write = write;
+        first = subst (λ q. SetsFirst q fields has s write) reads.here plan;
+        writes = subst (λ q. WritesPage (view_of old) (view_of new) q (planned_page fields write)) on (told.writes fields here);
+      }
+
+  -- **A revival takes the first ghost,**
+  pub revival_takes_first : (value owner : ℕ) → owner ≡ basis.tx → SetsFirst number fields (is_ghost_of key owner) (Live key value) write → WritesPlan walk after old new write (change.Revive value) result → RevivesFirst basis.tx (view_of old) (view_of new) walk (page_of walk.phase) value
+  revival_takes_first value owner own plan told =
+      let of_walk : SetsFirst number fields (is_ghost_of walk.key owner) (Live walk.key value) write = subst (λ k. SetsFirst number fields (is_ghost_of k owner) (Live k value) write) reads.key_is plan in
+      let own_plan : SetsFirst number fields (is_ghost_of walk.key basis.tx) (Live walk.key value) write = subst (λ tx. SetsFirst number fields (is_ghost_of walk.key tx) (Live walk.key value) write) own of_walk in
+      fills (is_ghost_of walk.key basis.tx) (Live walk.key value) (change.Revive value) own_plan told
+
+  -- **an addition too,**
+  pub revival_takes : (value owner : ℕ) → owner ≡ basis.tx → SetsFirst number fields (is_ghost_of key owner) (Live key value) write → WritesPlan walk after old new write (change.Revive value) result → TakesSlot result basis (view_of old) (view_of new) walk value
+  revival_takes value owner own plan told = subst (λ r. TakesSlot r basis (view_of old) (view_of new) walk value) (sym told.answer_is) (inl (revival_takes_first value owner own plan told))
+
+  -- **and where there is none, the lowest slot with room.**
+  pub put_takes : (value owner : ℕ) → owner ≡ basis.tx → IsNowhere (is_ghost_of key owner) fields.slots → SetsFirst number fields (has_room basis.opens) (Live key value) write → WritesPlan walk after old new write (change.Put value) result → TakesSlot result basis (view_of old) (view_of new) walk value
+  put_takes value owner own nowhere plan told =
+      let of_walk : SetsFirst number fields (has_room basis.opens) (Live walk.key value) write = subst (λ k. SetsFirst number fields (has_room basis.opens) (Live k value) write) reads.key_is plan in
+      let no_ghost : HasOwnGhost basis.tx walk (view_of old) → ⊥ = λ ghost. ghost_has_plan basis walk (view_of old) key owner fields ghost reads.sees reads.key_is own nowhere in
+      let lowest = fills (has_room basis.opens) (Live walk.key value) (change.Put value) of_walk told in
+      subst (λ r. TakesSlot r basis (view_of old) (view_of new) walk value) (sym told.answer_is) (inr (no_ghost, lowest))
+
+-- what is not made takes no slot
+pub unmade_takes : (told : WalkAnswer) (basis : Basis) (old new : View) (walk : WalkFields) (value : ℕ) → (told ≡ answer.Changed → ⊥) → TakesSlot told basis old new walk value
+unmade_takes answer.Changed basis old new walk value unchanged = absurd (unchanged refl)
+unmade_takes answer.Going basis old new walk value unchanged = tt
+unmade_takes (answer.Waiting page by) basis old new walk value unchanged = tt
+unmade_takes (answer.Found found) basis old new walk value unchanged = tt
+unmade_takes answer.NeedSplit basis old new walk value unchanged = tt
+unmade_takes answer.Widen basis old new walk value unchanged = tt
+unmade_takes (answer.Refused reason) basis old new walk value unchanged = tt

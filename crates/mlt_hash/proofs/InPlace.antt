@@ -177,7 +177,7 @@ module _ (basis : Basis) (walk : WalkFields) (view : View) (n depth : ℕ) (foun
     }
 
 -- the plan of a walk at its bucket is one of the bucket that it reads
-plan_reads : (walk : WalkFields) (view : View) (number : ℕ) (fields : BucketFields) (has : Slot → Bool) (s : Slot) (write : WriteFields) → IsUnwritten view → SeesBucket walk view fields → number ≡ page_of walk.phase
+pub plan_reads : (walk : WalkFields) (view : View) (number : ℕ) (fields : BucketFields) (has : Slot → Bool) (s : Slot) (write : WriteFields) → IsUnwritten view → SeesBucket walk view fields → number ≡ page_of walk.phase
     → SetsFirst number fields has s write → ReadsHeldBucket view write.number fields
 plan_reads walk view number fields has s write unwritten sees here plan =
     let on : write.number ≡ page_of walk.phase = ap (λ (w : WriteFields). w.number) plan.written ∙ here in

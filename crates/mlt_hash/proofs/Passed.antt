@@ -16,14 +16,14 @@ use Rattle.mlt_hash_form.specs.Held.{Agrees, own_or}
 use Rattle.mlt_held.specs.Moments.{MayStep, Moment}
 use Rattle.mlt_held.specs.PageSteps.{TouchesOnePage}
 use Rattle.mlt_held.specs.Views.{MakesPage, View, WritesPage, view_of}
-use Rattle.mlt_held.proofs.OwnSteps.{own_step_sees_more, step_keeps_tx}
+use Rattle.mlt_held.proofs.OwnSteps.{own_step_sees_more, own_step_writes_more, step_keeps_tx}
 use Rattle.mlt_held.proofs.Views.{mode_of_others, mode_of_page}
 use Rattle.mlt_split.specs.Rests.{Aim}
 use Rattle.mlt_split.specs.Splits.{IsUnderWay, SplitFields}
 use Rattle.mlt_split.specs.Steps.{IsDone, IsKeysPage, IsMaking, IsNextPage}
 use Rattle.mlt_split.specs.declared.split.SplitAnswer.TheVariants as split_answer
 use Rattle.mlt_split.proofs.HeldPages.{exclusive_after_make, grows_by_make}
-use Rattle.mlt_split.proofs.Locks.{locks_its_page_alone}
+use Rattle.mlt_split.proofs.Locks.{done_writes_what_it_locks, locks_its_page_alone}
 use Rattle.mlt_split.proofs.Narrow.{narrow_leaves_header, narrow_makes_none, narrow_next_page}
 use Rattle.mlt_hash.specs.Passes.{MayHoldMore, bucket_held, bucket_mode, directory_held, directory_mode, header_held, header_mode}
 use Rattle.mlt_hash.specs.Walks.{Basis, HasPassed, HoldsByPass, IsAtBucket, IsSplitting, StaysNarrow, WalkFields, aim_of, dir_of}
@@ -104,12 +104,17 @@ passed_at_bucket basis walk view bucket depth found here =
       holds = held_on_way walk basis.root dir bucket (head_is_no_dir view basis.root dir here.header here.dir here.head here.listed) (head_is_no_bucket view basis.root bucket here.header here.fields here.head here.at) (dir_is_no_bucket view dir bucket here.dir here.fields here.listed here.at) view here.held;
     }
 
--- What a walk's own step does to what it has read: all that was seen is seen, and a page that changes its mode is held
--- exclusively, and was so, or is one more that the pass may hold.
+-- the page is one that the pass may hold beside its way
+abbrev IsMore : WalkFields → View → ℕ → Type 0
+IsMore walk view q = MayHoldMore walk.pass (view.seen q) (is_some (view.own q))
+
+-- What a walk's own step does to what it has read: all that was seen is seen, what was written stays written, and a page that
+-- changes its mode is held exclusively, and was so, or is one more that the pass may hold.
 pub record StepsOn (walk : WalkFields) (old new : View) : Type 0 where
   pub before : (q : ℕ) (first : Option Page) → old.seen q ≡ Some first → new.seen q ≡ Some first
+  pub written : (q : ℕ) → is_some (old.own q) ≡ true → is_some (new.own q) ≡ true
   pub modes : (q : ℕ) → (map.get new.modes q ≡ map.get old.modes q)
-      ⊎ ((map.get new.modes q ≡ Some Exclusive) × ((map.get old.modes q ≡ Some Exclusive) ⊎ MayHoldMore walk.pass (new.seen q)))
+      ⊎ ((map.get new.modes q ≡ Some Exclusive) × ((map.get old.modes q ≡ Some Exclusive) ⊎ IsMore walk new q))
 
 module _ (basis : Basis) (walk : WalkFields) (old new : View) (step : StepsOn walk old new) where
   keeps_mode : (q : ℕ) (mode : Mode) (p : Page) → old.seen q ≡ Some (Some p) → (walk.pass ≡ pass.Wide → mode ≡ Exclusive) → map.get old.modes q ≡ Some mode → map.get new.modes q ≡ Some mode
@@ -122,23 +127,23 @@ module _ (basis : Basis) (walk : WalkFields) (old new : View) (step : StepsOn wa
         ]
       ]
     where
-      by : (at : Pass) → walk.pass ≡ at → MayHoldMore at (new.seen q) → map.get new.modes q ≡ Some mode
+      by : (at : Pass) → walk.pass ≡ at → MayHoldMore at (new.seen q) (is_some (new.own q)) → map.get new.modes q ≡ Some mode
       by pass.First is none = absurd none
-      by pass.Narrow is made = let none : Some None ≡ Some (Some p) = sym made ∙ step.before q (Some p) sees in cc
-      by pass.Wide is any =
+      by pass.Narrow is made = let none : Some None ≡ Some (Some p) = sym made.0 ∙ step.before q (Some p) sees in cc
+      by pass.Wide is written =
           elim (step.modes q) [
             | inl same ↦ same ∙ held
             | inr locked ↦ locked.0 ∙ ap Some (sym (wide is))
           ]
 
   -- what a pass held beside its way it may still hold
-  holds_on : (q : ℕ) (at : Pass) → MayHoldMore at (old.seen q) → MayHoldMore at (new.seen q)
+  holds_on : (q : ℕ) (at : Pass) → MayHoldMore at (old.seen q) (is_some (old.own q)) → MayHoldMore at (new.seen q) (is_some (new.own q))
   holds_on q pass.First none = none
-  holds_on q pass.Narrow made = step.before q None made
-  holds_on q pass.Wide any = any
+  holds_on q pass.Narrow made = (step.before q None made.0, step.written q made.1)
+  holds_on q pass.Wide written = step.written q written
 
   keeps_others : (root dir bucket : ℕ) → HoldsByPass walk root dir bucket old → (q : ℕ) → q ≢ root → q ≢ dir → q ≢ bucket → is_some (map.get new.modes q) ≡ true
-      → (map.get new.modes q ≡ Some Exclusive) × MayHoldMore walk.pass (new.seen q)
+      → (map.get new.modes q ≡ Some Exclusive) × IsMore walk new q
   keeps_others root dir bucket holds q away further last some =
       elim (step.modes q) [
         | inl same ↦
@@ -178,6 +183,10 @@ module _ (basis : Basis) (walk : WalkFields) (old new : View) (step : StepsOn wa
 pub steps_by_write : (walk : WalkFields) (old new : View) (q : ℕ) (p : Page) → WritesPage old new q p → StepsOn walk old new
 steps_by_write walk old new q p writes = record {
   before = λ r first sees. writes.seen r ∙ sees;
+  written = λ r own. elim (cases_eq r q) [
+    | inl here ↦ ap (λ r. is_some (new.own r)) here ∙ ap is_some writes.here
+    | inr elsewhere ↦ ap is_some (writes.others r elsewhere) ∙ own
+  ];
   modes = λ r. inl (ap (λ (modes : Modes). map.get modes r) writes.modes);
 }
 
@@ -185,16 +194,23 @@ steps_by_write walk old new q p writes = record {
 pub steps_by_making : (walk : WalkFields) (old new : View) (q : ℕ) (p : Page) → (walk.pass ≡ pass.First → ⊥) → MakesPage old new q p → StepsOn walk old new
 steps_by_making walk old new q p later makes = record {
   before = grows_by_make old new q p makes;
+  written = λ r own. elim (cases_eq r q) [
+    | inl here ↦ ap (λ r. is_some (new.own r)) here ∙ made_here
+    | inr elsewhere ↦ ap is_some (makes.own_others r elsewhere) ∙ own
+  ];
   modes = λ r. elim (cases_eq r q) [
-    | inl here ↦ inr (subst (λ (r : ℕ). (map.get new.modes r ≡ Some Exclusive) × ((map.get old.modes r ≡ Some Exclusive) ⊎ MayHoldMore walk.pass (new.seen r))) (sym here) (exclusive_after_make old new q p makes, inr (made_more walk.pass later (new.seen q) makes.seen_here)))
+    | inl here ↦ inr (subst (λ (r : ℕ). (map.get new.modes r ≡ Some Exclusive) × ((map.get old.modes r ≡ Some Exclusive) ⊎ IsMore walk new r)) (sym here) (exclusive_after_make old new q p makes, inr (made_more walk.pass later)))
     | inr elsewhere ↦ inl (ap (λ (modes : Modes). map.get modes r) makes.modes ∙ mode_of_others old.modes q Exclusive r elsewhere)
   ];
 }
   where
-    made_more : (at : Pass) → (at ≡ pass.First → ⊥) → (seen : Option (Option Page)) → seen ≡ Some None → MayHoldMore at seen
-    made_more pass.First not_first seen made = absurd (not_first refl)
-    made_more pass.Narrow not_first seen made = made
-    made_more pass.Wide not_first seen made = tt
+    made_here : is_some (new.own q) ≡ true
+    made_here = ap is_some makes.own_here
+
+    made_more : (at : Pass) → (at ≡ pass.First → ⊥) → MayHoldMore at (new.seen q) (is_some (new.own q))
+    made_more pass.First not_first = absurd (not_first refl)
+    made_more pass.Narrow not_first = (makes.seen_here, made_here)
+    made_more pass.Wide not_first = made_here
 
 same_head : (a b : HeadFields) → Some (page.Head a) ≡ Some (page.Head b) → a ≡ b
 same_head a b same = cc
@@ -235,21 +251,26 @@ module _ (basis : Basis) (walk : WalkFields) (old new : Moment) (room_depth : �
       ∙ narrow.unwritten
 
   module _ (later : walk.pass ≡ pass.First → ⊥) (narrow : walk.pass ≡ pass.Narrow → StaysNarrow basis.root (view_of old) room_depth split.depth split.directory_depth) (touches : TouchesOnePage old new) (done : IsDone split.phase aim old new split) where
-    why : (p : Pass) → walk.pass ≡ p → (q : ℕ) → IsNextPage split.phase aim (view_of old) q ⊎ IsMaking split.phase → (map.get (view_of old).modes q ≡ Some Exclusive) ⊎ MayHoldMore p ((view_of new).seen q)
-    why pass.First is q locked = absurd (later is)
-    why pass.Narrow is q (inl next) = inl (narrow_holds basis walk (view_of old) room_depth split clean agree form way found passed (narrow is) is q next)
-    why pass.Narrow is q (inr making) = absurd (narrow_makes_none aim (view_of old) split clean agree form way (in_place basis walk (view_of old) room_depth split clean agree form way found passed (narrow is)) making)
-    why pass.Wide is q locked = inr tt
+    why : (p : Pass) → walk.pass ≡ p → (q : ℕ) → mode_held new.locks old.running.tx q ≡ Some Exclusive → IsNextPage split.phase aim (view_of old) q ⊎ IsMaking split.phase → (map.get (view_of old).modes q ≡ Some Exclusive) ⊎ MayHoldMore p ((view_of new).seen q) (is_some ((view_of new).own q))
+    why pass.First is q exclusive locked = absurd (later is)
+    why pass.Narrow is q exclusive (inl next) = inl (narrow_holds basis walk (view_of old) room_depth split clean agree form way found passed (narrow is) is q next)
+    why pass.Narrow is q exclusive (inr making) = absurd (narrow_makes_none aim (view_of old) split clean agree form way (in_place basis walk (view_of old) room_depth split clean agree form way found passed (narrow is)) making)
+    why pass.Wide is q exclusive locked =
+        elim (done_writes_what_it_locks split.phase aim old new split q may done) [
+          | inl same ↦ inl (sym same ∙ exclusive)
+          | inr written ↦ inr written.1
+        ]
 
     -- **A step of the splits of a pass.**
     pub steps_by_split : StepsOn walk (view_of old) (view_of new)
     steps_by_split = record {
       before = λ q first sees. own_step_sees_more old new q first may touches sees;
+      written = own_step_writes_more old new may touches;
       modes = λ q.
           let tx = step_keeps_tx old new touches in
           let now : map.get (view_of new).modes q ≡ mode_held new.locks old.running.tx q = ap (λ t. mode_held new.locks t q) tx in
           elim (locks_its_page_alone split_answer.Going aim old new split q done) [
             | inl same ↦ inl (now ∙ same)
-            | inr locked ↦ inr (now ∙ locked.0, elim locked.1 [ inl next ↦ why walk.pass refl q (inl next) | inr making ↦ why walk.pass refl q (inr making.0) ])
+            | inr locked ↦ inr (now ∙ locked.0, elim locked.1 [ inl next ↦ why walk.pass refl q locked.0 (inl next) | inr making ↦ why walk.pass refl q locked.0 (inr making.0) ])
           ];
     }

@@ -29,7 +29,7 @@ use Rattle.mlt_held.specs.PageSteps.{MakesLockedPage, TouchesOnePage, WritesHeld
 use Rattle.mlt_held.specs.Views.{MakesPage, View, WritesPage, view_of, ReadsHeldBucket, ReadsHeldPage, own_at}
 use Rattle.mlt_page_locks.specs.LockTables.{can_write, can_read}
 use Rattle.mlt_held.proofs.Views.{make_makes, may_write, write_writes, writes_over_clean, may_read, seen_held}
-use Rattle.mlt_record.specs.Plans.{IsNowhere, SetsFirst, WriteFields, has_room}
+use Rattle.mlt_record.specs.Plans.{IsNowhere, SetsFirst, WriteFields, has_room, planned_page}
 use Rattle.mlt_split.specs.Rests.{Aim, IsAtRest, held_page, seed_of}
 use Rattle.mlt_split.specs.Splits.{HasHalves, IsUnderWay, MayBegin, SplitFields, directory_steps, steps_left}
 use Rattle.mlt_split.proofs.Beginning.{rest_bucket, rest_is_shallow, rest_is_small}
@@ -37,7 +37,7 @@ use Rattle.mlt_split.proofs.Closing.{HasClean}
 use Rattle.mlt_split.proofs.Few.{rest_holds_few}
 use Rattle.mlt_split.proofs.HeldPages.{not_made}
 use Rattle.mlt_hash.specs.Walks.{Basis, HasPassed, IsAdding, IsChanged, IsSplitting, IsStanding, Stands, WalkFields, aim_of}
-use Rattle.mlt_hash.specs.Changes.{Makes, page_of, PlansSlot}
+use Rattle.mlt_hash.specs.Changes.{Makes, PlansSlot, PutsLowest, page_of}
 use Rattle.mlt_hash.specs.Splitting.{BeginsSplit, HasToSplit, TellsOfAdding, TellsOfPut}
 use Rattle.mlt_hash.specs.declared.answer.WalkAnswer.{WalkAnswer}
 use Rattle.mlt_hash.specs.declared.answer.WalkAnswer.TheVariants as answer
@@ -216,9 +216,26 @@ module _ (basis : Basis) (walk after : WalkFields) (old new : Moment) (value n r
         stands = subst (λ (w : WalkFields). Stands w.phase basis w (view_of new)) (sym now) changed;
       }
 
+  puts_lowest : WritesHeldSlot old new write.number write.at write.slot → PutsLowest basis (view_of old) (view_of new) walk n value
+  puts_lowest writes =
+      let on : write.number ≡ n = ap (λ (w : WriteFields). w.number) plan.written in
+      let page = planned_page adds.fields write in
+      record {
+        bucket = adds.fields;
+        reads = subst (λ q. ReadsHeldBucket (view_of old) q adds.fields) on reads;
+        write = write;
+        first = plan;
+        writes = subst (λ q. WritesPage (view_of old) (view_of new) q page) on (write_writes old new write.number page (writes adds.fields reads));
+      }
+
   -- **What the record that is put tells.**
   pub put_tells : (told : WalkAnswer) → TellsOfPut old new walk after write value told → TellsOfAdding basis old new walk after value n room_depth told
-  put_tells answer.Changed tells = (phase, put_makes tells.0 tells.1, inr (page_with_slot adds.fields write.at write.slot, subst (λ q. WritesHeldPage old new q (page_with_slot adds.fields write.at write.slot)) (ap (λ (w : WriteFields). w.number) plan.written) (tells.0 adds.fields reads)))
+  put_tells answer.Changed tells = (
+    phase,
+    put_makes tells.0 tells.1,
+    inr (page_with_slot adds.fields write.at write.slot, subst (λ q. WritesHeldPage old new q (page_with_slot adds.fields write.at write.slot)) (ap (λ (w : WriteFields). w.number) plan.written) (tells.0 adds.fields reads)),
+    puts_lowest tells.0,
+  )
   put_tells (answer.Refused reason) tells = subst (λ r. TellsOfAdding basis old new walk after value n room_depth (answer.Refused r)) (sym tells.0) refl
   put_tells answer.Going tells = absurd tells
   put_tells (answer.Waiting page by) tells = absurd tells

@@ -4,14 +4,16 @@ use Rattle.std.specs.List.{list_all}
 use Rattle.mlt_types.specs.declared.mode.Mode.TheVariants.{Exclusive}
 use Rattle.mlt_types.specs.declared.refusal.Refusal.TheVariants as refusal
 use Rattle.mlt_page.specs.Slots.{is_ghost_of, is_kept}
+use Rattle.mlt_page.specs.declared.slot.Slot.{Slot}
+use Rattle.mlt_page.specs.declared.slot.Slot.TheVariants.{Live}
 use Rattle.mlt_page.specs.declared.page.Page.{Page}
 use Rattle.mlt_page.specs.declared.page.Page.TheVariants as page
 use Rattle.mlt_page.specs.Values.{BucketFields}
 use Rattle.mlt_hash_form.specs.Room.{is_crowded}
 use Rattle.mlt_held.specs.Moments.{Moment}
 use Rattle.mlt_held.specs.PageSteps.{WritesHeldPage}
-use Rattle.mlt_held.specs.Views.{ReadsHeldBucket, View, view_of}
-use Rattle.mlt_record.specs.Plans.{WriteFields}
+use Rattle.mlt_held.specs.Views.{ReadsHeldBucket, View, WritesPage, view_of}
+use Rattle.mlt_record.specs.Plans.{SetsFirst, WriteFields, has_room, planned_page}
 use Rattle.mlt_hash.specs.Passes.{HasRoomFrom, IsNextPass, NeverHasRoom}
 use Rattle.mlt_hash.specs.Walks.{Basis, IsStanding, MayWalk, WalkFields}
 use Rattle.mlt_hash.specs.Steps.{IsSameWalk}
@@ -76,6 +78,29 @@ pub record PlansSlot (view : View) (write : WriteFields) : Type 0 where
 abbrev pub WritesIfChanged : Moment → Moment → ℕ → WalkAnswer → Type 0
 WritesIfChanged old new q answer.Changed = (page : Page) × WritesHeldPage old new q page
 WritesIfChanged old new q other = new ≡ old
+
+-- The bucket on page q is written: s stands in the place of its first slot that has the property.
+pub record FillsFirst (old new : View) (q : ℕ) (has : Slot → Bool) (s : Slot) : Type 0 where
+  pub bucket : BucketFields
+  pub reads : ReadsHeldBucket old q bucket
+  pub write : WriteFields
+  pub first : SetsFirst q bucket has s write
+  pub writes : WritesPage old new q (planned_page bucket write)
+
+-- a record of the walk's key stands in the place of the first ghost of it that transaction tx left in the bucket
+abbrev pub RevivesFirst : ℕ → View → View → WalkFields → ℕ → ℕ → Type 0
+RevivesFirst tx old new walk q value = FillsFirst old new q (is_ghost_of walk.key tx) (Live walk.key value)
+
+-- It stands in the lowest slot with room: one that is free, or has a ghost whose owner is not open.
+abbrev pub PutsLowest : Basis → View → View → WalkFields → ℕ → ℕ → Type 0
+PutsLowest basis old new walk q value = FillsFirst old new q (has_room basis.opens) (Live walk.key value)
+
+-- which slot an addition takes: that of the transaction's own ghost; where it left none, the lowest with room
+abbrev pub TakesSlot : WalkAnswer → Basis → View → View → WalkFields → ℕ → Type 0
+TakesSlot answer.Changed basis old new walk value =
+    RevivesFirst basis.tx old new walk (page_of walk.phase) value
+    ⊎ ((HasOwnGhost basis.tx walk old → ⊥) × PutsLowest basis old new walk (page_of walk.phase) value)
+TakesSlot other basis old new walk value = Unit {0}
 
 -- the change is made
 pub record Makes (basis : Basis) (new : Moment) (before after : WalkFields) (done : Change) : Type 0 where

@@ -41,12 +41,12 @@ directory_held pass root dir = with_page (header_held pass root) dir (directory_
 abbrev pub bucket_held : Pass → Mode → ℕ → ℕ → ℕ → Modes
 bucket_held pass mode root dir bucket = with_page (directory_held pass root dir) bucket (bucket_mode pass mode)
 
--- which other pages a pass may hold, by what the clean pages have of each: a first pass none, a narrow pass those that it
--- made, and a wide one any
-abbrev pub MayHoldMore : Pass → Option (Option Page) → Type 0
-MayHoldMore First seen = ⊥
-MayHoldMore Narrow seen = seen ≡ Some None
-MayHoldMore Wide seen = Unit {0}
+-- which other pages a pass may hold, by what the clean pages have of each and whether the pass has written or made it: a first
+-- pass none, a narrow pass those that it made, and a wide one those that it wrote or made
+abbrev pub MayHoldMore : Pass → Option (Option Page) → Bool → Type 0
+MayHoldMore First seen written = ⊥
+MayHoldMore Narrow seen written = (seen ≡ Some None) × (written ≡ true)
+MayHoldMore Wide seen written = written ≡ true
 
 -- of a bucket of depth l: the least depth up to `most` at which it has room, where `crowded` says at which depths it has
 -- none; and l where it has none at all

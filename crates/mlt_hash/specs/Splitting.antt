@@ -19,7 +19,7 @@ use Rattle.mlt_split.specs.Steps.{IsDone, IsLeft, IsMaking, IsNextPage}
 use Rattle.mlt_split.specs.Tells.{Rests}
 use Rattle.mlt_hash.specs.Walks.{Basis, IsStanding, WalkFields, aim_of}
 use Rattle.mlt_hash.specs.Steps.{IsSameWalk, TellsOfPath}
-use Rattle.mlt_hash.specs.Changes.{Makes}
+use Rattle.mlt_hash.specs.Changes.{Makes, PutsLowest}
 use Rattle.mlt_hash.specs.declared.pass.Phase.{Phase}
 use Rattle.mlt_hash.specs.declared.pass.Phase.TheVariants as at
 use Rattle.mlt_hash.specs.declared.pass.Change.TheVariants as change
@@ -85,10 +85,11 @@ TellsOfPut old new before after write value answer.Changed = WritesHeldSlot old 
 TellsOfPut old new before after write value (answer.Refused reason) = (reason ≡ refusal.OutOfMemory) × (new ≡ old) × (after ≡ before)
 TellsOfPut old new before after write value other = ⊥
 
--- a step of a walk whose bucket had no room: it puts the record where there is room now, but splits once at least
+-- a step of a walk whose bucket had no room: it puts the record where there is room now, into the lowest slot, but splits once
+-- at least
 abbrev pub TellsOfAdding : Basis → Moment → Moment → WalkFields → WalkFields → ℕ → ℕ → ℕ → WalkAnswer → Type 0
 TellsOfAdding basis old new before after value bucket room_depth answer.Going = BeginsSplit basis old new before after value bucket room_depth
-TellsOfAdding basis old new before after value bucket room_depth answer.Changed = (before.phase ≡ at.Adding value bucket room_depth false) × Makes basis new before after (change.Put value) × WritesAtMost old new bucket
+TellsOfAdding basis old new before after value bucket room_depth answer.Changed = (before.phase ≡ at.Adding value bucket room_depth false) × Makes basis new before after (change.Put value) × WritesAtMost old new bucket × PutsLowest basis (view_of old) (view_of new) before bucket value
 TellsOfAdding basis old new before after value bucket room_depth (answer.Refused refusal.NoRoom) = HasToSplit basis old before value bucket room_depth × (map.len old.store.pages ≡ old.store.max_pages)
 TellsOfAdding basis old new before after value bucket room_depth (answer.Refused reason) = reason ≡ refusal.OutOfMemory
 TellsOfAdding basis old new before after value bucket room_depth other = ⊥

@@ -107,13 +107,13 @@ pub record IsAtBucket (basis : Basis) (walk : WalkFields) (view : View) (bucket 
   pub found_is : found ≡ value_in walk.key fields.slots
 
 -- Which pages a walk holds from its bucket's step on, and in which modes: those that it locked on its way, in the modes of
--- its pass, and each other page exclusively, of those that its pass may hold.
+-- its pass, and each other page exclusively that it has written or made, as its pass may.
 pub record HoldsByPass (walk : WalkFields) (root dir bucket : ℕ) (view : View) : Type 0 where
   pub on_header : map.get view.modes root ≡ Some (header_mode walk.pass)
   pub on_dir : map.get view.modes dir ≡ Some (directory_mode walk.pass)
   pub on_bucket : map.get view.modes bucket ≡ Some (bucket_mode walk.pass walk.mode)
   pub others : (q : ℕ) → q ≢ root → q ≢ dir → q ≢ bucket → is_some (map.get view.modes q) ≡ true
-      → (map.get view.modes q ≡ Some Exclusive) × MayHoldMore walk.pass (view.seen q)
+      → (map.get view.modes q ≡ Some Exclusive) × MayHoldMore walk.pass (view.seen q) (is_some (view.own q))
 
 -- What a walk has read on its way to its bucket, which stays on the clean pages up to the walk's end: the header, the
 -- key's page of the directory, and the bucket, with what it has of the key. These pages are held.

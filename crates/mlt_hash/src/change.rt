@@ -8,7 +8,7 @@ ghost use Rattle.mlt_held.specs.PageSteps.{Leaves};
 ghost use Rattle.mlt_held.specs.Views.{WritesSlot, view_of};
 ghost use Rattle.mlt_hash.specs.Walks.{Basis, IsUnwritten, basis_by};
 ghost use Rattle.mlt_hash.specs.declared.pass.Change.TheVariants as change;
-ghost use Rattle.mlt_hash.specs.Changes.{HasOwnGhost, IsAtAbsent, IsAtBucketPhase, IsAtRecord, IsFull, MayChange, MayChangeBy, PlansSlot, SeesBucket, TellsOfAddition, TellsOfChange, WritesIfChanged, page_of};
+ghost use Rattle.mlt_hash.specs.Changes.{HasOwnGhost, IsAtAbsent, IsAtBucketPhase, IsAtRecord, IsFull, MayChange, MayChangeBy, PlansSlot, RevivesFirst, SeesBucket, TakesSlot, TellsOfAddition, TellsOfChange, WritesIfChanged, page_of};
 
 use crate::answer::WalkAnswer;
 use crate::pass::{Change, Pass, Phase};
@@ -41,6 +41,9 @@ impl Walk {
         ensures leaves { Leaves (moment subtx.old pages.old) (moment subtx.new pages.new) }
         ensures tells { TellsOfAddition (basis_by P.bits_of root.now opens.now subtx.old.tx)
             (moment subtx.new pages.new) self.old self.new value result }
+        ensures slot { TakesSlot result (basis_by P.bits_of root.now opens.now subtx.old.tx)
+            (view_of (moment subtx.old pages.old)) (view_of (moment subtx.new pages.new))
+            self.old value }
     {
         let (number, bucket) = held_bucket(self, subtx, pages);
         if let Some(write) = mlt_record::revive(number, bucket, self.key, subtx.tx(), value) {
@@ -90,7 +93,7 @@ impl Walk {
         write_change(self, write, Change::Remove, subtx, pages)
     }
 
-    /// Makes the ghost that the transaction left of the walk's key a record again. It takes no memory.
+    /// Makes the ghost that the transaction left of the walk's key a record again, the first one. It takes no memory.
     pub fn revive(&mut self, value: Value, subtx: &mut Subtx, pages: &mut LockedStore) -> WalkAnswer
         requires ready { MayChangeBy subtx.old.tx (moment subtx.old pages.old) self.old }
         requires found { IsAtAbsent self.old.phase }
@@ -103,6 +106,9 @@ impl Walk {
             → MayChange basis (moment subtx.old pages.old) self.old
             → TellsOfChange basis (moment subtx.new pages.new) self.old
             self.new (change.Revive value) result }
+        ensures slot { RevivesFirst subtx.old.tx
+            (view_of (moment subtx.old pages.old)) (view_of (moment subtx.new pages.new))
+            self.old (page_of self.old.phase) value }
     {
         let (number, bucket) = held_bucket(self, subtx, pages);
         let Some(write) = mlt_record::revive(number, bucket, self.key, subtx.tx(), value) else {

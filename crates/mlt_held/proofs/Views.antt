@@ -256,3 +256,23 @@ makes_made m q page may fresh =
 -- **A page that is made was not in the view, and then is the transaction's own.**
 pub make_makes : (old new : Moment) (q : ℕ) (page : Page) → MayStep old → MakesLockedPage old new q page → MakesPage (view_of old) (view_of new) q page
 make_makes old new q page may step = subst (λ (m : Moment). MakesPage (view_of old) (view_of m) q page) (sym (is_made old new q page step)) (makes_made old q page may step.fresh)
+
+-- a page has an image exactly when the view has it as written
+written_has_image : (b : Bool) (image : Option (Option Page)) (page : Option Page) → is_some (cond b (page_written image page) None) ≡ true → is_some image ≡ true
+written_has_image true None page written = absurd (false≢true written)
+written_has_image true (Some first) page written = refl
+written_has_image false image page written = absurd (false≢true written)
+
+pub own_has_image : (m : Moment) (q : ℕ) → is_some ((view_of m).own q) ≡ true → is_some (image_of m.running.images q) ≡ true
+own_has_image m q written = written_has_image (can_read m.locks m.running.tx q) (image_of m.running.images q) (page_at m.store.pages q) written
+
+image_is_written : (image : Option (Option Page)) (page : Option Page) → is_some image ≡ true → is_some page ≡ true → is_some (page_written image page) ≡ true
+image_is_written None page image there = absurd (false≢true image)
+image_is_written (Some first) page image there = there
+
+pub image_is_own : (m : Moment) (q : ℕ) → MayStep m → is_some (image_of m.running.images q) ≡ true → is_some ((view_of m).own q) ≡ true
+image_is_own m q may image = ap is_some (own_held m q (image_is_held m q may image)) ∙ image_is_written (image_of m.running.images q) (page_at m.store.pages q) image (may.images_there q image)
+
+-- **What a transaction has written or made it holds exclusively.**
+pub written_is_exclusive : (m : Moment) (q : ℕ) → MayStep m → is_some ((view_of m).own q) ≡ true → map.get (view_of m).modes q ≡ Some Exclusive
+written_is_exclusive m q may written = holds_exclusively m q (may.images_locked q (own_has_image m q written))

@@ -8,4 +8,6 @@ mod view_laws;
 
 pub use locked_store::LockedStore;
 pub use pages::{lock, make_page, read_held, write_held, write_slot};
-pub use view_laws::{own_steps_see_more, view_agrees_with_clean_pages};
+pub use view_laws::{
+    own_steps_see_more, view_agrees_with_clean_pages, written_pages_are_held_exclusively,
+};

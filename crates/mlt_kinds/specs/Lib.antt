@@ -1,6 +1,5 @@
 pub mod AccountLaws
 pub mod Accounts
-pub mod BaseLaws
 pub mod Bases
 pub mod Cells
 pub mod CounterLaws
@@ -8,4 +7,5 @@ pub mod Counters
 pub mod ElementLaws
 pub mod Elements
 pub mod Operations
+pub mod Passing
 pub mod Texts

@@ -1,10 +1,10 @@
 //! Laws of the steps of whole bases. Each is the contract of a function that does nothing.
 
 ghost use Rattle.std.specs.Prelude.{◌≡◌, ◌≢◌, ◌≤◌, length};
-ghost use Rattle.mlt_kinds.specs.BaseLaws.{Passes, PassesOnCell};
 ghost use Rattle.mlt_kinds.specs.Bases.{Base, state_at, Step, with_state};
 ghost use Rattle.mlt_kinds.specs.Cells.{CellState, CellStep};
 ghost use Rattle.mlt_kinds.specs.Operations.{cell_of, cells_of};
+ghost use Rattle.mlt_kinds.specs.Passing.{Passes, PassesOnCell};
 ghost use Rattle.mlt_kinds.specs.declared.operation.ObjReply.{ObjReply};
 ghost use Rattle.mlt_kinds.specs.declared.operation.ObjOp.{ObjOp};
 ghost use Rattle.mlt_types.specs.declared.cell.Cell.{Cell};

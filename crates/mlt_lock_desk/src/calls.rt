@@ -7,6 +7,7 @@ use crate::gate::Gate;
 use crate::lock_desk::{LockDesk, Tries};
 use crate::shared::Shared;
 use crate::turn::{Turn, awaited_by};
+use mlt_cursor::Answering;
 use mlt_desk::Desk;
 use mlt_event::{Answer, Event, Told};
 use mlt_kinds::{ObjOp, ObjReply};
@@ -195,12 +196,28 @@ impl<'a, P: Pseudo, L: Ledger, R: Wait, G: Gate> LockDesk<'a, P, L, R, G> {
     }
 }
 
-impl<'a, P: Pseudo, L: Ledger, R: Wait, G: Gate> Desk for LockDesk<'a, P, L, R, G> {
-    ghost use Rattle.mlt_lock_desk.specs.Holds.{MayAnswerBegin, MayAnswerCommit, MayAnswerOperation};
-
-    ghost begins = { λ _ answer _. MayAnswerBegin P.bits_of answer };
+impl<'a, P: Pseudo, L: Ledger, R: Wait, G: Gate> Answering for LockDesk<'a, P, L, R, G> {
+    ghost use Rattle.mlt_lock_desk.specs.Holds.{MayAnswerOperation};
 
     ghost answers = { λ _ tx _ answer _. MayAnswerOperation P.bits_of tx answer };
+
+    fn operation(&mut self, tx: TxId, op: ObjOp) -> Result<ObjReply, Refusal> {
+        if let Tries::PerOperation(tries) = self.tries {
+            self.left = tries;
+        }
+        let told = self.hold(Event::Call(tx, op));
+        match told {
+            Told::Called => self.steps(tx),
+            Told::Refused(refusal) => Err(refusal),
+            _ => unreachable!(),
+        }
+    }
+}
+
+impl<'a, P: Pseudo, L: Ledger, R: Wait, G: Gate> Desk for LockDesk<'a, P, L, R, G> {
+    ghost use Rattle.mlt_lock_desk.specs.Holds.{MayAnswerBegin, MayAnswerCommit};
+
+    ghost begins = { λ _ answer _. MayAnswerBegin P.bits_of answer };
 
     ghost commits = { λ _ tx answer _. MayAnswerCommit P.bits_of tx answer };
 
@@ -213,18 +230,6 @@ impl<'a, P: Pseudo, L: Ledger, R: Wait, G: Gate> Desk for LockDesk<'a, P, L, R, 
         let told = self.hold(Event::Begin);
         match told {
             Told::Begun(tx) => Ok(tx),
-            Told::Refused(refusal) => Err(refusal),
-            _ => unreachable!(),
-        }
-    }
-
-    fn operation(&mut self, tx: TxId, op: ObjOp) -> Result<ObjReply, Refusal> {
-        if let Tries::PerOperation(tries) = self.tries {
-            self.left = tries;
-        }
-        let told = self.hold(Event::Call(tx, op));
-        match told {
-            Told::Called => self.steps(tx),
             Told::Refused(refusal) => Err(refusal),
             _ => unreachable!(),
         }

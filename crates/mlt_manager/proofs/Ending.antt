@@ -21,6 +21,7 @@ ended_at m m' commits' tx item e = record {
   idle = e.idle;
   pages = e.pages;
   held = e.held;
+  unreserved = e.unreserved;
   reserved = e.reserved;
   items = e.items;
   room = e.room;

@@ -26,7 +26,7 @@ use Rattle.mlt_traced.specs.Traced.{IsCommittedBase}
 use Rattle.mlt_traced.proofs.CommittedBases.{only_base, with_base}
 use Rattle.mlt_manager.specs.Managers.{IsManager, ManagerFields, state_of}
 use Rattle.mlt_manager.specs.Promises.{IsCommittedBaseOf, KeepsPromises, PassesTheChecker, lists_by}
-use Rattle.mlt_manager.proofs.PassLocks.{pass_locks}
+use Rattle.mlt_manager.proofs.PassLocks.{pass_locks, written_locks}
 use Rattle.mlt_manager.proofs.Stepped.{same_base}
 
 module _ {P : Type 0} (bits_of : P → ℕ → ℕ) (m : ManagerFields P) (h : IsManager bits_of m) where
@@ -40,7 +40,15 @@ module _ {P : Type 0} (bits_of : P → ℕ → ℕ) (m : ManagerFields P) (h : I
     serial = serializable m.commons.history.items h.base h.sound.match.history;
     file = has_file (bits_of m.root.pseudo) m.opens (map.get (clean_pages h.images m.commons.pages.store.pages)) m.root.page h.sound.match.bounded h.sound.match.form;
     ghosts = kept_by_match (ledger_of (world_of (state_of bits_of m h.images h.base))) h.sound.match.ghosts;
-    locks = λ i. pass_locks (state_of bits_of m h.images h.base) i h.sound;
+    locks = λ i. record { of_pass = pass_locks (state_of bits_of m h.images h.base) i h.sound; written = written_locks (state_of bits_of m h.images h.base) i h.sound };
+    books = record {
+      in_table = h.sound.opened;
+      in_history = h.sound.match.running;
+      number = λ i one there. (h.sound.fits i one there).number;
+      undo = λ i one there. (h.sound.fits i one there).stands;
+      held = h.sound.held;
+      page_locks = h.sound.running.compatible;
+    };
     begun = h.sound.begun;
     commits = h.sound.commits;
   }

@@ -6,6 +6,7 @@ use Rattle.mlt_page.specs.declared.page.Page.{Page}
 use Rattle.mlt_kinds.specs.Bases.{Base, Step}
 use Rattle.mlt_kinds.specs.declared.operation.ObjOp.{ObjOp}
 use Rattle.mlt_kinds.specs.declared.operation.ObjReply.{ObjReply}
+use Rattle.mlt_object_locks.specs.Locks.{IsLowestClash}
 use Rattle.mlt_trace.specs.declared.item.TraceItem.{TraceItem}
 use Rattle.mlt_trace.specs.declared.item.TraceItem.TheVariants as trace
 use Rattle.mlt_running.specs.CleanPages.{RunningImages, clean_pages}
@@ -133,7 +134,10 @@ module _ {P : Type 0} (bits_of : P → ℕ → ℕ) (m : ManagerFields P) (h : I
               (ends.op, ends.reply),
               record {
                 pending = asked_here o ends.op pending_at ends.asked;
-                steps = λ base leads. (there.0, subst (λ (b : Base). Step b (ends.op, ends.reply) there.0) (sym (same_base base leads)) there.1);
+                blocked = record {
+                  steps = λ base leads. (there.0, subst (λ (b : Base). Step b (ends.op, ends.reply) there.0) (sym (same_base base leads)) there.1);
+                  lowest = subst (λ (n : ℕ). IsLowestClash m.commons.objects.held n (ends.op, ends.reply) by) (h.sound.fits tx before was).number ends.tells.lowest;
+                };
               },
             ),
           ),

@@ -7,6 +7,8 @@ use Rattle.mlt_kinds.specs.Bases.{Base, Step, empty_base}
 use Rattle.mlt_order.specs.Histories.{IsHistory}
 use Rattle.mlt_history.specs.Entries.{entries_of}
 use Rattle.mlt_kinds.specs.declared.operation.ObjOp.{ObjOp}
+use Rattle.mlt_kinds.specs.declared.operation.ObjReply.{ObjReply}
+use Rattle.mlt_object_locks.specs.Locks.{Held, IsLowestClash}
 use Rattle.mlt_trace.specs.declared.item.TraceItem.{TraceItem}
 use Rattle.mlt_trace.specs.declared.item.TraceItem.TheVariants as trace
 use Rattle.mlt_subtx.specs.Images.{Running}
@@ -27,7 +29,7 @@ use Rattle.mlt_open.specs.Tables.{Table}
 use Rattle.mlt_invariant.specs.States.{images_kept}
 use Rattle.mlt_invariant.proofs.Tables.{inserted_elsewhere, inserted_here}
 use Rattle.mlt_manager.specs.Answers.{AnswersCancel, HasCalled, HasStepped, IsOpenAt}
-use Rattle.mlt_manager.specs.Bases.{AddsStep, HasBase, IsPendingWith, KeepsWhatCounts, LeavesBase, WholeLeavesBase}
+use Rattle.mlt_manager.specs.Bases.{AddsStep, HasBase, IsBlockedBy, IsPendingWith, KeepsWhatCounts, LeavesBase, WholeLeavesBase}
 use Rattle.mlt_manager.specs.Chains.{StepsBy}
 use Rattle.mlt_manager.specs.Managers.{IsManager, ManagerFields}
 use Rattle.mlt_manager.specs.Wholes.{AnswersWhole, DropsIfItStands, GoesOn, HasRun, Stops}
@@ -143,6 +145,13 @@ same_asked txs tx op other a b = both b.one.at (subst (λ (t : Transaction). IsP
     both (at.Undoing inverting) none also = absurd none
 
 module _ {P : Type 0} (bits_of : P → ℕ → ℕ) (m m' : ManagerFields P) (tx : ℕ) (op : ObjOp) (h : IsManager bits_of m) where
+  -- what is blocked after steps that change nothing that counts would have been before them
+  blocked_still : (before : ManagerFields P) (by : ℕ) (reply : ObjReply) → KeepsWhatCounts m before → IsBlockedBy before tx (op, reply) by → IsBlockedBy m tx (op, reply) by
+  blocked_still before by reply keeps b = record {
+    steps = λ base leads. b.steps base (base_by m before keeps.items base leads);
+    lowest = subst (λ (held : List Held). IsLowestClash held tx (op, reply) by) keeps.held b.lowest;
+  }
+
   -- up to the step that stops nothing that counts has changed; and this is what it leaves
   by_told : (told : Answer) (before stopped : ManagerFields P) → KeepsWhatCounts m before → IsOpenAt before.txs tx (IsPendingWith op) → IsManager bits_of stopped → LeavesBase told before stopped tx → Stops told → DropsIfItStands told stopped m' tx
       → WholeLeavesBase told m m' tx op
@@ -155,10 +164,7 @@ module _ {P : Type 0} (bits_of : P → ℕ → ℕ) (m m' : ManagerFields P) (tx
       }
   by_told (answer.Blocked by) before stopped keeps asked hs (stays, found) stops drops = (
     then_keeps m stopped m' (then_keeps m before stopped keeps stays) (cancelled_keeps bits_of stopped hs tx m' drops.rest drops.pending drops.cancels).1,
-    (
-      found.0.1,
-      λ base leads. subst (λ (o : ObjOp). (next : Base) × Step base (o, found.0.1) next) (same_asked before.txs tx op found.0.0 asked found.1.pending) (found.1.steps base (base_by m before keeps.items base leads)),
-    ),
+    (found.0.1, blocked_still before by found.0.1 keeps (subst (λ (o : ObjOp). IsBlockedBy before tx (o, found.0.1) by) (same_asked before.txs tx op found.0.0 asked found.1.pending) found.1.blocked)),
   )
   by_told (answer.Waiting page by) before stopped keeps asked hs stays stops drops =
       then_keeps m stopped m' (then_keeps m before stopped keeps stays) (cancelled_keeps bits_of stopped hs tx m' drops.rest drops.pending drops.cancels).1

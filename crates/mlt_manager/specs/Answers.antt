@@ -7,7 +7,7 @@ use Rattle.std.specs.List.{filter}
 use Rattle.mlt_types.specs.declared.refusal.Refusal.{Refusal}
 use Rattle.mlt_types.specs.declared.refusal.Refusal.TheVariants as refusal
 use Rattle.mlt_kinds.specs.declared.operation.ObjOp.{ObjOp}
-use Rattle.mlt_object_locks.specs.Locks.{SameReservations, is_of_other}
+use Rattle.mlt_object_locks.specs.Locks.{SameReservations, is_of_other, reservation_of}
 use Rattle.mlt_subtx.specs.Images.{started}
 use Rattle.mlt_trace.specs.declared.item.TraceItem.{TraceItem}
 use Rattle.mlt_trace.specs.declared.item.TraceItem.TheVariants as trace
@@ -191,6 +191,7 @@ pub record HasEnded {P : Type 0} (old new : ManagerFields P) (tx : ℕ) (item : 
   pub idle : one.at ≡ at.Idle
   pub pages : new.commons.pages ≡ old.commons.pages
   pub held : new.commons.objects.held ≡ filter (is_of_other tx) old.commons.objects.held
+  pub unreserved : reservation_of new.commons.objects.reserved tx ≡ None
   pub reserved : SameReservations old.commons.objects.reserved new.commons.objects.reserved tx
   pub items : new.commons.history.items ≡ old.commons.history.items ++ item ∷ []
   pub room : new.commons.history.room + (1 + length one.undo.entries) ≡ old.commons.history.room

@@ -10,6 +10,7 @@ use Rattle.mlt_kinds.specs.declared.operation.ObjReply.{ObjReply}
 use Rattle.mlt_order.specs.Histories.{IsHistory}
 use Rattle.mlt_order.specs.Runs.{Runs}
 use Rattle.mlt_history.specs.Entries.{entries_of}
+use Rattle.mlt_object_locks.specs.Locks.{IsLowestClash}
 use Rattle.mlt_trace.specs.declared.item.TraceItem.{TraceItem}
 use Rattle.mlt_hash_form.specs.File.{depth_of, header_of}
 use Rattle.mlt_trace.specs.declared.item.TraceItem.TheVariants as trace
@@ -61,11 +62,17 @@ abbrev pub IsPendingWith : ObjOp → At → Type 0
 IsPendingWith op (at.Pending o) = o.request ≡ Do op
 IsPendingWith op other = ⊥
 
--- the pending operation is a step of the base with this reply
-pub record IsStepOfBase {P : Type 0} (m : ManagerFields P) (tx : ℕ) (item : ObjOp × ObjReply)
-    : Type 0 where
-  pub pending : IsOpenAt m.txs tx (IsPendingWith item.0)
+-- the item would be a step of the base, and clashes with what another transaction holds: this is the lowest such one
+pub record IsBlockedBy {P : Type 0} (m : ManagerFields P) (tx : ℕ) (item : ObjOp × ObjReply)
+    (by : ℕ) : Type 0 where
   pub steps : (base : Base) → HasBase m base → (next : Base) × Step base item next
+  pub lowest : IsLowestClash m.commons.objects.held tx item by
+
+-- the pending operation, with this reply, is blocked
+pub record BlocksPending {P : Type 0} (m : ManagerFields P) (tx : ℕ) (item : ObjOp × ObjReply)
+    (by : ℕ) : Type 0 where
+  pub pending : IsOpenAt m.txs tx (IsPendingWith item.0)
+  pub blocked : IsBlockedBy m tx item by
 
 -- the base has made this step, and the history has it
 pub record AddsStep {P : Type 0} (old new : ManagerFields P) (tx : ℕ) (item : ObjOp × ObjReply)
@@ -97,7 +104,7 @@ pub record TakesStepBack {P : Type 0} (old new : ManagerFields P) (tx : ℕ)
 abbrev pub LeavesBase : {P : Type 0} → Answer → ManagerFields P → ManagerFields P → ℕ → Type 0
 LeavesBase (answer.Done reply) old new tx = (op : ObjOp) × MakesStep old new tx (op, reply)
 LeavesBase (answer.Blocked by) old new tx =
-    KeepsWhatCounts old new × ((item : ObjOp × ObjReply) × IsStepOfBase old tx item)
+    KeepsWhatCounts old new × ((item : ObjOp × ObjReply) × BlocksPending old tx item by)
 LeavesBase answer.Undone old new tx =
     (left : List (ObjOp × ObjReply)) × (last : ObjOp × ObjReply)
     × TakesStepBack old new tx left last (trace.Back tx ∷ [])
@@ -106,16 +113,12 @@ LeavesBase answer.Aborted old new tx =
     × TakesStepBack old new tx [] last (trace.Back tx ∷ trace.Abort tx ∷ [])
 LeavesBase other old new tx = KeepsWhatCounts old new
 
--- an operation would be a step of the base, with some reply
-abbrev pub MayBeStep : {P : Type 0} → ManagerFields P → ObjOp → Type 0
-MayBeStep m op = (reply : ObjReply) × ((base : Base) → HasBase m base
-    → (next : Base) × Step base (op, reply) next)
-
 -- what a whole operation that was told this does to them
 abbrev pub WholeLeavesBase : {P : Type 0} → Answer → ManagerFields P → ManagerFields P → ℕ → ObjOp
     → Type 0
 WholeLeavesBase (answer.Done reply) old new tx op = AddsStep old new tx (op, reply)
-WholeLeavesBase (answer.Blocked by) old new tx op = KeepsWhatCounts old new × MayBeStep old op
+WholeLeavesBase (answer.Blocked by) old new tx op =
+    KeepsWhatCounts old new × ((reply : ObjReply) × IsBlockedBy old tx (op, reply) by)
 WholeLeavesBase other old new tx op = KeepsWhatCounts old new
 
 -- The last operations of the transaction are taken back, one after another: the base is one from which they lead to what it

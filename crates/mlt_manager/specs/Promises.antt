@@ -1,23 +1,27 @@
 -- What is promised of a manager between any two events
-use Rattle.std.specs.Prelude.{ℕ}
+use Rattle.std.specs.Prelude.{ℕ, ◌≡◌, ◌↔◌, true, Some, is_some}
 use Rattle.std.specs.Ordering.{nat_cmp}
 use Rattle.std.specs.FinMap as map
+use Rattle.std.specs.FinSet as set
 use Rattle.mlt_page.specs.declared.page.Page.{Page}
 use Rattle.mlt_kinds.specs.Bases.{Base, Step, empty_base}
 use Rattle.mlt_kinds.specs.declared.operation.ObjOp.{ObjOp}
 use Rattle.mlt_kinds.specs.declared.operation.ObjReply.{ObjReply}
 use Rattle.mlt_base.specs.Meaning.{Means}
 use Rattle.mlt_order.specs.Histories.{IsCommitOrderSerializable, Lists, lists_of}
-use Rattle.mlt_order.specs.Interleavings.{UndoneTo}
+use Rattle.mlt_order.specs.Histories.Stage.{Running}
+use Rattle.mlt_order.specs.Interleavings.{UndoneTo, items_of}
 use Rattle.mlt_order.specs.Runs.{IsSerialBase}
 use Rattle.mlt_history.specs.Entries.{entries_of}
 use Rattle.mlt_history.specs.Numbers.{AreBegunInOrder, AreCounted, committed_txs}
+use Rattle.mlt_page_locks.specs.LockTables.{AreCompatible}
 use Rattle.mlt_hash_form.specs.Prefixes.{IsExtendibleHashFile}
 use Rattle.mlt_hash_form.specs.Records.{live_records}
 use Rattle.mlt_ghosts.specs.Ghosts.{GhostsAreKept}
 use Rattle.mlt_ghosts.specs.Ledgers.{Ledger}
 use Rattle.mlt_trace.specs.Items.{trace_text}
 use Rattle.mlt_check.specs.Traces.{IsAcceptedTrace}
+use Rattle.mlt_transaction.specs.declared.transaction.Transaction.{Transaction}
 use Rattle.mlt_meeting.specs.Presences.{standing_of}
 use Rattle.mlt_invariant.specs.States.{undoing_of}
 use Rattle.mlt_manager.specs.Bases.{HasBase, HasCleanPages}
@@ -41,10 +45,23 @@ ledger_by bits_of m clean = record {
   standing = standing_of (lists_by m).transcripts;
 }
 
+-- Open are just those in the table, and just those that the history has begun and not ended. Each has its number, and its
+-- undo list has what the history says that stands of it. Its object locks are all that the history says it did, taken back
+-- or not, and nobody else holds any. Page locks of two transactions go with each other.
+pub record KeepsBooks {P : Type 0} (m : ManagerFields P) : Type 0 where
+  pub in_table : (i : ℕ) → set.contains m.opens i ≡ is_some (map.get m.txs i)
+  pub in_history : (i : ℕ) → (set.contains m.opens i ≡ true) ↔ ((lists_by m).stage i ≡ Running)
+  pub number : (i : ℕ) (one : Transaction) → map.get m.txs i ≡ Some one → one.subtx.tx ≡ i
+  pub undo : (i : ℕ) (one : Transaction) → map.get m.txs i ≡ Some one
+      → one.undo.entries ≡ (lists_by m).transcripts i
+  pub held : (i : ℕ) → items_of i m.commons.objects.held ≡ (lists_by m).held i
+  pub page_locks : AreCompatible m.commons.pages.locks
+
 -- The committed transactions, run alone in commit order from the empty base, give exactly the replies that they were told;
 -- and the base so reached is what the clean pages mean, once the operations of open transactions are taken back. The
 -- clean pages are an extendible hash file, in which removals of open transactions have their ghosts. A running operation
--- holds the page locks of its pass, and nobody else holds any.
+-- holds the page locks of its pass, and nobody else holds any. Who is open, what may be taken back and what is held is
+-- what the history says.
 pub record KeepsPromises {P : Type 0} (bits_of : P → ℕ → ℕ) (m : ManagerFields P) : Type 0 where
   pub clean : map.FinMap nat_cmp Page
   pub is_clean : HasCleanPages m clean
@@ -54,6 +71,7 @@ pub record KeepsPromises {P : Type 0} (bits_of : P → ℕ → ℕ) (m : Manager
   pub file : IsExtendibleHashFile (bits_of m.root.pseudo) m.opens (map.get clean) m.root.page
   pub ghosts : GhostsAreKept (ledger_by bits_of m clean)
   pub locks : (i : ℕ) → HoldsLocksOfItsPass bits_of m (map.get clean) i
+  pub books : KeepsBooks m
   pub begun : AreBegunInOrder m.commons.history.items
   pub commits : AreCounted m.commons.history.items
 

@@ -10,7 +10,7 @@ use Rattle.mlt_kinds.specs.declared.operation.ObjOp.TheVariants.{Account, Elemen
 use Rattle.mlt_kinds.specs.declared.operation.ObjReply.{ObjReply}
 use Rattle.mlt_kinds.specs.declared.operation.ObjReply.TheVariants as told
 use Rattle.mlt_kinds.specs.Accounts.{AccountStep}
-use Rattle.mlt_kinds.specs.BaseLaws.{base_one_answer, step_to}
+use Rattle.mlt_kinds.proofs.BaseLaws.{base_one_answer, step_to}
 use Rattle.mlt_kinds.specs.Bases.{Base, Step, empty_base, with_state}
 use Rattle.mlt_kinds.specs.Cells.{CellState, CellStep}
 use Rattle.mlt_kinds.specs.Cells.CellState.{AccountState, ElementState, CounterState}

@@ -9,7 +9,7 @@ use Rattle.mlt_page.specs.declared.page.Page.{Page}
 use Rattle.mlt_page.specs.declared.page.Page.TheVariants as page
 use Rattle.mlt_kinds.specs.declared.operation.ObjOp.{ObjOp}
 use Rattle.mlt_kinds.specs.Bases.{with_entry}
-use Rattle.mlt_kinds.specs.BaseLaws.{entry_beside, entry_here}
+use Rattle.mlt_kinds.proofs.BaseLaws.{entry_beside, entry_here}
 use Rattle.mlt_base.specs.declared.record.RecChange.{RecChange}
 use Rattle.mlt_base.specs.declared.record.RecChange.TheVariants as rec
 use Rattle.mlt_base.specs.Records.{record_after}

@@ -14,6 +14,7 @@ use Rattle.mlt_object_locks.specs.declared.places.Grant.{Grant}
 use Rattle.mlt_object_locks.specs.declared.places.Place.{Place}
 use Rattle.mlt_object_locks.specs.Locks.{Held, HoldsClash, IsLowestIfAny}
 use Rattle.mlt_object_locks.specs.Places.{held_place, grant_of, grants_of}
+use Rattle.mlt_object_locks.specs.Noted.{KeysWithRoom}
 use Rattle.mlt_object_locks.specs.Cells.{list_at, granted_at, in_order, listed, IsSound}
 use Rattle.mlt_object_locks.proofs.Membership.{none_in_empty, contains_cases, contains_first, contains_later}
 use Rattle.mlt_object_locks.proofs.Order.{number_of, in_list}
@@ -57,7 +58,7 @@ one_key earlier requested h = by (cases_eq (key_number (cell_of earlier.0)) (key
     by (inl e) = e
     by (inr ne) = absurd (true≢false (sym h ∙ apart_do_not_clash earlier requested (λ e. ne (ap key_number e))))
 
-module _ {S S' S'' : Type 0} (cells : IndexMap ℕ (List Place) S) (reserved : IndexMap ℕ Cell S') (touched : IndexMap ℕ (List ℕ) S'') (next : ℕ) (is : IsSound cells reserved touched next) (tx : ℕ) (requested : ObjOp × ObjReply) where
+module _ {S S' S'' : Type 0} (cells : IndexMap ℕ (List Place) S) (reserved : IndexMap ℕ Cell S') (touched : IndexMap ℕ KeysWithRoom S'') (next : ℕ) (is : IsSound cells reserved touched next) (tx : ℕ) (requested : ObjOp × ObjReply) where
   abbrev All : List Held
   All = in_order (granted_at cells.entries) next
 

@@ -3,7 +3,7 @@ pub mod Lowest
 pub mod Membership
 pub mod Filled
 pub mod Released
-pub mod Noted
+pub mod Notes
 pub mod Order
 pub mod HeldCells
 pub mod Changes

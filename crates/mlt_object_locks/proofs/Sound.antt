@@ -2,9 +2,10 @@
 use Rattle.std.proofs.Common.{◌≡◌, ◌≢◌, ◌⊎◌, ℕ, ◌+◌, ◌<◌, ◌≤◌, ◌^◌, List, [], ◌∷◌, ◌++◌, true, false, cond, not, nat_eq, Option, Some, None, length, Contains, sym, ap, subst, ◌∙◌, inl, inr, arith}
 use Rattle.std.specs.List.{filter}
 use Rattle.std.specs.Map.{lookup}
+use Rattle.std.specs.Option.{option_map}
 use Rattle.std.proofs.lemmas.Bool.{cases_eq}
 use Rattle.std.proofs.lemmas.Bool.Decides.{nat_tests}
-use Rattle.indexmap.specs.IndexMap.{IndexMap, get, index_map_len}
+use Rattle.indexmap.specs.IndexMap.{IndexMap, IsUnique, get, index_map_len}
 use Rattle.mlt_types.specs.declared.cell.Cell.{Cell}
 use Rattle.mlt_types.specs.Cells.{key_number}
 use Rattle.mlt_kinds.specs.Operations.{cell_of}
@@ -12,9 +13,11 @@ use Rattle.mlt_object_locks.specs.declared.places.Grant.{Grant}
 use Rattle.mlt_object_locks.specs.declared.places.Place.{Place}
 use Rattle.mlt_object_locks.specs.Locks.{Held, is_of_other}
 use Rattle.mlt_object_locks.specs.Places.{open_place, held_place, Fills}
-use Rattle.mlt_object_locks.specs.Cells.{list_at, granted_at, in_order, ChangesAt, IsNoted, KeepsHeld, Opens, GivesUp, Releases, IsHeld, IsSound}
-use Rattle.mlt_object_locks.proofs.Changes.{not_open, at_each_back}
+use Rattle.mlt_object_locks.specs.Cells.{list_at, granted_at, in_order, ChangesAt, KeepsHeld, Opens, GivesUp, Releases, SamePlaces, IsHeld, IsSound, reserved_key}
+use Rattle.mlt_object_locks.specs.Noted.{KeepsNoted, KeysWithRoom, NotesAtMost, SameNoted, held_count, noted_of}
+use Rattle.mlt_object_locks.proofs.Changes.{GivesUpAt, at_each_back, keeps_same, not_open}
 use Rattle.mlt_object_locks.proofs.HeldCells.{HasNumbers, order_stays, order_filtered, order_pushed}
+use Rattle.mlt_object_locks.proofs.Notes.{count_of_others, count_pushed_le, count_pushed_same}
 
 module _ {S : Type 0} where
   pub held_back : (old new : IndexMap ℕ (List Place) S) → ((key tx : ℕ) (grant : Grant) → Contains (list_at new key) (held_place tx grant) → Contains (list_at old key) (held_place tx grant)) → (s : ℕ) (held : Held) → IsHeld new s held → IsHeld old s held
@@ -26,9 +29,6 @@ module _ {S : Type 0} where
     keeps = λ k u g h. b.keeps k u g (a.keeps k u g h);
   }
 
-  pub keeps_given_up : (old new : IndexMap ℕ (List Place) S) (key tx : ℕ) → GivesUp old new key tx → KeepsHeld old new
-  keeps_given_up old new key tx g = record { only = λ k u grant h. g.only k (held_place u grant) h; keeps = g.held }
-
 -- a reservation more, or another one
 module _ {S' : Type 0} (reserved after : IndexMap ℕ Cell S') (tx : ℕ) where
   pub entry_of : (value : Option Cell) → ((u : ℕ) → get nat_eq after u ≡ cond (nat_eq tx u) value (get nat_eq reserved u)) → (u : ℕ) (cell : Cell) → get nat_eq after u ≡ Some cell → ((u ≡ tx) × (value ≡ Some cell)) ⊎ ((u ≢ tx) × (get nat_eq reserved u ≡ Some cell))
@@ -39,116 +39,198 @@ module _ {S' : Type 0} (reserved after : IndexMap ℕ Cell S') (tx : ℕ) where
       by (inr ne) = let t : nat_eq tx u ≡ false = grind (arith, nat_tests) in inr (ne, ap (λ b. cond b value (get nat_eq reserved u)) (sym t) ∙ sym (updates u) ∙ h)
 
 module _ {S S' S'' : Type 0} where
-  pub has_numbers : (cells : IndexMap ℕ (List Place) S) (reserved : IndexMap ℕ Cell S') (touched : IndexMap ℕ (List ℕ) S'') (next : ℕ) → IsSound cells reserved touched next → HasNumbers cells
+  pub has_numbers : (cells : IndexMap ℕ (List Place) S) (reserved : IndexMap ℕ Cell S') (touched : IndexMap ℕ KeysWithRoom S'') (next : ℕ) → IsSound cells reserved touched next → HasNumbers cells
   has_numbers cells reserved touched next is = record { unique = is.unique; one_each = is.one_each }
 
-  pub sound_opened : (old new : IndexMap ℕ (List Place) S) (reserved : IndexMap ℕ Cell S') (touched more : IndexMap ℕ (List ℕ) S'') (next : ℕ) → IsSound old reserved touched next → Opens old new → IsNoted new more → IsSound new reserved more next
-  sound_opened old new reserved touched more next is opens noted = record {
-    unique = opens.unique;
-    one_each = λ s a b h k. is.one_each s a b (held_back old new opens.held.only s a h) (held_back old new opens.held.only s b k);
-    below = λ s a h. is.below s a (held_back old new opens.held.only s a h);
-    on_cell = λ k u g h. is.on_cell k u g (opens.held.only k u g h);
-    opened = λ u cell h. opens.open_stays (key_number cell) u (is.opened u cell h);
-    cells_noted = noted;
-    numbers = is.numbers;
-  }
+  -- what is held and noted stays, and the reservations have what they need
+  module _ (old new : IndexMap ℕ (List Place) S) (reserved after : IndexMap ℕ Cell S') (touched more : IndexMap ℕ KeysWithRoom S'') (next : ℕ) (is : IsSound old reserved touched next) (unique : IsUnique nat_eq new) (held : KeepsHeld old new) where
+    still_numbers : HasNumbers new
+    still_numbers = record {
+      unique = unique;
+      one_each = λ s a b h k. is.one_each s a b (held_back old new held.only s a h) (held_back old new held.only s b k);
+    }
 
-  pub sound_reserved : (cells : IndexMap ℕ (List Place) S) (reserved after : IndexMap ℕ Cell S') (touched : IndexMap ℕ (List ℕ) S'') (next tx : ℕ) (cell : Cell) → IsSound cells reserved touched next → Contains (list_at cells (key_number cell)) (open_place tx)
-      → ((u : ℕ) → get nat_eq after u ≡ cond (nat_eq tx u) (Some cell) (get nat_eq reserved u)) → next + index_map_len after < 2 ^ 64 → IsSound cells after touched next
-  sound_reserved cells reserved after touched next tx cell is there updates numbers = record {
-    unique = is.unique;
-    one_each = is.one_each;
-    below = is.below;
-    on_cell = is.on_cell;
-    cells_noted = is.cells_noted;
-    numbers = numbers;
-    opened = λ u other h. by u other (entry_of reserved after tx (Some cell) updates u other h);
-  }
-    where
-      by : (u : ℕ) (other : Cell) → ((u ≡ tx) × (Some cell ≡ Some other)) ⊎ ((u ≢ tx) × (get nat_eq reserved u ≡ Some other)) → Contains (list_at cells (key_number other)) (open_place u)
-      by u other (inl e) =
-          let same : cell ≡ other = let k = e.1 in cc in
-          subst (λ n. Contains (list_at cells (key_number other)) (open_place n)) (sym e.0) (subst (λ c. Contains (list_at cells (key_number c)) (open_place tx)) same there)
-      by u other (inr e) = is.opened u other e.1
+    list_same : in_order (granted_at new.entries) next ≡ in_order (granted_at old.entries) next
+    list_same = order_stays old new (has_numbers old reserved touched next is) still_numbers next (held_back old new held.only) (held_back new old held.keeps)
 
-  pub sound_unchanged : (cells : IndexMap ℕ (List Place) S) (reserved after : IndexMap ℕ Cell S') (touched : IndexMap ℕ (List ℕ) S'') (next : ℕ) → IsSound cells reserved touched next → after.entries ≡ reserved.entries → IsSound cells after touched next
-  sound_unchanged cells reserved after touched next is same = record {
-    unique = is.unique;
-    one_each = is.one_each;
-    below = is.below;
-    on_cell = is.on_cell;
-    cells_noted = is.cells_noted;
-    opened = λ u cell h. is.opened u cell (ap (lookup (nat_eq u)) (sym same) ∙ h);
-    numbers = let n = is.numbers in let e = ap length same in omega arith;
-  }
+    pub sound_with : ((u : ℕ) (cell : Cell) → get nat_eq after u ≡ Some cell → Contains (list_at new (key_number cell)) (open_place u))
+        → ((k u : ℕ) → Contains (list_at new k) (open_place u) → (reserved_key after u ≡ Some k) ⊎ Contains (noted_of touched u).keys k)
+        → next + index_map_len after < 2 ^ 64 → KeepsNoted touched more → ((u : ℕ) (cell : Cell) → get nat_eq after u ≡ Some cell → 0 < (noted_of more u).room)
+        → IsSound new after more next
+    sound_with opened open_noted numbers kept room = record {
+      unique = unique;
+      one_each = still_numbers.one_each;
+      below = λ s a h. is.below s a (held_back old new held.only s a h);
+      on_cell = λ k u g h. is.on_cell k u g (held.only k u g h);
+      opened = opened;
+      numbers = numbers;
+      room = room;
+      places = record {
+        held = λ k u g h. subst (λ ks. Contains ks k) (sym (kept.keys u)) (is.places.held k u g (held.only k u g h));
+        opened = λ k u h. by k u (open_noted k u h);
+      };
+      few = λ u. subst (λ l. length (noted_of more u).keys ≤ held_count l u) (sym list_same) (subst (λ ks. length ks ≤ held_count (in_order (granted_at old.entries) next) u) (sym (kept.keys u)) (is.few u));
+    }
+      where
+        by : (k u : ℕ) → (reserved_key after u ≡ Some k) ⊎ Contains (noted_of touched u).keys k → (reserved_key after u ≡ Some k) ⊎ Contains (noted_of more u).keys k
+        by k u (inl e) = inl e
+        by k u (inr h) = inr (subst (λ ks. Contains ks k) (sym (kept.keys u)) h)
 
-  pub sound_given_up : (old new : IndexMap ℕ (List Place) S) (reserved : IndexMap ℕ Cell S') (touched : IndexMap ℕ (List ℕ) S'') (next tx : ℕ) (cell : Cell) → IsSound old reserved touched next → GivesUp old new (key_number cell) tx → get nat_eq reserved tx ≡ Some cell → IsSound new reserved touched next
-  sound_given_up old new reserved touched next tx cell is gives has = record {
-    unique = gives.unique;
-    one_each = λ s a b h k. is.one_each s a b (held_back old new only s a h) (held_back old new only s b k);
-    below = λ s a h. is.below s a (held_back old new only s a h);
-    on_cell = λ k u g h. is.on_cell k u g (only k u g h);
-    opened = λ u other h. by u other h (cases_eq u tx);
-    cells_noted = record { noted = λ k p h. is.cells_noted.noted k p (gives.only k p h) };
-    numbers = is.numbers;
-  }
-    where
-      only : (k u : ℕ) (g : Grant) → Contains (list_at new k) (held_place u g) → Contains (list_at old k) (held_place u g)
-      only k u g h = gives.only k (held_place u g) h
+  -- no place was opened
+  pub sound_unopened : (old new : IndexMap ℕ (List Place) S) (reserved : IndexMap ℕ Cell S') (touched more : IndexMap ℕ KeysWithRoom S'') (next : ℕ) → IsSound old reserved touched next → SamePlaces old new → KeepsNoted touched more → IsSound new reserved more next
+  sound_unopened old new reserved touched more next is same kept =
+      sound_with old new reserved reserved touched more next is same.unique (keeps_same old new same)
+      (λ u cell h. subst (λ l. Contains l (open_place u)) (sym (same.same (key_number cell))) (is.opened u cell h))
+      (λ k u h. is.places.opened k u (subst (λ l. Contains l (open_place u)) (same.same k) h))
+      is.numbers kept (λ u cell h. kept.room u (is.room u cell h))
 
-      by : (u : ℕ) (other : Cell) → get nat_eq reserved u ≡ Some other → (u ≡ tx) ⊎ (u ≡ tx → ⊥) → Contains (list_at new (key_number other)) (open_place u)
-      by u other h (inl e) =
-          let at : get nat_eq reserved tx ≡ Some other = ap (get nat_eq reserved) (sym e) ∙ h in
-          let both : Some cell ≡ Some other = sym has ∙ at in
-          let same : cell ≡ other = cc in
-          subst (λ n. Contains (list_at new (key_number other)) (open_place n)) (sym e)
-          (subst (λ c. Contains (list_at new (key_number c)) (open_place tx)) same (gives.own (is.opened tx cell has)))
-      by u other h (inr ne) = gives.others (key_number other) u ne (is.opened u other h)
+  -- a place was opened and given up again
+  module _ (old mid new : IndexMap ℕ (List Place) S) (reserved after : IndexMap ℕ Cell S') (touched more : IndexMap ℕ KeysWithRoom S'') (next key tx : ℕ) (is : IsSound old reserved touched next) (opens : Opens old mid key tx) (gives : GivesUpAt mid new key tx)
+      (absent : get nat_eq reserved tx ≡ None) (same : after.entries ≡ reserved.entries) (kept : KeepsNoted touched more) where
+    had : (u : ℕ) (cell : Cell) → get nat_eq after u ≡ Some cell → get nat_eq reserved u ≡ Some cell
+    had u cell h = ap (lookup (nat_eq u)) (sym same) ∙ h
 
-  pub sound_released : (old new : IndexMap ℕ (List Place) S) (reserved after : IndexMap ℕ Cell S') (touched left : IndexMap ℕ (List ℕ) S'') (next tx : ℕ) → IsSound old reserved touched next → Releases old new tx → IsNoted new left
-      → ((u : ℕ) → get nat_eq after u ≡ cond (nat_eq tx u) None (get nat_eq reserved u)) → index_map_len after ≤ index_map_len reserved → IsSound new after left next
-  sound_released old new reserved after touched left next tx is gone noted updates fewer = record {
-    unique = gone.unique;
-    one_each = λ s a b h k. is.one_each s a b (held_back old new only s a h) (held_back old new only s b k);
-    below = λ s a h. is.below s a (held_back old new only s a h);
-    on_cell = λ k u g h. is.on_cell k u g (only k u g h);
-    opened = λ u other h. by u other (entry_of reserved after tx None updates u other h);
-    cells_noted = noted;
-    numbers = let n = is.numbers in omega arith;
-  }
-    where
-      only : (k u : ℕ) (g : Grant) → Contains (list_at new k) (held_place u g) → Contains (list_at old k) (held_place u g)
-      only k u g h = gone.only k (held_place u g) h
+    not_this : (u : ℕ) (cell : Cell) → get nat_eq reserved u ≡ Some cell → u ≢ tx
+    not_this u cell h e = let both : None ≡ Some cell = sym absent ∙ ap (get nat_eq reserved) (sym e) ∙ h in absurd (cc)
 
-      by : (u : ℕ) (other : Cell) → ((u ≡ tx) × (None ≡ Some other)) ⊎ ((u ≢ tx) × (get nat_eq reserved u ≡ Some other)) → Contains (list_at new (key_number other)) (open_place u)
-      by u other (inl e) = let k = e.1 in absurd (cc)
-      by u other (inr e) = gone.keeps (key_number other) (open_place u) e.0 (is.opened u other e.1)
+    was_noted : (k u : ℕ) → (k ≡ key → u ≢ tx) → Contains (list_at old k) (open_place u) ⊎ ((k ≡ key) × (u ≡ tx)) → (reserved_key after u ≡ Some k) ⊎ Contains (noted_of touched u).keys k
+    was_noted k u apart (inl h) = by (is.places.opened k u h)
+      where
+        by : (reserved_key reserved u ≡ Some k) ⊎ Contains (noted_of touched u).keys k → (reserved_key after u ≡ Some k) ⊎ Contains (noted_of touched u).keys k
+        by (inl e) = inl (ap (λ entries. option_map key_number (lookup (nat_eq u) entries)) same ∙ e)
+        by (inr n) = inr n
+    was_noted k u apart (inr e) = absurd (apart e.0 e.1)
+
+    pub held_refused : KeepsHeld old new
+    held_refused = keeps_both old mid new opens.held gives.held
+
+    pub sound_refused : IsSound new after more next
+    sound_refused =
+        sound_with old new reserved after touched more next is gives.unique held_refused
+        (λ u cell h. gives.stays (key_number cell) u (λ e. not_this u cell (had u cell h)) (opens.stays (key_number cell) u (is.opened u cell (had u cell h))))
+        (λ k u h. let was = gives.only k u h in was_noted k u was.1 (opens.only k u was.0))
+        (let n = is.numbers in let e = ap length same in omega arith) kept (λ u cell h. kept.room u (is.room u cell (had u cell h)))
+
+  -- a place was opened and reserved, and the one reserved earlier given up
+  module _ (old mid new : IndexMap ℕ (List Place) S) (reserved after : IndexMap ℕ Cell S') (touched more : IndexMap ℕ KeysWithRoom S'') (next tx : ℕ) (cell : Cell) (is : IsSound old reserved touched next) (opens : Opens old mid (key_number cell) tx)
+      (there : Contains (list_at mid (key_number cell)) (open_place tx)) (gives : GivesUp mid new (reserved_key reserved tx) (key_number cell) tx)
+      (updates : (u : ℕ) → get nat_eq after u ≡ cond (nat_eq tx u) (Some cell) (get nat_eq reserved u)) (numbers : next + index_map_len after < 2 ^ 64) (kept : KeepsNoted touched more) (room : 0 < (noted_of more tx).room) where
+    reserved_now : (u : ℕ) → u ≡ tx → reserved_key after u ≡ Some (key_number cell)
+    reserved_now u e = let t : nat_eq tx u ≡ true = grind (arith, nat_tests) in ap (option_map key_number) (updates u ∙ ap (λ b. cond b (Some cell) (get nat_eq reserved u)) t)
+
+    reserved_still : (u : ℕ) → u ≢ tx → reserved_key after u ≡ reserved_key reserved u
+    reserved_still u ne = let t : nat_eq tx u ≡ false = grind (arith, nat_tests) in ap (option_map key_number) (updates u ∙ ap (λ b. cond b (Some cell) (get nat_eq reserved u)) t)
+
+    opened_now : (u : ℕ) (other : Cell) → ((u ≡ tx) × (Some cell ≡ Some other)) ⊎ ((u ≢ tx) × (get nat_eq reserved u ≡ Some other)) → Contains (list_at new (key_number other)) (open_place u)
+    opened_now u other (inl e) =
+        let same : cell ≡ other = let k = e.1 in cc in
+        gives.stays (key_number other) u (λ t at. ap key_number (sym same)) (subst (λ n. Contains (list_at mid (key_number other)) (open_place n)) (sym e.0) (subst (λ c. Contains (list_at mid (key_number c)) (open_place tx)) same there))
+    opened_now u other (inr e) = gives.stays (key_number other) u (λ t at. absurd (e.0 t)) (opens.stays (key_number other) u (is.opened u other e.1))
+
+    noted_now : (k u : ℕ) → (u ≡ tx → reserved_key reserved tx ≡ Some k → k ≡ key_number cell) → Contains (list_at old k) (open_place u) ⊎ ((k ≡ key_number cell) × (u ≡ tx)) → (u ≡ tx) ⊎ (u ≢ tx)
+        → (reserved_key after u ≡ Some k) ⊎ Contains (noted_of touched u).keys k
+    noted_now k u only (inr e) t = inl (reserved_now u e.1 ∙ ap Some (sym e.0))
+    noted_now k u only (inl h) (inr ne) = by (is.places.opened k u h)
+      where
+        by : (reserved_key reserved u ≡ Some k) ⊎ Contains (noted_of touched u).keys k → (reserved_key after u ≡ Some k) ⊎ Contains (noted_of touched u).keys k
+        by (inl e) = inl (reserved_still u ne ∙ e)
+        by (inr n) = inr n
+    noted_now k u only (inl h) (inl t) = by (is.places.opened k u h)
+      where
+        by : (reserved_key reserved u ≡ Some k) ⊎ Contains (noted_of touched u).keys k → (reserved_key after u ≡ Some k) ⊎ Contains (noted_of touched u).keys k
+        by (inl e) = inl (reserved_now u t ∙ ap Some (sym (only t (ap (reserved_key reserved) (sym t) ∙ e))))
+        by (inr n) = inr n
+
+    room_now : (u : ℕ) (other : Cell) → ((u ≡ tx) × (Some cell ≡ Some other)) ⊎ ((u ≢ tx) × (get nat_eq reserved u ≡ Some other)) → 0 < (noted_of more u).room
+    room_now u other (inl e) = subst (λ n. 0 < (noted_of more n).room) (sym e.0) room
+    room_now u other (inr e) = kept.room u (is.room u other e.1)
+
+    pub held_reserved : KeepsHeld old new
+    held_reserved = keeps_both old mid new opens.held gives.held
+
+    pub sound_reserved : IsSound new after more next
+    sound_reserved =
+        sound_with old new reserved after touched more next is gives.unique held_reserved
+        (λ u other h. opened_now u other (entry_of reserved after tx (Some cell) updates u other h))
+        (λ k u h. let was = gives.only k u h in noted_now k u was.1 (opens.only k u was.0) (cases_eq u tx))
+        numbers kept (λ u other h. room_now u other (entry_of reserved after tx (Some cell) updates u other h))
+
+  -- all of a transaction is released
+  module _ (old new : IndexMap ℕ (List Place) S) (reserved after : IndexMap ℕ Cell S') (touched left : IndexMap ℕ KeysWithRoom S'') (next tx : ℕ) (is : IsSound old reserved touched next) (gone : Releases old new tx)
+      (others : SameNoted touched left tx) (none : (noted_of left tx).keys ≡ [])
+      (updates : (u : ℕ) → get nat_eq after u ≡ cond (nat_eq tx u) None (get nat_eq reserved u)) (fewer : index_map_len after ≤ index_map_len reserved) where
+    only : (k u : ℕ) (g : Grant) → Contains (list_at new k) (held_place u g) → Contains (list_at old k) (held_place u g)
+    only k u g h = gone.only k (held_place u g) h
+
+    left_numbers : HasNumbers new
+    left_numbers = record {
+      unique = gone.unique;
+      one_each = λ s a b h k. is.one_each s a b (held_back old new only s a h) (held_back old new only s b k);
+    }
+
+    differs : (u : ℕ) → u ≢ tx → not (nat_eq u tx) ≡ true
+    differs u ne = grind (arith, nat_tests)
+
+    apart : (u : ℕ) → not (nat_eq u tx) ≡ true → u ≢ tx
+    apart u h e = grind (arith, nat_tests)
+
+    -- what a transaction held is gone: so is it from the list
+    pub list_released : in_order (granted_at new.entries) next ≡ filter (is_of_other tx) (in_order (granted_at old.entries) next)
+    list_released =
+        order_filtered old new (has_numbers old reserved touched next is) left_numbers next (is_of_other tx)
+        (λ s held h. (held_back old new only s held h, differs held.0 (gone.gone h.0 (held_place held.0 (record { stamp = s; done = held.1 })) h.1)))
+        (λ s held other h. (h.0, gone.keeps h.0 (held_place held.0 (record { stamp = s; done = held.1 })) (apart held.0 other) h.1))
+
+    open_still : (u : ℕ) (other : Cell) → ((u ≡ tx) × (None ≡ Some other)) ⊎ ((u ≢ tx) × (get nat_eq reserved u ≡ Some other)) → Contains (list_at new (key_number other)) (open_place u)
+    open_still u other (inl e) = let k = e.1 in absurd (cc)
+    open_still u other (inr e) = gone.keeps (key_number other) (open_place u) e.0 (is.opened u other e.1)
+
+    still_room : (u : ℕ) (other : Cell) → ((u ≡ tx) × (None ≡ Some other)) ⊎ ((u ≢ tx) × (get nat_eq reserved u ≡ Some other)) → 0 < (noted_of left u).room
+    still_room u other (inl e) = let k = e.1 in absurd (cc)
+    still_room u other (inr e) = subst (λ (n : KeysWithRoom). 0 < n.room) (sym (others u e.0)) (is.room u other e.1)
+
+    still_reserved : (u : ℕ) → u ≢ tx → reserved_key after u ≡ reserved_key reserved u
+    still_reserved u ne = let t : nat_eq tx u ≡ false = grind (arith, nat_tests) in ap (option_map key_number) (updates u ∙ ap (λ b. cond b None (get nat_eq reserved u)) t)
+
+    noted_left : (k u : ℕ) → u ≢ tx → (reserved_key reserved u ≡ Some k) ⊎ Contains (noted_of touched u).keys k → (reserved_key after u ≡ Some k) ⊎ Contains (noted_of left u).keys k
+    noted_left k u ne (inl e) = inl (still_reserved u ne ∙ e)
+    noted_left k u ne (inr n) = inr (subst (λ (w : KeysWithRoom). Contains w.keys k) (sym (others u ne)) n)
+
+    few_left : (u : ℕ) → (u ≡ tx) ⊎ (u ≢ tx) → length (noted_of left u).keys ≤ held_count (in_order (granted_at new.entries) next) u
+    few_left u (inl e) = let none_left : length (noted_of left u).keys ≡ 0 = ap (λ n. length (noted_of left n).keys) e ∙ ap length none in omega arith
+    few_left u (inr ne) =
+        subst (λ l. length (noted_of left u).keys ≤ held_count l u) (sym list_released)
+        (subst (λ n. length (noted_of left u).keys ≤ n) (sym (count_of_others (in_order (granted_at old.entries) next) tx u ne))
+        (subst (λ (w : KeysWithRoom). length w.keys ≤ held_count (in_order (granted_at old.entries) next) u) (sym (others u ne)) (is.few u)))
+
+    pub sound_released : IsSound new after left next
+    sound_released = record {
+      unique = gone.unique;
+      one_each = left_numbers.one_each;
+      below = λ s a h. is.below s a (held_back old new only s a h);
+      on_cell = λ k u g h. is.on_cell k u g (only k u g h);
+      opened = λ u other h. open_still u other (entry_of reserved after tx None updates u other h);
+      numbers = let n = is.numbers in omega arith;
+      room = λ u other h. still_room u other (entry_of reserved after tx None updates u other h);
+      places = record {
+        held = λ k u g h. subst (λ (w : KeysWithRoom). Contains w.keys k) (sym (others u (gone.gone k (held_place u g) h))) (is.places.held k u g (only k u g h));
+        opened = λ k u h. noted_left k u (gone.gone k (open_place u) h) (is.places.opened k u (gone.only k (open_place u) h));
+      };
+      few = λ u. few_left u (cases_eq u tx);
+    }
 
   -- what is held stays: so does the list of it
-  pub list_stays : {T' T'' : Type 0} (old new : IndexMap ℕ (List Place) S) (reserved : IndexMap ℕ Cell S') (after : IndexMap ℕ Cell T') (touched : IndexMap ℕ (List ℕ) S'') (more : IndexMap ℕ (List ℕ) T'') (next : ℕ)
+  pub list_stays : {T' T'' : Type 0} (old new : IndexMap ℕ (List Place) S) (reserved : IndexMap ℕ Cell S') (after : IndexMap ℕ Cell T') (touched : IndexMap ℕ KeysWithRoom S'') (more : IndexMap ℕ KeysWithRoom T'') (next : ℕ)
       → IsSound old reserved touched next → IsSound new after more next → KeepsHeld old new → in_order (granted_at new.entries) next ≡ in_order (granted_at old.entries) next
   list_stays old new reserved after touched more next is is' keeps =
       order_stays old new (record { unique = is.unique; one_each = is.one_each }) (record { unique = is'.unique; one_each = is'.one_each }) next (held_back old new keeps.only) (held_back new old keeps.keeps)
 
-  -- what a transaction held is gone: so is it from the list
-  pub list_released : (old new : IndexMap ℕ (List Place) S) (reserved after : IndexMap ℕ Cell S') (touched left : IndexMap ℕ (List ℕ) S'') (next tx : ℕ) → IsSound old reserved touched next → IsSound new after left next → Releases old new tx
-      → in_order (granted_at new.entries) next ≡ filter (is_of_other tx) (in_order (granted_at old.entries) next)
-  list_released old new reserved after touched left next tx is is' gone =
-      order_filtered old new (has_numbers old reserved touched next is) (has_numbers new after left next is') next (is_of_other tx)
-      (λ s held h. (held_back old new (λ k u g m. gone.only k (held_place u g) m) s held h, others held.0 (gone.gone h.0 (held_place held.0 (record { stamp = s; done = held.1 })) h.1)))
-      (λ s held other h. (h.0, gone.keeps h.0 (held_place held.0 (record { stamp = s; done = held.1 })) (apart held.0 other) h.1))
-    where
-      others : (u : ℕ) → u ≢ tx → not (nat_eq u tx) ≡ true
-      others u ne = grind (arith, nat_tests)
-
-      apart : (u : ℕ) → not (nat_eq u tx) ≡ true → u ≢ tx
-      apart u h e = grind (arith, nat_tests)
-
 -- a place that was open holds a grant
-module _ {S S' S'' : Type 0} (old new : IndexMap ℕ (List Place) S) (reserved after : IndexMap ℕ Cell S') (touched : IndexMap ℕ (List ℕ) S'') (next key tx : ℕ) (cell : Cell) (grant : Grant)
+module _ {S S' S'' : Type 0} (old new : IndexMap ℕ (List Place) S) (reserved after : IndexMap ℕ Cell S') (touched more : IndexMap ℕ KeysWithRoom S'') (next key tx : ℕ) (cell : Cell) (grant : Grant)
     (is : IsSound old reserved touched next) (has : get nat_eq reserved tx ≡ Some cell) (at : key_number cell ≡ key) (stamped : grant.stamp ≡ next) (on : key_number (cell_of grant.done.0) ≡ key)
     (changes : ChangesAt old new key) (fills : Fills (list_at old key) (list_at new key) tx grant)
-    (updates : (u : ℕ) → get nat_eq after u ≡ cond (nat_eq tx u) None (get nat_eq reserved u)) (fewer : index_map_len after + 1 ≡ index_map_len reserved) where
+    (updates : (u : ℕ) → get nat_eq after u ≡ cond (nat_eq tx u) None (get nat_eq reserved u)) (fewer : index_map_len after + 1 ≡ index_map_len reserved)
+    (others : SameNoted touched more tx) (notes : NotesAtMost (noted_of touched tx).keys (noted_of more tx).keys key) where
   old_stays : (place : Place) → place ≢ open_place tx → (k : ℕ) → Contains (list_at old k) place → Contains (list_at new k) place
   old_stays place ne k h = at_each_back old new key changes place (λ m. fills.keeps place ne m) k h
 
@@ -214,23 +296,71 @@ module _ {S S' S'' : Type 0} (old new : IndexMap ℕ (List Place) S) (reserved a
   still_open u other (inl e) = let k = e.1 in absurd (cc)
   still_open u other (inr e) = old_stays (open_place u) (λ same. e.0 (ap (λ (p : Place). p.tx) same)) (key_number other) (is.opened u other e.1)
 
-  noted_still : (k : ℕ) (place : Place) → Contains (list_at old k) place ⊎ ((k ≡ key) × (place ≡ held_place tx grant)) → Contains (list_at touched place.tx) k
-  noted_still k place (inl h) = is.cells_noted.noted k place h
-  noted_still k place (inr h) =
-      let there = is.cells_noted.noted (key_number cell) (open_place tx) (is.opened tx cell has) in
-      subst (λ (p : Place). Contains (list_at touched p.tx) k) (sym h.1) (subst (λ n. Contains (list_at touched tx) n) (at ∙ sym h.0) there)
-
-  pub sound_granted : IsSound new after touched (next + 1)
-  sound_granted = record {
-    unique = changes.unique;
-    one_each = λ s a b h k. one s a b (was_or_is s a h) (was_or_is s b k);
-    below = λ s a h. below_next s a (was_or_is s a h);
-    on_cell = λ k u g h. cell_at k u g (old_or_new k (held_place u g) h);
-    opened = λ u other h. still_open u other (entry_of reserved after tx None updates u other h);
-    cells_noted = record { noted = λ k place h. noted_still k place (old_or_new k place h) };
-    numbers = let n = is.numbers in omega arith;
-  }
+  new_numbers : HasNumbers new
+  new_numbers = record { unique = changes.unique; one_each = λ s a b h k. one s a b (was_or_is s a h) (was_or_is s b k) }
 
   -- the grant stands at the end of the list
   pub list_granted : in_order (granted_at new.entries) (next + 1) ≡ in_order (granted_at old.entries) next ++ (tx, grant.done) ∷ []
-  list_granted = order_pushed old new (has_numbers old reserved touched next is) (has_numbers new after touched (next + 1) sound_granted) next (tx, grant.done) held_before held_on held_now
+  list_granted = order_pushed old new (has_numbers old reserved touched next is) new_numbers next (tx, grant.done) held_before held_on held_now
+
+  noted_more : (k u : ℕ) → Contains (noted_of touched u).keys k → (u ≡ tx) ⊎ (u ≢ tx) → Contains (noted_of more u).keys k
+  noted_more k u h (inl e) = subst (λ n. Contains (noted_of more n).keys k) (sym e) (notes.keeps k (subst (λ n. Contains (noted_of touched n).keys k) e h))
+  noted_more k u h (inr ne) = subst (λ (w : KeysWithRoom). Contains w.keys k) (sym (others u ne)) h
+
+  noted_here : (k u : ℕ) → k ≡ key → u ≡ tx → Contains (noted_of more u).keys k
+  noted_here k u e t = subst (λ n. Contains (noted_of more n).keys k) (sym t) (subst (λ n. Contains (noted_of more tx).keys n) (sym e) notes.there)
+
+  held_still : (k u : ℕ) (g : Grant) → Contains (list_at old k) (held_place u g) ⊎ ((k ≡ key) × (held_place u g ≡ held_place tx grant)) → Contains (noted_of more u).keys k
+  held_still k u g (inl h) = noted_more k u (is.places.held k u g h) (cases_eq u tx)
+  held_still k u g (inr h) = noted_here k u h.0 (ap (λ (p : Place). p.tx) h.1)
+
+  reserved_left : (k u : ℕ) → (reserved_key reserved u ≡ Some k) → (u ≡ tx) ⊎ (u ≢ tx) → (reserved_key after u ≡ Some k) ⊎ Contains (noted_of more u).keys k
+  reserved_left k u e (inl t) =
+      let was : Some (key_number cell) ≡ Some k = sym (ap (option_map key_number) has) ∙ ap (reserved_key reserved) (sym t) ∙ e in
+      let same : k ≡ key_number cell = cc in
+      inr (noted_here k u (same ∙ at) t)
+  reserved_left k u e (inr ne) =
+      let t : nat_eq tx u ≡ false = grind (arith, nat_tests) in
+      inl (ap (option_map key_number) (updates u ∙ ap (λ b. cond b None (get nat_eq reserved u)) t) ∙ e)
+
+  open_left : (k u : ℕ) → (reserved_key reserved u ≡ Some k) ⊎ Contains (noted_of touched u).keys k → (reserved_key after u ≡ Some k) ⊎ Contains (noted_of more u).keys k
+  open_left k u (inl e) = reserved_left k u e (cases_eq u tx)
+  open_left k u (inr h) = inr (noted_more k u h (cases_eq u tx))
+
+  open_noted : (k u : ℕ) → Contains (list_at old k) (open_place u) ⊎ ((k ≡ key) × (open_place u ≡ held_place tx grant)) → (reserved_key after u ≡ Some k) ⊎ Contains (noted_of more u).keys k
+  open_noted k u (inl h) = open_left k u (is.places.opened k u h)
+  open_noted k u (inr h) = absurd (not_open u tx grant h.1)
+
+  room_left : (u : ℕ) (other : Cell) → ((u ≡ tx) × (None ≡ Some other)) ⊎ ((u ≢ tx) × (get nat_eq reserved u ≡ Some other)) → 0 < (noted_of more u).room
+  room_left u other (inl e) = let k = e.1 in absurd (cc)
+  room_left u other (inr e) = subst (λ (w : KeysWithRoom). 0 < w.room) (sym (others u e.0)) (is.room u other e.1)
+
+  few_still : (u : ℕ) → (u ≡ tx) ⊎ (u ≢ tx) → length (noted_of more u).keys ≤ held_count (in_order (granted_at old.entries) next ++ (tx, grant.done) ∷ []) u
+  few_still u (inl e) =
+      let list = in_order (granted_at old.entries) next in
+      let few = is.few tx in
+      let one_more = notes.few in
+      let count = count_pushed_same list (tx, grant.done) in
+      let here : length (noted_of more tx).keys ≤ held_count (list ++ (tx, grant.done) ∷ []) tx = omega arith in
+      subst (λ n. length (noted_of more n).keys ≤ held_count (list ++ (tx, grant.done) ∷ []) n) (sym e) here
+  few_still u (inr ne) =
+      let list = in_order (granted_at old.entries) next in
+      let few : length (noted_of more u).keys ≤ held_count list u = subst (λ (w : KeysWithRoom). length w.keys ≤ held_count list u) (sym (others u ne)) (is.few u) in
+      let count = count_pushed_le list (tx, grant.done) u in
+      omega arith
+
+  pub sound_granted : IsSound new after more (next + 1)
+  sound_granted = record {
+    unique = changes.unique;
+    one_each = new_numbers.one_each;
+    below = λ s a h. below_next s a (was_or_is s a h);
+    on_cell = λ k u g h. cell_at k u g (old_or_new k (held_place u g) h);
+    opened = λ u other h. still_open u other (entry_of reserved after tx None updates u other h);
+    numbers = let n = is.numbers in omega arith;
+    room = λ u other h. room_left u other (entry_of reserved after tx None updates u other h);
+    places = record {
+      held = λ k u g h. held_still k u g (old_or_new k (held_place u g) h);
+      opened = λ k u h. open_noted k u (old_or_new k (open_place u) h);
+    };
+    few = λ u. subst (λ l. length (noted_of more u).keys ≤ held_count l u) (sym list_granted) (few_still u (cases_eq u tx));
+  }

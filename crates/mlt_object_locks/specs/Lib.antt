@@ -1,3 +1,4 @@
 pub mod Locks
+pub mod Noted
 pub mod Places
 pub mod Cells

@@ -34,9 +34,9 @@ clashes_with (Some grant) requested = clashes grant.done requested
 abbrev pub stands_in : Place → ℕ → ObjOp × ObjReply → Bool
 stands_in place tx requested = not (nat_eq place.tx tx) && clashes_with place.grant requested
 
--- the place is one of the transaction
-abbrev pub is_of : ℕ → Place → Bool
-is_of tx place = nat_eq place.tx tx
+-- the place is one of the transaction, and holds a grant
+abbrev pub is_held_of : ℕ → Place → Bool
+is_held_of tx place = nat_eq place.tx tx && is_some place.grant
 
 -- the place is not one of the transaction
 abbrev pub is_not_of : ℕ → Place → Bool

@@ -1,143 +1,45 @@
 //! The places of all cells, by the numbers of their keys.
 
-ghost use Rattle.std.specs.Prelude.{◌≡◌, ◌++◌, ◌∷◌, [], Contains, Some, nat_eq, OnOk, OnErr, IfErr};
+ghost use Rattle.std.specs.Prelude.{◌≡◌, ◌<◌, ◌++◌, ◌∷◌, [], Contains, Some, nat_eq, OnOk, OnErr, IfErr};
 ghost use Rattle.std.specs.List.{filter, list_any};
 ghost use Rattle.indexmap.specs.IndexMap.{IsUnique};
 ghost use Rattle.mlt_object_locks.specs.Locks.{IsLowestIfAny};
-ghost use Rattle.mlt_object_locks.specs.Places.{open_place, is_of, grants_of, Fills, is_not_open_of, is_not_of};
-ghost use Rattle.mlt_object_locks.specs.Cells.{list_at, HasPlaceIfThere, ChangesAt, ReleasesAt, IsNoted, Opens, GivesUp, Releases};
+ghost use Rattle.mlt_object_locks.specs.Places.{open_place, grants_of, Fills, is_held_of, is_not_open_of, is_not_of};
+ghost use Rattle.mlt_object_locks.specs.Cells.{AreHeldNoted, list_at, listed, HasPlaceIfThere, ChangesAt, ReleasesAt, Opens, GivesUp, SamePlaces};
+ghost use Rattle.mlt_object_locks.specs.Noted.{noted_of, NotesAtMost, SameNoted};
 
+use crate::noted::{Noted, note};
 use crate::places::{Grant, Places};
 use indexmap::IndexMap;
 use mlt_kinds::Done;
 use mlt_types::{Refusal, TxId};
 use std::alloc::Global;
-use std::marker::Model;
 
 /// The cells that have a place, each by the number of its key.
 pub(crate) type Cells = IndexMap<u64, Places>;
 
-/// The cells at which a transaction has places, by the numbers of their keys. A contract sees their list.
-#[derive(Debug, Drop)]
-pub(crate) struct CellKeys {
-    keys: Vec<u64>,
-}
-
-impl Model for CellKeys {
-    ghost use Rattle.std.specs.Prelude.{List, ℕ};
-
-    ghost Value = { List ℕ };
-
-    ghost view = { λ cells. cells.keys.items };
-}
-
-impl CellKeys {
-    /// No cell. It takes no memory.
-    fn new(alloc: Global) -> CellKeys
-        ensures { result ≡ [] }
-    {
-        CellKeys {
-            keys: Vec::new(alloc),
-        }
-    }
-
-    /// Adds a cell.
-    ///
-    /// # Errors
-    /// `OutOfMemory`, where a growth was refused; the list is then as before.
-    fn add(&mut self, key: u64) -> Result<(), Refusal>
-        ensures added { OnOk result (self.new ≡ self.old ++ key ∷ []) }
-        ensures err { OnErr result (self.new ≡ self.old) }
-        ensures refusal { IfErr result (λ refusal. refusal ≡ Refusal.OutOfMemory) }
-    {
-        self.keys.push(key)?;
-        Ok(())
-    }
-
-    /// The numbers, in the order in which they came.
-    fn as_slice(&self) -> &[u64]
-        ensures { result.now ≡ self.now }
-    {
-        &self.keys
-    }
-}
-
-/// The cells of each transaction that has a place.
-pub(crate) type Touched = IndexMap<TxId, CellKeys>;
-
-/// Notes that the transaction has a place at a cell.
-///
-/// # Errors
-/// `OutOfMemory`, where a growth was refused; what is noted is then as before.
-fn note_cell(touched: &mut Touched, alloc: Global, tx: TxId, key: u64) -> Result<(), Refusal>
-    ensures others { ChangesAt touched.old touched.new tx }
-    ensures noted { OnOk result
-        (list_at touched.new tx ≡ list_at touched.old tx ++ key ∷ []) }
-    ensures err { OnErr result (list_at touched.new tx ≡ list_at touched.old tx) }
-    ensures refusal { IfErr result (λ refusal. refusal ≡ Refusal.OutOfMemory) }
-{
-    match touched.get_mut(&tx) {
-        Some(keys) => keys.add(key),
-        None => {
-            let mut keys = CellKeys::new(alloc);
-            keys.add(key)?;
-            touched.insert(tx, keys)?;
-            Ok(())
-        }
-    }
-}
-
 /// Opens a place for the transaction at a cell, where it has not reserved that cell already.
 ///
 /// # Errors
-/// `OutOfMemory`, where a growth was refused; what is held and reserved is then as before.
+/// `OutOfMemory`, where a growth was refused; all places are then as before.
 pub(crate) fn prepare(
     cells: &mut Cells,
-    touched: &mut Touched,
     earlier: Option<u64>,
     tx: TxId,
     key: u64,
 ) -> Result<(), Refusal>
     requires unique { IsUnique nat_eq cells.old }
-    requires noted { IsNoted cells.old touched.old }
     requires reserved { earlier ≡ Some key → Contains (list_at cells.old key) (open_place tx) }
-    ensures opens { Opens cells.old cells.new }
-    ensures noted { IsNoted cells.new touched.new }
+    ensures opens { OnOk result (Opens cells.old cells.new key tx) }
     ensures opened { OnOk result (Contains (list_at cells.new key) (open_place tx)) }
+    ensures err { OnErr result (SamePlaces cells.old cells.new) }
     ensures refusal { IfErr result (λ refusal. refusal ≡ Refusal.OutOfMemory) }
 {
     if earlier == Some(key) {
         return Ok(());
     }
-    open_place(cells, touched, tx, key)
-}
-
-/// Opens a place for the transaction at a cell, and notes the cell where it had no place there.
-///
-/// # Errors
-/// `OutOfMemory`, where a growth was refused; all places are then as before.
-fn open_place(cells: &mut Cells, touched: &mut Touched, tx: TxId, key: u64) -> Result<(), Refusal>
-    requires unique { IsUnique nat_eq cells.old }
-    requires noted { IsNoted cells.old touched.old }
-    ensures others { ChangesAt cells.old cells.new key }
-    ensures opened { OnOk result
-        (list_at cells.new key ≡ list_at cells.old key ++ open_place tx ∷ []) }
-    ensures noted { IsNoted cells.new touched.new }
-    ensures err { OnErr result (list_at cells.new key ≡ list_at cells.old key) }
-    ensures refusal { IfErr result (λ refusal. refusal ≡ Refusal.OutOfMemory) }
-{
     let alloc = *cells.allocator();
-    if !has_place(cells, key, tx) {
-        note_cell(touched, alloc, tx, key)?;
-    }
     add_place(cells, alloc, key, tx)
-}
-
-// Whether the transaction has a place at a cell.
-fn has_place(cells: &Cells, key: u64, tx: TxId) -> bool
-    ensures { result ≡ list_any (is_of tx) (list_at cells.now key) }
-{
-    cells.get(&key).is_some_and(|places| places.has(tx))
 }
 
 /// Adds an open place of the transaction at a cell.
@@ -181,10 +83,29 @@ pub(crate) fn fill_place(cells: &mut Cells, key: u64, tx: TxId, grant: Grant)
     }
 }
 
+/// Notes the cell of a grant that the transaction is to get, where it holds nothing there yet. It takes no memory.
+pub(crate) fn note_grant(cells: &Cells, noted: &mut Noted, key: u64, tx: TxId)
+    requires room { 0 < (noted_of noted.old tx).room }
+    requires held { AreHeldNoted cells.now noted.old }
+    ensures others { SameNoted noted.old noted.new tx }
+    ensures noted { NotesAtMost (noted_of noted.old tx).keys (noted_of noted.new tx).keys key }
+{
+    if !holds_at(cells, key, tx) {
+        note(noted, tx, key);
+    }
+}
+
+// Whether the transaction holds something at a cell.
+fn holds_at(cells: &Cells, key: u64, tx: TxId) -> bool
+    ensures { result ≡ list_any (is_held_of tx) (list_at cells.now key) }
+{
+    cells.get(&key).is_some_and(|places| places.holds(tx))
+}
+
 /// Takes the open places of the transaction away at the cell that it reserved earlier, if that is another one.
 pub(crate) fn give_up_earlier(cells: &mut Cells, earlier: Option<u64>, key: u64, tx: TxId)
     requires { IsUnique nat_eq cells.old }
-    ensures { GivesUp cells.old cells.new key tx }
+    ensures { GivesUp cells.old cells.new earlier key tx }
 {
     if let Some(other) = earlier
         && other != key
@@ -193,8 +114,8 @@ pub(crate) fn give_up_earlier(cells: &mut Cells, earlier: Option<u64>, key: u64,
     }
 }
 
-// Takes the open places of the transaction at a cell away.
-fn give_up_place(cells: &mut Cells, key: u64, tx: TxId)
+/// Takes the open places of the transaction at a cell away.
+pub(crate) fn give_up_place(cells: &mut Cells, key: u64, tx: TxId)
     ensures others { ChangesAt cells.old cells.new key }
     ensures given_up { list_at cells.new key
         ≡ filter (is_not_open_of tx) (list_at cells.old key) }
@@ -224,14 +145,24 @@ fn release_places(cells: &mut Cells, key: u64, tx: TxId)
     }
 }
 
-/// Takes all places of the transaction away, at the cells that are noted of it.
-pub(crate) fn release_noted(cells: &mut Cells, touched: &mut Touched, tx: TxId)
-    requires unique { IsUnique nat_eq cells.old }
-    requires noted { IsNoted cells.old touched.old }
-    ensures released { Releases cells.old cells.new tx }
-    ensures noted { IsNoted cells.new touched.new }
+/// Takes all places of the transaction away at the cell that it reserved, if it did.
+pub(crate) fn release_reserved(cells: &mut Cells, reserved: Option<u64>, tx: TxId)
+    requires { IsUnique nat_eq cells.old }
+    ensures { ReleasesAt cells.old cells.new (listed reserved) tx }
 {
-    if let Some(keys) = touched.swap_remove(&tx) {
+    if let Some(key) = reserved {
+        release_places(cells, key, tx);
+    }
+}
+
+/// Takes all places of the transaction away at the cells that are noted of it, and the notes with them.
+pub(crate) fn release_noted(cells: &mut Cells, noted: &mut Noted, tx: TxId)
+    requires { IsUnique nat_eq cells.old }
+    ensures released { ReleasesAt cells.old cells.new (noted_of noted.old tx).keys tx }
+    ensures others { SameNoted noted.old noted.new tx }
+    ensures none { (noted_of noted.new tx).keys ≡ [] }
+{
+    if let Some(keys) = noted.swap_remove(&tx) {
         release_all_places(cells, keys.as_slice(), tx);
     }
 }

@@ -7,6 +7,7 @@
 
 mod cells;
 mod locks;
+mod noted;
 mod places;
 
 pub use locks::ObjectLocks;

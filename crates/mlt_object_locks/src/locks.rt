@@ -4,15 +4,15 @@
 
 ghost use Rattle.std.specs.Prelude.{◌≡◌, ◌≤◌, ℕ, [], ◌∷◌, ◌++◌, Some, None, nat_eq, OnOk, OnErr, IfErr};
 ghost use Rattle.std.specs.List.{filter};
-ghost use Rattle.std.specs.Option.{option_map};
-ghost use Rattle.indexmap.specs.IndexMap.{get};
-ghost use Rattle.mlt_types.specs.Cells.{key_number};
 ghost use Rattle.mlt_kinds.specs.Operations.{cell_of};
+ghost use Rattle.mlt_object_locks.specs.Cells.{reserved_key};
 ghost use Rattle.mlt_object_locks.specs.Locks.{no_locks, HoldsClash, IsLowestClash, is_of_other, reservation_of, SameReservations};
 
 use crate::cells::{
-    Cells, Touched, fill_place, give_up_earlier, lowest_clash, prepare, release_noted,
+    Cells, fill_place, give_up_earlier, give_up_place, lowest_clash, note_grant, prepare,
+    release_noted, release_reserved,
 };
+use crate::noted::{Noted, make_room};
 use crate::places::Grant;
 use indexmap::IndexMap;
 use mlt_kinds::Done;
@@ -27,7 +27,7 @@ use std::marker::Model;
 pub struct ObjectLocks {
     cells: Cells,
     reserved: IndexMap<TxId, Cell>,
-    touched: Touched,
+    noted: Noted,
     next: u64,
 }
 
@@ -42,7 +42,7 @@ impl Model for ObjectLocks {
       reserved = locks.reserved.entries;
     } };
 
-    ghost invariant = { λ locks. IsSound locks.cells locks.reserved locks.touched locks.next };
+    ghost invariant = { λ locks. IsSound locks.cells locks.reserved locks.noted locks.next };
 }
 
 impl ObjectLocks {
@@ -53,7 +53,7 @@ impl ObjectLocks {
         ObjectLocks {
             cells: IndexMap::new(alloc),
             reserved: IndexMap::new(alloc),
-            touched: IndexMap::new(alloc),
+            noted: IndexMap::new(alloc),
             next: 0,
         }
     }
@@ -77,8 +77,12 @@ impl ObjectLocks {
         }
         let key = Key::of(cell).number();
         let earlier = reserved_key(&self.reserved, tx);
-        prepare(&mut self.cells, &mut self.touched, earlier, tx, key)?;
-        self.reserved.insert(tx, *cell)?;
+        make_room(&mut self.noted, tx)?;
+        prepare(&mut self.cells, earlier, tx, key)?;
+        let Ok(_) = self.reserved.insert(tx, *cell) else {
+            give_up_place(&mut self.cells, key, tx);
+            return Err(Refusal::OutOfMemory);
+        };
         give_up_earlier(&mut self.cells, earlier, key, tx);
         Ok(())
     }
@@ -105,6 +109,7 @@ impl ObjectLocks {
         }
         let stamp = self.next;
         self.reserved.swap_remove(&tx);
+        note_grant(&self.cells, &mut self.noted, key, tx);
         fill_place(&mut self.cells, key, tx, Grant { stamp, done: *done });
         self.next = stamp + 1;
         Ok(())
@@ -116,14 +121,16 @@ impl ObjectLocks {
         ensures released { reservation_of self.new.reserved tx ≡ None }
         ensures others { SameReservations self.old.reserved self.new.reserved tx }
     {
+        let key = reserved_key(&self.reserved, tx);
         self.reserved.swap_remove(&tx);
-        release_noted(&mut self.cells, &mut self.touched, tx);
+        release_reserved(&mut self.cells, key, tx);
+        release_noted(&mut self.cells, &mut self.noted, tx);
     }
 }
 
 /// The number of the key of the cell that the transaction reserved.
 fn reserved_key(reserved: &IndexMap<TxId, Cell>, tx: TxId) -> Option<u64>
-    ensures { result ≡ option_map key_number (get nat_eq reserved.now tx) }
+    ensures { result ≡ reserved_key reserved.now tx }
 {
     let cell = reserved.get(&tx)?;
     Some(Key::of(cell).number())

@@ -3,7 +3,7 @@
 ghost use Rattle.std.specs.Prelude.{◌≡◌, ◌↔◌, ◌++◌, ◌∷◌, [], IsTrue, Contains, Some, position, OnOk, OnErr, IfErr};
 ghost use Rattle.std.specs.List.{filter, list_any};
 ghost use Rattle.mlt_object_locks.specs.Locks.{IsLowestIfAny, lower_of};
-ghost use Rattle.mlt_object_locks.specs.Places.{open_place, is_of, grants_of, stands_in, Fills, is_open_of, is_not_open_of, is_not_of};
+ghost use Rattle.mlt_object_locks.specs.Places.{open_place, grants_of, is_held_of, stands_in, Fills, is_open_of, is_not_open_of, is_not_of};
 
 use mlt_commute::clash;
 use mlt_kinds::Done;
@@ -57,11 +57,11 @@ impl Places {
         self.places.is_empty()
     }
 
-    /// Whether the transaction has a place.
-    pub fn has(&self, tx: TxId) -> bool
-        ensures { result ≡ list_any (is_of tx) self.now }
+    /// Whether the transaction holds something.
+    pub fn holds(&self, tx: TxId) -> bool
+        ensures { result ≡ list_any (is_held_of tx) self.now }
     {
-        self.places.iter().any(|place| place.tx == tx)
+        self.places.iter().any(|place| is_held_of(place, tx))
     }
 
     /// Adds an open place of the transaction.
@@ -133,6 +133,13 @@ fn is_open_of(place: &Place, tx: TxId) -> bool
     ensures { result ≡ is_open_of tx place.now }
 {
     place.tx == tx && place.grant.is_none()
+}
+
+/// Whether the place is one of the transaction, and holds a grant.
+fn is_held_of(place: &Place, tx: TxId) -> bool
+    ensures { result ≡ is_held_of tx place.now }
+{
+    place.tx == tx && place.grant.is_some()
 }
 
 /// Whether another transaction holds a conflicting operation in this place.

@@ -159,7 +159,7 @@ pub puts : (basis : Basis) (old new : Moment) (before after : OperationFields) �
 puts basis old new before after may leaves tells request told = by before.walk.phase refl tells
   where
     by : (p : Phase) → before.walk.phase ≡ p → TellsAt p basis old new before.walk after.walk answer.Changed → StepsOn basis old new before after
-    by (at.Adding value bucket depth unsplit) is (behind, makes, writes) =
+    by (at.Adding value bucket depth unsplit) is (behind, makes, writes, lowest) =
         let adds : IsToAdd before value = subst (λ (p : Phase). FitsPhase p basis before (view_of old)) is may.operates.fits in
         let phase : after.walk.phase ≡ at.Changed bucket (change.Put value) = makes.phase ∙ ap (λ (p : Phase). at.Changed (page_of p) (change.Put value)) is in
         let changed : IsChanged basis after.walk (view_of new) bucket (change.Put value) = subst (λ (p : Phase). Stands p basis after.walk (view_of new)) phase makes.stands in

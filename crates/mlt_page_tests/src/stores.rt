@@ -1,4 +1,4 @@
-//! Calls that take memory, made directly, and numbers of dropped pages.
+//! Calls that take memory, made directly, and numbers of dropped pages and of pages that are made again.
 
 ghost use Rattle.std.specs.Prelude.{◌≡◌};
 ghost use Rattle.mlt_page_locks.specs.LockTables.{HasAtMost};
@@ -108,4 +108,34 @@ fn direct_calls(rt: HostRuntime) -> Result<(), Fail> {
     bench.grow(&rt)?;
     assert!(rt; bench.store.read(pages[0]).copied() == Some(bucket(8)));
     same(&bench.store.len(), &4)
+}
+
+// Four pages, more than a subtransaction has room for images in itself.
+fn four_made(bench: &mut Bench, rt: &impl Abort) -> Result<[PageNo; 4], Refusal> {
+    let first = bench.grow(rt)?;
+    let second = bench.grow(rt)?;
+    let third = bench.grow(rt)?;
+    let fourth = bench.grow(rt)?;
+    Ok([first, second, third, fourth])
+}
+
+fn rolled_back(bench: Bench) -> Store {
+    let Bench {
+        mut subtx,
+        mut store,
+        mut locks,
+        ..
+    } = bench;
+    subtx.roll_back(&mut store, &mut locks);
+    store
+}
+
+// A roll back drops the page that was made last first, so that the pages get the same numbers when they are made again.
+#[test]
+fn made_again(rt: HostRuntime) -> Result<(), Fail> {
+    let mut bench = at_work(rt.alloc(), empty(rt.alloc(), 4)?)?;
+    let first = four_made(&mut bench, &rt)?;
+    let mut again = at_work(rt.alloc(), rolled_back(bench))?;
+    let second = four_made(&mut again, &rt)?;
+    same(&second, &first)
 }

@@ -7,11 +7,10 @@ use Rattle.std.proofs.lemmas.Bool.Decides.{eqb_tells, nat_tests}
 use Rattle.mlt_claims.specs.declared.view.View.{View}
 use Rattle.mlt_claims.specs.Claims.{view, times, once_below, after_draw}
 use Rattle.mlt_claims.proofs.Moves.{times-append}
-use Rattle.mlt_desk.specs.Clients.{AreOutcomes}
 use Rattle.mlt_serial.specs.declared.outcome.Outcome.{Outcome}
 use Rattle.mlt_tree.specs.Scripts.{ScriptForm}
 use Rattle.mlt_places.specs.declared.forms.ClientRun.{ClientRun}
-use Rattle.mlt_places.specs.Places.{AllHaveRuns, AreAllOutcomes, AreInPlace, HaveRuns, IsClientRun, KeepsRuns, place_of}
+use Rattle.mlt_places.specs.Places.{AllHaveRuns, AreAllOutcomes, AreClientOutcomes, AreInPlace, HaveRuns, IsClientRun, KeepsRuns, place_of}
 
 -- a draw of a client
 pub draws_client : (v w : View) (clients n : ℕ) (drawn : List ℕ) → v ≡ view 1 1 clients drawn → w ≡ after_draw v n → n < clients → w ≡ view 1 1 clients (drawn ++ n ∷ [])
@@ -96,7 +95,7 @@ pub past_more : (n : ℕ) (first drawn : List ℕ) → 0 < times n first → 0 <
 past_more n first drawn h = let sum = times-append n first drawn in omega arith
 
 -- one more client
-pub all_push : (ls : List (List ScriptForm)) (os : List Outcome) (c : List ScriptForm) (front : List Outcome) → AreAllOutcomes ls os → AreOutcomes 0 c front → AreAllOutcomes (ls ++ c ∷ []) (os ++ front)
+pub all_push : (ls : List (List ScriptForm)) (os : List Outcome) (c : List ScriptForm) (front : List Outcome) → AreAllOutcomes ls os → AreClientOutcomes c front → AreAllOutcomes (ls ++ c ∷ []) (os ++ front)
 all_push [] os c front h o = (front, [], (ap (λ (l : List Outcome). l ++ front) h ∙ sym (append-nil front)), o, refl)
 all_push (l ∷ ls) os c front h o = (h.0, h.1 ++ front, (ap (λ (z : List Outcome). z ++ front) h.2 ∙ append_assoc h.0 h.1 front), h.3, all_push ls h.1 c front h.4 o)
 

@@ -1,8 +1,12 @@
 -- The runs of clients, by the places of the clients in their list.
-use Rattle.std.specs.Prelude.{◌≡◌, ℕ, ◌<◌, List, [], ◌∷◌, ◌++◌, length, map, slice_index_or, Option, None, IfSome, IsSome}
+use Rattle.std.specs.Prelude.{◌≡◌, ℕ, ◌<◌, List, [], ◌∷◌, ◌++◌, All, length, map, slice_index_or, Option, None, IfSome, IsSome}
 use Rattle.std.specs.Global.{Vec}
 use Rattle.mlt_tree.specs.declared.script.Script.{Script}
 use Rattle.mlt_tree.specs.Scripts.{ScriptForm}
+use Rattle.mlt_types.specs.declared.refusal.Refusal.{Refusal}
+use Rattle.mlt_types.specs.declared.refusal.Refusal.TheVariants as refusal
+use Rattle.mlt_serial.specs.declared.outcome.End.{End}
+use Rattle.mlt_serial.specs.declared.outcome.End.TheVariants.{Refused}
 use Rattle.mlt_serial.specs.declared.outcome.Outcome.{Outcome}
 use Rattle.mlt_desk.specs.Clients.{AreOutcomes}
 use Rattle.mlt_claims.specs.Claims.{times}
@@ -15,9 +19,29 @@ scripts_of_clients clients = map (λ client. client.items) clients
 abbrev pub place_of : ClientRun → ℕ
 place_of run = run.place
 
+-- what a script may be refused with
+abbrev pub IsScriptRefusal : Refusal → Type 0
+IsScriptRefusal refusal.OutOfMemory = Unit {0}
+IsScriptRefusal refusal.NoRoom = Unit {0}
+IsScriptRefusal refusal.TooManyOpen = Unit {0}
+IsScriptRefusal refusal.LogFull = Unit {0}
+IsScriptRefusal refusal.IdsSpent = Unit {0}
+IsScriptRefusal refusal.GaveUp = Unit {0}
+IsScriptRefusal other = ⊥
+
+-- where a script is refused, it is so
+abbrev pub IsScriptEnd : End → Type 0
+IsScriptEnd (Refused reason) = IsScriptRefusal reason
+IsScriptEnd other = Unit {0}
+
+-- an outcome for each script of a client, in order
+abbrev pub AreClientOutcomes : List ScriptForm → List Outcome → Type 0
+AreClientOutcomes scripts outcomes =
+    AreOutcomes 0 scripts outcomes × All (λ outcome. IsScriptEnd outcome.end) outcomes
+
 -- the run has an outcome for each script of the client at its place
 abbrev pub IsClientRun : List (List ScriptForm) → ClientRun → Type 0
-IsClientRun clients run = (run.place < length clients) × AreOutcomes 0 (slice_index_or clients run.place []) run.outcomes.items
+IsClientRun clients run = (run.place < length clients) × AreClientOutcomes (slice_index_or clients run.place []) run.outcomes.items
 
 -- each run stands at its own place
 abbrev pub AreInPlace : List (List ScriptForm) → List (Option ClientRun) → Type 0
@@ -43,4 +67,4 @@ KeepsRuns before after = (place : ℕ) → place < length before → HasRunAt be
 abbrev pub AreAllOutcomes : List (List ScriptForm) → List Outcome → Type 0
 AreAllOutcomes [] outcomes = outcomes ≡ []
 AreAllOutcomes (client ∷ clients) outcomes =
-    (front : List Outcome) × (rest : List Outcome) × (outcomes ≡ front ++ rest) × AreOutcomes 0 client front × AreAllOutcomes clients rest
+    (front : List Outcome) × (rest : List Outcome) × (outcomes ≡ front ++ rest) × AreClientOutcomes client front × AreAllOutcomes clients rest

@@ -1,13 +1,15 @@
 -- The steps of a transaction in a run are steps of its own
-use Rattle.std.proofs.Common.{◌≡◌, ◌≢◌, ◌⊎◌, ℕ, List, [], ◌∷◌, nat_eq, Some, Ok, Err, refl, sym, ap, subst, ◌∙◌, inl, inr}
+use Rattle.std.proofs.Common.{◌≡◌, ◌≢◌, ◌⊎◌, ℕ, List, [], ◌∷◌, ◌++◌, nat_eq, Some, Ok, Err, refl, sym, ap, subst, ◌∙◌, inl, inr}
 use Rattle.std.proofs.lemmas.Bool.{cases_eq, cond-false, cond-true, eq-eqb, ne_eqb}
 use Rattle.std.specs.FinMap as map
 use Rattle.std.specs.FinSet as set
 use Rattle.std.specs.Ordering.{nat_cmp}
+use Rattle.mlt_types.specs.declared.limits.Limits.{Limits}
 use Rattle.mlt_kinds.specs.declared.operation.ObjOp.{ObjOp}
 use Rattle.mlt_kinds.specs.declared.operation.ObjReply.{ObjReply}
 use Rattle.mlt_held.specs.Views.{View}
-use Rattle.mlt_hash_form.specs.File.{GivesPseudokeys}
+use Rattle.mlt_hash_form.specs.File.{FilePages, GivesPseudokeys, HasForm}
+use Rattle.mlt_hash_form.specs.Prefixes.{IsExtendibleHashFile}
 use Rattle.mlt_hash_form.specs.declared.root.Root.{Root}
 use Rattle.mlt_hash.specs.Walks.{basis_by}
 use Rattle.mlt_event.specs.declared.answer.Answer.{Answer}
@@ -27,10 +29,12 @@ use Rattle.mlt_counts.proofs.Passes.{first_pass}
 use Rattle.mlt_manager.specs.Answers.{HasStepped, counted, txs_after}
 use Rattle.mlt_manager.specs.Events.{IsRun, Meets}
 use Rattle.mlt_manager.specs.Managers.{IsManager, ManagerFields}
+use Rattle.mlt_manager.specs.Openings.{IsNew}
 use Rattle.mlt_manager.proofs.Called.{one_there}
 use Rattle.mlt_manager.proofs.Keeping.{counted_keeps}
 use Rattle.mlt_manager.proofs.Kept.{abort_kept, begin_kept, call_kept, cancel_kept, commit_kept, new_kept, step_kept, whole_kept, whole_undo_kept}
-use Rattle.mlt_run_counts.specs.Runs.{HasOwnSteps, IsReached, IsStepOrAnothers, OnlySteps, TakesOwnSteps, TakesPassInRun, answers_to, up_to_end, with_told}
+use Rattle.mlt_manager.proofs.Promises.{promises_kept}
+use Rattle.mlt_run_counts.specs.Runs.{HasOwnSteps, IsCutBehind, IsReached, IsStepOrAnothers, OnlySteps, TakesOwnSteps, TakesPassInRun, answers_to, up_to_end, with_told}
 use Rattle.mlt_run_counts.proofs.Events.{of_abort, of_begin, of_call, of_cancel, of_commit, of_step, of_whole, of_whole_undo}
 use Rattle.mlt_run_counts.proofs.Seen.{StaysAs}
 
@@ -63,6 +67,27 @@ run_keeps bits_of (e ∷ es) (t ∷ ts) m m' h (next, meets, rest) = run_keeps b
 -- **So it is true of a manager to which events lead.**
 pub reached : {P : Type 0} (bits_of : P → ℕ → ℕ) (m : ManagerFields P) → ((pseudo : P) → GivesPseudokeys (bits_of pseudo)) → IsReached bits_of m → IsManager bits_of m
 reached bits_of m keys r = run_keeps bits_of r.events r.tolds r.opening m (new_kept bits_of r.opening r.limits r.pseudo (keys r.opening.root.pseudo) r.opens) r.run
+
+-- **And a run can be cut behind any of its events.**
+module _ {P : Type 0} (bits_of : P → ℕ → ℕ) (has_file : (bits : ℕ → ℕ) (opens : set.FinSet nat_cmp) (pages : FilePages) (root : ℕ) → GivesPseudokeys bits → HasForm bits pages root → IsExtendibleHashFile bits opens pages root) where
+  cut : (before later : List Event) (tolds : List Told) (m m' : ManagerFields P) → IsManager bits_of m → IsRun bits_of m (before ++ later) tolds m' → IsCutBehind bits_of m m' before later tolds
+  cut [] later tolds m m' h run = record { told_before = []; told_later = tolds; told = refl; between = m; leads = refl; goes_on = run; promises = promises_kept bits_of m h has_file }
+  cut (e ∷ es) later [] m m' h none = absurd none
+  cut (e ∷ es) later (t ∷ ts) m m' h (next, meets, rest) =
+      let c = cut es later ts next m' (meets_keeps bits_of (counted m) next (counted_keeps bits_of m h) e t meets) rest in
+      record {
+        told_before = t ∷ c.told_before;
+        told_later = c.told_later;
+        told = ap (λ (l : List Told). t ∷ l) c.told;
+        between = c.between;
+        leads = (next, meets, c.leads);
+        goes_on = c.goes_on;
+        promises = c.promises;
+      }
+
+  pub cut_run : ((pseudo : P) → GivesPseudokeys (bits_of pseudo)) → (opening new : ManagerFields P) (limits : Limits) (pseudo : P) (before later : List Event) (tolds : List Told)
+      → IsNew opening limits pseudo → IsRun bits_of opening (before ++ later) tolds new → IsCutBehind bits_of opening new before later tolds
+  cut_run keys opening new limits pseudo before later tolds opens run = cut before later tolds opening new (new_kept bits_of opening limits pseudo (keys opening.root.pseudo) opens) run
 
 -- an answer is the last of an abort, or is told before what is told later
 is_last : (a : Answer) → (a ≡ answer.Aborted) ⊎ (((txs : Table) (tx : ℕ) → txs_after a tx txs ≡ txs) × ((more : List Answer) → up_to_end a more ≡ with_answer a more))

@@ -1,5 +1,5 @@
 -- What the steps of one transaction are told in a run of a manager
-use Rattle.std.specs.Prelude.{ℕ, ◌≡◌, ◌≢◌, nat_eq, List, [], ◌∷◌, Some, if◌then◌else◌}
+use Rattle.std.specs.Prelude.{ℕ, ◌≡◌, ◌≢◌, nat_eq, List, [], ◌∷◌, ◌++◌, Some, if◌then◌else◌}
 use Rattle.std.specs.FinMap as map
 use Rattle.mlt_types.specs.declared.limits.Limits.{Limits}
 use Rattle.mlt_kinds.specs.declared.operation.ObjOp.{ObjOp}
@@ -17,6 +17,7 @@ use Rattle.mlt_counts.specs.OwnSteps.{AreOwnSteps, OwnStep, answers_of, view_in,
 use Rattle.mlt_manager.specs.Events.{IsRun}
 use Rattle.mlt_manager.specs.Managers.{ManagerFields}
 use Rattle.mlt_manager.specs.Openings.{IsNew}
+use Rattle.mlt_manager.specs.Promises.{KeepsPromises}
 
 -- The event is a step of this transaction, or one of another, or one begins.
 abbrev pub IsStepOrAnothers : ℕ → Event → Type 0
@@ -61,6 +62,18 @@ pub record IsReached {P : Type 0} (bits_of : P → ℕ → ℕ) (m : ManagerFiel
   pub events : List Event
   pub tolds : List Told
   pub run : IsRun bits_of opening events tolds m
+
+-- A run is cut behind some of its events: these lead to a manager that keeps its promises, and from it the others lead
+-- on.
+pub record IsCutBehind {P : Type 0} (bits_of : P → ℕ → ℕ) (opening new : ManagerFields P)
+    (before later : List Event) (tolds : List Told) : Type 0 where
+  pub told_before : List Told
+  pub told_later : List Told
+  pub told : tolds ≡ told_before ++ told_later
+  pub between : ManagerFields P
+  pub leads : IsRun bits_of opening before told_before between
+  pub goes_on : IsRun bits_of between later told_later new
+  pub promises : KeepsPromises bits_of between
 
 -- The steps of a transaction in a run are steps of its own, between which others leave what it sees.
 pub record HasOwnSteps (basis : Basis) (t : Transaction) (seen : View) (tx : ℕ)

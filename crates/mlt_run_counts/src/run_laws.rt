@@ -1,7 +1,8 @@
 //! Laws of the runs of a manager: between two steps of a transaction there may be any events of others.
 
-ghost use Rattle.std.specs.Prelude.{ℕ, ◌≡◌, List, Some};
+ghost use Rattle.std.specs.Prelude.{ℕ, ◌≡◌, ◌++◌, List, Some};
 ghost use Rattle.std.specs.FinMap as map;
+ghost use Rattle.mlt_types.specs.declared.limits.Limits.{Limits};
 ghost use Rattle.mlt_kinds.specs.declared.operation.ObjOp.{ObjOp};
 ghost use Rattle.mlt_kinds.specs.declared.operation.ObjReply.{ObjReply};
 ghost use Rattle.mlt_hash.specs.Walks.{basis_by};
@@ -15,9 +16,24 @@ ghost use Rattle.mlt_counts.specs.OwnSteps.{view_in};
 ghost use Rattle.mlt_manager.specs.Answers.{counted};
 ghost use Rattle.mlt_manager.specs.Events.{IsRun, Meets};
 ghost use Rattle.mlt_manager.specs.Managers.{ManagerFields};
-ghost use Rattle.mlt_run_counts.specs.Runs.{HasOwnSteps, IsReached, OnlySteps, TakesOwnSteps, TakesPassInRun};
+ghost use Rattle.mlt_manager.specs.Openings.{IsNew};
+ghost use Rattle.mlt_manager.specs.Promises.{KeepsPromises};
+ghost use Rattle.mlt_run_counts.specs.Runs.{HasOwnSteps, IsCutBehind, IsReached, OnlySteps, TakesOwnSteps, TakesPassInRun};
 
+use mlt_hash_form::form_is_extendible_hashing;
 use mlt_types::Pseudo;
+
+/// Each manager to which a run leads from a new one keeps its promises. So does each between two events of a run, for the
+/// events before it are a run too.
+pub fn managers_of_a_run_keep_their_promises<P: Pseudo>()
+    ensures reached { (m : ManagerFields P) → IsReached P.bits_of m → KeepsPromises P.bits_of m }
+    ensures between { (opening new : ManagerFields P) (limits : Limits) (pseudo : P)
+        (before later : List Event) (tolds : List Told)
+        → IsNew opening limits pseudo → IsRun P.bits_of opening (before ++ later) tolds new
+        → IsCutBehind P.bits_of opening new before later tolds }
+{
+    form_is_extendible_hashing();
+}
 
 /// The steps that a transaction takes in a run of a manager, where nothing else is asked of it, are steps of its own:
 /// whatever others do between two of them leaves what it sees.

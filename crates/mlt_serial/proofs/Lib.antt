@@ -1,4 +1,4 @@
-pub mod Transcripts
+pub mod Playing
 pub mod OneRun
 pub mod Appends
 pub mod TakingBack

@@ -2,7 +2,7 @@
 use Rattle.std.proofs.Common.{map, ◌≡◌, ℕ, List, [], ◌∷◌, length, refl, sym, ap, ◌∙◌, subst, arith}
 use Rattle.mlt_kinds.specs.declared.operation.ObjOp.{ObjOp}
 use Rattle.mlt_kinds.specs.declared.operation.ObjReply.{ObjReply}
-use Rattle.mlt_kinds.specs.BaseLaws.{base_one_answer}
+use Rattle.mlt_kinds.proofs.BaseLaws.{base_one_answer}
 use Rattle.mlt_kinds.specs.Bases.{Base, Step, Runs, Transcript}
 use Rattle.mlt_tree.specs.declared.statement.Ending.{Ending}
 use Rattle.mlt_tree.specs.declared.statement.Ending.TheVariants.{Commit, Abort}
@@ -13,7 +13,7 @@ use Rattle.mlt_serial.specs.declared.outcome.End.{End}
 use Rattle.mlt_serial.specs.declared.outcome.End.TheVariants.{Committed, Aborted, Refused}
 use Rattle.mlt_serial.specs.declared.outcome.Outcome.{Outcome}
 use Rattle.mlt_serial.specs.Serial.{IsRun, AreRuns, mark_of, mark_of_end, story_of}
-use Rattle.mlt_serial.proofs.Transcripts.{reaches_front}
+use Rattle.mlt_cursor.proofs.Transcripts.{reaches_front}
 use Rattle.mlt_cursor.specs.Follows.Plan.{Ends, Asks}
 
 -- Two transcripts of one plan from one base are one, where both come to an end.

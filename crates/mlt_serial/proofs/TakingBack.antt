@@ -19,7 +19,7 @@ use Rattle.mlt_kinds.specs.Counters as counters
 use Rattle.mlt_kinds.specs.Cells.{CellState, CellStep}
 use Rattle.mlt_kinds.specs.Cells.CellState.{AccountState, ElementState, CounterState}
 use Rattle.mlt_kinds.specs.Operations.{cell_of, cells_of}
-use Rattle.mlt_kinds.specs.BaseLaws.{base_one_answer, same_base, one_cell_or_two}
+use Rattle.mlt_kinds.proofs.BaseLaws.{base_one_answer, same_base, one_cell_or_two}
 use Rattle.mlt_kinds.specs.Bases.{Base, Step, Runs, Transcript, state_at, SameBut}
 use Rattle.mlt_serial.specs.TakingBack.{opposite_of}
 

@@ -1,3 +1,4 @@
 pub mod Serial
 pub mod TakingBack
 pub mod Texts
+pub mod Answering

@@ -1,6 +1,7 @@
 //! Scripts that run one after another, without locks or pages, and the report of what became of them.
 #![tactic(auto)]
 
+mod base_desk;
 mod outcome;
 mod report;
 mod run;

@@ -1,86 +1,70 @@
 //! Scripts that run one after another on a base.
 
-ghost use Rattle.std.specs.Prelude.{◌≡◌, ◌+◌, ◌<◌, ◌^◌, ℕ, List, [], map, Option, Ok, IfOk, IfErr, OnErr, replicate};
+ghost use Rattle.std.specs.Prelude.{◌≡◌, ◌+◌, ◌<◌, ◌^◌, ℕ, List, [], map, Option, Ok, IfOk, IfErr, replicate, vec_capacity};
 ghost use Rattle.mlt_types.specs.declared.refusal.Refusal.{Refusal as RefusalForm};
-ghost use Rattle.mlt_kinds.specs.Bases.{Base as ObjectBase, Runs};
-ghost use Rattle.mlt_cursor.specs.Follows.{Follows, IsPartial};
+ghost use Rattle.mlt_kinds.specs.Bases.{Base as ObjectBase};
+ghost use Rattle.mlt_cursor.specs.Follows.{AsksAtMost, plan_of_script};
 ghost use Rattle.mlt_tree.specs.Scripts.{ScriptForm};
 ghost use Rattle.mlt_serial.specs.Serial.{AreMarksOf, AreNumbered, AreWithoutTx, IsRun, IsSerialRun, commits_after, mark_of, story_of, unmarked};
 ghost use Rattle.mlt_serial.specs.declared.outcome.Outcome.{Outcome as OutcomeForm};
 
+use crate::base_desk::BaseDesk;
 use crate::outcome::{End, Outcome, Outcomes, Transcript};
 use crate::report::Report;
 use crate::take_back::take_back;
 use mlt_base::Base;
-use mlt_cursor::{Cursor, Next};
+use mlt_cursor::{most_asked, play};
 use mlt_kinds::Done;
 use mlt_tree::{Ending, Script};
-use mlt_types::Refusal;
+use mlt_types::{Refusal, TxId};
 use std::alloc::Global;
 
-/// Runs the script on the base to its end, and adds what was done to the list.
-fn play(script: &Script, base: &mut Base, done: &mut Vec<Done>) -> Result<Ending, Refusal>
-    requires { done.old.items ≡ [] }
-    ensures runs { Runs base.old done.new.items base.new }
-    ensures ok { IfOk result (λ ending. Follows script.now done.new.items ending) }
-    ensures err { OnErr result (IsPartial script.now done.new.items) }
-    ensures refusal { IfErr result (λ refusal. refusal ≡ Refusal.OutOfMemory) }
-{
-    let mut cursor = Cursor::new(script);
-    while let Next::Op(op) = cursor.next() {
-        done.reserve(1)?;
-        let reply = base.apply(&op)?;
-        done.push_reserved(Done::new(op, reply));
-        cursor.tell(reply);
-    }
-    match cursor.next() {
-        Next::Commit => Ok(Ending::Commit),
-        _ => Ok(Ending::Abort),
-    }
-}
+// The number of a transaction where none was begun by a manager.
+const NO_TX: TxId = TxId(0);
 
-/// Runs the script on the base, and takes back what it did where it does not commit.
+/// Runs the script on the base, and takes back what it did where it does not commit. There is room for all its replies.
 ///
 /// # Errors
 /// `OutOfMemory`, where a growth was refused while something was taken back.
 fn attempt(
     script: &Script,
-    base: &mut Base,
+    desk: &mut BaseDesk,
     commits: u64,
     done: &mut Vec<Done>,
 ) -> Result<End, Refusal>
     requires empty { done.old.items ≡ [] }
+    requires room { AsksAtMost (vec_capacity done.old) (plan_of_script script.now) }
     requires commits { commits < 2 ^ 63 }
     ensures run { IfOk result (λ end.
-        IsRun script.now base.old commits done.new.items end base.new
+        IsRun script.now desk.old.base commits done.new.items end desk.new.base
         (commits_after commits end)) }
     ensures mark { (refusal : RefusalForm) → result ≡ Ok (End.Refused refusal)
         → refusal ≡ Refusal.OutOfMemory }
     ensures refusal { IfErr result (λ refusal. refusal ≡ Refusal.OutOfMemory) }
 {
-    let end = match play(script, base, done) {
+    let end = match play(desk, NO_TX, script, done) {
         Ok(Ending::Commit) => return Ok(End::Committed(commits + 1)),
         Ok(Ending::Abort) => End::Aborted,
         Err(refusal) => End::Refused(refusal),
     };
-    take_back(base, done.as_slice())?;
+    take_back(&mut desk.base, done.as_slice())?;
     Ok(end)
 }
 
 /// Runs the script alone on the base, `commits` scripts having committed before it.
 ///
 /// # Errors
-/// `OutOfMemory`, where a growth was refused while something was taken back.
+/// `OutOfMemory`, where the room for its replies was refused, or a growth while something was taken back.
 fn run_alone(
     alloc: Global,
     script: &Script,
     number: u64,
     commits: u64,
-    base: &mut Base,
+    desk: &mut BaseDesk,
 ) -> Result<Outcome, Refusal>
     requires { commits < 2 ^ 63 }
     ensures run { IfOk result (λ outcome.
-        IsRun script.now base.old commits outcome.done outcome.end base.new
+        IsRun script.now desk.old.base commits outcome.done outcome.end desk.new.base
         (commits_after commits outcome.end)) }
     ensures client { IfOk result (λ outcome. outcome.client ≡ script.now.client) }
     ensures number { IfOk result (λ outcome. outcome.number ≡ number) }
@@ -90,8 +74,8 @@ fn run_alone(
         → refusal ≡ Refusal.OutOfMemory) }
     ensures refusal { IfErr result (λ refusal. refusal ≡ Refusal.OutOfMemory) }
 {
-    let mut done = Vec::new(alloc);
-    let end = attempt(script, base, commits, &mut done)?;
+    let mut done = Vec::with_capacity(alloc, most_asked(script))?;
+    let end = attempt(script, desk, commits, &mut done)?;
     Ok(Outcome {
         client: u32::from(script.client()),
         number,
@@ -122,7 +106,8 @@ fn no_scripts() -> [u64; 1_000]
 /// refused a growth leaves the base as it was, and the others run all the same.
 ///
 /// # Errors
-/// `OutOfMemory`, where a growth of the report's own was refused, or one while a script was taken back.
+/// `OutOfMemory`, where a growth of the report's own was refused, the room for a script's replies among them, or one
+/// while a script was taken back.
 pub fn serial_with_marks(alloc: Global, scripts: &[Script]) -> Result<Report, Refusal>
     ensures run { IfOk result (λ report.
         IsSerialRun scripts.now (map mark_of report.outcomes) report.outcomes report.base) }
@@ -133,14 +118,16 @@ pub fn serial_with_marks(alloc: Global, scripts: &[Script]) -> Result<Report, Re
         (λ report. (report.events ≡ 0) × AreWithoutTx report.outcomes) }
     ensures refusal { IfErr result (λ refusal. refusal ≡ Refusal.OutOfMemory) }
 {
-    let mut base = Base::new(alloc);
+    let mut desk = BaseDesk {
+        base: Base::new(alloc),
+    };
     let mut outcomes = Outcomes::new(alloc);
     let mut numbers = no_scripts();
     let mut commits = 0;
     for script in scripts {
         let client = script.client() as usize;
         numbers[client] += 1;
-        let outcome = run_alone(alloc, script, numbers[client], commits, &mut base)?;
+        let outcome = run_alone(alloc, script, numbers[client], commits, &mut desk)?;
         let end = outcome.end;
         outcomes.push(outcome)?;
         commits = last_commit(commits, end);
@@ -148,7 +135,7 @@ pub fn serial_with_marks(alloc: Global, scripts: &[Script]) -> Result<Report, Re
     Ok(Report {
         outcomes,
         events: 0,
-        base,
+        base: desk.base,
     })
 }
 

@@ -1,5 +1,5 @@
 -- Whose receipts a session adds.
-use Rattle.std.proofs.Common.{◌≡◌, ◌≢◌, ◌⊎◌, inl, inr, ℕ, ◌+◌, [], ◌∷◌, List, refl, sym, ◌∙◌, ap}
+use Rattle.std.proofs.Common.{◌≡◌, ◌⊎◌, inl, inr, ℕ, ◌+◌, [], ◌∷◌, List, refl, ap}
 use Rattle.std.specs.Prelude.{All, Option, Some, None, Result, Ok, Err, IfOk, IfErr}
 use Rattle.std.proofs.lemmas.List.Elements.{All-append, All-nil, All-push}
 use Rattle.mlt_types.specs.declared.refusal.Refusal.{Refusal}
@@ -7,7 +7,7 @@ use Rattle.mlt_types.specs.declared.refusal.Refusal.TheVariants as refusal
 use Rattle.mlt_wire.specs.Desks.{Moves}
 use Rattle.mlt_wire.specs.Talks.{Turn}
 use Rattle.mlt_wire.specs.Receipts.{begins_by, begun_in, call_of, receipt_if, receipt_of, receipts_of}
-use Rattle.mlt_wire.specs.Sessions.{BrokenOff, Scene, SpokenLong, Summed}
+use Rattle.mlt_wire.specs.Sessions.{BrokenOff, HeardAll, Scene, SpokenLong, Summed}
 use Rattle.mlt_serve.specs.Clients.{GrowsFor, IsOf}
 
 one_of_client : (client number : ℕ) (began : Option ℕ) (behind : List Turn) → All (IsOf client) (receipt_if client number began behind)
@@ -21,12 +21,6 @@ all_of_client client begun (t ∷ ts) =
     All-append (IsOf client) (receipt_if client (begun + 1) (begun_in (call_of t) t.answer) ts) (receipts_of client (begun + begins_by t.answer) ts)
     (one_of_client client (begun + 1) (begun_in (call_of t) t.answer) ts) (all_of_client client (begun + begins_by t.answer) ts)
 
-memory_is_no_line : refusal.OutOfMemory ≢ refusal.LineTooLong
-memory_is_no_line = λ e. cc
-
-fault_is_no_line : refusal.Io ≢ refusal.LineTooLong
-fault_is_no_line = λ e. cc
-
 module _ {D S : Type 0} (moves : Moves D) (client : ℕ) (old new : Scene D) (lines commits : S → ℕ) where
   long_grows : SpokenLong moves client old new → GrowsFor client old.receipts new.receipts
   long_grows spoken = record { more = receipts_of client 0 spoken.spoken.turns; appended = spoken.spoken.noted; of_client = all_of_client client 0 spoken.spoken.turns }
@@ -37,10 +31,11 @@ module _ {D S : Type 0} (moves : Moves D) (client : ℕ) (old new : Scene D) (li
   -- however a session ends, it adds receipts of its client alone
   pub grows : (result : Result S Refusal) → IfOk result (λ s. Summed moves client old new (lines s) (commits s))
       → (result ≡ Err refusal.LineTooLong → SpokenLong moves client old new)
-      → IfErr result (λ r. r ≢ refusal.LineTooLong → BrokenOff moves client old new)
+      → (result ≡ Err refusal.Io → HeardAll moves client old new)
+      → (result ≡ Err refusal.OutOfMemory → BrokenOff moves client old new)
       → IfErr result (λ r. (r ≡ refusal.LineTooLong) ⊎ (r ≡ refusal.OutOfMemory) ⊎ (r ≡ refusal.Io))
       → GrowsFor client old.receipts new.receipts
-  grows (Ok s) ok long off why = record { more = receipts_of client 0 ok.spoken.turns; appended = ok.spoken.noted; of_client = all_of_client client 0 ok.spoken.turns }
-  grows (Err r) ok long off (inl e) = long_grows (long (ap (λ (x : Refusal). Err x) e))
-  grows (Err r) ok long off (inr (inl e)) = off_grows (off (λ l. memory_is_no_line (sym e ∙ l)))
-  grows (Err r) ok long off (inr (inr e)) = off_grows (off (λ l. fault_is_no_line (sym e ∙ l)))
+  grows (Ok s) ok long io memory why = record { more = receipts_of client 0 ok.spoken.turns; appended = ok.spoken.noted; of_client = all_of_client client 0 ok.spoken.turns }
+  grows (Err r) ok long io memory (inl e) = long_grows (long (ap (λ (x : Refusal). Err x) e))
+  grows (Err r) ok long io memory (inr (inl e)) = off_grows (memory (ap (λ (x : Refusal). Err x) e))
+  grows (Err r) ok long io memory (inr (inr e)) = off_grows (io (ap (λ (x : Refusal). Err x) e)).off

@@ -6,6 +6,8 @@ ghost use Rattle.mlt_serve.specs.Endings.{outcome_of};
 use crossbeam_channel::Sender;
 use mlt_types::Refusal;
 use std::alloc::Global;
+use std::io;
+use std::io::ErrorKind;
 use std::net::{TcpListener, TcpStream};
 use std::sync::Wait;
 use std::sync::atomic::{AtomicBool, Ordering};
@@ -23,7 +25,7 @@ pub(crate) struct Visit {
 pub(crate) enum Accepting {
     /// All connections were accepted and sent on.
     Done,
-    /// An accept failed.
+    /// An accept failed for another reason than that its connection was gone.
     Failed,
     /// A sending was refused, or a session was refused a growth.
     Short,
@@ -45,6 +47,21 @@ impl Accepting {
     }
 }
 
+/// The next connection. One that broke off before it was accepted is passed over, so that its accept is tried again.
+///
+/// # Errors
+/// Where an accept fails for any other reason.
+fn next_stream<R: Wait>(rt: &R, listener: &TcpListener) -> io::Result<TcpStream> {
+    for _ in rt.forever() {
+        match listener.accept() {
+            Ok((stream, _)) => return Ok(stream),
+            Err(error) if error.kind() == ErrorKind::ConnectionAborted => {}
+            Err(error) => return Err(error),
+        }
+    }
+    unreachable!()
+}
+
 /// Accepts as many connections as the limit says, numbers them from 1, and sends each on as it comes. It accepts no more
 /// once an accept has failed, a sending was refused, or a session was refused a growth, which sets the flag. What it has
 /// accepted it has sent on, unless that was refused.
@@ -56,7 +73,7 @@ pub(crate) fn accept_all<R: Wait>(
     limit: u32,
 ) -> Accepting {
     for before in 0..limit {
-        let Ok((stream, _)) = listener.accept() else {
+        let Ok(stream) = next_stream(rt, listener) else {
             return Accepting::Failed;
         };
         let client = before + 1;

@@ -13,13 +13,14 @@ use std::sync::atomic::AtomicBool;
 use std::sync::ledger::Ledger;
 use std::thread;
 use std::thread::Threads;
+use std::time::{Clock, Duration};
 
 /// Accepts connections in one thread and serves them in others, or in this one where they are refused. All threads are
 /// joined. Where the channel or the thread that accepts is refused, nothing is accepted.
 pub(crate) fn serve_connections<
     P: Pseudo + Send,
     L: Ledger + Send + Sync,
-    R: Threads + Wait + Sync,
+    R: Threads + Wait + Clock + Sync,
 >(
     rt: &R,
     alloc: Global,
@@ -28,6 +29,7 @@ pub(crate) fn serve_connections<
     crew: &mut Vec<Served<L>>,
     limit: u32,
     tries: u64,
+    idle: Option<Duration>,
 ) -> Accepting
     requires { 0 < vec_len crew.old }
     ensures { vec_len crew.new ≡ vec_len crew.old }
@@ -55,7 +57,7 @@ pub(crate) fn serve_connections<
                 all,
                 threads,
                 &|_, served: &mut Served<L>| {
-                    served.serve_all(rt, alloc, shared, tries, visits, is_short)
+                    served.serve_all(rt, alloc, shared, tries, idle, visits, is_short)
                 },
             );
             accepting.join(rt)

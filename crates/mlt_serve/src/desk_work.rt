@@ -4,6 +4,7 @@ ghost use Rattle.std.specs.Prelude.{◌≡◌, ◌+◌, ◌-◌, ◌^◌, [], fa
 ghost use Rattle.mlt_serve.specs.Clients.{GrowsFor};
 
 use crate::accepting::Visit;
+use crate::parting::part;
 use crate::talking::talk;
 use crossbeam_channel::Receiver;
 use mlt_lock_desk::{LockDesk, NoGate, Shared, Tries};
@@ -13,6 +14,7 @@ use std::alloc::Global;
 use std::sync::Wait;
 use std::sync::atomic::{AtomicBool, Ordering};
 use std::sync::ledger::{Ledger, Share};
+use std::time::{Clock, Duration};
 
 /// What a thread has served so far. Its share of the ledger has two parts: one for itself, and one for the desk that it is
 /// at work at.
@@ -49,14 +51,15 @@ impl<L: Ledger> Served<L> {
         }
     }
 
-    /// Serves a connection by a session at a desk of its own, so that no desk is counted while there is nothing to serve. It
-    /// answers whether the session was refused a growth.
-    fn serve<P: Pseudo, R: Wait>(
+    /// Serves a connection by a session at a desk of its own, so that no desk is counted while there is nothing to serve, and
+    /// then parts from the client. It answers whether the session was refused a growth.
+    fn serve<P: Pseudo, R: Wait + Clock>(
         &mut self,
         rt: &R,
         alloc: Global,
         shared: &Shared<P, L>,
         tries: u64,
+        idle: Option<Duration>,
         visit: Visit,
     ) -> bool
         ensures receipts { GrowsFor visit.client
@@ -76,8 +79,9 @@ impl<L: Ledger> Served<L> {
         let mine = share.split_off(1, 0);
         let mut desk = LockDesk::new(rt, shared, &NoGate, mine, Tries::PerOperation(tries));
         desk.serve(client);
-        let refused = talk(alloc, &stream, &mut desk, client, receipts);
+        let refused = talk(alloc, &stream, idle, &mut desk, client, receipts);
         let (mine, more) = desk.close();
+        part(rt, &stream);
         share.merge(mine);
         *events = events.saturating_add(more);
         *connections = connections.saturating_add(1);
@@ -86,12 +90,13 @@ impl<L: Ledger> Served<L> {
     }
 
     /// Serves one connection after the other, until no more come. Where a session is refused a growth it sets the flag.
-    pub(crate) fn serve_all<P: Pseudo, R: Wait>(
+    pub(crate) fn serve_all<P: Pseudo, R: Wait + Clock>(
         &mut self,
         rt: &R,
         alloc: Global,
         shared: &Shared<P, L>,
         tries: u64,
+        idle: Option<Duration>,
         visits: &Receiver<Visit, Global>,
         is_short: &AtomicBool,
     ) {
@@ -99,7 +104,7 @@ impl<L: Ledger> Served<L> {
             let Ok(visit) = visits.recv(rt) else {
                 return;
             };
-            if self.serve(rt, alloc, shared, tries, visit) {
+            if self.serve(rt, alloc, shared, tries, idle, visit) {
                 is_short.store(true, Ordering::SeqCst);
             }
         }

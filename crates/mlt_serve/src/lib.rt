@@ -5,6 +5,7 @@ mod accepting;
 mod crew;
 mod desk_work;
 mod gathering;
+mod parting;
 mod reporting;
 mod serving;
 mod talking;

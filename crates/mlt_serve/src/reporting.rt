@@ -61,7 +61,6 @@ pub(crate) fn receipts_of<P: Pseudo>(
     ensures audit { accepting ≡ Accepting.Done → gathered.is_short ≡ false
         → IfErr result (λ refusal. refusal ≡ Refusal.Audit) }
 {
-    manager.keeps_a_placed_history();
     accepting.result()?;
     if gathered.is_short {
         return Err(Refusal::OutOfMemory);

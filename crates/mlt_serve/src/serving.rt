@@ -17,9 +17,10 @@ use std::net::TcpListener;
 use std::sync::Wait;
 use std::sync::ledger::{Blank, Ledger};
 use std::thread::Threads;
+use std::time::{Clock, Duration};
 
 /// As `serve_on`. It answers too how many events the desks of the sessions have counted.
-fn serve_with<L: Ledger + Send + Sync, P: Pseudo + Drop + Send, R: Threads + Wait + Sync>(
+fn serve_with<L: Ledger + Send + Sync, P: Pseudo + Drop + Send, R: Threads + Wait + Clock + Sync>(
     rt: &R,
     alloc: Global,
     blank: Blank,
@@ -29,6 +30,7 @@ fn serve_with<L: Ledger + Send + Sync, P: Pseudo + Drop + Send, R: Threads + Wai
     sessions: usize,
     limit: u32,
     tries: u64,
+    idle: Option<Duration>,
 ) -> Result<(Outcomes, Manager<P>, u64), Refusal>
     requires name { blank.name ≡ L.name }
     requires parts { blank.parts ≡ L.parts }
@@ -45,7 +47,7 @@ fn serve_with<L: Ledger + Send + Sync, P: Pseudo + Drop + Send, R: Threads + Wai
     let mut crew = new_crew(alloc, &mut all, sessions)?;
     let manager = Manager::new(alloc, limits, pseudo)?;
     let shared = Shared::new(Hall::new(manager, book));
-    let accepting = serve_connections(rt, alloc, listener, &shared, &mut crew, limit, tries);
+    let accepting = serve_connections(rt, alloc, listener, &shared, &mut crew, limit, tries, idle);
     let gathered = gather(alloc, &mut all, crew);
     let events = gathered.events;
     let manager = shared.close(&mut all);
@@ -63,13 +65,15 @@ fn serve_with<L: Ledger + Send + Sync, P: Pseudo + Drop + Send, R: Threads + Wai
 /// served by one session, whose transactions have that number as their client. An operation that is told to wait, or that it
 /// is blocked, is given up once its tries are spent, from 1 to 1,000,000. The receipts stand by client and then by number.
 ///
-/// Where a session ends by a fault of its connection or by a line that is too long, the others go on.
+/// A connection that gives nothing to read, or takes nothing that is written, for the idle time, if there is one, ends as by a
+/// fault of it. An operation that waits is not idle. Where a session ends by a fault of its connection or by a line that is too
+/// long, the others go on. After a session at most a second is spent on reading away what its client still sends.
 ///
 /// # Errors
-/// `Io`, where an accept failed. `OutOfMemory`, where a growth or a thread was refused, in a session too. Either ends the
+/// `Io`, where an accept failed; one whose connection broke off before is tried again. `OutOfMemory`, where a growth or a thread was refused, in a session too. Either ends the
 /// accepting, and the connections that were taken are served. `Audit`, where neither came, and the receipts do not agree with
 /// the manager's history or not all connections were served. All threads are joined.
-pub fn serve_on<P: Pseudo + Drop + Send, R: Threads + Wait + Sync>(
+pub fn serve_on<P: Pseudo + Drop + Send, R: Threads + Wait + Clock + Sync>(
     rt: &R,
     alloc: Global,
     listener: &TcpListener,
@@ -78,6 +82,7 @@ pub fn serve_on<P: Pseudo + Drop + Send, R: Threads + Wait + Sync>(
     sessions: usize,
     limit: u32,
     tries: u64,
+    idle: Option<Duration>,
 ) -> Result<(Outcomes, Manager<P>), Refusal>
     requires some { 0 < sessions }
     requires most { sessions ≤ 64 }
@@ -98,6 +103,7 @@ pub fn serve_on<P: Pseudo + Drop + Send, R: Threads + Wait + Sync>(
         sessions,
         limit,
         tries,
+        idle,
     )?;
     Ok((receipts, manager))
 }

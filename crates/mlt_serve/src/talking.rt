@@ -8,12 +8,15 @@ use mlt_types::Refusal;
 use mlt_wire::session;
 use std::alloc::Global;
 use std::net::TcpStream;
+use std::time::Duration;
 
-/// Talks over a connection by a session at the desk, which adds receipts of this client alone. It answers whether the session
-/// was refused a growth; any other end of it is an end of this connection alone.
+/// Talks over a connection by a session at the desk, which adds receipts of this client alone. A read or a write that waits
+/// longer than the idle time fails, if there is one. It answers whether the session was refused a growth; any other end of it
+/// is an end of this connection alone.
 pub(crate) fn talk<D: Desk>(
     alloc: Global,
     stream: &TcpStream,
+    idle: Option<Duration>,
     desk: &mut D,
     client: u32,
     receipts: &mut Vec<Outcome>,
@@ -22,6 +25,9 @@ pub(crate) fn talk<D: Desk>(
 {
     // Without this an answer may be held back; where it fails it still comes.
     let _ = stream.set_nodelay(true);
+    // Where these fail, a wait has no end; an open socket takes them.
+    let _ = stream.set_read_timeout(idle);
+    let _ = stream.set_write_timeout(idle);
     let mut reader = stream;
     let mut writer = stream;
     let ended = session(alloc, &mut reader, &mut writer, desk, client, receipts);

@@ -6,3 +6,4 @@ mod Runs
 mod Scripts
 mod Ends
 mod Alls
+pub mod AtDesk

@@ -3,23 +3,18 @@ use Rattle.std.proofs.Common.{◌≡◌, ℕ, List, [], ◌∷◌, ◌++◌, Opt
 use Rattle.std.proofs.lemmas.List.{append-nil, map-append}
 use Rattle.mlt_types.specs.declared.refusal.Refusal.{Refusal}
 use Rattle.mlt_kinds.specs.Bases.{Transcript}
-use Rattle.mlt_kinds.specs.declared.operation.ObjOp.{ObjOp}
-use Rattle.mlt_kinds.specs.declared.operation.ObjReply.{ObjReply}
 use Rattle.mlt_tree.specs.Scripts.{ScriptForm}
 use Rattle.mlt_serial.specs.declared.outcome.End.{End}
 use Rattle.mlt_serial.specs.declared.outcome.End.TheVariants.{Committed, Aborted, Refused}
 use Rattle.mlt_serial.specs.declared.outcome.Outcome.{Outcome}
 use Rattle.mlt_serial.specs.Serial.{mark_of, mark_of_end}
-use Rattle.mlt_event.specs.declared.answer.Answer.TheVariants as answer
 use Rattle.mlt_event.specs.declared.event.Event.{Event}
-use Rattle.mlt_event.specs.declared.event.Event.TheVariants as event
 use Rattle.mlt_event.specs.declared.told.Told.{Told}
-use Rattle.mlt_event.specs.declared.told.Told.TheVariants as told
 use Rattle.mlt_manager.specs.Answers.{counted}
 use Rattle.mlt_manager.specs.Events.{Meets}
 use Rattle.mlt_manager.specs.Managers.{ManagerFields}
 use Rattle.mlt_solo.specs.Asking.{CanBeMarks, CanEnd}
-use Rattle.mlt_solo.specs.Events.{AreEventsOf, AreEventsOfAll, Exchange, IsRunOf, done_by}
+use Rattle.mlt_solo.specs.Events.{AreEventsOf, AreEventsOfAll, Exchange, IsRunOf}
 
 -- one event
 pub run_one : {P : Type 0} (bits_of : P → ℕ → ℕ) (old new : ManagerFields P) (e : Event) (t : Told) → Meets bits_of e t (counted old) new → IsRunOf bits_of old ((e, t) ∷ []) new
@@ -32,10 +27,6 @@ run_on bits_of old mid new (e ∷ first) later (next, meets, rest) run = (next, 
 
 pub same_events : {P : Type 0} (bits_of : P → ℕ → ℕ) (old new : ManagerFields P) (one other : List Exchange) → one ≡ other → IsRunOf bits_of old one new → IsRunOf bits_of old other new
 same_events bits_of old new one other same run = subst (λ (es : List Exchange). IsRunOf bits_of old es new) same run
-
--- one more operation is done
-pub done_more : (tx : ℕ) (t : Transcript) (op : ObjOp) (reply : ObjReply) → done_by tx t ++ (event.Whole tx op, told.Answered (answer.Done reply)) ∷ [] ≡ done_by tx (t ++ (op, reply) ∷ [])
-done_more tx t op reply = sym (map-append (λ (x : ObjOp × ObjReply). (event.Whole tx x.0, told.Answered (answer.Done x.1))) t ((op, reply) ∷ []))
 
 -- **The events of one more script.**
 pub events_push : (ss : List ScriptForm) (os : List Outcome) (es later : List Exchange) (s : ScriptForm) (o : Outcome) → AreEventsOfAll ss os es → AreEventsOf s o.tx o.done o.end later

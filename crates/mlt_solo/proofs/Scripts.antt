@@ -1,6 +1,6 @@
 -- What one script asks of a manager, and what it leaves
 use Rattle.std.proofs.Common.{◌≡◌, ◌≤◌, ◌+◌, ℕ, List, [], ◌∷◌, ◌++◌, Ok, Err, inl, inr, refl, sym, ap, subst, ◌∙◌, arith}
-use Rattle.std.proofs.lemmas.List.{append-nil, append_assoc}
+use Rattle.std.proofs.lemmas.List.{append_assoc}
 use Rattle.std.specs.Cmp.{nat_cmp_total}
 use Rattle.std.specs.Ordering.{nat_cmp}
 use Rattle.std.specs.FinMap as map
@@ -22,7 +22,7 @@ use Rattle.mlt_cursor.specs.Follows.Plan.{Asks, Ends}
 use Rattle.mlt_serial.specs.declared.outcome.End.{End}
 use Rattle.mlt_serial.specs.declared.outcome.End.TheVariants.{Committed, Aborted, Refused}
 use Rattle.mlt_serial.specs.Serial.{IsRun}
-use Rattle.mlt_serial.proofs.Transcripts.{is_partial, runs_more}
+use Rattle.mlt_cursor.proofs.Transcripts.{is_partial}
 use Rattle.mlt_trace.specs.declared.item.TraceItem.TheVariants as trace
 use Rattle.mlt_history.specs.Entries.{entries_of}
 use Rattle.mlt_history.proofs.ItemLaws.{entries_of-append}
@@ -45,7 +45,7 @@ use Rattle.mlt_solo.specs.Alone.{HasOneIdle, IsAtRest, KeepsCommitted}
 use Rattle.mlt_solo.specs.Asking.{CanMark, HasAsked, HasDone, HasEndedScript, HasRunScript, IsKept, IsRefused, IsRefusedAfter, IsTakenBack}
 use Rattle.mlt_solo.specs.Events.{done_by, taken_back}
 use Rattle.mlt_solo.proofs.Items.{base_at_rest, begin_commits_none, committed_by, op_commits_none, serial_at_rest}
-use Rattle.mlt_solo.proofs.Runs.{done_more, run_on, run_one, same_events}
+use Rattle.mlt_solo.proofs.Runs.{run_on, run_one, same_events}
 use Rattle.mlt_solo.proofs.Wholes.{call_refused, run_beside, run_done_idle, run_refused_idle, same_items_base, stands_behind_nobody, still_one}
 
 module _ {P : Type 0} (bits_of : P → ℕ → ℕ) where
@@ -115,17 +115,15 @@ module _ {P : Type 0} (bits_of : P → ℕ → ℕ) where
   pub asked_nothing : (m : ManagerFields P) (tx : ℕ) → HasAsked bits_of m m [] (done_by tx [])
   asked_nothing m tx = record { run = refl; leads = λ base leads. (base, refl, leads); keeps = record { committed = refl; commits = refl } }
 
-  -- **One more operation is done.**
-  pub asked_more : (old m m' : ManagerFields P) (tx : ℕ) (t : Transcript) (op : ObjOp) (reply : ObjReply) → HasAsked bits_of old m t (done_by tx t) → HasDone bits_of m m' tx (op, reply)
-      → HasAsked bits_of old m' (t ++ (op, reply) ∷ []) (done_by tx (t ++ (op, reply) ∷ []))
-  asked_more old m m' tx t op reply asked done = record {
-    run = same_events bits_of old m' _ _ (done_more tx t op reply)
-        (run_on bits_of old m m' (done_by tx t) _ asked.run (run_one bits_of m m' (event.Whole tx op) (told.Answered (answer.Done reply)) done.meets));
+  -- **An operation is done, and then others.**
+  pub asked_first : (old m new : ManagerFields P) (tx : ℕ) (x : ObjOp × ObjReply) (t : Transcript) → HasDone bits_of old m tx x → HasAsked bits_of m new t (done_by tx t) → HasAsked bits_of old new (x ∷ t) (done_by tx (x ∷ t))
+  asked_first old m new tx x t done asked = record {
+    run = (m, done.meets, asked.run);
     leads = λ base leads.
-        let before = asked.leads base leads in
-        let after = done.leads before.0 before.2 in
-        (after.0, runs_more base t before.0 after.0 (op, reply) before.1 after.1, after.2);
-    keeps = none_committed old m m' asked.keeps done.keeps;
+        let first = done.leads base leads in
+        let later = asked.leads first.0 first.2 in
+        (later.0, (first.0, first.1, later.1), later.2);
+    keeps = none_committed old m new done.keeps asked.keeps;
   }
 
   asked_at : (p q : Plan) (t : Transcript) (op : ObjOp) → Reaches p t q → IsNext (next.Op op) q → (after : ObjReply → Plan) × Reaches p t (Asks op after)
@@ -138,24 +136,13 @@ module _ {P : Type 0} (bits_of : P → ℕ → ℕ) where
   refused_after s q old m m' tx t op reason reaches is asked refused = record {
     partial = is_partial s t q reaches;
     last = (event.Whole tx op, refused.said) ∷ [];
-    why = inl (record { op = op; asked = asked_at (plan_of_script s) q t op reaches is; said = refused.said; refused = refused.refused; events = refl });
+    why = record { op = op; asked = asked_at (plan_of_script s) q t op reaches is; said = refused.said; refused = refused.refused; events = refl };
     asked = record {
       run = run_on bits_of old m m' (done_by tx t) _ asked.run (run_one bits_of m m' (event.Whole tx op) refused.said refused.meets);
       leads = λ base leads. let before = asked.leads base leads in (before.0, before.1, refused.stays before.0 before.2);
       keeps = none_committed old m m' asked.keeps refused.keeps;
     };
     can = refused.can;
-  }
-
-  -- **There is no memory for one more reply.**
-  pub short_after : (s : ScriptForm) (q : Plan) (old m : ManagerFields P) (tx : ℕ) (t : Transcript) (reason : Refusal) → Reaches (plan_of_script s) t q → HasAsked bits_of old m t (done_by tx t)
-      → reason ≡ refusal.OutOfMemory → IsRefusedAfter bits_of s old m tx t reason
-  short_after s q old m tx t reason reaches asked memory = record {
-    partial = is_partial s t q reaches;
-    last = [];
-    why = inr (record { memory = memory; events = refl });
-    asked = record { run = same_events bits_of old m _ _ (sym (append-nil (done_by tx t))) asked.run; leads = asked.leads; keeps = asked.keeps };
-    can = subst CanMark (sym memory) tt;
   }
 
   -- ends of a script

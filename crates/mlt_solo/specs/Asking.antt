@@ -22,7 +22,7 @@ use Rattle.mlt_manager.specs.Events.{Meets}
 use Rattle.mlt_manager.specs.Managers.{ManagerFields}
 use Rattle.mlt_manager.specs.Promises.{lists_by}
 use Rattle.mlt_solo.specs.Alone.{KeepsCommitted}
-use Rattle.mlt_solo.specs.Events.{AreEventsOf, AreEventsOfAll, Exchange, IsRefusedBy, IsRunOf, done_by, taken_back}
+use Rattle.mlt_solo.specs.Events.{AreEventsOf, AreEventsOfAll, Exchange, IsRunOf, IsToldRefusal, done_by, taken_back}
 
 -- what a script may be refused with: there is no memory or no room, or it has too many operations, or all numbers of
 -- transactions were given out
@@ -64,7 +64,7 @@ pub record IsRefusedAfter {P : Type 0} (bits_of : P → ℕ → ℕ) (s : Script
     (old new : ManagerFields P) (tx : ℕ) (t : Transcript) (reason : Refusal) : Type 0 where
   pub partial : IsPartial s t
   pub last : List Exchange
-  pub why : IsRefusedBy s tx t reason last
+  pub why : IsToldRefusal s tx t reason last
   pub asked : HasAsked bits_of old new t (done_by tx t ++ last)
   pub can : CanMark reason
 

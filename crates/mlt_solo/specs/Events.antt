@@ -1,7 +1,6 @@
 -- The events of scripts that run alone, one after another, and what each is told
 use Rattle.std.specs.Prelude.{ℕ, ◌≡◌, ◌⊎◌, Bool, true, false, List, [], ◌∷◌, ◌++◌, map}
 use Rattle.mlt_types.specs.declared.refusal.Refusal.{Refusal}
-use Rattle.mlt_types.specs.declared.refusal.Refusal.TheVariants as refusal
 use Rattle.mlt_kinds.specs.Bases.{Transcript}
 use Rattle.mlt_kinds.specs.declared.operation.ObjOp.{ObjOp}
 use Rattle.mlt_kinds.specs.declared.operation.ObjReply.{ObjReply}
@@ -62,14 +61,6 @@ pub record IsToldRefusal (s : ScriptForm) (tx : ℕ) (t : Transcript) (reason : 
   pub refused : (said ≡ told.Refused reason) ⊎ (said ≡ told.Answered (answer.Refused reason))
   pub events : last ≡ (event.Whole tx op, said) ∷ []
 
--- there is no memory to note one more reply, so that no operation is asked for it
-pub record LacksMemory (reason : Refusal) (last : List Exchange) : Type 0 where
-  pub memory : reason ≡ refusal.OutOfMemory
-  pub events : last ≡ []
-
-abbrev pub IsRefusedBy : ScriptForm → ℕ → Transcript → Refusal → List Exchange → Type 0
-IsRefusedBy s tx t reason last = IsToldRefusal s tx t reason last ⊎ LacksMemory reason last
-
 -- no transaction begins
 pub record IsNotBegun (tx : ℕ) (t : Transcript) (reason : Refusal) (exchanges : List Exchange)
     : Type 0 where
@@ -81,7 +72,7 @@ pub record IsNotBegun (tx : ℕ) (t : Transcript) (reason : Refusal) (exchanges 
 pub record IsCutShort (s : ScriptForm) (tx : ℕ) (t : Transcript) (reason : Refusal)
     (exchanges : List Exchange) : Type 0 where
   pub last : List Exchange
-  pub why : IsRefusedBy s tx t reason last
+  pub why : IsToldRefusal s tx t reason last
   pub closed : Bool
   pub events : exchanges ≡ begun_by tx t ++ (last ++ taken_back tx closed)
 

@@ -1,8 +1,8 @@
 //! Scripts from a reader, run one after another through a manager, and their text to a writer.
 #![tactic(auto)]
 
-mod asking;
 mod engine;
+mod manager_desk;
 mod running;
 
 pub use engine::solo;

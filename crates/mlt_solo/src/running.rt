@@ -1,77 +1,15 @@
 //! Scripts that run one after another through a manager.
 
-ghost use Rattle.std.specs.Prelude.{◌≡◌, [], IfErr, IfOk, replicate};
-ghost use Rattle.mlt_solo.specs.Alone.{HasOneIdle, IsAtRest};
-ghost use Rattle.mlt_solo.specs.Asking.{HasEndedScript, HasRunAll, HasRunScript};
+ghost use Rattle.std.specs.Prelude.{◌≡◌, IfErr, IfOk, replicate};
+ghost use Rattle.mlt_solo.specs.Alone.{IsAtRest};
+ghost use Rattle.mlt_solo.specs.Asking.{HasRunAll};
 
-use crate::asking::{ask_all, keep, take_back};
-use mlt_kinds::Done;
-use mlt_manager::Manager;
-use mlt_serial::{End, Outcome, Outcomes, Transcript};
-use mlt_tree::{Ending, Script};
-use mlt_types::{Pseudo, Refusal, TxId};
+use crate::manager_desk::ManagerDesk;
+use mlt_desk::run_script;
+use mlt_serial::Outcomes;
+use mlt_tree::Script;
+use mlt_types::{Pseudo, Refusal};
 use std::alloc::Global;
-
-/// Runs the script to its end in a transaction that has begun, which is taken back where it does not commit.
-fn end<P: Pseudo>(manager: &mut Manager<P>, tx: TxId, script: &Script, done: &mut Vec<Done>) -> End
-    requires alone { HasOneIdle P.bits_of manager.old tx }
-    requires empty { done.old.items ≡ [] }
-    ensures rest { IsAtRest P.bits_of manager.new }
-    ensures ended { HasEndedScript P.bits_of script.now manager.old manager.new tx
-        done.new.items result }
-{
-    match ask_all(manager, tx, script, done) {
-        Ok(Ending::Commit) => End::Committed(keep(manager, tx)),
-        Ok(Ending::Abort) => {
-            take_back(manager, tx);
-            End::Aborted
-        }
-        Err(refusal) => {
-            take_back(manager, tx);
-            End::Refused(refusal)
-        }
-    }
-}
-
-/// Runs the script in a transaction of its own; what was done is added to the list. It answers the transaction's
-/// number, 0 where none began, and how the script ended.
-fn play<P: Pseudo>(manager: &mut Manager<P>, script: &Script, done: &mut Vec<Done>) -> (u64, End)
-    requires rest { IsAtRest P.bits_of manager.old }
-    requires empty { done.old.items ≡ [] }
-    ensures rest { IsAtRest P.bits_of manager.new }
-    ensures run { HasRunScript P.bits_of script.now manager.old manager.new result.0
-        done.new.items result.1 }
-{
-    match manager.begin() {
-        Ok(tx) => (tx.0, end(manager, tx, script, done)),
-        Err(refusal) => (0, End::Refused(refusal)),
-    }
-}
-
-/// Runs the script, which has this number within its client.
-fn run_one<P: Pseudo>(
-    alloc: Global,
-    manager: &mut Manager<P>,
-    script: &Script,
-    number: u64,
-) -> Outcome
-    requires rest { IsAtRest P.bits_of manager.old }
-    ensures rest { IsAtRest P.bits_of manager.new }
-    ensures run { HasRunScript P.bits_of script.now manager.old manager.new result.tx
-        result.done result.end }
-    ensures client { result.client ≡ script.now.client }
-    ensures number { result.number ≡ number }
-{
-    let mut done = Vec::new(alloc);
-    let (tx, end) = play(manager, script, &mut done);
-    Outcome {
-        client: u32::from(script.client()),
-        number,
-        tx,
-        done: Transcript::new(done),
-        end,
-    }
-}
 
 /// How many scripts of each client there were before the first.
 fn no_scripts() -> [u64; 1_000]
@@ -83,15 +21,16 @@ fn no_scripts() -> [u64; 1_000]
 /// Runs the scripts one after another. A script that is refused is taken back, and the others run all the same.
 ///
 /// # Errors
-/// `OutOfMemory`, where a growth of the list of outcomes was refused.
+/// `OutOfMemory`, where a growth of the list of outcomes was refused, or the room for all replies of a script, of which
+/// nothing was asked then.
 pub(crate) fn run_all<P: Pseudo>(
     alloc: Global,
-    manager: &mut Manager<P>,
+    desk: &mut ManagerDesk<P>,
     scripts: &[Script],
 ) -> Result<Outcomes, Refusal>
-    requires rest { IsAtRest P.bits_of manager.old }
+    requires rest { IsAtRest P.bits_of desk.old.manager }
     ensures run { IfOk result (λ outcomes.
-        HasRunAll P.bits_of scripts.now manager.old manager.new outcomes) }
+        HasRunAll P.bits_of scripts.now desk.old.manager desk.new.manager outcomes) }
     ensures refusal { IfErr result (λ refusal. refusal ≡ Refusal.OutOfMemory) }
 {
     let mut outcomes = Outcomes::new(alloc);
@@ -99,7 +38,7 @@ pub(crate) fn run_all<P: Pseudo>(
     for script in scripts {
         let client = script.client() as usize;
         numbers[client] += 1;
-        let outcome = run_one(alloc, manager, script, numbers[client]);
+        let outcome = run_script(alloc, desk, script, numbers[client])?;
         outcomes.push(outcome)?;
     }
     Ok(outcomes)

@@ -1,5 +1,5 @@
 -- What a step of a split leaves locked
-use Rattle.std.proofs.Common.{ℕ, ◌≡◌, ◌⊎◌, None, Some, sym, ◌∙◌, ap, subst, inl, inr, arith}
+use Rattle.std.proofs.Common.{ℕ, ◌≡◌, ◌⊎◌, true, is_some, None, Some, sym, ◌∙◌, ap, subst, inl, inr, arith}
 use Rattle.std.proofs.lemmas.Bool.{cases_eq}
 use Rattle.std.proofs.lemmas.Bool.Decides.{nat_tests}
 use Rattle.mlt_types.specs.declared.mode.Mode.TheVariants.{Exclusive}
@@ -7,8 +7,9 @@ use Rattle.mlt_store.specs.Stores.{page_at}
 use Rattle.mlt_page_locks.proofs.LockLaws.{mode_held-granted}
 use Rattle.mlt_page_locks.specs.LockTables.{LockTable, mode_held}
 use Rattle.mlt_page_locks.specs.Requests.{granted, stronger}
-use Rattle.mlt_held.specs.Moments.{Moment}
+use Rattle.mlt_held.specs.Moments.{MayStep, Moment}
 use Rattle.mlt_held.specs.Views.{view_of}
+use Rattle.mlt_held.proofs.Views.{make_makes, write_writes}
 use Rattle.mlt_split.specs.Rests.{Aim}
 use Rattle.mlt_split.specs.Splits.{SplitFields}
 use Rattle.mlt_split.specs.Steps.{IsDone, IsLeft, IsMaking, IsNextPage, Touches}
@@ -69,3 +70,15 @@ locks_its_page_alone answer.Going aim old new split p done = done_locks split.ph
 locks_its_page_alone (answer.Closed n) aim old new split p done = done_locks split.phase aim old new split p done
 locks_its_page_alone (answer.Waiting n by) aim old new split p same = held_as_before old new (MayLock split.phase aim old) p (ap (λ (m : Moment). m.locks) same)
 locks_its_page_alone (answer.Refused reason) aim old new split p left = left_locks split.phase aim old new p left
+
+-- the page is written
+abbrev IsWrittenIn : Moment → ℕ → Type 0
+IsWrittenIn new p = is_some ((view_of new).own p) ≡ true
+
+-- **What a step locks that was done it has written or made.**
+pub done_writes_what_it_locks : (phase : SplitPhase) (aim : Aim) (old new : Moment) (split : SplitFields) (p : ℕ) → MayStep old → IsDone phase aim old new split → IsHeldAs old new (IsWrittenIn new) p
+done_writes_what_it_locks at.OldBucket aim old new split p may done = held_as_before old new (IsWrittenIn new) p done.1.locks
+done_writes_what_it_locks (at.InPlace place end) aim old new split p may done = held_as_locked old new (IsWrittenIn new) p done.0 (ap is_some (write_writes done.2.0 new done.0 done.2.2.0 done.2.2.1).here) (done.2.2.1.locks ∙ done.2.1.locks)
+done_writes_what_it_locks (at.Double place) aim old new split p may done = held_as_locked old new (IsWrittenIn new) p done.0 (ap is_some (write_writes done.2.0 new done.0 done.2.2.0 done.2.2.1).here) (done.2.2.1.locks ∙ done.2.1.locks)
+done_writes_what_it_locks (at.SecondHalf place) aim old new split p may done = held_as_locked old new (IsWrittenIn new) p done.0 (ap is_some (make_makes old new done.0 done.1 may done.2).own_here) done.2.locks
+done_writes_what_it_locks at.Header aim old new split p may done = held_as_before old new (IsWrittenIn new) p done.1.locks

@@ -1,13 +1,12 @@
 //! Events from a reader, played in order by one manager, and their text to a writer.
 
-ghost use Rattle.std.specs.Prelude.{◌≡◌, ◌≤◌, ◌<◌, ◌⊎◌, ℕ, List, length, Err, IfErr, IfOk, IfSome, IsErrAnd};
-ghost use Rattle.std.specs.Io.KnownBytes.{Appends, Consumes, Keeps};
+ghost use Rattle.std.specs.Prelude.{◌≡◌, ◌⊎◌, ℕ, List, Err, IfErr, IfOk};
+ghost use Rattle.std.specs.Io.KnownBytes.{Appends};
 ghost use Rattle.mlt_types.specs.declared.refusal.ScriptCause.{ScriptCause};
+ghost use Rattle.mlt_text.specs.Failures.{FailsCleanly, IsScriptFault, IsWant};
 ghost use Rattle.mlt_text.specs.Inputs.{GivesWhole};
-ghost use Rattle.mlt_text.specs.Texts.{AppendsFront};
 ghost use Rattle.mlt_event_text.specs.Grammar.{IsFirstFault};
-ghost use Rattle.mlt_manager.specs.Managers.{ManagerFields};
-ghost use Rattle.mlt_steps.specs.Steps.{IsStepsOf};
+ghost use Rattle.mlt_steps.specs.Steps.{IsStepsOf, IsStepsText};
 
 use crate::report::write_tolds;
 use mlt_event_text::parse_events;
@@ -42,26 +41,13 @@ where
         × Appends (W.contents writer.old) (W.contents writer.new) text) }
     // a fault is the first one of the input
     ensures fault { (line : ℕ) (cause : ScriptCause) → result ≡ Err (Refusal.ScriptFault line cause)
-        → ((input : List ℕ) × GivesWhole (R.remaining reader.old) (R.remaining reader.new) input
-        × IsFirstFault input line cause) × Keeps (W.contents writer.old) (W.contents writer.new) }
-    // an input that is too long is refused, and not read on
-    ensures long { IfSome (R.remaining reader.old) (λ input. 16777216 < length input
-        → IsErrAnd result (λ refusal. (refusal ≡ Refusal.OutOfMemory) ⊎ (refusal ≡ Refusal.Io))
-        × Keeps (W.contents writer.old) (W.contents writer.new)) }
-    ensures bounded { (taken : List ℕ)
-        × Consumes (R.remaining reader.old) (R.remaining reader.new) taken
-        × (length taken ≤ 16777217) }
-    // after a failed read nothing was written, and after a failed write a prefix of the text
-    ensures io { result ≡ Err Refusal.Io → Keeps (W.contents writer.old) (W.contents writer.new)
-        ⊎ ((input text : List ℕ) × (manager : ManagerFields P)
-        × IsStepsOf P.bits_of limits pseudo
-        (R.remaining reader.old) (R.remaining reader.new) input text manager
-        × AppendsFront (W.contents writer.old) (W.contents writer.new) text) }
-    ensures memory { result ≡ Err Refusal.OutOfMemory
-        → Keeps (W.contents writer.old) (W.contents writer.new) }
-    ensures refusals { IfErr result
-        (λ refusal. (refusal ≡ Refusal.OutOfMemory) ⊎ (refusal ≡ Refusal.Io)
-        ⊎ ((line : ℕ) × (cause : ScriptCause) × (refusal ≡ Refusal.ScriptFault line cause))) }
+        → (input : List ℕ) × GivesWhole (R.remaining reader.old) (R.remaining reader.new) input
+        × IsFirstFault input line cause }
+    // where it fails, nothing was written, or a prefix of such a text; and too long an input is not read on
+    ensures failure { FailsCleanly (R.remaining reader.old) (R.remaining reader.new)
+        (W.contents writer.old) (W.contents writer.new) result
+        (IsStepsText P.bits_of limits pseudo) }
+    ensures refusals { IfErr result (λ refusal. IsWant refusal ⊎ IsScriptFault refusal) }
 {
     let input = read_input(alloc, reader)?;
     let events = parse_events(alloc, input.as_slice())?;

@@ -3,6 +3,7 @@
 ghost use Rattle.std.specs.Prelude.{◌≡◌, ◌≤◌, ◌<◌, ◌⊎◌, ℕ, List, length, IfOk, IfErr, OnErr, IfSome, IsErr, take, vec_len, true, [], ◌++◌, ◌+◌};
 ghost use Rattle.std.specs.Io.{ReadsAtMost};
 ghost use Rattle.std.specs.Io.KnownBytes.{Consumes, IsAtEnd, Keeps, ReadConsumes};
+ghost use Rattle.mlt_text.specs.Failures.{IsWant, ReadsWithinLimit, RefusesLong};
 ghost use Rattle.mlt_text.specs.Inputs.{GivesWhole};
 
 use mlt_types::Refusal;
@@ -24,15 +25,9 @@ pub fn read_input<R: Read>(alloc: Global, reader: &mut R) -> Result<Vec<u8>, Ref
     // all that the reader had, which fits
     ensures ok { IfOk result
         (λ bytes. GivesWhole (R.remaining reader.old) (R.remaining reader.new) bytes.items) }
-    // a longer input is refused
-    ensures long { IfSome (R.remaining reader.old)
-        (λ input. 16777216 < length input → IsErr result) }
-    // never is more read than one byte past the limit
-    ensures bounded { (taken : List ℕ)
-        × Consumes (R.remaining reader.old) (R.remaining reader.new) taken
-        × length taken ≤ 16777217 }
-    ensures refusals { IfErr result
-        (λ refusal. (refusal ≡ Refusal.OutOfMemory) ⊎ (refusal ≡ Refusal.Io)) }
+    ensures long { RefusesLong (R.remaining reader.old) result }
+    ensures bounded { ReadsWithinLimit (R.remaining reader.old) (R.remaining reader.new) }
+    ensures refusals { IfErr result IsWant }
 {
     let mut bytes = Vec::new(alloc);
     let mut piece = zeros(alloc, PIECE)?;
@@ -68,8 +63,7 @@ fn read_piece<R: Read>(
     ensures err { OnErr result
         ((read : List ℕ) × Consumes (R.remaining reader.old) (R.remaining reader.new) read
         × length bytes.old.items + length read ≤ 16777217) }
-    ensures refusals { IfErr result
-        (λ refusal. (refusal ≡ Refusal.OutOfMemory) ⊎ (refusal ≡ Refusal.Io)) }
+    ensures refusals { IfErr result IsWant }
 {
     let count = read_some(reader, piece)?;
     if bytes.len() + count > MAX_INPUT {

@@ -1,19 +1,21 @@
 -- A session that goes on, and how it ends.
-use Rattle.std.proofs.Common.{◌≡◌, ℕ, ◌+◌, ◌≤◌, List, [], ◌∷◌, ◌++◌, length, take, drop, Option, true, false, Some, None, refl, sym, ap, subst, ◌∙◌, arith, append_assoc, append-nil, take-append-drop, length-append, length-take}
-use Rattle.std.proofs.lemmas.List.{map-append}
+use Rattle.std.proofs.Common.{◌≡◌, ◌⊎◌, inl, inr, ℕ, ◌+◌, ◌≤◌, List, [], ◌∷◌, ◌++◌, length, take, drop, Option, Bool, true, false, Some, None, refl, sym, ap, subst, ◌∙◌, arith, append_assoc, append-nil, take-append-drop, length-append, length-take}
+use Rattle.std.proofs.Math.Seq.{take-append_seam}
+use Rattle.std.proofs.lemmas.List.{map-append, take_all}
 use Rattle.std.proofs.lemmas.Grind.{flat_map-append}
 use Rattle.std.specs.List.{flat_map}
 use Rattle.std.specs.Io.KnownBytes.{Appends, Consumes, IsAtEnd, Keeps}
 use Rattle.std.proofs.KnownBytes.{Appends-nil, Appends-trans, Consumes-nil, Consumes-trans}
 use Rattle.mlt_text.specs.Texts.{AppendsFront}
 use Rattle.mlt_request.specs.declared.line.Line.{Line}
-use Rattle.mlt_wire.specs.Batches.{Covers, IsRest, lines_in}
-use Rattle.mlt_request.specs.Inputs.{lines_of, Begins}
-use Rattle.mlt_wire.specs.Rounds.{Replied, Stopped, Listens, Talked, Broken, AreLines, EndsInput}
+use Rattle.mlt_wire.specs.Batches.{Answered, Covers, IsRest, lines_in}
+use Rattle.mlt_request.specs.Inputs.{lines_of, Begins, Splits}
+use Rattle.mlt_wire.specs.Rounds.{Replied, Stopped, Unwritten, Listens, Talked, Broken, BrokenHeard, AreLines, EndsInput}
 use Rattle.mlt_wire.specs.Talks.{Turn, turn_text}
 use Rattle.mlt_wire.specs.Turns.{Place, Goes}
 use Rattle.mlt_request.proofs.Splitting.{splits_none, splits_both, prefix_lines, prefix_begins}
 use Rattle.mlt_wire.specs.Desks.{Moves}
+use Rattle.mlt_wire.proofs.Reaching.{covers_all, covers_begin}
 
 -- turns, and then more turns
 goes_on : {D : Type 0} (moves : Moves D) (client : ℕ) (p m q : Place D) (ts us : List Turn) → Goes moves client p ts m → Goes moves client m us q → Goes moves client p (ts ++ us) q
@@ -84,6 +86,27 @@ breaks moves client p q a b c w v held piece total h fits read =
       wrote = prefix_of_all w v (flat_map turn_text h.turns) h.wrote;
     }
 
+-- the bytes up to the limit
+up_to_limit : (front piece : List ℕ) (limit : ℕ) → length front ≤ limit → (length piece ≡ 0) ⊎ (length front ≡ limit) → take limit (front ++ piece) ≡ front
+up_to_limit front piece limit fits (inl none) = ap (take limit) (no_piece piece none front) ∙ take_all limit front fits
+up_to_limit front piece limit fits (inr full) = subst (λ (n : ℕ). take n (front ++ piece) ≡ front) full (take-append_seam front piece)
+
+-- a read failed, or gave too much: all lines up to the limit were heard
+pub breaks_heard : {D : Type 0} (moves : Moves D) (client : ℕ) (p q : Place D) (a b c w v : Option (List ℕ)) (held piece : List ℕ) (total : ℕ)
+    → Listens moves client p a b w v held total q → total ≤ 16777216 → total + length piece ≤ 16777217 → (length piece ≡ 0) ⊎ (total ≡ 16777216) → q.progress.over ≡ false
+    → Consumes b c piece → BrokenHeard moves client p a c w v q
+unfolding breaks
+breaks_heard moves client p q a b c w v held piece total h fits few cut o read =
+    let n : length (h.prefix ++ held) ≡ total = (let s = h.sum in omega (arith, length-append h.prefix held)) in
+    let cut_there : (length piece ≡ 0) ⊎ (length (h.prefix ++ held) ≡ 16777216) = elim cut [ inl none ↦ inl none | inr full ↦ inr (n ∙ full) ] in
+    let front : take 16777216 ((h.prefix ++ held) ++ piece) ≡ h.prefix ++ held = up_to_limit (h.prefix ++ held) piece 16777216 (omega arith) cut_there in
+    record {
+      broken = breaks moves client p q a b c w v held piece total h few read;
+      lines = subst (λ over. AreLines over (take 16777216 ((h.prefix ++ held) ++ piece)) (lines_in h.turns)) (sym o)
+          (ap lines_of front ∙ prefix_lines h.prefix held (lines_in h.turns) h.splits h.lines ∙ ap (λ (l : List Line). lines_in h.turns ++ l) h.rest ∙ append-nil (lines_in h.turns));
+      whole = λ _. h.wrote;
+    }
+
 appends_prefix_trans : (w v u : Option (List ℕ)) (xs ys : List ℕ) → Appends w v xs → AppendsFront v u ys → AppendsFront w u (xs ++ ys)
 appends_prefix_trans w v u xs ys h k =
     (xs ++ k.0, k.1, ap (λ (t : List ℕ). xs ++ t) k.2 ∙ sym (append_assoc xs k.0 k.1), Appends-trans w v u xs k.0 h k.3)
@@ -102,6 +125,42 @@ stops moves client p m q a b c w v u held piece text total h fits read e s =
           (subst (Begins (h.prefix ++ (held ++ piece))) (sym (lines_join h.turns s.turns))
           (prefix_begins h.prefix (held ++ piece) (lines_in h.turns) (lines_in s.turns) h.splits h.lines (subst (λ bytes. Begins bytes (lines_in s.turns)) e s.begins)));
       wrote = subst (AppendsFront w u) (sym (text_join h.turns s.turns)) (appends_prefix_trans w v u (flat_map turn_text h.turns) (flat_map turn_text s.turns) h.wrote s.wrote);
+    }
+
+-- the lines of a text were answered, and the answers not all written
+pub not_written : {D : Type 0} (moves : Moves D) (client : ℕ) (p q : Place D) (text before out : List ℕ) (at : ℕ) (w v : Option (List ℕ))
+    → Answered moves client p text before at out q → before ≡ [] → AppendsFront w v out → Unwritten moves client p text w v q
+not_written moves client p q text before out at w v (r, rest) none written =
+    record {
+      stopped = record {
+        turns = r.turns;
+        goes = r.goes;
+        begins = covers_begin q.progress.over text at (lines_in r.turns) r.covers;
+        wrote = subst (AppendsFront w v) (r.says ∙ ap (λ (front : List ℕ). front ++ flat_map turn_text r.turns) none) written;
+      };
+      lines = covers_all q.progress.over text at (lines_in r.turns) r.covers rest;
+    }
+
+-- the lines of a text behind those that were heard
+lines_behind : (over : Bool) (prefix text : List ℕ) (ls ms : List Line) → Splits prefix → lines_of prefix ≡ ls → AreLines over text ms → AreLines over (prefix ++ text) (ls ++ ms)
+lines_behind false prefix text ls ms s e h = prefix_lines prefix text ls s e ∙ ap (λ (l : List Line). ls ++ l) h
+lines_behind true prefix text ls ms s e h = prefix_begins prefix text ls ms s e h
+
+-- an answer was not written: all lines were heard
+pub stops_heard : {D : Type 0} (moves : Moves D) (client : ℕ) (p m q : Place D) (a b c w v u : Option (List ℕ)) (held piece text : List ℕ) (total : ℕ)
+    → Listens moves client p a b w v held total m → total + length piece ≤ 16777216 → Consumes b c piece → text ≡ held ++ piece → Unwritten moves client m text v u q
+    → BrokenHeard moves client p a c w u q
+unfolding stops
+stops_heard moves client p m q a b c w v u held piece text total h fits read e s =
+    let turns : List Turn = s.stopped.turns in
+    let few : length ((h.prefix ++ held) ++ piece) ≤ 16777216 = taken_length h.prefix held piece total 16777216 h.sum fits in
+    let all : take 16777216 ((h.prefix ++ held) ++ piece) ≡ h.prefix ++ (held ++ piece) = take_all 16777216 ((h.prefix ++ held) ++ piece) few ∙ append_assoc h.prefix held piece in
+    record {
+      broken = stops moves client p m q a b c w v u held piece text total h (omega arith) read e s.stopped;
+      lines = subst (λ bytes. AreLines q.progress.over bytes (lines_in (h.turns ++ turns))) (sym all)
+          (subst (AreLines q.progress.over (h.prefix ++ (held ++ piece))) (sym (lines_join h.turns turns))
+          (lines_behind q.progress.over h.prefix (held ++ piece) (lines_in h.turns) (lines_in turns) h.splits h.lines (subst (λ bytes. AreLines q.progress.over bytes (lines_in turns)) e s.lines)));
+      whole = λ past. absurd (omega arith);
     }
 
 -- a line ended the session

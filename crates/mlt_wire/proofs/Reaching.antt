@@ -1,14 +1,16 @@
 -- How far the lines of a text were answered.
-use Rattle.std.proofs.Common.{◌≡◌, ◌≢◌, ℕ, ◌+◌, ◌-◌, List, [], ◌∷◌, ◌++◌, length, take, drop, Bool, true, false, Some, refl, sym, ap, subst, ◌∙◌, arith, append_assoc, append-nil, take-append-drop, length-drop}
+use Rattle.std.proofs.Common.{◌≡◌, ℕ, ◌+◌, ◌-◌, List, [], ◌∷◌, ◌++◌, length, take, drop, Bool, true, false, Some, refl, sym, ap, subst, ◌∙◌, arith, append_assoc, append-nil, take-append-drop, length-drop}
 use Rattle.std.proofs.Math.Seq.{take-add}
 use Rattle.std.proofs.lemmas.List.{take_rest, map-append}
 use Rattle.std.proofs.lemmas.Grind.{flat_map-append}
+use Rattle.std.proofs.lemmas.Result.{err_from_is_err_and}
 use Rattle.std.specs.List.{flat_map}
-use Rattle.std.specs.Prelude.{Result, Ok, Err, OnErr, IfErr}
+use Rattle.std.specs.Prelude.{Result, Ok, Err, IsErrAnd, IsErrOf, OnErr}
 use Rattle.mlt_request.specs.declared.line.Line.{Line}
 use Rattle.mlt_request.specs.declared.line.Line.TheVariants.{Says, TooLong}
 use Rattle.mlt_wire.specs.declared.said.Said.{Said}
-use Rattle.mlt_wire.specs.Batches.{Covers, Reaches, BrokeOff, lines_in}
+use Rattle.mlt_wire.specs.Batches.{Covers, IsRest, Reaches, BrokeOff, lines_in}
+use Rattle.mlt_wire.specs.Rounds.{AreLines}
 use Rattle.mlt_request.specs.Inputs.{lines_of, Splits, Begins, NextLine, IsNext}
 use Rattle.mlt_request.proofs.Splitting.{splits_both}
 use Rattle.mlt_wire.specs.Talks.{Turn, turn_text, ends}
@@ -21,10 +23,13 @@ pub on_err_all : {T E : Type 0} → (r : Result T E) (P : Type 0) → P → OnEr
 on_err_all (Ok x) P p = tt
 on_err_all (Err e) P p = p
 
--- what holds anyway holds on other errors
-pub on_others : {T E : Type 0} → (r : Result T E) (x : E) (P : Type 0) → P → IfErr r (λ e. e ≢ x → P)
-on_others (Ok value) x P p = tt
-on_others (Err e) x P p = λ _. p
+-- an error that was passed on is the same one
+pub same_error : {S T E : Type 0} (result : Result T E) (e x : E) → IsErrAnd result (λ y. y ≡ e) → IsErrOf result x → IsErrOf {T = S} {E = E} (Err e) x
+same_error {S} {T} {E} result e x passed is =
+    let p = err_from_is_err_and result passed in
+    let errors : IsErrOf {T = T} {E = E} (Err p.0) x = sym p.1 ∙ is in
+    let same : p.0 ≡ x = cc errors in
+    ap (λ z. Err z) (sym p.2 ∙ same)
 
 -- one more turn
 pub goes_more : {D : Type 0} (moves : Moves D) (client : ℕ) (p m q : Place D) (ts : List Turn) (t : Turn)
@@ -37,6 +42,13 @@ pub covers_begin : (over : Bool) (text : List ℕ) (at : ℕ) (ls : List Line) �
 covers_begin true text at ls h = h
 covers_begin false text at ls h =
     (lines_of (drop at text), ap lines_of (sym (take-append-drop at text)) ∙ h.0 (drop at text) ∙ ap (λ (prefix : List Line). prefix ++ lines_of (drop at text)) h.1)
+
+-- they are all its lines
+pub covers_all : (over : Bool) (text : List ℕ) (at : ℕ) (ls : List Line) → Covers over text at ls → IsRest over (drop at text) → AreLines over text ls
+covers_all true text at ls h rest = h
+covers_all false text at ls h rest =
+    ap lines_of (sym (take-append-drop at text)) ∙ h.0 (drop at text) ∙ ap (λ (prefix : List Line). prefix ++ lines_of (drop at text)) h.1
+    ∙ ap (λ (more : List Line). ls ++ more) rest.0 ∙ append-nil ls
 
 more_covered : (text : List ℕ) (at n : ℕ) (ls : List Line) (l : Line) → Covers false text at ls → lines_of (take n (drop at text)) ≡ l ∷ [] → Splits (take n (drop at text))
     → Covers false text (at + n) (ls ++ l ∷ [])

@@ -1,5 +1,5 @@
 -- The turns that were taken are those that the whole input and the answers fix.
-use Rattle.std.proofs.Common.{◌≡◌, ℕ, ◌+◌, List, [], ◌∷◌, ◌++◌, length, Option, Bool, true, false, ◌||◌, Some, None, refl, sym, ap, subst, ◌∙◌, arith, append-nil, cond}
+use Rattle.std.proofs.Common.{◌≡◌, ℕ, ◌+◌, List, [], ◌∷◌, ◌++◌, length, take, Option, Bool, true, false, ◌||◌, Some, None, refl, sym, ap, subst, ◌∙◌, arith, append-nil, cond}
 use Rattle.std.proofs.KnownBytes.{Appends-nil, Consumes-nil}
 use Rattle.mlt_request.proofs.Cutting.{empty}
 use Rattle.mlt_wire.proofs.Receiving.{noted_by, noted_all, all_noted}
@@ -12,8 +12,8 @@ use Rattle.mlt_wire.specs.Batches.{lines_in}
 use Rattle.mlt_wire.specs.Desks.{Moves, Answers}
 use Rattle.mlt_request.specs.Inputs.{Begins}
 use Rattle.mlt_wire.specs.Receipts.{begins_by, receipts_of}
-use Rattle.mlt_wire.specs.Rounds.{Talked, Broken, AreLines, EndsInput}
-use Rattle.mlt_wire.specs.Sessions.{Spoken, SpokenLong, Summed, BrokenOff, all_calls, all_answers, scene}
+use Rattle.mlt_wire.specs.Rounds.{Talked, Broken, BrokenHeard, AreLines, EndsInput}
+use Rattle.mlt_wire.specs.Sessions.{Spoken, SpokenLong, Summed, BrokenOff, HeardAll, all_calls, all_answers, scene}
 use Rattle.mlt_wire.specs.Talks.{Turn, turns, one_turn, unless_ended, ends, option_list, open_after, call_for, calls_in, answers_in, open_at_end, closing, closing_answers, session_turns, commits_by, commits_in, ends_in, long_in, is_long}
 use Rattle.mlt_wire.specs.Turns.{Place, Step, Goes, Asked}
 
@@ -245,6 +245,19 @@ breaks_off moves client p q desk a b w v rs ss i j n x z t k =
       asked = asked_closed moves client p q desk t.turns x t.goes k;
       wrote = t.wrote;
       noted = noted_turns moves client p q rs ss t.turns i j n x z t.goes;
+    }
+
+-- a session that was broken off when it had heard all lines
+pub hears_all : {D : Type 0} (moves : Moves D) (client : ℕ) (p q : Place D) (desk : D) (a b w v : Option (List ℕ)) (rs ss : List Outcome)
+    → p.receipts ≡ rs → q.receipts ≡ ss → p.progress.over ≡ false → p.progress.tx ≡ None → p.progress.begun ≡ 0
+    → BrokenHeard moves client p a b w v q → Answers moves q.desk (closing q.progress.tx) (closing_answers q.progress.tx) desk
+    → HeardAll moves client (scene p.desk a w rs) (scene desk b v ss)
+unfolding breaks_off
+hears_all moves client p q desk a b w v rs ss i j n x z t k =
+    record {
+      off = breaks_off moves client p q desk a b w v rs ss i j n x z t.broken k;
+      all = exact_turns moves client p q (take 16777216 t.broken.taken) t.broken.turns q.progress.over refl n x t.broken.goes t.lines;
+      whole = t.whole;
     }
 
 -- nothing was read

@@ -1,5 +1,5 @@
 -- How far a session has read, answered and written.
-use Rattle.std.specs.Prelude.{◌≡◌, ◌≤◌, ◌+◌, ℕ, List, [], ◌++◌, length, drop, Option, Bool, true, false}
+use Rattle.std.specs.Prelude.{◌≡◌, ◌≤◌, ◌+◌, ℕ, List, [], ◌++◌, length, take, drop, Option, Bool, true, false}
 use Rattle.std.specs.List.{flat_map}
 use Rattle.std.specs.Io.KnownBytes.{Appends, Consumes, IsAtEnd}
 use Rattle.mlt_text.specs.Texts.{AppendsFront}
@@ -28,6 +28,17 @@ pub record Stopped {D : Type 0} (moves : Moves D) (client : ℕ) (p : Place D) (
   pub begins : Begins text (lines_in turns)
   pub wrote : AppendsFront before after (flat_map turn_text turns)
 
+-- these are the lines of the input; or the session is over, and they are the first
+abbrev pub AreLines : Bool → List ℕ → List Line → Type 0
+AreLines false bytes lines = lines_of bytes ≡ lines
+AreLines true bytes lines = Begins bytes lines
+
+-- all complete lines of the text were answered, and a prefix of the answers written
+pub record Unwritten {D : Type 0} (moves : Moves D) (client : ℕ) (p : Place D) (text : List ℕ)
+    (before after : Option (List ℕ)) (q : Place D) : Type 0 where
+  pub stopped : Stopped moves client p text before after q
+  pub lines : AreLines q.progress.over text (lines_in stopped.turns)
+
 -- a session that goes on: its lines up to here, and the bytes that it holds, which are no complete
 -- line
 pub record Listens {D : Type 0} (moves : Moves D) (client : ℕ) (p : Place D)
@@ -45,11 +56,6 @@ pub record Listens {D : Type 0} (moves : Moves D) (client : ℕ) (p : Place D)
   pub short : length held ≤ 200
   pub sum : total ≡ length prefix + length held
   pub counted : q.progress.lines ≤ length prefix
-
--- these are the lines of the input; or the session is over, and they are the first
-abbrev pub AreLines : Bool → List ℕ → List Line → Type 0
-AreLines false bytes lines = lines_of bytes ≡ lines
-AreLines true bytes lines = Begins bytes lines
 
 abbrev pub EndsInput : Bool → Option (List ℕ) → Type 0
 EndsInput false rest = IsAtEnd rest
@@ -79,3 +85,13 @@ pub record Broken {D : Type 0} (moves : Moves D) (client : ℕ) (p : Place D)
   pub goes : Goes moves client p turns q
   pub begins : Begins taken (lines_in turns)
   pub wrote : AppendsFront wrote_before wrote_after (flat_map turn_text turns)
+
+-- a session that a read, a write or the byte limit broke off: all that was read up to the limit was
+-- answered
+pub record BrokenHeard {D : Type 0} (moves : Moves D) (client : ℕ) (p : Place D)
+    (read_before read_after wrote_before wrote_after : Option (List ℕ))
+    (q : Place D) : Type 0 where
+  pub broken : Broken moves client p read_before read_after wrote_before wrote_after q
+  pub lines : AreLines q.progress.over (take 16777216 broken.taken) (lines_in broken.turns)
+  pub whole : length broken.taken ≡ 16777217
+      → Appends wrote_before wrote_after (flat_map turn_text broken.turns)

@@ -1,5 +1,5 @@
 -- Whole sessions.
-use Rattle.std.specs.Prelude.{◌≡◌, ◌≤◌, ℕ, List, ◌++◌, length, Option, None, true, false}
+use Rattle.std.specs.Prelude.{◌≡◌, ◌≤◌, ℕ, List, ◌++◌, length, take, Option, None, true, false}
 use Rattle.mlt_serial.specs.declared.outcome.Outcome.{Outcome}
 use Rattle.std.specs.List.{flat_map}
 use Rattle.std.specs.Io.KnownBytes.{Appends, Consumes, IsAtEnd}
@@ -78,3 +78,12 @@ pub record BrokenOff {D : Type 0} (moves : Moves D) (client : ℕ) (old new : Sc
   pub wrote : AppendsFront old.written new.written (flat_map turn_text heard)
   -- a receipt was added for each transaction that began
   pub noted : new.receipts ≡ old.receipts ++ receipts_of client 0 heard
+
+-- a session that a read, a write or the byte limit broke off: it has heard all lines of the bytes that
+-- it read up to the limit
+pub record HeardAll {D : Type 0} (moves : Moves D) (client : ℕ) (old new : Scene D) : Type 0 where
+  pub off : BrokenOff moves client old new
+  pub all : session_turns (take 16777216 off.taken) off.answers ≡ off.heard
+  -- where a byte past the limit was read, the whole text was written
+  pub whole : length off.taken ≡ 16777217
+      → Appends old.written new.written (flat_map turn_text off.heard)

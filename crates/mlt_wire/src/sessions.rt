@@ -1,11 +1,11 @@
 //! Sessions over a reader and a writer.
 
-ghost use Rattle.std.specs.Prelude.{◌≡◌, ◌≢◌, ◌<◌, ◌≤◌, ◌+◌, ◌-◌, ◌^◌, ◌⊎◌, ℕ, List, false, None, length, take, drop, vec_len, IfOk, IfErr, OnOk, OnErr, IsErrOf, ◌++◌};
+ghost use Rattle.std.specs.Prelude.{◌≡◌, ◌<◌, ◌≤◌, ◌+◌, ◌-◌, ◌^◌, ◌⊎◌, ℕ, List, false, None, length, take, drop, vec_len, IfOk, IfErr, OnOk, OnErr, IsErrOf, ◌++◌};
 ghost use Rattle.std.specs.Io.KnownBytes.{Consumes, IsAtEnd, Keeps};
 ghost use Rattle.mlt_wire.specs.Desks.{Answers, moves};
 ghost use Rattle.mlt_wire.specs.Noting.{receipts_in};
-ghost use Rattle.mlt_wire.specs.Rounds.{Replied, Stopped, Talked, Broken};
-ghost use Rattle.mlt_wire.specs.Sessions.{SpokenLong, Summed, BrokenOff, scene};
+ghost use Rattle.mlt_wire.specs.Rounds.{Replied, Stopped, Unwritten, Talked, Broken, BrokenHeard};
+ghost use Rattle.mlt_wire.specs.Sessions.{SpokenLong, Summed, BrokenOff, HeardAll, scene};
 ghost use Rattle.mlt_wire.specs.Talks.{closing, closing_answers};
 ghost use Rattle.mlt_wire.specs.Turns.{IsSmall, place, start};
 
@@ -78,6 +78,10 @@ fn reply<W: Write, D: Desk>(
         (Stopped (moves D.begins D.answers D.commits D.aborts) client
         (place client notes.old desk.old) text.now (W.contents writer.old)
         (W.contents writer.new) (place client notes.new desk.new)) }
+    ensures io { IsErrOf result Refusal.Io
+        → Unwritten (moves D.begins D.answers D.commits D.aborts) client
+        (place client notes.old desk.old) text.now (W.contents writer.old)
+        (W.contents writer.new) (place client notes.new desk.new) }
     ensures refusal { IfErr result
         (λ refusal. (refusal ≡ Refusal.OutOfMemory) ⊎ (refusal ≡ Refusal.Io)) }
 {
@@ -108,6 +112,10 @@ fn listen<R: Read, W: Write, D: Desk>(
         (Broken (moves D.begins D.answers D.commits D.aborts) client
         (place client notes.old desk.old) (R.remaining reader.old) (R.remaining reader.new)
         (W.contents writer.old) (W.contents writer.new) (place client notes.new desk.new)) }
+    ensures io { IsErrOf result Refusal.Io
+        → BrokenHeard (moves D.begins D.answers D.commits D.aborts) client
+        (place client notes.old desk.old) (R.remaining reader.old) (R.remaining reader.new)
+        (W.contents writer.old) (W.contents writer.new) (place client notes.new desk.new) }
     ensures refusal { IfErr result
         (λ refusal. (refusal ≡ Refusal.OutOfMemory) ⊎ (refusal ≡ Refusal.Io)) }
 {
@@ -173,10 +181,14 @@ fn converse<R: Read, W: Write, D: Desk>(
         → SpokenLong (moves D.begins D.answers D.commits D.aborts) client
         (scene desk.old (R.remaining reader.old) (W.contents writer.old) receipts.old.items)
         (scene desk.new (R.remaining reader.new) (W.contents writer.new) receipts.new.items) }
-    ensures broken_off { IfErr result (λ refusal. refusal ≢ Refusal.LineTooLong
+    ensures io { IsErrOf result Refusal.Io
+        → HeardAll (moves D.begins D.answers D.commits D.aborts) client
+        (scene desk.old (R.remaining reader.old) (W.contents writer.old) receipts.old.items)
+        (scene desk.new (R.remaining reader.new) (W.contents writer.new) receipts.new.items) }
+    ensures memory { IsErrOf result Refusal.OutOfMemory
         → BrokenOff (moves D.begins D.answers D.commits D.aborts) client
         (scene desk.old (R.remaining reader.old) (W.contents writer.old) receipts.old.items)
-        (scene desk.new (R.remaining reader.new) (W.contents writer.new) receipts.new.items)) }
+        (scene desk.new (R.remaining reader.new) (W.contents writer.new) receipts.new.items) }
     ensures refusal { IfErr result (λ refusal. (refusal ≡ Refusal.LineTooLong)
         ⊎ (refusal ≡ Refusal.OutOfMemory) ⊎ (refusal ≡ Refusal.Io)) }
 {
@@ -210,8 +222,9 @@ fn zeros(alloc: Global, count: usize) -> Result<Vec<u8>, Refusal>
 ///
 /// # Errors
 /// `LineTooLong` where a line has more than 200 bytes; its answer was written. `Io` where a read or a write
-/// failed, or more than 16,777,216 bytes came, and `OutOfMemory` where a growth was refused; then a prefix
-/// of the text was written.
+/// failed, or more than 16,777,216 bytes came: all lines of the first 16,777,216 bytes were heard, and a
+/// prefix of the text was written, or all of it where more bytes came. `OutOfMemory` where a growth was
+/// refused: the first lines were heard, and a prefix of the text was written.
 pub fn session<R: Read, W: Write, D: Desk>(
     alloc: Global,
     reader: &mut R,
@@ -231,11 +244,16 @@ pub fn session<R: Read, W: Write, D: Desk>(
         → SpokenLong (moves D.begins D.answers D.commits D.aborts) client
         (scene desk.old (R.remaining reader.old) (W.contents writer.old) receipts.old.items)
         (scene desk.new (R.remaining reader.new) (W.contents writer.new) receipts.new.items) }
-    // the same of the turns that were heard, and a prefix of the text
-    ensures broken_off { IfErr result (λ refusal. refusal ≢ Refusal.LineTooLong
+    // the same of all lines of the bytes read up to the limit, and a prefix of the text
+    ensures io { IsErrOf result Refusal.Io
+        → HeardAll (moves D.begins D.answers D.commits D.aborts) client
+        (scene desk.old (R.remaining reader.old) (W.contents writer.old) receipts.old.items)
+        (scene desk.new (R.remaining reader.new) (W.contents writer.new) receipts.new.items) }
+    // the same of the first lines, and a prefix of the text
+    ensures memory { IsErrOf result Refusal.OutOfMemory
         → BrokenOff (moves D.begins D.answers D.commits D.aborts) client
         (scene desk.old (R.remaining reader.old) (W.contents writer.old) receipts.old.items)
-        (scene desk.new (R.remaining reader.new) (W.contents writer.new) receipts.new.items)) }
+        (scene desk.new (R.remaining reader.new) (W.contents writer.new) receipts.new.items) }
     ensures refusal { IfErr result (λ refusal. (refusal ≡ Refusal.LineTooLong)
         ⊎ (refusal ≡ Refusal.OutOfMemory) ⊎ (refusal ≡ Refusal.Io)) }
 {

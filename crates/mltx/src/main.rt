@@ -11,7 +11,10 @@ use mlt_check_text::check_trace;
 use mlt_command_line::{Hash, Job, Run, Serve, Work, read_words, report_command_line};
 use mlt_lock_desk::NoGate;
 use mlt_run::run_scripts;
-use mlt_run_counts::{aborts_of_a_run_take_few_steps, operations_of_a_run_take_few_steps};
+use mlt_run_counts::{
+    aborts_of_a_run_take_few_steps, managers_of_a_run_keep_their_promises,
+    operations_of_a_run_take_few_steps,
+};
 use mlt_serve::serve_on;
 use mlt_server::{report_fault, status};
 use mlt_solo::solo;
@@ -25,6 +28,7 @@ use std::net::TcpListener;
 use std::process::ExitCode;
 use std::sync::Wait;
 use std::thread::Threads;
+use std::time::{Clock, Duration};
 use std::{env, io};
 
 fn main(rt: HostRuntime) -> ExitCode {
@@ -33,7 +37,7 @@ fn main(rt: HostRuntime) -> ExitCode {
 
 // The status. Help and the texts of runs go to standard output, and all else to standard error. The threads are those of
 // the runtime, which has them in `main` alone.
-fn run<T: Threads + Wait + Sync>(rt: &HostRuntime, threads: &T) -> u8 {
+fn run<T: Threads + Wait + Clock + Sync>(rt: &HostRuntime, threads: &T) -> u8 {
     let outcome = match words(rt) {
         Ok(words) => match read_words(rt.alloc(), words.as_slice()) {
             Ok(job) => do_job(rt, threads, &job),
@@ -62,7 +66,11 @@ fn words(rt: &HostRuntime) -> Result<Vec<String>, Refusal> {
     }
 }
 
-fn do_job<T: Threads + Wait + Sync>(rt: &HostRuntime, threads: &T, job: &Job) -> Result<(), Refusal>
+fn do_job<T: Threads + Wait + Clock + Sync>(
+    rt: &HostRuntime,
+    threads: &T,
+    job: &Job,
+) -> Result<(), Refusal>
     requires { IsWithinBounds job.now }
 {
     match job {
@@ -102,7 +110,8 @@ fn run_steps<P: Pseudo + Drop>(rt: &HostRuntime, run: &Run, pseudo: P) -> Result
     let mut input = Input::open(rt, run.input.as_str())?;
     let limits = Limits::program();
     let manager = steps(rt.alloc(), &mut input, &mut io::writer(rt), limits, pseudo)?;
-    // How many steps its operations took, and its aborts.
+    // What held between any two events, and how many steps its operations took, and its aborts.
+    managers_of_a_run_keep_their_promises::<P>();
     operations_of_a_run_take_few_steps::<P>();
     aborts_of_a_run_take_few_steps::<P>();
     let written = write_history(rt, manager.history(), run);
@@ -136,7 +145,7 @@ fn run_work<P: Pseudo + Drop + Send, T: Threads + Wait + Sync>(
     written
 }
 
-fn run_server<P: Pseudo + Drop + Send, T: Threads + Wait + Sync>(
+fn run_server<P: Pseudo + Drop + Send, T: Threads + Wait + Clock + Sync>(
     rt: &HostRuntime,
     threads: &T,
     serve: &Serve,
@@ -148,6 +157,10 @@ fn run_server<P: Pseudo + Drop + Send, T: Threads + Wait + Sync>(
     let Ok(listener) = TcpListener::bind(rt, serve.run.input.as_str()) else {
         return Err(Refusal::Io);
     };
+    let idle = match serve.idle {
+        0 => None,
+        seconds => Some(Duration::from_secs(seconds)),
+    };
     let (_receipts, manager) = serve_on(
         threads,
         rt.alloc(),
@@ -157,6 +170,7 @@ fn run_server<P: Pseudo + Drop + Send, T: Threads + Wait + Sync>(
         serve.sessions,
         serve.limit,
         serve.tries,
+        idle,
     )?;
     let written = write_served(rt, serve, manager.history());
     manager.close();

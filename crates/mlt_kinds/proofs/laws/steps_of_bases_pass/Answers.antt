@@ -1,4 +1,4 @@
-use Rattle.mlt_kinds.specs.BaseLaws.{apart_steps_pass, cell_steps_pass}
+use Rattle.mlt_kinds.proofs.BaseLaws.{apart_steps_pass, cell_steps_pass}
 use Rattle.mlt_kinds.proofs.laws.steps_of_bases_pass.Goals as goal
 
 pub returns-clause-apart : goal.returns-clause-apart

@@ -3,9 +3,8 @@ use Rattle.std.specs.Prelude.{Some, None, Option, IfSome, IsSome}
 use Rattle.std.proofs.lemmas.List.{length-map, length-set, get_or-set_other, take_more}
 use Rattle.mlt_tree.specs.declared.script.Script.{Script}
 use Rattle.mlt_tree.specs.Scripts.{ScriptForm}
-use Rattle.mlt_desk.specs.Clients.{AreOutcomes}
 use Rattle.mlt_places.specs.declared.forms.ClientRun.{ClientRun}
-use Rattle.mlt_places.specs.Places.{IsClientRun}
+use Rattle.mlt_places.specs.Places.{AreClientOutcomes, IsClientRun}
 use Rattle.mlt_places.proofs.Placing.{all_push, get_any}
 use Rattle.mlt_places.proofs.collecting.flatten.Goals as goal
 
@@ -18,7 +17,7 @@ loop-i-preserved c =
     let left = c.take.new.self in
     let at : get_or l.slots.items l.i None ≡ Some r = get_any l.slots.items l.i None c.index_mut.result.now (omega arith) ∙ sym c.index_mut.ensures.value ∙ sym c.take.ensures.value ∙ c.in-Some.is in
     let fact = subst (λ (s : Option ClientRun). IfSome s (λ x. (x.place ≡ l.i) × IsClientRun lists x)) at (l.invariant.placed l.i (omega arith) (omega arith)) in
-    let outcomes : AreOutcomes 0 (get_or lists l.i []) r.outcomes.items = subst (λ (k : ℕ). AreOutcomes 0 (get_or lists k []) r.outcomes.items) fact.0 fact.1.1 in
+    let outcomes : AreClientOutcomes (get_or lists l.i []) r.outcomes.items = subst (λ (k : ℕ). AreClientOutcomes (get_or lists k []) r.outcomes.items) fact.0 fact.1.1 in
     let more : take (l.i + 1) lists ≡ take l.i lists ++ get_or lists l.i [] ∷ [] = take_more lists l.i [] (omega (arith, length-map c.args.clients.now items)) in
     record {
       len = length-set l.slots.items l.i left ∙ l.invariant.len;

@@ -9,7 +9,7 @@ use Rattle.mlt_serial.proofs.run.serial_with_marks.Goals as goal
 
 pub loop-script-init : goal.loop-script-init
 loop-script-init c =
-    rw (c.new-outcomes.ensures, c.new-base.ensures, c.no_scripts-numbers.ensures) record {
+    rw (c.new-outcomes.ensures, c.new.ensures, c.no_scripts-numbers.ensures) record {
       runs = (refl, refl);
       few = omega arith;
       marks = tt;
@@ -34,8 +34,8 @@ loop-script-preserved c =
     next_number l.numbers before script long small l.invariant.counted in
     rw (more, c.in_ok-push.ensures.ok) record {
       runs = rw c.last_commit-commits.ensures
-          (runs_push before empty_base l.base c.run_alone.new.base 0 l.commits (commits_after l.commits o.end) l.outcomes script o l.invariant.runs c.in_ok-outcome.ensures.run);
-      few = let few : commits_after l.commits o.end ≤ l.commits + 1 = commits_after-le script l.base c.run_alone.new.base l.commits (commits_after l.commits o.end) o c.in_ok-outcome.ensures.run in
+          (runs_push before empty_base l.desk.base c.run_alone.new.desk.base 0 l.commits (commits_after l.commits o.end) l.outcomes script o l.invariant.runs c.in_ok-outcome.ensures.run);
+      few = let few : commits_after l.commits o.end ≤ l.commits + 1 = commits_after-le script l.desk.base c.run_alone.new.desk.base l.commits (commits_after l.commits o.end) o c.in_ok-outcome.ensures.run in
           omega (arith, c.last_commit-commits.ensures, l.invariant.few);
       marks = outcome_marks_push OutOfMemory l.outcomes o l.invariant.marks c.in_ok-outcome.ensures.mark;
       numbered = numbered_push [] before l.outcomes script o l.invariant.numbered c.in_ok-outcome.ensures.client (c.in_ok-outcome.ensures.number ∙ rw c.client-client.ensures.client counted);

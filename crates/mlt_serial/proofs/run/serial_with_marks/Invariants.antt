@@ -6,7 +6,7 @@ use Rattle.mlt_serial.proofs.run.serial_with_marks.Given as goal
 
 abbrev pub invariant-loop-script : goal.invariant-loop-script
 invariant-loop-script l = record {
-  runs : AreRuns (take l.script-index l.scripts) empty_base 0 l.outcomes l.base l.commits;
+  runs : AreRuns (take l.script-index l.scripts) empty_base 0 l.outcomes l.desk.base l.commits;
   few : l.commits ≤ l.script-index;
   marks : AreMarksOf OutOfMemory (map mark_of l.outcomes);
   numbered : AreNumbered [] (take l.script-index l.scripts) l.outcomes;

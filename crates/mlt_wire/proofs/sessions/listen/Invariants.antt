@@ -7,7 +7,7 @@ use Rattle.mlt_wire.proofs.sessions.listen.Given as goal
 
 abbrev pub invariant-rounds : goal.invariant-rounds
 invariant-rounds g l = record {
-  listens : Listens (moves g.D.Desk.begins g.D.Desk.answers g.D.Desk.commits g.D.Desk.aborts) l.client (place l.client l.initial.notes l.initial.desk) (g.R.Read.remaining l.initial.reader) (g.R.Read.remaining l.reader)
+  listens : Listens (moves g.D.Desk.begins g.D.Answering.answers g.D.Desk.commits g.D.Desk.aborts) l.client (place l.client l.initial.notes l.initial.desk) (g.R.Read.remaining l.initial.reader) (g.R.Read.remaining l.reader)
       (g.W.Write.contents l.initial.writer) (g.W.Write.contents l.writer) (take l.held l.buffer) l.total (place l.client l.notes l.desk);
   held : l.held ≤ 200;
   total : l.total ≤ 16777216;

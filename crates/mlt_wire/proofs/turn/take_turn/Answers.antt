@@ -12,7 +12,7 @@ returns-in_ok-answer-in-Some-clause-ok g c =
       step = record {
         going = c.requires.going;
         before = refl;
-        asked = asks (moves g.D.Desk.begins g.D.Desk.answers g.D.Desk.commits g.D.Desk.aborts) c.args.client (place c.args.client c.args.notes.now c.args.desk.now) (place c.args.client c.pass.new.self c.ask.new.desk) _
+        asked = asks (moves g.D.Desk.begins g.D.Answering.answers g.D.Desk.commits g.D.Desk.aborts) c.args.client (place c.args.client c.args.notes.now c.args.desk.now) (place c.args.client c.pass.new.self c.ask.new.desk) _
             c.in-Some.call c.in_ok-answer-in-Some.answer (sym c.call_for.ensures.value ∙ c.in-Some.is) told.moved (c.pass.ensures.receipts c.args.client ∙ told.noted_so);
         after = c.pass.ensures.progress ∙ ap (λ p. after_line p c.args.line) told.after;
       };

@@ -5,10 +5,10 @@ use Rattle.mlt_claims.specs.Claims.{view}
 use Rattle.mlt_claims.specs.Seats.{view_of}
 use Rattle.mlt_tree.specs.declared.script.Script.{Script}
 use Rattle.mlt_tree.specs.Scripts.{ScriptForm}
-use Rattle.mlt_desk.specs.Clients.{AreOutcomes}
 use Rattle.mlt_places.specs.declared.forms.ClientRun.{ClientRun}
-use Rattle.mlt_places.specs.Places.{IsClientRun, place_of, scripts_of_clients}
+use Rattle.mlt_places.specs.Places.{AreClientOutcomes, IsClientRun, place_of, scripts_of_clients}
 use Rattle.mlt_places.proofs.Placing.{draws_client}
+use Rattle.mlt_work.proofs.Refusals.{runs_end}
 use Rattle.mlt_work.proofs.worker.run_claimed.Goals as goal
 
 pub claims-preserved : goal.claims-preserved
@@ -23,7 +23,8 @@ claims-preserved g c =
     let run : ClientRun = record { place = number; outcomes = c.in-Ok.outcomes } in
     let here : get_or lists number [] ≡ c.as_slice-scripts.result.now = get_or-map items clients number client [] small ∙ ap items (sym c.index-clients-place.is) ∙ sym c.as_slice-scripts.ensures.value in
     let long : length lists ≡ length clients = length-map clients items in
-    let one : IsClientRun lists run = (omega arith, subst (λ (ss : List ScriptForm). AreOutcomes 0 ss c.in-Ok.outcomes.items) (sym here) c.in-Ok.ensures.outcomes) in
+    let ends = runs_end g.P.Pseudo.bits_of _ _ _ _ c.in-Ok.ensures.runs in
+    let one : IsClientRun lists run = (omega arith, subst (λ (ss : List ScriptForm). AreClientOutcomes ss c.in-Ok.outcomes.items) (sym here) (c.in-Ok.ensures.outcomes, ends)) in
     rw (c.push_reserved.ensures.items, c.reserve.ensures.items) record {
       seat = c.draw-number.ensures.beside ∙ l.invariant.seat;
       view = draws_client (view_of l.drawer) (view_of c.draw-number.new.drawer) (length clients) number (map place_of l.runs.items) l.invariant.view c.draw-number.ensures.drawn small

@@ -9,7 +9,7 @@ use Rattle.mlt_record.specs.Plans.{has_room}
 use Rattle.mlt_hash.specs.Walks.{Basis, WalkFields, basis_by}
 use Rattle.mlt_hash.specs.Changes.{page_of}
 use Rattle.mlt_hash.specs.declared.pass.Change.TheVariants as change
-use Rattle.mlt_hash.proofs.Additions.{absent_from_bucket, absent_may_write, absent_plans, absent_sees, is_full, put_tells, revival_tells}
+use Rattle.mlt_hash.proofs.Additions.{absent_from_bucket, absent_may_write, absent_plans, absent_sees, is_full, put_takes, put_tells, revival_takes, revival_tells, unmade_takes}
 use Rattle.mlt_hash.proofs.InPlace.{ReadsBucket, WritesPlan, plan_is_written}
 use Rattle.mlt_hash.proofs.walk.Walk.insert.Goals as goal
 
@@ -67,6 +67,19 @@ returns-in-Some-clause-tells g c =
     let told : WritesPlan walk c.write_change.new.walk before after c.in-Some.write (change.Revive c.args.value) c.write_change.result = record { writes = c.write_change.ensures.view; walk_is = c.write_change.ensures.walk; answer_is = c.write_change.ensures.answer } in
     revival_tells basis walk c.write_change.new.walk before after number c.self.inside.key fields c.in-Some.write c.write_change.result reads c.requires.found c.args.value c.tx.result c.tx.ensures c.in-Some.ensures.plan told
 
+pub returns-in-Some-clause-slot : goal.returns-in-Some-clause-slot
+returns-in-Some-clause-slot g c =
+    let basis : Basis = basis_by g.P.Pseudo.bits_of c.args.root.now c.args.opens.now c.args.subtx.now.tx in
+    let walk : WalkFields = c.args.self.now in
+    let before : Moment = moment c.args.subtx.now c.args.pages.now in
+    let number = c.held_bucket-number.result.0 in
+    let fields : BucketFields = c.held_bucket-number.result.1.now in
+    let key : c.self.inside.key ≡ walk.key = ap (λ (w : WalkFields). w.key) c.self.view_is in
+    let reads : ReadsBucket basis walk before number c.self.inside.key fields = record { bounded = c.requires.ready.walks.bounded; stands = c.requires.ready.walks.stands; sees = c.held_bucket-number.ensures.bucket; here = c.held_bucket-number.ensures.number; key_is = key } in
+    let after : Moment = moment c.write_change.new.subtx c.write_change.new.pages in
+    let told : WritesPlan walk c.write_change.new.walk before after c.in-Some.write (change.Revive c.args.value) c.write_change.result = record { writes = c.write_change.ensures.view; walk_is = c.write_change.ensures.walk; answer_is = c.write_change.ensures.answer } in
+    revival_takes basis walk c.write_change.new.walk before after number c.self.inside.key fields c.in-Some.write c.write_change.result reads c.requires.found c.args.value c.tx.result c.tx.ensures c.in-Some.ensures.plan told
+
 pub insert-requires : goal.insert-requires
 insert-requires g c =
     let basis : Basis = basis_by g.P.Pseudo.bits_of c.args.root.now c.args.opens.now c.args.subtx.now.tx in
@@ -114,6 +127,19 @@ returns-in-Some-insert-clause-tells g c =
     let told : WritesPlan walk c.write_change-in-Some-insert.new.walk before after c.in-Some-insert.write (change.Put c.args.value) c.write_change-in-Some-insert.result = record { writes = c.write_change-in-Some-insert.ensures.view; walk_is = c.write_change-in-Some-insert.ensures.walk; answer_is = c.write_change-in-Some-insert.ensures.answer } in
     put_tells basis walk c.write_change-in-Some-insert.new.walk before after number c.self.inside.key fields c.in-Some-insert.write c.write_change-in-Some-insert.result reads c.requires.found c.args.value c.tx.result c.tx.ensures c.in_default.ensures.plan c.in-Some-insert.ensures.plan told
 
+pub returns-in-Some-insert-clause-slot : goal.returns-in-Some-insert-clause-slot
+returns-in-Some-insert-clause-slot g c =
+    let basis : Basis = basis_by g.P.Pseudo.bits_of c.args.root.now c.args.opens.now c.args.subtx.now.tx in
+    let walk : WalkFields = c.args.self.now in
+    let before : Moment = moment c.args.subtx.now c.args.pages.now in
+    let number = c.held_bucket-number.result.0 in
+    let fields : BucketFields = c.held_bucket-number.result.1.now in
+    let key : c.self.inside.key ≡ walk.key = ap (λ (w : WalkFields). w.key) c.self.view_is in
+    let reads : ReadsBucket basis walk before number c.self.inside.key fields = record { bounded = c.requires.ready.walks.bounded; stands = c.requires.ready.walks.stands; sees = c.held_bucket-number.ensures.bucket; here = c.held_bucket-number.ensures.number; key_is = key } in
+    let after : Moment = moment c.write_change-in-Some-insert.new.subtx c.write_change-in-Some-insert.new.pages in
+    let told : WritesPlan walk c.write_change-in-Some-insert.new.walk before after c.in-Some-insert.write (change.Put c.args.value) c.write_change-in-Some-insert.result = record { writes = c.write_change-in-Some-insert.ensures.view; walk_is = c.write_change-in-Some-insert.ensures.walk; answer_is = c.write_change-in-Some-insert.ensures.answer } in
+    put_takes basis walk c.write_change-in-Some-insert.new.walk before after number c.self.inside.key fields c.in-Some-insert.write c.write_change-in-Some-insert.result reads c.requires.found c.args.value c.tx.result c.tx.ensures c.in_default.ensures.plan c.in-Some-insert.ensures.plan told
+
 pub without_room-requires-clause-full : goal.without_room-requires-clause-full
 without_room-requires-clause-full g c =
     let basis : Basis = basis_by g.P.Pseudo.bits_of c.args.root.now c.args.opens.now c.args.subtx.now.tx in
@@ -126,3 +152,9 @@ without_room-requires-clause-full g c =
 
 pub returns-clause-leaves : goal.returns-clause-leaves
 returns-clause-leaves g c = leaves_it (moment c.args.subtx.now c.args.pages.now) _ c.requires.ready.walks.may refl
+
+pub returns-clause-slot : goal.returns-clause-slot
+returns-clause-slot g c =
+    let basis : Basis = basis_by g.P.Pseudo.bits_of c.args.root.now c.args.opens.now c.args.subtx.now.tx in
+    let before : Moment = moment c.args.subtx.now c.args.pages.now in
+    unmade_takes c.without_room.result basis (view_of before) (view_of before) c.args.self.now c.args.value c.without_room.ensures.unchanged

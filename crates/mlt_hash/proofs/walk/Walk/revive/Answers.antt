@@ -1,12 +1,12 @@
-use Rattle.std.proofs.Common.{ap, sym, ◌∙◌}
+use Rattle.std.proofs.Common.{ℕ, ◌≡◌, ap, subst, sym, ◌∙◌}
 use Rattle.mlt_page.specs.Slots.{is_ghost_of}
 use Rattle.mlt_page.specs.declared.slot.Slot.TheVariants.{Live}
 use Rattle.mlt_held.specs.Moments.{Moment, moment}
 use Rattle.mlt_held.specs.Views.{view_of}
 use Rattle.mlt_hash.specs.Walks.{Basis, WalkFields}
-use Rattle.mlt_hash.specs.Changes.{MayChange}
+use Rattle.mlt_hash.specs.Changes.{MayChange, RevivesFirst, page_of}
 use Rattle.mlt_hash.proofs.InPlace.{ReadsBucket}
-use Rattle.mlt_hash.proofs.Additions.{absent_from_bucket, absent_may_write, absent_plans, ghost_has_plan, revive_tells}
+use Rattle.mlt_hash.proofs.Additions.{absent_from_bucket, absent_may_write, absent_plans, ghost_has_plan, revival_takes_first, revive_tells}
 use Rattle.mlt_hash.proofs.walk.Walk.revive.Goals as goal
 
 abbrev before : goal.After-write_change-arg-3-1 → Moment
@@ -42,3 +42,12 @@ returns-clause-tells c = λ basis own may.
     let after : Moment = moment c.write_change.new.subtx c.write_change.new.pages in
     revive_tells basis c.args.self.now c.write_change.new.walk (before c.before) after c.held_bucket-number.result.0 c.self.inside.key c.held_bucket-number.result.1.now c.in-Some.write c.write_change.result (reads c.before basis may) c.requires.found c.args.value c.tx.result (c.tx.ensures ∙ sym own) c.in-Some.ensures.plan
     (record { writes = c.write_change.ensures.view; walk_is = c.write_change.ensures.walk; answer_is = c.write_change.ensures.answer })
+
+pub returns-clause-slot : goal.returns-clause-slot
+returns-clause-slot c =
+    let basis : Basis = c.requires.ready.0 in
+    let own : basis.tx ≡ c.args.subtx.now.tx = c.requires.ready.1 in
+    let after : Moment = moment c.write_change.new.subtx c.write_change.new.pages in
+    let takes = revival_takes_first basis c.args.self.now c.write_change.new.walk (before c.before) after c.held_bucket-number.result.0 c.self.inside.key c.held_bucket-number.result.1.now c.in-Some.write c.write_change.result (reads c.before basis c.requires.ready.2) c.requires.found c.args.value c.tx.result (c.tx.ensures ∙ sym own) c.in-Some.ensures.plan
+    (record { writes = c.write_change.ensures.view; walk_is = c.write_change.ensures.walk; answer_is = c.write_change.ensures.answer }) in
+    subst (λ (tx : ℕ). RevivesFirst tx (view_of (before c.before)) (view_of after) c.args.self.now (page_of c.args.self.now.phase) c.args.value) own takes

@@ -8,6 +8,7 @@ returns-clause-ends g c = record {
   idle = c.requires.idle.idle;
   pages = refl;
   held = c.release_all.ensures.held;
+  unreserved = c.release_all.ensures.released;
   reserved = c.release_all.ensures.others;
   items = c.release.ensures.items ∙ c.push.ensures.items;
   room = omega (arith, c.requires.idle.counts, c.release.ensures.room, c.push.ensures.room);

@@ -1,0 +1,111 @@
+-- The cells that are noted of each transaction.
+use Rattle.std.proofs.Common.{◌≡◌, ◌≢◌, ◌⊎◌, ℕ, ◌+◌, ◌≤◌, ◌<◌, List, [], ◌∷◌, ◌++◌, Bool, true, false, cond, not, ◌||◌, ◌&&◌, nat_eq, Option, None, Some, is_some, Contains, length, length-append, sym, ap, subst, refl, ◌∙◌, true≢false, inl, inr, arith}
+use Rattle.std.specs.List.{list_any, filter}
+use Rattle.std.proofs.lemmas.Bool.{cases_eq}
+use Rattle.std.proofs.lemmas.Bool.Decides.{nat_tests}
+use Rattle.std.proofs.lemmas.List.Elements.{Contains-push, Contains-append_left}
+use Rattle.indexmap.specs.IndexMap.{IndexMap}
+use Rattle.mlt_types.specs.declared.cell.Cell.{Cell}
+use Rattle.mlt_object_locks.specs.declared.places.Grant.{Grant}
+use Rattle.mlt_object_locks.specs.declared.places.Place.{Place}
+use Rattle.mlt_object_locks.specs.Locks.{Held, is_of_other}
+use Rattle.mlt_object_locks.specs.Noted.{KeepsNoted, KeysWithRoom, NotesAtMost, SameNoted, held_count, is_held_by, noted_of}
+use Rattle.mlt_object_locks.specs.Places.{open_place, held_place, is_held_of}
+use Rattle.mlt_object_locks.specs.Cells.{AreNoted, list_at, reserved_key}
+use Rattle.mlt_object_locks.proofs.Membership.{contains_first, contains_later}
+
+held_here : (tx : ℕ) (place : Place) (grant : Grant) → place.tx ≡ tx → place.grant ≡ Some grant → place ≡ held_place tx grant
+held_here tx place grant t g = λ i. record { tx = t i; grant = g i }
+
+named_by : (tx : ℕ) (place : Place) (places : List Place) (b : Bool) (g : Option Grant) → nat_eq place.tx tx ≡ b → place.grant ≡ g
+    → (list_any (is_held_of tx) places ≡ true → (grant : Grant) × Contains places (held_place tx grant)) → ((b && is_some g) || list_any (is_held_of tx) places) ≡ true
+    → (grant : Grant) × Contains (place ∷ places) (held_place tx grant)
+named_by tx place places true (Some grant) is at rest h =
+    let same : place.tx ≡ tx = grind (arith, nat_tests) in
+    (grant, subst (λ p. Contains (place ∷ places) p) (held_here tx place grant same at) (contains_first place places))
+named_by tx place places true None is at rest h = let r = rest h in (r.0, contains_later place places (held_place tx r.0) r.1)
+named_by tx place places false g is at rest h = let r = rest h in (r.0, contains_later place places (held_place tx r.0) r.1)
+
+-- where the transaction holds something, it can be named
+pub named : (tx : ℕ) (places : List Place) → list_any (is_held_of tx) places ≡ true → (grant : Grant) × Contains places (held_place tx grant)
+named tx [] h = absurd (true≢false (sym h))
+named tx (place ∷ places) h = named_by tx place places (nat_eq place.tx tx) place.grant refl refl (λ k. named tx places k) h
+
+-- a cell more is noted
+pub notes_one : (old : List ℕ) (new : List ℕ) (key : ℕ) → new ≡ old ++ key ∷ [] → NotesAtMost old new key
+notes_one old new key is = record {
+  there = subst (λ l. Contains l key) (sym is) (Contains-push old key);
+  keeps = λ k h. subst (λ l. Contains l k) (sym is) (Contains-append_left old (key ∷ []) k h);
+  few = let len = ap length is in let both = length-append old (key ∷ []) in omega arith;
+}
+
+-- or none is
+pub notes_none : (old : List ℕ) (key : ℕ) → Contains old key → NotesAtMost old old key
+notes_none old key there = record { there = there; keeps = λ k h. h; few = omega arith }
+
+module _ {S S' S'' : Type 0} (cells : IndexMap ℕ (List Place) S) (reserved : IndexMap ℕ Cell S') (noted : IndexMap ℕ KeysWithRoom S'') (are : AreNoted cells reserved noted) where
+  noted_by : (key : ℕ) (place : Place) (g : Option Grant) → place.grant ≡ g → Contains (list_at cells key) place
+      → (reserved_key reserved place.tx ≡ Some key) ⊎ Contains (noted_of noted place.tx).keys key
+  noted_by key place None at h =
+      let is : place ≡ open_place place.tx = λ i. record { tx = place.tx; grant = at i } in
+      are.opened key place.tx (subst (λ p. Contains (list_at cells key) p) is h)
+  noted_by key place (Some grant) at h =
+      let is : place ≡ held_place place.tx grant = λ i. record { tx = place.tx; grant = at i } in
+      inr (are.held key place.tx grant (subst (λ p. Contains (list_at cells key) p) is h))
+
+  -- each place is at a cell that is noted of its transaction or that the transaction reserved
+  pub place_noted : (key : ℕ) (place : Place) → Contains (list_at cells key) place
+      → (reserved_key reserved place.tx ≡ Some key) ⊎ Contains (noted_of noted place.tx).keys key
+  place_noted key place h = noted_by key place place.grant refl h
+
+-- ---- how many operations a transaction holds
+
+longer : (b : Bool) (y : Held) (fs gs : List Held) → length fs ≡ length gs + 1 → length (cond b (y ∷ fs) fs) ≡ length (cond b (y ∷ gs) gs) + 1
+longer true y fs gs h = omega arith
+longer false y fs gs h = h
+
+no_shorter : (b : Bool) (y : Held) (fs gs : List Held) → length fs ≤ length gs → length (cond b (y ∷ fs) fs) ≤ length (cond b (y ∷ gs) gs)
+no_shorter true y fs gs h = omega arith
+no_shorter false y fs gs h = h
+
+as_long : (b : Bool) (y : Held) (fs gs : List Held) → length fs ≡ length gs → length (cond b (y ∷ fs) fs) ≡ length (cond b (y ∷ gs) gs)
+as_long true y fs gs h = omega arith
+as_long false y fs gs h = h
+
+one_alone : (b : Bool) (x : Held) → b ≡ true → length (cond b (x ∷ []) []) ≡ 1
+one_alone true x e = omega arith
+one_alone false x e = absurd (true≢false (sym e))
+
+-- with one more
+pub count_pushed_same : (xs : List Held) (x : Held) → held_count (xs ++ x ∷ []) x.0 ≡ held_count xs x.0 + 1
+count_pushed_same [] x = let own : nat_eq x.0 x.0 ≡ true = grind (arith, nat_tests) in let one = one_alone (nat_eq x.0 x.0) x own in omega arith
+count_pushed_same (y ∷ ys) x = longer (nat_eq y.0 x.0) y (filter (is_held_by x.0) (ys ++ x ∷ [])) (filter (is_held_by x.0) ys) (count_pushed_same ys x)
+
+pub count_pushed_le : (xs : List Held) (x : Held) (u : ℕ) → held_count xs u ≤ held_count (xs ++ x ∷ []) u
+count_pushed_le [] x u = omega arith
+count_pushed_le (y ∷ ys) x u = no_shorter (nat_eq y.0 u) y (filter (is_held_by u) ys) (filter (is_held_by u) (ys ++ x ∷ [])) (count_pushed_le ys x u)
+
+-- without those of another
+pub count_of_others : (xs : List Held) (tx u : ℕ) → u ≢ tx → held_count (filter (is_of_other tx) xs) u ≡ held_count xs u
+count_of_others [] tx u ne = refl
+count_of_others (y ∷ ys) tx u ne = by (not (nat_eq y.0 tx)) refl (count_of_others ys tx u ne)
+  where
+    by : (b : Bool) → not (nat_eq y.0 tx) ≡ b → length (filter (is_held_by u) (filter (is_of_other tx) ys)) ≡ length (filter (is_held_by u) ys)
+        → length (filter (is_held_by u) (cond b (y ∷ filter (is_of_other tx) ys) (filter (is_of_other tx) ys))) ≡ length (cond (nat_eq y.0 u) (y ∷ filter (is_held_by u) ys) (filter (is_held_by u) ys))
+    by true is rest = as_long (nat_eq y.0 u) y (filter (is_held_by u) (filter (is_of_other tx) ys)) (filter (is_held_by u) ys) rest
+    by false is rest =
+        let not_own : false ≡ nat_eq y.0 u = grind (arith, nat_tests) in
+        subst (λ b. length (filter (is_held_by u) (filter (is_of_other tx) ys)) ≡ length (cond b (y ∷ filter (is_held_by u) ys) (filter (is_held_by u) ys))) not_own rest
+
+-- ---- what making room leaves
+
+pub keeps_noted : {S : Type 0} (old new : IndexMap ℕ KeysWithRoom S) (tx : ℕ) → SameNoted old new tx → (noted_of new tx).keys ≡ (noted_of old tx).keys → (0 < (noted_of old tx).room → 0 < (noted_of new tx).room) → KeepsNoted old new
+keeps_noted old new tx others keys room = record { keys = λ u. by u (cases_eq u tx); room = λ u h. still u h (cases_eq u tx) }
+  where
+    by : (u : ℕ) → (u ≡ tx) ⊎ (u ≢ tx) → (noted_of new u).keys ≡ (noted_of old u).keys
+    by u (inl e) = ap (λ n. (noted_of new n).keys) e ∙ keys ∙ ap (λ n. (noted_of old n).keys) (sym e)
+    by u (inr ne) = ap (λ (n : KeysWithRoom). n.keys) (others u ne)
+
+    still : (u : ℕ) → 0 < (noted_of old u).room → (u ≡ tx) ⊎ (u ≢ tx) → 0 < (noted_of new u).room
+    still u h (inl e) = subst (λ n. 0 < (noted_of new n).room) (sym e) (room (subst (λ n. 0 < (noted_of old n).room) e h))
+    still u h (inr ne) = subst (λ (n : KeysWithRoom). 0 < n.room) (sym (others u ne)) h

@@ -1,0 +1,41 @@
+-- The cells at which transactions hold something, and the room to note more.
+use Rattle.std.specs.Prelude.{ℕ, ◌≡◌, ◌≢◌, ◌+◌, ◌<◌, ◌≤◌, nat_eq, Bool, List, [], length, unwrap_or, Contains}
+use Rattle.std.specs.List.{filter}
+use Rattle.indexmap.specs.IndexMap.{IndexMap, get}
+use Rattle.mlt_object_locks.specs.Locks.{Held}
+
+-- the numbers of the keys of cells, and for how many more there is room
+pub record KeysWithRoom : Type 0 where
+  pub keys : List ℕ
+  pub room : ℕ
+
+-- no cell, and no room
+abbrev pub nothing_noted : KeysWithRoom
+nothing_noted = record { keys = []; room = 0 }
+
+-- what is noted of the transaction
+abbrev pub noted_of : {S : Type 0} → IndexMap ℕ KeysWithRoom S → ℕ → KeysWithRoom
+noted_of noted tx = unwrap_or (get nat_eq noted tx) nothing_noted
+
+-- of all other transactions the same is noted
+abbrev pub SameNoted : {S : Type 0} → IndexMap ℕ KeysWithRoom S → IndexMap ℕ KeysWithRoom S → ℕ → Type 0
+SameNoted old new tx = (other : ℕ) → other ≢ tx → noted_of new other ≡ noted_of old other
+
+-- the same cells are noted, and where there was room there still is
+pub record KeepsNoted {S : Type 0} (old new : IndexMap ℕ KeysWithRoom S) : Type 0 where
+  pub keys : (tx : ℕ) → (noted_of new tx).keys ≡ (noted_of old tx).keys
+  pub room : (tx : ℕ) → 0 < (noted_of old tx).room → 0 < (noted_of new tx).room
+
+-- the cell of this key is among them, and at most it is new
+pub record NotesAtMost (old new : List ℕ) (key : ℕ) : Type 0 where
+  pub there : Contains new key
+  pub keeps : (k : ℕ) → Contains old k → Contains new k
+  pub few : length new ≤ length old + 1
+
+-- the transaction holds this
+abbrev pub is_held_by : ℕ → Held → Bool
+is_held_by tx held = nat_eq held.0 tx
+
+-- how many operations the transaction holds
+abbrev pub held_count : List Held → ℕ → ℕ
+held_count held tx = length (filter (is_held_by tx) held)

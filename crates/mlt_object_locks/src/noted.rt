@@ -1,0 +1,109 @@
+//! The cells at which transactions hold something, by the numbers of their keys.
+//!
+//! A cell is noted when an operation on it is granted, in room that the reservation made. So no more cells are
+//! noted of a transaction than it holds operations, however many cells it has reserved.
+
+ghost use Rattle.std.specs.Prelude.{◌≡◌, ◌<◌, ◌++◌, ◌∷◌, [], OnOk, OnErr, IfErr};
+ghost use Rattle.mlt_object_locks.specs.Noted.{noted_of, SameNoted};
+
+use indexmap::IndexMap;
+use mlt_types::{Refusal, TxId};
+use std::alloc::Global;
+use std::marker::Model;
+
+/// Cells, by the numbers of their keys. A contract sees their list, and for how many more there is room.
+#[derive(Debug, Drop)]
+pub(crate) struct CellKeys {
+    keys: Vec<u64>,
+}
+
+impl Model for CellKeys {
+    ghost use Rattle.std.specs.Prelude.{◌-◌};
+    ghost use Rattle.std.specs.Vec.{vec_capacity, vec_len};
+    ghost use Rattle.mlt_object_locks.specs.Noted.{KeysWithRoom};
+
+    ghost Value = { KeysWithRoom };
+
+    ghost view = { λ cells. record {
+      keys = cells.keys.items;
+      room = vec_capacity cells.keys - vec_len cells.keys;
+    } };
+}
+
+impl CellKeys {
+    /// No cell. It takes no memory.
+    fn new(alloc: Global) -> CellKeys
+        ensures { result.keys ≡ [] }
+    {
+        CellKeys {
+            keys: Vec::new(alloc),
+        }
+    }
+
+    /// Makes room for one more, where there is none.
+    ///
+    /// # Errors
+    /// `OutOfMemory`, where a growth was refused; the list and its room are then as before.
+    fn reserve(&mut self) -> Result<(), Refusal>
+        ensures keys { self.new.keys ≡ self.old.keys }
+        ensures room { OnOk result (0 < self.new.room) }
+        ensures err { OnErr result (self.new ≡ self.old) }
+        ensures refusal { IfErr result (λ refusal. refusal ≡ Refusal.OutOfMemory) }
+    {
+        self.keys.reserve(1)?;
+        Ok(())
+    }
+
+    /// Adds a cell, in room that was made. It takes no memory.
+    fn add(&mut self, key: u64)
+        requires { 0 < self.old.room }
+        ensures { self.new.keys ≡ self.old.keys ++ key ∷ [] }
+    {
+        self.keys.push_reserved(key);
+    }
+
+    /// The numbers, in the order in which they came.
+    pub fn as_slice(&self) -> &[u64]
+        ensures { result.now ≡ self.now.keys }
+    {
+        &self.keys
+    }
+}
+
+/// The cells of each transaction.
+pub(crate) type Noted = IndexMap<TxId, CellKeys>;
+
+/// Makes room for one more cell of the transaction, where there is none.
+///
+/// # Errors
+/// `OutOfMemory`, where a growth was refused; there is then as much room as before.
+pub(crate) fn make_room(noted: &mut Noted, tx: TxId) -> Result<(), Refusal>
+    ensures others { SameNoted noted.old noted.new tx }
+    ensures keys { (noted_of noted.new tx).keys ≡ (noted_of noted.old tx).keys }
+    ensures room { OnOk result (0 < (noted_of noted.new tx).room) }
+    ensures err { OnErr result ((noted_of noted.new tx).room ≡ (noted_of noted.old tx).room) }
+    ensures refusal { IfErr result (λ refusal. refusal ≡ Refusal.OutOfMemory) }
+{
+    let alloc = *noted.allocator();
+    match noted.get_mut(&tx) {
+        Some(keys) => keys.reserve(),
+        None => {
+            let mut keys = CellKeys::new(alloc);
+            keys.reserve()?;
+            noted.insert(tx, keys)?;
+            Ok(())
+        }
+    }
+}
+
+/// Notes a cell of the transaction, in room that was made. It takes no memory.
+pub(crate) fn note(noted: &mut Noted, tx: TxId, key: u64)
+    requires { 0 < (noted_of noted.old tx).room }
+    ensures others { SameNoted noted.old noted.new tx }
+    ensures added { (noted_of noted.new tx).keys ≡ (noted_of noted.old tx).keys ++ key ∷ [] }
+{
+    match noted.get_mut(&tx) {
+        Some(keys) => keys.add(key),
+        None => unreachable!(),
+    }
+}

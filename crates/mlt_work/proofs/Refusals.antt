@@ -1,0 +1,78 @@
+-- What scripts are refused with at desks over a lock
+use Rattle.std.proofs.Common.{ℕ, List, [], ◌∷◌, Result, Ok, Err, inl, inr, sym, subst}
+use Rattle.std.specs.Prelude.{All}
+use Rattle.std.proofs.lemmas.List.Elements.{All-cons, All-nil}
+use Rattle.mlt_types.specs.declared.refusal.Refusal.{Refusal}
+use Rattle.mlt_types.specs.declared.refusal.Refusal.TheVariants as refusal
+use Rattle.mlt_kinds.specs.Bases.{Transcript}
+use Rattle.mlt_tree.specs.declared.statement.Ending.{Ending}
+use Rattle.mlt_tree.specs.declared.statement.Ending.TheVariants.{Commit, Abort}
+use Rattle.mlt_tree.specs.Scripts.{ScriptForm}
+use Rattle.mlt_cursor.specs.Plays.{OnOperation, PlaysAt}
+use Rattle.mlt_serial.specs.declared.outcome.End.{End}
+use Rattle.mlt_serial.specs.declared.outcome.End.TheVariants.{Committed, Aborted, Refused}
+use Rattle.mlt_serial.specs.declared.outcome.Outcome.{Outcome}
+use Rattle.mlt_desk.specs.Clients.{AreRunsAt, IsServedAt}
+use Rattle.mlt_desk.specs.Runs.{ClosesAs, OnAbort, OnBegin, OnCommit, refusal_of_script}
+use Rattle.mlt_lock_desk.specs.Holds.{MayAnswerBegin, MayAnswerCommit, MayAnswerOperation}
+use Rattle.mlt_lock_desk.specs.Refusals.{IsOfBegin, IsOfCommit, IsOfOperation}
+use Rattle.mlt_places.specs.Places.{IsScriptEnd, IsScriptRefusal}
+
+begin_refuses : (r : Refusal) → IsOfBegin r → IsScriptRefusal r
+begin_refuses refusal.TooManyOpen h = tt
+begin_refuses refusal.IdsSpent h = tt
+begin_refuses refusal.OutOfMemory h = tt
+begin_refuses other h = absurd h
+
+operation_refuses : (r : Refusal) → IsOfOperation r → IsScriptRefusal (refusal_of_script r)
+operation_refuses refusal.NoSuchTx h = tt
+operation_refuses refusal.Undoing h = tt
+operation_refuses refusal.Running h = tt
+operation_refuses refusal.LogFull h = tt
+operation_refuses refusal.NoRoom h = tt
+operation_refuses refusal.OutOfMemory h = tt
+operation_refuses refusal.GaveUp h = tt
+operation_refuses other h = absurd h
+
+commit_refuses : (r : Refusal) → IsOfCommit r → IsScriptRefusal (refusal_of_script r)
+commit_refuses refusal.NoSuchTx h = tt
+commit_refuses refusal.Undoing h = tt
+commit_refuses refusal.Running h = tt
+commit_refuses other h = absurd h
+
+-- an outcome ends as a script may
+abbrev pub EndsSo : Outcome → Type 0
+EndsSo o = IsScriptEnd o.end
+
+module _ {P : Type 0} (bits_of : P → ℕ → ℕ) {D : Type 0} where
+  abbrev begins_of : OnBegin D
+  begins_of old answer new = MayAnswerBegin bits_of answer
+
+  abbrev answers_of : OnOperation D
+  answers_of old tx op answer new = MayAnswerOperation bits_of tx answer
+
+  abbrev commits_of : OnCommit D
+  commits_of old tx answer new = MayAnswerCommit bits_of tx answer
+
+  abbrev aborts_of : OnAbort D
+  aborts_of old tx new = Unit {0}
+
+  -- a script that was played and closed
+  closes_end : (s : ScriptForm) (tx : ℕ) (d m : D) (t : Transcript) (ended : Result Ending Refusal) (end : End) (e : D) → PlaysAt answers_of s tx d t ended m → ClosesAs commits_of aborts_of tx ended m end e → IsScriptEnd end
+  closes_end s tx d m t ended (Committed number) e plays closes = tt
+  closes_end s tx d m t ended Aborted e plays closes = tt
+  closes_end s tx d m t (Ok Commit) (Refused other) e plays (reason, same, (n, commits, aborts)) = subst IsScriptRefusal (sym same) (commit_refuses reason commits)
+  closes_end s tx d m t (Ok Abort) (Refused reason) e plays closes = absurd closes
+  closes_end s tx d m t (Err reason) (Refused other) e plays (same, aborts) = subst IsScriptRefusal (sym same) (operation_refuses reason plays.refused)
+
+  run_ends : (s : ScriptForm) (d : D) (tx : ℕ) (t : Transcript) (end : End) (e : D) → IsServedAt begins_of answers_of commits_of aborts_of s d tx t end e → IsScriptEnd end
+  run_ends s d tx t end e (inl none) = subst IsScriptEnd (sym none.refused) tt
+  run_ends s d tx t end e (inr (inl unbegun)) = subst IsScriptEnd (sym unbegun.refused) (begin_refuses unbegun.refusal unbegun.begins_none)
+  run_ends s d tx t end e (inr (inr begun)) = closes_end s tx begun.after_begin begun.after_script t begun.ended end e begun.plays begun.closes
+
+  -- **Each script ends as a script may.**
+  pub runs_end : (ss : List ScriptForm) (d : D) (os : List Outcome) (e : D) → AreRunsAt begins_of answers_of commits_of aborts_of ss d os e → All EndsSo os
+  runs_end [] d [] e h = All-nil EndsSo
+  runs_end [] d (o ∷ os) e h = absurd h
+  runs_end (s ∷ ss) d [] e h = absurd h
+  runs_end (s ∷ ss) d (o ∷ os) e (m, run, more) = All-cons EndsSo o os (run_ends s d o.tx o.done o.end m run) (runs_end ss m os e more)

@@ -1,0 +1,582 @@
+"""The client in Python: each call and its replies, what it raises, transactions that are run again, connections that
+end anywhere, and pipelines. All that was done stands in the server's trace, which `check` accepts."""
+import ast
+import contextlib
+import enum
+import random
+import re
+import signal
+import socket
+import subprocess
+import sys
+import threading
+import time
+from concurrent.futures import ThreadPoolExecutor
+
+from harness import PATIENCE, ROOT, each, expect, holds, lines, same, test
+
+FOLDER = ROOT / "clients/python"
+sys.path.insert(0, str(FOLDER))
+import mltx as client_module  # noqa: E402
+from mltx import (  # noqa: E402
+    FORMS,
+    Client,
+    CommitUnknown,
+    ConnectionLost,
+    GaveUp,
+    LogFull,
+    NoRoom,
+    NoSuchTx,
+    Operation,
+    Refused,
+    Reply,
+    Retries,
+    Running,
+    ScriptFault,
+    ServerAway,
+    TimedOut,
+    TransactionOver,
+    UnexpectedAnswer,
+)
+
+# How long to listen for a line that must not come, in seconds.
+SILENCE = 0.2
+# Retries that do not stop before a test does.
+PATIENT = Retries(attempts=10_000, first_pause=0.001, longest_pause=0.05)
+
+
+def connected(server, **options):
+    """A client that has connected, as soon as the server is there."""
+    client, until = Client(*server.address, **options), time.monotonic() + server.timeout
+    while True:
+        try:
+            client.session()
+            return client
+        except ServerAway:
+            holds(server.process.poll() is None and time.monotonic() < until, "the server is not there")
+            time.sleep(0.01)
+
+
+def raised(kind, call, *arguments):
+    """What the call raises, which is just of this kind."""
+    try:
+        answer = call(*arguments)
+    except Exception as error:
+        same(type(error), kind, f"what is raised: {error!r}")
+        return error
+    raise AssertionError(f"{kind.__name__} is not raised, but {answer!r} is answered")
+
+
+def ends_well(mltx, server, trace, *, served, checked):
+    """Fails where the server ends otherwise, or `check` says anything else of its trace."""
+    expect(server.end(), out=f"served {served}\n", what="the server")
+    expect(mltx.check(trace), out=lines(checked), what="the check of the trace")
+
+
+# Operations of one transaction, and the result of each.
+RESULTS = [
+    ("close", (1,), Reply.MISSING),
+    ("deposit", (1, 1), Reply.MISSING),
+    ("withdraw", (1, 1), Reply.MISSING),
+    ("balance", (1,), None),
+    ("open", (1,), Reply.OPENED),
+    ("open", (1,), Reply.EXISTS),
+    ("balance", (1,), 0),
+    ("withdraw", (1, 1), Reply.SHORT),
+    ("deposit", (1, 10**18), Reply.DONE),
+    ("deposit", (1, 2**64 - 1), Reply.OVER),
+    ("close", (1,), Reply.NOT_EMPTY),
+    ("balance", (1,), 10**18),
+    ("withdraw", (1, 10**18), Reply.DONE),
+    ("close", (1,), Reply.CLOSED),
+    ("remove", (2, 3), Reply.ABSENT),
+    ("has", (2, 3), False),
+    ("add", (2, 3), Reply.ADDED),
+    ("add", (2, 3), Reply.PRESENT),
+    ("has", (2, 3), True),
+    ("remove", (2, 3), Reply.REMOVED),
+    ("down", (4, 1), Reply.DONE),
+    ("read", (4,), 2**64 - 1),
+    ("up", (4, 3), Reply.DONE),
+    ("read", (4,), 2),
+    ("open", (2**32 - 1,), Reply.OPENED),
+    ("add", (2**16 - 1, 2**32 - 1), Reply.ADDED),
+    ("up", (2**32 - 1, 2**64 - 1), Reply.DONE),
+]
+
+
+@test
+def each_call_has_each_reply(mltx):
+    """Each call one by one, and all in one pipeline after that was taken back: the same results."""
+    trace = mltx.folder / "trace"
+    with mltx.serve("--trace", trace) as server, connected(server) as client:
+        with client.begin() as tx:
+            for word, numbers, result in RESULTS:
+                same(getattr(tx, word)(*numbers), result, f"{word} {numbers}")
+            tx.abort()
+        with client.begin() as tx:
+            told = tx.ask_all([getattr(Operation, word)(*numbers) for word, numbers, _ in RESULTS])
+            same(told, [result for _, _, result in RESULTS], "the pipeline")
+        same((tx.number, tx.commit_number, tx.is_open), (2, 1, False), "the transaction")
+        client.close()
+        base = "account 4294967295 0|element 65535 4294967295|counter 4 2|counter 4294967295 18446744073709551615"
+        ends_well(mltx, server, trace, served=1, checked=f"serial 2|{base}")
+
+
+def replies_of_formats():
+    """The replies of each operation, as the tables of docs/FORMATS.md have them."""
+    text, found = (ROOT / "docs/FORMATS.md").read_text(), {}
+    for title in ("Accounts", "Elements", "Counters"):
+        table = text.partition(f"\n## {title}\n")[2].partition("\n## ")[0]
+        for words, reply in re.findall(r"(?m)^\| ([a-z, ]+?)(?: n)? / (\w+)", table):
+            for word in words.split(", "):
+                found.setdefault(word, set()).add(reply)
+    return found
+
+
+@test
+def client_knows_the_replies_of_formats(_mltx):
+    """Each operation has the replies that FORMATS lists, and no others; each of them comes in the test above."""
+    known = {word: {reply.value for reply in form.results} for word, form in FORMS.items()}
+    known = {word: replies | ({"is"} if FORMS[word].tells_number else set()) for word, replies in known.items()}
+    formats = replies_of_formats()
+    formats["up"] = formats["down"] = {"done"}
+    same(known, formats, "the replies of each operation")
+    tried = {(word, "is" if FORMS[word].tells_number and result is not None else result) for word, _, result in RESULTS}
+    wanted = {(word, result) for word, form in FORMS.items() for result in form.results.values()}
+    same(tried, wanted | {(word, "is") for word, form in FORMS.items() if form.tells_number}, "what is tried")
+
+
+@test
+def client_is_python_3_9(_mltx):
+    for file in ("mltx.py", "mltx_shell.py"):
+        ast.parse((FOLDER / file).read_text(), feature_version=(3, 9))
+
+
+# Calls with a number that is none of their range, and what is said of it.
+OUT_OF_RANGE = [
+    (ValueError, "open", (-1,), "account has to be 0 to 4294967295, and is -1"),
+    (ValueError, "balance", (2**32,), "account has to be 0 to 4294967295, and is 4294967296"),
+    (ValueError, "deposit", (1, -1), "amount has to be 0 to 18446744073709551615, and is -1"),
+    (ValueError, "withdraw", (1, 2**64), "amount has to be 0 to 18446744073709551615, and is 18446744073709551616"),
+    (ValueError, "add", (2**16, 0), "set has to be 0 to 65535, and is 65536"),
+    (ValueError, "has", (0, 2**32), "element has to be 0 to 4294967295, and is 4294967296"),
+    (ValueError, "read", (2**32,), "counter has to be 0 to 4294967295, and is 4294967296"),
+    (TypeError, "up", (7, 1.0), "amount has to be a whole number, and is 1.0"),
+    (TypeError, "up", ("7", 1), "counter has to be a whole number, and is '7'"),
+    (TypeError, "close", (True,), "account has to be a whole number, and is True"),
+    (TypeError, "close", (None,), "account has to be a whole number, and is None"),
+]
+
+
+@test
+def numbers_out_of_range_are_not_sent(mltx):
+    """The transaction goes on as if nothing had been asked, also where they stand in a pipeline."""
+    with mltx.serve() as server, connected(server) as client, client.begin() as tx:
+        left = tx.session.bytes_left
+        for kind, word, numbers, said in OUT_OF_RANGE:
+            same(str(raised(kind, getattr(tx, word), *numbers)), said, f"{word} {numbers}")
+        raised(ValueError, lambda: tx.ask_all([Operation.up(7, 1), Operation.up(7, -1)]))
+        same(tx.session.bytes_left, left, "the bytes that may be sent still")
+        same(tx.read(7), 0)
+        named = enum.IntEnum("Named", {"COUNTER": 7, "AMOUNT": 5})
+        same((tx.up(named.COUNTER, named.AMOUNT), tx.read(7)), (Reply.DONE, 5), "numbers that have names")
+    for address in (("127.0.0.1", 0), ("127.0.0.1", 65_536)):
+        raised(ValueError, lambda address=address: Client(*address))
+    raised(ValueError, lambda: Retries(attempts=0))
+
+
+@test
+def addresses_are_parsed(_mltx):
+    good = {"127.0.0.1:7000": ("127.0.0.1", 7000), "localhost:1": ("localhost", 1), "[::1]:65535": ("::1", 65_535)}
+    for text, address in good.items():
+        same(client_module.parse_address(text), address, text)
+    for text in ("", "7000", ":7000", "host", "host:", "host:x", "host:0", "host:65536", "host:-1"):
+        raised(ValueError, client_module.parse_address, text)
+
+
+@test
+def refusals_are_raised(mltx):
+    """Each has its number and its name, and the transaction goes on."""
+    with mltx.serve("--hash", "low") as server, connected(server) as client:
+        session = client.session()
+        same(session.ask("up 7 1", "commit", "foo"), ["error 3 NoSuchTx"] * 2 + ["error 10 ScriptFault"])
+        with client.begin() as tx:
+            error = raised(Running, client.begin)
+            same((error.number, error.name), (5, "Running"), "begin in a transaction")
+            for number in range(8):
+                same(tx.open(number * 65_536), Reply.OPENED)
+            error = raised(NoRoom, tx.open, 8 * 65_536)
+            same((error.number, error.name), (2, "NoRoom"), "a ninth account")
+            for _ in range(1_024 - 8):
+                tx.balance(0)
+            error = raised(LogFull, tx.balance, 0)
+            same((error.number, error.name), (8, "LogFull"), "one more than 1,024 operations")
+        same(tx.commit_number, 1, "the commit")
+    # What this server can't be brought to answer is read the same way.
+    read = Operation.read(7)
+    for answer, kind in (("error 3 NoSuchTx", NoSuchTx), ("error 10 ScriptFault", ScriptFault), ("error 6 X", Refused)):
+        error = raised(kind, read.result, answer)
+        same(f"error {error.number} {error.name}", answer)
+    for answer in ("", "is", "is x", "done", "missing", "error", "error 14", "error x GaveUp", "HTTP/1.1 400 Bad"):
+        raised(UnexpectedAnswer, read.result, answer)
+
+
+@test
+def transaction_is_a_block(mltx):
+    """It commits at the end of the block, and aborts where an exception leaves it; it may end before."""
+    trace = mltx.folder / "trace"
+    with mltx.serve("--trace", trace) as server, connected(server) as client:
+        with client.begin() as tx:
+            tx.up(1, 1)
+            holds(tx.is_open, "a transaction in its block is open")
+        with contextlib.suppress(KeyError), client.begin() as tx:
+            tx.up(2, 1)
+            raise KeyError
+        same((tx.is_open, tx.commit_number), (False, None), "a block that an exception leaves")
+        with client.begin() as tx:
+            tx.up(3, 1)
+            same(tx.commit(), 2)
+            for call in (tx.commit, tx.abort, lambda: tx.up(3, 1), lambda: tx.ask_all([])):
+                raised(TransactionOver, call)
+        with client.begin() as tx:
+            tx.up(4, 1)
+            tx.abort()
+            raised(TransactionOver, tx.commit)
+        same(client.run(lambda tx: (tx.up(5, 1), tx.abort(), "answer")[2]), "answer", "a function that aborts")
+        raised(ZeroDivisionError, client.run, lambda tx: (tx.up(6, 1), 1 // 0))
+        same(client.run(lambda tx: tx.up(7, 1)), Reply.DONE, "a function that is run")
+        client.close()
+        checked = "serial 1|serial 3|serial 7|counter 1 1|counter 3 1|counter 7 1"
+        ends_well(mltx, server, trace, served=1, checked=checked)
+
+
+def transfer(tx, source, target, amount):
+    """Moves an amount where the source has it, which is looked at first: two of them may be in a deadlock."""
+    if tx.balance(source) < amount:
+        return
+    same(tx.ask_all([Operation.withdraw(source, amount), Operation.deposit(target, amount)]), [Reply.DONE] * 2)
+
+
+@test(seconds=3)
+def transfers_of_sixteen_threads(mltx):
+    """The sum of all accounts is kept, while transfers give up and are run again."""
+    threads, accounts, trace = 16, range(6), mltx.folder / "trace"
+
+    def work(seed):
+        source = random.Random(seed)
+        with Client(*server.address, retries=PATIENT) as client:
+            for _ in range(20):
+                pair = source.sample(accounts, 2)
+                client.run(lambda tx, pair=pair: transfer(tx, *pair, source.randrange(1, 100)))
+
+    with mltx.serve("--sessions", threads, "--trace", trace, limit=threads + 2) as server:
+        with connected(server) as client:
+            client.run(lambda tx: tx.ask_all([Operation.open(account) for account in accounts]))
+            client.run(lambda tx: tx.ask_all([Operation.deposit(account, 1_000) for account in accounts]))
+        with ThreadPoolExecutor(threads) as pool:
+            list(pool.map(work, range(threads)))
+        with connected(server) as client:
+            balances = client.run(lambda tx: tx.ask_all([Operation.balance(account) for account in accounts]))
+        same(sum(balances), 6_000, f"the sum of {balances}")
+        expect(server.end(), out=f"served {threads + 2}\n")
+    checked = mltx.check(trace)
+    same((checked.status, checked.err), (0, b""), "the check of the trace")
+    base = "".join(f"account {account} {balance}\n" for account, balance in enumerate(balances))
+    same(checked.out.decode().splitlines(keepends=True)[-6:], base.splitlines(keepends=True), "the base")
+
+
+@test
+def transaction_is_run_again_after_a_deadlock(mltx):
+    """Of two that wait for each other one gives up, and both are committed at last."""
+    trace, both, tries = mltx.folder / "trace", threading.Barrier(2), {1: 0, 2: 0}
+
+    def cross(tx, own, other):
+        tries[own] += 1
+        tx.up(own, 1)
+        if tries[own] == 1:
+            both.wait(PATIENCE)
+        return tx.read(other)
+
+    def work(own):
+        with connected(server, retries=PATIENT) as client:
+            return client.run(lambda tx: cross(tx, own, 3 - own))
+
+    with mltx.serve("--trace", trace, limit=2) as server, ThreadPoolExecutor(2) as pool:
+        same(sorted(pool.map(work, (1, 2))), [0, 1], "what the first and the second to commit read")
+        holds(sum(tries.values()) > 2, f"one was run again: {tries}")
+        expect(server.end(), out="served 2\n")
+    checked = mltx.check(trace).out.decode().splitlines()
+    same(checked[2:], ["counter 1 1", "counter 2 1"], "the base")
+
+
+@test
+def gives_up_at_last(mltx):
+    """By one try an operation that waits gives up; it is run as often as is said, and then GaveUp is raised."""
+    trace, tries = mltx.folder / "trace", []
+    with mltx.serve("--tries", 1, "--trace", trace, limit=2) as server:
+        with connected(server) as holder, connected(server) as client, holder.begin() as held:
+            held.up(7, 1)
+            few = Retries(attempts=3, first_pause=0.001, longest_pause=0.002)
+            error = raised(GaveUp, lambda: client.run(lambda tx: (tries.append(tx.number), tx.read(7)), retries=few))
+            same((error.number, error.name, tries), (14, "GaveUp", [2, 3, 4]), "the transactions that gave up")
+            with client.begin() as tx:
+                tx.up(8, 1)
+                raised(GaveUp, tx.read, 7)
+                same(tx.read(8), 1, "a transaction goes on after it was refused an operation")
+        ends_well(mltx, server, trace, served=2, checked="serial 5|serial 1|counter 7 1|counter 8 1")
+
+
+@test
+def pauses_are_bounded(_mltx):
+    for attempts in (1, 2, 30):
+        pauses = list(Retries(attempts=attempts, first_pause=0.01, longest_pause=0.5).pauses())
+        same(len(pauses), attempts - 1, "the pauses between the tries")
+        for number, pause in enumerate(pauses):
+            holds(0 <= pause <= min(0.5, 0.01 * 2**number), f"pause {number} is {pause}")
+    holds(len(set(Retries(attempts=20).pauses())) > 1, "pauses differ")
+
+
+@test
+def pipelines(mltx):
+    """Results are in the order of the operations, however many these are. Where one is refused the others are asked."""
+    trace = mltx.folder / "trace"
+    with mltx.serve("--tries", 1, "--trace", trace, limit=2) as server:
+        with connected(server) as holder, connected(server) as client:
+            with client.begin() as tx:
+                same(tx.ask_all([]), [])
+                counts = [step for number in range(512) for step in (Operation.up(7, number), Operation.read(7))]
+                told = tx.ask_all(counts)
+                sums = [number * (number + 1) // 2 for number in range(512)]
+                same(told[1::2], sums, "1,024 operations in one pipeline")
+                raised(LogFull, tx.ask_all, [Operation.read(7)] * 5_000)
+            with holder.begin() as held:
+                held.up(1, 1)
+                tx = client.begin()
+                raised(GaveUp, tx.ask_all, [Operation.up(8, 1), Operation.read(1), Operation.up(8, 2)])
+                same(tx.read(8), 3, "both others were done")
+                tx.abort()
+        ends_well(mltx, server, trace, served=2, checked=f"serial 1|serial 2|counter 1 1|counter 7 {511 * 256}")
+
+
+def heard_at_once(connection):
+    """How many lines come, from the first on, before it is silent."""
+    connection.settimeout(PATIENCE)
+    heard = connection.recv(65_536)
+    connection.settimeout(SILENCE)
+    with contextlib.suppress(socket.timeout):
+        for piece in iter(lambda: connection.recv(65_536), b""):
+            heard += piece
+    return heard.count(b"\n")
+
+
+@test(seconds=1)
+def lines_that_wait_for_their_answers(_mltx):
+    """No more go out than are said, so that a server that writes all its answers first does not wait for ever."""
+    with socket.create_server(("127.0.0.1", 0)) as listener, ThreadPoolExecutor(1) as pool:
+        session = client_module.Session(*listener.getsockname())
+        connection, _ = listener.accept()
+        asked = pool.submit(session.ask, *[f"up 7 {number}" for number in range(300)])
+        for count in (client_module.MOST_UNANSWERED, 300 - client_module.MOST_UNANSWERED):
+            same(heard_at_once(connection), count, "the lines that came")
+            connection.sendall(b"done\n" * count)
+        same(asked.result(PATIENCE), ["done"] * 300)
+        session.close()
+        connection.close()
+
+
+class Relay:
+    """Stands between clients and a server, and passes on one line and its answer after the other. In its connection
+    number i it breaks off at the line that `cuts[i]` names: `before` it is passed on, or `after` it was answered."""
+
+    def __init__(self, server, cuts):
+        self.server, self.cuts = server, cuts
+        self.listener = socket.create_server(("127.0.0.1", 0))
+        self.address, self.timeout, self.process = self.listener.getsockname(), server.timeout, server.process
+        threading.Thread(target=self.serve, daemon=True).start()
+
+    def serve(self):
+        with self.listener:
+            for cut in self.cuts:
+                self.pass_on(self.listener.accept()[0], cut)
+
+    def pass_on(self, client, cut):
+        with client, client.makefile("rb") as asked, self.server.connect() as peer:
+            for line in asked:
+                line = line.decode().rstrip("\n")
+                if cut == ("before", line):
+                    return
+                answer = peer.ask(line)
+                if cut == ("after", line):
+                    return
+                client.sendall((answer + "\n").encode())
+
+
+# Where the connection is broken off; how often a function that counts up is run then, up to a commit or an error;
+# whether the answer to the commit is lost; and what the counter is at the end.
+BREAKS = {
+    "client-is-cut-before-begin": (("before", "begin"), 1, False, 1),
+    "client-is-cut-after-begin": (("after", "begin"), 1, False, 1),
+    "client-is-cut-before-an-operation": (("before", "up 7 1"), 2, False, 1),
+    "client-is-cut-after-an-operation": (("after", "up 7 1"), 2, False, 1),
+    "client-is-cut-before-the-commit": (("before", "commit"), 1, True, 0),
+    "client-is-cut-after-the-commit": (("after", "commit"), 1, True, 1),
+}
+
+
+@each(BREAKS)
+def client_is_cut(mltx, case):
+    """It runs a transaction again of which nothing is left, and never one whose commit may have been done."""
+    cut, runs, is_unknown, count = case
+    trace, tries = mltx.folder / "trace", []
+    with mltx.serve("--trace", trace, limit=3 - is_unknown) as server:
+        relay = Relay(server, [cut, None])
+        with Client(*relay.address, retries=PATIENT) as client:
+
+            def count_up():
+                return client.run(lambda tx: (tries.append(tx.number), tx.up(7, 1)))
+
+            if is_unknown:
+                same(raised(CommitUnknown, count_up).transaction, tries[-1], "the transaction that is not known of")
+            else:
+                count_up()
+        same(len(tries), runs, "how often it was run")
+        with connected(server) as client:
+            same(client.run(lambda tx: tx.read(7)), count, "the counter")
+        expect(server.end(), out=f"served {3 - is_unknown}\n")
+    same(mltx.check(trace).status, 0, "the check of the trace")
+
+
+@test
+def server_that_is_not_there(mltx):
+    """It is told at once, or after so many tries; a server that comes meanwhile is found."""
+    with mltx.serve() as server:
+        connected(server).close()
+        expect(server.end(), out="served 1\n")
+        few = Retries(attempts=3, first_pause=0.001)
+        said = str(raised(ServerAway, client_module.connect, *server.address))
+        holds(said.startswith("no server answers at 127."), said)
+        raised(ServerAway, lambda: Client(*server.address, retries=few).run(lambda tx: 1 // 0))
+    with mltx.serve() as server, Client(*server.address, retries=PATIENT) as client:
+        same(client.run(lambda tx: tx.read(7)), 0, "a client that comes before the server")
+
+
+@test
+def server_that_ends_in_a_transaction(mltx):
+    """It is killed while the client computes, or while an operation waits. Nothing was committed, and nothing says
+    so."""
+    with mltx.serve(limit=2) as server, connected(server) as client:
+        tx = client.begin()
+        tx.up(7, 1)
+        server.kill()
+        for call in (tx.commit, lambda: tx.up(7, 1), tx.commit, tx.abort):
+            raised(ConnectionLost, call)
+        raised(ServerAway, client.begin)
+    with mltx.serve(limit=2) as server, connected(server) as holder, connected(server) as client:
+        held, tx = holder.begin(), client.begin()
+        held.up(7, 1)
+        killer = threading.Timer(0.2, server.kill)
+        killer.start()
+        raised(ConnectionLost, tx.read, 7)
+        killer.join()
+
+
+@test
+def server_that_ends_at_the_commit(mltx):
+    """It is stopped before the commit is sent, and killed then. Whether it was done is not known."""
+    with mltx.serve() as server, connected(server) as client:
+        tx = client.begin()
+        tx.up(7, 1)
+        server.process.send_signal(signal.SIGSTOP)
+        receive = tx.session.receive
+        tx.session.receive = lambda: (server.kill(), receive())
+        same(raised(CommitUnknown, tx.commit).transaction, 1)
+        raised(TransactionOver, tx.commit)
+
+
+@test
+def connection_that_ended_is_seen_at_the_block(mltx):
+    """Where a block goes on behind a lost connection, as if nothing were, its end raises."""
+
+    def swallow():
+        with client.begin() as tx:
+            tx.up(7, 1)
+            server.kill()
+            with contextlib.suppress(ConnectionLost):
+                tx.up(7, 1)
+
+    with mltx.serve() as server, connected(server) as client:
+        raised(ConnectionLost, swallow)
+
+
+@test(seconds=2)
+def answer_that_does_not_come_in_time(mltx):
+    """The client closes the connection, and the server takes the transaction back once its operation has ended."""
+    trace = mltx.folder / "trace"
+    with mltx.serve("--trace", trace, limit=3) as server:
+        with connected(server) as holder, connected(server, answer_timeout=1.5) as client, holder.begin() as held:
+            held.up(7, 1)
+            tx = client.begin()
+            tx.up(8, 1)
+            raised(TimedOut, tx.read, 7)
+            same(tx.is_open, False, "the transaction whose connection was closed")
+            with client.begin() as tx:
+                tx.up(9, 1)
+        ends_well(mltx, server, trace, served=3, checked="serial 3|serial 1|counter 7 1|counter 9 1")
+
+
+@test
+def session_that_is_used_up(mltx):
+    """A transaction begins on a new connection where the last one has sent nearly all that it may; in a transaction it
+    is told, and run again on a new one."""
+    trace = mltx.folder / "trace"
+    with mltx.serve("--trace", trace, limit=3) as server, connected(server) as client:
+        client.run(lambda tx: tx.up(7, 1))
+        client.session().bytes_left = client_module.TRANSACTION_BYTES - 1
+        tries = []
+
+        def use_up(tx):
+            tries.append(tx.number)
+            if len(tries) == 1:
+                tx.session.bytes_left = 6
+            return tx.up(7, 1)
+
+        same(client.run(use_up), Reply.DONE)
+        same(tries, [2, 3], "the transactions")
+        client.close()
+        ends_well(mltx, server, trace, served=3, checked="serial 1|serial 3|counter 7 2")
+
+
+@test(seconds=2)
+def session_sends_all_that_it_may(mltx):
+    """A server hears the last byte that the client counts, and none behind it."""
+    with mltx.serve() as server, connected(server) as client:
+        session = client.session()
+        same(session.ask("begin"), ["begun 1"])
+        blanks, rest = divmod(session.bytes_left - len("commit\n"), 200)
+        for start in range(0, blanks, 1_000):
+            session.send(*[" " * 199] * min(1_000, blanks - start))
+        session.send(" " * (rest - 1))
+        same((session.ask("commit"), session.bytes_left), (["committed 1"], 0), "the last byte that it may send")
+        raised(ConnectionLost, session.ask, "begin")
+        expect(server.end(), out="served 1\n")
+
+
+def shown_in(page, before):
+    """The indented block that follows these words on a page, without its indents."""
+    block = re.match(r".*?\n\n((?:    [^\n]*\n|\n)+)", page.partition(before)[2], re.DOTALL)
+    return re.sub(r"(?m)^    ", "", block[1]).strip("\n") + "\n"
+
+
+@test
+def readme_of_the_client_runs(mltx):
+    """The program on the client's page writes what the page shows."""
+    page = (FOLDER / "README.md").read_text()
+    program = shown_in(page, "## A program").replace('"127.0.0.1", 7000', '"%s", %d')
+    with mltx.serve(limit=2) as server:
+        connected(server).close()
+        path = mltx.file("program.py", program % server.address)
+        env = {"PYTHONPATH": str(FOLDER), "PYTHONDONTWRITEBYTECODE": "1"}
+        ran = subprocess.run([sys.executable, path], capture_output=True, env=env, timeout=PATIENCE)
+        same((ran.stdout.decode(), ran.stderr), (shown_in(page, "It writes"), b""), "what the program writes")
+        expect(server.end(), out="served 2\n")

@@ -1,0 +1,330 @@
+"""The prompt in Python: what it writes of each line, the first line that fails, files of lines, servers that go away,
+and its use at a terminal."""
+import os
+import pty
+import re
+import select
+import signal
+import subprocess
+import sys
+import time
+from contextlib import contextmanager
+
+from client import FOLDER, Relay, connected, shown_in
+from harness import PATIENCE, Failed, Ran, each, expect, free_address, holds, lines, same, test
+
+# A process that uses no time for so long waits, in seconds.
+QUIET = 0.1
+SHELL = [sys.executable, "-B", str(FOLDER / "mltx_shell.py")]
+
+
+def typed(address, given, *, cwd=None):
+    """What the prompt comes to where its lines are given by a pipe."""
+    words = [*SHELL, "%s:%d" % address]
+    ran = subprocess.run(words, input=given.encode(), capture_output=True, cwd=cwd, timeout=PATIENCE)
+    return Ran(ran.returncode, ran.stdout, ran.stderr)
+
+
+# Lines that are piped in, what is written of them, and what standard error says, in which case the status is 1.
+PIPED = {
+    "prompt-of-each-reply": (
+        "begin|close 1|deposit 1 1|open 1|open 1|withdraw 1 1|deposit 1 5|deposit 1 1000000000000000000|close 1"
+        "|balance 1|withdraw 1 5|close 1|balance 1|remove 2 3|has 2 3|add 2 3|add 2 3|has 2 3|remove 2 3|down 4 1"
+        "|up 4 3|read 4|commit|status",
+        "begun 1|missing: there is no such account|missing: there is no such account|opened"
+        "|exists: the account was there before|short: the balance is too low|done"
+        "|over: the balance would be above 10^18|notempty: the balance is not 0|is 5|done|closed"
+        "|missing: there is no such account|absent: the element is not in the set|no: the element is not in the set"
+        "|added|present: the element was in the set before|yes: the element is in the set|removed|done|done|is 2"
+        "|committed 1|connected; no transaction is open, the last one: committed 1",
+        "",
+    ),
+    "prompt-skips-blank-lines-and-comments": (
+        "|# one|  #two|begin|  up   07\t1 ||commit|status",
+        "begun 1|done|committed 1|connected; no transaction is open, the last one: committed 1",
+        "",
+    ),
+    "prompt-of-no-lines": ("", "", ""),
+    "prompt-of-a-quit-in-a-transaction": (
+        "begin|status|quit|up 7 1",
+        "begun 1|connected; transaction 1 is open|transaction 1 is taken back",
+        "",
+    ),
+    "prompt-of-an-input-that-ends-in-a-transaction": (
+        "begin|up 7 1",
+        "begun 1|done",
+        "transaction 1 was open at the end, and is taken back",
+    ),
+    "prompt-ends-at-an-unknown-line": (
+        "begin|up 7 1|upp 7 1|commit",
+        "begun 1|done",
+        "upp: there is no such line; `help` lists all|standard input, line 3: upp 7 1"
+        "|transaction 1 was open at the end, and is taken back",
+    ),
+    "prompt-ends-at-an-error": (
+        "begin|begin|commit",
+        "begun 1",
+        "error 5 Running: a transaction is open already|standard input, line 2: begin"
+        "|transaction 1 was open at the end, and is taken back",
+    ),
+}
+
+# A line that fails where it stands alone, and what is said of it.
+FAILS = {
+    "prompt-of-an-operation-alone": ("up 7 1", "error 3 NoSuchTx: no transaction is open"),
+    "prompt-of-a-commit-alone": ("commit", "no transaction is open: `begin` begins one"),
+    "prompt-of-an-abort-alone": ("abort", "no transaction is open: `begin` begins one"),
+    "prompt-of-words-behind-a-line": ("begin 1", "nothing stands behind `begin`; nothing was sent"),
+    "prompt-of-a-number-out-of-range": (
+        "deposit 1 18446744073709551616",
+        "amount has to be 0 to 18446744073709551615, and is 18446744073709551616; it is `deposit ACCOUNT AMOUNT`;"
+        " nothing was sent",
+    ),
+    "prompt-of-too-few-numbers": (
+        "add 4",
+        "add takes set, element, and was given 1 numbers; it is `add SET ELEMENT`; nothing was sent",
+    ),
+    "prompt-of-no-number": ("up 7 x", "it is `up COUNTER AMOUNT`, with numbers; nothing was sent"),
+    "prompt-of-a-file-that-is-not-there": (
+        "source none.txt",
+        "source none.txt: the file can't be read ([Errno 2] No such file or directory: 'none.txt')",
+    ),
+}
+PIPED |= {name: (line, "", f"{said}|standard input, line 1: {line}") for name, (line, said) in FAILS.items()}
+
+
+@each(PIPED)
+def piped(mltx, case):
+    given, out, err = case
+    with mltx.serve(limit=2) as server:
+        connected(server).close()
+        ran = typed(server.address, lines(given), cwd=mltx.folder)
+        expect(ran, status=1 if err else 0, out=lines(out), err=lines(err), what=given)
+
+
+@test
+def help_of_the_prompt(mltx):
+    """Each operation is listed, and its help has its numbers and its replies."""
+    with mltx.serve(limit=2) as server:
+        connected(server).close()
+        ran = typed(server.address, "help\nhelp deposit\n? read\nhelp source\nhelp nothing\n")
+    out = ran.out.decode()
+    for usage in ("open ACCOUNT", "add SET ELEMENT", "up COUNTER AMOUNT", "begin", "source FILE", "quit"):
+        holds(re.search(rf"(?m)^{usage} ", out), f"{usage} is listed in {out}")
+    deposit = (
+        "deposit ACCOUNT AMOUNT|    asks for so much more in the account"
+        "|    ACCOUNT is 0 to 4294967295, AMOUNT is 0 to 18446744073709551615"
+        "|    -> done|    -> over: the balance would be above 10^18|    -> missing: there is no such account"
+    )
+    holds(lines(deposit) in out, f"the help of deposit in {out}")
+    holds(lines("read COUNTER|    asks for the counter's value") in out, f"the help of read in {out}")
+    same(ran.status, 1, "the status")
+    same(ran.err, b"help: there is no line nothing\nstandard input, line 5: help nothing\n", "what is said")
+
+
+@test
+def files_of_lines(mltx):
+    """A file runs up to the first line that fails, which is told; it may run others; what it began stays open."""
+    mltx.file("inner.txt", "# counts\nup 7 1\nup 7 2\n")
+    mltx.file("outer.txt", "begin\nsource inner.txt\n\nread 7\n")
+    mltx.file("wrong.txt", "up 7 4\nfoo\nup 7 8\n")
+    mltx.file("circle.txt", "source circle.txt\n")
+    mltx.file("quits.txt", "quit\n")
+    cases = [
+        ("source outer.txt|commit", "begun 1|done|done|is 3|committed 1", ""),
+        (
+            "source outer.txt|source wrong.txt|commit",
+            "begun 2|done|done|is 6|done",
+            "foo: there is no such line; `help` lists all|wrong.txt, line 2: foo"
+            "|standard input, line 2: source wrong.txt|transaction 2 was open at the end, and is taken back",
+        ),
+        ("source quits.txt|begin", "", ""),
+    ]
+    with mltx.serve(limit=5) as server:
+        connected(server).close()
+        for given, out, err in cases:
+            ran = typed(server.address, lines(given), cwd=mltx.folder)
+            expect(ran, status=1 if err else 0, out=lines(out), err=lines(err), what=given)
+        ran = typed(server.address, "source circle.txt\n", cwd=mltx.folder)
+        same((ran.status, ran.err.count(b"\n")), (1, 18), f"a file that runs itself: {ran}")
+        holds(ran.err.startswith(b"source circle.txt: 16 files run one another already\n"), f"{ran}")
+
+
+@test
+def servers_that_go_away_from_a_prompt(mltx):
+    """It says whether the transaction is taken back, or whether that is not known."""
+    ran = typed(free_address(), "begin\n")
+    same((ran.status, ran.out), (1, b""), "a server that is not there")
+    said = rb"no server answers at 127[.\d]+:\d+ \(.*refused\)\nstandard input, line 1: begin\n"
+    holds(re.fullmatch(said, ran.err), f"what is said: {ran}")
+    cases = [
+        (
+            ("before", "up 7 1"),
+            "begun 1",
+            "the server ended the connection; transaction 1 is taken back|standard input, line 2: up 7 1",
+        ),
+        (
+            ("after", "commit"),
+            "begun 2|done",
+            "the connection ended, and it is not known whether transaction 2 was committed"
+            "|standard input, line 3: commit",
+        ),
+    ]
+    with mltx.serve(limit=2) as server:
+        for cut, out, err in cases:
+            relay = Relay(server, [cut])
+            ran = typed(relay.address, "begin\nup 7 1\ncommit\n")
+            expect(ran, status=1, out=lines(out), err=lines(err), what=f"{cut}")
+        expect(server.end(), out="served 2\n")
+
+
+@test
+def words_of_the_prompt(_mltx):
+    """A wrong command line has status 2."""
+    for words in ([], ["nowhere"], ["127.0.0.1:0"], ["127.0.0.1:7000", "more"], ["--what", "127.0.0.1:7000"]):
+        ran = subprocess.run([*SHELL, *words], stdin=subprocess.DEVNULL, capture_output=True, timeout=PATIENCE)
+        same((ran.returncode, ran.stdout), (2, b""), f"{words}")
+        holds(ran.stderr.startswith(b"usage: "), f"{words}: {ran.stderr}")
+
+
+def used_by(process):
+    """The state of a process, `S` where it sleeps, and the time of the processors that it has used."""
+    with open(f"/proc/{process}/stat") as file:
+        words = file.read().rpartition(")")[2].split()
+    return words[0], *words[11:13]
+
+
+class Terminal:
+    """The prompt at a terminal."""
+
+    def __init__(self, address, folder):
+        self.end, other = pty.openpty()
+        env = {**os.environ, "TERM": "dumb", "INPUTRC": "/dev/null", "MLTX_HISTORY": str(folder / "history")}
+        how = {"stdin": other, "stdout": other, "stderr": other, "env": env, "cwd": folder}
+        self.process = subprocess.Popen([*SHELL, "%s:%d" % address], start_new_session=True, **how)
+        os.close(other)
+        self.shown = ""
+
+    def until(self, wanted):
+        """What is shown up to these words, with them."""
+        until = time.monotonic() + PATIENCE
+        while wanted not in self.shown:
+            if not select.select([self.end], [], [], max(0, until - time.monotonic()))[0]:
+                raise Failed(f"{wanted!r} is not shown, but {self.shown!r}")
+            try:
+                self.shown += os.read(self.end, 65_536).decode().replace("\r\n", "\n")
+            except OSError:
+                raise Failed(f"the prompt ended, with {self.shown!r} and without {wanted!r}") from None
+        before, _, self.shown = self.shown.partition(wanted)
+        return before + wanted
+
+    def type(self, text):
+        os.write(self.end, text.encode())
+
+    def ask(self, line, wanted):
+        """Types a line and waits for what follows it."""
+        self.type(line + "\n")
+        return self.until(wanted)
+
+    def interrupt(self):
+        """Interrupts it as Ctrl-C does, once it waits for something."""
+        seen = None
+        while seen != (seen := used_by(self.process.pid)) or seen[0] != "S":
+            time.sleep(QUIET)
+        self.process.send_signal(signal.SIGINT)
+
+
+@contextmanager
+def terminal(server, folder):
+    """The prompt at a terminal, as long as the block lasts."""
+    it = Terminal(server.address, folder)
+    try:
+        yield it
+    finally:
+        it.process.kill()
+        it.process.wait()
+        os.close(it.end)
+
+
+@test(seconds=1)
+def prompt_at_a_terminal(mltx):
+    """It shows the transaction that is open, and how the last one ended; words are completed; lines are kept."""
+    trace = mltx.folder / "trace"
+    with mltx.serve("--trace", trace, limit=2) as server:
+        connected(server).close()
+        with terminal(server, mltx.folder) as it:
+            it.until("connected; no transaction is open\nmltx> ")
+            it.ask("begin", "begun 1\nmltx [1]> ")
+            it.ask("with\t1 5", "missing: there is no such account\nmltx [1]> ")
+            it.ask("foo", "`help` lists all\nmltx [1]> ")
+            it.ask("up 7 1", "done\nmltx [1]> ")
+            it.ask("commit", "committed 1\nmltx (committed 1)> ")
+            it.ask("begin", "begun 2\nmltx [2]> ")
+            it.type("half a line")
+            it.until("half a line")
+            it.interrupt()
+            it.until("mltx [2]> ")
+            it.ask("abort", "aborted\nmltx (aborted)> ")
+            it.ask("help dep\t", "deposit ACCOUNT AMOUNT\n")
+            it.type("\x10\x10\x10\n")
+            it.until("begun 3\nmltx [3]> ")
+            it.type("\x04")
+            it.until("transaction 3 is taken back")
+            same(it.process.wait(PATIENCE), 0, "the status")
+        expect(server.end(), out="served 2\n")
+    expect(mltx.check(trace), out=lines("serial 1|counter 7 1"), what="the check of the trace")
+    kept = (mltx.folder / "history").read_text().splitlines()
+    same(kept[:3], ["begin", "withdraw 1 5", "foo"], "the history")
+
+
+@test(seconds=1)
+def interrupted_while_an_operation_waits(mltx):
+    """The connection is closed and the transaction taken back; the prompt goes on, and connects again."""
+    trace = mltx.folder / "trace"
+    with mltx.serve("--trace", trace, limit=3) as server, connected(server) as holder:
+        held = holder.begin()
+        held.up(7, 1)
+        with terminal(server, mltx.folder) as it:
+            it.ask("begin", "mltx [2]> ")
+            it.ask("up 8 1", "done\nmltx [2]> ")
+            it.ask("read 7", "read 7\n")
+            it.interrupt()
+            it.until("the server takes transaction 2 back")
+            it.until("mltx (taken back)> ")
+            held.commit()
+            holder.close()
+            it.ask("begin", "begun 3\nmltx [3]> ")
+            it.ask("read 7", "is 1\nmltx [3]> ")
+            it.ask("read 8", "is 0\nmltx [3]> ")
+            it.ask("commit", "committed 2\nmltx (committed 2)> ")
+            it.ask("quit", "\n")
+            same(it.process.wait(PATIENCE), 0, "the status")
+        expect(server.end(), out="served 3\n")
+    expect(mltx.check(trace), out=lines("serial 1|serial 3|counter 7 1"), what="the check of the trace")
+
+
+@test(seconds=1)
+def server_goes_away_at_a_terminal(mltx):
+    """The prompt stays, and says so."""
+    with mltx.serve(limit=2) as server:
+        connected(server).close()
+        with terminal(server, mltx.folder) as it:
+            it.until("mltx> ")
+            it.ask("begin", "mltx [1]> ")
+            server.kill()
+            it.ask("up 7 1", "transaction 1 is taken back\nmltx (taken back)> ")
+            it.ask("begin", "no server answers at ")
+            it.until("mltx (taken back)> ")
+            it.ask("quit", "\n")
+            same(it.process.wait(PATIENCE), 0, "the status")
+
+
+@test
+def readme_of_the_prompt_runs(mltx):
+    """The lines on the client's page are answered as the page shows."""
+    page = (FOLDER / "README.md").read_text()
+    with mltx.serve(limit=2) as server:
+        connected(server).close()
+        shown = shown_in(page, "## A prompt")
+        script = re.search(r"printf '(.*)' \| python3 mltx_shell.py 127.0.0.1:7000", shown)[1].replace("\\n", "\n")
+        expect(typed(server.address, script), out=shown_in(page.partition("## A prompt")[2], "writes"))
