@@ -41,7 +41,7 @@ begin\nopen 1\nabort\n",
             FakeAnswer::Number(3),
         ],
         "refused 7 TooManyOpen\naborted\nopened\nrefused 2 NoRoom\naborted\nexists\n\
-refused 5 Running\naborted\nrefused 14 GaveUp\naborted\n",
+refused 14 GaveUp\naborted\nrefused 14 GaveUp\naborted\n",
     ),
 ];
 
