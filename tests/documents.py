@@ -5,6 +5,8 @@ import subprocess
 from harness import ROOT, expect, holds, same, test
 
 LINK = re.compile(r"\]\(([^)\s]+)\)")
+# A link to a line of code: the name that is defined there, the file and the line.
+LINE_LINK = re.compile(r"\[`(?:\w+::)?(\w+)`\]\(([^)\s#]+)#L(\d+)\)")
 
 
 def pages():
@@ -21,20 +23,57 @@ def anchors(text):
     return {re.sub(r"[^\w\- ]", "", heading).strip().replace(" ", "-") for heading in plain}
 
 
+def output_of(tool):
+    """What a tool of the repository prints."""
+    return subprocess.run([ROOT / "tools" / tool], capture_output=True, text=True, check=True, cwd=ROOT).stdout
+
+
+def in_text(words):
+    """A pattern of these words in a text, wherever its lines are broken."""
+    return r"\s+".join(map(re.escape, words.split()))
+
+
+def block_after(text, words):
+    """The first block of a document, without its indent, behind the paragraph that has these words."""
+    found = re.search(rf"(?s){in_text(words)}.*?\n\n    (.*?)\n\n", text)
+    holds(found, f"no paragraph before a block has: {words}")
+    return re.sub("(?m)^    ", "", found[1]) + "\n"
+
+
 @test
 def each_link_leads_to_a_file_and_a_heading(_mltx):
     """A file that moved or a heading that was renamed fails."""
     lost, texts = [], pages()
     headings = {page: anchors(text) for page, text in texts.items()}
     for page, text in texts.items():
+        lines = {f"{path}#L{number}" for _, path, number in LINE_LINK.findall(text)}
         for link in LINK.findall(text):
             path, _, heading = link.partition("#")
             target = (page.parent / path).resolve() if path else page
             if ":" in path:
                 continue
-            if not target.exists() or heading and heading not in headings[target]:
+            if not target.exists() or heading and link not in lines and heading not in headings.get(target, ()):
                 lost.append(f"{page.relative_to(ROOT)}: {link}")
     holds(not lost, "these links lead nowhere:\n" + "\n".join(lost))
+
+
+@test
+def each_link_to_a_line_leads_to_what_it_names(_mltx):
+    """A function that moved to another line fails. README links the line of `play`, whose contract is the main theorem."""
+    for page, text in pages().items():
+        for name, path, number in LINE_LINK.findall(text):
+            line = ([""] + (page.parent / path).read_text().splitlines())[int(number)]
+            holds(re.search(rf"\bfn {name}\b", line), f"{page.relative_to(ROOT)}: line {number} of {path} is {line!r}")
+    linked = [(name, path) for name, path, _ in LINE_LINK.findall((ROOT / "README.md").read_text())]
+    same(linked, [("play", "crates/mlt_manager/src/manager.rt")], "the lines that README links")
+
+
+@test
+def the_main_theorem_stands_in_two_documents(_mltx):
+    """Word for word it stands in README and where it is defined. Elsewhere it is linked."""
+    texts = {page.relative_to(ROOT): " ".join(text.replace("\n> ", "\n").split()).lower() for page, text in pages().items()}
+    theorem = re.search(r"\*\*(after any list of [^*]*)\.\*\*", texts[(ROOT / "README.md").relative_to(ROOT)])[1]
+    same([str(page) for page, text in texts.items() if theorem in text], ["README.md", "docs/DEFINITIONS.md"], "where it stands")
 
 
 @test
@@ -45,25 +84,45 @@ def each_group_of_tests_is_told_of(_mltx):
 
 
 @test
+def the_map_of_the_crates_is_that_of_their_list(_mltx):
+    """The table of crates in ARCHITECTURE is what tools/crate-map makes of crates.txt, and each crate has its promise."""
+    text, made = (ROOT / "docs/ARCHITECTURE.md").read_text(), output_of("crate-map")
+    table = re.search(r"(?ms)^\| Crate \| Promise .*?\n(?=\n)", text)[0]
+    same(table.splitlines(), made.splitlines(), "the table")
+    crates = re.findall(r"(?m)^(\w+):", (ROOT / "crates.txt").read_text())
+    same(re.findall(r"(?m)^\| \[`(\w+)`\]\(\S+\) \| \S", table), crates, "the crates with a promise")
+    same(sorted(crates), sorted(folder.name for folder in (ROOT / "crates").iterdir()), "the folders of crates")
+
+
+@test
 def lines_of_the_headline_are_counted(_mltx):
     """The table of definitions under the headline has the counts of tools/headline-lines, and so do the sentences."""
-    counted = subprocess.run([ROOT / "tools/headline-lines"], capture_output=True, text=True, check=True, cwd=ROOT).stdout
+    counted = output_of("headline-lines")
     parts, total = re.findall(r"(?m)^ +(\d+) lines$", counted), re.search(r"(\d+) lines in all", counted)[1]
     definitions = (ROOT / "docs/DEFINITIONS.md").read_text()
     table = definitions.partition("## What the headline rests on")[2].partition("\n## ")[0]
     same(re.findall(r"(?m)^\|.*\| (\d+) \|$", table), parts, "the lines of each part")
-    same(re.findall(r"They are (\d+) lines", table), [total], "the lines in DEFINITIONS")
-    same(re.findall(r"\[(\d+) lines of definitions\]", (ROOT / "README.md").read_text()), [total], "the lines in README")
+    same(re.findall(r"They\s+are\s+(\d+)\s+lines", table), [total], "the lines in DEFINITIONS")
+    same(re.findall(r"\[(\d+)\s+lines\s+of\s+definitions\]", (ROOT / "README.md").read_text()), [total], "the lines in README")
 
 
 @test
 def readme_shows_what_is_written(mltx):
-    """The first example of README, the command with its output, and the one of a faulty text."""
-    readme = (ROOT / "README.md").read_text()
-    script = readme.partition("This is `examples/transfer.txt`:\n\n")[2].partition("\n\n`./mltx")[0]
-    shown = readme.partition("`./mltx solo examples/transfer.txt` writes\n\n")[2].partition("\n\n")[0]
-    text, wanted = (re.sub("(?m)^    ", "", block) + "\n" for block in (script, shown))
-    same((ROOT / "examples/transfer.txt").read_text(), text, "the example as README shows it")
-    expect(mltx.run("solo", ROOT / "examples/transfer.txt"), out=wanted)
-    faulty = re.search(r"    printf '(.*)' \| ./mltx\n\nwrites `(.*)` on standard error", readme)
-    expect(mltx.run(given=faulty[1].replace("\\n", "\n")), status=1, err=faulty[2] + "\n")
+    """Of `solo` a script of the example and all that it writes, of `steps` a part, of `run` and `check` the last line."""
+    readme, examples = (ROOT / "README.md").read_text(), ROOT / "examples"
+    holds(block_after(readme, "one of `examples/transfer.txt`") in (examples / "transfer.txt").read_text(), "no such script")
+    expect(mltx.run("solo", examples / "transfer.txt"), out=block_after(readme, "solo examples/transfer.txt` writes"))
+    told = mltx.run("steps", examples / "block-by-reply.txt").out.decode()
+    holds("\n" + block_after(readme, "`./mltx steps examples/block-by-reply.txt`") in told, told)
+    last = re.search(in_text("The last line is") + r"\s+`(.*?)`", readme)[1]
+    for command in block_after(readme, "**`run`** runs scripts").splitlines():
+        ran = mltx.run(*[ROOT / word if word.startswith("examples/") else word for word in command.split()[1:]])
+        same((ran.status, ran.out.decode().splitlines()[-1], ran.err), (0, last, b""), command)
+
+
+@test
+def readme_shows_a_session(mltx):
+    """Lines and answers in turns, over a connection of a server whose only option is its address."""
+    shown = block_after((ROOT / "README.md").read_text(), "**`serve`** is a server").splitlines()
+    with mltx.serve(limit=None) as server, server.connect() as peer:
+        same([peer.ask(line) for line in shown[::2]], shown[1::2], "the answers")
