@@ -48,7 +48,7 @@ rect.aborted {{ fill: #ffffff; stroke: #7a3200; stroke-width: 2 }}
 .pause {{ stroke: #5b2a86; stroke-width: 2.2 }}
 .stop {{ stroke: #ffffff; stroke-width: 3 }}
 .cross {{ stroke: #1a1a1a; stroke-width: 2.4; fill: none }}
-.number {{ font-size: 12px; font-weight: bold; fill: #ffffff; text-anchor: middle }}
+.number {{ font-size: 12px; font-weight: bold; fill: #ffffff }}
 .badge {{ fill: #333333 }}
 """
 HATCH = (
@@ -88,9 +88,10 @@ def sign(kind, x, y):
     if kind == "begin":
         return shape("circle", class_="begin", cx=float(x), cy=float(y), r=5)
     size = 4 if kind == "refused" else 6
-    path = f"M{_short(float(x - size))} {_short(float(y - size))}l{2 * size} {2 * size}m0 {-2 * size}l{-2 * size} {2 * size}"
+    wide = 2 * size
+    path = f"M{_short(float(x - size))} {_short(float(y - size))}l{wide} {wide}m0 {-wide}l{-wide} {wide}"
     inner = {
-        "waiting": line("pause", x - 2.5, y - 4.5, x - 2.5, y + 4.5) + line("pause", x + 2.5, y - 4.5, x + 2.5, y + 4.5),
+        "waiting": "".join(line("pause", x + side, y - 4.5, x + side, y + 4.5) for side in (-2.5, 2.5)),
         "blocked": line("stop", x - 5, y, x + 5, y),
     }.get(kind, shape("path", class_="cross", d=path))
     around = shape("circle", class_=f"sign sign-{kind}", cx=float(x), cy=float(y), r=8)
@@ -144,7 +145,7 @@ class _RowDrawing:
                 yield box("band", begin, self.top, end - begin, self.bottom - self.top)
             if note:
                 yield shape("circle", class_="badge", cx=float(begin + 18), cy=float(self.top + 15), r=ROUND)
-                yield text(begin + 18, self.top + 19, str(note), "number")
+                yield text(begin + 18, self.top + 19, str(note), "number", "middle")
 
     def _lane(self, lane):
         yield text(MARGIN, self.middle(lane) + 5, lane.name(), "lane")
@@ -188,7 +189,8 @@ class _RowDrawing:
 
     def _label(self, label):
         x, top = self.row.x(label.point), self.tops[id(label.lane)]
-        at = {"start": x - label.left, "middle": x + (label.right - label.left) / 2, "end": x + label.right}[label.anchor]
+        middle = x + (label.right - label.left) / 2
+        at = {"start": x - label.left, "middle": middle, "end": x + label.right}[label.anchor]
         if label.role in ("committed", "aborted"):
             yield box(label.role, x, top + BAR_AT, label.right, BAR, ROUND)
             yield text(at, top + BAR_AT + 15, label.text, label.role, label.anchor)
@@ -201,7 +203,7 @@ def _left_by_commits(lines):
     """The base and the depth at the end, in words."""
     said = {"account": "account {} has {}", "element": "set {} has {}", "counter": "counter {} is {}"}
     *base, depth = [line.split() for line in lines]
-    cells = ", ".join(said[kind].format(*numbers) for kind, *numbers in base)
+    cells = ", ".join(said[kind].format(*numbers).replace(" ", "\u00a0") for kind, *numbers in base)
     return f"What the commits leave: {cells or 'nothing'}. The depth of the directory is {depth[1]}."
 
 
@@ -210,7 +212,7 @@ def _paragraphs(scene, top, wide):
     drawn = []
     for number, note in enumerate(scene.story.notes, 1):
         drawn.append(shape("circle", class_="badge", cx=float(MARGIN + ROUND), cy=float(top - 4), r=ROUND))
-        drawn.append(text(MARGIN + ROUND, top, str(number), "number"))
+        drawn.append(text(MARGIN + ROUND, top, str(number), "number", "middle"))
         for part in wrapped(note, NOTE_SIZE, wide - 2 * MARGIN - 32):
             drawn.append(text(MARGIN + 32, top, part, "note"))
             top += NOTE_LINE
@@ -232,8 +234,9 @@ def picture(scene, title, about):
     for part in wrapped(title, TITLE_SIZE * 1.13, wide - 2 * MARGIN):
         heading.append(text(MARGIN, top, part, "picture"))
         top += 26
-    heading.append(text(MARGIN, top - 4, about, "about"))
-    top += 16
+    for part in wrapped(about, LABEL_SIZE, wide - 2 * MARGIN):
+        heading.append(text(MARGIN, top - 4, part, "about"))
+        top += NOTE_LINE
     for row in placed:
         right = wide if row is not placed[-1] else row.right
         drawing = _RowDrawing(scene, row, left, right - MARGIN, top)

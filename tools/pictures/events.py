@@ -45,8 +45,8 @@ class Faulty(Exception):
 
 @dataclass(frozen=True)
 class Moment:
-    """An event of a schedule with its answer, or a line of a trace. `note` counts the comments before it, from 1; `place`
-    says where it was told, as an error names it."""
+    """An event of a schedule with its answer, or a line of a trace. `note` counts the comments before it, from 1;
+    `place` says where it was told, as an error names it."""
 
     kind: str
     number: "int | None"
@@ -130,7 +130,7 @@ class _Notes:
 
     def say(self, line):
         """Takes a comment, and returns nothing."""
-        text = re.sub(r"[^\x20-\x7e\u00a1-\ufffc]", " ", line.decode(errors="replace")).strip().lstrip("#").strip()
+        text = re.sub(r"[^\x20-\x7e\u00a1-\ufffd]", " ", line.decode(errors="replace")).strip().lstrip("#").strip()
         if self.inside and text:
             self.texts[-1] = f"{self.texts[-1]} {text}".strip()
         elif text:
@@ -176,7 +176,8 @@ def schedule(name, data, answers_name, answers):
     end = told[len(moments):]
     for at, (place, line) in enumerate(end):
         if not re.fullmatch(r"depth \d{1,2}" if at == len(end) - 1 else BASE, line):
-            raise Faulty(answers_name, place, f"`{line}` is no line of the base or of the depth, or is not in its place")
+            why = f"`{line}` is no line of the base or of the depth, or is not in its place"
+            raise Faulty(answers_name, place, why)
     if not end:
         raise Faulty(answers_name, len(told) + 1, "the base and the depth are missing")
     return Story(moments, notes.texts, [line for _, line in end])

@@ -14,14 +14,17 @@ LEAST, BETWEEN_LABELS, BESIDE_ARROW = 20, 12, 6
 BEFORE_NOTE = 20
 # How far left of the first place a later row begins.
 EDGE = 14
+# How much of the width is left free: more where a row, laid out by itself, is wider than was thought.
+SPARES = (0, 60, 120)
 # What it costs to begin a row, to cut a bar or an open transaction by that, and to begin one inside a note.
 ROW_COST, BAR_COST, LANE_COST, NOTE_COST = 10, 8, 1, 3
 
 
 @dataclass(frozen=True)
 class Row:
-    """The points from `first` to `last` with their places, what is drawn of them, and the lanes, from top to bottom. The
-    first place is that of the point `base`: `first`, or in a later row the one before, where what goes on begins."""
+    """The points from `first` to `last` with their places, what is drawn of them, and the lanes, from top to bottom.
+    The first place is that of the point `base`: `first`, or in a later row the one before, at which what goes on
+    begins."""
 
     base: int
     first: int
@@ -42,11 +45,15 @@ class Row:
 def rows(scene):
     """The rows of a scene, and how many pixels the names of lanes take."""
     left = MARGIN + max((width(lane.name(), NAME_SIZE, bold=True) for lane in scene.lanes.values()), default=0) + 24
-    count = len(scene.note_at)
-    if not count:
+    if not scene.note_at:
         return [], left
-    parts = [_Part(scene, first, last) for first, last in _breaks(scene, MOST_WIDTH - left - MARGIN - EDGE)]
-    return [part.row(left) for part in parts], left
+    placed = []
+    for spare in SPARES:
+        parts = [_Part(scene, first, last) for first, last in _breaks(scene, MOST_WIDTH - left - MARGIN - EDGE - spare)]
+        placed = [part.row(left) for part in parts]
+        if all(row.right <= MOST_WIDTH for row in placed):
+            break
+    return placed, left
 
 
 def _breaks(scene, room):

@@ -1,5 +1,5 @@
-"""What is to be seen of a story: lanes, bars, marks, arrows and labels, each at its points of time. Points are counted from 0;
-how far apart they are is left to the layout."""
+"""What is to be seen of a story: lanes, bars, marks, arrows and labels, each at its points of time. Points are counted
+from 0; how far apart they are is left to the layout."""
 from dataclasses import dataclass, field
 
 from .events import Faulty, cell
@@ -14,8 +14,8 @@ ENDING = ("1", "2")
 
 @dataclass
 class Bar:
-    """An operation (`operation`), or what takes one back (`undo`), from its first point to its last. It stood still between
-    the points of each of `still`."""
+    """An operation (`operation`), or what takes one back (`undo`), from its first point to its last. It stood still
+    between the points of each of `still`."""
 
     lane: "Lane"
     kind: str
@@ -54,7 +54,7 @@ class Lane:
 
 @dataclass(frozen=True)
 class Label:
-    """A text in a row of a lane, `top`, `bar` or `low`. It takes so many pixels to the left and to the right of its point."""
+    """A text in a row of a lane, `top`, `bar` or `low`. It takes so many pixels left and right of its point."""
 
     lane: Lane
     row: str
@@ -108,7 +108,7 @@ class Scene:
 
     def kinds(self):
         """The kinds of all that occurs, for the legend."""
-        found = {mark.kind for mark in self.marks} | {bar.kind for bar in self.bars} | {label.role for label in self.labels}
+        found = {it.kind for it in (*self.marks, *self.bars)} | {label.role for label in self.labels}
         found |= {"tick" for bar in self.bars if bar.ticks}
         found |= {"still" for bar in self.bars if any(until is None or since < until for since, until in bar.still)}
         return found | {"held" for lane in self.lanes.values() if lane.held}
@@ -178,7 +178,8 @@ class Scene:
 
     def _step(self, lane, moment):
         bar, word = lane.bar, moment.answer.split()[0]
-        if bar is None or (word in ("undone", "aborted")) != lane.undoing and word not in ("going", "waiting", "blocked"):
+        may_be_told = ("undone", "aborted") if lane.undoing else ("done", "blocked")
+        if bar is None or word not in (*may_be_told, "going", "waiting"):
             self._fault(moment, f"transaction {lane.number} has nothing that runs and can be told so")
         point = self._point(moment, lane)
         self._resume(bar, point)
@@ -213,8 +214,12 @@ class Scene:
         lane.bar.still.append([point, None])
         anchor = "middle" if moment.kind != "whole" else "end"
         self._label(lane, "low", point, moment.answer, "reply", anchor if arrow.goes_up() else "beside")
-        mine = cell(lane.bar.text) if lane.bar.kind == "operation" else None
-        held = "the page" if kind == "waiting" else _named([it for it in target.held if cell(it) == mine] or ["an operation"])
+        held = "the page"
+        if kind == "blocked":
+            here = [it for it in target.held if cell(it) == cell(lane.bar.text)]
+            if not here:
+                self._fault(moment, f"transaction {number} has done nothing to what `{lane.bar.text}` is on")
+            held = _named(here)
         self._label(target, "low" if arrow.goes_up() else "top", point, f"holds {held}", "event", "beside")
         target.seen = max(target.seen, point)
 
@@ -272,8 +277,12 @@ class Scene:
 
     def _label(self, lane, row, point, text, role, anchor):
         room = width(text, LABEL_SIZE)
-        left, right = {"middle": (room / 2, room / 2), "end": (room, 0), "beside": (-8, room + 16), "behind": (-16, room + 16)}[anchor]
-        anchor = anchor if anchor in ("middle", "end") else "start"
+        left, right, anchor = {
+            "middle": (room / 2, room / 2, anchor),
+            "end": (room, 0, anchor),
+            "beside": (-8, room + 16, "start"),
+            "behind": (-16, room + 16, "start"),
+        }[anchor]
         self.labels.append(Label(lane, row, point, text, role, left, right, anchor))
 
 
