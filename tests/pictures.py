@@ -259,6 +259,20 @@ def any_comment_is_drawn(mltx):
     seen.check_places()
 
 
+@test
+def picture_of_little(mltx):
+    """A schedule without events, an empty trace, and a schedule whose first event is refused."""
+    file, none = mltx.file("little.txt", "begin\n"), mltx.file("none.out", "depth 0\n")
+    seen = picture(file, mltx.file("little.out", "refused 7 TooManyOpen\ndepth 0\n"))
+    labels = [seen.said(role) for role in ("lane", "event", "reply")]
+    same(labels, [["no transaction"], ["begin"], ["refused 7 TooManyOpen"]], "the labels")
+    seen.check_places()
+    for words in (["--trace", "-"], ["-", none]):
+        seen = picture("--title", "Empty\t\x7f", *words)
+        same([seen.said("picture"), seen.said("lane")], [["Empty"], []], f"{words}")
+        seen.check_places()
+
+
 FAULTS = {
     "picture-of-no-event": ("begin\ndepositt 1 5\n", None, "S line 2: `depositt 1 5` is no event"),
     "picture-of-a-number-out-of-range": ("# all\n\nstep 1 1001\n", None, "S line 3: `step 1 1001` is no event"),

@@ -122,6 +122,11 @@ def _event(words):
     return (kind, number, "", 1) if len(rest) == 1 else None
 
 
+def printable(text):
+    """The text with a space for each character that a picture can't have."""
+    return re.sub(r"[^\x20-\x7e\u00a1-\ud7ff\ue000-\ufffd]", " ", text)
+
+
 class _Notes:
     """Comments, put together where they follow one another."""
 
@@ -130,7 +135,7 @@ class _Notes:
 
     def say(self, line):
         """Takes a comment, and returns nothing."""
-        text = re.sub(r"[^\x20-\x7e\u00a1-\ufffd]", " ", line.decode(errors="replace")).strip().lstrip("#").strip()
+        text = printable(line.decode(errors="replace")).strip().lstrip("#").strip()
         if self.inside and text:
             self.texts[-1] = f"{self.texts[-1]} {text}".strip()
         elif text:

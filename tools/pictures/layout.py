@@ -97,7 +97,6 @@ class _Part:
         self.base = first - 1 if first else first
         self.lanes = [lane for lane in scene.ordered() if lane.first <= last and first <= lane.seen]
         self.bars = [bar for bar in scene.bars if bar.first <= last and (bar.last is None or first <= bar.last)]
-        self.bars = [bar for bar in self.bars if bar.last != first or bar.first == first]
         self.arrows = [arrow for arrow in scene.arrows if first <= arrow.point <= last]
         self.marks = [mark for mark in scene.marks if first <= mark.point <= last]
         self.labels = [label for label in scene.labels if first <= label.point <= last]

@@ -64,7 +64,8 @@ def _operations(scene):
 def drawn(scene, top, wide):
     """The legend from `top` down, and where the picture ends."""
     kinds = scene.kinds()
-    items = [("", words) for words in _operations(scene)] + [it for it in SIGNS.items() if it[0] in kinds]
+    signs = SIGNS if "tick" in kinds else {**SIGNS, "operation": "an operation with its reply"}
+    items = [("", words) for words in _operations(scene)] + [it for it in signs.items() if it[0] in kinds]
     if not items:
         return [], top
     shapes, x = [draw.line("life", MARGIN, top - 6, wide - MARGIN, top - 6)], MARGIN

@@ -146,12 +146,13 @@ class Scene:
     def _refuse(self, lane, moment, why):
         if lane is None:
             lane = self.lanes[moment.number] = Lane(moment.number, len(self.note_at), is_open=False)
-        if moment.kind == "whole" and lane.bar is None and why.split()[0] in ENDING:
+        ends = moment.kind in ("step", "whole") and why.split()[0] in ENDING
+        if ends and moment.kind == "whole" and lane.bar is None:
             self._start(lane, "operation", moment.operation, self._point(moment, lane))
         point = self._point(moment, lane)
         self.marks.append(Mark("refused", lane, point))
         self.labels.append(Label(lane, "bar", point, "", "sign", 8, 8, "middle"))
-        if lane.bar and why.split()[0] in ENDING:
+        if lane.bar and ends:
             self._stop(lane, point, moment.answer)
         else:
             self._label(lane, "top", point, f"{moment.kind} {moment.operation}".strip(), "event", "middle")
