@@ -1,0 +1,260 @@
+"""Writes a scene as an SVG."""
+import re
+from xml.sax.saxutils import escape
+
+from . import legend
+from .fonts import FAMILY, wrapped
+from .layout import BEFORE_NOTE, EDGE, LABEL_SIZE, MARGIN, MOST_WIDTH, NAME_SIZE, rows
+from .scene import PILL_SIZE
+
+LEAST_WIDTH = 720
+TITLE_SIZE, NOTE_SIZE, NOTE_LINE = 20, 13, 19
+# A lane from top to bottom: the title of its bar, the bar, and the reply.
+LANE, LANE_GAP, TITLE_AT, BAR_AT, BAR, REPLY_AT = 68, 12, 16, 23, 22, 62
+HEADER, ROW_GAP = 30, 18
+# How far what is open at the end goes on behind the last point.
+OPEN = 10
+HELD, ROUND = 12, 11
+
+STYLE = f"""
+text {{ font-family: {FAMILY}; font-size: {LABEL_SIZE}px; fill: #1a1a1a }}
+.picture {{ font-size: {TITLE_SIZE}px; font-weight: bold }}
+.lane {{ font-size: {NAME_SIZE}px; font-weight: bold }}
+.note, .key {{ font-size: {NOTE_SIZE}px }}
+.event, .about, .open {{ fill: #4d4d4d }}
+.title {{ font-weight: normal }}
+.code {{ font-style: italic }}
+.committed, .aborted {{ font-size: {PILL_SIZE}px; font-weight: bold }}
+text.committed {{ fill: #ffffff }}
+rect.committed {{ fill: #00543d; stroke: #00543d }}
+rect.aborted {{ fill: #ffffff; stroke: #7a3200; stroke-width: 2 }}
+.band {{ fill: #f2f4f7 }}
+.life {{ stroke: #6b6b6b; stroke-width: 1.5 }}
+.held {{ fill: #bcd6ea }}
+.begin {{ fill: #ffffff; stroke: #333333; stroke-width: 2 }}
+.operation {{ fill: #56b4e9; stroke: #003f66; stroke-width: 1.5 }}
+.undo {{ fill: url(#hatch); stroke: #7a3200; stroke-width: 1.5 }}
+.still {{ fill: #ffffff; stroke: #003f66; stroke-width: 1.5; stroke-dasharray: 4 3 }}
+.tick {{ stroke: #003f66; stroke-width: 2 }}
+.halo {{ stroke: #ffffff; stroke-width: 5; fill: none }}
+.waiting {{ stroke: #5b2a86; stroke-width: 2.2; stroke-dasharray: 6 3; fill: none }}
+.blocked {{ stroke: #a32a00; stroke-width: 2.6; fill: none }}
+.head-waiting {{ fill: #5b2a86 }}
+.head-blocked {{ fill: #a32a00 }}
+.sign {{ fill: #ffffff; stroke-width: 2 }}
+.sign-waiting {{ stroke: #5b2a86 }}
+.sign-blocked {{ fill: #a32a00; stroke: #a32a00 }}
+.sign-refused {{ stroke: #a32a00 }}
+.pause {{ stroke: #5b2a86; stroke-width: 2.2 }}
+.stop {{ stroke: #ffffff; stroke-width: 3 }}
+.cross {{ stroke: #1a1a1a; stroke-width: 2.4; fill: none }}
+.number {{ font-size: 12px; font-weight: bold; fill: #ffffff }}
+.badge {{ fill: #333333 }}
+"""
+HATCH = (
+    '<pattern id="hatch" width="7" height="7" patternUnits="userSpaceOnUse" patternTransform="rotate(45)">'
+    '<rect width="7" height="7" fill="#fff1e0"/><rect width="2.5" height="7" fill="#d55e00"/></pattern>'
+)
+
+
+def shape(name, **attributes):
+    """An element without content. `_` in a name stands for `-`, and a trailing one is dropped."""
+    written = (f'{key.rstrip("_").replace("_", "-")}="{_short(value)}"' for key, value in attributes.items())
+    return f"<{name} {' '.join(written)}/>"
+
+
+def _short(value):
+    return f"{round(value, 1):g}" if isinstance(value, float) else escape(str(value), {'"': "&quot;"})
+
+
+def text(x, y, words, role, anchor="start"):
+    """A line of text. Words in backticks are set apart."""
+    inner = re.sub(r"`([^`]+)`", r'<tspan class="code">\1</tspan>', escape(words))
+    anchored = "" if anchor == "start" else f' text-anchor="{anchor}"'
+    return f'<text class="{role}" x="{_short(float(x))}" y="{_short(float(y))}"{anchored}>{inner}</text>'
+
+
+def line(role, x1, y1, x2, y2):
+    return shape("line", class_=role, x1=float(x1), y1=float(y1), x2=float(x2), y2=float(y2))
+
+
+def box(role, x, y, wide, high, round_=0):
+    more = {"rx": round_} if round_ else {}
+    return shape("rect", class_=role, x=float(x), y=float(y), width=float(wide), height=float(high), **more)
+
+
+def sign(kind, x, y):
+    """The sign of what happens at a point: two strokes for one that waits, a bar for one that is blocked."""
+    if kind == "begin":
+        return shape("circle", class_="begin", cx=float(x), cy=float(y), r=5)
+    size = 4 if kind == "refused" else 6
+    wide = 2 * size
+    path = f"M{_short(float(x - size))} {_short(float(y - size))}l{wide} {wide}m0 {-wide}l{-wide} {wide}"
+    inner = {
+        "waiting": "".join(line("pause", x + side, y - 4.5, x + side, y + 4.5) for side in (-2.5, 2.5)),
+        "blocked": line("stop", x - 5, y, x + 5, y),
+    }.get(kind, shape("path", class_="cross", d=path))
+    around = shape("circle", class_=f"sign sign-{kind}", cx=float(x), cy=float(y), r=8)
+    return inner if kind == "cancelled" else around + inner
+
+
+def head(kind, x, y, up):
+    """The head of an arrow, with its point at x, y."""
+    back = 9 if up else -9
+    path = f"M{_short(float(x))} {_short(float(y))}l-5 {back}h10z"
+    return shape("path", class_=f"head-{kind}", d=path)
+
+
+class _RowDrawing:
+    """One row of time: its lanes from `top` down."""
+
+    def __init__(self, scene, row, left, right, top):
+        self.scene, self.row, self.left, self.right, self.top = scene, row, left, right, top
+        is_last = row.last == len(scene.note_at) - 1
+        # Where what goes on behind the row ends.
+        self.edge = row.x(row.last) + OPEN if is_last else right
+        first = top + (HEADER if scene.story.notes else 0)
+        self.tops = {id(lane): first + at * (LANE + LANE_GAP) for at, lane in enumerate(row.lanes)}
+        self.bottom = first + len(row.lanes) * (LANE + LANE_GAP) - LANE_GAP + 4
+
+    def middle(self, lane):
+        return self.tops[id(lane)] + BAR_AT + BAR / 2
+
+    def drawn(self):
+        """All shapes, those below before those above."""
+        yield from self._notes()
+        for lane in self.row.lanes:
+            yield from self._lane(lane)
+        for bar in self.row.bars:
+            yield from self._bar(bar)
+        for arrow in self.row.arrows:
+            yield from self._arrow(arrow)
+        for mark in self.row.marks:
+            yield from self._mark(mark)
+        for label in self.row.labels:
+            yield from self._label(label)
+
+    def _notes(self):
+        """A band for each note's span of time, with its number. Every second one is darker."""
+        notes = self.scene.note_at[self.row.first:self.row.last + 1]
+        starts = [at for at, note in enumerate(notes) if at == 0 or note != notes[at - 1]]
+        edges = [self.left - EDGE, *(self.row.x(self.row.first + at) - BEFORE_NOTE for at in starts[1:])]
+        for start, begin, end in zip(starts, edges, [*edges[1:], self.right]):
+            note = notes[start]
+            if note % 2 == 1:
+                yield box("band", begin, self.top, end - begin, self.bottom - self.top)
+            if note:
+                yield shape("circle", class_="badge", cx=float(begin + 18), cy=float(self.top + 15), r=ROUND)
+                yield text(begin + 18, self.top + 19, str(note), "number", "middle")
+
+    def _lane(self, lane):
+        yield text(MARGIN, self.middle(lane) + 5, lane.name(), "lane")
+        if not lane.is_open and lane.closed is None:
+            return
+        if lane.closed is None or lane.closed >= self.row.first:
+            begin, end = self._span(lane.first, lane.closed)
+            yield line("life", begin, self.middle(lane), end, self.middle(lane))
+            if lane.held_from is not None and lane.held_from <= self.row.last:
+                begin, end = self._span(lane.held_from, lane.closed)
+                yield box("held", begin, self.middle(lane) - HELD / 2, end - begin, HELD)
+
+    def _span(self, first, last):
+        """Where what lasts from one point to another begins and ends in this row."""
+        return self.row.x(first), self.edge if last is None or last > self.row.last else self.row.x(last)
+
+    def _bar(self, bar):
+        top = self.tops[id(bar.lane)] + BAR_AT
+        begin, end = self._span(bar.first, bar.last)
+        yield box(bar.kind, begin, top, end - begin, BAR, 3)
+        for since, until in bar.still:
+            until = bar.last if until is None else until
+            if since <= self.row.last and (until is None or until > max(since, self.row.first)):
+                begin, end = self._span(since, until)
+                yield box("still", begin, top, end - begin, BAR)
+        for point in bar.ticks:
+            if self.row.first <= point <= self.row.last:
+                yield line("tick", self.row.x(point), top + 5, self.row.x(point), top + BAR - 5)
+
+    def _arrow(self, arrow):
+        x, up = self.row.x(arrow.point), arrow.goes_up()
+        edge = (BAR if arrow.kind == "waiting" else HELD) / 2 + 2
+        begin = self.middle(arrow.lane) + (-BAR / 2 if up else BAR / 2)
+        end = self.middle(arrow.target) + (edge if up else -edge)
+        yield line("halo", x, begin, x, end)
+        yield line(arrow.kind, x, begin, x, end + (8 if up else -8))
+        yield head(arrow.kind, x, end, up)
+
+    def _mark(self, mark):
+        yield sign(mark.kind, self.row.x(mark.point), self.middle(mark.lane))
+
+    def _label(self, label):
+        x, top = self.row.x(label.point), self.tops[id(label.lane)]
+        middle = x + (label.right - label.left) / 2
+        at = {"start": x - label.left, "middle": middle, "end": x + label.right}[label.anchor]
+        if label.role in ("committed", "aborted"):
+            yield box(label.role, x, top + BAR_AT, label.right, BAR, ROUND)
+            yield text(at, top + BAR_AT + 15, label.text, label.role, label.anchor)
+        elif label.text:
+            down = {"top": TITLE_AT, "bar": BAR_AT + 16, "low": REPLY_AT}[label.row]
+            yield text(at, top + down, label.text, label.role, label.anchor)
+
+
+def _left_by_commits(lines):
+    """The base and the depth at the end, in words."""
+    said = {"account": "account {} has {}", "element": "set {} has {}", "counter": "counter {} is {}"}
+    *base, depth = [line.split() for line in lines]
+    cells = ", ".join(said[kind].format(*numbers).replace(" ", "\u00a0") for kind, *numbers in base)
+    return f"What the commits leave: {cells or 'nothing'}. The depth of the directory is {depth[1]}."
+
+
+def _paragraphs(scene, top, wide):
+    """The notes and the base at the end, from `top` down, and where they end."""
+    drawn = []
+    for number, note in enumerate(scene.story.notes, 1):
+        drawn.append(shape("circle", class_="badge", cx=float(MARGIN + ROUND), cy=float(top - 4), r=ROUND))
+        drawn.append(text(MARGIN + ROUND, top, str(number), "number", "middle"))
+        for part in wrapped(note, NOTE_SIZE, wide - 2 * MARGIN - 32):
+            drawn.append(text(MARGIN + 32, top, part, "note"))
+            top += NOTE_LINE
+        top += 8
+    if scene.story.end:
+        for part in wrapped(_left_by_commits(scene.story.end), NOTE_SIZE, wide - 2 * MARGIN):
+            drawn.append(text(MARGIN, top, part, "note"))
+            top += NOTE_LINE
+        top += 8
+    return drawn, top
+
+
+def picture(scene, title, about):
+    """The whole SVG, with a title and a line about it."""
+    placed, left = rows(scene)
+    wide = max([LEAST_WIDTH, *(row.right for row in placed)])
+    wide = max(wide, MOST_WIDTH) if len(placed) > 1 else wide
+    heading, drawn, top = [], [], 34
+    for part in wrapped(title, TITLE_SIZE * 1.13, wide - 2 * MARGIN):
+        heading.append(text(MARGIN, top, part, "picture"))
+        top += 26
+    for part in wrapped(about, LABEL_SIZE, wide - 2 * MARGIN):
+        heading.append(text(MARGIN, top - 4, part, "about"))
+        top += NOTE_LINE
+    for row in placed:
+        right = wide if row is not placed[-1] else row.right
+        drawing = _RowDrawing(scene, row, left, right - MARGIN, top)
+        drawn += drawing.drawn()
+        top = drawing.bottom + ROW_GAP
+    notes, top = _paragraphs(scene, top + 12, wide)
+    keys, top = legend.drawn(scene, top + 2, wide)
+    size = f'width="{wide:.0f}" height="{top:.0f}" viewBox="0 0 {wide:.0f} {top:.0f}"'
+    return "\n".join([
+        f'<svg xmlns="http://www.w3.org/2000/svg" {size} role="img" aria-label="{escape(title, {chr(34): "&quot;"})}">',
+        f"<title>{escape(title)}</title>",
+        f"<style>{STYLE}</style>",
+        f"<defs>{HATCH}</defs>",
+        f'<rect width="{wide:.0f}" height="{top:.0f}" fill="#ffffff"/>',
+        *heading, *_group("time", drawn), *_group("notes", notes), *_group("legend", keys),
+        "</svg>\n",
+    ])
+
+
+def _group(name, shapes):
+    return [f'<g class="{name}">', *shapes, "</g>"]
