@@ -238,6 +238,9 @@ def picture(scene, title, about):
         heading.append(text(MARGIN, top - 4, part, "about"))
         top += NOTE_LINE
     for row in placed:
+        if row is not placed[0]:
+            drawn += [text(MARGIN, top + 4, "later", "about"), line("life", MARGIN + 44, top, wide - MARGIN, top)]
+            top += ROW_GAP
         right = wide if row is not placed[-1] else row.right
         drawing = _RowDrawing(scene, row, left, right - MARGIN, top)
         drawn += drawing.drawn()
