@@ -1,6 +1,5 @@
 //! Tests of traces: what is accepted, the faults of other texts, and what the check says of both; and of receipts
-//! against the items of one. They stand here and not in the crates that they test, since a crate with tests is proved
-//! twice.
+//! against histories. They stand here and not in the crates that they test, since a crate with tests is proved twice.
 #![tactic(auto)]
 
 #[cfg(test)]
