@@ -9,7 +9,8 @@ import sys
 import threading
 import time
 
-from harness import MOST_BYTES, PATIENCE, ROOT, as_bytes, each, expect, holds, lines, listening, may_break_off, same, test
+from harness import MOST_BYTES, PATIENCE, ROOT, as_bytes, each, expect, holds, lines, listening, may_break_off
+from harness import same, test
 
 # How long to listen for an answer that must not come, in seconds.
 SILENCE = 0.2
