@@ -9,7 +9,7 @@ import time
 from contextlib import suppress
 from pathlib import Path
 
-from harness import PATIENCE, each, expect, holds, lines, same, test
+from harness import PATIENCE, each, expect, free_address, holds, lines, listening, same, test
 
 FAULT = b"mltx: 13 Io\n"
 
@@ -188,11 +188,11 @@ SAID = lines("begin|open 1|deposit 1 5|commit|begin|up 7 1|quit")
 TOLD = lines("begun 1|opened|done|committed 1|begun 2|done|bye")
 
 
-def served(mltx, fail, limit=1):
+def served(mltx, fail, limit=1, address=None):
     """What the first client hears that sends all of SAID, what the server comes to, and its trace."""
     trace = mltx.folder / "trace"
     trace.unlink(missing_ok=True)
-    with mltx.serve("--trace", trace, limit=limit, env=mltx.shim(FAIL=fail)) as server:
+    with mltx.serve("--trace", trace, limit=limit, address=address, env=mltx.shim(FAIL=fail)) as server:
         with server.connect() as peer:
             heard = peer.say_all(SAID)
         return heard.decode(), server.end(), trace.read_text() if trace.exists() else None
@@ -227,18 +227,38 @@ def sendings_fail(mltx, fault):
         has_ended_all(trace, what)
 
 
+# What a server writes at its end, and then into the trace, once a client has said all of SAID.
+SERVED = "served 1\n"
+SERVED_TRACE = lines(
+    "begin 1|op 1 open 1 opened|op 1 deposit 1 5 done|commit 1 1|begin 2|op 2 up 7 1 done|back 2|abort 2"
+)
+
+
 @test(seconds=3)
 def each_write_of_serve_fails(mltx):
-    """Whichever write at the end of a server fails, that is 13, and what went out is a front of the line, then of the
+    """Whichever write at the end of a server fails, that is 13, and what went out is a prefix of the line, then of the
     trace. The sessions are not touched."""
-    text = "served 1\n"
-    trace = lines("begin 1|op 1 open 1 opened|op 1 deposit 1 5 done|commit 1 1|begin 2|op 2 up 7 1 done|back 2|abort 2")
-    for number in range(1, len(text + trace) + 1):
-        what = f"a server whose write {number} fails"
-        heard, ended, left = served(mltx, f"write {number} {errno.EIO} 1")
+    address = free_address()
+    before = len(listening(address))
+    for number in range(1, len(SERVED + SERVED_TRACE) + 1):
+        what = f"a server whose write {number} at its end fails"
+        heard, ended, left = served(mltx, f"write {before + number} {errno.EIO} 1", address=address)
         same(heard, TOLD, what)
-        expect(ended, status=1, out=text[: number - 1], err=FAULT, what=what)
-        same(left, None if number <= len(text) else trace[: number - 1 - len(text)], f"{what}: the trace")
+        expect(ended, status=1, out=SERVED[: number - 1], err=FAULT, what=what)
+        wanted = None if number <= len(SERVED) else SERVED_TRACE[: number - 1 - len(SERVED)]
+        same(left, wanted, f"{what}: the trace")
+
+
+@each({f"each-write-of-where-a-server-listens-{name}": fault for name, fault in WRITE_FAULTS.items()}, seconds=1)
+def writes_of_where_a_server_listens_fail(mltx, fault):
+    """Whichever byte of that line is not taken, those before it went out, and the server goes on as if all had."""
+    address = free_address()
+    line = listening(address)
+    for number in range(1, len(line) + 1):
+        what = f"a server whose write {number} fails by {errno.errorcode.get(fault, 'taking nothing')}"
+        heard, ended, trace = served(mltx, f"write {number} {fault} 1", address=address)
+        same((heard, trace), (TOLD, SERVED_TRACE), what)
+        expect(ended, out=SERVED, err=line[: number - 1], what=what)
 
 
 ACCEPT_FAULTS = {"fails": errno.EINVAL, "finds-no-file-number": errno.EMFILE}

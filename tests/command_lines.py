@@ -80,13 +80,14 @@ HELP = {
     "help-steps": ("mltx steps [OPTIONS] <FILE>", "standard input", *OPTIONS),
     "help-run": (
         *("mltx run [OPTIONS] <FILE>", "standard input", *OPTIONS),
-        *("--workers <N>", "1 to 8; without it 4", "--tries <N>", "10000"),
+        *("--workers <N>", "1 to 8; without it 4", "--tries <N>", "1 to 1000000; without it 10000"),
     ),
     "help-check": ("mltx check <FILE>", "standard input"),
     "help-serve": (
         *("mltx serve [OPTIONS] <ADDR>", "127.0.0.1:7000", *OPTIONS, "--sessions <N>", "1 to 64; without it 8"),
-        *("--limit <N>", "1 to 1000000; without it 1", "--tries <N>", "10000"),
+        *("--limit <N>", "1 to 1000000; without it 1", "--tries <N>", "1 to 1000000; without it 10000"),
         *("--idle <SECONDS>", "from 0, which is for ever, to 86400; without it 0"),
+        *("mltx serve 127.0.0.1:7000 --limit 1000000 --sessions 64 --idle 600", "mltx: listening on 127.0.0.1:7000"),
     ),
 }
 

@@ -190,10 +190,11 @@ class Program:
         return self.run("check", "-", given=trace)
 
     @contextmanager
-    def serve(self, *options, limit=1, env=None, redirect="", timeout=PATIENCE):
-        """A server on a port of its own, as long as the block lasts. It ends by itself once `limit` connections have
-        ended; where the block ends earlier, it is killed. With `limit` None the option is left out."""
-        server = Server(self, [*options, *(["--limit", limit] if limit is not None else [])], env, redirect, timeout)
+    def serve(self, *options, limit=1, address=None, env=None, redirect="", timeout=PATIENCE):
+        """A server on a port of its own, or at this address, as long as the block lasts. It ends by itself once `limit`
+        connections have ended; where the block ends earlier, it is killed. With `limit` None the option is left out."""
+        words = [*options, *(["--limit", limit] if limit is not None else [])]
+        server = Server(self, address or free_address(), words, env, redirect, timeout)
         try:
             yield server
         finally:
@@ -203,10 +204,10 @@ class Program:
 class Server:
     """A running `mltx serve`."""
 
-    def __init__(self, mltx, options, env, redirect, timeout):
-        self.address, self.timeout = free_address(), timeout
-        words = command([mltx.path, "serve", "%s:%d" % self.address, *options], redirect)
-        how = {"stdout": subprocess.PIPE, "stderr": subprocess.PIPE, "cwd": mltx.folder}
+    def __init__(self, mltx, address, options, env, redirect, timeout):
+        self.address, self.timeout = address, timeout
+        words = command([mltx.path, "serve", "%s:%d" % address, *options], redirect)
+        how = {"stdout": subprocess.PIPE, "stderr": subprocess.PIPE, "bufsize": 0, "cwd": mltx.folder}
         self.process = subprocess.Popen(words, stdin=subprocess.DEVNULL, env={**os.environ, **(env or {})}, **how)
 
     def connect(self):
@@ -226,13 +227,17 @@ class Server:
         with self.connect() as peer:
             return peer.say_all(sent)
 
+    def first_line(self):
+        """The first line that it writes on standard error, which `end` then leaves out."""
+        return self.process.stderr.readline().decode()
+
     def end(self):
-        """What the server came to, once it ended by itself."""
+        """What the server came to, once it ended by itself. The line that says where it listens is left out."""
         try:
             out, err = self.process.communicate(timeout=self.timeout)
         except subprocess.TimeoutExpired:
             raise Failed(f"the server had not ended after {self.timeout} seconds") from None
-        return Ran(self.process.returncode, out, err)
+        return Ran(self.process.returncode, out, err.removeprefix(listening(self.address).encode()))
 
     def kill(self):
         self.process.kill()
@@ -295,6 +300,11 @@ def command(words, redirect=""):
     """The words of a command, or of a shell that redirects its streams and then becomes it."""
     shell = ["/bin/sh", "-c", f'exec "$0" "$@" {redirect}'] if redirect else []
     return [*shell, *map(str, words)]
+
+
+def listening(address):
+    """The line by which a server says on standard error that it listens at this address."""
+    return "mltx: listening on %s:%d\n" % address
 
 
 def free_address():

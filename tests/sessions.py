@@ -1,5 +1,6 @@
 """Sessions over TCP: the worked rows, the table of lines and their answers, and sessions side by side."""
 import dataclasses
+import re
 import select
 import socket
 import struct
@@ -8,7 +9,8 @@ import sys
 import threading
 import time
 
-from harness import MOST_BYTES, PATIENCE, ROOT, as_bytes, each, expect, holds, lines, may_break_off, same, test
+from harness import MOST_BYTES, PATIENCE, ROOT, as_bytes, each, expect, holds, lines, listening, may_break_off
+from harness import same, test
 
 # How long to listen for an answer that must not come, in seconds.
 SILENCE = 0.2
@@ -216,6 +218,36 @@ def cut_transaction_is_taken_back(mltx):
             break_off(peer)
         same(server.talk(lines("begin|read 7|commit")), lines("begun 4|is 0|committed 1").encode(), "the next client")
         expect(server.end(), out="served 4\n")
+
+
+@test
+def server_says_where_it_listens(mltx):
+    """It is the first line on standard error, it comes before a client does, and nothing follows it."""
+    with mltx.serve() as server:
+        same(server.first_line(), listening(server.address))
+        same(server.talk("begin\nquit\n"), b"begun 1\nbye\n")
+        expect(server.end(), out="served 1\n")
+
+
+@test
+def server_says_which_port_it_got(mltx):
+    """With port 0 the line has the port at which clients are served."""
+    with mltx.serve(address=("127.0.0.1", 0)) as server:
+        said = server.first_line()
+        port = re.fullmatch(r"mltx: listening on 127\.0\.0\.1:([1-9][0-9]*)\n", said)
+        holds(port, f"{said!r} names no port")
+        server.address = ("127.0.0.1", int(port[1]))
+        same(server.talk("begin\nquit\n"), b"begun 1\nbye\n", f"a client at {server.address}")
+        expect(server.end(), out="served 1\n")
+
+
+@each({"server-without-standard-error": "2>&-", "server-with-a-full-standard-error": "2>/dev/full"})
+def server_that_cannot_say_where_it_listens(mltx, redirect):
+    """It serves all the same, and its status is 0."""
+    with mltx.serve(redirect=redirect, limit=2) as server:
+        for number in (1, 2):
+            same(server.talk("begin\nquit\n"), f"begun {number}\nbye\n".encode(), redirect)
+        expect(server.end(), out="served 2\n", what=redirect)
 
 
 def break_off(peer):

@@ -91,8 +91,13 @@ const SERVE_EXAMPLE: &str = "Example: mltx serve 127.0.0.1:7000 --limit 2
   commit           committed 1
   quit             bye
 
+As soon as it listens it writes `mltx: listening on 127.0.0.1:7000` on standard error; for port 0
+that line has the port that it got.
+
 An open transaction is taken back as its connection ends. Once all connections have ended
-the program writes `served` with their number, and the trace where one is asked for.";
+the program writes `served` with their number, and the trace where one is asked for.
+
+A server that stays up: mltx serve 127.0.0.1:7000 --limit 1000000 --sessions 64 --idle 600";
 
 const CHECK_ABOUT: &str =
     "Checks the trace of FILE: whether its transactions, run alone in the order of their commits, are told the same.";
@@ -122,7 +127,7 @@ const ADDRESS: InputHelp = InputHelp {
 };
 
 const TRIES_HELP: &str =
-    "How often a script, or an operation of a session, may be told to wait; without it 10000";
+    "How often a script, or an operation of a session, may be told to wait, from 1 to 1000000; without it 10000";
 
 const WORKERS_HELP: &str = "How many workers run scripts at once, from 1 to 8; without it 4";
 

@@ -157,6 +157,7 @@ fn run_server<P: Pseudo + Drop + Send, T: Threads + Wait + Clock + Sync>(
     let Ok(listener) = TcpListener::bind(rt, serve.run.input.as_str()) else {
         return Err(Refusal::Io);
     };
+    report_address(rt, &listener)?;
     let idle = match serve.idle {
         0 => None,
         seconds => Some(Duration::from_secs(seconds)),
@@ -175,6 +176,18 @@ fn run_server<P: Pseudo + Drop + Send, T: Threads + Wait + Clock + Sync>(
     let written = write_served(rt, serve, manager.history());
     manager.close();
     written
+}
+
+// Tells on standard error where the server listens, with the port that it got where port 0 was asked for. A server whose
+// line can't be written goes on.
+fn report_address(rt: &HostRuntime, listener: &TcpListener) -> Result<(), Refusal> {
+    let Ok(address) = listener.local_addr() else {
+        return Err(Refusal::Io);
+    };
+    let mut text = String::new(rt.alloc());
+    writeln!(text, "mltx: listening on {address}")?;
+    let _ = write_text(&mut rt.stderr(), text.as_bytes());
+    Ok(())
 }
 
 // Writes how many connections were served, and then the trace.
