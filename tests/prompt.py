@@ -194,6 +194,11 @@ def used_by(process):
     return words[0], *words[11:13]
 
 
+def heed_interrupts():
+    """A shell has what it runs in the background ignore interrupts, and the prompt would inherit that."""
+    signal.signal(signal.SIGINT, signal.SIG_DFL)
+
+
 class Terminal:
     """The prompt at a terminal."""
 
@@ -201,7 +206,8 @@ class Terminal:
         self.end, other = pty.openpty()
         env = {**os.environ, "TERM": "dumb", "INPUTRC": "/dev/null", "MLTX_HISTORY": str(folder / "history")}
         how = {"stdin": other, "stdout": other, "stderr": other, "env": env, "cwd": folder}
-        self.process = subprocess.Popen([*SHELL, "%s:%d" % address], start_new_session=True, **how)
+        how |= {"start_new_session": True, "preexec_fn": heed_interrupts}
+        self.process = subprocess.Popen([*SHELL, "%s:%d" % address], **how)
         os.close(other)
         self.shown = ""
 
