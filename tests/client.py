@@ -270,7 +270,7 @@ def transfers_of_sixteen_threads(mltx):
                 pair = source.sample(accounts, 2)
                 client.run(lambda tx, pair=pair: transfer(tx, *pair, source.randrange(1, 100)))
 
-    with mltx.serve("--sessions", threads, "--trace", trace, limit=threads + 2) as server:
+    with mltx.serve("--sessions", threads, "--tries", 20, "--trace", trace, limit=threads + 2) as server:
         with connected(server) as client:
             client.run(lambda tx: tx.ask_all([Operation.open(account) for account in accounts]))
             client.run(lambda tx: tx.ask_all([Operation.deposit(account, 1_000) for account in accounts]))
