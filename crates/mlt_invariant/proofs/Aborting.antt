@@ -25,9 +25,9 @@ use Rattle.mlt_history.specs.Numbers.{CountsFrom, begun_txs, commit_numbers}
 use Rattle.mlt_history.specs.Rooms.{total_room}
 use Rattle.mlt_history.proofs.ItemLaws.{entries_of-append, no_begin, no_commit}
 use Rattle.mlt_history.proofs.RoomLaws.{total_room-remove}
-use Rattle.mlt_running.specs.CleanPages.{clean_pages}
-use Rattle.mlt_running.specs.Running.{KeepsRunning, after_close, clean_of}
-use Rattle.mlt_running.proofs.AllEvents.{close_clean, close_keeps}
+use Rattle.mlt_subtx_laws.specs.CleanPages.{clean_pages}
+use Rattle.mlt_subtx_laws.specs.Running.{KeepsRunning, after_close, clean_of}
+use Rattle.mlt_subtx_laws.proofs.AllEvents.{close_clean, close_keeps}
 use Rattle.mlt_meeting.specs.Events.{with_closed, with_undone as world_undone}
 use Rattle.mlt_meeting.specs.Worlds.{PagesMeanHistory, lists_in}
 use Rattle.mlt_meeting.proofs.OpenNumbers.{removed_beside, removed_here as closed_here}

@@ -6,7 +6,7 @@ use Rattle.std.proofs.lemmas.Bool.{cases_eq}
 use Rattle.mlt_kinds.specs.declared.operation.ObjOp.{ObjOp}
 use Rattle.mlt_kinds.specs.declared.operation.ObjReply.{ObjReply}
 use Rattle.mlt_history.proofs.RoomLaws.{total_room-insert}
-use Rattle.mlt_running.specs.Running.{HoldsNothing, KeepsRunning}
+use Rattle.mlt_subtx_laws.specs.Running.{HoldsNothing, KeepsRunning}
 use Rattle.mlt_undo.specs.Undo.{Undo}
 use Rattle.mlt_meeting.specs.Worlds.{PagesMeanHistory}
 use Rattle.mlt_meeting.proofs.Transactions.{abort_keeps}

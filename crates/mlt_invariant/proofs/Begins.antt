@@ -18,9 +18,9 @@ use Rattle.mlt_history.proofs.RoomLaws.{total_room-insert_new}
 use Rattle.mlt_subtx.specs.Images.{Running}
 use Rattle.mlt_subtx.proofs.ImageLaws.{not_there, not_true}
 use Rattle.mlt_held.specs.declared.locked_store.LockedStore.{LockedStore}
-use Rattle.mlt_running.specs.CleanPages.{clean_pages}
-use Rattle.mlt_running.specs.Running.{AllRunning, HoldsNothing, KeepsRunning, after_begin, clean_of, is_open}
-use Rattle.mlt_running.proofs.AllEvents.{begin_clean, begin_keeps, nothing_at_begin}
+use Rattle.mlt_subtx_laws.specs.CleanPages.{clean_pages}
+use Rattle.mlt_subtx_laws.specs.Running.{AllRunning, HoldsNothing, KeepsRunning, after_begin, clean_of, is_open}
+use Rattle.mlt_subtx_laws.proofs.AllEvents.{begin_clean, begin_keeps, nothing_at_begin}
 use Rattle.mlt_meeting.specs.Events.{with_begun}
 use Rattle.mlt_meeting.specs.Worlds.{PagesMeanHistory, lists_in}
 use Rattle.mlt_meeting.proofs.Matches.{lists_kept}

@@ -8,8 +8,8 @@ use Rattle.mlt_undo.specs.Undo.{Undo}
 use Rattle.mlt_held.specs.declared.locked_store.LockedStore.{LockedStore}
 use Rattle.mlt_held.specs.Moments.{Moment}
 use Rattle.mlt_held.specs.Views.{view_of}
-use Rattle.mlt_running.specs.Running.{AllRunning, HoldsNothing, KeepsRunning, after_roll_back, clean_of, images_by, moment_of}
-use Rattle.mlt_running.proofs.AllEvents.{nothing_after_roll_back}
+use Rattle.mlt_subtx_laws.specs.Running.{AllRunning, HoldsNothing, KeepsRunning, after_roll_back, clean_of, images_by, moment_of}
+use Rattle.mlt_subtx_laws.proofs.AllEvents.{nothing_after_roll_back}
 use Rattle.mlt_hash.proofs.Laws.{at_start}
 use Rattle.mlt_meeting.specs.Worlds.{basis_of}
 use Rattle.mlt_operation.specs.Operating.{IsOperating, OperationFields, started_for}

@@ -22,13 +22,13 @@ use Rattle.mlt_history.proofs.ItemLaws.{entries_of-append, no_begin, no_commit}
 use Rattle.mlt_history.proofs.RoomLaws.{total_room-insert}
 use Rattle.mlt_subtx.specs.Images.{Running}
 use Rattle.mlt_held.specs.Views.{view_of}
-use Rattle.mlt_running.specs.Running.{AllRunning, HoldsNothing, KeepsRunning, after_end, clean_of, is_open, moment_of}
-use Rattle.mlt_running.specs.CleanPages.{clean_pages}
+use Rattle.mlt_subtx_laws.specs.Running.{AllRunning, HoldsNothing, KeepsRunning, after_end, clean_of, is_open, moment_of}
+use Rattle.mlt_subtx_laws.specs.CleanPages.{clean_pages}
 use Rattle.mlt_hash_form.specs.Held.{over}
 use Rattle.mlt_commute.specs.Clashes.{clashes}
 use Rattle.std.specs.List.{Contains}
-use Rattle.mlt_running.proofs.AllRunning.{agrees_with_each}
-use Rattle.mlt_running.proofs.AllEvents.{end_clean, end_keeps, nothing_at_end}
+use Rattle.mlt_subtx_laws.proofs.AllRunning.{agrees_with_each}
+use Rattle.mlt_subtx_laws.proofs.AllEvents.{end_clean, end_keeps, nothing_at_end}
 use Rattle.mlt_meeting.specs.Events.{MayDo, with_done}
 use Rattle.mlt_meeting.specs.Presences.{IsOpInRange}
 use Rattle.mlt_meeting.specs.Worlds.{PagesMeanHistory, lists_in}

@@ -19,9 +19,9 @@ use Rattle.mlt_history.specs.Numbers.{AreCounted, CountsFrom, begun_txs, commit_
 use Rattle.mlt_history.proofs.ItemLaws.{commit_keeps_counted, entries_of-append, no_begin, no_commit}
 use Rattle.mlt_history.proofs.RoomLaws.{total_room-remove}
 use Rattle.mlt_held.specs.declared.locked_store.LockedStore.{LockedStore}
-use Rattle.mlt_running.specs.CleanPages.{clean_pages}
-use Rattle.mlt_running.specs.Running.{AllRunning, HoldsNothing, KeepsRunning, after_close, clean_of}
-use Rattle.mlt_running.proofs.AllEvents.{close_clean, close_keeps}
+use Rattle.mlt_subtx_laws.specs.CleanPages.{clean_pages}
+use Rattle.mlt_subtx_laws.specs.Running.{AllRunning, HoldsNothing, KeepsRunning, after_close, clean_of}
+use Rattle.mlt_subtx_laws.proofs.AllEvents.{close_clean, close_keeps}
 use Rattle.mlt_meeting.specs.Events.{IsOpenAt}
 use Rattle.mlt_meeting.specs.Worlds.{PagesMeanHistory, World, lists_in}
 use Rattle.mlt_meeting.proofs.OpenNumbers as numbers

@@ -20,10 +20,10 @@ use Rattle.mlt_operation.specs.declared.request.Request.TheVariants.{TakeBack}
 use Rattle.mlt_operation.specs.Operating.{FitsPhase, OperationFields}
 use Rattle.mlt_operation.specs.Performing.{Performs}
 use Rattle.mlt_operation.specs.Requests.{decision, target_of}
-use Rattle.mlt_running.specs.CleanPages.{clean_pages}
-use Rattle.mlt_running.specs.Running.{AllRunning, HoldsNothing, KeepsRunning, after_end, clean_of, is_open, moment_of}
-use Rattle.mlt_running.proofs.AllEvents.{end_clean, end_keeps, nothing_at_end}
-use Rattle.mlt_running.proofs.AllRunning.{agrees_with_each}
+use Rattle.mlt_subtx_laws.specs.CleanPages.{clean_pages}
+use Rattle.mlt_subtx_laws.specs.Running.{AllRunning, HoldsNothing, KeepsRunning, after_end, clean_of, is_open, moment_of}
+use Rattle.mlt_subtx_laws.proofs.AllEvents.{end_clean, end_keeps, nothing_at_end}
+use Rattle.mlt_subtx_laws.proofs.AllRunning.{agrees_with_each}
 use Rattle.mlt_meeting.specs.Ends.{ChangesPages, EndsWalk}
 use Rattle.mlt_meeting.specs.Worlds.{basis_of}
 use Rattle.mlt_meeting.proofs.Walks.{found_is_record}

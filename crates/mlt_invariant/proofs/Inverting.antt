@@ -9,7 +9,7 @@ use Rattle.mlt_history.specs.Items.{ItemsWithRoom}
 use Rattle.mlt_undo.specs.Undo.{Undo}
 use Rattle.mlt_held.specs.Moments.{Moment, moment}
 use Rattle.mlt_held.specs.Views.{view_of}
-use Rattle.mlt_running.specs.Running.{AllRunning, moment_of}
+use Rattle.mlt_subtx_laws.specs.Running.{AllRunning, moment_of}
 use Rattle.mlt_hash.proofs.Laws.{at_start}
 use Rattle.mlt_meeting.specs.Worlds.{basis_of}
 use Rattle.mlt_operation.specs.Answers.{StepsOn, Waits}

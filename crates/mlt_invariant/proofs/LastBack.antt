@@ -8,7 +8,7 @@ use Rattle.mlt_kinds.specs.Bases.{Base, Step}
 use Rattle.mlt_kinds.specs.declared.operation.ObjOp.{ObjOp}
 use Rattle.mlt_kinds.specs.declared.operation.ObjReply.{ObjReply}
 use Rattle.mlt_subtx.specs.Images.{Running}
-use Rattle.mlt_running.specs.CleanPages.{clean_pages}
+use Rattle.mlt_subtx_laws.specs.CleanPages.{clean_pages}
 use Rattle.mlt_meeting.specs.Events.{MayUndo, with_undone}
 use Rattle.mlt_meeting.specs.Worlds.{PagesMeanHistory}
 use Rattle.mlt_meeting.proofs.Undoing.{undoing_keeps}

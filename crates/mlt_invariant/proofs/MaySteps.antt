@@ -12,8 +12,8 @@ use Rattle.mlt_page_locks.specs.LockTables.{Modes, pages_of}
 use Rattle.mlt_subtx.specs.Images.{AreThere, Images}
 use Rattle.mlt_held.specs.Moments.{Moment, moment}
 use Rattle.mlt_held.specs.Views.{view_of}
-use Rattle.mlt_running.specs.Running.{AllRunning, HoldsNothing, clean_of, is_open, moment_of}
-use Rattle.mlt_running.proofs.AllRunning.{clean_for_each, each_may_step}
+use Rattle.mlt_subtx_laws.specs.Running.{AllRunning, HoldsNothing, clean_of, is_open, moment_of}
+use Rattle.mlt_subtx_laws.proofs.AllRunning.{clean_for_each, each_may_step}
 use Rattle.mlt_hash.specs.Walks.{IsStanding, MayWalk, Stands, WalkFields}
 use Rattle.mlt_hash.proofs.Laws.{at_start}
 use Rattle.mlt_operation.specs.declared.request.Request.TheVariants.{TakeBack}

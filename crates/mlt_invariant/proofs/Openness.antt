@@ -10,8 +10,8 @@ use Rattle.mlt_hash.proofs.Passed.{passed_as}
 use Rattle.mlt_hash_form.specs.Held.{Agrees}
 use Rattle.mlt_held.specs.Views.{View, view_of}
 use Rattle.mlt_object_locks.specs.Locks.{SameReservations}
-use Rattle.mlt_running.specs.Running.{KeepsRunning, clean_of, moment_of}
-use Rattle.mlt_running.proofs.AllRunning.{agrees_with_each}
+use Rattle.mlt_subtx_laws.specs.Running.{KeepsRunning, clean_of, moment_of}
+use Rattle.mlt_subtx_laws.proofs.AllRunning.{agrees_with_each}
 use Rattle.mlt_operation.specs.Operating.{FitsPhase, IsOperating, OperationFields}
 use Rattle.mlt_meeting.specs.Worlds.{basis_of}
 use Rattle.mlt_transaction.specs.declared.transaction.At.{At}

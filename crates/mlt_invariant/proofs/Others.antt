@@ -2,7 +2,7 @@
 use Rattle.std.proofs.Common.{◌≡◌, ◌≢◌, ℕ, ◌<◌, length, None, Some, sym, subst, ◌∙◌}
 use Rattle.mlt_held.specs.Views.{View, view_of}
 use Rattle.mlt_object_locks.specs.Locks.{SameReservations}
-use Rattle.mlt_running.specs.Running.{AllRunning, HoldsNothing, KeepsRunning, moment_of}
+use Rattle.mlt_subtx_laws.specs.Running.{AllRunning, HoldsNothing, KeepsRunning, moment_of}
 use Rattle.mlt_operation.specs.Operating.{IsOperating, OperationFields}
 use Rattle.mlt_meeting.specs.Worlds.{basis_of}
 use Rattle.mlt_transaction.specs.declared.transaction.At.{At}

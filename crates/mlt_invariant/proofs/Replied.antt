@@ -6,10 +6,10 @@ use Rattle.mlt_kinds.specs.Bases.{Base, Step}
 use Rattle.mlt_kinds.specs.declared.operation.ObjOp.{ObjOp}
 use Rattle.mlt_kinds.specs.declared.operation.ObjReply.{ObjReply}
 use Rattle.mlt_held.specs.Views.{view_of}
-use Rattle.mlt_running.specs.CleanPages.{clean_pages}
-use Rattle.mlt_running.specs.Running.{is_open, moment_of}
-use Rattle.mlt_running.proofs.AllRunning.{agrees_with_each}
-use Rattle.mlt_running.proofs.AllEvents.{end_clean}
+use Rattle.mlt_subtx_laws.specs.CleanPages.{clean_pages}
+use Rattle.mlt_subtx_laws.specs.Running.{is_open, moment_of}
+use Rattle.mlt_subtx_laws.proofs.AllRunning.{agrees_with_each}
+use Rattle.mlt_subtx_laws.proofs.AllEvents.{end_clean}
 use Rattle.mlt_operation.specs.declared.request.Request.TheVariants.{Do}
 use Rattle.mlt_operation.specs.Operating.{OperationFields}
 use Rattle.mlt_meeting.proofs.Fixed.{step_there}

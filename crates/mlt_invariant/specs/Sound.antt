@@ -11,7 +11,7 @@ use Rattle.mlt_object_locks.specs.Locks.{reservation_of}
 use Rattle.mlt_history.specs.Numbers.{AreBegunInOrder, AreCounted, begin_count}
 use Rattle.mlt_history.specs.Rooms.{total_room}
 use Rattle.mlt_held.specs.Views.{view_of}
-use Rattle.mlt_running.specs.Running.{AllMayStep, HoldsNothing, moment_of}
+use Rattle.mlt_subtx_laws.specs.Running.{AllMayStep, HoldsNothing, moment_of}
 use Rattle.mlt_operation.specs.declared.request.Request.TheVariants.{Do}
 use Rattle.mlt_operation.specs.Operating.{IsOperating, OperationFields}
 use Rattle.mlt_meeting.specs.Presences.{IsOpInRange}

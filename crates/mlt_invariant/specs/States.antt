@@ -5,9 +5,9 @@ use Rattle.std.specs.FinMap as map
 use Rattle.std.specs.FinSet as set
 use Rattle.mlt_kinds.specs.Bases.{Base}
 use Rattle.mlt_history.specs.Entries.{entries_of}
-use Rattle.mlt_running.specs.CleanPages.{RunningImages, clean_pages}
+use Rattle.mlt_subtx_laws.specs.CleanPages.{RunningImages, clean_pages}
 use Rattle.mlt_subtx.specs.Images.{Images}
-use Rattle.mlt_running.specs.Running.{AllRunning}
+use Rattle.mlt_subtx_laws.specs.Running.{AllRunning}
 use Rattle.mlt_meeting.specs.Worlds.{World}
 use Rattle.mlt_transaction.specs.declared.commons.Commons.{Commons}
 use Rattle.mlt_transaction.specs.declared.transaction.At.{At}

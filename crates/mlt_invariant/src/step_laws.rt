@@ -7,7 +7,7 @@ ghost use Rattle.mlt_invariant.specs.Events.{KeepsClean, with_transaction};
 ghost use Rattle.mlt_invariant.specs.Sound.{IsSound};
 ghost use Rattle.mlt_invariant.specs.States.{State};
 ghost use Rattle.mlt_transaction.specs.declared.commons.Commons.{Commons};
-ghost use Rattle.mlt_running.specs.CleanPages.{RunningImages};
+ghost use Rattle.mlt_subtx_laws.specs.CleanPages.{RunningImages};
 
 /// An event of one transaction that leaves the clean pages, the items of the history and what is held keeps all that is
 /// always true, if it leaves the transaction where it may be.

@@ -8,7 +8,7 @@ use Rattle.std.specs.Ordering.{nat_cmp}
 use Rattle.std.specs.Cmp.{nat_cmp_total}
 use Rattle.mlt_kinds.specs.Bases.{Base}
 use Rattle.mlt_history.specs.Numbers.{commit_count}
-use Rattle.mlt_running.specs.CleanPages.{RunningImages}
+use Rattle.mlt_subtx_laws.specs.CleanPages.{RunningImages}
 use Rattle.mlt_transaction.specs.declared.commons.Commons.{Commons}
 use Rattle.mlt_transaction.specs.declared.transaction.Transaction.{Transaction}
 use Rattle.mlt_invariant.specs.Sound.{IsSound}

@@ -21,7 +21,7 @@ use Rattle.mlt_hash.specs.declared.pass.Pass.TheVariants as pass
 use Rattle.mlt_hash.specs.declared.pass.Phase.{Phase}
 use Rattle.mlt_hash.specs.declared.pass.Phase.TheVariants as phase
 use Rattle.mlt_operation.specs.Operating.{FitsPhase, OperationFields}
-use Rattle.mlt_running.specs.Running.{clean_of, images_by, moment_of}
+use Rattle.mlt_subtx_laws.specs.Running.{clean_of, images_by, moment_of}
 use Rattle.mlt_meeting.specs.Worlds.{basis_of}
 use Rattle.mlt_transaction.specs.declared.transaction.At.{At}
 use Rattle.mlt_transaction.specs.declared.transaction.At.TheVariants as at

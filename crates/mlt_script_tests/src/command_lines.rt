@@ -2,7 +2,7 @@
 //! lines is tested of the built program.
 
 use mlt_command_line::{Job, command_line_status, read_words, report_command_line};
-use mlt_server::{report_fault, status};
+use mlt_fault_line::{report_fault, status};
 use mlt_test_tools::{FaultyWriter, KINDS, same};
 use mlt_types::{Refusal, ScriptCause};
 use std::alloc::Global;

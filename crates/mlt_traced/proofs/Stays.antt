@@ -14,7 +14,7 @@ use Rattle.mlt_check.specs.Traces.{ArePlaced, IsAcceptedTrace, IsWhole, told}
 use Rattle.mlt_accepted.specs.Writable.{AllFit}
 use Rattle.mlt_accepted.proofs.Histories.{accepted_history, accepted_where_nothing_is_open, nothing_of_others}
 use Rattle.mlt_accepted.proofs.Places.{nothing_placed, writable}
-use Rattle.mlt_running.specs.CleanPages.{RunningImages}
+use Rattle.mlt_subtx_laws.specs.CleanPages.{RunningImages}
 use Rattle.mlt_hash.specs.Walks.{Basis}
 use Rattle.mlt_operation.specs.Operating.{OperationFields}
 use Rattle.mlt_event.specs.declared.answer.Answer.{Answer}

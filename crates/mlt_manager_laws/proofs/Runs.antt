@@ -1,0 +1,230 @@
+-- The steps of a transaction in a run are steps of its own
+use Rattle.std.proofs.Common.{◌≡◌, ◌≢◌, ◌⊎◌, ℕ, List, [], ◌∷◌, ◌++◌, nat_eq, Some, Ok, Err, refl, sym, ap, subst, ◌∙◌, inl, inr}
+use Rattle.std.proofs.lemmas.Bool.{cases_eq, cond-false, cond-true, eq-eqb, ne_eqb}
+use Rattle.std.specs.FinMap as map
+use Rattle.std.specs.FinSet as set
+use Rattle.std.specs.Ordering.{nat_cmp}
+use Rattle.mlt_types.specs.declared.limits.Limits.{Limits}
+use Rattle.mlt_kinds.specs.declared.operation.ObjOp.{ObjOp}
+use Rattle.mlt_kinds.specs.declared.operation.ObjReply.{ObjReply}
+use Rattle.mlt_held.specs.Views.{View}
+use Rattle.mlt_hash_form.specs.File.{FilePages, GivesPseudokeys, HasForm}
+use Rattle.mlt_hash_form.specs.Prefixes.{IsExtendibleHashFile}
+use Rattle.mlt_hash_form.specs.declared.root.Root.{Root}
+use Rattle.mlt_hash.specs.Walks.{basis_by}
+use Rattle.mlt_event.specs.declared.answer.Answer.{Answer}
+use Rattle.mlt_event.specs.declared.answer.Answer.TheVariants as answer
+use Rattle.mlt_event.specs.declared.event.Event.{Event}
+use Rattle.mlt_event.specs.declared.event.Event.TheVariants as event
+use Rattle.mlt_event.specs.declared.told.Told.{Told}
+use Rattle.mlt_event.specs.declared.told.Told.TheVariants as told
+use Rattle.mlt_transaction.specs.declared.transaction.Transaction.{Transaction}
+use Rattle.mlt_transaction.specs.Transactions.{TellsOfTransaction}
+use Rattle.mlt_open.specs.Tables.{Table}
+use Rattle.mlt_invariant.proofs.Tables.{inserted_here}
+use Rattle.mlt_counts.specs.Counts.{IsToTakeBack, TakesBackInFour}
+use Rattle.mlt_counts.specs.OwnSteps.{AreOwnSteps, view_in, with_answer}
+use Rattle.mlt_counts.proofs.Inverses.{taken_back}
+use Rattle.mlt_counts.proofs.Passes.{first_pass}
+use Rattle.mlt_manager.specs.Answers.{HasStepped, counted, txs_after}
+use Rattle.mlt_manager.specs.Events.{IsRun, Meets}
+use Rattle.mlt_manager.specs.Managers.{IsManager, ManagerFields}
+use Rattle.mlt_manager.specs.Openings.{IsNew}
+use Rattle.mlt_manager.proofs.Called.{one_there}
+use Rattle.mlt_manager.proofs.Keeping.{counted_keeps}
+use Rattle.mlt_manager.proofs.Kept.{abort_kept, begin_kept, call_kept, cancel_kept, commit_kept, new_kept, step_kept, whole_kept, whole_undo_kept}
+use Rattle.mlt_manager.proofs.Promises.{promises_kept}
+use Rattle.mlt_manager_laws.specs.Runs.{HasOwnSteps, IsCutBehind, IsReached, IsStepOrAnothers, OnlySteps, TakesOwnSteps, TakesPassInRun, answers_to, up_to_end, with_told}
+use Rattle.mlt_manager_laws.proofs.Events.{of_abort, of_begin, of_call, of_cancel, of_commit, of_step, of_whole, of_whole_undo}
+use Rattle.mlt_manager_laws.proofs.Seen.{StaysAs}
+
+-- **An event that meets its contract keeps what is always true.**
+pub meets_keeps : {P : Type 0} (bits_of : P → ℕ → ℕ) (m m' : ManagerFields P) (h : IsManager bits_of m) (e : Event) (t : Told) → Meets bits_of e t m m' → IsManager bits_of m'
+meets_keeps bits_of m m' h event.Begin (told.Begun tx) a = begin_kept bits_of m m' h (Ok tx) a
+meets_keeps bits_of m m' h event.Begin (told.Refused reason) a = begin_kept bits_of m m' h (Err reason) a
+meets_keeps bits_of m m' h (event.Call tx op) told.Called a = call_kept bits_of m m' h tx op (Ok tt) a
+meets_keeps bits_of m m' h (event.Call tx op) (told.Refused reason) a = call_kept bits_of m m' h tx op (Err reason) a
+meets_keeps bits_of m m' h (event.Step tx) (told.Answered answer) a = step_kept bits_of m m' h tx (Ok answer) a.0
+meets_keeps bits_of m m' h (event.Step tx) (told.Refused reason) a = step_kept bits_of m m' h tx (Err reason) a
+meets_keeps bits_of m m' h (event.Cancel tx) told.Cancelled a = cancel_kept bits_of m m' h tx (Ok tt) a.0
+meets_keeps bits_of m m' h (event.Cancel tx) (told.Refused reason) a = cancel_kept bits_of m m' h tx (Err reason) a
+meets_keeps bits_of m m' h (event.Commit tx) (told.Committed number) a = commit_kept bits_of m m' h tx (Ok number) a
+meets_keeps bits_of m m' h (event.Commit tx) (told.Refused reason) a = commit_kept bits_of m m' h tx (Err reason) a
+meets_keeps bits_of m m' h (event.Abort tx) (told.Aborting closed) a = abort_kept bits_of m m' h tx (Ok closed) a
+meets_keeps bits_of m m' h (event.Abort tx) (told.Refused reason) a = abort_kept bits_of m m' h tx (Err reason) a
+meets_keeps bits_of m m' h (event.Whole tx op) (told.Answered answer) a = whole_kept bits_of m m' h tx op (Ok answer) a.0
+meets_keeps bits_of m m' h (event.Whole tx op) (told.Refused reason) a = whole_kept bits_of m m' h tx op (Err reason) a
+meets_keeps bits_of m m' h (event.WholeUndo tx) (told.Answered answer) a = whole_undo_kept bits_of m m' h tx (Ok answer) a.0
+meets_keeps bits_of m m' h (event.WholeUndo tx) (told.Refused reason) a = whole_undo_kept bits_of m m' h tx (Err reason) a
+meets_keeps bits_of m m' h e t none = absurd none
+
+run_keeps : {P : Type 0} (bits_of : P → ℕ → ℕ) (events : List Event) (tolds : List Told) (m m' : ManagerFields P) → IsManager bits_of m → IsRun bits_of m events tolds m' → IsManager bits_of m'
+run_keeps bits_of [] [] m m' h same = subst (IsManager bits_of) (sym same) h
+run_keeps bits_of [] (t ∷ ts) m m' h none = absurd none
+run_keeps bits_of (e ∷ es) [] m m' h none = absurd none
+run_keeps bits_of (e ∷ es) (t ∷ ts) m m' h (next, meets, rest) = run_keeps bits_of es ts next m' (meets_keeps bits_of (counted m) next (counted_keeps bits_of m h) e t meets) rest
+
+-- **So it is true of a manager to which events lead.**
+pub reached : {P : Type 0} (bits_of : P → ℕ → ℕ) (m : ManagerFields P) → ((pseudo : P) → GivesPseudokeys (bits_of pseudo)) → IsReached bits_of m → IsManager bits_of m
+reached bits_of m keys r = run_keeps bits_of r.events r.tolds r.opening m (new_kept bits_of r.opening r.limits r.pseudo (keys r.opening.root.pseudo) r.opens) r.run
+
+-- **And a run can be cut behind any of its events.**
+module _ {P : Type 0} (bits_of : P → ℕ → ℕ) (has_file : (bits : ℕ → ℕ) (opens : set.FinSet nat_cmp) (pages : FilePages) (root : ℕ) → GivesPseudokeys bits → HasForm bits pages root → IsExtendibleHashFile bits opens pages root) where
+  cut : (before later : List Event) (tolds : List Told) (m m' : ManagerFields P) → IsManager bits_of m → IsRun bits_of m (before ++ later) tolds m' → IsCutBehind bits_of m m' before later tolds
+  cut [] later tolds m m' h run = record { told_before = []; told_later = tolds; told = refl; between = m; leads = refl; goes_on = run; promises = promises_kept bits_of m h has_file }
+  cut (e ∷ es) later [] m m' h none = absurd none
+  cut (e ∷ es) later (t ∷ ts) m m' h (next, meets, rest) =
+      let c = cut es later ts next m' (meets_keeps bits_of (counted m) next (counted_keeps bits_of m h) e t meets) rest in
+      record {
+        told_before = t ∷ c.told_before;
+        told_later = c.told_later;
+        told = ap (λ (l : List Told). t ∷ l) c.told;
+        between = c.between;
+        leads = (next, meets, c.leads);
+        goes_on = c.goes_on;
+        promises = c.promises;
+      }
+
+  pub cut_run : ((pseudo : P) → GivesPseudokeys (bits_of pseudo)) → (opening new : ManagerFields P) (limits : Limits) (pseudo : P) (before later : List Event) (tolds : List Told)
+      → IsNew opening limits pseudo → IsRun bits_of opening (before ++ later) tolds new → IsCutBehind bits_of opening new before later tolds
+  cut_run keys opening new limits pseudo before later tolds opens run = cut before later tolds opening new (new_kept bits_of opening limits pseudo (keys opening.root.pseudo) opens) run
+
+-- an answer is the last of an abort, or is told before what is told later
+is_last : (a : Answer) → (a ≡ answer.Aborted) ⊎ (((txs : Table) (tx : ℕ) → txs_after a tx txs ≡ txs) × ((more : List Answer) → up_to_end a more ≡ with_answer a more))
+is_last answer.Aborted = inl refl
+is_last answer.Going = inr (λ txs tx. refl, λ more. refl)
+is_last answer.Undone = inr (λ txs tx. refl, λ more. refl)
+is_last (answer.Waiting page by) = inr (λ txs tx. refl, λ more. refl)
+is_last (answer.Blocked by) = inr (λ txs tx. refl, λ more. refl)
+is_last (answer.Done reply) = inr (λ txs tx. refl, λ more. refl)
+is_last (answer.Refused reason) = inr (λ txs tx. refl, λ more. refl)
+
+module _ {P : Type 0} (bits_of : P → ℕ → ℕ) (root : Root P) (opens : set.FinSet nat_cmp) (tx : ℕ) (m next : ManagerFields P) (h : IsManager bits_of m) (t : Transaction) (there : map.get m.txs tx ≡ Some t) (same_root : m.root ≡ root) (es : List Event) (tolds : List Told) where
+  -- what is so of the events behind this one
+  abbrev Behind : Type 0
+  Behind = (t' : Transaction) → map.get next.txs tx ≡ Some t' → next.root ≡ root → HasOwnSteps (basis_by bits_of root opens tx) t' (view_in t' next.commons) tx es tolds
+
+  left_aside : (again : (t' : Transaction) → map.get next.txs tx ≡ Some t' → next.root ≡ root → HasOwnSteps (basis_by bits_of root opens tx) t' (view_in t' next.commons) tx es tolds)
+      → (e : Event) (told : Told) → StaysAs (counted m) next tx t → with_told tx e told (answers_to tx es tolds) ≡ answers_to tx es tolds
+      → HasOwnSteps (basis_by bits_of root opens tx) t (view_in t m.commons) tx (e ∷ es) (told ∷ tolds)
+  left_aside again e told stays nothing =
+      let rest = again t stays.there (stays.root ∙ same_root) in
+      record {
+        steps = rest.steps;
+        own = subst (λ (v : View). AreOwnSteps (basis_by bits_of root opens tx) t v rest.steps) stays.sees rest.own;
+        answers = rest.answers ∙ sym nothing;
+      }
+
+  -- a step of its own
+  module _ (again : (t' : Transaction) → map.get next.txs tx ≡ Some t' → next.root ≡ root → HasOwnSteps (basis_by bits_of root opens tx) t' (view_in t' next.commons) tx es tolds)
+      (answer : Answer) (d : HasStepped bits_of (counted m) next tx answer) where
+    tells : TellsOfTransaction (basis_by bits_of root m.opens tx) t d.steps.changes.after m.commons next.commons answer
+    tells =
+        let c = d.steps.changes in
+        let same : c.before ≡ t = one_there m.txs tx c.before t c.was there in
+        let number = (h.sound.fits tx t there).number in
+        subst (λ (r : Root P). TellsOfTransaction (basis_by bits_of r m.opens tx) t c.after m.commons next.commons answer) same_root
+        (subst (λ (n : ℕ). TellsOfTransaction (basis_by bits_of m.root m.opens n) t c.after m.commons next.commons answer) number
+        (subst (λ (x : Transaction). TellsOfTransaction (basis_by bits_of m.root m.opens x.subtx.tx) x c.after m.commons next.commons answer) same d.steps.tells))
+
+    root_still : next.root ≡ root
+    root_still = ap (λ (n : ManagerFields P). n.root) d.rest ∙ same_root
+
+    own_step : HasOwnSteps (basis_by bits_of root opens tx) t (view_in t m.commons) tx (event.Step tx ∷ es) (told.Answered answer ∷ tolds)
+    own_step =
+        let here = cond-true (nat_eq tx tx) (up_to_end answer (answers_to tx es tolds)) (answers_to tx es tolds) (eq-eqb tx tx refl) in
+        elim (is_last answer) [
+          | inl last ↦ record {
+            steps = record { opens = m.opens; old = m.commons; new = next.commons; after = d.steps.changes.after; told = answer } ∷ [];
+            own = (refl, tells, tt);
+            answers = ap (λ (a : Answer). with_answer a []) last ∙ sym (here ∙ ap (λ (a : Answer). up_to_end a (answers_to tx es tolds)) last);
+          }
+          | inr (stays, first) ↦
+              let after_there : map.get next.txs tx ≡ Some d.steps.changes.after =
+              ap (λ (n : ManagerFields P). map.get n.txs tx) d.rest ∙ ap (λ (x : Table). map.get x tx) (stays d.txs tx ∙ d.steps.changes.is) ∙ inserted_here m.txs tx d.steps.changes.after in
+              let rest = again d.steps.changes.after after_there root_still in
+              record {
+                steps = record { opens = m.opens; old = m.commons; new = next.commons; after = d.steps.changes.after; told = answer } ∷ rest.steps;
+                own = (refl, tells, rest.own);
+                answers = ap (with_answer answer) rest.answers ∙ sym (here ∙ first (answers_to tx es tolds));
+              }
+        ]
+
+module _ {P : Type 0} (bits_of : P → ℕ → ℕ) (root : Root P) (opens : set.FinSet nat_cmp) (tx : ℕ) where
+  not_told : (t0 : Told) (more : List Answer) (i : ℕ) → tx ≢ i → with_told tx (event.Step i) t0 more ≡ more
+  not_told (told.Answered answer) more i differ = cond-false (nat_eq tx i) (up_to_end answer more) more (ne_eqb tx i differ)
+  not_told other more i differ = refl
+
+  by_told : (m next : ManagerFields P) (h : IsManager bits_of m) (t : Transaction) (there : map.get m.txs tx ≡ Some t) → m.root ≡ root → (es : List Event) (tolds : List Told)
+      → ((t' : Transaction) → map.get next.txs tx ≡ Some t' → next.root ≡ root → HasOwnSteps (basis_by bits_of root opens tx) t' (view_in t' next.commons) tx es tolds)
+      → (t0 : Told) → Meets bits_of (event.Step tx) t0 (counted m) next
+      → HasOwnSteps (basis_by bits_of root opens tx) t (view_in t m.commons) tx (event.Step tx ∷ es) (t0 ∷ tolds)
+  by_told m next h t there same es tolds again (told.Answered answer) a = own_step bits_of root opens tx m next h t there same es tolds again answer a.0
+  by_told m next h t there same es tolds again (told.Refused reason) a =
+      left_aside bits_of root opens tx m next h t there same es tolds again (event.Step tx) (told.Refused reason)
+      (record {
+        there = ap (λ (n : ManagerFields P). map.get n.txs tx) a.1 ∙ there;
+        sees = ap (λ (n : ManagerFields P). view_in t n.commons) a.1;
+        root = ap (λ (n : ManagerFields P). n.root) a.1;
+      }) refl
+  by_told m next h t there same es tolds again other none = absurd none
+
+  -- the event of a number
+  one_event : (m next : ManagerFields P) (h : IsManager bits_of m) (t : Transaction) (there : map.get m.txs tx ≡ Some t) → m.root ≡ root → (es : List Event) (tolds : List Told)
+      → ((t' : Transaction) → map.get next.txs tx ≡ Some t' → next.root ≡ root → HasOwnSteps (basis_by bits_of root opens tx) t' (view_in t' next.commons) tx es tolds)
+      → (e : Event) (t0 : Told) → IsStepOrAnothers tx e → Meets bits_of e t0 (counted m) next
+      → HasOwnSteps (basis_by bits_of root opens tx) t (view_in t m.commons) tx (e ∷ es) (t0 ∷ tolds)
+  one_event m next h t there same es tolds again event.Begin t0 ne a =
+      left_aside bits_of root opens tx m next h t there same es tolds again event.Begin t0 (of_begin bits_of tx t (counted m) next (counted_keeps bits_of m h) there t0 a) refl
+  one_event m next h t there same es tolds again (event.Call i op) t0 ne a =
+      left_aside bits_of root opens tx m next h t there same es tolds again (event.Call i op) t0 (of_call bits_of i tx t ne (counted m) next (counted_keeps bits_of m h) there op t0 a) refl
+  one_event m next h t there same es tolds again (event.Cancel i) t0 ne a =
+      left_aside bits_of root opens tx m next h t there same es tolds again (event.Cancel i) t0 (of_cancel bits_of i tx t ne (counted m) next (counted_keeps bits_of m h) there t0 a) refl
+  one_event m next h t there same es tolds again (event.Commit i) t0 ne a =
+      left_aside bits_of root opens tx m next h t there same es tolds again (event.Commit i) t0 (of_commit bits_of i tx t ne (counted m) next (counted_keeps bits_of m h) there t0 a) refl
+  one_event m next h t there same es tolds again (event.Abort i) t0 ne a =
+      left_aside bits_of root opens tx m next h t there same es tolds again (event.Abort i) t0 (of_abort bits_of i tx t ne (counted m) next (counted_keeps bits_of m h) there t0 a) refl
+  one_event m next h t there same es tolds again (event.Whole i op) t0 ne a =
+      left_aside bits_of root opens tx m next h t there same es tolds again (event.Whole i op) t0 (of_whole bits_of i tx t ne (counted m) next (counted_keeps bits_of m h) there op t0 a) refl
+  one_event m next h t there same es tolds again (event.WholeUndo i) t0 ne a =
+      left_aside bits_of root opens tx m next h t there same es tolds again (event.WholeUndo i) t0 (of_whole_undo bits_of i tx t ne (counted m) next (counted_keeps bits_of m h) there t0 a) refl
+  one_event m next h t there same es tolds again (event.Step i) t0 ne a = elim (cases_eq tx i) [
+    | inr differ ↦
+        left_aside bits_of root opens tx m next h t there same es tolds again (event.Step i) t0 (of_step bits_of i tx t differ (counted m) next (counted_keeps bits_of m h) there t0 a) (not_told t0 (answers_to tx es tolds) i differ)
+    | inl own ↦
+        subst (λ (k : ℕ). HasOwnSteps (basis_by bits_of root opens tx) t (view_in t m.commons) tx (event.Step k ∷ es) (t0 ∷ tolds)) own
+        (by_told m next h t there same es tolds again t0 (subst (λ (k : ℕ). Meets bits_of (event.Step k) t0 (counted m) next) (sym own) a))
+  ]
+
+  -- **The steps of a transaction in a run are steps of its own.**
+  pub run_steps : (events : List Event) (tolds : List Told) (m m' : ManagerFields P) (t : Transaction) → IsManager bits_of m → map.get m.txs tx ≡ Some t → m.root ≡ root → OnlySteps tx events → IsRun bits_of m events tolds m'
+      → HasOwnSteps (basis_by bits_of root opens tx) t (view_in t m.commons) tx events tolds
+  run_steps [] [] m m' t h there same only run = record { steps = []; own = tt; answers = refl }
+  run_steps [] (t0 ∷ tolds) m m' t h there same only none = absurd none
+  run_steps (e ∷ es) [] m m' t h there same only none = absurd none
+  run_steps (e ∷ es) (t0 ∷ tolds) m m' t h there same only (next, meets, rest) =
+      one_event m next h t there same es tolds
+      (λ t' there' same'. run_steps es tolds next m' t' (meets_keeps bits_of (counted m) next (counted_keeps bits_of m h) e t0 meets) there' same' only.1 rest)
+      e t0 only.0 meets
+
+-- **From a call on.**
+pub from_call : {P : Type 0} (bits_of : P → ℕ → ℕ) (tx : ℕ) (op : ObjOp) (events : List Event) (tolds : List Told) (m called new : ManagerFields P) → IsManager bits_of m
+    → Meets bits_of (event.Call tx op) told.Called (counted m) called → OnlySteps tx events → IsRun bits_of called events tolds new → TakesPassInRun bits_of called tx op events tolds
+from_call bits_of tx op events tolds m called new h call only run =
+    let t = call.calls.changes.after in
+    let there : map.get called.txs tx ≡ Some t = ap (λ (x : Table). map.get x tx) call.calls.changes.is ∙ inserted_here m.txs tx t in
+    let h' = meets_keeps bits_of (counted m) called (counted_keeps bits_of m h) (event.Call tx op) told.Called call in
+    let has = run_steps bits_of called.root called.opens tx events tolds called new t h' there refl only run in
+    record {
+      t = t;
+      there = there;
+      takes = (has, first_pass (basis_by bits_of called.root called.opens tx) op t (view_in t called.commons) has.steps call.calls.tells.pending has.own);
+    }
+
+-- **From the abort on.**
+pub from_abort : {P : Type 0} (bits_of : P → ℕ → ℕ) (tx : ℕ) (events : List Event) (tolds : List Told) (m new : ManagerFields P) (t : Transaction) (last : ObjOp × ObjReply) → IsManager bits_of m
+    → map.get m.txs tx ≡ Some t → IsToTakeBack t last → OnlySteps tx events → IsRun bits_of m events tolds new
+    → TakesOwnSteps (basis_by bits_of m.root m.opens tx) t (view_in t m.commons) tx events tolds (TakesBackInFour last)
+from_abort bits_of tx events tolds m new t last h there to only run =
+    let has = run_steps bits_of m.root m.opens tx events tolds m new t h there refl only run in
+    (has, taken_back (basis_by bits_of m.root m.opens tx) t last (view_in t m.commons) has.steps to has.own)

@@ -1,0 +1,121 @@
+-- What an event of one transaction leaves another: all that it sees, and what it is
+use Rattle.std.proofs.Common.{◌≡◌, ◌≢◌, ℕ, Option, None, Some, unwrap_or, refl, sym, ap, subst, ◌∙◌}
+use Rattle.std.specs.FinMap as map
+use Rattle.mlt_page_locks.specs.Requests.{released}
+use Rattle.mlt_subtx.specs.Images.{Images, Running}
+use Rattle.mlt_held.specs.declared.locked_store.LockedStore.{LockedStore}
+use Rattle.mlt_held.specs.Moments.{moment}
+use Rattle.mlt_held.specs.Views.{view_of}
+use Rattle.mlt_subtx_laws.specs.Running.{AllRunning, KeepsRunning, after_end, moment_of}
+use Rattle.mlt_subtx_laws.proofs.AllEvents.{end_keeps}
+use Rattle.mlt_hash.specs.Walks.{basis_by}
+use Rattle.mlt_operation.specs.Operating.{OperationFields}
+use Rattle.mlt_meeting.specs.Worlds.{basis_of}
+use Rattle.mlt_event.specs.declared.answer.Answer.{Answer}
+use Rattle.mlt_event.specs.declared.answer.Answer.TheVariants as answer
+use Rattle.mlt_transaction.specs.declared.commons.Commons.{Commons}
+use Rattle.mlt_transaction.specs.declared.transaction.At.{At}
+use Rattle.mlt_transaction.specs.declared.transaction.At.TheVariants as at
+use Rattle.mlt_transaction.specs.declared.transaction.Transaction.{Transaction}
+use Rattle.mlt_transaction.specs.Endings.{EndsSubtx}
+use Rattle.mlt_transaction.specs.Steps.{EndsBack}
+use Rattle.mlt_transaction.specs.Transactions.{StepsBack, StepsPending, TellsAt}
+use Rattle.mlt_open.specs.Tables.{Table}
+use Rattle.mlt_invariant.specs.Events.{KeepsCleanPages, with_transaction}
+use Rattle.mlt_invariant.specs.States.{State, all_of, images_kept, world_of}
+use Rattle.mlt_invariant.proofs.Inverting.{inverse_sound}
+use Rattle.mlt_invariant.proofs.MaySteps.{is_open_now, same_moment}
+use Rattle.mlt_invariant.proofs.Pending.{not_done_sound}
+use Rattle.mlt_invariant.proofs.Tables.{inserted_elsewhere, removed_elsewhere}
+use Rattle.mlt_counts.specs.OwnSteps.{view_in}
+use Rattle.mlt_manager.specs.Answers.{HasStepped, txs_after}
+use Rattle.mlt_manager.specs.Managers.{IsManager, ManagerFields, state_of}
+
+-- a transaction is still what it was, and sees what it saw
+pub record StaysAs {P : Type 0} (m m' : ManagerFields P) (u : ℕ) (t : Transaction) : Type 0 where
+  pub there : map.get m'.txs u ≡ Some t
+  pub sees : view_in t m'.commons ≡ view_in t m.commons
+  pub root : m'.root ≡ m.root
+
+module _ {P : Type 0} (bits_of : P → ℕ → ℕ) (m : ManagerFields P) (h : IsManager bits_of m) (i u : ℕ) (t : Transaction) (ne : u ≢ i) (there : map.get m.txs u ≡ Some t) where
+  abbrev now : State
+  now = state_of bits_of m h.images h.base
+
+  sees : (all : AllRunning) → KeepsRunning i (all_of (state_of bits_of m h.images h.base)) all → (commons : Commons) → all.locks ≡ commons.pages.locks → all.store ≡ commons.pages.store → view_in t commons ≡ view_in t m.commons
+  sees all keeps commons locks store =
+      let number = (h.sound.fits u t there).number in
+      let images = keeps.images u ne ∙ h.sound.kept u ∙ ap images_kept there in
+      let is : moment_of all u ≡ moment t.subtx commons.pages = (λ p. record {
+        running = record { tx = sym number p; images = ap (λ (o : Option Images). unwrap_or o map.empty) images p };
+        locks = locks p;
+        store = store p;
+      }) in
+      sym (ap view_of is) ∙ keeps.views u ne ∙ ap view_of (same_moment (state_of bits_of m h.images h.base) u t h.sound there)
+
+  pub clean_sees : (before after : Transaction) (commons : Commons) → KeepsCleanPages (state_of bits_of m h.images h.base) i before after commons → view_in t commons ≡ view_in t m.commons
+  clean_sees before after commons (images, keeps) = sees (all_of (with_transaction (state_of bits_of m h.images h.base) i after commons images)) keeps.runs commons refl refl
+
+  pub same_sees : (commons : Commons) → commons.pages ≡ m.commons.pages → view_in t commons ≡ view_in t m.commons
+  same_sees commons same = ap (λ (p : LockedStore). view_of (moment t.subtx p)) same
+
+  module _ (before : Transaction) (was : map.get m.txs i ≡ Some before) where
+    end_sees : (running : Running) (commons : Commons) → EndsSubtx before.subtx running m.commons commons → view_in t commons ≡ view_in t m.commons
+    end_sees running commons ends =
+        let all = all_of (state_of bits_of m h.images h.base) in
+        sees (after_end all i) (end_keeps all i h.sound.running (is_open_now (state_of bits_of m h.images h.base) i before h.sound was)) commons
+        (ap (released m.commons.pages.locks) (sym (h.sound.fits i before was).number) ∙ sym ends.locks) (sym ends.store)
+
+    by_pending : (o : OperationFields) (after : Transaction) (commons : Commons) (told : Answer) → before.at ≡ at.Pending o
+        → StepsPending (basis_of (world_of (state_of bits_of m h.images h.base)) i) o before after m.commons commons told → view_in t commons ≡ view_in t m.commons
+    by_pending o after commons answer.Going is s = clean_sees before after commons (not_done_sound (state_of bits_of m h.images h.base) i o before after commons answer.Going h.sound was is s (λ reply e. cc))
+    by_pending o after commons (answer.Waiting page by) is s = clean_sees before after commons (not_done_sound (state_of bits_of m h.images h.base) i o before after commons (answer.Waiting page by) h.sound was is s (λ reply e. cc))
+    by_pending o after commons (answer.Refused reason) is s = clean_sees before after commons (not_done_sound (state_of bits_of m h.images h.base) i o before after commons (answer.Refused reason) h.sound was is s (λ reply e. cc))
+    by_pending o after commons (answer.Blocked by) is s = clean_sees before after commons (not_done_sound (state_of bits_of m h.images h.base) i o before after commons (answer.Blocked by) h.sound was is s (λ reply e. cc))
+    by_pending o after commons (answer.Done reply) is s = ap (λ (c : Commons). view_in t c) s.leaves ∙ end_sees after.subtx s.between s.tells.tells.1.ends
+    by_pending o after commons answer.Undone is s = absurd s.tells
+    by_pending o after commons answer.Aborted is s = absurd s.tells
+
+    between_sees : (inverting next : Option OperationFields) (after : Transaction) (commons : Commons) (told : Answer) (e : EndsBack inverting next before.subtx after.subtx before.undo after.undo m.commons commons told)
+        → view_in t e.between ≡ view_in t m.commons
+    between_sees None next after commons told e = ap (λ (c : Commons). view_in t c) (e.at_once refl).0
+    between_sees (Some o) next after commons told e = end_sees after.subtx e.between (e.at_end o refl).1
+
+    by_undoing : (inverting : Option OperationFields) (after : Transaction) (commons : Commons) (told : Answer) → before.at ≡ at.Undoing inverting
+        → StepsBack (basis_of (world_of (state_of bits_of m h.images h.base)) i) inverting before after m.commons commons told → view_in t commons ≡ view_in t m.commons
+    by_undoing inverting after commons answer.Going is s = clean_sees before after commons (inverse_sound (state_of bits_of m h.images h.base) i inverting before after commons answer.Going h.sound was is s (λ e. cc) (λ e. cc))
+    by_undoing inverting after commons (answer.Waiting page by) is s = clean_sees before after commons (inverse_sound (state_of bits_of m h.images h.base) i inverting before after commons (answer.Waiting page by) h.sound was is s (λ e. cc) (λ e. cc))
+    by_undoing inverting after commons answer.Undone is s =
+        ap (λ (p : LockedStore). view_of (moment t.subtx p)) s.tells.takes.off.pages ∙ between_sees inverting s.next after commons answer.Undone s.tells
+    by_undoing inverting after commons answer.Aborted is s =
+        ap (λ (p : LockedStore). view_of (moment t.subtx p)) s.tells.takes.off.pages ∙ between_sees inverting s.next after commons answer.Aborted s.tells
+    by_undoing inverting after commons (answer.Blocked by) is s = absurd s.tells
+    by_undoing inverting after commons (answer.Done reply) is s = absurd s.tells
+    by_undoing inverting after commons (answer.Refused reason) is s = absurd s.tells
+
+    by_at : (a : At) (after : Transaction) (commons : Commons) (told : Answer) → before.at ≡ a
+        → TellsAt a (basis_of (world_of (state_of bits_of m h.images h.base)) i) before after m.commons commons told → view_in t commons ≡ view_in t m.commons
+    by_at at.Idle after commons told is none = absurd none
+    by_at (at.Pending o) after commons told is s = by_pending o after commons told is s
+    by_at (at.Undoing inverting) after commons told is s = by_undoing inverting after commons told is s
+
+  changed_there : (txs : Table) (after : Transaction) → txs ≡ map.insert m.txs i after → map.get txs u ≡ Some t
+  changed_there txs after is = ap (λ (x : Table). map.get x u) is ∙ inserted_elsewhere m.txs i after u ne ∙ there
+
+  pub changed_stays : (txs : Table) (after : Transaction) → txs ≡ map.insert m.txs i after → map.get txs u ≡ Some t
+  changed_stays txs after is = changed_there txs after is
+
+  table_after : (told : Answer) (txs : Table) (after : Transaction) → txs ≡ map.insert m.txs i after → map.get (txs_after told i txs) u ≡ Some t
+  table_after answer.Aborted txs after is = removed_elsewhere txs i u ne ∙ changed_there txs after is
+  table_after other txs after is = changed_there txs after is
+
+  -- **A step of another.**
+  pub step_leaves : (m' : ManagerFields P) (told : Answer) → HasStepped bits_of m m' i told → StaysAs m m' u t
+  step_leaves m' told d =
+      let c = d.steps.changes in
+      let number = (h.sound.fits i c.before c.was).number in
+      record {
+        there = ap (λ (n : ManagerFields P). map.get n.txs u) d.rest ∙ table_after told d.txs c.after c.is;
+        sees = by_at c.before c.was c.before.at c.after m'.commons told refl
+            (subst (λ (n : ℕ). TellsAt c.before.at (basis_by bits_of m.root m.opens n) c.before c.after m.commons m'.commons told) number d.steps.tells);
+        root = ap (λ (n : ManagerFields P). n.root) d.rest;
+      }

@@ -1,0 +1,69 @@
+//! Laws of the runs of a manager: between two steps of a transaction there may be any events of others.
+
+ghost use Rattle.std.specs.Prelude.{ℕ, ◌≡◌, ◌++◌, List, Some};
+ghost use Rattle.std.specs.FinMap as map;
+ghost use Rattle.mlt_types.specs.declared.limits.Limits.{Limits};
+ghost use Rattle.mlt_kinds.specs.declared.operation.ObjOp.{ObjOp};
+ghost use Rattle.mlt_kinds.specs.declared.operation.ObjReply.{ObjReply};
+ghost use Rattle.mlt_hash.specs.Walks.{basis_by};
+ghost use Rattle.mlt_event.specs.declared.event.Event.{Event};
+ghost use Rattle.mlt_event.specs.declared.event.Event.TheVariants as event;
+ghost use Rattle.mlt_event.specs.declared.told.Told.{Told};
+ghost use Rattle.mlt_event.specs.declared.told.Told.TheVariants as told;
+ghost use Rattle.mlt_transaction.specs.declared.transaction.Transaction.{Transaction};
+ghost use Rattle.mlt_counts.specs.Counts.{IsToTakeBack, TakesBackInFour, TakesFirstPass};
+ghost use Rattle.mlt_counts.specs.OwnSteps.{view_in};
+ghost use Rattle.mlt_manager.specs.Answers.{counted};
+ghost use Rattle.mlt_manager.specs.Events.{IsRun, Meets};
+ghost use Rattle.mlt_manager.specs.Managers.{ManagerFields};
+ghost use Rattle.mlt_manager.specs.Openings.{IsNew};
+ghost use Rattle.mlt_manager.specs.Promises.{KeepsPromises};
+ghost use Rattle.mlt_manager_laws.specs.Runs.{HasOwnSteps, IsCutBehind, IsReached, OnlySteps, TakesOwnSteps, TakesPassInRun};
+
+use mlt_hash_form::form_is_extendible_hashing;
+use mlt_types::Pseudo;
+
+/// Each manager to which a run leads from a new one keeps its promises. So does each between two events of a run, for the
+/// events before it are a run too.
+pub fn managers_of_a_run_keep_their_promises<P: Pseudo>()
+    ensures reached { (m : ManagerFields P) → IsReached P.bits_of m → KeepsPromises P.bits_of m }
+    ensures between { (opening new : ManagerFields P) (limits : Limits) (pseudo : P)
+        (before later : List Event) (tolds : List Told)
+        → IsNew opening limits pseudo → IsRun P.bits_of opening (before ++ later) tolds new
+        → IsCutBehind P.bits_of opening new before later tolds }
+{
+    form_is_extendible_hashing();
+}
+
+/// The steps that a transaction takes in a run of a manager, where nothing else is asked of it, are steps of its own:
+/// whatever others do between two of them leaves what it sees.
+pub fn steps_of_a_run_are_own_steps<P: Pseudo>()
+    ensures { (old new : ManagerFields P) (events : List Event) (tolds : List Told)
+        (tx : ℕ) (t : Transaction)
+        → IsReached P.bits_of old → map.get old.txs tx ≡ Some t
+        → OnlySteps tx events → IsRun P.bits_of old events tolds new
+        → HasOwnSteps (basis_by P.bits_of old.root old.opens tx) t (view_in t old.commons)
+        tx events tolds }
+{}
+
+/// From a call on an operation is told Done or Blocked at its fourth step, and Going at the three before it; but for an
+/// addition that finds no room. That one is told Going at its third step too; and then comes a narrow pass or a wide one.
+pub fn operations_of_a_run_take_few_steps<P: Pseudo>()
+    ensures { (old called new : ManagerFields P) (events : List Event) (tolds : List Told)
+        (tx : ℕ) (op : ObjOp)
+        → IsReached P.bits_of old
+        → Meets P.bits_of (event.Call tx op) told.Called (counted old) called
+        → OnlySteps tx events → IsRun P.bits_of called events tolds new
+        → TakesPassInRun P.bits_of called tx op events tolds }
+{}
+
+/// The last operation of a transaction whose abort has begun is taken back at the fourth step, told Going at the three
+/// before it; and at the first step, where it has no inverse.
+pub fn aborts_of_a_run_take_few_steps<P: Pseudo>()
+    ensures { (old new : ManagerFields P) (events : List Event) (tolds : List Told)
+        (tx : ℕ) (t : Transaction) (last : ObjOp × ObjReply)
+        → IsReached P.bits_of old → map.get old.txs tx ≡ Some t → IsToTakeBack t last
+        → OnlySteps tx events → IsRun P.bits_of old events tolds new
+        → TakesOwnSteps (basis_by P.bits_of old.root old.opens tx) t (view_in t old.commons)
+        tx events tolds (TakesBackInFour last) }
+{}
