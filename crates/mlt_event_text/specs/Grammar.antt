@@ -56,7 +56,10 @@ IsFirstFault text line fault = IsFirstFaultOf (lines text) line fault
 
 -- Every text is events or has a first fault, and none is both; nor is it two lists of events, nor are there two first faults.
 pub record IsDecided (text : List ℕ) : Type 0 where
-  pub either : ((events : List Event) × Spells text events) ⊎ ((line : ℕ) × (fault : ScriptCause) × IsFirstFault text line fault)
-  pub not_both : (events : List Event) (line : ℕ) (fault : ScriptCause) → Spells text events → IsFirstFault text line fault → ⊥
+  pub either : ((events : List Event) × Spells text events)
+      ⊎ ((line : ℕ) × (fault : ScriptCause) × IsFirstFault text line fault)
+  pub not_both : (events : List Event) (line : ℕ) (fault : ScriptCause) → Spells text events
+      → IsFirstFault text line fault → ⊥
   pub one_list : (events others : List Event) → Spells text events → Spells text others → events ≡ others
-  pub one_fault : (line other : ℕ) (fault another : ScriptCause) → IsFirstFault text line fault → IsFirstFault text other another → (line ≡ other) × (fault ≡ another)
+  pub one_fault : (line other : ℕ) (fault another : ScriptCause) → IsFirstFault text line fault
+      → IsFirstFault text other another → (line ≡ other) × (fault ≡ another)

@@ -57,7 +57,10 @@ pub record SeesBucket (walk : WalkFields) (view : View) (fields : BucketFields) 
 
 -- the transaction's own ghost of the key stands in the bucket
 abbrev pub HasOwnGhost : ℕ → WalkFields → View → Type 0
-HasOwnGhost tx walk view = (fields : BucketFields) × (i : ℕ) × SeesBucket walk view fields × (position (is_ghost_of walk.key tx) fields.slots ≡ Some i)
+HasOwnGhost tx walk view =
+    (fields : BucketFields) × (i : ℕ)
+    × SeesBucket walk view fields
+    × (position (is_ghost_of walk.key tx) fields.slots ≡ Some i)
 
 -- What a change asks: the walk may go on, and has its bucket exclusively.
 pub record MayChange (basis : Basis) (m : Moment) (walk : WalkFields) : Type 0 where
@@ -129,7 +132,9 @@ directory_depth_of other = 0
 
 -- this pass is the one that splits the bucket
 abbrev pub IsNext : Basis → WalkFields → BucketFields → Pass → Type 0
-IsNext basis walk fields next = IsNextPass (crowded_at basis walk fields) fields.depth basis.max_depth (directory_depth_of walk.phase) next
+IsNext basis walk fields next =
+    IsNextPass (crowded_at basis walk fields) fields.depth basis.max_depth
+    (directory_depth_of walk.phase) next
 
 -- A split is needed: in a first pass this says which one follows, and a later pass is to go on, and may.
 pub record NeedsSplit (basis : Basis) (new : Moment) (before after : WalkFields) (value : ℕ) : Type 0 where
@@ -138,7 +143,9 @@ pub record NeedsSplit (basis : Basis) (new : Moment) (before after : WalkFields)
   pub same : IsSameWalk before after
   pub stands : IsStanding basis after (view_of new)
   pub first : before.pass ≡ pass.First → (next : Pass) × (after.phase ≡ at.Full next) × IsNext basis before fields next
-  pub later : (before.pass ≡ pass.First → ⊥) → (d : ℕ) × (after.phase ≡ at.Adding value (page_of before.phase) d true) × HasRoomFrom (crowded_at basis before fields) fields.depth basis.max_depth d
+  pub later : (before.pass ≡ pass.First → ⊥) → (d : ℕ)
+      × (after.phase ≡ at.Adding value (page_of before.phase) d true)
+      × HasRoomFrom (crowded_at basis before fields) fields.depth basis.max_depth d
   pub narrow : before.pass ≡ pass.Narrow → IsNext basis before fields pass.Narrow
 
 -- A narrow pass has to be wide.
@@ -163,7 +170,9 @@ pub record HasNoRoom (basis : Basis) (new : Moment) (before after : WalkFields) 
 
 -- A record of this value is added: in the place of the transaction's own ghost, or in a slot with room.
 abbrev pub TellsOfAddition : Basis → Moment → WalkFields → WalkFields → ℕ → WalkAnswer → Type 0
-TellsOfAddition basis new before after value answer.Changed = Makes basis new before after (change.Revive value) ⊎ Makes basis new before after (change.Put value)
+TellsOfAddition basis new before after value answer.Changed =
+    Makes basis new before after (change.Revive value)
+    ⊎ Makes basis new before after (change.Put value)
 TellsOfAddition basis new before after value answer.NeedSplit = NeedsSplit basis new before after value
 TellsOfAddition basis new before after value answer.Widen = MustWiden basis new before after
 TellsOfAddition basis new before after value (answer.Refused refusal.NoRoom) = HasNoRoom basis new before after

@@ -33,7 +33,10 @@ pub record StandsOn (basis : Basis) (new : Moment) (before after : WalkFields) :
 
 -- the walk has to split its bucket: it has not yet, or there is still no room
 abbrev pub HasToSplit : Basis → Moment → WalkFields → ℕ → ℕ → ℕ → Type 0
-HasToSplit basis old before value n room_depth = (before.phase ≡ at.Adding value n room_depth true) ⊎ ((bucket : BucketFields) × (held_page (view_of old) n ≡ Some (page.Bucket bucket)) × (list_all (is_kept basis.opens) bucket.slots ≡ true))
+HasToSplit basis old before value n room_depth =
+    (before.phase ≡ at.Adding value n room_depth true)
+    ⊎ ((bucket : BucketFields) × (held_page (view_of old) n ≡ Some (page.Bucket bucket))
+    × (list_all (is_kept basis.opens) bucket.slots ≡ true))
 
 -- this is so of the walk's split
 abbrev pub OfSplit : WalkFields → (SplitFields → Type 0) → Type 0
@@ -41,7 +44,8 @@ OfSplit walk Is = (split : SplitFields) × (walk.split ≡ Some split) × Is spl
 
 -- A split of the bucket on page n begins: with the new bucket made, it takes so many steps more as the depths of the bucket and of
 -- the directory say.
-pub record BeginsSplit (basis : Basis) (old new : Moment) (before after : WalkFields) (value n room_depth : ℕ) : Type 0 where
+pub record BeginsSplit (basis : Basis) (old new : Moment) (before after : WalkFields)
+    (value n room_depth : ℕ) : Type 0 where
   pub needed : HasToSplit basis old before value n room_depth
   pub on : StandsOn basis new before after
   pub phase : after.phase ≡ at.Splitting value room_depth
@@ -81,36 +85,60 @@ pub record SplitCloses (basis : Basis) (new : Moment) (before after : WalkFields
 
 -- the bucket is written with the record put, or memory was refused and nothing has changed
 abbrev pub TellsOfPut : Moment → Moment → WalkFields → WalkFields → WriteFields → ℕ → WalkAnswer → Type 0
-TellsOfPut old new before after write value answer.Changed = WritesHeldSlot old new write.number write.at write.slot × (after ≡ record before { phase = at.Changed write.number (change.Put value) })
-TellsOfPut old new before after write value (answer.Refused reason) = (reason ≡ refusal.OutOfMemory) × (new ≡ old) × (after ≡ before)
+TellsOfPut old new before after write value answer.Changed =
+    WritesHeldSlot old new write.number write.at write.slot
+    × (after ≡ record before { phase = at.Changed write.number (change.Put value) })
+TellsOfPut old new before after write value (answer.Refused reason) =
+    (reason ≡ refusal.OutOfMemory) × (new ≡ old) × (after ≡ before)
 TellsOfPut old new before after write value other = ⊥
 
 -- a step of a walk whose bucket had no room: it puts the record where there is room now, into the lowest slot, but splits once
 -- at least
 abbrev pub TellsOfAdding : Basis → Moment → Moment → WalkFields → WalkFields → ℕ → ℕ → ℕ → WalkAnswer → Type 0
-TellsOfAdding basis old new before after value bucket room_depth answer.Going = BeginsSplit basis old new before after value bucket room_depth
-TellsOfAdding basis old new before after value bucket room_depth answer.Changed = (before.phase ≡ at.Adding value bucket room_depth false) × Makes basis new before after (change.Put value) × WritesAtMost old new bucket × PutsLowest basis (view_of old) (view_of new) before bucket value
-TellsOfAdding basis old new before after value bucket room_depth (answer.Refused refusal.NoRoom) = HasToSplit basis old before value bucket room_depth × (map.len old.store.pages ≡ old.store.max_pages)
+TellsOfAdding basis old new before after value bucket room_depth answer.Going =
+    BeginsSplit basis old new before after value bucket room_depth
+TellsOfAdding basis old new before after value bucket room_depth answer.Changed =
+    (before.phase ≡ at.Adding value bucket room_depth false)
+    × Makes basis new before after (change.Put value)
+    × WritesAtMost old new bucket
+    × PutsLowest basis (view_of old) (view_of new) before bucket value
+TellsOfAdding basis old new before after value bucket room_depth (answer.Refused refusal.NoRoom) =
+    HasToSplit basis old before value bucket room_depth
+    × (map.len old.store.pages ≡ old.store.max_pages)
 TellsOfAdding basis old new before after value bucket room_depth (answer.Refused reason) = reason ≡ refusal.OutOfMemory
 TellsOfAdding basis old new before after value bucket room_depth other = ⊥
 
 -- a step of a walk that splits its bucket tells what the step of the split tells, and which page that one locked or made
 abbrev pub TellsOfSplitting : Basis → Moment → Moment → WalkFields → WalkFields → ℕ → ℕ → WalkAnswer → Type 0
-TellsOfSplitting basis old new before after value room_depth answer.Going = OfSplit before (λ split. IsDone split.phase (aim_of basis before room_depth) old new split) × (SplitGoesOn basis new before after value room_depth ⊎ SplitCloses basis new before after value room_depth)
-TellsOfSplitting basis old new before after value room_depth (answer.Waiting page by) = OfSplit before (λ split. IsNextPage split.phase (aim_of basis before room_depth) (view_of old) page) × IsLowest (conflicts old.locks old.running.tx page Exclusive) by × (new ≡ old) × (after ≡ before)
-TellsOfSplitting basis old new before after value room_depth (answer.Refused refusal.NoRoom) = OfSplit before (λ split. IsMaking split.phase) × (new ≡ old) × (map.len old.store.pages ≡ old.store.max_pages)
-TellsOfSplitting basis old new before after value room_depth (answer.Refused reason) = (reason ≡ refusal.OutOfMemory) × OfSplit before (λ split. IsLeft split.phase (aim_of basis before room_depth) old new)
+TellsOfSplitting basis old new before after value room_depth answer.Going =
+    OfSplit before (λ split. IsDone split.phase (aim_of basis before room_depth) old new split)
+    × (SplitGoesOn basis new before after value room_depth ⊎ SplitCloses basis new before after value room_depth)
+TellsOfSplitting basis old new before after value room_depth (answer.Waiting page by) =
+    OfSplit before (λ split. IsNextPage split.phase (aim_of basis before room_depth) (view_of old) page)
+    × IsLowest (conflicts old.locks old.running.tx page Exclusive) by
+    × (new ≡ old)
+    × (after ≡ before)
+TellsOfSplitting basis old new before after value room_depth (answer.Refused refusal.NoRoom) =
+    OfSplit before (λ split. IsMaking split.phase)
+    × (new ≡ old)
+    × (map.len old.store.pages ≡ old.store.max_pages)
+TellsOfSplitting basis old new before after value room_depth (answer.Refused reason) =
+    (reason ≡ refusal.OutOfMemory)
+    × OfSplit before (λ split. IsLeft split.phase (aim_of basis before room_depth) old new)
 TellsOfSplitting basis old new before after value room_depth other = ⊥
 
 -- what a step tells, by where the walk stood
 abbrev pub TellsAt : Phase → Basis → Moment → Moment → WalkFields → WalkFields → WalkAnswer → Type 0
-TellsAt (at.Adding value bucket room_depth unsplit) basis old new before after told = TellsOfAdding basis old new before after value bucket room_depth told
-TellsAt (at.Splitting value room_depth) basis old new before after told = TellsOfSplitting basis old new before after value room_depth told
+TellsAt (at.Adding value bucket room_depth unsplit) basis old new before after told =
+    TellsOfAdding basis old new before after value bucket room_depth told
+TellsAt (at.Splitting value room_depth) basis old new before after told =
+    TellsOfSplitting basis old new before after value room_depth told
 TellsAt other basis old new before after told = TellsOfPath basis old new before after told
 
 -- the next step makes a page: it begins a split, or makes a page of the one under way
 abbrev pub HasToMake : Phase → Basis → Moment → WalkFields → Type 0
-HasToMake (at.Adding value bucket room_depth unsplit) basis old before = HasToSplit basis old before value bucket room_depth
+HasToMake (at.Adding value bucket room_depth unsplit) basis old before =
+    HasToSplit basis old before value bucket room_depth
 HasToMake (at.Splitting value room_depth) basis old before = OfSplit before (λ split. IsMaking split.phase)
 HasToMake other basis old before = ⊥
 

@@ -65,6 +65,10 @@ pub record GoesOn (basis : Basis) (new : Moment) (before after : WalkFields) : T
 -- lowest transaction whose lock stands against its own, and nothing has changed.
 abbrev pub TellsOfPath : Basis → Moment → Moment → WalkFields → WalkFields → WalkAnswer → Type 0
 TellsOfPath basis old new before after answer.Going = GoesOn basis new before after × (0 < steps_to_bucket after.phase)
-TellsOfPath basis old new before after (answer.Waiting page by) = (page ≡ next_page basis.root before.phase) × IsLowest (conflicts old.locks old.running.tx page (next_mode before before.phase)) by × (new ≡ old) × (after ≡ before)
+TellsOfPath basis old new before after (answer.Waiting page by) =
+    (page ≡ next_page basis.root before.phase)
+    × IsLowest (conflicts old.locks old.running.tx page (next_mode before before.phase)) by
+    × (new ≡ old)
+    × (after ≡ before)
 TellsOfPath basis old new before after (answer.Found value) = GoesOn basis new before after × HasFound after.phase value
 TellsOfPath basis old new before after other = ⊥

@@ -49,7 +49,13 @@ pub record Basis : Type 0 where
 
 -- what a walk of transaction tx goes by that has this root, with these transactions open
 abbrev pub basis_by : {P : Type 0} → (P → ℕ → ℕ) → Root P → set.FinSet nat_cmp → ℕ → Basis
-basis_by bits_of root opens tx = record { bits = bits_of root.pseudo; opens = opens; root = root.page; max_depth = root.max_depth; tx = tx }
+basis_by bits_of root opens tx = record {
+  bits = bits_of root.pseudo;
+  opens = opens;
+  root = root.page;
+  max_depth = root.max_depth;
+  tx = tx;
+}
 
 -- the key's directory page, by the header, and its entry there
 abbrev pub dir_of : Basis → HeadFields → ℕ → ℕ
@@ -92,7 +98,8 @@ pub record IsPlaced (basis : Basis) (walk : WalkFields) (view : View) (bucket de
   pub shallow : header.depth ≤ basis.max_depth
 
 -- so is the bucket that the key leads to, and what it has of the key is known
-pub record IsAtBucket (basis : Basis) (walk : WalkFields) (view : View) (bucket depth : ℕ) (found : Option ℕ) : Type 0 where
+pub record IsAtBucket (basis : Basis) (walk : WalkFields) (view : View) (bucket depth : ℕ)
+    (found : Option ℕ) : Type 0 where
   pub unwritten : IsUnwritten view
   pub header : HeadFields
   pub held : view.modes ≡ bucket_held walk.pass walk.mode basis.root (dir_of basis header walk.key) bucket
@@ -139,10 +146,18 @@ pub record StaysNarrow (root : ℕ) (view : View) (room_depth l g : ℕ) : Type 
 
 -- what a walk's splits are for
 abbrev pub aim_of : Basis → WalkFields → ℕ → Aim
-aim_of basis walk room_depth = record { bits = basis.bits; opens = basis.opens; root = basis.root; key = walk.key; owner = basis.tx; room_depth = room_depth }
+aim_of basis walk room_depth = record {
+  bits = basis.bits;
+  opens = basis.opens;
+  root = basis.root;
+  key = walk.key;
+  owner = basis.tx;
+  room_depth = room_depth;
+}
 
 -- The bucket has no room yet, but has it once it is split down to this depth. Nothing was found of the key.
-pub record IsAdding (basis : Basis) (walk : WalkFields) (view : View) (bucket room_depth : ℕ) (unsplit : Bool) : Type 0 where
+pub record IsAdding (basis : Basis) (walk : WalkFields) (view : View) (bucket room_depth : ℕ)
+    (unsplit : Bool) : Type 0 where
   pub header : HeadFields
   pub fields : BucketFields
   pub passed : HasPassed basis walk view None
@@ -168,8 +183,12 @@ pub record IsSplitting (basis : Basis) (walk : WalkFields) (view : View) (room_d
 
 -- what stood in the slot that a change writes
 abbrev pub StoodBefore : Change → Basis → ℕ → List Slot → Slot → Type 0
-StoodBefore (change.Put value) basis key slots slot = (value_in key slots ≡ None) × (position (is_ghost_of key basis.tx) slots ≡ None) × (is_kept basis.opens slot ≡ false)
-StoodBefore (change.Revive value) basis key slots slot = (value_in key slots ≡ None) × (is_ghost_of key basis.tx slot ≡ true)
+StoodBefore (change.Put value) basis key slots slot =
+    (value_in key slots ≡ None)
+    × (position (is_ghost_of key basis.tx) slots ≡ None)
+    × (is_kept basis.opens slot ≡ false)
+StoodBefore (change.Revive value) basis key slots slot =
+    (value_in key slots ≡ None) × (is_ghost_of key basis.tx slot ≡ true)
 StoodBefore (change.Set value) basis key slots slot = is_live_of key slot ≡ true
 StoodBefore change.Remove basis key slots slot = is_live_of key slot ≡ true
 
@@ -196,9 +215,12 @@ pub record IsChanged (basis : Basis) (walk : WalkFields) (view : View) (bucket :
   pub within : slot < 8
   pub fields : BucketFields
   pub held : is_some (view.seen bucket) ≡ true
-  pub home : (clean : ℕ → Option Page) → Agrees view.seen clean → HasForm basis.bits clean basis.root → IsHome basis.bits (over clean rest) basis.root walk.key bucket fields
+  pub home : (clean : ℕ → Option Page) → Agrees view.seen clean
+      → HasForm basis.bits clean basis.root
+      → IsHome basis.bits (over clean rest) basis.root walk.key bucket fields
   pub was : StoodBefore done basis walk.key fields.slots (slice_index_or fields.slots slot Free)
-  pub changes : ChangesFile basis.bits basis.opens basis.root view.seen rest view.own walk.key (value_after done) bucket slot (slot_after done walk.key basis.tx)
+  pub changes : ChangesFile basis.bits basis.opens basis.root view.seen rest view.own walk.key
+      (value_after done) bucket slot (slot_after done walk.key basis.tx)
 
 abbrev pub Stands : Phase → Basis → WalkFields → View → Type 0
 Stands at.Start basis walk view = IsAtStart view

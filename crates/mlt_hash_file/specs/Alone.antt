@@ -37,7 +37,8 @@ pub record KeepsBefore (old new : Moment) : Type 0 where
 
 -- what a walk goes by where no transaction is open, so that no ghost keeps its room
 abbrev pub basis_of : (ℕ → ℕ) → ℕ → ℕ → Moment → Basis
-basis_of bits root max_depth m = record { bits = bits; opens = set.empty; root = root; max_depth = max_depth; tx = m.running.tx }
+basis_of bits root max_depth m =
+    record { bits = bits; opens = set.empty; root = root; max_depth = max_depth; tx = m.running.tx }
 
 -- the same of a transaction that has this root
 abbrev pub basis_alone : {P : Type 0} → (P → ℕ → ℕ) → Root P → Moment → Basis
@@ -51,4 +52,8 @@ HasNotWaited other = Unit {0}
 -- a moment is stored as the triple of its parts
 abbrev pub coded_moment : Coded Moment
 coded_moment =
-    code_by (Running × (LockTable × PageStore)) (coded× coded_running (coded× coded_table coded_store)) (λ m. (m.running, (m.locks, m.store))) (λ p. record { running = p.0; locks = p.1.0; store = p.1.1 }) (λ _. refl)
+    code_by (Running × (LockTable × PageStore))
+    (coded× coded_running (coded× coded_table coded_store))
+    (λ m. (m.running, (m.locks, m.store)))
+    (λ p. record { running = p.0; locks = p.1.0; store = p.1.1 })
+    (λ _. refl)

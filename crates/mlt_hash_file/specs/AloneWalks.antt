@@ -41,7 +41,8 @@ abbrev pub IsAbsentBefore : {P : Type 0} → (P → ℕ → ℕ) → Root P → 
 IsAbsentBefore bits_of root m key = look_up (bits_of root.pseudo) (pages_before m) root.page key ≡ None
 
 -- another hash file, in which the key has this value, or none, and each other key what it had
-pub record ChangesValue (bits : ℕ → ℕ) (before after : ℕ → Option Page) (root max_depth key : ℕ) (value : Option ℕ) : Type 0 where
+pub record ChangesValue (bits : ℕ → ℕ) (before after : ℕ → Option Page) (root max_depth key : ℕ)
+    (value : Option ℕ) : Type 0 where
   pub file : IsHashFile bits after root max_depth
   pub here : look_up bits after root key ≡ value
   pub others : (k : ℕ) → (k ≡ key → ⊥) → look_up bits after root k ≡ look_up bits before root k
@@ -54,7 +55,9 @@ pub record HasArrived (basis : Basis) (new : Moment) (before after : WalkFields)
 
 -- the change of the walk's key is written
 abbrev pub HasChanged : Basis → Moment → ℕ → Option ℕ → Type 0
-HasChanged basis new key value = ChangesValue basis.bits (pages_before new) (page_at new.store.pages) basis.root basis.max_depth key value
+HasChanged basis new key value =
+    ChangesValue basis.bits (pages_before new) (page_at new.store.pages)
+    basis.root basis.max_depth key value
 
 -- the bucket of the key has no slot with room
 abbrev pub IsFullFor : (ℕ → ℕ) → (ℕ → Option Page) → ℕ → ℕ → Type 0
@@ -82,13 +85,16 @@ pub record NeedsSplits (basis : Basis) (new : Moment) (before after : WalkFields
   pub ever : NeverHasRoomFor basis.bits (pages_before new) basis.max_depth before.key → ⊥
   pub d : ℕ
   pub least : HasRoomAt basis.bits (pages_before new) basis.root basis.max_depth before.key d
-  pub pages : pages_in_the_end basis.root after new ≡ map.len (put_back new.running.images new.store.pages) + pages_for basis.bits (pages_before new) basis.root before.key d
+  pub pages : pages_in_the_end basis.root after new
+      ≡ map.len (put_back new.running.images new.store.pages)
+      + pages_for basis.bits (pages_before new) basis.root before.key d
 
 -- A split is needed: a first pass says which one follows, and a later one may go on.
 pub record NeedsRoom (basis : Basis) (new : Moment) (before after : WalkFields) (value : ℕ) : Type 0 where
   pub full : IsFullFor basis.bits (pages_before new) basis.root before.key
   pub same : IsSameWalk before after
-  pub first : before.pass ≡ pass.First → (after.phase ≡ at.Full (next_of after.phase)) × (next_of after.phase ≡ pass.First → ⊥)
+  pub first : before.pass ≡ pass.First
+      → (after.phase ≡ at.Full (next_of after.phase)) × (next_of after.phase ≡ pass.First → ⊥)
   pub later : (before.pass ≡ pass.First → ⊥) → NeedsSplits basis new before after value
 
 -- A narrow pass has to be wide.
@@ -102,7 +108,10 @@ abbrev pub TellsOfPass : Basis → Moment → WalkFields → WalkFields → ℕ 
 TellsOfPass basis new before after value answer.Changed = HasChanged basis new before.key (Some value)
 TellsOfPass basis new before after value answer.NeedSplit = NeedsRoom basis new before after value
 TellsOfPass basis new before after value answer.Widen = NeedsWidth before after
-TellsOfPass basis new before after value (answer.Refused refusal.NoRoom) = (before.pass ≡ pass.First → ⊥) × IsFullFor basis.bits (pages_before new) basis.root before.key × NeverHasRoomFor basis.bits (pages_before new) basis.max_depth before.key
+TellsOfPass basis new before after value (answer.Refused refusal.NoRoom) =
+    (before.pass ≡ pass.First → ⊥)
+    × IsFullFor basis.bits (pages_before new) basis.root before.key
+    × NeverHasRoomFor basis.bits (pages_before new) basis.max_depth before.key
 TellsOfPass basis new before after value other = ⊥
 
 -- what the splits of a pass tell that lead to this number of pages
@@ -115,13 +124,18 @@ TellsOfSplits basis new key value most other = ⊥
 -- Why an addition is refused. The bucket of the key is full; and no split makes room, or there may not be as many pages as
 -- the splits make that do, or a growth was refused to them.
 abbrev pub RefusesFor : (ℕ → ℕ) → (ℕ → Option Page) → Pages → ℕ → ℕ → ℕ → ℕ → Refusal → Type 0
-RefusesFor bits before pages root max_depth max_pages key refusal.NoRoom = IsFullFor bits before root key × (NeverHasRoomFor bits before max_depth key ⊎ LacksPages bits before pages root max_depth max_pages key)
-RefusesFor bits before pages root max_depth max_pages key refusal.OutOfMemory = IsFullFor bits before root key × (NeverHasRoomFor bits before max_depth key → ⊥)
+RefusesFor bits before pages root max_depth max_pages key refusal.NoRoom =
+    IsFullFor bits before root key
+    × (NeverHasRoomFor bits before max_depth key ⊎ LacksPages bits before pages root max_depth max_pages key)
+RefusesFor bits before pages root max_depth max_pages key refusal.OutOfMemory =
+    IsFullFor bits before root key × (NeverHasRoomFor bits before max_depth key → ⊥)
 RefusesFor bits before pages root max_depth max_pages key other = ⊥
 
 -- the same of an addition under way: the pages as they were before it
 abbrev pub TellsRefusal : Basis → Moment → ℕ → Refusal → Type 0
-TellsRefusal basis new key reason = RefusesFor basis.bits (pages_before new) (put_back new.running.images new.store.pages) basis.root basis.max_depth new.store.max_pages key reason
+TellsRefusal basis new key reason =
+    RefusesFor basis.bits (pages_before new) (put_back new.running.images new.store.pages)
+    basis.root basis.max_depth new.store.max_pages key reason
 
 -- what a later pass tells, with its splits
 abbrev pub TellsOfLater : Basis → Moment → WalkFields → WalkFields → ℕ → WalkAnswer → Type 0

@@ -28,4 +28,15 @@ Refuses bits_of file key refusal =
 -- a hash file is stored as the tuple of its fields
 abbrev pub hash_file_code : {P : Type 0} → Coded P → Coded (HashFileFields P)
 hash_file_code {P = P} pseudo =
-    code_by (Pages × (ℕ × (ℕ × (ℕ × P)))) (coded× (map.code coded_ℕ the_row.coded) (coded× coded_ℕ (coded× coded_ℕ (coded× coded_ℕ pseudo)))) (λ f. (f.pages, (f.root, (f.max_depth, (f.max_pages, f.pseudo))))) (λ p. record { pages = p.0; root = p.1.0; max_depth = p.1.1.0; max_pages = p.1.1.1.0; pseudo = p.1.1.1.1 }) (λ _. refl)
+    code_by (Pages × (ℕ × (ℕ × (ℕ × P))))
+    (coded× (map.code coded_ℕ the_row.coded)
+    (coded× coded_ℕ (coded× coded_ℕ (coded× coded_ℕ pseudo))))
+    (λ f. (f.pages, (f.root, (f.max_depth, (f.max_pages, f.pseudo)))))
+    (λ p. record {
+      pages = p.0;
+      root = p.1.0;
+      max_depth = p.1.1.0;
+      max_pages = p.1.1.1.0;
+      pseudo = p.1.1.1.1;
+    })
+    (λ _. refl)

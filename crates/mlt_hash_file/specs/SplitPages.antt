@@ -27,14 +27,18 @@ bucket_for bits pages root key = buckets_of pages (lead_of pages root (bits key)
 
 -- depth d is the least at which that bucket has room for the key, where nobody is open
 abbrev pub HasRoomAt : (ℕ → ℕ) → (ℕ → Option Page) → ℕ → ℕ → ℕ → ℕ → Type 0
-HasRoomAt bits pages root max_depth key d = HasRoomFrom (λ e. is_crowded bits set.empty e (bits key) (bucket_for bits pages root key).slots) (bucket_for bits pages root key).depth max_depth d
+HasRoomAt bits pages root max_depth key d =
+    HasRoomFrom
+    (λ e. is_crowded bits set.empty e (bits key) (bucket_for bits pages root key).slots)
+    (bucket_for bits pages root key).depth max_depth d
 
 -- the pages that the splits make of that bucket down to depth d
 abbrev pub pages_for : (ℕ → ℕ) → (ℕ → Option Page) → ℕ → ℕ → ℕ → ℕ
 pages_for bits pages root key d = pages_to_make (bucket_for bits pages root key).depth (depth_of pages root) d
 
 -- There may be fewer pages than the splits lead to that make room.
-pub record LacksPages (bits : ℕ → ℕ) (before : ℕ → Option Page) (pages : Pages) (root max_depth max_pages key : ℕ) : Type 0 where
+pub record LacksPages (bits : ℕ → ℕ) (before : ℕ → Option Page) (pages : Pages)
+    (root max_depth max_pages key : ℕ) : Type 0 where
   pub d : ℕ
   pub least : HasRoomAt bits before root max_depth key d
   pub lacks : max_pages < map.len pages + pages_for bits before root key d
@@ -53,7 +57,9 @@ gained_from split_at.Header gained = 0
 
 -- what a split under way has yet to make, and those after it down to depth d
 abbrev pub left_from : ℕ → ℕ → ℕ → SplitPhase → ℕ
-left_from l g d phase = (d - (l + 1)) + gained_from phase (gained_pages l g) + (2 ^ (d - 8) - (2 ^ (g - 8) + gained_pages l g))
+left_from l g d phase =
+    (d - (l + 1)) + gained_from phase (gained_pages l g)
+    + (2 ^ (d - 8) - (2 ^ (g - 8) + gained_pages l g))
 
 abbrev pub left_from_split : Option SplitFields → ℕ → ℕ
 left_from_split None d = 0
@@ -61,7 +67,9 @@ left_from_split (Some split) d = left_from split.depth split.directory_depth d s
 
 -- what a walk that splits has yet to make
 abbrev pub pages_left_at : Phase → ℕ → WalkFields → Moment → ℕ
-pages_left_at (at.Adding value bucket room_depth unsplit) root walk m = pages_to_make (bucket_of (page_at m.store.pages bucket)).depth (depth_of (page_at m.store.pages) root) room_depth
+pages_left_at (at.Adding value bucket room_depth unsplit) root walk m =
+    pages_to_make (bucket_of (page_at m.store.pages bucket)).depth
+    (depth_of (page_at m.store.pages) root) room_depth
 pages_left_at (at.Splitting value room_depth) root walk m = left_from_split walk.split room_depth
 pages_left_at other root walk m = 0
 

@@ -26,12 +26,15 @@ pub record LocksPage (old new : Moment) (q : ℕ) (mode : Mode) : Type 0 where
 pub record WritesHeldPage (old new : Moment) (q : ℕ) (page : Page) : Type 0 where
   pub held : can_write old.locks old.running.tx q ≡ true
   pub locks : new.locks ≡ old.locks
-  pub running : new.running ≡ record old.running { images = with_image old.running.images q (page_at old.store.pages q) }
+  pub running : new.running
+      ≡ record old.running { images = with_image old.running.images q (page_at old.store.pages q) }
   pub store : new.store ≡ record old.store { pages = map.insert old.store.pages q page }
 
 -- slot i of page q, a bucket that the transaction holds exclusively, is set to s; the first time its image is kept
 abbrev pub WritesHeldSlot : Moment → Moment → ℕ → ℕ → Slot → Type 0
-WritesHeldSlot old new q i s = (bucket : BucketFields) → ReadsHeldBucket (view_of old) q bucket → WritesHeldPage old new q (page_with_slot bucket i s)
+WritesHeldSlot old new q i s =
+    (bucket : BucketFields) → ReadsHeldBucket (view_of old) q bucket
+    → WritesHeldPage old new q (page_with_slot bucket i s)
 
 -- page q, which was not there, is made and locked
 pub record MakesLockedPage (old new : Moment) (q : ℕ) (page : Page) : Type 0 where
@@ -50,7 +53,9 @@ WritesAtMost old new q = (new ≡ old) ⊎ ((page : Page) × WritesHeldPage old 
 
 -- a step locks and writes one page at most, or makes one
 abbrev pub TouchesOnePage : Moment → Moment → Type 0
-TouchesOnePage old new = (q : ℕ) × (((mid : Moment) × LocksAtMost old mid q × WritesAtMost mid new q) ⊎ ((page : Page) × MakesLockedPage old new q page))
+TouchesOnePage old new =
+    (q : ℕ) × (((mid : Moment) × LocksAtMost old mid q × WritesAtMost mid new q)
+    ⊎ ((page : Page) × MakesLockedPage old new q page))
 
 -- What each step leaves: one page was touched at most, the transaction may go on, and what was clean is.
 pub record Leaves (old new : Moment) : Type 0 where

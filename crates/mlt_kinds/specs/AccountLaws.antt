@@ -13,12 +13,24 @@ replies_none : (o : AccountOp) (r q : ObjReply) → OneReply None o r q
 replies_none o r q =
     elim o as (λ o. OneReply None o r q) [
       | Open ↦ elim r as (λ r. OneReply None Open r q) [
-        | Opened ↦ elim q as (λ q. OneReply None Open Opened q) [ Opened ↦ λ h i. first_of (cc, grind arith) | _ ↦ λ h i. first_of (cc, grind arith) ]
-        | r ↦ elim q as (λ q. OneReply None Open r q) [ Opened ↦ λ h i. first_of (cc, grind arith) | _ ↦ λ h i. first_of (cc, grind arith) ]
+        | Opened ↦ elim q as (λ q. OneReply None Open Opened q) [
+          | Opened ↦ λ h i. first_of (cc, grind arith)
+          | _ ↦ λ h i. first_of (cc, grind arith)
+        ]
+        | r ↦ elim q as (λ q. OneReply None Open r q) [
+          | Opened ↦ λ h i. first_of (cc, grind arith)
+          | _ ↦ λ h i. first_of (cc, grind arith)
+        ]
       ]
       | o ↦ elim r as (λ r. OneReply None o r q) [
-        | Opened ↦ elim q as (λ q. OneReply None o Opened q) [ Opened ↦ λ h i. first_of (cc, grind arith) | _ ↦ λ h i. first_of (cc, grind arith) ]
-        | r ↦ elim q as (λ q. OneReply None o r q) [ Opened ↦ λ h i. first_of (cc, grind arith) | _ ↦ λ h i. first_of (cc, grind arith) ]
+        | Opened ↦ elim q as (λ q. OneReply None o Opened q) [
+          | Opened ↦ λ h i. first_of (cc, grind arith)
+          | _ ↦ λ h i. first_of (cc, grind arith)
+        ]
+        | r ↦ elim q as (λ q. OneReply None o r q) [
+          | Opened ↦ λ h i. first_of (cc, grind arith)
+          | _ ↦ λ h i. first_of (cc, grind arith)
+        ]
       ]
     ]
 
@@ -26,19 +38,32 @@ replies_some : (b : ℕ) (o : AccountOp) (r q : ObjReply) → OneReply (Some b) 
 replies_some b o r q =
     elim o as (λ o. OneReply (Some b) o r q) [
       | Open ↦ elim r as (λ r. OneReply (Some b) Open r q) [
-        | Opened ↦ elim q as (λ q. OneReply (Some b) Open Opened q) [ Opened ↦ λ h i. first_of (cc, grind arith) | _ ↦ λ h i. first_of (cc, grind arith) ]
-        | r ↦ elim q as (λ q. OneReply (Some b) Open r q) [ Opened ↦ λ h i. first_of (cc, grind arith) | _ ↦ λ h i. first_of (cc, grind arith) ]
+        | Opened ↦ elim q as (λ q. OneReply (Some b) Open Opened q) [
+          | Opened ↦ λ h i. first_of (cc, grind arith)
+          | _ ↦ λ h i. first_of (cc, grind arith)
+        ]
+        | r ↦ elim q as (λ q. OneReply (Some b) Open r q) [
+          | Opened ↦ λ h i. first_of (cc, grind arith)
+          | _ ↦ λ h i. first_of (cc, grind arith)
+        ]
       ]
       | o ↦ elim r as (λ r. OneReply (Some b) o r q) [
-        | Opened ↦ elim q as (λ q. OneReply (Some b) o Opened q) [ Opened ↦ λ h i. first_of (cc, grind arith) | _ ↦ λ h i. first_of (cc, grind arith) ]
-        | r ↦ elim q as (λ q. OneReply (Some b) o r q) [ Opened ↦ λ h i. first_of (cc, grind arith) | _ ↦ λ h i. first_of (cc, grind arith) ]
+        | Opened ↦ elim q as (λ q. OneReply (Some b) o Opened q) [
+          | Opened ↦ λ h i. first_of (cc, grind arith)
+          | _ ↦ λ h i. first_of (cc, grind arith)
+        ]
+        | r ↦ elim q as (λ q. OneReply (Some b) o r q) [
+          | Opened ↦ λ h i. first_of (cc, grind arith)
+          | _ ↦ λ h i. first_of (cc, grind arith)
+        ]
       ]
     ]
 
 one_reply : (s : Option ℕ) (o : AccountOp) (r q : ObjReply) → OneReply s o r q
 one_reply s o r q = elim s as (λ s. OneReply s o r q) [ None ↦ replies_none o r q | Some b ↦ replies_some b o r q ]
 
-pub account_one_answer : (s : Option ℕ) (o : AccountOp) (r q : ObjReply) (t u : Option ℕ) → AccountStep s o r t → AccountStep s o q u → (r ≡ q) × (t ≡ u)
+pub account_one_answer : (s : Option ℕ) (o : AccountOp) (r q : ObjReply) (t u : Option ℕ)
+    → AccountStep s o r t → AccountStep s o q u → (r ≡ q) × (t ≡ u)
 account_one_answer s o r q t u h k =
     let same : r ≡ q = one_reply s o r q h.0 k.0 in
     (same, sym h.1 ∙ ap (λ r. next_of o r s) same ∙ k.1)
@@ -62,27 +87,52 @@ starts o r s u =
     elim o as (λ o. OneStart o r s u) [
       | Open ↦ elim r as (λ r. OneStart Open r s u) [
         | Opened ↦ elim s as (λ s. OneStart Open Opened s u) [
-          | None ↦ elim u as (λ u. OneStart Open Opened None u) [ None ↦ λ h i e. first_of (omega arith, cc) | Some c ↦ λ h i e. first_of (omega arith, cc) ]
-          | Some b ↦ elim u as (λ u. OneStart Open Opened (Some b) u) [ None ↦ λ h i e. first_of (omega arith, cc) | Some c ↦ λ h i e. first_of (omega arith, cc) ]
+          | None ↦ elim u as (λ u. OneStart Open Opened None u) [
+            | None ↦ λ h i e. first_of (omega arith, cc)
+            | Some c ↦ λ h i e. first_of (omega arith, cc)
+          ]
+          | Some b ↦ elim u as (λ u. OneStart Open Opened (Some b) u) [
+            | None ↦ λ h i e. first_of (omega arith, cc)
+            | Some c ↦ λ h i e. first_of (omega arith, cc)
+          ]
         ]
         | r ↦ elim s as (λ s. OneStart Open r s u) [
-          | None ↦ elim u as (λ u. OneStart Open r None u) [ None ↦ λ h i e. first_of (omega arith, cc) | Some c ↦ λ h i e. first_of (omega arith, cc) ]
-          | Some b ↦ elim u as (λ u. OneStart Open r (Some b) u) [ None ↦ λ h i e. first_of (omega arith, cc) | Some c ↦ λ h i e. first_of (omega arith, cc) ]
+          | None ↦ elim u as (λ u. OneStart Open r None u) [
+            | None ↦ λ h i e. first_of (omega arith, cc)
+            | Some c ↦ λ h i e. first_of (omega arith, cc)
+          ]
+          | Some b ↦ elim u as (λ u. OneStart Open r (Some b) u) [
+            | None ↦ λ h i e. first_of (omega arith, cc)
+            | Some c ↦ λ h i e. first_of (omega arith, cc)
+          ]
         ]
       ]
       | o ↦ elim r as (λ r. OneStart o r s u) [
         | Opened ↦ elim s as (λ s. OneStart o Opened s u) [
-          | None ↦ elim u as (λ u. OneStart o Opened None u) [ None ↦ λ h i e. first_of (omega arith, cc) | Some c ↦ λ h i e. first_of (omega arith, cc) ]
-          | Some b ↦ elim u as (λ u. OneStart o Opened (Some b) u) [ None ↦ λ h i e. first_of (omega arith, cc) | Some c ↦ λ h i e. first_of (omega arith, cc) ]
+          | None ↦ elim u as (λ u. OneStart o Opened None u) [
+            | None ↦ λ h i e. first_of (omega arith, cc)
+            | Some c ↦ λ h i e. first_of (omega arith, cc)
+          ]
+          | Some b ↦ elim u as (λ u. OneStart o Opened (Some b) u) [
+            | None ↦ λ h i e. first_of (omega arith, cc)
+            | Some c ↦ λ h i e. first_of (omega arith, cc)
+          ]
         ]
         | r ↦ elim s as (λ s. OneStart o r s u) [
-          | None ↦ elim u as (λ u. OneStart o r None u) [ None ↦ λ h i e. first_of (omega arith, cc) | Some c ↦ λ h i e. first_of (omega arith, cc) ]
-          | Some b ↦ elim u as (λ u. OneStart o r (Some b) u) [ None ↦ λ h i e. first_of (omega arith, cc) | Some c ↦ λ h i e. first_of (omega arith, cc) ]
+          | None ↦ elim u as (λ u. OneStart o r None u) [
+            | None ↦ λ h i e. first_of (omega arith, cc)
+            | Some c ↦ λ h i e. first_of (omega arith, cc)
+          ]
+          | Some b ↦ elim u as (λ u. OneStart o r (Some b) u) [
+            | None ↦ λ h i e. first_of (omega arith, cc)
+            | Some c ↦ λ h i e. first_of (omega arith, cc)
+          ]
         ]
       ]
     ]
 
-pub account_one_start : (s u t : Option ℕ) (o : AccountOp) (r : ObjReply) → AccountStep s o r t → AccountStep u o r t → s ≡ u
+pub account_one_start : (s u t : Option ℕ) (o : AccountOp) (r : ObjReply) → AccountStep s o r t
+    → AccountStep u o r t → s ≡ u
 account_one_start s u t o r h k = level_injective s u (starts o r s u h.0 k.0 (ap level (h.1 ∙ sym k.1)))
 
 abbrev Stays : AccountOp → ObjReply → Option ℕ → Type 0

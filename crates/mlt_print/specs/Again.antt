@@ -14,7 +14,9 @@ use Rattle.mlt_tree.specs.Scripts.{ScriptForm, IsScript}
 
 -- Before any text, this one is lines of these forms.
 abbrev pub IsReadAs : List ℕ → List LineForm → Type 0
-IsReadAs t forms = (rest : List ℕ) → (AreLawful (lines rest) → AreLawful (lines (t ++ rest))) × (forms_of (lines (t ++ rest)) ≡ forms ++ forms_of (lines rest))
+IsReadAs t forms = (rest : List ℕ)
+    → (AreLawful (lines rest) → AreLawful (lines (t ++ rest)))
+    × (forms_of (lines (t ++ rest)) ≡ forms ++ forms_of (lines rest))
 
 abbrev pub IsReadAgain : Line → Type 0
 IsReadAgain l = IsReadAs (as_line (line_text l)) (Says l ∷ [])
@@ -31,7 +33,8 @@ second_lines b ls = line.Else ∷ ls
 abbrev pub written : Block → List Line
 written Nothing = []
 written (Then s rest) = line.Plain s ∷ written rest
-written (If a w first second rest) = line.If a w ∷ (written first ++ (second_lines second (written second) ++ line.End ∷ written rest))
+written (If a w first second rest) =
+    line.If a w ∷ (written first ++ (second_lines second (written second) ++ line.End ∷ written rest))
 
 abbrev pub forms_of_script : ScriptForm → List LineForm
 forms_of_script s = Begins s.client ∷ (map Says (written s.block) ++ Closes s.ending ∷ [])

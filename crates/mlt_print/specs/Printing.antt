@@ -26,7 +26,8 @@ abbrev pub block_text : Block → List ℕ
 block_text Nothing = []
 block_text (Then s rest) = as_line (statement_text s) ++ block_text rest
 block_text (If a w first second rest) =
-    as_line (line_text (line.If a w)) ++ (block_text first ++ (second_part second (block_text second) ++ (as_line (line_text line.End) ++ block_text rest)))
+    as_line (line_text (line.If a w)) ++ (block_text first
+    ++ (second_part second (block_text second) ++ (as_line (line_text line.End) ++ block_text rest)))
 
 abbrev pub script_text : ScriptForm → List ℕ
 script_text s = as_line (begin_text s.client) ++ (block_text s.block ++ as_line (ending_text s.ending))

@@ -25,24 +25,43 @@ AreScripts (s ∷ scripts) = IsScript s × AreScripts scripts
 abbrev pub IsSpelled : Block → List Line → Type 0
 IsSpelled Nothing ls = ls ≡ []
 IsSpelled (Then s rest) ls = (z : List Line) × (ls ≡ line.Plain s ∷ z) × IsSpelled rest z
-IsSpelled (If a w first second rest) ls = (x : List Line) × (y : List Line) × (z : List Line) × IsSpelled first x × IsSpelled second y × IsSpelled rest z
+IsSpelled (If a w first second rest) ls =
+    (x : List Line) × (y : List Line) × (z : List Line)
+    × IsSpelled first x
+    × IsSpelled second y
+    × IsSpelled rest z
     × ((ls ≡ line.If a w ∷ (x ++ line.Else ∷ (y ++ line.End ∷ z))) ⊎ ((second ≡ Nothing) × (ls ≡ line.If a w ∷ (x ++ line.End ∷ z))))
 
 -- the lines of a script that is read up to somewhere, behind its begin
 abbrev pub IsSpelledOpen : Open → List Line → Type 0
 IsSpelledOpen (Top b) ls = IsSpelled b ls
-IsSpelledOpen (InFirst o a w first) ls = (x : List Line) × (y : List Line) × IsSpelledOpen o x × IsSpelled first y × (ls ≡ x ++ line.If a w ∷ y)
-IsSpelledOpen (InSecond o a w first second) ls = (x : List Line) × (y : List Line) × (z : List Line) × IsSpelledOpen o x × IsSpelled first y × IsSpelled second z
+IsSpelledOpen (InFirst o a w first) ls =
+    (x : List Line) × (y : List Line)
+    × IsSpelledOpen o x
+    × IsSpelled first y
+    × (ls ≡ x ++ line.If a w ∷ y)
+IsSpelledOpen (InSecond o a w first second) ls =
+    (x : List Line) × (y : List Line) × (z : List Line)
+    × IsSpelledOpen o x
+    × IsSpelled first y
+    × IsSpelled second z
     × (ls ≡ x ++ line.If a w ∷ (y ++ line.Else ∷ z))
 
 -- a script is its begin, the lines of its statements and its ending
 abbrev pub IsSpelledScript : ScriptForm → List LineForm → Type 0
-IsSpelledScript s forms = (ls : List Line) × IsSpelled s.block ls × (forms ≡ Begins s.client ∷ (map Says ls ++ Closes s.ending ∷ []))
+IsSpelledScript s forms =
+    (ls : List Line)
+    × IsSpelled s.block ls
+    × (forms ≡ Begins s.client ∷ (map Says ls ++ Closes s.ending ∷ []))
 
 -- one script after the other
 abbrev pub AreSpelled : List ScriptForm → List LineForm → Type 0
 AreSpelled [] forms = forms ≡ []
-AreSpelled (s ∷ scripts) forms = (x : List LineForm) × (y : List LineForm) × IsSpelledScript s x × AreSpelled scripts y × (forms ≡ x ++ y)
+AreSpelled (s ∷ scripts) forms =
+    (x : List LineForm) × (y : List LineForm)
+    × IsSpelledScript s x
+    × AreSpelled scripts y
+    × (forms ≡ x ++ y)
 
 abbrev pub IsLawful : Reading → Type 0
 IsLawful (Bad c) = ⊥
@@ -68,11 +87,20 @@ AreWhole raws scripts = AreScripts scripts × AreLawful raws × AreSpelled scrip
 
 -- the forms are those of these scripts, then a begin, and then what is read of that script
 abbrev pub AreSpelledOpen : List ScriptForm → ℕ → Open → List LineForm → Type 0
-AreSpelledOpen scripts client o forms = (x : List LineForm) × (ls : List Line) × AreSpelled scripts x × IsSpelledOpen o ls × (forms ≡ x ++ Begins client ∷ map Says ls)
+AreSpelledOpen scripts client o forms =
+    (x : List LineForm) × (ls : List Line)
+    × AreSpelled scripts x
+    × IsSpelledOpen o ls
+    × (forms ≡ x ++ Begins client ∷ map Says ls)
 
 -- the lines are just these scripts, and then one more that is read up to somewhere
 abbrev pub AreOpen : List Raw → List ScriptForm → ℕ → Open → Type 0
-AreOpen raws scripts client o = AreScripts scripts × (client < 1000) × IsWithin o × AreLawful raws × AreSpelledOpen scripts client o (forms_of raws)
+AreOpen raws scripts client o =
+    AreScripts scripts
+    × (client < 1000)
+    × IsWithin o
+    × AreLawful raws
+    × AreSpelledOpen scripts client o (forms_of raws)
 
 -- the text is just these scripts
 abbrev pub Spells : List ℕ → List ScriptForm → Type 0
@@ -118,7 +146,11 @@ IsFault before raw after cause.Words = IsSound before × (reading raw ≡ Bad ca
 IsFault before raw after cause.Place =
     (IsClosed before × ((form : LineForm) × (reading raw ≡ Form form) × IsNoBegin form))
     ⊎ ((o : Open) × IsOpen before o × ((form : LineForm) × (reading raw ≡ Form form) × HasNoPlace o form))
-IsFault before raw after cause.Deep = (o : Open) × IsOpen before o × ((a : Asking) × (w : Wanted) × (reading raw ≡ Form (Says (line.If a w)))) × (depth o ≡ 16)
+IsFault before raw after cause.Deep =
+    (o : Open)
+    × IsOpen before o
+    × ((a : Asking) × (w : Wanted) × (reading raw ≡ Form (Says (line.If a w))))
+    × (depth o ≡ 16)
 IsFault before raw after cause.Long =
     (o : Open) × IsOpen before o × ((l : Line) × (reading raw ≡ Form (Says l)) × IsAskingHere o l) × (path o + 1 ≡ 257)
 IsFault before raw after cause.Unfinished = (after ≡ []) × ((o : Open) × IsOpen (before ++ raw ∷ []) o)
@@ -137,4 +169,5 @@ IsDecided text =
     (((scripts : List ScriptForm) × Spells text scripts) ⊎ ((line : ℕ) × (fault : ScriptCause) × IsFirstFault text line fault))
     × ((scripts : List ScriptForm) (line : ℕ) (fault : ScriptCause) → Spells text scripts → IsFirstFault text line fault → ⊥)
     × ((scripts others : List ScriptForm) → Spells text scripts → Spells text others → scripts ≡ others)
-    × ((line other : ℕ) (fault another : ScriptCause) → IsFirstFault text line fault → IsFirstFault text other another → (line ≡ other) × (fault ≡ another))
+    × ((line other : ℕ) (fault another : ScriptCause) → IsFirstFault text line fault
+    → IsFirstFault text other another → (line ≡ other) × (fault ≡ another))

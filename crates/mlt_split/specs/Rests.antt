@@ -28,8 +28,14 @@ pub record Aim : Type 0 where
 
 -- the aim of a transaction that goes by this root, with these transactions open, and adds a record of this key
 abbrev pub aim_by : {P : Type 0} → (P → ℕ → ℕ) → Root P → set.FinSet nat_cmp → ℕ → ℕ → ℕ → Aim
-aim_by bits_of root opens key owner room_depth =
-    record { bits = bits_of root.pseudo; opens = opens; root = root.page; key = key; owner = owner; room_depth = room_depth }
+aim_by bits_of root opens key owner room_depth = record {
+  bits = bits_of root.pseudo;
+  opens = opens;
+  root = root.page;
+  key = key;
+  owner = owner;
+  room_depth = room_depth;
+}
 
 -- the pseudokey of the key that asks for room
 abbrev pub seed_of : Aim → ℕ
@@ -62,7 +68,8 @@ most_held l g = 2 + l + 2 ^ (g - 8)
 pub record IsAtRest (aim : Aim) (view : View) (n : ℕ) (header : HeadFields) (bucket : BucketFields) : Type 0 where
   pub bounded : (k : ℕ) → aim.bits k < 2 ^ 64
   pub keeps : KeepsFile aim.bits aim.opens aim.root view.seen view.own
-  pub leads : (clean : ℕ → Option Page) → Agrees view.seen clean → HasForm aim.bits clean aim.root → lead_of (over clean view.own) aim.root (seed_of aim) ≡ n
+  pub leads : (clean : ℕ → Option Page) → Agrees view.seen clean → HasForm aim.bits clean aim.root
+      → lead_of (over clean view.own) aim.root (seed_of aim) ≡ n
   pub head_held : is_some (view.seen aim.root) ≡ true
   pub head : held_page view aim.root ≡ Some (page.Head header)
   pub bucket_held : is_some (view.seen n) ≡ true
@@ -76,4 +83,7 @@ pub record IsAtRest (aim : Aim) (view : View) (n : ℕ) (header : HeadFields) (b
 
 -- on the pages that are held no slot's room is kept now that was not before
 abbrev pub KeepsNoMore : set.FinSet nat_cmp → set.FinSet nat_cmp → View → Type 0
-KeepsNoMore before now view = (n : ℕ) (p : Option Page) → view.seen n ≡ Some p → (i : ℕ) → is_kept now (slice_index_or (bucket_of p).slots i Free) ≡ true → is_kept before (slice_index_or (bucket_of p).slots i Free) ≡ true
+KeepsNoMore before now view =
+    (n : ℕ) (p : Option Page) → view.seen n ≡ Some p → (i : ℕ)
+    → is_kept now (slice_index_or (bucket_of p).slots i Free) ≡ true
+    → is_kept before (slice_index_or (bucket_of p).slots i Free) ≡ true

@@ -23,9 +23,9 @@ use Rattle.mlt_split.specs.Rests.{Aim, IsAtRest, HoldsAmong, held_page, most_hel
 use Rattle.mlt_split.specs.declared.phase.SplitPhase.{SplitPhase}
 use Rattle.mlt_split.specs.declared.phase.SplitPhase.TheVariants as at
 
--- what a contract sees of a split: the pseudokey that asks for room, the two bucket pages, the depths of the bucket and of the directory before it, what
--- stays in the old bucket, and of a directory that is doubled its header to be, and the second half of the page that was
--- rewritten last
+-- what a contract sees of a split: the pseudokey that asks for room, the two bucket pages, the depths of the bucket and of
+-- the directory before it, what stays in the old bucket, and of a directory that is doubled its header to be, and the
+-- second half of the page that was rewritten last
 pub record SplitFields : Type 0 where
   pub seed : ℕ
   pub old_page : ℕ
@@ -77,14 +77,19 @@ pub record MayBegin (aim : Aim) (view : View) (n : ℕ) : Type 0 where
 
 -- how far the split is, with the list of the new directory's pages, of which the first j are written, and with the old
 -- ones from the k-th on as they were
-abbrev pub IsFilled : Aim → set.FinSet nat_cmp → (ℕ → Option Page) → (ℕ → Option Page) → SplitFields → ℕ → List ℕ → ℕ → ℕ → Type 0
-IsFilled aim splitters base pages split deeper made j k = IsMidway aim.bits splitters base pages aim.root split.old_page split.new_page (seed_of aim) deeper made j k
+abbrev pub IsFilled : Aim → set.FinSet nat_cmp → (ℕ → Option Page) → (ℕ → Option Page) → SplitFields
+    → ℕ → List ℕ → ℕ → ℕ → Type 0
+IsFilled aim splitters base pages split deeper made j k =
+    IsMidway aim.bits splitters base pages aim.root split.old_page split.new_page (seed_of aim)
+    deeper made j k
 
 -- the new bucket is made, and the old one to be written
-pub record IsAtOldBucket (aim : Aim) (splitters : set.FinSet nat_cmp) (base pages : ℕ → Option Page) (split : SplitFields) (bucket : BucketFields) : Type 0 where
+pub record IsAtOldBucket (aim : Aim) (splitters : set.FinSet nat_cmp) (base pages : ℕ → Option Page)
+    (split : SplitFields) (bucket : BucketFields) : Type 0 where
   pub zeros : split.zeros ≡ half_of aim.bits splitters bucket 0
   pub ones : Writes base pages split.new_page (page.Bucket (half_of aim.bits splitters bucket 1))
-  pub doubles : split.depth ≡ split.directory_depth → split.made ≡ record { depth = split.directory_depth + 1; dirs = dirs_of base aim.root }
+  pub doubles : split.depth ≡ split.directory_depth
+      → split.made ≡ record { depth = split.directory_depth + 1; dirs = dirs_of base aim.root }
 
 -- The pages from this place up to the end, excluded, have all places of the new bucket, where a bucket of depth l is
 -- split to which this pseudokey leads. The directory is of depth g.
@@ -96,7 +101,8 @@ pub record HaveNewPlaces (seed l g place end : ℕ) : Type 0 where
 
 -- Pages of the directory that keeps its depth are written, up to this place: those that have places of the new bucket, and
 -- no others.
-pub record IsInPlace (aim : Aim) (splitters : set.FinSet nat_cmp) (base pages : ℕ → Option Page) (split : SplitFields) (place end : ℕ) : Type 0 where
+pub record IsInPlace (aim : Aim) (splitters : set.FinSet nat_cmp) (base pages : ℕ → Option Page)
+    (split : SplitFields) (place end : ℕ) : Type 0 where
   pub shallow : split.depth < split.directory_depth
   pub filled : IsFilled aim splitters base pages split split.directory_depth (dirs_of base aim.root) place place
   pub first : ℕ
@@ -106,43 +112,63 @@ pub record IsInPlace (aim : Aim) (splitters : set.FinSet nat_cmp) (base pages : 
   pub last : run_start base aim.root split.old_page (seed_of aim) + run_length base aim.root split.old_page ≤ 256 * end
 
 -- the directory doubles: this old page is the next one
-pub record IsAtDouble (aim : Aim) (splitters : set.FinSet nat_cmp) (base pages : ℕ → Option Page) (split : SplitFields) (place : ℕ) : Type 0 where
+pub record IsAtDouble (aim : Aim) (splitters : set.FinSet nat_cmp) (base pages : ℕ → Option Page)
+    (split : SplitFields) (place : ℕ) : Type 0 where
   pub deep : split.depth ≡ split.directory_depth
   pub filled : IsFilled aim splitters base pages split split.made.depth split.made.dirs (2 * place) place
   pub more : place < 2 ^ (split.directory_depth - 8)
   pub deeper : split.made.depth ≡ split.directory_depth + 1
 
 -- the first half of this old page is written, and the second kept
-pub record IsAtSecondHalf (aim : Aim) (splitters : set.FinSet nat_cmp) (base pages : ℕ → Option Page) (split : SplitFields) (place : ℕ) : Type 0 where
+pub record IsAtSecondHalf (aim : Aim) (splitters : set.FinSet nat_cmp)
+    (base pages : ℕ → Option Page) (split : SplitFields) (place : ℕ) : Type 0 where
   pub deep : split.depth ≡ split.directory_depth
   pub filled : IsFilled aim splitters base pages split split.made.depth split.made.dirs (2 * place + 1) (place + 1)
   pub more : place < 2 ^ (split.directory_depth - 8)
   pub deeper : split.made.depth ≡ split.directory_depth + 1
   pub long : 8 ≤ split.directory_depth
   pub sized : length split.second ≡ 256
-  pub right : (r : ℕ) → r < 256 → slice_index split.second r ≡ target_of base aim.root split.old_page split.new_page (seed_of aim) split.made.depth (256 * (2 * place + 1) + r)
+  pub right : (r : ℕ) → r < 256
+      → slice_index split.second r
+      ≡ target_of base aim.root split.old_page split.new_page (seed_of aim) split.made.depth
+      (256 * (2 * place + 1) + r)
 
 -- every page of the doubled directory is written
-pub record IsAtHeader (aim : Aim) (splitters : set.FinSet nat_cmp) (base pages : ℕ → Option Page) (split : SplitFields) : Type 0 where
+pub record IsAtHeader (aim : Aim) (splitters : set.FinSet nat_cmp) (base pages : ℕ → Option Page)
+    (split : SplitFields) : Type 0 where
   pub deep : split.depth ≡ split.directory_depth
   pub taken : ℕ
-  pub filled : IsFilled aim splitters base pages split split.made.depth split.made.dirs (2 ^ (split.made.depth - 8)) taken
+  pub filled : IsFilled aim splitters base pages split split.made.depth split.made.dirs
+      (2 ^ (split.made.depth - 8)) taken
   pub deeper : split.made.depth ≡ split.directory_depth + 1
 
-abbrev pub StandsAt : SplitPhase → Aim → set.FinSet nat_cmp → (ℕ → Option Page) → (ℕ → Option Page) → SplitFields → BucketFields → Type 0
+abbrev pub StandsAt : SplitPhase → Aim → set.FinSet nat_cmp → (ℕ → Option Page) → (ℕ → Option Page)
+    → SplitFields → BucketFields → Type 0
 StandsAt at.OldBucket aim splitters base pages split bucket = IsAtOldBucket aim splitters base pages split bucket
-StandsAt (at.InPlace place end) aim splitters base pages split bucket = IsInPlace aim splitters base pages split place end
+StandsAt (at.InPlace place end) aim splitters base pages split bucket =
+    IsInPlace aim splitters base pages split place end
 StandsAt (at.Double place) aim splitters base pages split bucket = IsAtDouble aim splitters base pages split place
-StandsAt (at.SecondHalf place) aim splitters base pages split bucket = IsAtSecondHalf aim splitters base pages split place
+StandsAt (at.SecondHalf place) aim splitters base pages split bucket =
+    IsAtSecondHalf aim splitters base pages split place
 StandsAt at.Header aim splitters base pages split bucket = IsAtHeader aim splitters base pages split
 
 -- the pages that are held, by how far the split is
 abbrev pub HoldsAmongAt : SplitPhase → View → List ℕ → SplitFields → Type 0
-HoldsAmongAt at.OldBucket view dirs split = HoldsAmong view dirs dirs 0 (2 ^ (split.directory_depth - 8)) 0 (most_held (split.depth + 1) split.directory_depth)
-HoldsAmongAt (at.InPlace place end) view dirs split = HoldsAmong view dirs dirs 0 (2 ^ (split.directory_depth - 8)) 0 (most_held (split.depth + 1) split.directory_depth)
-HoldsAmongAt (at.Double place) view dirs split = HoldsAmong view dirs split.made.dirs place (2 ^ (split.directory_depth - 8)) (2 * place) (most_held (split.depth + 1) split.directory_depth + place)
-HoldsAmongAt (at.SecondHalf place) view dirs split = HoldsAmong view dirs split.made.dirs (place + 1) (2 ^ (split.directory_depth - 8)) (2 * place + 1) (most_held (split.depth + 1) split.directory_depth + place)
-HoldsAmongAt at.Header view dirs split = HoldsAmong view dirs split.made.dirs 0 0 (2 ^ (split.made.depth - 8)) (most_held (split.depth + 1) split.made.depth)
+HoldsAmongAt at.OldBucket view dirs split =
+    HoldsAmong view dirs dirs 0 (2 ^ (split.directory_depth - 8)) 0
+    (most_held (split.depth + 1) split.directory_depth)
+HoldsAmongAt (at.InPlace place end) view dirs split =
+    HoldsAmong view dirs dirs 0 (2 ^ (split.directory_depth - 8)) 0
+    (most_held (split.depth + 1) split.directory_depth)
+HoldsAmongAt (at.Double place) view dirs split =
+    HoldsAmong view dirs split.made.dirs place (2 ^ (split.directory_depth - 8)) (2 * place)
+    (most_held (split.depth + 1) split.directory_depth + place)
+HoldsAmongAt (at.SecondHalf place) view dirs split =
+    HoldsAmong view dirs split.made.dirs (place + 1) (2 ^ (split.directory_depth - 8)) (2 * place + 1)
+    (most_held (split.depth + 1) split.directory_depth + place)
+HoldsAmongAt at.Header view dirs split =
+    HoldsAmong view dirs split.made.dirs 0 0 (2 ^ (split.made.depth - 8))
+    (most_held (split.depth + 1) split.made.depth)
 
 -- A split is under way. `rest` is what the walk had written before it, and `splitters` who was open when the two halves
 -- were made: who is open may change between two steps.
@@ -159,13 +185,16 @@ pub record IsUnderWay (aim : Aim) (view : View) (split : SplitFields) : Type 0 w
   pub exclusive : map.get view.modes split.old_page ≡ Some Exclusive
   pub new_exclusive : map.get view.modes split.new_page ≡ Some Exclusive
   pub doubles : split.depth ≡ split.directory_depth → map.get view.modes aim.root ≡ Some Exclusive
-  pub fewer : (i : ℕ) → is_kept aim.opens (slice_index_or bucket.slots i Free) ≡ true → is_kept splitters (slice_index_or bucket.slots i Free) ≡ true
+  pub fewer : (i : ℕ) → is_kept aim.opens (slice_index_or bucket.slots i Free) ≡ true
+      → is_kept splitters (slice_index_or bucket.slots i Free) ≡ true
   pub absent : (i : ℕ) → is_live_of aim.key (slice_index_or bucket.slots i Free) ≡ false
   pub no_ghost : (i : ℕ) → is_ghost_of aim.key aim.owner (slice_index_or bucket.slots i Free) ≡ false
   pub room : is_crowded aim.bits aim.opens aim.room_depth (seed_of aim) bucket.slots ≡ false
   pub small : aim.room_depth ≤ 16
-  pub begins : (clean : ℕ → Option Page) → Agrees view.seen clean → HasForm aim.bits clean aim.root → Begins aim (over clean rest) split bucket
-  pub stands : (clean : ℕ → Option Page) → Agrees view.seen clean → HasForm aim.bits clean aim.root → StandsAt split.phase aim splitters (over clean rest) (over clean view.own) split bucket
+  pub begins : (clean : ℕ → Option Page) → Agrees view.seen clean → HasForm aim.bits clean aim.root
+      → Begins aim (over clean rest) split bucket
+  pub stands : (clean : ℕ → Option Page) → Agrees view.seen clean → HasForm aim.bits clean aim.root
+      → StandsAt split.phase aim splitters (over clean rest) (over clean view.own) split bucket
   pub among : HoldsAmongAt split.phase view header.dirs split
 
 -- What a step of a split asks: the transaction may step, the clean pages are a hash file, and the split is under way.

@@ -17,7 +17,10 @@ use Rattle.mlt_split.specs.declared.split.SplitAnswer.TheVariants as answer
 
 -- page n of the directory is the one at this place of the header, which the walk holds
 abbrev pub IsDirectoryPage : Aim → View → ℕ → ℕ → Type 0
-IsDirectoryPage aim view place n = (header : HeadFields) × (held_page view aim.root ≡ Some (page.Head header)) × (n ≡ slice_index header.dirs place)
+IsDirectoryPage aim view place n =
+    (header : HeadFields)
+    × (held_page view aim.root ≡ Some (page.Head header))
+    × (n ≡ slice_index header.dirs place)
 
 -- page n of the directory is the one of the place that the key leads to, by the header that the walk holds
 abbrev pub IsKeysPage : Aim → View → ℕ → Type 0
@@ -42,7 +45,9 @@ IsMaking at.Header = ⊥
 
 -- the next page was locked exclusively, and then written
 abbrev pub LocksAndWrites : Aim → Moment → Moment → ℕ → Type 0
-LocksAndWrites aim old new place = (n : ℕ) × IsDirectoryPage aim (view_of old) place n × ((mid : Moment) × LocksPage old mid n Exclusive × ((page : Page) × WritesHeldPage mid new n page))
+LocksAndWrites aim old new place = (n : ℕ)
+    × IsDirectoryPage aim (view_of old) place n
+    × ((mid : Moment) × LocksPage old mid n Exclusive × ((page : Page) × WritesHeldPage mid new n page))
 
 -- a step was done: one page was written, and locked before where it is of the directory, or made; and that is all
 abbrev pub IsDone : SplitPhase → Aim → Moment → Moment → SplitFields → Type 0
@@ -55,8 +60,10 @@ IsDone at.Header aim old new split = (page : Page) × WritesHeldPage old new aim
 -- a step was refused: at most the page of the directory was locked that was to be written
 abbrev pub IsLeft : SplitPhase → Aim → Moment → Moment → Type 0
 IsLeft at.OldBucket aim old new = new ≡ old
-IsLeft (at.InPlace place end) aim old new = (n : ℕ) × IsDirectoryPage aim (view_of old) place n × LocksPage old new n Exclusive
-IsLeft (at.Double place) aim old new = (n : ℕ) × IsDirectoryPage aim (view_of old) place n × LocksPage old new n Exclusive
+IsLeft (at.InPlace place end) aim old new =
+    (n : ℕ) × IsDirectoryPage aim (view_of old) place n × LocksPage old new n Exclusive
+IsLeft (at.Double place) aim old new =
+    (n : ℕ) × IsDirectoryPage aim (view_of old) place n × LocksPage old new n Exclusive
 IsLeft (at.SecondHalf place) aim old new = new ≡ old
 IsLeft at.Header aim old new = new ≡ old
 

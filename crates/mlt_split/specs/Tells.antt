@@ -34,6 +34,11 @@ pub record GoesOn (aim : Aim) (new : Moment) (before after : SplitFields) : Type
 abbrev pub Tells : Aim → Moment → Moment → SplitFields → SplitFields → SplitAnswer → Type 0
 Tells aim old new before after answer.Going = GoesOn aim new before after
 Tells aim old new before after (answer.Closed n) = Rests aim new before n × (steps_left before ≡ 1)
-Tells aim old new before after (answer.Waiting page by) = IsNextPage before.phase aim (view_of old) page × IsLowest (conflicts old.locks old.running.tx page Exclusive) by × (new ≡ old) × (after ≡ before)
-Tells aim old new before after (answer.Refused refusal.NoRoom) = IsMaking before.phase × (map.len old.store.pages ≡ old.store.max_pages)
+Tells aim old new before after (answer.Waiting page by) =
+    IsNextPage before.phase aim (view_of old) page
+    × IsLowest (conflicts old.locks old.running.tx page Exclusive) by
+    × (new ≡ old)
+    × (after ≡ before)
+Tells aim old new before after (answer.Refused refusal.NoRoom) =
+    IsMaking before.phase × (map.len old.store.pages ≡ old.store.max_pages)
 Tells aim old new before after (answer.Refused reason) = reason ≡ refusal.OutOfMemory

@@ -25,7 +25,11 @@ pub record PageStore : Type 0 where
 -- a store is stored as the pair of its fields
 abbrev pub coded_store : Coded PageStore
 coded_store =
-    code_by (Pages × ℕ) (coded× (map.code coded_ℕ the_row.coded) coded_ℕ) (λ s. (s.pages, s.max_pages)) (λ p. record { pages = p.0; max_pages = p.1 }) (λ _. refl)
+    code_by (Pages × ℕ)
+    (coded× (map.code coded_ℕ the_row.coded) coded_ℕ)
+    (λ s. (s.pages, s.max_pages))
+    (λ p. record { pages = p.0; max_pages = p.1 })
+    (λ _. refl)
 
 -- the page of this number is a bucket
 abbrev pub HasBucketAt : Pages → ℕ → Type 0

@@ -34,7 +34,11 @@ index_of letter.Y = 24
 index_of letter.Z = 25
 
 abbrev pub all_letters : List Letter
-all_letters = letter.A ∷ letter.B ∷ letter.C ∷ letter.D ∷ letter.E ∷ letter.F ∷ letter.G ∷ letter.H ∷ letter.I ∷ letter.J ∷ letter.K ∷ letter.L ∷ letter.M ∷ letter.N ∷ letter.O ∷ letter.P ∷ letter.Q ∷ letter.R ∷ letter.S ∷ letter.T ∷ letter.U ∷ letter.V ∷ letter.W ∷ letter.X ∷ letter.Y ∷ letter.Z ∷ []
+all_letters =
+    letter.A ∷ letter.B ∷ letter.C ∷ letter.D ∷ letter.E ∷ letter.F ∷ letter.G ∷ letter.H ∷
+    letter.I ∷ letter.J ∷ letter.K ∷ letter.L ∷ letter.M ∷ letter.N ∷ letter.O ∷ letter.P ∷
+    letter.Q ∷ letter.R ∷ letter.S ∷ letter.T ∷ letter.U ∷ letter.V ∷ letter.W ∷ letter.X ∷
+    letter.Y ∷ letter.Z ∷ []
 
 -- a letter's byte, from 97 for a to 122 for z
 abbrev pub byte_of : Letter → ℕ
