@@ -11,8 +11,9 @@ use Rattle.std.specs.List.Sorted.{IsStrictlySortedBy}
 use Rattle.std.specs.Map.{lookup, keys_of}
 use Rattle.std.specs.BTreeMap.{is_at}
 use Rattle.std.proofs.lemmas.Cmp.{eq_by_cmp_equiv}
+use Rattle.mlt_types.specs.Maps.{with_entry}
 use Rattle.mlt_kinds.proofs.BaseLaws.{element_cmp_total, element_cmp_tells_apart}
-use Rattle.mlt_kinds.specs.Bases.{counter_entry, counter_value, element_cmp, element_entry, with_entry}
+use Rattle.mlt_kinds.specs.Bases.{counter_entry, counter_value, element_cmp, element_entry}
 use Rattle.mlt_base.specs.Kept.{AreNotZero, IsNotZero, less_one, with_nothing}
 
 -- ---- any keys

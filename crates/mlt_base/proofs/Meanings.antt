@@ -7,10 +7,11 @@ use Rattle.std.specs.Ordering.{nat_cmp}
 use Rattle.mlt_types.specs.declared.cell.Cell.{Cell}
 use Rattle.mlt_types.specs.declared.cell.Cell.TheVariants.{Account, Element, Counter}
 use Rattle.mlt_types.specs.Cells.{IsInRange, key_number}
+use Rattle.mlt_types.specs.Maps.{with_entry}
 use Rattle.mlt_kinds.specs.declared.operation.ObjOp.{ObjOp}
 use Rattle.mlt_kinds.specs.declared.operation.ObjReply.{ObjReply}
 use Rattle.mlt_kinds.proofs.BaseLaws.{IsStateOf, entry_beside, entry_here, one_cell_or_two, same_base, state_beside, state_here, step_to}
-use Rattle.mlt_kinds.specs.Bases.{Base, Step, state_at, with_entry, with_state}
+use Rattle.mlt_kinds.specs.Bases.{Base, Step, state_at, with_state}
 use Rattle.mlt_kinds.specs.Cells.{CellStep}
 use Rattle.mlt_kinds.specs.Operations.{cell_of}
 use Rattle.mlt_base.specs.Meaning.{Means}

@@ -2,6 +2,7 @@
 use Rattle.std.proofs.Common.{◌≡◌, ℕ, Bool, Option, is_some, refl, sym, subst}
 use Rattle.std.specs.Ordering.{nat_cmp}
 use Rattle.std.specs.FinMap as map
+use Rattle.mlt_types.specs.Maps.{with_entry}
 use Rattle.mlt_kinds.specs.declared.account.AccountOp.{AccountOp}
 use Rattle.mlt_kinds.specs.declared.counter.CounterOp.{CounterOp}
 use Rattle.mlt_kinds.specs.declared.element.ElementOp.{ElementOp}
@@ -10,7 +11,7 @@ use Rattle.mlt_kinds.specs.declared.operation.ObjOp.TheVariants as op
 use Rattle.mlt_kinds.specs.declared.operation.ObjReply.{ObjReply}
 use Rattle.mlt_kinds.specs.Accounts.{AccountStep}
 use Rattle.mlt_kinds.proofs.BaseLaws.{step_to}
-use Rattle.mlt_kinds.specs.Bases.{Base, Step, counter_entry, counter_value, element_cmp, element_entry, state_at, with_entry}
+use Rattle.mlt_kinds.specs.Bases.{Base, Step, counter_entry, counter_value, element_cmp, element_entry, state_at}
 use Rattle.mlt_kinds.specs.Cells.{CellStep}
 use Rattle.mlt_kinds.specs.Cells.CellState.{AccountState, CounterState, ElementState}
 use Rattle.mlt_kinds.specs.Counters.{CounterStep}

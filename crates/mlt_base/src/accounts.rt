@@ -3,9 +3,9 @@
 ghost use Rattle.std.specs.Prelude.{◌≡◌, ◌++◌, None, IfErr, IfOk, OnErr, OnOk, IsSome};
 ghost use Rattle.std.specs.FinMap as map;
 ghost use Rattle.std.specs.String.{string_bytes};
+ghost use Rattle.mlt_types.specs.Maps.{with_entry};
 ghost use Rattle.mlt_base.specs.BaseText.{account_lines};
 ghost use Rattle.mlt_kinds.specs.Accounts.{IsAccount};
-ghost use Rattle.mlt_kinds.specs.Bases.{with_entry};
 
 use crate::text::push_accounts;
 use mlt_types::Refusal;

@@ -3,8 +3,9 @@
 ghost use Rattle.std.specs.Prelude.{◌≡◌, ◌≢◌, ◌++◌, None, IfErr, IfOk, OnErr, OnOk};
 ghost use Rattle.std.specs.FinMap as map;
 ghost use Rattle.std.specs.String.{string_bytes};
+ghost use Rattle.mlt_types.specs.Maps.{with_entry};
 ghost use Rattle.mlt_base.specs.BaseText.{counter_lines};
-ghost use Rattle.mlt_kinds.specs.Bases.{counter_entry, counter_value, with_entry};
+ghost use Rattle.mlt_kinds.specs.Bases.{counter_entry, counter_value};
 
 use crate::text::push_counters;
 use mlt_types::Refusal;

@@ -3,8 +3,9 @@
 ghost use Rattle.std.specs.Prelude.{◌≡◌, ◌++◌, false, true, IfErr, IfOk, OnErr, OnOk, is_some};
 ghost use Rattle.std.specs.FinMap as map;
 ghost use Rattle.std.specs.String.{string_bytes};
+ghost use Rattle.mlt_types.specs.Maps.{with_entry};
 ghost use Rattle.mlt_base.specs.BaseText.{element_lines};
-ghost use Rattle.mlt_kinds.specs.Bases.{element_entry, with_entry};
+ghost use Rattle.mlt_kinds.specs.Bases.{element_entry};
 
 use crate::text::push_elements;
 use mlt_types::Refusal;

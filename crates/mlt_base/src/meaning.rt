@@ -5,12 +5,13 @@ ghost use Rattle.std.specs.FinMap as map;
 ghost use Rattle.std.specs.Ordering.{nat_cmp};
 ghost use Rattle.mlt_base.specs.Meaning.{Means};
 ghost use Rattle.mlt_base.specs.Records.{IsRecord, state_of_record};
-ghost use Rattle.mlt_kinds.specs.Bases.{Base, Step, with_entry};
+ghost use Rattle.mlt_kinds.specs.Bases.{Base, Step};
 ghost use Rattle.mlt_kinds.specs.Cells.{CellStep};
 ghost use Rattle.mlt_kinds.specs.Operations.{cell_of};
 ghost use Rattle.mlt_kinds.specs.declared.operation.ObjOp.{ObjOp};
 ghost use Rattle.mlt_kinds.specs.declared.operation.ObjReply.{ObjReply};
 ghost use Rattle.mlt_types.specs.Cells.{IsInRange, key_number};
+ghost use Rattle.mlt_types.specs.Maps.{with_entry};
 
 /// Live records mean one base at most. Where they mean a base, and the record of an operation's cell changes so
 /// that the cell makes the operation's step, they mean a base that the operation's step leads to (`step`); and

@@ -6,6 +6,7 @@ use Rattle.std.specs.FinMap.{nat_cmp-IsAntisymmetric}
 use Rattle.std.specs.FinSet as set
 use Rattle.std.proofs.lemmas.Cmp.{nat_cmp_total}
 use Rattle.std.proofs.lemmas.Bool.{cases_Bool, both_ways, cond-true, cond-false}
+use Rattle.mlt_types.specs.Maps.{with_entry}
 use Rattle.mlt_page.specs.declared.slot.Slot.{Slot}
 use Rattle.mlt_page.specs.declared.slot.Slot.TheVariants.{Free, Live}
 use Rattle.mlt_page.specs.declared.page.Page.{Page}
@@ -13,7 +14,7 @@ use Rattle.mlt_hash_form.specs.Changes.{ChangesRecord, IsOpening, IsSplit}
 use Rattle.mlt_hash_form.specs.File.{FilePages, GivesPseudokeys, buckets_of, lead_of, HasForm, look_up}
 use Rattle.mlt_hash_form.specs.Form.{slot_at}
 use Rattle.mlt_hash_form.specs.Held.{Agrees, ChangesFile, SeenPages, over}
-use Rattle.mlt_hash_form.specs.Records.{live_records, with_record}
+use Rattle.mlt_hash_form.specs.Records.{live_records}
 use Rattle.mlt_hash_form.proofs.HeldPages.{changed_values}
 use Rattle.mlt_hash_form.proofs.InPages.{same_option}
 use Rattle.mlt_hash_form.proofs.Lookup.{found}
@@ -41,19 +42,19 @@ module _ (bits : ℕ → ℕ) (pages pages' : map.FinMap nat_cmp Page) (root key
       ]
 
 -- a map with another value of one key, or none, looked up
-with_record_at : (records : map.FinMap nat_cmp ℕ) (key : ℕ) (value : Option ℕ) (q : ℕ)
-    → map.get (with_record records key value) q ≡ cond (eq_by_cmp nat_cmp q key) value (map.get records q)
-with_record_at records key None q = map.get-remove nat_cmp_total records key q
-with_record_at records key (Some value) q = map.get-insert nat_cmp_total records key value q
+with_entry_at : (records : map.FinMap nat_cmp ℕ) (key : ℕ) (value : Option ℕ) (q : ℕ)
+    → map.get (with_entry records key value) q ≡ cond (eq_by_cmp nat_cmp q key) value (map.get records q)
+with_entry_at records key None q = map.get-remove nat_cmp_total records key q
+with_entry_at records key (Some value) q = map.get-insert nat_cmp_total records key value q
 
 -- where the look-ups of all keys but one are the same, the map changes at this key alone
 module _ (bits : ℕ → ℕ) (pages pages' : map.FinMap nat_cmp Page) (root key : ℕ) (value : Option ℕ) (bounded : GivesPseudokeys bits) (file : HasForm bits (map.get pages) root) where
   pub changed_map : HasForm bits (map.get pages') root → look_up bits (map.get pages') root key ≡ value
       → ((k : ℕ) → (k ≡ key → ⊥) → look_up bits (map.get pages') root k ≡ look_up bits (map.get pages) root k)
-      → live_records pages' ≡ with_record (live_records pages) key value
+      → live_records pages' ≡ with_entry (live_records pages) key value
   changed_map file' here others =
       map.same_map nat_cmp_total nat_cmp-IsAntisymmetric _ _ (λ q.
-      change_at bits pages pages' root key value bounded file file' here others q ∙ sym (with_record_at (live_records pages) key value q))
+      change_at bits pages pages' root key value bounded file file' here others q ∙ sym (with_entry_at (live_records pages) key value q))
 
 pub inserted : (bits : ℕ → ℕ) (pages pages' : map.FinMap nat_cmp Page) (root key value n i : ℕ) (after : Slot) → GivesPseudokeys bits → HasForm bits (map.get pages) root
     → ChangesRecord bits (map.get pages) (map.get pages') root key (Some value) n i after → live_records pages' ≡ map.insert (live_records pages) key value
@@ -70,7 +71,7 @@ pub changed_file_map : (bits : ℕ → ℕ) (opens : set.FinSet nat_cmp) (root k
     → ChangesFile bits opens root seen rest own key value n i after
     → Agrees seen (map.get pages) → GivesPseudokeys bits → HasForm bits (map.get pages) root
     → ((q : ℕ) → map.get pages' q ≡ over (map.get pages) own q)
-    → HasForm bits (map.get pages') root × (live_records pages' ≡ with_record (live_records pages) key value)
+    → HasForm bits (map.get pages') root × (live_records pages' ≡ with_entry (live_records pages) key value)
 changed_file_map bits opens root key n i value after seen rest own pages pages' changes agrees bounded file ends =
     let values = changed_values bits opens root key n i value after seen rest own (map.get pages) changes agrees file in
     let same : over (map.get pages) own ≡ map.get pages' = λ j q. sym (ends q) j in

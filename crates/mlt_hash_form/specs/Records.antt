@@ -1,5 +1,5 @@
 -- The records of a file as a finite map
-use Rattle.std.specs.Prelude.{ℕ, ◌≡◌, List, [], ◌∷◌, Option, None, Some, ◌↔◌}
+use Rattle.std.specs.Prelude.{ℕ, ◌≡◌, List, [], ◌∷◌, Some, ◌↔◌}
 use Rattle.std.specs.List.{flat_map}
 use Rattle.std.specs.Ordering.{nat_cmp}
 use Rattle.std.specs.FinMap as map
@@ -20,11 +20,6 @@ abbrev pub live_records : map.FinMap nat_cmp Page → map.FinMap nat_cmp ℕ
 live_records pages =
     let pairs_on = λ (n : ℕ). flat_map live_pairs (buckets_of (map.get pages) n).slots in
     map.from_entries (flat_map pairs_on (map.keys pages))
-
--- the records, with this value of the key, or none
-abbrev pub with_record : map.FinMap nat_cmp ℕ → ℕ → Option ℕ → map.FinMap nat_cmp ℕ
-with_record records key None = map.remove records key
-with_record records key (Some value) = map.insert records key value
 
 -- a map has just the records of these pages
 abbrev pub IsRecordMap : map.FinMap nat_cmp ℕ → FilePages → Type 0

@@ -4,12 +4,13 @@ ghost use Rattle.std.specs.Prelude.{ℕ, ◌≡◌, Option, None, Some};
 ghost use Rattle.std.specs.Ordering.{nat_cmp};
 ghost use Rattle.std.specs.FinMap as map;
 ghost use Rattle.std.specs.FinSet as set;
+ghost use Rattle.mlt_types.specs.Maps.{with_entry};
 ghost use Rattle.mlt_page.specs.declared.page.Page.{Page};
 ghost use Rattle.mlt_page.specs.declared.slot.Slot.{Slot};
 ghost use Rattle.mlt_hash_form.specs.Changes.{ChangesRecord, IsOpening, IsSplit};
 ghost use Rattle.mlt_hash_form.specs.File.{FilePages, GivesPseudokeys, HasForm, look_up};
 ghost use Rattle.mlt_hash_form.specs.Held.{Agrees, ChangesFile, SeenPages, over};
-ghost use Rattle.mlt_hash_form.specs.Records.{IsRecordMap, live_records, with_record};
+ghost use Rattle.mlt_hash_form.specs.Records.{IsRecordMap, live_records};
 
 /// The records of a file are those of one finite map, which its live slots make.
 pub fn records_are_a_map()
@@ -53,7 +54,7 @@ pub fn changed_file_changes_the_map()
         → Agrees seen (map.get pages) → GivesPseudokeys bits → HasForm bits (map.get pages) root
         → ((q : ℕ) → map.get pages' q ≡ over (map.get pages) own q)
         → HasForm bits (map.get pages') root
-        × (live_records pages' ≡ with_record (live_records pages) key value) }
+        × (live_records pages' ≡ with_entry (live_records pages) key value) }
 {}
 
 /// A file as it is opened has no record.

@@ -10,11 +10,12 @@ use Rattle.std.specs.Cmp.{IsTotalOrder, nat_cmp_total}
 use Rattle.std.specs.FinMap as map
 use Rattle.mlt_types.specs.declared.cell.Cell.{Cell}
 use Rattle.mlt_types.specs.declared.cell.Cell.TheVariants.{Account, Element, Counter}
+use Rattle.mlt_types.specs.Maps.{with_entry}
 use Rattle.mlt_kinds.specs.declared.operation.ObjOp.{ObjOp}
 use Rattle.mlt_kinds.specs.declared.operation.ObjOp.TheVariants as op
 use Rattle.mlt_kinds.specs.declared.operation.ObjReply.{ObjReply}
 use Rattle.mlt_kinds.specs.AccountLaws.{account_one_answer, account_one_start}
-use Rattle.mlt_kinds.specs.Bases.{Base, Step, counter_entry, counter_value, element_cmp, element_entry, state_at, with_entry, with_state}
+use Rattle.mlt_kinds.specs.Bases.{Base, Step, counter_entry, counter_value, element_cmp, element_entry, state_at, with_state}
 use Rattle.mlt_kinds.specs.Cells.{CellState, CellStep}
 use Rattle.mlt_kinds.specs.Cells.CellState.{AccountState, ElementState, CounterState}
 use Rattle.mlt_kinds.specs.CounterLaws.{counter_one_answer, counter_one_start}

@@ -7,6 +7,7 @@ use Rattle.std.specs.FinMap as map
 use Rattle.std.specs.FinSet as set
 use Rattle.mlt_types.specs.declared.cell.Cell.{Cell}
 use Rattle.mlt_types.specs.declared.cell.Cell.TheVariants.{Account, Element, Counter}
+use Rattle.mlt_types.specs.Maps.{with_entry}
 use Rattle.mlt_kinds.specs.declared.operation.ObjOp.{ObjOp}
 use Rattle.mlt_kinds.specs.declared.operation.ObjReply.{ObjReply}
 use Rattle.mlt_kinds.specs.Cells.{CellState, CellStep}
@@ -59,11 +60,6 @@ abbrev pub state_at : Base → Cell → CellState
 state_at b (Account a) = AccountState (account_at b a)
 state_at b (Element s e) = ElementState (element_at b s e)
 state_at b (Counter c) = CounterState (counter_at b c)
-
--- the map with this at the key, or with nothing there
-abbrev pub with_entry : {K X : Type 0} {R : K → K → Ordering} → map.FinMap R X → K → Option X → map.FinMap R X
-with_entry m k None = map.remove m k
-with_entry m k (Some x) = map.insert m k x
 
 -- what is kept of an element
 abbrev pub element_entry : Bool → Option (Unit {0})

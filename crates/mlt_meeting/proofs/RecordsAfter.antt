@@ -4,11 +4,11 @@ use Rattle.std.specs.Cmp.{nat_cmp_total}
 use Rattle.std.specs.FinMap as map
 use Rattle.std.specs.Ordering.{nat_cmp}
 use Rattle.mlt_types.specs.Cells.{IsInRange, key_number}
+use Rattle.mlt_types.specs.Maps.{with_entry}
 use Rattle.mlt_page.specs.declared.page.Page.{Page}
 use Rattle.mlt_kinds.specs.declared.operation.ObjOp.{ObjOp}
 use Rattle.mlt_kinds.specs.declared.operation.ObjReply.{ObjReply}
 use Rattle.mlt_kinds.proofs.BaseLaws.{entry_beside, entry_here, one_cell_or_two}
-use Rattle.mlt_kinds.specs.Bases.{with_entry}
 use Rattle.mlt_kinds.specs.Operations.{cell_of}
 use Rattle.mlt_base.proofs.Meanings.{same_cell}
 use Rattle.mlt_base.specs.Records.{HasWhatIsUndone}

@@ -1,21 +1,21 @@
 -- What the end of a walk makes of the clean pages: their form, their depth, and the map of their records.
-use Rattle.std.proofs.Common.{◌≡◌, ℕ, ◌≤◌, Option, Some, None, refl, sym, subst, ap, ◌∙◌, inl, inr}
+use Rattle.std.proofs.Common.{◌≡◌, ℕ, ◌≤◌, Option, Some, None, sym, subst, ap, ◌∙◌, inl, inr}
 use Rattle.std.specs.Prelude.{unwrap_or}
 use Rattle.std.specs.FinMap as map
 use Rattle.std.specs.Ordering.{nat_cmp}
 use Rattle.std.specs.Cmp.{nat_cmp_total}
 use Rattle.std.proofs.lemmas.Bool.{cases_eq}
+use Rattle.mlt_types.specs.Maps.{with_entry}
 use Rattle.mlt_page.specs.declared.page.Page.{Page}
 use Rattle.mlt_page.specs.declared.page.Page.TheVariants as page
 use Rattle.mlt_kinds.specs.declared.operation.ObjOp.{ObjOp}
-use Rattle.mlt_kinds.specs.Bases.{with_entry}
 use Rattle.mlt_kinds.proofs.BaseLaws.{entry_beside, entry_here}
 use Rattle.mlt_base.specs.declared.record.RecChange.{RecChange}
 use Rattle.mlt_base.specs.declared.record.RecChange.TheVariants as rec
 use Rattle.mlt_base.specs.Records.{record_after}
 use Rattle.mlt_hash_form.specs.File.{HasForm, depth_of, header_of}
 use Rattle.mlt_hash_form.specs.Held.{own_or}
-use Rattle.mlt_hash_form.specs.Records.{live_records, with_record}
+use Rattle.mlt_hash_form.specs.Records.{live_records}
 use Rattle.mlt_hash_form.proofs.MapChanges.{changed_file_map}
 use Rattle.mlt_hash.specs.Passes.{slot_after, value_after}
 use Rattle.mlt_hash.specs.declared.pass.Change.{Change}
@@ -37,11 +37,6 @@ performed (rec.Plus n) (Some v) done is = ap value_after is
 performed (rec.Minus n) (Some v) done is = ap value_after is
 performed (rec.Plus n) None done is = absurd is
 performed (rec.Minus n) None done is = absurd is
-
--- the two words for a map with one entry changed
-record_is_entry : (records : map.FinMap nat_cmp ℕ) (key : ℕ) (value : Option ℕ) → with_record records key value ≡ with_entry records key value
-record_is_entry records key None = refl
-record_is_entry records key (Some v) = refl
 
 -- what is there already changes nothing
 same_entry : (records : map.FinMap nat_cmp ℕ) (key : ℕ) → records ≡ with_entry records key (map.get records key)
@@ -71,7 +66,7 @@ module _ (world : World) (tx : ℕ) (op : ObjOp) (change : RecChange) (pages : m
       record {
         form = made.0;
         shallow = subst (λ (depth : ℕ). depth ≤ world.max_depth) (sym (ap (λ p. (header_of p).depth) header_now)) e.changed.shallow;
-        records_are = made.1 ∙ record_is_entry (live_records world.pages) e.walk.key (value_after e.done)
+        records_are = made.1
             ∙ ap (λ (key : ℕ). with_entry (live_records world.pages) key (value_after e.done)) e.key_is
             ∙ ap (with_entry (live_records world.pages) (op_key op)) (performed change (record_of world op) e.done e.performs);
       }

@@ -9,7 +9,7 @@ use Rattle.std.specs.Map.{keys_of, lookup}
 use Rattle.std.specs.List.Sorted.{IsStrictlySortedBy}
 use Rattle.std.specs.BTreeMap.{is_at}
 use Rattle.std.specs.Option.{option_copied}
-use Rattle.mlt_kinds.specs.Bases.{with_entry}
+use Rattle.mlt_types.specs.Maps.{with_entry}
 use Rattle.mlt_base.proofs.Maps.{entries_that_rise, in_map, map_updated}
 use Rattle.mlt_page.specs.declared.page.Page.{Page}
 use Rattle.mlt_transaction.specs.declared.transaction.Transaction.{Transaction}

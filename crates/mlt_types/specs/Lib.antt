@@ -1,4 +1,5 @@
 pub mod Cells
 pub mod Limits
+pub mod Maps
 pub mod Pseudokeys
 pub mod Refusals

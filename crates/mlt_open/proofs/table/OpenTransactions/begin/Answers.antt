@@ -1,5 +1,5 @@
 use Rattle.std.proofs.Common.{Some, ◌∙◌}
-use Rattle.mlt_kinds.specs.Bases.{with_entry}
+use Rattle.mlt_types.specs.Maps.{with_entry}
 use Rattle.mlt_open.proofs.Tables.{entries_updated}
 use Rattle.mlt_open.proofs.table.OpenTransactions.begin.Goals as goal
 
