@@ -1,7 +1,7 @@
 //! The open transactions of a manager, by their numbers.
 #![tactic(auto)]
 
-mod place;
+mod berth;
 mod table;
 
 pub use table::OpenTransactions;

@@ -9,7 +9,7 @@ ghost use Rattle.mlt_transaction.specs.declared.transaction.Transaction.{Transac
 ghost use Rattle.mlt_transaction.specs.Transactions.{IsPending, MayStepIn};
 ghost use Rattle.mlt_open.specs.Tables.{BeginsOne, CallsNone, CallsOne, CancelsOne, KeepsImage, KeepsNoImage, PutsOneAt, StepsOne};
 
-use crate::place::{Place, leave_place, take_place};
+use crate::berth::{Berth, leave_berth, take_berth};
 use mlt_event::Answer;
 use mlt_hash_form::Root;
 use mlt_kinds::ObjOp;
@@ -22,12 +22,12 @@ use std::marker::Model;
 
 /// The open transactions. A contract sees a finite map from their numbers.
 ///
-/// The place of a transaction that has ended is used again, with the room of its undo list.
+/// The berth of a transaction that has ended is used again, with the room of its undo list.
 #[derive(Drop)]
 pub struct OpenTransactions {
     alloc: Global,
-    txs: BTreeMap<u64, Place>,
-    left: Vec<Place>,
+    txs: BTreeMap<u64, Berth>,
+    left: Vec<Berth>,
 }
 
 impl Model for OpenTransactions {
@@ -68,8 +68,8 @@ impl OpenTransactions {
     pub fn get(&self, tx: TxId) -> Option<&Transaction>
         ensures { option_copied result ≡ map.get self.now tx }
     {
-        let place = self.txs.get(&tx.0)?;
-        Some(place.get())
+        let berth = self.txs.get(&tx.0)?;
+        Some(berth.get())
     }
 
     /// The first image of a page that an open transaction keeps, if one does. It takes no memory.
@@ -95,10 +95,10 @@ impl OpenTransactions {
         ensures err { OnErr result (self.new ≡ self.old) }
         ensures refusal { IfErr result (λ refusal. refusal ≡ Refusal.OutOfMemory) }
     {
-        // Room for all places, so that none is taken when a transaction ends.
+        // Room for all berths, so that none is taken when a transaction ends.
         self.left.reserve(self.txs.len().saturating_add(1))?;
-        let place = take_place(&mut self.left, self.alloc, tx)?;
-        self.txs.insert(tx.0, place)?;
+        let berth = take_berth(&mut self.left, self.alloc, tx)?;
+        self.txs.insert(tx.0, berth)?;
         Ok(())
     }
 
@@ -106,8 +106,8 @@ impl OpenTransactions {
     pub fn remove(&mut self, tx: TxId)
         ensures { self.new ≡ with_entry self.old tx None }
     {
-        let place = self.txs.remove(&tx.0);
-        leave_place(&mut self.left, place);
+        let berth = self.txs.remove(&tx.0);
+        leave_berth(&mut self.left, berth);
     }
 
     /// Calls the transaction of a number, which is open and at nothing, with an operation.

@@ -1,4 +1,4 @@
-//! The place of one open transaction.
+//! The berth of one open transaction: the memory in which it lies.
 
 ghost use Rattle.std.specs.Prelude.{◌≡◌, ◌≤◌, None, Some, OnOk, OnErr, IfOk, IfErr, option_copied};
 ghost use Rattle.mlt_subtx.specs.Images.{AreThere, image_of};
@@ -18,11 +18,11 @@ use std::marker::Model;
 /// A transaction that stays where it is, however the table around it moves: with room for two pages it is large. A
 /// contract sees the transaction.
 #[derive(Drop)]
-pub(crate) struct Place {
+pub(crate) struct Berth {
     transaction: Box<Transaction>,
 }
 
-impl Model for Place {
+impl Model for Berth {
     ghost use Rattle.mlt_transaction.specs.declared.transaction.Transaction.{Transaction};
     ghost use Rattle.mlt_transaction.specs.contracts.transaction.Transaction.{the_row};
 
@@ -30,23 +30,23 @@ impl Model for Place {
 
     ghost coded = { the_row.coded };
 
-    ghost view = { λ place. place.transaction.value };
+    ghost view = { λ berth. berth.transaction.value };
 }
 
-impl Place {
-    /// A place with a transaction of this number that has done nothing.
+impl Berth {
+    /// A berth with a transaction of this number that has done nothing.
     ///
     /// # Errors
     /// A growth was refused.
-    pub(crate) fn new(alloc: Global, tx: TxId) -> Result<Place, AllocError>
+    pub(crate) fn new(alloc: Global, tx: TxId) -> Result<Berth, AllocError>
         ensures { IfOk result (HasDoneNothing tx) }
     {
-        Ok(Place {
+        Ok(Berth {
             transaction: Box::new(alloc, Transaction::begin(alloc, tx))?,
         })
     }
 
-    /// Puts a transaction of this number that has done nothing here, in the place of another.
+    /// Puts a transaction of this number that has done nothing here, in place of another.
     pub(crate) fn restart(&mut self, alloc: Global, tx: TxId)
         ensures { HasDoneNothing tx self.new }
     {
@@ -110,32 +110,32 @@ impl Place {
     }
 }
 
-/// A place with a transaction of this number that has done nothing: one that was left, where there is one.
+/// A berth with a transaction of this number that has done nothing: one that was left, where there is one.
 ///
 /// # Errors
 /// A growth was refused.
-pub(crate) fn take_place(
-    left: &mut Vec<Place>,
+pub(crate) fn take_berth(
+    left: &mut Vec<Berth>,
     alloc: Global,
     tx: TxId,
-) -> Result<Place, AllocError>
+) -> Result<Berth, AllocError>
     ensures { IfOk result (HasDoneNothing tx) }
 {
     match left.pop() {
-        Some(mut place) => {
-            place.restart(alloc, tx);
-            Ok(place)
+        Some(mut berth) => {
+            berth.restart(alloc, tx);
+            Ok(berth)
         }
-        None => Place::new(alloc, tx),
+        None => Berth::new(alloc, tx),
     }
 }
 
-/// Leaves the place, if there is one, for a transaction to come. It takes no memory: where there is no room, the place is
+/// Leaves the berth, if there is one, for a transaction to come. It takes no memory: where there is no room, the berth is
 /// given back.
-pub(crate) fn leave_place(left: &mut Vec<Place>, place: Option<Place>) {
-    if let Some(place) = place {
+pub(crate) fn leave_berth(left: &mut Vec<Berth>, berth: Option<Berth>) {
+    if let Some(berth) = berth {
         if left.len() < left.capacity() {
-            left.push_reserved(place);
+            left.push_reserved(berth);
         }
     }
 }
