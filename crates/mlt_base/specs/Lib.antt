@@ -1,6 +1,6 @@
 pub mod BaseText
+pub mod Effects
 pub mod Growth
 pub mod Kept
 pub mod Meaning
-pub mod Plans
 pub mod Records

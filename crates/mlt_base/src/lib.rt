@@ -13,5 +13,5 @@ mod text;
 
 pub use base::Base;
 pub use meaning::records_mean_bases;
-pub use record::{RecChange, inverse, plan, reply};
+pub use record::{RecChange, access, inverse, reply};
 pub use text::write_base;

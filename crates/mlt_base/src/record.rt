@@ -2,7 +2,7 @@
 //! record or none, and the change that undoes it.
 
 ghost use Rattle.std.specs.Prelude.{◌≡◌, ◌≤◌, ℕ, Option, is_some, length};
-ghost use Rattle.mlt_base.specs.Plans.{account_inverse_of, account_reply_of, changes_on, counter_inverse_of, counter_reply_of, element_inverse_of, element_reply_of, inverse_of, plan_of, reply_of};
+ghost use Rattle.mlt_base.specs.Effects.{access_of, account_inverse_of, account_reply_of, changes_on, counter_inverse_of, counter_reply_of, element_inverse_of, element_reply_of, inverse_of, reply_of};
 ghost use Rattle.mlt_base.specs.Records.{CanChange, counter_of_record, HasWhatIsUndone, IsRecord, record_after, state_of_record};
 ghost use Rattle.mlt_kinds.specs.Accounts.{AccountStep, IsAccount};
 ghost use Rattle.mlt_kinds.specs.Cells.{CellState, CellStep};
@@ -32,8 +32,8 @@ pub enum RecChange {
 
 /// The key of the record that an operation reads, and the mode in which it locks the bucket: `Shared` for
 /// `balance`, `has` and `read`, which change nothing, and else `Exclusive`.
-pub fn plan(op: &ObjOp) -> (Key, Mode)
-    ensures { result ≡ plan_of op.now }
+pub fn access(op: &ObjOp) -> (Key, Mode)
+    ensures { result ≡ access_of op.now }
 {
     let mode = match *op {
         ObjOp::Account(_, AccountOp::Balance) => Mode::Shared,

@@ -2,7 +2,7 @@
 use Rattle.std.specs.Prelude.{ℕ, ◌≡◌, ◌<◌, ◌≤◌, ◌+◌, ◌-◌, ◌*◌, ◌⊎◌, List, [], ◌∷◌, ◌++◌, None, IsSome, true}
 use Rattle.mlt_kinds.specs.declared.operation.ObjOp.{ObjOp}
 use Rattle.mlt_kinds.specs.declared.operation.ObjReply.{ObjReply}
-use Rattle.mlt_base.specs.Plans.{inverse_of}
+use Rattle.mlt_base.specs.Effects.{inverse_of}
 use Rattle.mlt_held.specs.Moments.{moment}
 use Rattle.mlt_held.specs.Views.{View}
 use Rattle.mlt_hash.specs.StepsLeft.{bucket_depth, directory_depth}

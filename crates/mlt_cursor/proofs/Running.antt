@@ -16,8 +16,8 @@ use Rattle.mlt_cursor.specs.declared.skipping.Skipping.{Skipping}
 use Rattle.mlt_cursor.specs.declared.skipping.Skipping.TheVariants.{Nowhere, ToElse, ToEnd}
 use Rattle.mlt_cursor.specs.declared.cursor.Next.{Next}
 use Rattle.mlt_cursor.specs.declared.cursor.Next.TheVariants as next
-use Rattle.mlt_cursor.specs.Follows.{Plan, Variables, IsNext, IsAsking, answered, goes_on, set_by}
-use Rattle.mlt_cursor.specs.Follows.Plan.{Ends, Asks}
+use Rattle.mlt_cursor.specs.Follows.{Questions, Variables, IsNext, IsAsking, answered, goes_on, set_by}
+use Rattle.mlt_cursor.specs.Follows.Questions.{Ends, Asks}
 use Rattle.mlt_cursor.specs.Hearing.{question, heard, heard_values, after_hearing}
 use Rattle.mlt_cursor.specs.Runs.{run, passed, stops_at, is_settled}
 
@@ -94,8 +94,8 @@ pub run_out : (ls : List Line) (at : ℕ) (vs : Variables) (end : Ending) → le
 unfolding run
 run_out ls at vs end h = rw (drop_all at ls h) refl
 
--- a plan whose next is an operation is asking it
-pub asks : (o : ObjOp) (p : Plan) → IsNext (next.Op o) p → IsAsking p
+-- where an operation comes next, it is being asked
+pub asks : (o : ObjOp) (p : Questions) → IsNext (next.Op o) p → IsAsking p
 asks o (Asks op after) h = tt
 asks o (Ends e) h = absurd h
 

@@ -2,11 +2,11 @@
 use Rattle.std.specs.Prelude.{ℕ, ◌-◌, length, drop}
 use Rattle.mlt_cursor.specs.declared.cursor.Cursor.{Cursor}
 use Rattle.mlt_cursor.specs.declared.skipping.Skipping.TheVariants.{Nowhere}
-use Rattle.mlt_cursor.specs.Follows.{Plan}
+use Rattle.mlt_cursor.specs.Follows.{Questions}
 use Rattle.mlt_cursor.specs.Runs.{run}
 
-abbrev pub plan_of : Cursor → Plan
-plan_of c = run (drop c.at c.lines.now) Nowhere c.variables c.ending
+abbrev pub questions_of : Cursor → Questions
+questions_of c = run (drop c.at c.lines.now) Nowhere c.variables c.ending
 
 -- how many lines are left, of which each asks at most one operation
 abbrev pub left_of : Cursor → ℕ

@@ -26,9 +26,9 @@ use Rattle.mlt_words.specs.Letters.{index_of}
 use Rattle.mlt_tree.specs.Scripts.{ScriptForm}
 
 -- What is left of a script: its end, or an operation that it asks and how it goes on at each reply.
-pub data Plan : Type 0 where
-  Ends : Ending → Plan
-  Asks : ObjOp → (ObjReply → Plan) → Plan
+pub data Questions : Type 0 where
+  Ends : Ending → Questions
+  Asks : ObjOp → (ObjReply → Questions) → Questions
 
 -- the values of the variables a to z
 abbrev pub Variables : Type 0
@@ -97,45 +97,48 @@ set_by vs (Need a w) r = vs
 set_by vs (Let l s) r = slice_set vs (index_of l) (value_of r)
 
 -- What statements ask, and then what comes after them, by cases on the statements.
-abbrev pub plan : Block → Variables → (Variables → Plan) → Plan
-plan Nothing vs after = after vs
-plan (Then s rest) vs after = Asks (asked_by vs s) (λ r. if goes_on vs s r then plan rest (set_by vs s r) after else Ends Abort)
-plan (If a w first second rest) vs after =
-    Asks (asked vs a) (λ r. if is_wanted vs w r then plan first vs (λ us. plan rest us after) else plan second vs (λ us. plan rest us after))
+abbrev pub questions : Block → Variables → (Variables → Questions) → Questions
+questions Nothing vs after = after vs
+questions (Then s rest) vs after =
+    Asks (asked_by vs s) (λ r. if goes_on vs s r then questions rest (set_by vs s r) after else Ends Abort)
+questions (If a w first second rest) vs after =
+    Asks (asked vs a) (λ r. if is_wanted vs w r
+    then questions first vs (λ us. questions rest us after)
+    else questions second vs (λ us. questions rest us after))
 
-abbrev pub plan_of_script : ScriptForm → Plan
-plan_of_script s = plan s.block no_values (λ vs. Ends s.ending)
+abbrev pub questions_of_script : ScriptForm → Questions
+questions_of_script s = questions s.block no_values (λ vs. Ends s.ending)
 
--- Told the replies of the transcript in turn, a plan asks for just its operations, and the other plan is what is left.
-abbrev pub Reaches : Plan → Transcript → Plan → Type 0
+-- Told the replies of the transcript in turn, these questions are for just its operations, and the others are what is left.
+abbrev pub Reaches : Questions → Transcript → Questions → Type 0
 Reaches p [] q = p ≡ q
 Reaches (Asks op next) (x ∷ t) q = (x.0 ≡ op) × Reaches (next x.1) t q
 Reaches (Ends e) (x ∷ t) q = ⊥
 
 -- Told the replies of the transcript in turn, the script asks for just its operations, and then ends so.
 abbrev pub Follows : ScriptForm → Transcript → Ending → Type 0
-Follows s t end = Reaches (plan_of_script s) t (Ends end)
+Follows s t end = Reaches (questions_of_script s) t (Ends end)
 
 -- The transcript is the front of one that follows the script.
 abbrev pub IsPartial : ScriptForm → Transcript → Type 0
 IsPartial s t = (more : Transcript) × (end : Ending) × Follows s (t ++ more) end
 
--- Whatever it is told, a plan asks at most so many operations.
-abbrev pub AsksAtMost : ℕ → Plan → Type 0
-AsksAtMost most p = (t : Transcript) (q : Plan) → Reaches p t q → length t ≤ most
+-- Whatever they are told, these questions ask at most so many operations.
+abbrev pub AsksAtMost : ℕ → Questions → Type 0
+AsksAtMost most p = (t : Transcript) (q : Questions) → Reaches p t q → length t ≤ most
 
--- what a plan says next
-abbrev pub IsNext : Next → Plan → Type 0
+-- what comes next of these questions
+abbrev pub IsNext : Next → Questions → Type 0
 IsNext (next.Op o) (Asks op after) = o ≡ op
 IsNext next.Commit (Ends e) = e ≡ Commit
 IsNext next.Abort (Ends e) = e ≡ Abort
 IsNext n p = ⊥
 
-abbrev pub IsAsking : Plan → Type 0
+abbrev pub IsAsking : Questions → Type 0
 IsAsking (Asks op after) = Unit {0}
 IsAsking (Ends e) = ⊥
 
--- what is left of a plan once it was told a reply
-abbrev pub answered : Plan → ObjReply → Plan
+-- what is left of these questions once they were told a reply
+abbrev pub answered : Questions → ObjReply → Questions
 answered (Asks op after) r = after r
 answered (Ends e) r = Ends e

@@ -9,8 +9,8 @@ use Rattle.mlt_tree.specs.declared.statement.Line.{Line}
 use Rattle.mlt_tree.specs.declared.statement.Line.TheVariants as line
 use Rattle.mlt_tree.specs.declared.statement.Ending.{Ending}
 use Rattle.mlt_tree.specs.declared.statement.Ending.TheVariants.{Abort}
-use Rattle.mlt_cursor.specs.Follows.{Plan, Variables, asked, asked_by, goes_on, set_by, is_wanted}
-use Rattle.mlt_cursor.specs.Follows.Plan.{Ends}
+use Rattle.mlt_cursor.specs.Follows.{Questions, Variables, asked, asked_by, goes_on, set_by, is_wanted}
+use Rattle.mlt_cursor.specs.Follows.Questions.{Ends}
 use Rattle.mlt_cursor.specs.Runs.{run}
 
 abbrev pub question : Line → Variables → Next
@@ -29,6 +29,6 @@ abbrev pub heard_values : Line → Variables → ObjReply → Variables
 heard_values (line.Plain s) vs r = set_by vs s r
 heard_values l vs r = vs
 
-abbrev pub after_hearing : Option Skipping → List Line → Variables → Ending → Plan
+abbrev pub after_hearing : Option Skipping → List Line → Variables → Ending → Questions
 after_hearing None ls vs end = Ends Abort
 after_hearing (Some skipping) ls vs end = run ls skipping vs end

@@ -7,7 +7,7 @@ use Rattle.mlt_kinds.specs.Bases.{Transcript}
 use Rattle.mlt_tree.specs.declared.statement.Ending.{Ending}
 use Rattle.mlt_tree.specs.Scripts.{ScriptForm}
 use Rattle.mlt_cursor.specs.declared.cursor.Next.TheVariants as next
-use Rattle.mlt_cursor.specs.Follows.{Follows, IsNext, Plan, Reaches, plan_of_script}
+use Rattle.mlt_cursor.specs.Follows.{Follows, IsNext, Questions, Reaches, questions_of_script}
 
 -- what a desk says of an operation
 abbrev pub OnOperation : Type 0 → Type 1
@@ -22,8 +22,8 @@ module _ {D : Type 0} where
   -- the script was told the replies of a partial transcript, and then what it asked next was refused
   pub record StopsAt (answers : OnOperation D) (s : ScriptForm) (tx : ℕ) (d : D) (t : Transcript)
       (refusal : Refusal) (e : D) : Type 0 where
-    pub left : Plan
-    pub reaches : Reaches (plan_of_script s) t left
+    pub left : Questions
+    pub reaches : Reaches (questions_of_script s) t left
     pub middle : D
     pub gives : Gives answers tx d t middle
     pub op : ObjOp

@@ -6,8 +6,8 @@ use Rattle.mlt_tree.specs.declared.statement.Ending.{Ending}
 use Rattle.mlt_tree.specs.declared.statement.Ending.TheVariants.{Abort}
 use Rattle.mlt_cursor.specs.declared.skipping.Skipping.{Skipping}
 use Rattle.mlt_cursor.specs.declared.skipping.Skipping.TheVariants.{Nowhere, ToElse, ToEnd}
-use Rattle.mlt_cursor.specs.Follows.{Plan, Variables, asked, asked_by, goes_on, set_by, is_wanted}
-use Rattle.mlt_cursor.specs.Follows.Plan.{Ends, Asks}
+use Rattle.mlt_cursor.specs.Follows.{Questions, Variables, asked, asked_by, goes_on, set_by, is_wanted}
+use Rattle.mlt_cursor.specs.Follows.Questions.{Ends, Asks}
 
 -- where it is passed over to once a line is passed over
 abbrev pub passed : Line → Skipping → Skipping
@@ -23,7 +23,7 @@ passed line.End (ToEnd (suc n)) = ToEnd n
 passed (line.If a w) (ToEnd n) = ToEnd (suc n)
 passed l (ToEnd n) = ToEnd n
 
-unfoldable pub run : List Line → Skipping → Variables → Ending → Plan
+unfoldable pub run : List Line → Skipping → Variables → Ending → Questions
 run [] m vs end = Ends end
 run (line.Plain s ∷ ls) Nowhere vs end = Asks (asked_by vs s) (λ r. if goes_on vs s r then run ls Nowhere (set_by vs s r) end else Ends Abort)
 run (line.If a w ∷ ls) Nowhere vs end = Asks (asked vs a) (λ r. run ls (if is_wanted vs w r then Nowhere else ToElse 0) vs end)

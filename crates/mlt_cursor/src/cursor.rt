@@ -2,7 +2,7 @@
 
 ghost use Rattle.std.specs.Prelude.{◌≡◌, true, Some, None, ◌<◌, ◌≤◌, length, drop};
 ghost use Rattle.mlt_kinds.specs.declared.operation.ObjOp.{ObjOp as OpForm};
-ghost use Rattle.mlt_cursor.specs.Follows.{Plan, same_reply, wanted_reply, is_wanted, asked, asked_from, value_of, IsNext, IsAsking, answered, no_values, plan_of_script};
+ghost use Rattle.mlt_cursor.specs.Follows.{Questions, same_reply, wanted_reply, is_wanted, asked, asked_from, value_of, IsNext, IsAsking, answered, no_values, questions_of_script};
 ghost use Rattle.mlt_cursor.specs.Hearing.{heard, heard_values, question};
 ghost use Rattle.mlt_cursor.specs.Runs.{is_settled};
 
@@ -136,11 +136,11 @@ pub struct Cursor<'a> {
 }
 
 impl<'a> Cursor<'a> {
-    ghost use Rattle.mlt_cursor.specs.Cursors.{left_of, plan_of};
+    ghost use Rattle.mlt_cursor.specs.Cursors.{left_of, questions_of};
 
     /// A cursor at the begin of the script.
     pub fn new(script: &'a Script) -> Cursor<'a>
-        ensures { plan_of result ≡ plan_of_script script.now }
+        ensures { questions_of result ≡ questions_of_script script.now }
     {
         let lines = script.lines();
         let variables = [0; 26];
@@ -156,8 +156,8 @@ impl<'a> Cursor<'a> {
 
     /// What the script does next.
     pub fn next(&self) -> Next
-        ensures next { IsNext result (plan_of self.now) }
-        ensures asking { (op : OpForm) → result ≡ Next.Op op → IsAsking (plan_of self.now) }
+        ensures next { IsNext result (questions_of self.now) }
+        ensures asking { (op : OpForm) → result ≡ Next.Op op → IsAsking (questions_of self.now) }
     {
         if self.at < self.lines.len() {
             return question_of(&self.variables, self.lines[self.at]);
@@ -170,8 +170,8 @@ impl<'a> Cursor<'a> {
 
     /// Goes on with the reply to the operation that `next` told.
     pub fn tell(&mut self, reply: ObjReply)
-        requires { IsAsking (plan_of self.old) }
-        ensures plan { plan_of self.new ≡ answered (plan_of self.old) reply }
+        requires { IsAsking (questions_of self.old) }
+        ensures questions { questions_of self.new ≡ answered (questions_of self.old) reply }
         ensures left { left_of self.new < left_of self.old }
     {
         let line = self.lines[self.at];

@@ -1,7 +1,7 @@
 //! How many operations a script asks at most.
 
 ghost use Rattle.std.specs.Prelude.{◌≤◌};
-ghost use Rattle.mlt_cursor.specs.Follows.{AsksAtMost, plan_of_script};
+ghost use Rattle.mlt_cursor.specs.Follows.{AsksAtMost, questions_of_script};
 
 use mlt_tree::Script;
 
@@ -10,7 +10,7 @@ const MOST: usize = 256;
 
 /// So many operations a script asks at most, whatever it is told. It takes no memory.
 pub fn most_asked(script: &Script) -> usize
-    ensures most { AsksAtMost result (plan_of_script script.now) }
+    ensures most { AsksAtMost result (questions_of_script script.now) }
     ensures limit { result ≤ 256 }
 {
     script.lines().len().min(MOST)

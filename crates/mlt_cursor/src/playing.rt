@@ -1,7 +1,7 @@
 //! A script that is played.
 
 ghost use Rattle.std.specs.Prelude.{◌≡◌, [], vec_capacity};
-ghost use Rattle.mlt_cursor.specs.Follows.{AsksAtMost, plan_of_script};
+ghost use Rattle.mlt_cursor.specs.Follows.{AsksAtMost, questions_of_script};
 ghost use Rattle.mlt_cursor.specs.Plays.{PlaysAt};
 
 use crate::answering::Answering;
@@ -22,7 +22,7 @@ pub fn play<A: Answering>(
     done: &mut Vec<Done>,
 ) -> Result<Ending, Refusal>
     requires empty { done.old.items ≡ [] }
-    requires room { AsksAtMost (vec_capacity done.old) (plan_of_script script.now) }
+    requires room { AsksAtMost (vec_capacity done.old) (questions_of_script script.now) }
     ensures { PlaysAt A.answers script.now tx desk.old done.new.items result desk.new }
 {
     let mut cursor = Cursor::new(script);

@@ -5,8 +5,8 @@ use Rattle.mlt_types.specs.declared.refusal.Refusal.{Refusal}
 use Rattle.mlt_tree.specs.declared.statement.Ending.{Ending}
 use Rattle.mlt_tree.specs.declared.statement.Ending.TheVariants.{Commit, Abort}
 use Rattle.mlt_tree.specs.Scripts.{ScriptForm}
-use Rattle.mlt_cursor.specs.Follows.{IsPartial, plan_of_script}
-use Rattle.mlt_cursor.specs.Follows.Plan.{Ends}
+use Rattle.mlt_cursor.specs.Follows.{IsPartial, questions_of_script}
+use Rattle.mlt_cursor.specs.Follows.Questions.{Ends}
 use Rattle.mlt_cursor.specs.Plays.{OnOperation, PlaysAt}
 use Rattle.mlt_cursor.proofs.Transcripts.{is_partial}
 use Rattle.mlt_serial.specs.declared.outcome.End.{End}
@@ -17,7 +17,7 @@ use Rattle.mlt_desk.specs.Clients.{AreOutcomes, AreRunsAt, IsServedAt, IsOutcome
 
 -- a script that asked nothing was told a partial transcript
 pub nothing_is_partial : (s : ScriptForm) (t : Transcript) → t ≡ [] → IsPartial s t
-nothing_is_partial s t nothing = subst (IsPartial s) (sym nothing) (is_partial s [] (plan_of_script s) refl)
+nothing_is_partial s t nothing = subst (IsPartial s) (sym nothing) (is_partial s [] (questions_of_script s) refl)
 
 module _ {D : Type 0} where
   -- how a script ended that was played and closed

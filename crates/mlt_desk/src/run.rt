@@ -1,7 +1,7 @@
 //! One script at a desk.
 
 ghost use Rattle.std.specs.Prelude.{◌≡◌, [], IfErr, IfOk, OnErr, vec_capacity};
-ghost use Rattle.mlt_cursor.specs.Follows.{AsksAtMost, plan_of_script};
+ghost use Rattle.mlt_cursor.specs.Follows.{AsksAtMost, questions_of_script};
 ghost use Rattle.mlt_desk.specs.Runs.{ClosesAs, HasEndedAs, IsRunAt, refusal_of_script};
 
 use crate::desk::Desk;
@@ -50,7 +50,7 @@ fn close<D: Desk>(desk: &mut D, tx: TxId, ended: Result<Ending, Refusal>) -> End
 /// transaction's number, 0 where none began, and how the script ended.
 fn run_transaction<D: Desk>(desk: &mut D, script: &Script, done: &mut Vec<Done>) -> (u64, End)
     requires empty { done.old.items ≡ [] }
-    requires room { AsksAtMost (vec_capacity done.old) (plan_of_script script.now) }
+    requires room { AsksAtMost (vec_capacity done.old) (questions_of_script script.now) }
     ensures ended { HasEndedAs script.now done.new.items result.1 }
     ensures run { IsRunAt D.begins D.answers D.commits D.aborts script.now
         desk.old result.0 done.new.items result.1 desk.new }

@@ -8,7 +8,7 @@ use Rattle.mlt_page.specs.declared.page.Page.{Page}
 use Rattle.mlt_kinds.specs.declared.operation.ObjOp.{ObjOp}
 use Rattle.mlt_kinds.specs.declared.operation.ObjReply.{ObjReply}
 use Rattle.mlt_base.specs.declared.record.RecChange.{RecChange}
-use Rattle.mlt_base.specs.Plans.{reply_of, changes_on}
+use Rattle.mlt_base.specs.Effects.{reply_of, changes_on}
 use Rattle.mlt_hash_form.specs.Held.{Agrees, own_or, over}
 use Rattle.mlt_held.specs.Views.{View}
 use Rattle.mlt_hash.specs.Walks.{HasPassed, Stands}

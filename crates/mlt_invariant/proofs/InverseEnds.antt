@@ -6,7 +6,7 @@ use Rattle.mlt_types.specs.declared.mode.Mode.{Mode}
 use Rattle.mlt_kinds.specs.declared.operation.ObjOp.{ObjOp}
 use Rattle.mlt_kinds.specs.declared.operation.ObjReply.{ObjReply}
 use Rattle.mlt_base.specs.declared.record.RecChange.{RecChange}
-use Rattle.mlt_base.specs.Plans.{inverse_of, changes_on}
+use Rattle.mlt_base.specs.Effects.{inverse_of, changes_on}
 use Rattle.mlt_page_locks.proofs.Maps.{same_entries}
 use Rattle.mlt_page_locks.specs.Requests.{released}
 use Rattle.mlt_subtx.specs.Images.{Running}

@@ -6,7 +6,7 @@ use Rattle.mlt_kinds.specs.declared.operation.ObjOp.{ObjOp}
 use Rattle.mlt_kinds.specs.declared.operation.ObjReply.{ObjReply}
 use Rattle.mlt_kinds.specs.Operations.{cell_of}
 use Rattle.mlt_order.specs.Interleavings.{items_of}
-use Rattle.mlt_base.specs.Plans.{inverse_of}
+use Rattle.mlt_base.specs.Effects.{inverse_of}
 use Rattle.mlt_object_locks.specs.Locks.{reservation_of}
 use Rattle.mlt_history.specs.Numbers.{AreBegunInOrder, AreCounted, begin_count}
 use Rattle.mlt_history.specs.Rooms.{total_room}

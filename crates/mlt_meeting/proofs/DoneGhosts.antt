@@ -8,7 +8,7 @@ use Rattle.mlt_kinds.specs.declared.operation.ObjOp.{ObjOp}
 use Rattle.mlt_kinds.specs.Operations.{cell_of}
 use Rattle.mlt_base.specs.declared.record.RecChange.{RecChange}
 use Rattle.mlt_base.specs.declared.record.RecChange.TheVariants as rec
-use Rattle.mlt_base.specs.Plans.{reply_of, changes_on}
+use Rattle.mlt_base.specs.Effects.{reply_of, changes_on}
 use Rattle.mlt_ghosts.specs.Ghosts.{PagesMatchOperations}
 use Rattle.mlt_ghosts.specs.Ledgers.{last_by}
 use Rattle.mlt_ghosts.specs.Operations.{Added, Presence, Removed, Standing}

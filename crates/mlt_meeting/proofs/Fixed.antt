@@ -17,7 +17,7 @@ use Rattle.mlt_kinds.specs.Cells.CellState.{AccountState, ElementState, CounterS
 use Rattle.mlt_kinds.specs.Counters.{CounterStep}
 use Rattle.mlt_kinds.specs.Operations.{cell_of}
 use Rattle.mlt_base.specs.Meaning.{Means}
-use Rattle.mlt_base.specs.Plans.{reply_of}
+use Rattle.mlt_base.specs.Effects.{reply_of}
 use Rattle.mlt_base.specs.Records.{record_after, state_of_record}
 use Rattle.mlt_base.proofs.Meanings.{one_meaning}
 use Rattle.mlt_commute.proofs.BaseOrder.{base_functional, base_injective}

@@ -18,7 +18,7 @@ use Rattle.mlt_kinds.specs.Elements.{ElementStep}
 use Rattle.mlt_kinds.specs.Operations.{cell_of}
 use Rattle.mlt_base.specs.declared.record.RecChange.{RecChange}
 use Rattle.mlt_base.specs.declared.record.RecChange.TheVariants.{ToGhost, Revive, Plus, Minus}
-use Rattle.mlt_base.specs.Plans.{account_inverse_of, counter_inverse_of, element_inverse_of, inverse_of}
+use Rattle.mlt_base.specs.Effects.{account_inverse_of, counter_inverse_of, element_inverse_of, inverse_of}
 use Rattle.mlt_base.specs.Records.{CanChange, HasWhatIsUndone, IsElementRecord, IsRecord, counter_of_record, record_after, state_of_record}
 use Rattle.mlt_ghosts.specs.Operations.{Presence, Added, Removed}
 use Rattle.mlt_meeting.specs.Presences.{account_presence, element_presence, presence_of}

@@ -13,7 +13,7 @@ use Rattle.mlt_kinds.specs.Bases.{Base, Step}
 use Rattle.mlt_kinds.specs.Operations.{cell_of}
 use Rattle.mlt_base.specs.declared.record.RecChange.{RecChange}
 use Rattle.mlt_base.specs.Meaning.{Means}
-use Rattle.mlt_base.specs.Plans.{reply_of, changes_on}
+use Rattle.mlt_base.specs.Effects.{reply_of, changes_on}
 use Rattle.mlt_base.specs.Records.{HasWhatIsUndone, record_after}
 use Rattle.mlt_base.proofs.Meanings.{means_step}
 use Rattle.mlt_commute.proofs.BaseOrder.{did_may_come}

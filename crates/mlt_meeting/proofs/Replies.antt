@@ -18,7 +18,7 @@ use Rattle.mlt_kinds.specs.Elements.{ElementStep}
 use Rattle.mlt_kinds.specs.Operations.{cell_of}
 use Rattle.mlt_base.specs.declared.record.RecChange.{RecChange}
 use Rattle.mlt_base.specs.declared.record.RecChange.TheVariants.{Add, Set, ToGhost}
-use Rattle.mlt_base.specs.Plans.{account_reply_of, counter_reply_of, element_reply_of, reply_of}
+use Rattle.mlt_base.specs.Effects.{account_reply_of, counter_reply_of, element_reply_of, reply_of}
 use Rattle.mlt_base.specs.Records.{HasWhatIsUndone, IsElementRecord, IsRecord, counter_of_record, record_after, state_of_record}
 use Rattle.mlt_ghosts.specs.Operations.{Presence, Added, Removed}
 use Rattle.mlt_meeting.specs.Presences.{account_amount, account_presence, amount_of, counter_amount, element_presence, presence_of}

@@ -13,7 +13,7 @@ use Rattle.mlt_kinds.specs.Bases.{Base, Step, empty_base, state_at}
 use Rattle.mlt_kinds.specs.Cells.{CellState, CellStep}
 use Rattle.mlt_kinds.specs.Operations.{cell_of}
 use Rattle.mlt_base.specs.Meaning.{Means}
-use Rattle.mlt_base.specs.Plans.{inverse_of, changes_on}
+use Rattle.mlt_base.specs.Effects.{inverse_of, changes_on}
 use Rattle.mlt_base.specs.Records.{CanChange, IsRecord, record_after, state_of_record}
 use Rattle.mlt_base.proofs.Meanings.{means_step_back}
 use Rattle.mlt_commute.proofs.BaseOrder.{base_functional, base_injective}

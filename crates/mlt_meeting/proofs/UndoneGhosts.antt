@@ -7,7 +7,7 @@ use Rattle.mlt_kinds.specs.declared.operation.ObjOp.{ObjOp}
 use Rattle.mlt_kinds.specs.declared.operation.ObjReply.{ObjReply}
 use Rattle.mlt_base.specs.declared.record.RecChange.{RecChange}
 use Rattle.mlt_base.specs.declared.record.RecChange.TheVariants as rec
-use Rattle.mlt_base.specs.Plans.{inverse_of, changes_on}
+use Rattle.mlt_base.specs.Effects.{inverse_of, changes_on}
 use Rattle.mlt_hash.specs.declared.pass.Change.{Change}
 use Rattle.mlt_hash.specs.declared.pass.Change.TheVariants.{Set}
 use Rattle.mlt_ghosts.specs.Ghosts.{PagesMatchOperations}

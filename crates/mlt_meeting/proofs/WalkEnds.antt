@@ -23,7 +23,7 @@ use Rattle.mlt_operation.specs.Performing.{Performs}
 use Rattle.mlt_meeting.specs.Ends.{ChangesPages, EndsWalk, KeepsPages}
 use Rattle.mlt_meeting.specs.Presences.{op_key}
 use Rattle.mlt_meeting.specs.Worlds.{PagesMeanHistory, World, record_of}
-use Rattle.mlt_base.specs.Plans.{changes_on}
+use Rattle.mlt_base.specs.Effects.{changes_on}
 use Rattle.mlt_kinds.specs.Operations.{cell_of}
 
 -- a walk's change leaves the value that the change of the record asks for

@@ -13,7 +13,7 @@ use Rattle.mlt_kinds.specs.declared.operation.ObjOp.{ObjOp}
 use Rattle.mlt_kinds.specs.declared.operation.ObjReply.{ObjReply}
 use Rattle.mlt_base.specs.declared.record.RecChange.{RecChange}
 use Rattle.mlt_base.specs.declared.record.RecChange.TheVariants as rec
-use Rattle.mlt_base.specs.Plans.{inverse_of}
+use Rattle.mlt_base.specs.Effects.{inverse_of}
 use Rattle.mlt_base.specs.Records.{CanChange}
 use Rattle.mlt_hash_form.specs.File.{bucket_of, buckets_of, lead_of, look_up}
 use Rattle.mlt_hash_form.specs.Form.{slot_at}

@@ -7,7 +7,7 @@ ghost use Rattle.mlt_kinds.specs.Operations.{cell_of};
 ghost use Rattle.mlt_kinds.specs.declared.operation.ObjOp.{ObjOp};
 ghost use Rattle.mlt_kinds.specs.declared.operation.ObjReply.{ObjReply};
 ghost use Rattle.mlt_base.specs.Meaning.{Means};
-ghost use Rattle.mlt_base.specs.Plans.{reply_of};
+ghost use Rattle.mlt_base.specs.Effects.{reply_of};
 ghost use Rattle.mlt_order.specs.Histories.{IsHistory};
 ghost use Rattle.mlt_hash_form.specs.Records.{live_records};
 ghost use Rattle.mlt_meeting.specs.Presences.{IsOpInRange};

@@ -7,7 +7,7 @@ ghost use Rattle.mlt_page.specs.declared.page.Page.{Page};
 ghost use Rattle.mlt_kinds.specs.Bases.{Base, Step};
 ghost use Rattle.mlt_kinds.specs.declared.operation.ObjOp.{ObjOp};
 ghost use Rattle.mlt_kinds.specs.declared.operation.ObjReply.{ObjReply};
-ghost use Rattle.mlt_base.specs.Plans.{inverse_of, reply_of, changes_on};
+ghost use Rattle.mlt_base.specs.Effects.{inverse_of, reply_of, changes_on};
 ghost use Rattle.mlt_meeting.specs.Ends.{ChangesPages};
 ghost use Rattle.mlt_meeting.specs.Events.{MayDo, MayUndo, with_done, with_undone};
 ghost use Rattle.mlt_meeting.specs.Worlds.{PagesMeanHistory, World, record_of};

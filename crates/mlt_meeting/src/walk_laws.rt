@@ -5,7 +5,7 @@ ghost use Rattle.std.specs.FinMap as map;
 ghost use Rattle.std.specs.FinSet as set;
 ghost use Rattle.mlt_kinds.specs.declared.operation.ObjOp.{ObjOp};
 ghost use Rattle.mlt_kinds.specs.declared.operation.ObjReply.{ObjReply};
-ghost use Rattle.mlt_base.specs.Plans.{inverse_of};
+ghost use Rattle.mlt_base.specs.Effects.{inverse_of};
 ghost use Rattle.mlt_base.specs.Records.{CanChange};
 ghost use Rattle.mlt_base.specs.declared.record.RecChange.TheVariants.{Revive};
 ghost use Rattle.mlt_hash_form.specs.File.{look_up};

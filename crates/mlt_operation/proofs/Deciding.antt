@@ -14,7 +14,7 @@ use Rattle.mlt_kinds.specs.declared.operation.ObjReply.TheVariants as told
 use Rattle.mlt_kinds.specs.Accounts.{max_balance}
 use Rattle.mlt_base.specs.declared.record.RecChange.{RecChange}
 use Rattle.mlt_base.specs.declared.record.RecChange.TheVariants.{Revive, Set, ToGhost}
-use Rattle.mlt_base.specs.Plans.{account_reply_of, mode_of, reply_of}
+use Rattle.mlt_base.specs.Effects.{account_reply_of, mode_of, reply_of}
 
 abbrev is_revival : Option RecChange → Bool
 is_revival (Some Revive) = true

@@ -4,7 +4,7 @@ use Rattle.mlt_page.specs.declared.page.Page.{Page}
 use Rattle.mlt_kinds.specs.declared.operation.ObjReply.{ObjReply}
 use Rattle.mlt_base.specs.declared.record.RecChange.{RecChange}
 use Rattle.mlt_base.specs.declared.record.RecChange.TheVariants.{Add, Revive}
-use Rattle.mlt_base.specs.Plans.{inverse_of}
+use Rattle.mlt_base.specs.Effects.{inverse_of}
 use Rattle.mlt_base.specs.Records.{CanChange}
 use Rattle.mlt_hash_form.specs.Held.{Agrees}
 use Rattle.mlt_held.specs.Moments.{Moment}

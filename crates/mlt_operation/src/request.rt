@@ -5,7 +5,7 @@ ghost use Rattle.mlt_base.specs.Records.{CanChange};
 ghost use Rattle.mlt_operation.specs.AtBucket.{IsPossible};
 ghost use Rattle.mlt_operation.specs.Requests.{decision, target_of};
 
-use mlt_base::{RecChange, inverse, plan, reply};
+use mlt_base::{RecChange, access, inverse, reply};
 use mlt_kinds::{Done, ObjOp, ObjReply};
 use mlt_types::{Key, Mode, Value};
 
@@ -24,7 +24,7 @@ impl Request {
         ensures { result ≡ target_of self.now }
     {
         match self {
-            Request::Do(op) => plan(op),
+            Request::Do(op) => access(op),
             Request::TakeBack(done) => (Key::of(&done.cell()), Mode::Exclusive),
         }
     }

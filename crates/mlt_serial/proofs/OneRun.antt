@@ -7,17 +7,17 @@ use Rattle.mlt_kinds.specs.Bases.{Base, Step, Runs, Transcript}
 use Rattle.mlt_tree.specs.declared.statement.Ending.{Ending}
 use Rattle.mlt_tree.specs.declared.statement.Ending.TheVariants.{Commit, Abort}
 use Rattle.mlt_tree.specs.Scripts.{ScriptForm}
-use Rattle.mlt_cursor.specs.Follows.{Plan, Reaches, Follows, plan_of_script}
+use Rattle.mlt_cursor.specs.Follows.{Questions, Reaches, Follows, questions_of_script}
 use Rattle.mlt_types.specs.declared.refusal.Refusal.{Refusal}
 use Rattle.mlt_serial.specs.declared.outcome.End.{End}
 use Rattle.mlt_serial.specs.declared.outcome.End.TheVariants.{Committed, Aborted, Refused}
 use Rattle.mlt_serial.specs.declared.outcome.Outcome.{Outcome}
 use Rattle.mlt_serial.specs.Serial.{IsRun, AreRuns, mark_of, mark_of_end, story_of}
 use Rattle.mlt_cursor.proofs.Transcripts.{reaches_front}
-use Rattle.mlt_cursor.specs.Follows.Plan.{Ends, Asks}
+use Rattle.mlt_cursor.specs.Follows.Questions.{Ends, Asks}
 
--- Two transcripts of one plan from one base are one, where both come to an end.
-one_transcript : (p : Plan) (b m n : Base) (t u : Transcript) (e f : Ending) → Reaches p t (Ends e) → Reaches p u (Ends f) → Runs b t m → Runs b u n
+-- Two transcripts of the same questions from one base are one, where both come to an end.
+one_transcript : (p : Questions) (b m n : Base) (t u : Transcript) (e f : Ending) → Reaches p t (Ends e) → Reaches p u (Ends f) → Runs b t m → Runs b u n
     → (t ≡ u) × (e ≡ f) × (m ≡ n)
 one_transcript (Ends d) b m n [] [] e f h k r s = let same : e ≡ f = cc in (refl, same, sym r ∙ s)
 one_transcript (Ends d) b m n (x ∷ t) u e f h k r s = absurd h
@@ -37,8 +37,8 @@ one_transcript (Asks o after) b m n ((op, rx) ∷ t) ((oq, ry) ∷ u) e f h k r 
     let same : (op, rx) ∷ t ≡ (oq, ry) ∷ u = λ i. first i ∷ rest.0 i in
     (same, rest.1, rest.2)
 
--- Two transcripts of one plan from one base are one, where they have one length.
-one_front : (p q s : Plan) (b m n : Base) (t u : Transcript) → Reaches p t q → Reaches p u s → Runs b t m → Runs b u n → length t ≡ length u → t ≡ u
+-- Two transcripts of the same questions from one base are one, where they have one length.
+one_front : (p q s : Questions) (b m n : Base) (t u : Transcript) → Reaches p t q → Reaches p u s → Runs b t m → Runs b u n → length t ≡ length u → t ≡ u
 one_front p q s b m n [] [] h k r v l = refl
 one_front p q s b m n [] (y ∷ u) h k r v l = absurd (omega arith)
 one_front p q s b m n (x ∷ t) [] h k r v l = absurd (omega arith)
@@ -62,7 +62,7 @@ Same t u e f c d k j = (t ≡ u) × (e ≡ f) × (c ≡ d) × (k ≡ j)
 -- a script that commits and one that aborts end differently
 commits_or_aborts : (s : ScriptForm) (b m n : Base) (t u : Transcript) → Follows s t Commit → Follows s u Abort → Runs b t m → Runs b u n → ⊥
 commits_or_aborts s b m n t u h k r v =
-    let same : Commit ≡ Abort = (one_transcript (plan_of_script s) b m n t u Commit Abort h k r v).1 in cc
+    let same : Commit ≡ Abort = (one_transcript (questions_of_script s) b m n t u Commit Abort h k r v).1 in cc
 
 one_mark : (t u : Transcript) (p q : Refusal) → mark_of_end t (Refused p) ≡ mark_of_end u (Refused q) → (length t ≡ length u) × (p ≡ q)
 one_mark t u p q h =
@@ -73,7 +73,7 @@ one_mark t u p q h =
 one_run : (s : ScriptForm) (b c d : Base) (n k j : ℕ) (t u : Transcript) (e f : End) → mark_of_end t e ≡ mark_of_end u f → IsRun s b n t e c k → IsRun s b n u f d j
     → Same t u e f c d k j
 one_run s b c d n k j t u (Committed x) (Committed y) m h g =
-    let one = one_transcript (plan_of_script s) b c d t u Commit Commit h.0 g.0 h.1 g.1 in
+    let one = one_transcript (questions_of_script s) b c d t u Commit Commit h.0 g.0 h.1 g.1 in
     let numbers : k ≡ j = h.2 ∙ sym g.2 in
     let ends : x ≡ y = h.3 ∙ numbers ∙ sym g.3 in
     (one.0, ap Committed ends, one.2, numbers)
@@ -81,17 +81,17 @@ one_run s b c d n k j t u (Committed x) Aborted m h g = absurd (commits_or_abort
 one_run s b c d n k j t u (Committed x) (Refused q) m h g = absurd (cc m)
 one_run s b c d n k j t u Aborted (Committed y) m h g = absurd (commits_or_aborts s b d h.1.0 u t g.0 h.0 g.1 h.1.1)
 one_run s b c d n k j t u Aborted Aborted m h g =
-    let one = one_transcript (plan_of_script s) b h.1.0 g.1.0 t u Abort Abort h.0 g.0 h.1.1 g.1.1 in
+    let one = one_transcript (questions_of_script s) b h.1.0 g.1.0 t u Abort Abort h.0 g.0 h.1.1 g.1.1 in
     (one.0, refl, h.2 ∙ sym g.2, h.3 ∙ sym g.3)
 one_run s b c d n k j t u Aborted (Refused q) m h g = absurd (cc m)
 one_run s b c d n k j t u (Refused p) (Committed y) m h g = absurd (cc m)
 one_run s b c d n k j t u (Refused p) Aborted m h g = absurd (cc m)
 one_run s b c d n k j t u (Refused p) (Refused q) m h g =
     let marks = one_mark t u p q m in
-    let plan = plan_of_script s in
-    let front = reaches_front plan t h.0.0 (Ends h.0.1) h.0.2 in
-    let other = reaches_front plan u g.0.0 (Ends g.0.1) g.0.2 in
-    let same : t ≡ u = one_front plan front.0 other.0 b h.1.0 g.1.0 t u front.1 other.1 h.1.1 g.1.1 marks.0 in
+    let questions = questions_of_script s in
+    let front = reaches_front questions t h.0.0 (Ends h.0.1) h.0.2 in
+    let other = reaches_front questions u g.0.0 (Ends g.0.1) g.0.2 in
+    let same : t ≡ u = one_front questions front.0 other.0 b h.1.0 g.1.0 t u front.1 other.1 h.1.1 g.1.1 marks.0 in
     (same, ap Refused marks.1, h.2 ∙ sym g.2, h.3 ∙ sym g.3)
 
 -- One list of scripts, one base and one list of marks have one run.

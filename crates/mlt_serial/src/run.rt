@@ -3,7 +3,7 @@
 ghost use Rattle.std.specs.Prelude.{◌≡◌, ◌+◌, ◌<◌, ◌^◌, ℕ, List, [], map, Option, Ok, IfOk, IfErr, replicate, vec_capacity};
 ghost use Rattle.mlt_types.specs.declared.refusal.Refusal.{Refusal as RefusalForm};
 ghost use Rattle.mlt_kinds.specs.Bases.{Base as ObjectBase};
-ghost use Rattle.mlt_cursor.specs.Follows.{AsksAtMost, plan_of_script};
+ghost use Rattle.mlt_cursor.specs.Follows.{AsksAtMost, questions_of_script};
 ghost use Rattle.mlt_tree.specs.Scripts.{ScriptForm};
 ghost use Rattle.mlt_serial.specs.Serial.{AreMarksOf, AreNumbered, AreWithoutTx, IsRun, IsSerialRun, commits_after, mark_of, story_of, unmarked};
 ghost use Rattle.mlt_serial.specs.declared.outcome.Outcome.{Outcome as OutcomeForm};
@@ -33,7 +33,7 @@ fn attempt(
     done: &mut Vec<Done>,
 ) -> Result<End, Refusal>
     requires empty { done.old.items ≡ [] }
-    requires room { AsksAtMost (vec_capacity done.old) (plan_of_script script.now) }
+    requires room { AsksAtMost (vec_capacity done.old) (questions_of_script script.now) }
     requires commits { commits < 2 ^ 63 }
     ensures run { IfOk result (λ end.
         IsRun script.now desk.old.base commits done.new.items end desk.new.base

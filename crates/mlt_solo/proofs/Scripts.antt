@@ -17,8 +17,8 @@ use Rattle.mlt_order.proofs.Growing.{follow_push}
 use Rattle.mlt_tree.specs.declared.statement.Ending.TheVariants as ending
 use Rattle.mlt_tree.specs.Scripts.{ScriptForm}
 use Rattle.mlt_cursor.specs.declared.cursor.Next.TheVariants as next
-use Rattle.mlt_cursor.specs.Follows.{Follows, IsNext, IsPartial, Plan, Reaches, plan_of_script}
-use Rattle.mlt_cursor.specs.Follows.Plan.{Asks, Ends}
+use Rattle.mlt_cursor.specs.Follows.{Follows, IsNext, IsPartial, Questions, Reaches, questions_of_script}
+use Rattle.mlt_cursor.specs.Follows.Questions.{Asks, Ends}
 use Rattle.mlt_serial.specs.declared.outcome.End.{End}
 use Rattle.mlt_serial.specs.declared.outcome.End.TheVariants.{Committed, Aborted, Refused}
 use Rattle.mlt_serial.specs.Serial.{IsRun}
@@ -126,17 +126,17 @@ module _ {P : Type 0} (bits_of : P → ℕ → ℕ) where
     keeps = none_committed old m new done.keeps asked.keeps;
   }
 
-  asked_at : (p q : Plan) (t : Transcript) (op : ObjOp) → Reaches p t q → IsNext (next.Op op) q → (after : ObjReply → Plan) × Reaches p t (Asks op after)
+  asked_at : (p q : Questions) (t : Transcript) (op : ObjOp) → Reaches p t q → IsNext (next.Op op) q → (after : ObjReply → Questions) × Reaches p t (Asks op after)
   asked_at p (Ends e) t op reaches none = absurd none
   asked_at p (Asks o after) t op reaches is = (after, subst (λ (x : ObjOp). Reaches p t (Asks x after)) (sym is) reaches)
 
   -- **The next one is refused.**
-  pub refused_after : (s : ScriptForm) (q : Plan) (old m m' : ManagerFields P) (tx : ℕ) (t : Transcript) (op : ObjOp) (reason : Refusal) → Reaches (plan_of_script s) t q → IsNext (next.Op op) q
+  pub refused_after : (s : ScriptForm) (q : Questions) (old m m' : ManagerFields P) (tx : ℕ) (t : Transcript) (op : ObjOp) (reason : Refusal) → Reaches (questions_of_script s) t q → IsNext (next.Op op) q
       → HasAsked bits_of old m t (done_by tx t) → IsRefused bits_of m m' tx op reason → IsRefusedAfter bits_of s old m' tx t reason
   refused_after s q old m m' tx t op reason reaches is asked refused = record {
     partial = is_partial s t q reaches;
     last = (event.Whole tx op, refused.said) ∷ [];
-    why = record { op = op; asked = asked_at (plan_of_script s) q t op reaches is; said = refused.said; refused = refused.refused; events = refl };
+    why = record { op = op; asked = asked_at (questions_of_script s) q t op reaches is; said = refused.said; refused = refused.refused; events = refl };
     asked = record {
       run = run_on bits_of old m m' (done_by tx t) _ asked.run (run_one bits_of m m' (event.Whole tx op) refused.said refused.meets);
       leads = λ base leads. let before = asked.leads base leads in (before.0, before.1, refused.stays before.0 before.2);
@@ -240,7 +240,7 @@ module _ {P : Type 0} (bits_of : P → ℕ → ℕ) where
   run_not_begun s old new t reason nothing rest a = record {
     leads = λ base leads.
         let here : HasBase new base = subst (λ (n : ManagerFields P). HasBase n base) (sym a.1) leads in
-        let partial : IsPartial s t = subst (IsPartial s) (sym nothing) (is_partial s [] (plan_of_script s) refl) in
+        let partial : IsPartial s t = subst (IsPartial s) (sym nothing) (is_partial s [] (questions_of_script s) refl) in
         let runs : Runs base t base = subst (λ (u : Transcript). Runs base u base) (sym nothing) refl in
         (base, here, (partial, (base, runs), refl, ap (λ (n : ManagerFields P). n.commits) a.1));
     exchanges = (event.Begin, told.Refused reason) ∷ [];

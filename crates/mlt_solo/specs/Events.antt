@@ -5,8 +5,8 @@ use Rattle.mlt_kinds.specs.Bases.{Transcript}
 use Rattle.mlt_kinds.specs.declared.operation.ObjOp.{ObjOp}
 use Rattle.mlt_kinds.specs.declared.operation.ObjReply.{ObjReply}
 use Rattle.mlt_tree.specs.Scripts.{ScriptForm}
-use Rattle.mlt_cursor.specs.Follows.{Plan, Reaches, plan_of_script}
-use Rattle.mlt_cursor.specs.Follows.Plan.{Asks}
+use Rattle.mlt_cursor.specs.Follows.{Questions, Reaches, questions_of_script}
+use Rattle.mlt_cursor.specs.Follows.Questions.{Asks}
 use Rattle.mlt_serial.specs.declared.outcome.End.{End}
 use Rattle.mlt_serial.specs.declared.outcome.End.TheVariants.{Committed, Aborted, Refused}
 use Rattle.mlt_serial.specs.declared.outcome.Outcome.{Outcome}
@@ -50,7 +50,7 @@ taken_back tx false =
 
 -- told the replies of the transcript, the script asks this operation next
 abbrev pub IsAskedAfter : ScriptForm → Transcript → ObjOp → Type 0
-IsAskedAfter s t op = (after : ObjReply → Plan) × Reaches (plan_of_script s) t (Asks op after)
+IsAskedAfter s t op = (after : ObjReply → Questions) × Reaches (questions_of_script s) t (Asks op after)
 
 -- the operation that the script asks next is told this refusal, at its call or at a step
 pub record IsToldRefusal (s : ScriptForm) (tx : ℕ) (t : Transcript) (reason : Refusal)

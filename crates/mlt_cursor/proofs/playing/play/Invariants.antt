@@ -1,14 +1,14 @@
 use Rattle.std.proofs.Common.{vec_capacity}
-use Rattle.mlt_cursor.specs.Follows.{AsksAtMost, Reaches, plan_of_script}
-use Rattle.mlt_cursor.specs.Cursors.{plan_of, left_of}
+use Rattle.mlt_cursor.specs.Follows.{AsksAtMost, Reaches, questions_of_script}
+use Rattle.mlt_cursor.specs.Cursors.{questions_of, left_of}
 use Rattle.mlt_cursor.specs.Plays.{Gives}
 use Rattle.mlt_cursor.proofs.playing.play.Given as goal
 
 abbrev pub invariant-loop-op : goal.invariant-loop-op
 invariant-loop-op g l = record {
-  asked : Reaches (plan_of_script l.script) l.done.items (plan_of l.cursor);
+  asked : Reaches (questions_of_script l.script) l.done.items (questions_of l.cursor);
   gives : Gives g.A.Answering.answers l.tx l.fn.desk l.done.items l.desk;
-  room : AsksAtMost (vec_capacity l.done) (plan_of_script l.script);
+  room : AsksAtMost (vec_capacity l.done) (questions_of_script l.script);
 }
 
 abbrev pub decreases-loop-op : goal.decreases-loop-op

@@ -16,8 +16,8 @@ settled-self-requires-clause-at c =
     let h : s.at < length s.lines.now = in_range s.lines.now s.at s.variables s.ending c.requires in
     omega (arith, h)
 
-pub returns-in-Some-clause-plan : goal.returns-in-Some-clause-plan
-returns-in-Some-clause-plan c =
+pub returns-in-Some-clause-questions : goal.returns-in-Some-clause-questions
+returns-in-Some-clause-questions c =
     let s = c.args.self.now in
     let h : s.at < length s.lines.now = in_range s.lines.now s.at s.variables s.ending c.requires in
     let m : heard (get_or s.lines.now s.at some_line) s.variables c.args.reply ≡ Some c.in-Some.skipping = sym c.hear.ensures.skipping ∙ c.in-Some.is in
@@ -26,8 +26,8 @@ returns-in-Some-clause-plan c =
     ∙ sym (ap (λ o. after_hearing o (drop (s.at + 1) s.lines.now) (heard_values (get_or s.lines.now s.at some_line) s.variables c.args.reply) s.ending) m)
     ∙ sym (tells s.lines.now s.at some_line s.variables s.ending c.args.reply h s.settled)
 
-pub returns-in-None-clause-plan : goal.returns-in-None-clause-plan
-returns-in-None-clause-plan c =
+pub returns-in-None-clause-questions : goal.returns-in-None-clause-questions
+returns-in-None-clause-questions c =
     let s = c.args.self.now in
     let h : s.at < length s.lines.now = in_range s.lines.now s.at s.variables s.ending c.requires in
     let m : heard (get_or s.lines.now s.at some_line) s.variables c.args.reply ≡ None = sym c.hear.ensures.skipping ∙ c.in-None.is in

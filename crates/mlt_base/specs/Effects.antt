@@ -27,8 +27,8 @@ mode_of (Counter c Read) = Shared
 mode_of _ = Exclusive
 
 -- the key, and the mode in which its bucket is locked
-abbrev pub plan_of : ObjOp → ℕ × Mode
-plan_of op = (key_number (cell_of op), mode_of op)
+abbrev pub access_of : ObjOp → ℕ × Mode
+access_of op = (key_number (cell_of op), mode_of op)
 
 -- the reply, and the change of the record
 abbrev pub account_reply_of : AccountOp → Option ℕ → ObjReply × Option RecChange
