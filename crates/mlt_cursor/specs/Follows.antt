@@ -109,7 +109,7 @@ questions (If a w first second rest) vs after =
 abbrev pub questions_of_script : ScriptForm → Questions
 questions_of_script s = questions s.block no_values (λ vs. Ends s.ending)
 
--- Told the replies of the transcript in turn, these questions are for just its operations, and the others are what is left.
+-- Told the replies of the transcript in turn, these questions are for just its operations, and the others are left.
 abbrev pub Reaches : Questions → Transcript → Questions → Type 0
 Reaches p [] q = p ≡ q
 Reaches (Asks op next) (x ∷ t) q = (x.0 ≡ op) × Reaches (next x.1) t q

@@ -23,8 +23,8 @@ use Rattle.mlt_split.specs.Rests.{Aim, IsAtRest, HoldsAmong, held_page, most_hel
 use Rattle.mlt_split.specs.declared.phase.SplitPhase.{SplitPhase}
 use Rattle.mlt_split.specs.declared.phase.SplitPhase.TheVariants as at
 
--- what a contract sees of a split: the pseudokey that asks for room, the two bucket pages, the depths of the bucket and of
--- the directory before it, what stays in the old bucket, and of a directory that is doubled its header to be, and the
+-- what a contract sees of a split: the pseudokey that asks for room, the two bucket pages, the depths of the bucket and
+-- of the directory before it, what stays in the old bucket, and of a directory that is doubled its header to be, and the
 -- second half of the page that was rewritten last
 pub record SplitFields : Type 0 where
   pub seed : ℕ
