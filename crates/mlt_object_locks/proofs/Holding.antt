@@ -1,15 +1,15 @@
 -- The holders of one cell: one comes, is granted something, or goes.
-use Rattle.std.proofs.Common.{◌≡◌, ◌⊎◌, ℕ, ◌<◌, List, [], ◌∷◌, ◌++◌, true, Option, None, Some, Contains, length, get_or, set, sym, ap, subst, ◌∙◌, refl, inl, inr, arith}
+use Rattle.std.proofs.Common.{false, ◌≢◌, ◌≡◌, ◌⊎◌, ℕ, ◌<◌, List, [], ◌∷◌, ◌++◌, true, Option, None, Some, Contains, length, length-set, get_or, set, sym, ap, subst, ◌∙◌, refl, inl, inr, arith}
 use Rattle.std.specs.List.{list_all, list_any, position}
 use Rattle.std.proofs.lemmas.Bool.{cases_eq}
 use Rattle.std.proofs.lemmas.Bool.Decides.{nat_tests}
-use Rattle.std.proofs.lemmas.List.{get_or_default}
+use Rattle.std.proofs.lemmas.List.{get_or-set_other, get_or-set_same, get_or_default}
 use Rattle.std.proofs.lemmas.List.Elements.{Contains-push, Contains-push_cases, Contains-append_left, Contains-get_or}
-use Rattle.std.proofs.lemmas.List.Quantifiers.{position-Some}
+use Rattle.std.proofs.lemmas.List.Quantifiers.{all_pairs_push, position-Some}
 use Rattle.mlt_object_locks.specs.declared.holders.Holder.{Holder}
 use Rattle.mlt_object_locks.specs.Classes.{AddsItem, InSet}
-use Rattle.mlt_object_locks.specs.Holders.{Grants, HasBit, IsHere, IsInTheWay, IsLowestInTheWay, Joins, holder_of, is_of}
-use Rattle.mlt_object_locks.proofs.Membership.{contains_set, each_passes, named, none_in_empty, set_keeps, set_only, some_found}
+use Rattle.mlt_object_locks.specs.Holders.{AreOnce, Grants, HasBit, IsHere, IsInTheWay, IsLowestInTheWay, Joins, holder_of, is_of}
+use Rattle.mlt_object_locks.proofs.Membership.{contains_set, each_passes, named, none_in_empty, none_passes, set_keeps, set_only, some_found}
 
 -- a holder is its transaction with its classes
 pub parts : (holder : Holder) → holder ≡ holder_of holder.tx holder.classes
@@ -42,6 +42,14 @@ joins_one old new tx is = record {
     by : (holder : Holder) → Contains old holder ⊎ (holder_of tx 0 ≡ holder) → Contains old holder ⊎ (holder ≡ holder_of tx 0)
     by holder (inl c) = inl c
     by holder (inr e) = inr (sym e)
+
+-- each is there once, where the one that comes was not there
+pub joined_once : (holders : List Holder) (holder : Holder) → AreOnce holders → list_any (is_of holder.tx) holders ≡ false → AreOnce (holders ++ holder ∷ [])
+joined_once holders holder once none = all_pairs_push (λ one other. one.tx ≢ other.tx) holders holder once (λ k e within same. absurd (false_of k e within same))
+  where
+    false_of : (k : ℕ) (e : Holder) → k < length holders → (get_or holders k e).tx ≡ holder.tx → ⊥
+    false_of k e within same =
+        none_passes (is_of holder.tx) holders none (get_or holders k e) (Contains-get_or holders k e within) (grind (arith, nat_tests))
 
 -- where all are the transaction itself, nobody stands in its way
 pub alone : (holders : List Holder) (tx against : ℕ) → list_all (is_of tx) holders ≡ true → (number : ℕ) → IsInTheWay holders tx against number → ⊥
@@ -126,6 +134,21 @@ module _ (holders : List Holder) (tx at classes : ℕ) (bit : Option ℕ) (d : H
     stays = stays_here;
     here = only_here;
   }
+
+  same_number : (i : ℕ) (e : Holder) → (get_or granted i e).tx ≡ (get_or holders i e).tx
+  same_number i e = by (cases_eq i at)
+    where
+      by : (i ≡ at) ⊎ (i ≡ at → ⊥) → (get_or granted i e).tx ≡ (get_or holders i e).tx
+      by (inl here) =
+          ap (λ n. (get_or granted n e).tx) here ∙ ap (λ (x : Holder). x.tx) (get_or-set_same holders at after e place.0) ∙ sym own
+          ∙ ap (λ (x : Holder). x.tx) (get_or_default holders at d e place.0) ∙ ap (λ n. (get_or holders n e).tx) (sym here)
+      by (inr ne) = ap (λ (x : Holder). x.tx) (get_or-set_other holders at i after e ne)
+
+  -- each is there once, as before
+  pub granted_once : AreOnce holders → AreOnce granted
+  granted_once once = λ i j e lt within same.
+      let len = length-set {A = Holder} holders at after in
+      once i j e lt (omega arith) (sym (same_number i e) ∙ same ∙ same_number j e)
 
   -- and what it had, it had there
   pub had_bit : (k : ℕ) → InSet before.classes k → HasBit holders tx k

@@ -119,6 +119,16 @@ each_passes p (y ∷ xs) h x c = by (λ k later. each_passes p xs k x later) (p 
     by rest true is h (inr later) = rest h later
     by rest false is h c = absurd (true≢false (sym h))
 
+-- where none passes a test, no one does
+pub none_passes : {X : Type 0} (p : X → Bool) (xs : List X) → list_any p xs ≡ false → (x : X) → Contains xs x → p x ≡ true → ⊥
+none_passes p [] h x c passes = none_in_empty x c
+none_passes p (y ∷ xs) h x c passes = by (λ k later. none_passes p xs k x later passes) (p y) refl h (contains_cases y xs x c)
+  where
+    by : (list_any p xs ≡ false → Contains xs x → ⊥) → (b : Bool) → p y ≡ b → (b || list_any p xs) ≡ false → (y ≡ x) ⊎ Contains xs x → ⊥
+    by rest true is h c = true≢false h
+    by rest false is h (inl e) = true≢false (sym passes ∙ ap p (sym e) ∙ is)
+    by rest false is h (inr later) = rest h later
+
 -- where no call of `retain` changes the closure or the element, what passes the test is left
 pub filter-from_retain : {X F : Type 0} (R : F → X → Bool → F → X → Type 0) (test : X → Bool) (f : F) → ((x : X) (b : Bool) (g : F) (y : X) → R f x b g y → (b ≡ test x) × (g ≡ f) × (y ≡ x)) → (xs ys : List X) → RetainsInTurn R f xs ys → ys ≡ filter test xs
 filter-from_retain R test f says [] ys h = h

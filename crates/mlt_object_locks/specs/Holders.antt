@@ -1,11 +1,15 @@
 -- Those who hold something on one cell, or have reserved it.
-use Rattle.std.specs.Prelude.{ℕ, ◌≡◌, ◌≢◌, ◌≤◌, ◌⊎◌, ◌&&◌, Bool, not, nat_eq, List, Option, None, Some, Contains}
+use Rattle.std.specs.Prelude.{ℕ, ◌≡◌, ◌≢◌, ◌≤◌, ◌⊎◌, ◌&&◌, Bool, not, nat_eq, List, Option, None, Some, AllPairs, Contains}
 use Rattle.mlt_object_locks.specs.declared.holders.Holder.{Holder}
 use Rattle.mlt_object_locks.specs.Classes.{InSet, Meets}
 
 -- a transaction, with the set of the classes that it holds
 abbrev pub holder_of : ℕ → ℕ → Holder
 holder_of tx classes = record { tx = tx; classes = classes }
+
+-- each transaction is there once
+abbrev pub AreOnce : List Holder → Type 0
+AreOnce holders = AllPairs (λ one other. one.tx ≢ other.tx) holders
 
 -- the transaction is one of them
 abbrev pub IsHere : List Holder → ℕ → Type 0

@@ -4,7 +4,7 @@ ghost use Rattle.std.specs.Prelude.{◌≡◌, ◌↔◌, ℕ, [], IsTrue, false
 ghost use Rattle.std.specs.List.{filter, list_all, list_any};
 ghost use Rattle.mlt_object_locks.specs.Locks.{lower_of};
 ghost use Rattle.mlt_object_locks.specs.Classes.{bit_of_item, AreInTheWay};
-ghost use Rattle.mlt_object_locks.specs.Holders.{IsHere, HasBit, Joins, Grants, IsLowestInTheWay, StandsIn, is_of, is_not_of, is_idle_of, is_not_idle_of};
+ghost use Rattle.mlt_object_locks.specs.Holders.{AreOnce, IsHere, HasBit, Joins, Grants, IsLowestInTheWay, StandsIn, is_of, is_not_of, is_idle_of, is_not_idle_of};
 
 use crate::classes::{ClassSet, in_the_way_of};
 use mlt_kinds::Done;
@@ -30,8 +30,8 @@ impl Default for Holder {
     }
 }
 
-/// The transactions that hold something on one cell, or have reserved it. A contract sees their list. One alone takes no
-/// memory of its own.
+/// The transactions that hold something on one cell, or have reserved it, each once. A contract sees their list. One alone
+/// takes no memory of its own.
 #[derive(Drop)]
 pub(crate) struct Holders {
     holders: SmallVec<Holder, 1>,
@@ -40,10 +40,13 @@ pub(crate) struct Holders {
 impl Model for Holders {
     ghost use Rattle.std.specs.Prelude.{List};
     ghost use Rattle.mlt_object_locks.specs.declared.holders.Holder.{Holder};
+    ghost use Rattle.mlt_object_locks.specs.Holders.{AreOnce};
 
     ghost Value = { List Holder };
 
     ghost view = { λ cell. cell.holders.items };
+
+    ghost invariant = { λ cell. AreOnce cell.holders.items };
 }
 
 impl Holders {
@@ -148,6 +151,7 @@ fn grant_among(holders: &mut [Holder], tx: TxId, done: &Done) -> bool
     requires { IsHere holders.old tx }
     ensures grants { Grants holders.old holders.new tx (bit_of_item done.now) }
     ensures idle { result ≡ false → (bit : ℕ) × HasBit holders.old tx bit }
+    ensures once { AreOnce holders.old → AreOnce holders.new }
 {
     let Some(at) = place_of(holders, tx) else {
         unreachable!();
