@@ -1,6 +1,6 @@
 //! Classes of operations of all kinds, and sets of them.
 
-ghost use Rattle.std.specs.Prelude.{◌≡◌, ◌≤◌, ◌↔◌, ◌==◌, ◌<◌, IsTrue};
+ghost use Rattle.std.specs.Prelude.{◌≡◌, ◌↔◌, ◌<◌, IsTrue};
 ghost use Rattle.mlt_object_locks.specs.Classes.{bit_of, bit_of_item, class_of, marks, Adds, AddsItem, AreInTheWay, IsColumn, Meets};
 
 use mlt_commute::{AccountClass, CounterClass, ElementClass, Table};
