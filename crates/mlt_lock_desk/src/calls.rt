@@ -6,15 +6,18 @@ ghost use Rattle.mlt_lock_desk.specs.Holds.{IsToldTo, MayAnswerOperation};
 use crate::gate::Gate;
 use crate::lock_desk::{LockDesk, Tries};
 use crate::shared::Shared;
-use crate::turn::{Turn, awaited_by};
+use crate::turn::{Sleeper, Turn, is_to_wait};
 use mlt_cursor::Answering;
 use mlt_desk::Desk;
 use mlt_event::{Answer, Event, Told};
 use mlt_kinds::{ObjOp, ObjReply};
 use mlt_types::{Pseudo, Refusal, TxId};
-use mlt_waits_for::{Awaited, Waiting};
+use mlt_waits_for::{Bell, Bells};
 use std::sync::Wait;
 use std::sync::ledger::{Ledger, Share};
+
+// An operation that has waited so often is let pass.
+const PATIENCE: u64 = 8;
 
 impl<'a, P: Pseudo, L: Ledger, R: Wait, G: Gate> LockDesk<'a, P, L, R, G> {
     /// A desk that has made no event yet.
@@ -28,7 +31,7 @@ impl<'a, P: Pseudo, L: Ledger, R: Wait, G: Gate> LockDesk<'a, P, L, R, G> {
         requires part { share.parts ≡ 1 }
         requires amount { share.amount ≡ 0 }
     {
-        shared.lock(rt).desks.enter();
+        let bell = shared.lock(rt).desks.enter();
         LockDesk {
             rt,
             shared,
@@ -36,8 +39,9 @@ impl<'a, P: Pseudo, L: Ledger, R: Wait, G: Gate> LockDesk<'a, P, L, R, G> {
             client: 0,
             tries,
             left: 0,
-            objects: 0,
-            pages: 0,
+            waited: 0,
+            bell,
+            asleep: None,
             share,
             events: 0,
         }
@@ -60,98 +64,84 @@ impl<'a, P: Pseudo, L: Ledger, R: Wait, G: Gate> LockDesk<'a, P, L, R, G> {
             client: _,
             tries: _,
             left: _,
-            objects: _,
-            pages: _,
+            waited: _,
+            bell,
+            asleep: _,
             share,
             events,
         } = self;
-        let wakes = shared.lock(rt).desks.leave();
-        if wakes {
-            shared.moved.notify_all();
-        }
+        let mut bells = Bells::new();
+        shared.lock(rt).desks.leave(bell, &mut bells);
+        shared.ring(&bells);
         (share, events)
     }
 
-    /// One event, in one hold of the lock, which counts in the share.
-    fn event(&mut self, event: Event) -> Told
-        ensures told { IsToldTo P.bits_of event result }
+    /// One event, in one hold of the lock, which counts in the share. The desk may sleep before it; and where it is to wait it
+    /// sleeps after it as this sleeper, if it is given one and the turn is so.
+    fn event(&mut self, event: Event, sleeper: Option<Sleeper>) -> (Told, Turn)
+        ensures told { IsToldTo P.bits_of event result.0 }
         ensures one { self.new.share.amount ≡ self.old.share.amount + 1 }
     {
         let LockDesk {
             rt,
             shared,
-            objects,
-            pages,
+            bell,
+            asleep,
             share,
             events,
             ..
         } = self;
-        let mut hall = shared.lock(*rt);
-        let (told, wakes) = hall.act(event, share);
-        *objects = hall.desks.version(Awaited::Objects);
-        *pages = hall.desks.version(Awaited::Pages);
+        let mut bells = Bells::new();
+        let mut hall = shared.enter(*rt, *asleep, caller(&event, *bell));
+        let next = sleeper;
+        let (told, turn) = hall.act(event, share, next, &mut bells);
         drop(hall);
+        shared.ring(&bells);
+        *asleep = if turn == Turn::Sleeps { sleeper } else { None };
         *events = events.saturating_add(1);
-        if wakes {
-            shared.moved.notify_all();
-        }
-        told
+        (told, turn)
     }
 
     /// One event, in one hold of the lock. The gate is told its answer, with the lock free.
-    fn hold(&mut self, event: Event) -> Told
-        ensures told { IsToldTo P.bits_of event result }
+    fn hold(&mut self, event: Event, sleeper: Option<Sleeper>) -> (Told, Turn)
+        ensures told { IsToldTo P.bits_of event result.0 }
         ensures one { self.new.share.amount ≡ self.old.share.amount + 1 }
     {
-        let told = self.event(event);
+        let (told, turn) = self.event(event, sleeper);
         self.gate.pause(self.client, &told);
-        told
+        (told, turn)
     }
 
-    /// Waits until another desk has given such locks back or ended, unless all other desks wait, or the holder waits for
-    /// this transaction, be it by way of others.
-    fn wait(&self, tx: TxId, awaited: Awaited, holder: TxId) {
-        let seen = match awaited {
-            Awaited::Objects => self.objects,
-            Awaited::Pages => self.pages,
-        };
-        let wait = Waiting { waiter: tx, holder };
-        let mut hall = self.shared.lock(self.rt);
-        match hall.desks.begin_wait(awaited, seen, wait) {
-            Turn::Sleeps => {
-                self.shared
-                    .moved
-                    .wait_while(self.rt, hall, |hall| hall.desks.version(awaited) == seen);
-            }
-            Turn::Wakes => {
-                drop(hall);
-                self.shared.moved.notify_all();
-            }
-            Turn::Tries => (),
+    /// As whom the desk sleeps where it waits.
+    fn sleeper(&self, tx: TxId) -> Sleeper {
+        Sleeper {
+            tx,
+            bell: self.bell,
+            is_passed_over: self.waited >= PATIENCE,
         }
     }
 
-    /// Spends a try. If others are left it waits; else the operation is cancelled, and the answer is `false`.
-    fn tries_again(&mut self, tx: TxId, awaited: Awaited, holder: TxId) -> bool {
+    /// Spends a try. It answers whether others are left, and not all of them would be told the same.
+    fn tries_again(&mut self, turn: Turn) -> bool {
         self.left = self.left.saturating_sub(1);
-        if self.left == 0 {
-            self.hold(Event::Cancel(tx));
-            return false;
-        }
-        self.wait(tx, awaited, holder);
-        true
+        self.waited = self.waited.saturating_add(1);
+        self.left > 0 && turn != Turn::Deadlock
     }
 
-    /// One step of an operation that was called, and its wait if it is to wait. It answers the operation's answer, if it has
-    /// one. A step that is told what comes only where another desk acts for the same transaction is answered by `NoSuchTx`.
+    /// One step of an operation that was called. Where it is to wait, a try is spent: with others left it goes on once it is
+    /// awake, else the operation is cancelled. It answers the operation's answer, if it has one. A step that is told what comes
+    /// only where another desk acts for the same transaction is answered by `NoSuchTx`.
     fn step(&mut self, tx: TxId) -> Option<Result<ObjReply, Refusal>>
         ensures { IfSome result (MayAnswerOperation P.bits_of tx) }
     {
-        let told = self.hold(Event::Step(tx));
-        if let Some((awaited, holder)) = awaited_by(&told) {
-            if self.tries_again(tx, awaited, holder) {
+        // With its last try it does not wait.
+        let sleeper = (self.left > 1).then_some(self.sleeper(tx));
+        let (told, turn) = self.hold(Event::Step(tx), sleeper);
+        if is_to_wait(&told) {
+            if self.tries_again(turn) {
                 return None;
             }
+            self.hold(Event::Cancel(tx), None);
             return Some(Err(Refusal::GaveUp));
         }
         match told {
@@ -175,14 +165,12 @@ impl<'a, P: Pseudo, L: Ledger, R: Wait, G: Gate> LockDesk<'a, P, L, R, G> {
         unreachable!()
     }
 
-    /// One step of an abort, and its wait if it is to wait. It spends no try. It answers whether more are to come.
+    /// One step of an abort. Where it is to wait it goes on once it is awake, and spends no try. It answers whether more are to
+    /// come.
     fn undo_step(&mut self, tx: TxId) -> bool {
-        let told = self.hold(Event::Step(tx));
-        if let Some((awaited, holder)) = awaited_by(&told) {
-            self.wait(tx, awaited, holder);
-            return true;
-        }
-        matches!(told, Told::Answered(Answer::Going | Answer::Undone))
+        let sleeper = self.sleeper(tx);
+        let (told, _) = self.hold(Event::Step(tx), Some(sleeper));
+        is_to_wait(&told) || matches!(told, Told::Answered(Answer::Going | Answer::Undone))
     }
 
     /// Steps of an abort, up to its end.
@@ -205,7 +193,8 @@ impl<'a, P: Pseudo, L: Ledger, R: Wait, G: Gate> Answering for LockDesk<'a, P, L
         if let Tries::PerOperation(tries) = self.tries {
             self.left = tries;
         }
-        let told = self.hold(Event::Call(tx, op));
+        self.waited = 0;
+        let (told, _) = self.hold(Event::Call(tx, op), None);
         match told {
             Told::Called => self.steps(tx),
             Told::Refused(refusal) => Err(refusal),
@@ -227,7 +216,7 @@ impl<'a, P: Pseudo, L: Ledger, R: Wait, G: Gate> Desk for LockDesk<'a, P, L, R, 
         if let Tries::PerScript(tries) = self.tries {
             self.left = tries;
         }
-        let told = self.hold(Event::Begin);
+        let (told, _) = self.hold(Event::Begin, None);
         match told {
             Told::Begun(tx) => Ok(tx),
             Told::Refused(refusal) => Err(refusal),
@@ -236,7 +225,7 @@ impl<'a, P: Pseudo, L: Ledger, R: Wait, G: Gate> Desk for LockDesk<'a, P, L, R, 
     }
 
     fn commit(&mut self, tx: TxId) -> Result<u64, Refusal> {
-        let told = self.hold(Event::Commit(tx));
+        let (told, _) = self.hold(Event::Commit(tx), None);
         match told {
             Told::Committed(number) => Ok(number),
             Told::Refused(refusal) => Err(refusal),
@@ -245,8 +234,22 @@ impl<'a, P: Pseudo, L: Ledger, R: Wait, G: Gate> Desk for LockDesk<'a, P, L, R, 
     }
 
     fn abort(&mut self, tx: TxId) {
-        if let Told::Aborting(false) = self.hold(Event::Abort(tx)) {
+        let (told, _) = self.hold(Event::Abort(tx), None);
+        if told == Told::Aborting(false) {
+            self.waited = 0;
             self.undo(tx);
         }
+    }
+}
+
+/// Who calls an operation by this event, if it does: others may be let pass before.
+fn caller(event: &Event, bell: Bell) -> Option<Sleeper> {
+    match *event {
+        Event::Call(tx, _) => Some(Sleeper {
+            tx,
+            bell,
+            is_passed_over: false,
+        }),
+        _ => None,
     }
 }

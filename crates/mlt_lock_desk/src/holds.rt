@@ -1,15 +1,17 @@
 //! What a desk does while it holds the lock.
 
-ghost use Rattle.std.specs.Prelude.{◌≡◌, ◌+◌, ◌-◌, ◌<◌, ◌^◌, min};
+ghost use Rattle.std.specs.Prelude.{◌≡◌, ◌++◌, ◌+◌, ◌-◌, ◌<◌, ◌^◌, [], min};
 ghost use Rattle.mlt_manager.specs.Answers.{counted};
 ghost use Rattle.mlt_manager.specs.Events.{Meets};
-ghost use Rattle.mlt_lock_desk.specs.Waits.{are_to_wake, given_back_by, objects_after, pages_after, waits_after};
+ghost use Rattle.mlt_lock_desk.specs.Waits.{given_back_by, let_pass_after, let_pass_with, rung_by, rung_if_waits, TurnsIfWaits, wait_of, waits_after};
 
 use crate::desks::Desks;
 use crate::hall::Hall;
+use crate::turn::{Sleeper, Turn, given_back, wait_of};
 use mlt_event::{Event, Told};
 use mlt_manager::Manager;
 use mlt_types::Pseudo;
+use mlt_waits_for::Bells;
 use std::sync::ledger::{Book, Ledger, Share};
 
 impl<P: Pseudo, L: Ledger> Hall<P, L> {
@@ -41,21 +43,32 @@ impl<P: Pseudo, L: Ledger> Hall<P, L> {
         }
     }
 
-    /// One event, which counts in the share. It answers too whether desks are to be woken.
-    pub(crate) fn act(&mut self, event: Event, share: &mut Share<L>) -> (Told, bool)
+    /// One event of a desk that may sleep as this sleeper, which counts in the share. Whoever waits for what it gave back is
+    /// awake then, and its bell is to ring. It answers what was told, and what the desk does next.
+    pub(crate) fn act(
+        &mut self,
+        event: Event,
+        share: &mut Share<L>,
+        sleeper: Option<Sleeper>,
+        bells: &mut Bells,
+    ) -> (Told, Turn)
         requires part { 0 < share.old.parts }
+        requires none { bells.old.items ≡ [] }
         ensures meets { Meets P.bits_of event result.0
             (counted self.old.manager) self.new.manager }
         ensures amount { share.new.amount ≡ share.old.amount + 1 }
         ensures parts { share.new.parts ≡ share.old.parts }
-        ensures objects { self.new.desks.objects
-            ≡ objects_after (given_back_by result.0) self.old.desks.objects }
-        ensures pages { self.new.desks.pages
-            ≡ pages_after (given_back_by result.0) self.old.desks.pages }
-        ensures waits { self.new.desks.waits
-            ≡ waits_after (given_back_by result.0) self.old.desks.waits }
         ensures desks { self.new.desks.count ≡ self.old.desks.count }
-        ensures wakes { result.1 ≡ are_to_wake (given_back_by result.0) self.old.desks.waits }
+        ensures turns { TurnsIfWaits self.old.desks.count (wait_of result.0 sleeper)
+            (waits_after (given_back_by event result.0) self.old.desks.waits)
+            result.1 self.new.desks.waits }
+        ensures rings { bells.new.items
+            ≡ rung_by (given_back_by event result.0) self.old.desks.waits
+            ++ rung_if_waits (wait_of result.0 sleeper) result.1
+            (waits_after (given_back_by event result.0) self.old.desks.waits) }
+        ensures let_pass { self.new.desks.let_pass
+            ≡ let_pass_with result.0 sleeper
+            (let_pass_after (given_back_by event result.0) self.old.desks.let_pass) }
     {
         let Hall {
             manager,
@@ -64,8 +77,11 @@ impl<P: Pseudo, L: Ledger> Hall<P, L> {
         } = self;
         book.add(share, 1);
         let told = manager.act(event);
-        let wakes = desks.give_back(&told);
-        (told, wakes)
+        desks.give_back(given_back(&event, &told), bells);
+        let next = sleeper;
+        desks.favour(&told, next);
+        let turn = desks.turn(wait_of(&told, sleeper), bells);
+        (told, turn)
     }
 
     /// The manager, whose events are the amount of the whole share.

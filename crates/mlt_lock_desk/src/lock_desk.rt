@@ -4,7 +4,9 @@ ghost use Rattle.std.specs.Prelude.{◌≡◌, ◌-◌, ◌^◌, min};
 
 use crate::gate::Gate;
 use crate::shared::Shared;
+use crate::turn::Sleeper;
 use mlt_types::Pseudo;
+use mlt_waits_for::Bell;
 use std::sync::Wait;
 use std::sync::ledger::{Ledger, Share};
 
@@ -27,9 +29,12 @@ pub struct LockDesk<'a, P: Pseudo, L: Ledger, R: Wait, G: Gate> {
     pub(crate) tries: Tries,
     /// How many tries are left.
     pub(crate) left: u64,
-    /// The versions of objects and of pages after the last event.
-    pub(crate) objects: u64,
-    pub(crate) pages: u64,
+    /// How often the operation has waited.
+    pub(crate) waited: u64,
+    /// What wakes it.
+    pub(crate) bell: Bell,
+    /// As whom it sleeps before its next event, if it does.
+    pub(crate) asleep: Option<Sleeper>,
     pub(crate) share: Share<L>,
     pub(crate) events: u64,
     ghost part: { share.parts ≡ 1 },

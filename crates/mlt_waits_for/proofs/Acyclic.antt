@@ -1,9 +1,12 @@
--- What one more wait adds to the ways along waits
-use Rattle.std.proofs.Common.{◌≡◌, ℕ, ◌⊎◌, List, [], ◌∷◌, ◌++◌, sym, subst, ◌∙◌, inl, inr}
-use Rattle.mlt_waits_for.specs.declared.waits.Awaited.{Awaited}
-use Rattle.mlt_waits_for.specs.declared.waits.Awaited.TheVariants as awaited
-use Rattle.mlt_waits_for.specs.declared.waits.Waiting.{Waiting}
-use Rattle.mlt_waits_for.specs.Waits.{IsAcyclic, IsAmong, IsFor, LeadsBy, LeadsTo, Waits, joined, nobody_waits, released}
+-- What one more wait adds to the ways along waits, and what fewer waits leave
+use Rattle.std.proofs.Common.{◌≡◌, ℕ, ◌⊎◌, true, false, not, cond, List, [], ◌∷◌, ◌++◌, sym, subst, ◌∙◌, inl, inr}
+use Rattle.mlt_waits_for.specs.declared.wait.Awaited.{Awaited}
+use Rattle.mlt_waits_for.specs.declared.wait.Awaited.TheVariants as awaited
+use Rattle.mlt_waits_for.specs.declared.wait.Waiting.{Waiting}
+use Rattle.mlt_waits_for.specs.declared.wait.Whose.{Whose}
+use Rattle.mlt_waits_for.specs.declared.waits.Along.{Along}
+use Rattle.mlt_waits_for.specs.declared.waits.Along.TheVariants as along
+use Rattle.mlt_waits_for.specs.Waits.{IsAcyclic, IsAmong, IsFor, LeadsBy, LeadsTo, Waits, is_for, joined, nobody_waits, others_in, released, seen_along}
 
 -- a wait among these and one more is among these, or is that one
 among_one_more : (waits : List Waiting) (one : Waiting) (x y : ℕ) → IsAmong (waits ++ one ∷ []) x y → IsAmong waits x y ⊎ ((one.waiter ≡ x) × (one.holder ≡ y))
@@ -63,23 +66,43 @@ stays_acyclic which one waits was idle apart = record {
   ];
 }
 
--- who still waits waited before
-for_fewer : (which : Awaited) (waits : Waits) (x y : ℕ) → IsFor (released which waits) x y → IsFor waits x y
-for_fewer awaited.Objects waits x y (inl none) = absurd none
-for_fewer awaited.Objects waits x y (inr among) = inr among
-for_fewer awaited.Pages waits x y (inl among) = inl among
-for_fewer awaited.Pages waits x y (inr none) = absurd none
+-- these waits are all among those
+abbrev AreAmong : Waits → Waits → Type 0
+AreAmong fewer waits = (x y : ℕ) → IsFor fewer x y → IsFor waits x y
 
-leads_fewer : (which : Awaited) (waits : Waits) (x y : ℕ) (path : List ℕ) → LeadsBy (released which waits) x path y → LeadsBy waits x path y
-leads_fewer which waits x y [] same = same
-leads_fewer which waits x y (next ∷ more) (first, rest) = (for_fewer which waits x next first, leads_fewer which waits next y more rest)
+leads_fewer : (fewer waits : Waits) → AreAmong fewer waits → (x y : ℕ) (path : List ℕ) → LeadsBy fewer x path y → LeadsBy waits x path y
+leads_fewer fewer waits among x y [] same = same
+leads_fewer fewer waits among x y (next ∷ more) (first, rest) = (among x next first, leads_fewer fewer waits among next y more rest)
 
 -- **Fewer waits close no circle.**
-pub fewer_are_acyclic : (which : Awaited) (waits : Waits) → IsAcyclic waits → IsAcyclic (released which waits)
-fewer_are_acyclic which waits was = record {
-  functional = λ x y z for other. was.functional x y z (for_fewer which waits x y for) (for_fewer which waits x z other);
-  no_circle = λ x y for back. was.no_circle x y (for_fewer which waits x y for) (back.0, leads_fewer which waits y x back.0 back.1);
+acyclic_fewer : (fewer waits : Waits) → AreAmong fewer waits → IsAcyclic waits → IsAcyclic fewer
+acyclic_fewer fewer waits among was = record {
+  functional = λ x y z for other. was.functional x y z (among x y for) (among x z other);
+  no_circle = λ x y for back. was.no_circle x y (among x y for) (back.0, leads_fewer fewer waits among y x back.0 back.1);
 }
+
+-- who still waits waited before
+among_others : (given : Whose) (waits : List Waiting) (x y : ℕ) → IsAmong (others_in given waits) x y → IsAmong waits x y
+among_others given [] x y among = among
+among_others given (first ∷ more) x y among =
+    elim (is_for given first) as (λ b. IsAmong (cond (not b) (first ∷ others_in given more) (others_in given more)) x y → IsAmong (first ∷ more) x y) [
+      | true ↦ λ later. inr (among_others given more x y later)
+      | false ↦ λ here. elim here [ inl is ↦ inl is | inr later ↦ inr (among_others given more x y later) ]
+    ] among
+
+are_among : (which : Awaited) (given : Whose) (waits : Waits) → AreAmong (released which given waits) waits
+are_among awaited.Objects given waits x y (inl among) = inl (among_others given waits.objects x y among)
+are_among awaited.Objects given waits x y (inr among) = inr among
+are_among awaited.Pages given waits x y (inl among) = inl among
+are_among awaited.Pages given waits x y (inr among) = inr (among_others given waits.pages x y among)
+
+pub fewer_are_acyclic : (which : Awaited) (given : Whose) (waits : Waits) → IsAcyclic waits → IsAcyclic (released which given waits)
+fewer_are_acyclic which given waits was = acyclic_fewer (released which given waits) waits (are_among which given waits) was
+
+-- nor do those that are looked at
+pub seen_are_acyclic : (seen : Along) (waits : Waits) → IsAcyclic waits → IsAcyclic (seen_along seen waits)
+seen_are_acyclic along.Objects waits was = acyclic_fewer (seen_along along.Objects waits) waits (λ x y for. elim for [ inl among ↦ inl among | inr none ↦ absurd none ]) was
+seen_are_acyclic along.All waits was = was
 
 -- **Nobody waits in a circle where nobody waits.**
 pub nobody_is_acyclic : IsAcyclic nobody_waits

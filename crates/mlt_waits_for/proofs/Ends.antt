@@ -1,6 +1,6 @@
 -- From each the waits lead to one that waits for nobody, as there are finitely many and no circle
 use Rattle.std.proofs.Common.{◌≡◌, ℕ, zero, suc, ◌+◌, ◌≤◌, ◌⊎◌, List, [], ◌∷◌, ◌++◌, length, length-append, None, Some, refl, sym, subst, ◌∙◌, inl, inr, arith}
-use Rattle.mlt_waits_for.specs.declared.waits.Waiting.{Waiting}
+use Rattle.mlt_waits_for.specs.declared.wait.Waiting.{Waiting}
 use Rattle.mlt_waits_for.specs.Waits.{IsAcyclic, IsAmong, IsAwake, IsFor, LeadsBy, LeadsTo, LeadToAwake, Waits, holder_of}
 use Rattle.mlt_waits_for.proofs.Found.{found_is_for, none_is_for}
 

@@ -1,9 +1,11 @@
 -- For whom a transaction waits, by a search
-use Rattle.std.proofs.Common.{◌≡◌, ℕ, ◌==◌, Bool, true, false, cond, List, [], ◌∷◌, Option, None, Some, refl, sym, ◌∙◌, inl, inr, find}
+use Rattle.std.proofs.Common.{◌≡◌, ℕ, ◌==◌, Bool, true, false, is_some, cond, List, [], ◌∷◌, Option, None, Some, refl, sym, ◌∙◌, inl, inr, find}
 use Rattle.std.specs.Option.{option_map, option_or}
 use Rattle.std.proofs.lemmas.Bool.{eq-eqb, eqb-true, false≢true}
-use Rattle.mlt_waits_for.specs.declared.waits.Waiting.{Waiting}
-use Rattle.mlt_waits_for.specs.Waits.{IsAmong, IsFor, Waits, holder_in, holder_of}
+use Rattle.mlt_waits_for.specs.declared.wait.Waiting.{Waiting}
+use Rattle.mlt_waits_for.specs.declared.waits.Along.{Along}
+use Rattle.mlt_waits_for.specs.declared.waits.Along.TheVariants as along
+use Rattle.mlt_waits_for.specs.Waits.{IsAmong, IsAwake, IsFor, Waits, holder_among, holder_in, holder_of, seen_along}
 
 abbrev in_more : Waiting → List Waiting → ℕ → Bool → Option ℕ
 in_more first more x here = option_map (λ (wait : Waiting). wait.holder) (cond here (Some first) (find (λ (wait : Waiting). wait.waiter == x) more))
@@ -42,3 +44,21 @@ none_is_for waits x y none for =
       | None ↦ λ not_object not_page. elim for [ inl object ↦ none_is_among waits.objects x y not_object object | inr page ↦ none_is_among waits.pages x y not_page page ]
       | Some z ↦ λ _ some. let is : Some z ≡ None = some in cc
     ] refl none
+
+or_none : (found : Option ℕ) → found ≡ option_or found None
+or_none None = refl
+or_none (Some y) = refl
+
+-- whom x waits for by the waits that are looked at
+pub holder_seen : (seen : Along) (waits : Waits) (x : ℕ) → holder_among seen waits x ≡ holder_of (seen_along seen waits) x
+holder_seen along.Objects waits x = or_none (holder_in waits.objects x)
+holder_seen along.All waits x = refl
+
+-- x waits for nobody where no holder is found, and for the one that is found
+pub awake_if : (waits : Waits) (x : ℕ) (found : Option ℕ) → found ≡ holder_of waits x → is_some found ≡ false → IsAwake waits x
+awake_if waits x None is _ = λ y. none_is_for waits x y (sym is)
+awake_if waits x (Some y) is none = absurd (false≢true (sym none))
+
+pub waits_if : (waits : Waits) (x : ℕ) (found : Option ℕ) → found ≡ holder_of waits x → is_some found ≡ true → (y : ℕ) × IsFor waits x y
+waits_if waits x None is some = absurd (false≢true some)
+waits_if waits x (Some y) is _ = (y, found_is_for waits x y (sym is))

@@ -1,9 +1,15 @@
 -- Which transactions wait for which.
-use Rattle.std.specs.Prelude.{ℕ, ◌≡◌, ◌==◌, ◌<◌, ◌⊎◌, List, [], ◌∷◌, ◌++◌, length, find, Option}
+use Rattle.std.specs.Prelude.{ℕ, ◌≡◌, ◌==◌, ◌<◌, ◌⊎◌, Bool, true, not, List, [], ◌∷◌, ◌++◌, length, map, find, Option}
+use Rattle.std.specs.List.{filter}
 use Rattle.std.specs.Option.{option_map, option_or}
-use Rattle.mlt_waits_for.specs.declared.waits.Awaited.{Awaited}
-use Rattle.mlt_waits_for.specs.declared.waits.Awaited.TheVariants as awaited
-use Rattle.mlt_waits_for.specs.declared.waits.Waiting.{Waiting}
+use Rattle.mlt_waits_for.specs.declared.wait.Awaited.{Awaited}
+use Rattle.mlt_waits_for.specs.declared.wait.Awaited.TheVariants as awaited
+use Rattle.mlt_waits_for.specs.declared.wait.Bell.{Bell}
+use Rattle.mlt_waits_for.specs.declared.wait.Waiting.{Waiting}
+use Rattle.mlt_waits_for.specs.declared.wait.Whose.{Whose}
+use Rattle.mlt_waits_for.specs.declared.wait.Whose.TheVariants as whose
+use Rattle.mlt_waits_for.specs.declared.waits.Along.{Along}
+use Rattle.mlt_waits_for.specs.declared.waits.Along.TheVariants as along
 
 -- who waits for a lock of an object, and who for a lock of a page
 pub record Waits : Type 0 where
@@ -22,10 +28,23 @@ abbrev pub joined : Awaited → Waiting → Waits → Waits
 joined awaited.Objects wait waits = record waits { objects = waits.objects ++ wait ∷ [] }
 joined awaited.Pages wait waits = record waits { pages = waits.pages ++ wait ∷ [] }
 
--- nobody waits for such locks any more
-abbrev pub released : Awaited → Waits → Waits
-released awaited.Objects waits = record waits { objects = [] }
-released awaited.Pages waits = record waits { pages = [] }
+-- the wait is for a lock of these
+abbrev pub is_for : Whose → Waiting → Bool
+is_for (whose.One tx) wait = wait.holder == tx
+is_for whose.All wait = true
+
+-- who waits for locks of others
+abbrev pub others_in : Whose → List Waiting → List Waiting
+others_in given waits = filter (λ wait. not (is_for given wait)) waits
+
+-- the bells of those who wait for a lock of these, in their order
+abbrev pub bells_in : Whose → List Waiting → List Bell
+bells_in given waits = map (λ wait. wait.bell) (filter (is_for given) waits)
+
+-- nobody waits for such locks of these any more
+abbrev pub released : Awaited → Whose → Waits → Waits
+released awaited.Objects given waits = record waits { objects = others_in given waits.objects }
+released awaited.Pages given waits = record waits { pages = others_in given waits.pages }
 
 -- one of these is a wait of x for y
 abbrev pub IsAmong : List Waiting → ℕ → ℕ → Type 0
@@ -42,6 +61,16 @@ holder_in waits x = option_map (λ wait. wait.holder) (find (λ wait. wait.waite
 
 abbrev pub holder_of : Waits → ℕ → Option ℕ
 holder_of waits x = option_or (holder_in waits.objects x) (holder_in waits.pages x)
+
+-- the waits that are looked at
+abbrev pub seen_along : Along → Waits → Waits
+seen_along along.Objects waits = record waits { pages = [] }
+seen_along along.All waits = waits
+
+-- for whom x waits by one of these, by the first of them
+abbrev pub holder_among : Along → Waits → ℕ → Option ℕ
+holder_among along.Objects waits x = holder_in waits.objects x
+holder_among along.All waits x = holder_of waits x
 
 -- x waits for the first of these, each for the next, and the last for y; where there is none, x is y
 abbrev pub LeadsBy : Waits → ℕ → List ℕ → ℕ → Type 0
@@ -81,3 +110,8 @@ CantJoin awaited wait waits =
     (length (waits_of awaited waits) ≡ 64)
     ⊎ (((y : ℕ) × IsFor waits wait.waiter y)
     ⊎ LeadsTo waits wait.holder wait.waiter)
+
+-- the wait is for an object, and would close a circle of such waits alone
+abbrev pub Deadlocks : Awaited → Waiting → Waits → Type 0
+Deadlocks awaited.Objects wait waits = LeadsTo (seen_along along.Objects waits) wait.holder wait.waiter
+Deadlocks awaited.Pages wait waits = ⊥

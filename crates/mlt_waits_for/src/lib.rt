@@ -2,6 +2,8 @@
 //! Recovery in Database Systems, 1987, section 3.4). No circle ever stands in it: a wait that would close one is not taken in.
 #![tactic(auto)]
 
+mod wait;
 mod waits;
 
-pub use waits::{Awaited, Waiting, WaitsFor};
+pub use wait::{Awaited, Bell, Bells, Waiting, Whose};
+pub use waits::WaitsFor;

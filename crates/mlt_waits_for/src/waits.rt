@@ -1,36 +1,12 @@
 //! The graph.
 
-ghost use Rattle.std.specs.Prelude.{◌≡◌, ◌+◌, ◌≤◌, ◌⊎◌, ◌<◌, true, false, length, nat_lt};
-ghost use Rattle.mlt_waits_for.specs.Waits.{CanJoin, CantJoin, IsAcyclic, LeadToAwake, LeadsTo, holder_in, holder_of, joined, nobody_waits, released, waits_of};
+ghost use Rattle.std.specs.Prelude.{ℕ, ◌≡◌, ◌++◌, ◌+◌, ◌≤◌, ◌⊎◌, ◌<◌, true, false, length};
+ghost use Rattle.mlt_waits_for.specs.Waits.{bells_in, CanJoin, CantJoin, Deadlocks, holder_among, holder_in, IsAcyclic, IsAwake, IsFor, joined, LeadsTo, LeadToAwake, nobody_waits, others_in, released, seen_along, waits_of};
 
+use crate::wait::{Awaited, Bells, Waiting, Whose};
 use arrayvec::ArrayVec;
 use mlt_types::TxId;
 use std::marker::Model;
-
-/// Whose locks are waited for.
-#[derive(Clone, Copy, Debug, PartialEq, Eq)]
-pub enum Awaited {
-    /// Those of objects, which are held to the end of a transaction.
-    Objects,
-    /// Those of pages, which are held to the end of an operation.
-    Pages,
-}
-
-/// One transaction waits for a lock of another.
-#[derive(Clone, Copy, Debug)]
-pub struct Waiting {
-    pub waiter: TxId,
-    pub holder: TxId,
-}
-
-impl Default for Waiting {
-    fn default() -> Waiting {
-        Waiting {
-            waiter: TxId(0),
-            holder: TxId(0),
-        }
-    }
-}
 
 /// Which transactions wait for which, at most 64 for locks of objects and 64 for locks of pages. It takes no memory. A
 /// contract sees both lists. Nobody waits for two, or in a circle.
@@ -71,14 +47,21 @@ impl WaitsFor {
         self.objects.len() as u64 + self.pages.len() as u64
     }
 
-    /// Whether somebody waits for such locks.
-    pub fn some_wait(&self, awaited: Awaited) -> bool
-        ensures { result ≡ nat_lt 0 (length (waits_of awaited self.now)) }
+    /// Whether a transaction waits for nobody.
+    pub fn is_awake(&self, tx: TxId) -> bool
+        ensures awake { result ≡ true → IsAwake self.now tx }
+        ensures waits { result ≡ false → (y : ℕ) × IsFor self.now tx y }
     {
-        match awaited {
-            Awaited::Objects => !self.objects.is_empty(),
-            Awaited::Pages => !self.pages.is_empty(),
-        }
+        self.holder_of(Along::All, tx).is_none()
+    }
+
+    /// Whether a wait is for an object, and would close a circle of such waits alone.
+    pub fn deadlocks(&self, awaited: Awaited, wait: &Waiting) -> bool
+        ensures deadlocks { result ≡ true → Deadlocks awaited wait.now self.now }
+        ensures free { result ≡ false → Deadlocks awaited wait.now self.now → ⊥ }
+    {
+        let _ = &self.objects;
+        awaited == Awaited::Objects && self.leads(Along::Objects, wait.holder, wait.waiter)
     }
 
     /// A transaction begins to wait. Where that would close a circle it doesn't, and it doesn't where there is no room for
@@ -100,15 +83,19 @@ impl WaitsFor {
         true
     }
 
-    /// Nobody waits for such locks from now on.
-    #[tactic(auto, using(crate::proofs::Acyclic::fewer_are_acyclic))]
-    pub fn release(&mut self, awaited: Awaited)
-        ensures releases { self.new ≡ released awaited self.old }
+    /// Such locks of one transaction, or of all, are given back: nobody waits for them from now on. The bells of those who
+    /// did join the others.
+    pub fn release(&mut self, awaited: Awaited, whose: Whose, bells: &mut Bells)
+        requires { length bells.old.items ≤ 128 }
+        ensures releases { self.new ≡ released awaited whose self.old }
+        ensures rings { bells.new.items
+            ≡ bells.old.items ++ bells_in whose (waits_of awaited self.old) }
+        ensures few { length bells.new.items ≤ length bells.old.items + 64 }
         ensures awake { LeadToAwake self.new }
     {
         match awaited {
-            Awaited::Objects => self.objects.clear(),
-            Awaited::Pages => self.pages.clear(),
+            Awaited::Objects => release_in(&mut self.objects, whose, bells),
+            Awaited::Pages => release_in(&mut self.pages, whose, bells),
         }
     }
 
@@ -120,9 +107,9 @@ impl WaitsFor {
         if self.is_full(awaited) {
             return false;
         }
-        match self.holder_of(wait.waiter) {
+        match self.holder_of(Along::All, wait.waiter) {
             Some(_) => false,
-            None => !self.leads(wait.holder, wait.waiter),
+            None => !self.leads(Along::All, wait.holder, wait.waiter),
         }
     }
 
@@ -137,29 +124,69 @@ impl WaitsFor {
         }
     }
 
-    /// For whom a transaction waits, if it waits.
-    fn holder_of(&self, waiter: TxId) -> Option<TxId>
-        ensures { result ≡ holder_of self.now waiter }
+    /// For whom a transaction waits by one of the waits that are looked at, if it does.
+    fn holder_of(&self, along: Along, waiter: TxId) -> Option<TxId>
+        ensures { result ≡ holder_among along self.now waiter }
     {
-        holder_in(&self.objects, waiter).or(holder_in(&self.pages, waiter))
+        let object = holder_in(&self.objects, waiter);
+        match along {
+            Along::Objects => object,
+            Along::All => object.or(holder_in(&self.pages, waiter)),
+        }
     }
 
-    /// Whether waits lead from one transaction to another. No more follow each other than there are.
-    fn leads(&self, from: TxId, to: TxId) -> bool
-        ensures leads { IsAcyclic self.now → LeadsTo self.now from to → result ≡ true }
-        ensures cause { IsAcyclic self.now → result ≡ true → LeadsTo self.now from to }
+    /// Whether the waits that are looked at lead from one transaction to another. No more follow each other than there are.
+    fn leads(&self, along: Along, from: TxId, to: TxId) -> bool
+        ensures leads { IsAcyclic self.now
+            → LeadsTo (seen_along along self.now) from to → result ≡ true }
+        ensures cause { IsAcyclic self.now
+            → result ≡ true → LeadsTo (seen_along along self.now) from to }
     {
         let mut at = from;
         for _ in 0..=self.count() {
             if at == to {
                 return true;
             }
-            match self.holder_of(at) {
+            match self.holder_of(along, at) {
                 Some(holder) => at = holder,
                 None => return false,
             }
         }
         true
+    }
+}
+
+/// Which waits are looked at.
+#[derive(Clone, Copy, Debug, PartialEq, Eq)]
+pub(crate) enum Along {
+    /// Those for objects.
+    Objects,
+    All,
+}
+
+/// Takes away the waits for locks that are given back, and adds their bells to the others.
+fn release_in(waits: &mut ArrayVec<Waiting, 64>, whose: Whose, bells: &mut Bells)
+    requires { length bells.old.items ≤ 128 }
+    ensures releases { waits.new.items ≡ others_in whose waits.old.items }
+    ensures rings { bells.new.items ≡ bells.old.items ++ bells_in whose waits.old.items }
+    ensures few { length bells.new.items ≤ length bells.old.items + 64 }
+{
+    add_bells(waits, whose, bells);
+    waits.retain(|wait| !wait.is_for(whose));
+}
+
+/// Adds the bells of those who wait for locks that are given back to the others.
+fn add_bells(waits: &[Waiting], whose: Whose, bells: &mut Bells)
+    requires few { length waits.now ≤ 64 }
+    requires room { length bells.old.items ≤ 128 }
+    ensures rings { bells.new.items ≡ bells.old.items ++ bells_in whose waits.now }
+    ensures few { length bells.new.items ≤ length bells.old.items + length waits.now }
+{
+    for wait in waits {
+        let given = whose;
+        if wait.is_for(given) {
+            bells.push(wait.bell);
+        }
     }
 }
 

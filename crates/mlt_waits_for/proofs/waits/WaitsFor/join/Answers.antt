@@ -1,6 +1,6 @@
 use Rattle.std.proofs.Common.{sym, subst}
 use Rattle.mlt_waits_for.specs.Waits.{CanJoin, IsAcyclic, LeadToAwake}
-use Rattle.mlt_waits_for.specs.declared.waits.Awaited.TheVariants as awaited
+use Rattle.mlt_waits_for.specs.declared.wait.Awaited.TheVariants as awaited
 use Rattle.mlt_waits_for.proofs.Acyclic.{stays_acyclic}
 use Rattle.mlt_waits_for.proofs.Ends.{lead_to_awake}
 use Rattle.mlt_waits_for.proofs.waits.WaitsFor.join.Goals as goal

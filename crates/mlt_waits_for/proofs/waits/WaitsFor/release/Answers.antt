@@ -1,17 +1,17 @@
 use Rattle.std.proofs.Common.{sym, subst}
 use Rattle.mlt_waits_for.specs.Waits.{IsAcyclic}
-use Rattle.mlt_waits_for.specs.declared.waits.Awaited.TheVariants as awaited
+use Rattle.mlt_waits_for.specs.declared.wait.Awaited.TheVariants as awaited
 use Rattle.mlt_waits_for.proofs.Acyclic.{fewer_are_acyclic}
 use Rattle.mlt_waits_for.proofs.Ends.{lead_to_awake}
 use Rattle.mlt_waits_for.proofs.waits.WaitsFor.release.Goals as goal
 
-fewer_objects : (c : goal.After-clear) → IsAcyclic (record { objects = c.clear.new.self.items; pages = c.self.inside.pages.items })
+fewer_objects : (c : goal.After-release_in) → IsAcyclic (record { objects = c.release_in.new.waits.items; pages = c.self.inside.pages.items })
 fewer_objects c =
-    subst (λ items. IsAcyclic (record { objects = items; pages = c.self.inside.pages.items })) (sym c.clear.ensures) (fewer_are_acyclic awaited.Objects _ c.self.invariant)
+    subst (λ items. IsAcyclic (record { objects = items; pages = c.self.inside.pages.items })) (sym c.release_in.ensures.releases) (fewer_are_acyclic awaited.Objects c.args.whose _ c.self.invariant)
 
-fewer_pages : (c : goal.After-clear-in-Pages) → IsAcyclic (record { objects = c.self.inside.objects.items; pages = c.clear-in-Pages.new.self.items })
+fewer_pages : (c : goal.After-release_in-in-Pages) → IsAcyclic (record { objects = c.self.inside.objects.items; pages = c.release_in-in-Pages.new.waits.items })
 fewer_pages c =
-    subst (λ items. IsAcyclic (record { objects = c.self.inside.objects.items; pages = items })) (sym c.clear-in-Pages.ensures) (fewer_are_acyclic awaited.Pages _ c.self.invariant)
+    subst (λ items. IsAcyclic (record { objects = c.self.inside.objects.items; pages = items })) (sym c.release_in-in-Pages.ensures.releases) (fewer_are_acyclic awaited.Pages c.args.whose _ c.self.invariant)
 
 pub invariant_of-self : goal.invariant_of-self
 invariant_of-self c = fewer_objects c

@@ -1,0 +1,169 @@
+"""What ends a wait, and what it costs: sessions that wait for one another, a deadlock, and many over few objects."""
+import os
+import random
+import threading
+import time
+from concurrent.futures import ThreadPoolExecutor
+
+from harness import each, expect, holds, lines, same, test
+from sessions import says_nothing
+
+# Within so many seconds an answer comes that need wait for nobody, on a slow machine too.
+SOON = 10
+# A deadlock is seen before any try is made: many tries would take longer.
+AT_ONCE = 0.5
+
+
+def processor_seconds(server):
+    """How long the server has used processors so far."""
+    with open(f"/proc/{server.process.pid}/stat", encoding="ascii") as file:
+        fields = file.read().rpartition(")")[2].split()
+    return (int(fields[11]) + int(fields[12])) / os.sysconf("SC_CLK_TCK")
+
+
+@test
+def work_of_others_costs_no_try(mltx):
+    """A session with five tries waits for one that is silent, while a third commits 500 times, and connections end."""
+    with mltx.serve("--tries", 5, limit=23) as server:
+        with server.connect() as holder, server.connect() as waiter, server.connect() as third:
+            same([peer.ask("begin") for peer in (holder, waiter)], ["begun 1", "begun 2"])
+            same(holder.ask("up 1 5"), "done")
+            waiter.send("read 1\n")
+            says_nothing(waiter, "the counter is held")
+            third.send(lines("begin|up 2 1|commit") * 500)
+            for number in range(500):
+                same([third.line() for _ in range(3)][1:], ["done", f"committed {number + 1}"])
+            for _ in range(20):
+                server.talk(lines("begin|up 3 1|abort"))
+            says_nothing(waiter, "the counter is still held")
+            same([holder.ask("commit"), waiter.line()], ["committed 501", "is 5"])
+        expect(server.end(), out="served 23\n")
+
+
+@test(seconds=1)
+def session_that_waits_uses_no_processor(mltx):
+    with mltx.serve(limit=2) as server:
+        with server.connect() as holder, server.connect() as waiter:
+            same([peer.ask("begin") for peer in (holder, waiter)], ["begun 1", "begun 2"])
+            same(holder.ask("up 1 5"), "done")
+            waiter.send("read 1\n")
+            says_nothing(waiter, "the counter is held")
+            before = processor_seconds(server)
+            time.sleep(0.5)
+            used = processor_seconds(server) - before
+            same([holder.ask("abort"), waiter.line()], ["aborted", "is 0"])
+        expect(server.end(), out="served 2\n")
+    holds(used < 0.1, f"a session waited half a second and used {used} seconds of a processor")
+
+
+@each({f"circle-of-{count}-sessions-ends-at-once": count for count in (2, 3, 8)})
+def circle_ends_at_once(mltx, count):
+    """With the most tries, beside a client that is silent: the one that closes the circle is answered at once, the others
+    wait on, and each goes on as the one before it ends."""
+    with mltx.serve("--tries", 1_000_000, "--sessions", 9, limit=count + 1) as server, server.connect() as silent:
+        peers = [server.connect() for _ in range(count)]
+        same(silent.ask("begin"), "begun 1")
+        same([peer.ask("begin") for peer in peers], [f"begun {number + 2}" for number in range(count)])
+        same({peer.ask(f"up {number} 1") for number, peer in enumerate(peers)}, {"done"})
+        for number, peer in enumerate(peers[:-1]):
+            peer.send(f"read {number + 1}\n")
+            says_nothing(peer, "the next one holds the counter")
+        began = time.monotonic()
+        same(peers[-1].ask("read 0"), "error 14 GaveUp")
+        took = time.monotonic() - began
+        holds(took < AT_ONCE, f"the last of the circle was answered after {took} seconds")
+        says_nothing(peers[0], "the one that gave up has not ended")
+        same(peers[-1].ask("abort"), "aborted")
+        for number, peer in reversed(list(enumerate(peers[:-1], 1))):
+            same([peer.line(), peer.ask("commit")], [f"is {int(number != count - 1)}", f"committed {count - number}"])
+        for peer in (silent, *peers):
+            peer.socket.close()
+        expect(server.end(), out=f"served {count + 1}\n")
+
+
+@test
+def wait_for_another_object_is_no_deadlock(mltx):
+    """Two that wait for one holder, and one that waits for one of them: no circle, so nobody gives up."""
+    with mltx.serve("--tries", 3, limit=3) as server:
+        with server.connect() as first, server.connect() as second, server.connect() as third:
+            same([peer.ask("begin") for peer in (first, second, third)], ["begun 1", "begun 2", "begun 3"])
+            same([first.ask("up 1 1"), second.ask("up 2 1")], ["done", "done"])
+            second.send("read 1\n")
+            says_nothing(second, "the first holds the counter")
+            third.send("read 2\n")
+            says_nothing(third, "the second holds the counter")
+            same([first.ask("commit"), second.line()], ["committed 1", "is 1"])
+            says_nothing(third, "the second still holds the counter")
+            same([second.ask("commit"), third.line(), third.ask("commit")], ["committed 2", "is 1", "committed 3"])
+        expect(server.end(), out="served 3\n")
+
+
+OPERATIONS = ("up 1 1", "up 2 1", "up 3 1", "down 1 1", "read 1", "read 2", "read 3")
+
+
+def hurried(server, seed, transactions):
+    """Runs transactions over three counters; each answer comes soon. It answers how many gave up, and how many committed."""
+    source, ends = random.Random(seed), {"committed": 0, "aborted": 0}
+    with server.connect() as peer:
+        peer.socket.settimeout(SOON)
+        for _ in range(transactions):
+            peer.ask("begin")
+            told = [peer.ask(source.choice(OPERATIONS)) for _ in range(source.randrange(1, 5))]
+            answer = peer.ask("abort" if "error 14 GaveUp" in told or source.random() < 0.1 else "commit")
+            ends[answer.split()[0]] += 1
+            holds(all(one in ("done", "error 14 GaveUp") or one.startswith("is ") for one in told), f"answers {told}")
+        same(peer.ask("quit"), "bye")
+    return ends
+
+
+@each({f"sixteen-clients-over-three-objects-with-{tries}-tries": tries for tries in (1, 20, 10_000)}, seconds=2)
+def sixteen_clients_over_three_objects(mltx, tries):
+    """Each answer comes within a bound, all ends are told, and `check` accepts the trace."""
+    clients, transactions, trace = 16, 100, mltx.folder / "trace"
+    with mltx.serve("--sessions", clients, "--tries", tries, "--trace", trace, limit=clients) as server:
+        with ThreadPoolExecutor(clients) as threads:
+            ends = list(threads.map(lambda seed: hurried(server, seed, transactions), range(clients)))
+        expect(server.end(), out=f"served {clients}\n")
+    committed = sum(end["committed"] for end in ends)
+    same(committed + sum(end["aborted"] for end in ends), clients * transactions, "how many ended")
+    holds(all(end["committed"] for end in ends), f"a client never committed: {ends}")
+    checked = mltx.check(trace)
+    same((checked.status, checked.err), (0, b""), "the check of the trace")
+    serial = checked.out.decode().splitlines()
+    same(sum(line.startswith("serial ") for line in serial), committed, "how many are in the serial order")
+
+
+def reads_until(ended, peer):
+    """Reads a counter in one transaction after another, many at once, until it is said that this is enough."""
+    batch = lines("begin|" + "read 9|" * 50 + "commit")
+    while not ended.is_set():
+        peer.send(batch)
+        for _ in range(52):
+            peer.line()
+    peer.send("quit\n")
+
+
+# By `low` the last key is apart from the eight others, which are one, at the 16th bit alone.
+ADDITIONS = [f"add {number} 0" for number in range(8)] + ["up 1 1"]
+
+
+@test(seconds=2)
+def insert_that_doubles_gets_through(mltx):
+    """It needs the header page alone, which one of fourteen readers nearly always holds; a hundred tries are enough."""
+    readers = 14
+    for _ in range(5):
+        options = ("--hash", "low", "--tries", 100, "--sessions", readers + 1)
+        with mltx.serve(*options, limit=readers + 1) as server, ThreadPoolExecutor(readers) as threads:
+            peers, ended = [server.connect() for _ in range(readers)], threading.Event()
+            reading = [threads.submit(reads_until, ended, peer) for peer in peers]
+            try:
+                with server.connect() as writer:
+                    told = [writer.ask(line) for line in ("begin", *ADDITIONS, "commit")]
+            finally:
+                ended.set()
+            for one in reading:
+                one.result()
+            for peer in peers:
+                peer.socket.close()
+            same([one for one in told if one.startswith("error")], [], "what the insert was refused with")
+            expect(server.end(), out=f"served {readers + 1}\n")
