@@ -126,3 +126,12 @@ def readme_shows_a_session(mltx):
     shown = block_after((ROOT / "README.md").read_text(), "**`serve`** is a server").splitlines()
     with mltx.serve(limit=None) as server, server.connect() as peer:
         same([peer.ask(line) for line in shown[::2]], shown[1::2], "the answers")
+
+
+@test
+def the_manager_shows_how_it_is_called(_mltx):
+    """The caller and its helper in the README of `mlt_manager` stand so in the source, which is proved."""
+    readme, source = ((ROOT / "crates" / path).read_text() for path in ("mlt_manager/README.md", "mlt_manager_uses/src/lib.rt"))
+    for words, name in (("has this caller", "open_with_five"), ("An operation is run to its end by", "ask")):
+        shown = block_after(readme, words)
+        holds(f"fn {name}<" in shown.splitlines()[0] and "\n" + shown in source, f"the source has no such {name}")
