@@ -37,13 +37,15 @@ class Failed(Exception):
 
 @contextmanager
 def started(words, **how):
-    """A process, as long as the block lasts. It is killed where it has not ended by then, and where this one ends before."""
-    how = {"stdin": subprocess.DEVNULL, "preexec_fn": _end_with_parent, **how}
+    """A process, as long as the block lasts. Where it has not ended by then it is killed, with what it started itself; and it
+    ends where this process does."""
+    how = {"stdin": subprocess.DEVNULL, "start_new_session": True, "preexec_fn": _end_with_parent, **how}
     process = subprocess.Popen([*map(str, words)], **how)
     try:
         yield process
     finally:
-        process.kill()
+        if process.poll() is None:
+            os.killpg(process.pid, signal.SIGKILL)
         process.communicate()
 
 

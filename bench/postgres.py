@@ -22,14 +22,18 @@ TABLE = (
 TRIES = 1_000
 
 
-def find():
-    """The folder with its programs; None where there is none, or no user to run it."""
-    if os.geteuid() == 0 and not any(entry.pw_name == USER for entry in pwd.getpwall()):
+def find(folder):
+    """The folder with its programs; None where there is none, or no user who can run it in this folder."""
+    if os.geteuid() == 0 and not (has_user() and all(above.stat().st_mode & 1 for above in folder.parents)):
         return None
     found = shutil.which("initdb")
     folders = [Path(found).resolve().parent] if found else []
     folders += sorted(Path("/usr/lib/postgresql").glob("*/bin"), reverse=True)
     return next((folder for folder in folders if all((folder / name).exists() for name in PROGRAMS)), None)
+
+
+def has_user():
+    return any(entry.pw_name == USER for entry in pwd.getpwall())
 
 
 def owner():

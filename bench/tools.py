@@ -18,7 +18,7 @@ WANTED_FOR = {
     "echo": "the C compiler cc",
     "accounts": "the C compiler cc and the library sqlite3 with its header",
     "redis-server": "redis-server",
-    "postgres": "PostgreSQL with pgbench",
+    "postgres": "PostgreSQL with pgbench; for root also the user postgres, and a TMPDIR that this user can reach",
     "instructions": "valgrind, or perf where it counts instructions",
 }
 
@@ -40,7 +40,7 @@ def look_for_tools(folder):
     for name, libraries in BUILT.items():
         if _builds(HERE / f"{name}.c", folder / name, libraries):
             tools.paths[name] = folder / name
-    elsewhere = {"redis-server": shutil.which("redis-server"), "postgres": postgres.find(), "instructions": counter()}
+    elsewhere = {"redis-server": shutil.which("redis-server"), "postgres": postgres.find(folder), "instructions": counter()}
     tools.paths |= {name: path for name, path in elsewhere.items() if path}
     return tools
 
@@ -53,10 +53,12 @@ def counter():
 def _builds(source, program, libraries):
     if not shutil.which("cc"):
         return False
-    made = subprocess.run(["cc", "-O2", "-o", program, source, *libraries], capture_output=True, text=True)
-    if made.returncode != 0 and not libraries:
-        raise Failed(f"cc does not compile {source.name}: {made.stderr}")
-    return made.returncode == 0
+    try:
+        run(["cc", "-O2", "-o", program, source, *libraries])
+    except Failed:
+        if not libraries:
+            raise
+    return program.exists()
 
 
 PERF = ["perf", "stat", "-x,", "-e", "instructions:u"]
@@ -65,8 +67,7 @@ PERF = ["perf", "stat", "-x,", "-e", "instructions:u"]
 def _perf_counts():
     if not shutil.which("perf"):
         return False
-    told = subprocess.run([*PERF, "true"], capture_output=True, text=True).stderr
-    return re.search(r"(?m)^\d+,", told) is not None
+    return re.search(rb"(?m)^\d+,", run([*PERF, "true"])[1]) is not None
 
 
 def instructions_of(tools, words):
@@ -86,4 +87,5 @@ def instructions_of(tools, words):
 def description():
     """The machine, in some words."""
     cpus = re.findall(r"(?m)^model name\s*: (.*)$", Path("/proc/cpuinfo").read_text())
-    return f"{os.cpu_count()} cores, {cpus[0] if cpus else platform.machine()}, {platform.system()} {platform.release()}"
+    system = f"{platform.system()} {platform.release()}"
+    return f"{os.cpu_count()} cores, {cpus[0] if cpus else platform.machine()}, {system}, load {os.getloadavg()[0]:.1f}"
