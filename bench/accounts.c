@@ -1,10 +1,10 @@
 /* Runs scripts over accounts as `mltx solo` does, by SQLite in memory: it reads the same text and prints the same replies.
 
        accounts FILE
+       accounts --version
 
    It knows `open`, `deposit`, `withdraw` and `balance`, which is what the benchmarks use. Each operation is a prepared
-   statement or two, and a script is a transaction. A balance has no upper limit here. */
-#include <errno.h>
+   statement or two, and a script is a transaction. A balance has no upper limit here. The version is that of SQLite. */
 #include <sqlite3.h>
 #include <stdbool.h>
 #include <string.h>
@@ -102,16 +102,29 @@ static void run_line(char *line)
     }
 }
 
-int main(int count, char **words)
+static void run_file(const char *path)
 {
     static char line[256];
-    FILE *file = fopen(count == 2 ? words[1] : "", "r");
+    FILE *file = fopen(path, "r");
     if (file == NULL)
         give_up("accounts: FILE");
-    open_database();
     while (fgets(line, sizeof line, file) != NULL) {
         line[strcspn(line, "\n")] = 0;
         run_line(line);
+    }
+}
+
+int main(int count, char **words)
+{
+    if (count != 2) {
+        fputs("accounts: one FILE, or --version, is wanted\n", stderr);
+        return 2;
+    }
+    if (strcmp(words[1], "--version") == 0) {
+        puts(sqlite3_libversion());
+    } else {
+        open_database();
+        run_file(words[1]);
     }
     return 0;
 }

@@ -5,12 +5,13 @@ import re
 import shutil
 import signal
 import statistics
-from contextlib import contextmanager
+import time
+from contextlib import contextmanager, suppress
 from pathlib import Path
 
 from machine import LOCAL, START, Failed, free_port, run, started, wait_for
 
-PROGRAMS = ("initdb", "postgres", "psql", "pgbench")
+PROGRAMS = ("initdb", "postgres", "pg_isready", "psql", "pgbench")
 # The server refuses to run for the superuser of the machine, who runs it for this user.
 USER = "postgres"
 SETTINGS = {"fsync": "off", "synchronous_commit": "off", "full_page_writes": "off", "unix_socket_directories": ""}
@@ -62,12 +63,23 @@ def server(programs, folder, counters):
     words += [word for name, value in SETTINGS.items() for word in ("-c", f"{name}={value}")]
     with open(place / "log", "wb") as log, started(words, stdout=log, stderr=log, cwd=place, **owner()) as process:
         try:
-            wait_for(port, process)
+            wait_until_ready(programs, port, process)
             ask(programs, port, TABLE.format(last=counters - 1))
             yield port
         finally:
             process.send_signal(signal.SIGINT)
             process.wait(START)
+
+
+def wait_until_ready(programs, port, process):
+    """It listens before it is ready."""
+    wait_for(port, process)
+    until = time.monotonic() + START
+    while time.monotonic() < until:
+        with suppress(Failed):
+            return run([programs / "pg_isready", "--host", LOCAL, "--port", port])
+        time.sleep(0.01)
+    raise Failed("PostgreSQL does not get ready")
 
 
 def ask(programs, port, text):

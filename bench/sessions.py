@@ -8,7 +8,7 @@ from functools import partial
 
 import postgres
 from machine import LOCAL, PATIENCE, PIPES, ROOT, Failed, busy, ended, listening, redis, started
-from works import Sample, Side, Work
+from works import SECONDS, Sample, Side, Work
 
 sys.path.insert(0, str(ROOT / "clients/python"))
 from mltx import MltxError, Session, TimedOut  # noqa: E402
@@ -42,10 +42,10 @@ def transaction(*operations):
     return (BEGIN, *operations, COMMIT)
 
 
-def loading(bench, port, load, seconds=None, transactions=None):
-    """The load generator, as long as a block lasts."""
+def loading(bench, port, load, seconds, transactions=None):
+    """The load generator, as long as a block lasts. It ends after so many seconds, or after so many transactions."""
     words = [bench.tools.paths["load"], "--port", port, "--connections", load.connections, "--counters", load.counters]
-    words += ["--seed", bench.seed, "--seconds", seconds or bench.seconds()]
+    words += ["--seed", bench.seed, "--seconds", seconds]
     words += ["--transactions", transactions] if transactions else []
     words += [*["--whole"] * load.whole, *["--redis"] * load.redis, "--", *load.lines]
     return started(words, **PIPES)
@@ -59,7 +59,7 @@ def figures(process):
 
 def figures_of(bench, port, load, **limits):
     """What it tells of a load by which some transactions ended."""
-    with loading(bench, port, load, **limits) as process:
+    with loading(bench, port, load, **(limits or bench.limits())) as process:
         told = figures(process)
     if told["transactions"] == 0:
         raise Failed("no transaction ended")
@@ -95,7 +95,7 @@ def load_on_echo(load, bench, _program):
 
 
 def load_on_postgres(load, bench, _program):
-    limit = bench.pick(["--time", round(bench.seconds())], ["--transactions", 20])
+    limit = bench.pick(["--time", SECONDS], ["--transactions", 20])
     programs, operations = bench.tools.paths["postgres"], len(load.lines) - 2
     per_second, times = postgres.load(programs, bench.folder, load.connections, operations, load.counters, limit)
     return Sample(per_second, *postgres.percentiles(times))
@@ -170,7 +170,7 @@ def up_beside_held(counter, held, bench, program):
         for _ in range(held // HELD_BY_ONE):
             holder = stack.enter_context(session(server))
             must_answer(holder, BEGIN, *[f"up {HELD} 1"] * HELD_BY_ONE)
-        told = figures_of(bench, server.port, load, seconds=bench.pick(1.0, 0.05))
+        told = figures_of(bench, server.port, load)
     return Sample(told["median"] / ASKED)
 
 
@@ -189,9 +189,10 @@ CROSSED = [Load(transaction("up 1 1", "read 2")), Load(transaction("up 2 1", "re
 
 def beside_deadlock(bench, program):
     """The rate of a client while two others stand in each other's way, and what became of those two."""
+    seconds = bench.pick(SECONDS, 0.1) + 0.2
     with ExitStack() as stack:
         server = stack.enter_context(mltx_server(program))
-        two = [stack.enter_context(loading(bench, server.port, load, bench.seconds() + 0.2)) for load in CROSSED]
+        two = [stack.enter_context(loading(bench, server.port, load, seconds)) for load in CROSSED]
         told = figures_of(bench, server.port, OTHERS)
         ends = [figures(process) for process in two]
     more = {}
@@ -254,13 +255,18 @@ def time_doubling(server):
 
 
 def one_doubling(with_readers, bench, program):
-    with mltx_server(program, "--hash", "low", "--tries", 100) as server, ExitStack() as stack:
+    """The same on a server of its own, with or without readers that go on all the while."""
+    with mltx_server(program, "--hash", "low", "--tries", 100) as server:
         with session(server) as first:
             must_answer(first, BEGIN, *(f"open {account}" for account in CROWD), COMMIT)
-        if with_readers:
-            stack.enter_context(loading(bench, server.port, READS, seconds=PATIENCE))
+        if not with_readers:
+            return time_doubling(server)
+        with loading(bench, server.port, READS, seconds=PATIENCE) as readers:
             time.sleep(START_OF_READERS)
-        return time_doubling(server)
+            timed = time_doubling(server)
+            if readers.poll() is not None:
+                raise Failed("the readers ended before the insert did")
+            return timed
 
 
 def doublings(with_readers, bench, program):

@@ -27,7 +27,7 @@ class Line:
             number(statistics.median(values)),
             number(statistics.median(others)) if others else NONE,
             f"{statistics.median(ratios):.2f}" if ratios else NONE,
-            " to ".join(map("{:.2f}".format, (min(ratios), max(ratios)))) if ratios else own_spread(values),
+            spread(ratios) if ratios else own_spread(values),
             self.pair("median"),
             self.pair("ninety_ninth"),
             self.besides(),
@@ -55,7 +55,12 @@ def values_of(samples):
 def own_spread(values):
     """From the least to the greatest, as parts of the median."""
     middle = statistics.median(values)
-    return f"{min(values) / middle:.2f} to {max(values) / middle:.2f}" if middle else NONE
+    return spread([value / middle for value in values]) if middle else NONE
+
+
+def spread(parts):
+    """From the least to the greatest, where there are several."""
+    return f"{min(parts):.2f} to {max(parts):.2f}" if len(parts) > 1 else NONE
 
 
 def number(value):

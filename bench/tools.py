@@ -84,6 +84,22 @@ def instructions_of(tools, words):
     return int(found[1])
 
 
+def versions(tools):
+    """What was found to compare with and to count by, each with its version."""
+    paths = tools.paths
+    programs = {"Redis": paths.get("redis-server"), "SQLite": paths.get("accounts")}
+    if "postgres" in paths:
+        programs["PostgreSQL"] = paths["postgres"] / "postgres"
+    if "instructions" in paths:
+        programs[Path(paths["instructions"]).name] = paths["instructions"]
+    return [f"{name} {_version_of(program)}" for name, program in programs.items() if program]
+
+
+def _version_of(program):
+    found = re.search(rb"\d+(\.\d+)+", run([program, "--version"])[0])
+    return found[0].decode() if found else "of no known version"
+
+
 def description():
     """The machine, in some words."""
     cpus = re.findall(r"(?m)^model name\s*: (.*)$", Path("/proc/cpuinfo").read_text())

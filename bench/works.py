@@ -4,7 +4,11 @@ from collections.abc import Callable
 from dataclasses import dataclass, field
 from pathlib import Path
 
+from machine import PATIENCE
 from tools import Tools
+
+# How long a load lasts.
+SECONDS = 2
 
 
 @dataclass
@@ -21,9 +25,9 @@ class Bench:
         """A size: the full one, or one that is quick to try."""
         return quick if self.quick else full
 
-    def seconds(self):
-        """How long a load lasts."""
-        return self.pick(2.0, 0.1)
+    def limits(self):
+        """Where a load ends: after so many seconds, or after some transactions, however long they take."""
+        return self.pick({"seconds": SECONDS}, {"seconds": PATIENCE, "transactions": 200})
 
     def file(self, name, make):
         """A file with a text that is made once, and what else was made with it."""
