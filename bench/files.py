@@ -1,0 +1,104 @@
+"""What is measured over files: scripts that are run, and traces that are checked."""
+from functools import partial
+
+import texts
+from machine import Failed, run, seconds_of
+from tools import instructions_of
+from works import Sample, Side, Work
+
+
+def transfers(bench, count, accounts):
+    """A file of transfers, and how many operations it asks."""
+    return bench.file(f"transfers-{count}", lambda dice: texts.transfers(dice, count, accounts))
+
+
+def same_replies(bench, out):
+    """Whether the replies written are those that were written first for this work."""
+    first = bench.folder / "replies-first"
+    if not first.exists():
+        out.rename(first)
+    elif out.read_bytes() != first.read_bytes():
+        raise Failed("the two sides of solo do not write the same")
+
+
+def solo(words_of, bench, program):
+    """How long it takes to read many transfers, run them, and write the replies."""
+    file, _ = transfers(bench, *bench.pick((235_000, 80_000), (3_000, 1_000)))
+    out = bench.folder / "replies"
+    seconds = seconds_of([*words_of(bench, program), file], out)
+    same_replies(bench, out)
+    return Sample(seconds)
+
+
+def by_mltx(_bench, program):
+    return [program, "solo"]
+
+
+def by_one_worker(_bench, program):
+    return [program, "run", "--workers", 1]
+
+
+def by_sqlite(bench, _program):
+    return [bench.tools.paths["accounts"]]
+
+
+def solo_works():
+    sides = (Side("mltx", partial(solo, by_mltx)), Side("SQLite", partial(solo, by_sqlite), ("accounts",)))
+    yield Work("solo", "235,000 transfers over 80,000 accounts", "s", sides)
+
+
+def run_counted(workers, counters, bench, program):
+    count = bench.pick(96_000, 2_000)
+    file, _ = bench.file(f"counted-{counters}", lambda dice: (texts.counted(dice, count, counters), None))
+    return Sample(seconds_of([program, "run", "--workers", workers, file]))
+
+
+def workers_works():
+    for counters in (3, 50_000):
+        for workers in (1, 2, 4, 8):
+            what = f"96,000 scripts on {counters:,} counters, {workers} worker{'s' * (workers > 1)}"
+            yield Work("workers", what, "s", (Side("mltx", partial(run_counted, workers, counters)),))
+
+
+def instructions(words_of, bench, program):
+    """How many instructions an operation takes, with all that is read and written for it."""
+    file, operations = transfers(bench, *bench.pick((60_000, 20_000), (300, 100)))
+    return Sample(instructions_of(bench.tools, [*words_of(bench, program), file]) / operations)
+
+
+def instructions_works():
+    sqlite = Side("SQLite", partial(instructions, by_sqlite), ("accounts", "instructions"))
+    for words, words_of in {"solo": by_mltx, "run --workers 1": by_one_worker}.items():
+        sides = (Side("mltx", partial(instructions, words_of), ("instructions",)), sqlite)
+        yield Work("instructions", f"{words}, 60,000 transfers", "instructions/operation", sides, most_runs=1)
+
+
+def speed(words, file):
+    """How many megabytes of a file are read in a second."""
+    return Sample(file.stat().st_size / 1e6 / seconds_of([*words, file]))
+
+
+def speed_of_check(bench, program):
+    file, _ = transfers(bench, *bench.pick((60_000, 20_000), (300, 100)))
+    trace = bench.folder / "trace"
+    run([program, "solo", "--trace", trace, file])
+    return speed([program, "check"], trace)
+
+
+def speed_of_parser(bench, program):
+    file, _ = bench.file("unmet", lambda _dice: (texts.unmet(bench.pick(15_000_000, 100_000)), None))
+    return speed([program, "solo"], file)
+
+
+def texts_works():
+    yield Work("texts", "check of a trace of 60,000 transfers", "MB/s", (Side("mltx", speed_of_check),))
+    yield Work("texts", "solo of operations that are not met", "MB/s", (Side("mltx", speed_of_parser),))
+
+
+# By its name what a group measures, and its works.
+GROUPS = {
+    "solo": ("transfers by scripts, with reading and printing, against SQLite in memory", solo_works),
+    "workers": ("scripts side by side, by 1 to 8 workers", workers_works),
+    "instructions": ("instructions an operation, against SQLite", instructions_works),
+    "texts": ("how fast traces are checked and scripts are parsed", texts_works),
+}

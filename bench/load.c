@@ -1,0 +1,324 @@
+/* The load generator: clients of a server that runs transactions, each over a connection of its own, all in one thread.
+
+       load [OPTIONS] LINE ..
+
+   Each client sends the lines of a transaction over and over; a `?` in a line is a counter drawn anew. By default it sends a
+   line once the one before is answered, with --whole all of them in one write. A transaction that is refused an operation is
+   aborted and run again. At the end one line tells how many transactions ended, in how many seconds, the median and the 99th
+   percentile of how long they took, in microseconds, and how many were refused. What can't go on ends with status 1. */
+#define _GNU_SOURCE
+#include <arpa/inet.h>
+#include <getopt.h>
+#include <netinet/tcp.h>
+#include <poll.h>
+#include <stdbool.h>
+#include <string.h>
+#include <sys/socket.h>
+#include <time.h>
+#include <unistd.h>
+
+#include "common.h"
+
+enum { MOST_CONNECTIONS = 64, MOST_LATENCIES = 1 << 24 };
+/* How many bytes a line may have as it is given, what it may come to, and what all lines of a transaction may come to. */
+enum { MOST_GIVEN = 32, MOST_LINE = 1 << 10, MOST_TEXT = 1 << 18 };
+/* A session of mltx ends after so many bytes, so a client connects again where a transaction more might not fit. */
+enum { MOST_SENT = 16777216 };
+
+struct options {
+    int port, connections;
+    bool redis, whole;
+    double seconds;
+    unsigned long transactions, counters, seed;
+};
+
+struct connection {
+    int socket;
+    int next;           /* which line of its transaction is to be sent next */
+    int awaited;        /* how many answers are to come */
+    size_t sent;        /* how many bytes went out since it connected */
+    double began;       /* when its transaction began */
+    bool refused;       /* whether an answer since the transaction began was a refusal */
+    long parts;         /* how many parts of an answer of Redis are to come */
+    size_t heard_count; /* how many bytes of a line of an answer have come */
+    char heard[32];     /* the first of them */
+};
+
+static struct options options = {.connections = 1, .seconds = 1, .transactions = MOST_LATENCIES, .counters = 1, .seed = 1};
+static char **lines;
+static int line_count;
+static struct connection connections[MOST_CONNECTIONS];
+static float *latencies;
+static size_t ended, refusals;
+static double started;
+
+static double now(void)
+{
+    struct timespec time;
+    clock_gettime(CLOCK_MONOTONIC, &time);
+    return (double)time.tv_sec + (double)time.tv_nsec / 1e9;
+}
+
+/* The next number of a xorshift generator, below the number of counters. */
+static unsigned long some_counter(void)
+{
+    static unsigned long state;
+    if (state == 0)
+        state = options.seed * 0x9E3779B97F4A7C15UL + 1;
+    state ^= state << 13;
+    state ^= state >> 7;
+    state ^= state << 17;
+    return (state >> 16) % options.counters;
+}
+
+/* A line with a counter for each `?`: how many bytes it has. */
+static size_t fill_in(char *to, const char *line)
+{
+    size_t count = 0;
+    for (; *line; line++) {
+        if (*line == '?')
+            count += (size_t)sprintf(to + count, "%lu", some_counter());
+        else
+            to[count++] = *line;
+    }
+    to[count] = 0;
+    return count;
+}
+
+static size_t put_for_mltx(char *to, const char *line)
+{
+    size_t count = fill_in(to, line);
+    to[count++] = '\n';
+    return count;
+}
+
+/* A command of Redis: an array of words. */
+static size_t put_for_redis(char *to, const char *line)
+{
+    char filled[MOST_LINE], words[2 * MOST_LINE], *rest = filled, *word;
+    size_t count = 0;
+    int words_put = 0;
+    fill_in(filled, line);
+    while ((word = strsep(&rest, " ")) != NULL) {
+        count += (size_t)sprintf(words + count, "$%zu\r\n%s\r\n", strlen(word), word);
+        words_put++;
+    }
+    return (size_t)sprintf(to, "*%d\r\n%s", words_put, words);
+}
+
+static size_t put(char *to, const char *line)
+{
+    return options.redis ? put_for_redis(to, line) : put_for_mltx(to, line);
+}
+
+static void send_all(struct connection *it, const char *bytes, size_t count)
+{
+    it->sent += count;
+    while (count > 0) {
+        ssize_t taken = must((int)send(it->socket, bytes, count, MSG_NOSIGNAL), "load: send");
+        bytes += taken;
+        count -= (size_t)taken;
+    }
+}
+
+static void open_connection(struct connection *it)
+{
+    struct sockaddr_in address = {.sin_family = AF_INET, .sin_port = htons((uint16_t)options.port)};
+    int yes = 1;
+    address.sin_addr.s_addr = htonl(INADDR_LOOPBACK);
+    it->socket = must(socket(AF_INET, SOCK_STREAM, 0), "load: socket");
+    must(connect(it->socket, (struct sockaddr *)&address, sizeof address), "load: connect");
+    must(setsockopt(it->socket, IPPROTO_TCP, TCP_NODELAY, &yes, sizeof yes), "load: setsockopt");
+    it->sent = 0;
+}
+
+static void send_lines(struct connection *it, int count)
+{
+    static char text[MOST_TEXT];
+    size_t length = 0;
+    for (int line = it->next; line < it->next + count; line++)
+        length += put(text + length, lines[line]);
+    it->next += count;
+    it->awaited = count;
+    send_all(it, text, length);
+}
+
+static void end_transaction(struct connection *it)
+{
+    double time = now();
+    if (ended < MOST_LATENCIES)
+        latencies[ended++] = (float)((time - it->began) * 1e6);
+    it->began = time;
+}
+
+/* What follows a transaction that was refused something. Where it was sent as a whole it has ended. */
+static void run_again(struct connection *it)
+{
+    char text[MOST_LINE];
+    size_t length = put(text, options.redis ? "DISCARD" : "abort");
+    refusals++;
+    it->refused = false;
+    it->next = 0;
+    it->awaited = 1;
+    send_all(it, text, length);
+}
+
+/* Sends what follows once all is answered. */
+static void go_on(struct connection *it)
+{
+    if (it->refused && it->next < line_count) {
+        run_again(it);
+        return;
+    }
+    if (it->next == line_count) {
+        if (it->refused)
+            refusals++;
+        else
+            end_transaction(it);
+        it->refused = false;
+        it->next = 0;
+    }
+    if (it->next == 0 && it->sent > MOST_SENT - MOST_TEXT) {
+        close(it->socket);
+        open_connection(it);
+    }
+    send_lines(it, options.whole ? line_count : 1);
+}
+
+static bool is_refusal(const char *answer)
+{
+    return strncmp(answer, "error ", 6) == 0 || *answer == '-';
+}
+
+/* A line of an answer is complete. One of Redis is a list where it begins with `*`. */
+static void hear_line(struct connection *it)
+{
+    it->heard[it->heard_count] = 0;
+    it->heard_count = 0;
+    it->refused = it->refused || is_refusal(it->heard);
+    if (it->parts > 0)
+        it->parts--;
+    else if (*it->heard == '*')
+        it->parts = atol(it->heard + 1);
+    if (it->parts == 0)
+        it->awaited--;
+}
+
+static void receive(struct connection *it)
+{
+    char bytes[1 << 16];
+    ssize_t count = must((int)recv(it->socket, bytes, sizeof bytes, 0), "load: recv");
+    if (count == 0) {
+        fputs("load: the server ended a connection\n", stderr);
+        exit(1);
+    }
+    for (ssize_t place = 0; place < count; place++) {
+        if (bytes[place] == '\n')
+            hear_line(it);
+        else if (it->heard_count < sizeof it->heard - 1)
+            it->heard[it->heard_count++] = bytes[place];
+    }
+}
+
+static bool is_over(void)
+{
+    return ended >= options.transactions || now() - started >= options.seconds;
+}
+
+static void start_all(struct pollfd *polled)
+{
+    started = now();
+    for (int number = 0; number < options.connections; number++) {
+        open_connection(&connections[number]);
+        polled[number] = (struct pollfd){.fd = connections[number].socket, .events = POLLIN};
+        connections[number].began = now();
+        go_on(&connections[number]);
+    }
+}
+
+static void run(void)
+{
+    struct pollfd polled[MOST_CONNECTIONS];
+    start_all(polled);
+    while (!is_over()) {
+        must(poll(polled, (nfds_t)options.connections, 50), "load: poll");
+        for (int number = 0; number < options.connections; number++) {
+            struct connection *it = &connections[number];
+            if (polled[number].revents == 0)
+                continue;
+            receive(it);
+            if (it->awaited == 0)
+                go_on(it);
+            polled[number].fd = it->socket;
+        }
+    }
+}
+
+static int compare(const void *left, const void *right)
+{
+    float first = *(const float *)left, second = *(const float *)right;
+    return (first > second) - (first < second);
+}
+
+/* So that so many in a hundred are not above it. */
+static double percentile(size_t hundredth)
+{
+    return ended == 0 ? 0 : latencies[(ended - 1) * hundredth / 100];
+}
+
+static void report(void)
+{
+    double seconds = now() - started;
+    qsort(latencies, ended, sizeof *latencies, compare);
+    printf("transactions %zu seconds %.6f median %.2f ninety_ninth %.2f refused %zu\n", ended, seconds, percentile(50),
+           percentile(99), refusals);
+}
+
+static void read_options(int count, char **words)
+{
+    static const struct option known[] = {
+        {"port", required_argument, NULL, 'p'},         {"connections", required_argument, NULL, 'c'},
+        {"redis", no_argument, NULL, 'r'},              {"whole", no_argument, NULL, 'w'},
+        {"seconds", required_argument, NULL, 's'},      {"counters", required_argument, NULL, 'k'},
+        {"transactions", required_argument, NULL, 't'}, {"seed", required_argument, NULL, 'd'},
+        {NULL, 0, NULL, 0},
+    };
+    for (int option; (option = getopt_long(count, words, "", known, NULL)) != -1;) {
+        switch (option) {
+        case 'p': options.port = atoi(optarg); break;
+        case 'c': options.connections = atoi(optarg); break;
+        case 'r': options.redis = true; break;
+        case 'w': options.whole = true; break;
+        case 's': options.seconds = atof(optarg); break;
+        case 'k': options.counters = strtoul(optarg, NULL, 10); break;
+        case 't': options.transactions = strtoul(optarg, NULL, 10); break;
+        case 'd': options.seed = strtoul(optarg, NULL, 10); break;
+        default: exit(2);
+        }
+    }
+    lines = words + optind;
+    line_count = count - optind;
+}
+
+static bool options_are_lawful(void)
+{
+    bool fits = line_count > 0 && line_count * MOST_LINE <= MOST_TEXT;
+    for (int line = 0; line < line_count; line++)
+        fits = fits && strlen(lines[line]) < MOST_GIVEN;
+    return fits && options.connections > 0 && options.connections <= MOST_CONNECTIONS && options.counters > 0;
+}
+
+int main(int count, char **words)
+{
+    read_options(count, words);
+    if (!options_are_lawful()) {
+        fputs("load: an option is out of its range, or the lines are too many or too long\n", stderr);
+        return 2;
+    }
+    latencies = calloc(MOST_LATENCIES, sizeof *latencies);
+    if (latencies == NULL)
+        give_up("load: calloc");
+    run();
+    report();
+    return 0;
+}

@@ -1,0 +1,142 @@
+"""The processes that the benchmarks start.
+
+A process that is started here lasts as long as a block, and is ended with it, also where the block is interrupted. Each
+wait has a limit of time."""
+import ctypes
+import os
+import re
+import select
+import signal
+import socket
+import subprocess
+import sys
+import time
+from contextlib import contextmanager
+from dataclasses import dataclass
+from pathlib import Path
+
+HERE = Path(__file__).resolve().parent
+ROOT = HERE.parent
+LOCAL = "127.0.0.1"
+# How long anything that has an end may take, in seconds.
+PATIENCE = 600
+# How long a server may take to come up, in seconds.
+START = 20
+
+# Both outputs of a process are kept.
+PIPES = {"stdout": subprocess.PIPE, "stderr": subprocess.PIPE}
+
+
+# The C library, and the call of it by which a process asks for a signal at the end of its parent.
+LIBRARY, SIGNAL_AT_PARENTS_END = ctypes.CDLL(None), 1
+
+
+class Failed(Exception):
+    """A benchmark can't be measured, for this reason."""
+
+
+@contextmanager
+def started(words, **how):
+    """A process, as long as the block lasts. Where it has not ended by then it is killed, with what it started itself; and it
+    ends where this process does."""
+    how = {"stdin": subprocess.DEVNULL, "start_new_session": True, "preexec_fn": _end_with_parent, **how}
+    process = subprocess.Popen([*map(str, words)], **how)
+    try:
+        yield process
+    finally:
+        if process.poll() is None:
+            os.killpg(process.pid, signal.SIGKILL)
+        process.communicate()
+
+
+def _end_with_parent():
+    LIBRARY.prctl(SIGNAL_AT_PARENTS_END, signal.SIGKILL)
+
+
+def ended(process):
+    """What a process wrote, once it ended well."""
+    name = Path(process.args[0]).name
+    try:
+        out, err = process.communicate(timeout=PATIENCE)
+    except subprocess.TimeoutExpired:
+        raise Failed(f"{name} had not ended after {PATIENCE} seconds") from None
+    if process.returncode != 0:
+        raise Failed(f"{name} ended with status {process.returncode}: {(err or b'').decode(errors='replace').strip()}")
+    return out, err
+
+
+def run(words, **how):
+    """Runs a command to its end: both outputs."""
+    with started(words, **{**PIPES, **how}) as process:
+        return ended(process)
+
+
+def seconds_of(words, out=None):
+    """How long a command takes. Its standard output goes into a file, or nowhere."""
+    with open(out or os.devnull, "wb") as file:
+        began = time.monotonic()
+        run(words, stdout=file)
+        return time.monotonic() - began
+
+
+@dataclass(frozen=True)
+class Server:
+    """A server that runs: its port, and the number of its process."""
+
+    port: int
+    process: int
+
+    def resident_bytes(self):
+        """How much of its memory is in use."""
+        pages = int(Path(f"/proc/{self.process}/statm").read_text().split()[1])
+        return pages * os.sysconf("SC_PAGE_SIZE")
+
+
+@contextmanager
+def listening(words):
+    """A server that listens at port 0 and says on standard error which port it had."""
+    with started(words, stdout=subprocess.DEVNULL, stderr=subprocess.PIPE) as process:
+        came, _, _ = select.select([process.stderr], [], [], START)
+        line = process.stderr.readline().decode() if came else ""
+        said = re.search(r"listening on [\d.]+:(\d+)$", line.strip())
+        if not said:
+            raise Failed(f"{Path(words[0]).name} does not say where it listens, but {line!r}")
+        yield Server(int(said[1]), process.pid)
+
+
+def free_port():
+    """A port that nobody listens at just now."""
+    with socket.socket() as free:
+        free.bind((LOCAL, 0))
+        return free.getsockname()[1]
+
+
+def wait_for(port, process):
+    """Waits until a process listens at a port."""
+    until = time.monotonic() + START
+    while time.monotonic() < until and process.poll() is None:
+        try:
+            return socket.create_connection((LOCAL, port), START).close()
+        except OSError:
+            time.sleep(0.01)
+    raise Failed(f"{Path(process.args[0]).name} does not listen at port {port}")
+
+
+@contextmanager
+def redis(folder):
+    """A Redis that keeps nothing on disk."""
+    port = free_port()
+    words = ["redis-server", "--bind", LOCAL, "--port", port, "--dir", folder, "--save", "", "--appendonly", "no"]
+    with started(words, stdout=subprocess.DEVNULL, stderr=subprocess.DEVNULL) as process:
+        wait_for(port, process)
+        yield Server(port, process.pid)
+
+
+@contextmanager
+def busy(count):
+    """So many processes beside that do nothing but compute."""
+    if count == 0:
+        yield
+        return
+    with started([sys.executable, "-c", "while True: pass"]), busy(count - 1):
+        yield

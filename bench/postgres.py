@@ -1,0 +1,118 @@
+"""A PostgreSQL that has a table of counters, and the load of its own generator, pgbench. It does not wait for any disk."""
+import os
+import pwd
+import re
+import shutil
+import signal
+import statistics
+import time
+from contextlib import contextmanager, suppress
+from pathlib import Path
+
+from machine import LOCAL, START, Failed, free_port, run, started, wait_for
+
+PROGRAMS = ("initdb", "postgres", "pg_isready", "psql", "pgbench")
+# The server refuses to run for the superuser of the machine, who runs it for this user.
+USER = "postgres"
+SETTINGS = {"fsync": "off", "synchronous_commit": "off", "full_page_writes": "off", "unix_socket_directories": ""}
+TABLE = (
+    "DROP TABLE IF EXISTS counter; CREATE UNLOGGED TABLE counter (id INTEGER PRIMARY KEY, value BIGINT NOT NULL);"
+    "INSERT INTO counter SELECT id, 0 FROM generate_series(0, {last}) AS id; VACUUM ANALYZE counter"
+)
+# How often a transaction that deadlocks is tried.
+TRIES = 1_000
+
+
+def find(folder):
+    """The folder with its programs; None where there is none, or no user who can run it in this folder."""
+    if os.geteuid() == 0 and not (has_user() and all(above.stat().st_mode & 1 for above in folder.parents)):
+        return None
+    found = shutil.which("initdb")
+    folders = [Path(found).resolve().parent] if found else []
+    folders += sorted(Path("/usr/lib/postgresql").glob("*/bin"), reverse=True)
+    return next((folder for folder in folders if all((folder / name).exists() for name in PROGRAMS)), None)
+
+
+def has_user():
+    return any(entry.pw_name == USER for entry in pwd.getpwall())
+
+
+def owner():
+    """By whom the server and its files are owned."""
+    return {"user": USER, "group": USER, "extra_groups": []} if os.geteuid() == 0 else {}
+
+
+def home(programs, folder):
+    """A folder with a cluster, which is made once."""
+    path = folder / "postgres"
+    if not path.exists():
+        path.mkdir()
+        if owner():
+            folder.chmod(0o711)
+            shutil.chown(path, USER, USER)
+        words = ["--pgdata", path / "data", "--username", USER, "--auth", "trust", "--no-sync", "--no-locale"]
+        run([programs / "initdb", *words], cwd=path, **owner())
+    return path
+
+
+@contextmanager
+def server(programs, folder, counters):
+    """A server with so many counters, as long as a block lasts: its port."""
+    port, place = free_port(), home(programs, folder)
+    words = [programs / "postgres", "-D", place / "data", "-h", LOCAL, "-p", port]
+    words += [word for name, value in SETTINGS.items() for word in ("-c", f"{name}={value}")]
+    with open(place / "log", "wb") as log, started(words, stdout=log, stderr=log, cwd=place, **owner()) as process:
+        try:
+            wait_until_ready(programs, port, process)
+            ask(programs, port, TABLE.format(last=counters - 1))
+            yield port
+        finally:
+            process.send_signal(signal.SIGINT)
+            process.wait(START)
+
+
+def wait_until_ready(programs, port, process):
+    """It listens before it is ready."""
+    wait_for(port, process)
+    until = time.monotonic() + START
+    while time.monotonic() < until:
+        with suppress(Failed):
+            return run([programs / "pg_isready", "--host", LOCAL, "--port", port])
+        time.sleep(0.01)
+    raise Failed("PostgreSQL does not get ready")
+
+
+def ask(programs, port, text):
+    """Has the server do these statements."""
+    statements = [word for statement in text.split(";") for word in ("--command", statement)]
+    run([programs / "psql", "--host", LOCAL, "--port", port, "--username", USER, "--dbname", USER, "--quiet", *statements])
+
+
+def script(count, counters):
+    """What pgbench sends over and over: a transaction that adds to so many counters, a statement a round trip."""
+    drawn = [f"\\set drawn{place} random(0, {counters - 1})" for place in range(count)]
+    updates = [f"UPDATE counter SET value = value + 1 WHERE id = :drawn{place};" for place in range(count)]
+    return "\n".join([*drawn, "BEGIN;", *updates, "END;", ""])
+
+
+def load(programs, folder, connections, count, counters, limit):
+    """What pgbench tells of so many connections: transactions in a second, and the sorted microseconds of each. The limit is
+    one of its own options."""
+    place = home(programs, folder)
+    for log in place.glob("transactions.*"):
+        log.unlink()
+    (folder / "counters.sql").write_text(script(count, counters))
+    with server(programs, folder, counters) as port:
+        words = ["--host", LOCAL, "--port", port, "--username", USER, "--client", connections, "--no-vacuum", *limit]
+        words += ["--protocol", "prepared", "--max-tries", TRIES, "--log", "--log-prefix", place / "transactions"]
+        told, _ = run([programs / "pgbench", *words, "--file", folder / "counters.sql", USER], cwd=place)
+    found = re.search(rb"tps = ([\d.]+)", told)
+    lines = [line for log in place.glob("transactions.*") for line in log.read_text().splitlines()]
+    if not found or not lines:
+        raise Failed(f"pgbench does not tell what it did: {told.decode(errors='replace')}")
+    return float(found[1]), sorted(float(line.split()[2]) for line in lines)
+
+
+def percentiles(times):
+    """The median and the 99th percentile of sorted times."""
+    return statistics.median(times), times[(len(times) - 1) * 99 // 100]

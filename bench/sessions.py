@@ -1,0 +1,311 @@
+"""What is measured over sessions: loads of many clients, and sessions that hold something."""
+import statistics
+import sys
+import time
+from contextlib import ExitStack, closing
+from dataclasses import dataclass, replace
+from functools import partial
+
+import postgres
+from machine import LOCAL, PATIENCE, PIPES, ROOT, Failed, busy, ended, listening, redis, started
+from works import SECONDS, Sample, Side, Work
+
+sys.path.insert(0, str(ROOT / "clients/python"))
+from mltx import MltxError, Session, TimedOut  # noqa: E402
+
+__all__ = ["GROUPS", "MltxError"]
+
+BEGIN, COMMIT, GAVE_UP = "begin", "commit", "error 14 GaveUp"
+# How many sessions a server holds at once.
+SESSIONS = 64
+
+# Loads.
+
+
+@dataclass(frozen=True)
+class Load:
+    """What clients send: the lines of a transaction, from how many connections, and whether in one write."""
+
+    lines: tuple[str, ...]
+    connections: int = 1
+    whole: bool = False
+    counters: int = 1
+    redis: bool = False
+
+    def for_redis(self):
+        words = {BEGIN: "MULTI", COMMIT: "EXEC"}
+        lines = tuple(words.get(line, line.replace("up ", "INCRBY ")) for line in self.lines)
+        return replace(self, lines=lines, redis=True)
+
+
+def transaction(*operations):
+    return (BEGIN, *operations, COMMIT)
+
+
+def loading(bench, port, load, seconds, transactions=None):
+    """The load generator, as long as a block lasts. It ends after so many seconds, or after so many transactions."""
+    words = [bench.tools.paths["load"], "--port", port, "--connections", load.connections, "--counters", load.counters]
+    words += ["--seed", bench.seed, "--seconds", seconds]
+    words += ["--transactions", transactions] if transactions else []
+    words += [*["--whole"] * load.whole, *["--redis"] * load.redis, "--", *load.lines]
+    return started(words, **PIPES)
+
+
+def figures(process):
+    """What the load generator tells at its end, by name."""
+    words = ended(process)[0].decode().split()
+    return dict(zip(words[::2], map(float, words[1::2])))
+
+
+def figures_of(bench, port, load, **limits):
+    """What it tells of a load by which some transactions ended."""
+    with loading(bench, port, load, **(limits or bench.limits())) as process:
+        told = figures(process)
+    if told["transactions"] == 0:
+        raise Failed("no transaction ended")
+    return told
+
+
+def rate(told, **more):
+    """How many transactions ended in a second, and how long each took."""
+    return Sample(told["transactions"] / told["seconds"], told["median"], told["ninety_ninth"], more)
+
+
+def mltx_server(program, *options):
+    return listening([program, "serve", f"{LOCAL}:0", "--limit", 1_000_000, "--sessions", SESSIONS, *options])
+
+
+def echo_server(bench):
+    return listening([bench.tools.paths["echo"]])
+
+
+def load_on_mltx(load, bench, program):
+    with mltx_server(program) as server:
+        return rate(figures_of(bench, server.port, load))
+
+
+def load_on_redis(load, bench, _program):
+    with redis(bench.folder) as server:
+        return rate(figures_of(bench, server.port, load.for_redis()))
+
+
+def load_on_echo(load, bench, _program):
+    with echo_server(bench) as server:
+        return rate(figures_of(bench, server.port, load))
+
+
+def load_on_postgres(load, bench, _program):
+    limit = bench.pick(["--time", SECONDS], ["--transactions", 20])
+    programs, operations = bench.tools.paths["postgres"], len(load.lines) - 2
+    per_second, times = postgres.load(programs, bench.folder, load.connections, operations, load.counters, limit)
+    return Sample(per_second, *postgres.percentiles(times))
+
+
+def sides_of(load, *others):
+    """A load on this program, and on these others."""
+    known = {
+        "Redis": Side("Redis", partial(load_on_redis, load), ("load", "redis-server")),
+        "echo": Side("echo", partial(load_on_echo, load), ("load", "echo")),
+        "PostgreSQL": Side("PostgreSQL", partial(load_on_postgres, load), ("postgres",)),
+    }
+    return (Side("mltx", partial(load_on_mltx, load), ("load",)), *(known[name] for name in others))
+
+
+WAYS = {False: "a line a round trip", True: "a transaction a write"}
+THREE = transaction(*["up ? 1"] * 3)
+
+
+def serve_works():
+    for connections in (8, 1):
+        for whole, way in WAYS.items():
+            load = Load(THREE, connections, whole, counters=50_000)
+            clients = f"{connections} connection{'s' * (connections > 1)}"
+            others = ("Redis", "echo") if whole else ("Redis", "echo", "PostgreSQL")
+            yield Work("serve", f"{clients}, {way}", "transactions/s", sides_of(load, *others))
+
+
+def with_tail(side, beside):
+    """The same with so many busy processes beside, and how many times the median the 99th percentile is."""
+
+    def measure(bench, program):
+        with busy(beside):
+            sample = side.measure(bench, program)
+        return replace(sample, more={"99th/median": sample.ninety_ninth / sample.median})
+
+    return replace(side, measure=measure)
+
+
+def hot_works():
+    for whole, way in WAYS.items():
+        for beside, what in {0: "quiet", 2: "2 busy processes beside"}.items():
+            sides = sides_of(Load(transaction("up 0 1", "up 1 1", "up 2 1"), 8, whole), "Redis")
+            yield Work("hot", f"{way}, {what}", "transactions/s", tuple(with_tail(side, beside) for side in sides))
+
+
+# Sessions that hold something.
+
+
+def session(server, patience=PATIENCE):
+    """A session of a server, as long as a block lasts. It waits so many seconds for an answer."""
+    return closing(Session(LOCAL, server.port, PATIENCE, patience))
+
+
+def must_answer(asked, *lines):
+    """The answers of a session to these lines, none of which may be refused."""
+    answers = asked.ask(*lines)
+    if refused := [answer for answer in answers if answer.startswith("error ")]:
+        raise Failed(f"a session was told {refused[0]}")
+    return answers
+
+
+# How many operations a transaction holds where many are held, and how many are asked beside them.
+HELD_BY_ONE, ASKED = 1_000, 100
+HELD, ANOTHER = 0, 1
+
+
+def up_beside_held(counter, held, bench, program):
+    """How long an `up` of a counter takes while so many operations of counter `HELD` are held."""
+    load = Load(transaction(*[f"up {counter} 1"] * ASKED), whole=True)
+    with mltx_server(program) as server, ExitStack() as stack:
+        for _ in range(held // HELD_BY_ONE):
+            holder = stack.enter_context(session(server))
+            must_answer(holder, BEGIN, *[f"up {HELD} 1"] * HELD_BY_ONE)
+        told = figures_of(bench, server.port, load)
+    return Sample(told["median"] / ASKED)
+
+
+def held_works():
+    for held in (0, 1_000, 4_000, 16_000):
+        sides = (
+            Side("mltx", partial(up_beside_held, HELD, held), ("load",)),
+            Side("another counter", partial(up_beside_held, ANOTHER, held), ("load",)),
+        )
+        yield Work("held", f"an up of a counter of which {held:,} are held", "microseconds", sides)
+
+
+OTHERS = Load(transaction("up 11 1", "up 12 1", "up 13 1"))
+CROSSED = [Load(transaction("up 1 1", "read 2")), Load(transaction("up 2 1", "read 1"))]
+
+
+def beside_deadlock(bench, program):
+    """The rate of a client while two others stand in each other's way, and what became of those two."""
+    seconds = bench.pick(SECONDS, 0.1) + 0.2
+    with ExitStack() as stack:
+        server = stack.enter_context(mltx_server(program))
+        two = [stack.enter_context(loading(bench, server.port, load, seconds)) for load in CROSSED]
+        told = figures_of(bench, server.port, OTHERS)
+        ends = [figures(process) for process in two]
+    more = {}
+    for place, end in zip(("first", "second"), ends):
+        more |= {f"{place} GaveUp": end["refused"], f"{place} commits": end["transactions"]}
+    return rate(told, **more)
+
+
+def told_gave_up(reader):
+    """How long a session waits for the answer to a `read`, and whether it is GaveUp."""
+    began = time.monotonic()
+    try:
+        (answer,) = reader.ask("read 1")
+    except TimedOut:
+        answer = ""
+    return time.monotonic() - began, answer == GAVE_UP
+
+
+def blocked_by_silent_holder(bench, program):
+    """How long a `read` that a silent session blocks waits for its answer, while two clients commit."""
+    seconds = bench.pick(5.0, 0.3)
+    load = Load(OTHERS.lines, connections=2)
+    with mltx_server(program) as server, session(server) as holder, session(server, seconds) as reader:
+        must_answer(holder, BEGIN, "up 1 1")
+        must_answer(reader, BEGIN)
+        with loading(bench, server.port, load, seconds + 0.1) as process:
+            waited, gave_up = told_gave_up(reader)
+            told = figures(process)
+    return Sample(waited, more={"GaveUp": float(gave_up), "commits beside": told["transactions"]})
+
+
+def bystander_works():
+    alone = Side("without them", partial(load_on_mltx, OTHERS), ("load",))
+    deadlock = (Side("mltx", beside_deadlock, ("load",)), alone)
+    yield Work("bystander", "a client beside two that deadlock", "transactions/s", deadlock)
+    blocked = (Side("mltx", blocked_by_silent_holder, ("load",)),)
+    yield Work("bystander", "a read that a silent session blocks waits", "s", blocked)
+
+
+# A directory that doubles. With `low` the first bits of account a are those of a as a number of 16 bits. The first eight
+# accounts fill a bucket of depth 10, and the next one has no room in it: the directory comes to have depth 11.
+CROWD = [*range(4), *range(64, 69), *range(4, 8)]
+NEXT = 32
+READERS = 14
+# After how many seconds all of them read.
+START_OF_READERS = 0.1
+READS = Load(transaction(*["balance ?"] * 50), connections=READERS, whole=True, counters=8)
+
+
+def time_doubling(server):
+    """How long the account that doubles the directory takes to be opened, in milliseconds, and the answer."""
+    with session(server) as inserter:
+        must_answer(inserter, BEGIN)
+        began = time.monotonic()
+        (answer,) = inserter.ask(f"open {NEXT}")
+        milliseconds = (time.monotonic() - began) * 1_000
+    if answer not in ("opened", GAVE_UP):
+        raise Failed(f"the account that doubles the directory was answered {answer}")
+    return milliseconds, answer
+
+
+def one_doubling(with_readers, bench, program):
+    """The same on a server of its own, with or without readers that go on all the while."""
+    with mltx_server(program, "--hash", "low", "--tries", 100) as server:
+        with session(server) as first:
+            must_answer(first, BEGIN, *(f"open {account}" for account in CROWD), COMMIT)
+        if not with_readers:
+            return time_doubling(server)
+        with loading(bench, server.port, READS, seconds=PATIENCE) as readers:
+            time.sleep(START_OF_READERS)
+            timed = time_doubling(server)
+            if readers.poll() is not None:
+                raise Failed("the readers ended before the insert did")
+            return timed
+
+
+def doublings(with_readers, bench, program):
+    found = [one_doubling(with_readers, bench, program) for _ in range(bench.pick(20, 2))]
+    times = [milliseconds for milliseconds, _ in found]
+    refused = sum(answer == GAVE_UP for _, answer in found)
+    more = {"longest": max(times), "GaveUp": float(refused), "inserts": float(len(found))}
+    return Sample(statistics.median(times), more=more)
+
+
+def readers_works():
+    sides = (
+        Side("mltx", partial(doublings, True), ("load",)),
+        Side("without them", partial(doublings, False), ("load",)),
+    )
+    yield Work("readers", f"an insert that doubles the directory beside {READERS} readers", "ms", sides)
+
+
+def memory(bench, program):
+    """By how many bytes a server grows for a transaction that committed."""
+    count = bench.pick(200_000, 5_000)
+    load = Load(transaction("up 0 1", "up 1 1", "up 2 1"), 8, whole=True)
+    with mltx_server(program) as server:
+        figures_of(bench, server.port, load, seconds=PATIENCE, transactions=count // 10)
+        before = server.resident_bytes()
+        told = figures_of(bench, server.port, load, seconds=PATIENCE, transactions=count)
+        return Sample((server.resident_bytes() - before) / told["transactions"])
+
+
+def memory_works():
+    yield Work("memory", "kept for a transaction of three operations", "bytes", (Side("mltx", memory, ("load",)),))
+
+
+# By its name what a group measures, and its works.
+GROUPS = {
+    "serve": ("sessions that add to 3 of 50,000 counters, against Redis, PostgreSQL and a bare echo", serve_works),
+    "hot": ("8 sessions on 3 counters, quiet and beside busy processes, against Redis", hot_works),
+    "held": ("an up of a counter of which many operations are held, against one of another counter", held_works),
+    "bystander": ("who has no part in a deadlock, and who waits for a silent session", bystander_works),
+    "readers": ("an insert that doubles the directory, beside readers that never pause", readers_works),
+    "memory": ("bytes that a server keeps for a transaction", memory_works),
+}

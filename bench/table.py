@@ -1,0 +1,84 @@
+"""What was measured as lines of a table: medians over the runs, ratios of runs that followed each other, and their spread."""
+import statistics
+from dataclasses import dataclass
+
+HEADS = ["work", "unit", "against", "this", "other", "ratio", "spread", "median", "99th", "besides"]
+WIDTHS = [64, 22, 16, 9, 9, 6, 13, 15, 15, 0]
+NONE = "-"
+
+
+@dataclass(frozen=True)
+class Line:
+    """A work with the samples of this program, and of what it is compared with, if there is something."""
+
+    work: object
+    this: list
+    other_name: str = ""
+    other: list | None = None
+
+    def cells(self):
+        """What stands in its columns."""
+        values, others = values_of(self.this), values_of(self.other)
+        ratios = [one / two for one, two in zip(values, others) if two]
+        return [
+            f"{self.work.group}: {self.work.what}",
+            self.work.unit,
+            self.other_name or NONE,
+            number(statistics.median(values)),
+            number(statistics.median(others)) if others else NONE,
+            f"{statistics.median(ratios):.2f}" if ratios else NONE,
+            spread(ratios) if ratios else own_spread(values),
+            self.pair("median"),
+            self.pair("ninety_ninth"),
+            self.besides(),
+        ]
+
+    def pair(self, name):
+        """The microseconds of this side and of the other."""
+        found = [[getattr(it, name) for it in side] for side in (self.this, self.other or [])]
+        shown = [number(statistics.median(side)) for side in found if side and None not in side]
+        return " / ".join(shown) or NONE
+
+    def besides(self):
+        """What else was measured, of both sides where both have it."""
+        told = []
+        for name in self.this[0].more:
+            sides = [[it.more[name] for it in side if name in it.more] for side in (self.this, self.other or [])]
+            told.append(f"{name} " + " / ".join(number(statistics.median(side)) for side in sides if side))
+        return ", ".join(told)
+
+
+def values_of(samples):
+    return [it.value for it in samples or []]
+
+
+def own_spread(values):
+    """From the least to the greatest, as parts of the median."""
+    middle = statistics.median(values)
+    return spread([value / middle for value in values]) if middle else NONE
+
+
+def spread(parts):
+    """From the least to the greatest, where there are several."""
+    return f"{min(parts):.2f} to {max(parts):.2f}" if len(parts) > 1 else NONE
+
+
+def number(value):
+    """A number with three digits that count."""
+    if value == int(value) or abs(value) >= 1_000:
+        return f"{value:,.0f}"
+    return f"{value:.0f}" if abs(value) >= 100 else f"{value:.1f}" if abs(value) >= 10 else f"{value:.2f}"
+
+
+def plain(cells):
+    """A line of the table, with columns of fixed width."""
+    return "  ".join(cell.ljust(width) for cell, width in zip(cells, WIDTHS)).rstrip()
+
+
+def markdown(cells):
+    return "| " + " | ".join(cells) + " |"
+
+
+def head(as_markdown):
+    """The first lines of the table."""
+    return [markdown(HEADS), markdown(["---"] * len(HEADS))] if as_markdown else [plain(HEADS)]

@@ -1,0 +1,107 @@
+"""What the benchmarks find on this machine: what they build, what they compare with, and what counts instructions."""
+import os
+import platform
+import re
+import shutil
+import subprocess
+from dataclasses import dataclass, field
+from pathlib import Path
+
+import postgres
+from machine import HERE, Failed, run
+
+# The C programs of this folder, by their names, and the libraries that each wants.
+BUILT = {"load": [], "echo": ["-pthread"], "accounts": ["-lsqlite3"]}
+# What is wanted for each of them, and for what else the benchmarks look for.
+WANTED_FOR = {
+    "load": "the C compiler cc",
+    "echo": "the C compiler cc",
+    "accounts": "the C compiler cc and the library sqlite3 with its header",
+    "redis-server": "redis-server",
+    "postgres": "PostgreSQL with pgbench; for root also the user postgres, and a TMPDIR that this user can reach",
+    "instructions": "valgrind, or perf where it counts instructions",
+}
+
+
+@dataclass
+class Tools:
+    """What was found, by name: the paths of the C programs that were built, and of other tools."""
+
+    paths: dict = field(default_factory=dict)
+
+    def missing(self, names):
+        """What is wanted for the first of these that was not found; None where all were."""
+        return next((WANTED_FOR[name] for name in names if name not in self.paths), None)
+
+
+def look_for_tools(folder):
+    """Builds the C programs into a folder, where there is a compiler, and looks for the rest."""
+    tools = Tools()
+    for name, libraries in BUILT.items():
+        if _builds(HERE / f"{name}.c", folder / name, libraries):
+            tools.paths[name] = folder / name
+    elsewhere = {"redis-server": shutil.which("redis-server"), "postgres": postgres.find(folder), "instructions": counter()}
+    tools.paths |= {name: path for name, path in elsewhere.items() if path}
+    return tools
+
+
+def counter():
+    """What counts the instructions of a command."""
+    return "perf" if _perf_counts() else shutil.which("valgrind")
+
+
+def _builds(source, program, libraries):
+    if not shutil.which("cc"):
+        return False
+    try:
+        run(["cc", "-O2", "-o", program, source, *libraries])
+    except Failed:
+        if not libraries:
+            raise
+    return program.exists()
+
+
+PERF = ["perf", "stat", "-x,", "-e", "instructions:u"]
+
+
+def _perf_counts():
+    if not shutil.which("perf"):
+        return False
+    return re.search(rb"(?m)^\d+,", run([*PERF, "true"])[1]) is not None
+
+
+def instructions_of(tools, words):
+    """How many instructions a command takes, all its threads together."""
+    if tools.paths["instructions"] == "perf":
+        _, told = run([*PERF, *words], stdout=subprocess.DEVNULL)
+        found = re.search(rb"(?m)^(\d+),.*instructions", told)
+    else:
+        callgrind = [tools.paths["instructions"], "--tool=callgrind", f"--callgrind-out-file={os.devnull}"]
+        _, told = run([*callgrind, *words], stdout=subprocess.DEVNULL)
+        found = re.search(rb"Collected : (\d+)", told)
+    if not found:
+        raise Failed(f"{tools.paths['instructions']} does not say how many: {told.decode(errors='replace').strip()[-200:]}")
+    return int(found[1])
+
+
+def versions(tools):
+    """What was found to compare with and to count by, each with its version."""
+    paths = tools.paths
+    programs = {"Redis": paths.get("redis-server"), "SQLite": paths.get("accounts")}
+    if "postgres" in paths:
+        programs["PostgreSQL"] = paths["postgres"] / "postgres"
+    if "instructions" in paths:
+        programs[Path(paths["instructions"]).name] = paths["instructions"]
+    return [f"{name} {_version_of(program)}" for name, program in programs.items() if program]
+
+
+def _version_of(program):
+    found = re.search(rb"\d+(\.\d+)+", run([program, "--version"])[0])
+    return found[0].decode() if found else "of no known version"
+
+
+def description():
+    """The machine, in some words."""
+    cpus = re.findall(r"(?m)^model name\s*: (.*)$", Path("/proc/cpuinfo").read_text())
+    system = f"{platform.system()} {platform.release()}"
+    return f"{os.cpu_count()} cores, {cpus[0] if cpus else platform.machine()}, {system}, load {os.getloadavg()[0]:.1f}"
