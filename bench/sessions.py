@@ -170,7 +170,7 @@ def up_beside_held(counter, held, bench, program):
         for _ in range(held // HELD_BY_ONE):
             holder = stack.enter_context(session(server))
             must_answer(holder, BEGIN, *[f"up {HELD} 1"] * HELD_BY_ONE)
-        told = figures_of(bench, server.port, load)
+        told = figures_of(bench, server.port, load, **bench.limits(few=10))
     return Sample(told["median"] / ASKED)
 
 

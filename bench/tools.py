@@ -80,7 +80,7 @@ def instructions_of(tools, words):
         _, told = run([*callgrind, *words], stdout=subprocess.DEVNULL)
         found = re.search(rb"Collected : (\d+)", told)
     if not found:
-        raise Failed(f"{tools.paths['instructions']} does not say how many: {told.decode(errors='replace').strip()[-200:]}")
+        raise Failed(f"{tools.paths['instructions']} counts nothing: {' '.join(told.decode(errors='replace').split())[-200:]}")
     return int(found[1])
 
 

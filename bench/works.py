@@ -25,9 +25,9 @@ class Bench:
         """A size: the full one, or one that is quick to try."""
         return quick if self.quick else full
 
-    def limits(self):
-        """Where a load ends: after so many seconds, or after some transactions, however long they take."""
-        return self.pick({"seconds": SECONDS}, {"seconds": PATIENCE, "transactions": 200})
+    def limits(self, few=200):
+        """Where a load ends: after so many seconds, or where it is quick after a few transactions, however long they take."""
+        return self.pick({"seconds": SECONDS}, {"seconds": PATIENCE, "transactions": few})
 
     def file(self, name, make):
         """A file with a text that is made once, and what else was made with it."""

@@ -11,8 +11,12 @@ from pathlib import Path
 from harness import PATIENCE, ROOT, holds, same, test
 
 RUN = ROOT / "bench/run"
-# A signal, a group that is interrupted by it, and the command that the group runs.
-INTERRUPTED = ((signal.SIGINT, "workers", "run"), (signal.SIGTERM, "serve", "serve"), (signal.SIGINT, "held", "serve"))
+# A signal, a group that is interrupted by it, and the words with which the group runs the program.
+INTERRUPTED = (
+    (signal.SIGINT, "workers", "run --workers"),
+    (signal.SIGTERM, "serve", "serve 127.0.0.1"),
+    (signal.SIGINT, "held", "serve 127.0.0.1"),
+)
 # Groups that need more than a C compiler and this program.
 NEED_MORE = {"instructions"}
 
@@ -60,15 +64,15 @@ def commands_with(text):
     return [command for command in found if text in command]
 
 
-@test(seconds=3)
+@test(seconds=8)
 def an_interrupted_benchmark_leaves_nothing_behind(mltx):
     """While scripts run, and while a server has a load, where there is a compiler."""
     program = mltx.folder / "program"
     shutil.copy(mltx.path, program)
-    for number, name, word in INTERRUPTED:
+    for number, name, ran in INTERRUPTED:
         words = [RUN, "--runs", "1000", "--program", program, name]
         with subprocess.Popen(words, stdout=subprocess.DEVNULL, env=in_folder(mltx)) as process:
-            while process.poll() is None and not commands_with(f"{program} {word} "):
+            while process.poll() is None and not commands_with(f"{program} {ran}"):
                 time.sleep(0.01)
             time.sleep(0.3)
             process.send_signal(number)
