@@ -1,0 +1,4 @@
+pub mod Pairs
+pub mod Reading
+pub mod Steps
+pub mod Ways

@@ -1,0 +1,15 @@
+//! What a pair answers.
+
+use mlt_types::{PageNo, TxId, Value};
+
+/// The answer to a step of a pair on its way to its buckets.
+#[derive(Clone, Copy, Debug, PartialEq, Eq)]
+pub enum PairAnswer {
+    /// The pair goes on.
+    Going,
+    /// This page is held by this transaction, the lowest whose lock stands against the one asked for. Nothing has
+    /// changed.
+    Waiting(PageNo, TxId),
+    /// Both buckets are read: the value of the left key, and of the right one, each if it has one.
+    Found(Option<Value>, Option<Value>),
+}

@@ -1,0 +1,12 @@
+//! The first pass of an operation on two keys of an extendible hash file in pages (Fagin, Nievergelt, Pippenger and
+//! Strong, Extendible Hashing, ACM TODS 4(3), 1979): one page per step, side by side with the walks of other
+//! transactions. It splits nothing and takes no memory.
+#![tactic(auto)]
+
+mod answer;
+mod pair;
+mod way;
+
+pub use answer::PairAnswer;
+pub use pair::Pair;
+pub use way::Way;
