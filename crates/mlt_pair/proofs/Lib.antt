@@ -1,6 +1,9 @@
+pub mod Behind
 pub mod Finding
 pub mod Locks
+pub mod Makes
 pub mod Nexts
 pub mod Paths
 pub mod Readings
+pub mod Slots
 pub mod Together

@@ -11,6 +11,11 @@ use Rattle.mlt_pair.specs.Ways.{HasRead, IsLocked}
 use Rattle.mlt_pair.specs.declared.way.Way.{Way}
 use Rattle.mlt_pair.specs.declared.way.Way.TheVariants as at
 
+-- what a pair reads by: the function of keys, and the header's page
+pub record FileRoot : Type 0 where
+  pub bits : ℕ → ℕ
+  pub root : ℕ
+
 -- what a contract sees of a pair: its keys, how far each is, and the change of the earlier bucket that is still to be written
 pub record PairFields : Type 0 where
   pub left : ℕ

@@ -4,9 +4,13 @@
 #![tactic(auto)]
 
 mod answer;
+mod asked;
+mod change;
 mod pair;
+mod plan;
 mod way;
 
-pub use answer::PairAnswer;
+pub use answer::{ChangeAnswer, PairAnswer, Side};
+pub use asked::{Changes, RecordChange};
 pub use pair::Pair;
 pub use way::Way;
