@@ -8,12 +8,12 @@ use Rattle.mlt_page.specs.declared.page.Page.TheVariants as page
 use Rattle.mlt_page.specs.Values.{BucketFields}
 use Rattle.mlt_page_locks.specs.LockTables.{Modes, can_write}
 use Rattle.mlt_hash_form.specs.Held.{own_or}
-use Rattle.mlt_held.specs.Moments.{Moment}
+use Rattle.mlt_held.specs.Moments.{MayStep, Moment}
 use Rattle.mlt_held.specs.PageSteps.{WritesAtMost}
-use Rattle.mlt_held.specs.Views.{ReadsHeldBucket, View, view_of}
+use Rattle.mlt_held.specs.Views.{ReadsHeldBucket, View, WritesSlot, view_of}
 use Rattle.mlt_held.proofs.Views.{may_write, write_writes}
 use Rattle.mlt_record.specs.Plans.{WriteFields}
-use Rattle.mlt_pair.specs.Changes.{FitsBoth, HasChanged, IsFound, IsHolding, IsThere, LeavesLeft, LeavesRight, Owes, OwesChange, OwesIf, StandsBehind, TellsOfTwo, found_of, later_of, later_page, page_of}
+use Rattle.mlt_pair.specs.Changes.{FitsBoth, HasChanged, HoldsOn, IsFound, IsHolding, IsSide, IsThere, LeavesLeft, LeavesRight, MakesOwed, MayWriteEarlier, Owes, OwesChange, OwesIf, StandsBehind, TellsOfTwo, found_of, later_of, later_page, page_of}
 use Rattle.mlt_pair.specs.Pairs.{HoldsWays, IsFinding, IsUnwritten, PairFields}
 use Rattle.mlt_pair.specs.Plans.{FitsFound, IsPlan}
 use Rattle.mlt_pair.specs.Ways.{HasRead, IsLocked}
@@ -25,7 +25,7 @@ use Rattle.mlt_pair.specs.declared.answer.ChangeAnswer.TheVariants as answer
 use Rattle.mlt_pair.specs.declared.answer.Side.TheVariants as side
 use Rattle.mlt_pair.specs.declared.asked.Changes.{Changes}
 use Rattle.mlt_pair.specs.declared.asked.RecordChange.{RecordChange}
-use Rattle.mlt_pair.proofs.Makes.{later_left, later_right}
+use Rattle.mlt_pair.proofs.Makes.{later_left, later_right, second_is_not_third}
 use Rattle.mlt_pair.proofs.Readings.{read_still}
 use Rattle.mlt_pair.proofs.Slots.{fits_slots, plan_number}
 
@@ -142,3 +142,58 @@ module _ (bits : ℕ → ℕ) (root : ℕ) (pair : PairFields) (m : Moment) (fin
 
   pub right_writes : (q : ℕ) → q ≡ page_of pair.right_way → can_write m.locks m.running.tx q ≡ true
   right_writes q is = ap (can_write m.locks m.running.tx) is ∙ right_held root pair.left_way pair.right_way m found.1 finding.holds
+
+-- the change that is owed, where one is
+owes_some : (owed : Option WriteFields) (write : WriteFields) (opens : set.FinSet nat_cmp) (tx : ℕ) (pair : PairFields) (view : View) → owed ≡ Some write → OwesIf owed opens tx pair view → Owes opens tx pair view write
+owes_some owed write opens tx pair view is owes = subst (λ o. OwesIf o opens tx pair view) is owes
+
+side_held : (pair : PairFields) (m : Moment) (bits : ℕ → ℕ) (root key q : ℕ) → IsFound pair → IsHolding bits root pair (view_of m) → IsSide pair key q → can_write m.locks m.running.tx q ≡ true
+side_held pair m bits root key q found holding (inl left) = ap (can_write m.locks m.running.tx) left.1 ∙ left_held root pair.left_way pair.right_way m found.0 holding.holds
+side_held pair m bits root key q found holding (inr right) = ap (can_write m.locks m.running.tx) right.1 ∙ right_held root pair.left_way pair.right_way m found.1 holding.holds
+
+-- The last step
+module _ (m : Moment) (pair : PairFields) (write : WriteFields) (is : pair.owed ≡ Some write) (ready : MayWriteEarlier m.running.tx pair (view_of m)) where
+  owes : Owes ready.2 m.running.tx pair (view_of m) write
+  owes = owes_some pair.owed write ready.2 m.running.tx pair (view_of m) is ready.3.owes
+
+  -- the earlier bucket is held exclusively,
+  pub earlier_held : can_write m.locks m.running.tx write.number ≡ true
+  earlier_held = side_held pair m ready.0 ready.1 owes.key write.number ready.3.found ready.3.holding owes.side
+
+  -- and reads as it was read
+  reads_as : (opens : set.FinSet nat_cmp) (this : Owes opens m.running.tx pair (view_of m) write) → ReadsHeldBucket (view_of m) write.number this.bucket
+  reads_as opens this = (Some (page.Bucket this.bucket), this.seen, ap (λ own. own_or own (Some (page.Bucket this.bucket))) (ready.3.unwritten write.number this.earlier))
+
+  pub earlier_reads : (bucket : BucketFields) × ReadsHeldBucket (view_of m) write.number bucket
+  earlier_reads = (owes.bucket, reads_as ready.2 owes)
+
+  pub earlier_within : write.at < 8
+  earlier_within = (plan_number owes.change owes.planners m.running.tx owes.key write.number owes.bucket write owes.plan).1
+
+  -- so its write is the second at most
+  pub earlier_not_third : MayStep m → 2 ≤ map.len m.running.images → ⊥
+  earlier_not_third may third = second_is_not_third m (later_page pair) may ready.3.unwritten third
+
+  -- and makes the change that is owed
+  pub earlier_makes : (new : View) → WritesSlot (view_of m) new write.number write.at write.slot → MakesOwed m.running.tx pair (view_of m) new
+  earlier_makes new writes opens other other_is this =
+      let same : Some write ≡ Some other = sym is ∙ other_is in
+      let one : write ≡ other = cc in
+      let mine : Owes opens m.running.tx pair (view_of m) write = subst (Owes opens m.running.tx pair (view_of m)) (sym one) this in
+      record {
+        bucket = this.bucket;
+        reads = (Some (page.Bucket this.bucket), this.seen, ap (λ own. own_or own (Some (page.Bucket this.bucket))) (ready.3.unwritten other.number this.earlier));
+        write = other;
+        plan = this.plan;
+        writes = subst (λ (w : WriteFields). WritesSlot (view_of m) new w.number w.at w.slot) one writes this.bucket (Some (page.Bucket this.bucket), this.seen, ap (λ own. own_or own (Some (page.Bucket this.bucket))) (ready.3.unwritten other.number this.earlier));
+      }
+
+  -- while what was read and held stays so
+  pub earlier_holds : (new : View) → WritesSlot (view_of m) new write.number write.at write.slot → HoldsOn pair (view_of m) new
+  earlier_holds new writes bits root holding =
+      let one = writes owes.bucket (reads_as ready.2 owes) in
+      record {
+        left = read_still bits root pair.left (view_of m) new pair.left_way (λ q first sees. one.seen q ∙ sees) holding.left;
+        right = read_still bits root pair.right (view_of m) new pair.right_way (λ q first sees. one.seen q ∙ sees) holding.right;
+        holds = λ q mode. (λ held. (holding.holds q mode).0 (sym (ap (λ (modes : Modes). map.get modes q) one.modes) ∙ held), λ locked. ap (λ (modes : Modes). map.get modes q) one.modes ∙ (holding.holds q mode).1 locked);
+      }

@@ -1,6 +1,7 @@
 -- What is planned, and what its write makes of a view
 use Rattle.std.proofs.Common.{◌≡◌, ◌≢◌, ◌⊎◌, ℕ, ◌<◌, ◌≤◌, Bool, true, Option, None, Some, is_some, cond, refl, sym, ap, subst, ◌∙◌, inl, inr, arith}
 use Rattle.std.specs.Prelude.{IsSome, nat_lt, ◌==◌}
+use Rattle.std.specs.Cmp.{nat_cmp_total}
 use Rattle.std.specs.Ordering.{nat_cmp}
 use Rattle.std.specs.FinMap as map
 use Rattle.std.specs.FinSet as set
@@ -8,7 +9,7 @@ use Rattle.std.proofs.lemmas.Bool.{cases_eq, cond-false, cond-true, eq-eqb, fals
 use Rattle.mlt_page.specs.declared.page.Page.{Page}
 use Rattle.mlt_page.specs.declared.page.Page.TheVariants as page
 use Rattle.mlt_page.specs.Values.{BucketFields}
-use Rattle.mlt_page_locks.proofs.Maps.{same_entries}
+use Rattle.mlt_page_locks.proofs.Maps.{get_removed, same_entries}
 use Rattle.mlt_subtx.specs.Images.{Images, image_of}
 use Rattle.mlt_hash_form.specs.Held.{own_or}
 use Rattle.mlt_held.specs.Moments.{MayStep, Moment}
@@ -41,6 +42,17 @@ first_is_not_third m may none third =
     let empty : m.running.images ≡ map.empty = same_entries m.running.images map.empty (λ q. no_image m q (image_of m.running.images q) refl may (none q) ∙ sym (map.get-empty {X = Option Page} nat_cmp q)) in
     let few : map.len m.running.images ≡ 0 = ap (λ (images : Images). map.len images) empty ∙ map.len-empty nat_cmp (Option Page) in
     omega (arith, few, third)
+
+-- nor is one of which only one page was written before
+pub second_is_not_third : (m : Moment) (n : ℕ) → MayStep m → ((q : ℕ) → q ≢ n → (view_of m).own q ≡ None) → 2 ≤ map.len m.running.images → ⊥
+second_is_not_third m n may none third =
+    let others : (q : ℕ) → map.get (map.remove m.running.images n) q ≡ None = λ q. elim (cases_eq q n) [
+      | inl here ↦ get_removed m.running.images n q ∙ cond-true (q == n) None (image_of m.running.images q) (eq-eqb q n here)
+      | inr elsewhere ↦ get_removed m.running.images n q ∙ cond-false (q == n) None (image_of m.running.images q) (ne_eqb q n elsewhere) ∙ no_image m q (image_of m.running.images q) refl may (none q elsewhere)
+    ] in
+    let empty : map.remove m.running.images n ≡ map.empty = same_entries (map.remove m.running.images n) map.empty (λ q. others q ∙ sym (map.get-empty {X = Option Page} nat_cmp q)) in
+    let few : map.len (map.remove m.running.images n) ≡ 0 = ap (λ (images : Images). map.len images) empty ∙ map.len-empty nat_cmp (Option Page) in
+    grind (arith, few, third, map.len-remove nat_cmp_total m.running.images n)
 
 -- the same view
 pub same_view : (old new : Moment) → new ≡ old → IsSameView (view_of old) (view_of new)

@@ -166,3 +166,16 @@ abbrev pub StandsBehind : ChangeAnswer → (ℕ → ℕ) → ℕ → set.FinSet 
 StandsBehind answer.Changed bits root opens tx pair view = HasChanged bits root opens tx pair view
 StandsBehind answer.OneLeft bits root opens tx pair view = HasChanged bits root opens tx pair view
 StandsBehind (answer.Full side) bits root opens tx pair view = Unit {0}
+
+-- What the last step of a pair asks: it has changed its later bucket at most, and owes the change of the earlier one.
+abbrev pub MayWriteEarlier : ℕ → PairFields → View → Type 0
+MayWriteEarlier tx pair view = (bits : ℕ → ℕ) × (root : ℕ) × (opens : set.FinSet nat_cmp) × HasChanged bits root opens tx pair view
+
+-- the change that was owed is made
+abbrev pub MakesOwed : ℕ → PairFields → View → View → Type 0
+MakesOwed tx pair old new = (opens : set.FinSet nat_cmp) (write : WriteFields) → pair.owed ≡ Some write
+    → (owes : Owes opens tx pair old write) → MakesChange owes.change owes.planners tx owes.key write.number old new
+
+-- what was read and held is so still
+abbrev pub HoldsOn : PairFields → View → View → Type 0
+HoldsOn pair old new = (bits : ℕ → ℕ) (root : ℕ) → IsHolding bits root pair old → IsHolding bits root (record pair { owed = None }) new

@@ -5,7 +5,8 @@ ghost use Rattle.mlt_page_locks.specs.LockTables.{can_read, can_write};
 ghost use Rattle.mlt_held.specs.Moments.{MayStep, moment};
 ghost use Rattle.mlt_held.specs.PageSteps.{Leaves, WritesAtMost, WritesHeldSlot};
 ghost use Rattle.mlt_held.specs.Views.{view_of};
-ghost use Rattle.mlt_pair.specs.Changes.{FitsBoth, IsFound, IsThere, StandsBehind, TellsOfChanges, TellsOfTwo, later_of, later_page, page_of};
+ghost use Rattle.mlt_record.specs.Plans.{WriteFields};
+ghost use Rattle.mlt_pair.specs.Changes.{FitsBoth, HoldsOn, IsFound, IsThere, MakesOwed, MayWriteEarlier, StandsBehind, TellsOfChanges, TellsOfTwo, later_of, later_page, page_of};
 ghost use Rattle.mlt_pair.specs.Pairs.{FileRoot, IsFinding, IsUnwritten};
 ghost use Rattle.mlt_pair.specs.Plans.{IsWithin};
 ghost use Rattle.mlt_pair.specs.Writing.{HasPlan, MayPlan, MayWrite, OwesPlan, TellsOfOne, WritesPlan};
@@ -52,6 +53,31 @@ impl Pair {
             change_one_bucket(&self.left, &self.right, left, changes, subtx, pages, opens)
         } else {
             change_two_buckets(self, left, right, changes, subtx, pages, opens)
+        }
+    }
+
+    /// Writes the change of the earlier bucket, in a step of its own. It takes no memory, and is not refused.
+    pub fn write_earlier(&mut self, subtx: &mut Subtx, pages: &mut LockedStore)
+        requires may { MayStep (moment subtx.old pages.old) }
+        requires owed { IsSome self.old.owed }
+        requires ready { MayWriteEarlier subtx.old.tx
+            self.old (view_of (moment subtx.old pages.old)) }
+        ensures writes { (write : WriteFields) → self.old.owed ≡ Some write
+            → WritesHeldSlot (moment subtx.old pages.old) (moment subtx.new pages.new)
+            write.number write.at write.slot }
+        ensures leaves { Leaves (moment subtx.old pages.old) (moment subtx.new pages.new) }
+        ensures makes { MakesOwed subtx.old.tx self.old
+            (view_of (moment subtx.old pages.old)) (view_of (moment subtx.new pages.new)) }
+        ensures holding { HoldsOn self.old
+            (view_of (moment subtx.old pages.old)) (view_of (moment subtx.new pages.new)) }
+        ensures pair { self.new ≡ record self.old { owed = None } }
+    {
+        let Some(write) = self.owed else {
+            unreachable!()
+        };
+        match write_slot(subtx, pages, write.number, write.at, write.slot) {
+            Ok(()) => self.owed = None,
+            Err(_) => unreachable!(),
         }
     }
 }
