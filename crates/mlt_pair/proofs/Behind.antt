@@ -83,13 +83,14 @@ module _ (bits : ℕ → ℕ) (root : ℕ) (opens : set.FinSet nat_cmp) (old new
     left = read_still bits root before.left (view_of old) (view_of new) before.left_way (λ q first sees. one.seen q ∙ sees) finding.left;
     right = read_still bits root before.right (view_of old) (view_of new) before.right_way (λ q first sees. one.seen q ∙ sees) finding.right;
     holds = λ q mode. (λ held. (finding.holds q mode).0 (sym (ap (λ (modes : Modes). map.get modes q) one.modes) ∙ held), λ locked. ap (λ (modes : Modes). map.get modes q) one.modes ∙ (finding.holds q mode).1 locked);
+    few = let same = ap map.len one.modes in let few = finding.few in omega (arith, same, few);
   }
 
   unwritten : (q : ℕ) → q ≢ later_page before → (view_of new).own q ≡ None
   unwritten q ne = one.others q ne ∙ finding.unwritten q
 
   stands_with : (owed : Option WriteFields) → OwesIf owed opens old.running.tx before (view_of new) → HasChanged bits root opens old.running.tx (record before { owed = owed }) (view_of new)
-  stands_with owed owes = record { found = found; holding = record { left = holding.left; right = holding.right; holds = holding.holds }; unwritten = unwritten; owes = owes_as owed owes }
+  stands_with owed owes = record { found = found; holding = record { left = holding.left; right = holding.right; holds = holding.holds; few = holding.few }; unwritten = unwritten; owes = owes_as owed owes }
     where
       owes_as : (o : Option WriteFields) → OwesIf o opens old.running.tx before (view_of new) → OwesIf o opens old.running.tx (record before { owed = owed }) (view_of new)
       owes_as None owes = tt
@@ -196,4 +197,5 @@ module _ (m : Moment) (pair : PairFields) (write : WriteFields) (is : pair.owed 
         left = read_still bits root pair.left (view_of m) new pair.left_way (λ q first sees. one.seen q ∙ sees) holding.left;
         right = read_still bits root pair.right (view_of m) new pair.right_way (λ q first sees. one.seen q ∙ sees) holding.right;
         holds = λ q mode. (λ held. (holding.holds q mode).0 (sym (ap (λ (modes : Modes). map.get modes q) one.modes) ∙ held), λ locked. ap (λ (modes : Modes). map.get modes q) one.modes ∙ (holding.holds q mode).1 locked);
+        few = let same = ap map.len one.modes in let few = holding.few in omega (arith, same, few);
       }

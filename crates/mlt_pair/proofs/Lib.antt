@@ -1,5 +1,6 @@
 pub mod Behind
 pub mod Finding
+pub mod Laws
 pub mod Locks
 pub mod Makes
 pub mod Nexts

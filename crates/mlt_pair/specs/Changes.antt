@@ -1,6 +1,7 @@
 -- What the changes of a pair tell, and where it stands behind them
-use Rattle.std.specs.Prelude.{ℕ, ◌≡◌, ◌≢◌, ◌<◌, ◌⊎◌, nat_lt, true, if◌then◌else◌, slice_index_or, Option, None, Some}
+use Rattle.std.specs.Prelude.{ℕ, ◌≡◌, ◌≢◌, ◌<◌, ◌≤◌, ◌⊎◌, nat_lt, true, if◌then◌else◌, slice_index_or, Option, None, Some}
 use Rattle.std.specs.Ordering.{nat_cmp}
+use Rattle.std.specs.FinMap as map
 use Rattle.std.specs.FinSet as set
 use Rattle.mlt_page.specs.Slots.{is_kept}
 use Rattle.mlt_page.specs.declared.page.Page.TheVariants as page
@@ -132,6 +133,7 @@ pub record IsHolding (bits : ℕ → ℕ) (root : ℕ) (pair : PairFields) (view
   pub left : HasRead bits root pair.left view pair.left_way
   pub right : HasRead bits root pair.right view pair.right_way
   pub holds : HoldsWays root pair.left_way pair.right_way view
+  pub few : map.len view.modes ≤ 5
 
 -- one of the pair's keys, with the page of its bucket
 abbrev pub IsSide : PairFields → ℕ → ℕ → Type 0
@@ -179,3 +181,8 @@ MakesOwed tx pair old new = (opens : set.FinSet nat_cmp) (write : WriteFields) �
 -- what was read and held is so still
 abbrev pub HoldsOn : PairFields → View → View → Type 0
 HoldsOn pair old new = (bits : ℕ → ℕ) (root : ℕ) → IsHolding bits root pair old → IsHolding bits root (record pair { owed = None }) new
+
+-- on the buckets that are held no slot's room is kept now that was not before
+abbrev pub KeepsNoMore : set.FinSet nat_cmp → set.FinSet nat_cmp → View → Type 0
+KeepsNoMore before now view = (q : ℕ) (bucket : BucketFields) → view.seen q ≡ Some (Some (page.Bucket bucket))
+    → (i : ℕ) → is_kept now (slice_index_or bucket.slots i Free) ≡ true → is_kept before (slice_index_or bucket.slots i Free) ≡ true
