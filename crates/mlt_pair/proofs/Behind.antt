@@ -13,7 +13,7 @@ use Rattle.mlt_held.specs.PageSteps.{WritesAtMost}
 use Rattle.mlt_held.specs.Views.{ReadsHeldBucket, View, WritesSlot, view_of}
 use Rattle.mlt_held.proofs.Views.{may_write, write_writes}
 use Rattle.mlt_record.specs.Plans.{WriteFields}
-use Rattle.mlt_pair.specs.Changes.{FitsBoth, HasChanged, HoldsOn, IsFound, IsHolding, IsSide, IsThere, LeavesLeft, LeavesRight, MakesOwed, MayWriteEarlier, Owes, OwesChange, OwesIf, StandsBehind, TellsOfTwo, found_of, later_of, later_page, page_of}
+use Rattle.mlt_pair.specs.Changes.{FitsBoth, HasChanged, HoldsOn, IsFound, IsHolding, IsSide, IsThere, MakesOwed, MayWriteEarlier, Owes, OwesChange, OwesIf, StandsBehind, TellsOfTwo, found_of, later_of, later_page, page_of}
 use Rattle.mlt_pair.specs.Pairs.{HoldsWays, IsFinding, IsUnwritten, PairFields}
 use Rattle.mlt_pair.specs.Plans.{FitsFound, IsPlan}
 use Rattle.mlt_pair.specs.Ways.{HasRead, IsLocked}

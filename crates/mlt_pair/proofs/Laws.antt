@@ -1,5 +1,5 @@
 -- What a pair knows by its view alone
-use Rattle.std.proofs.Common.{◌≡◌, ◌≢◌, ◌⊎◌, ℕ, ◌≤◌, false, Option, None, Some, is_some, refl, sym, ap, subst, ◌∙◌, inl, inr, arith}
+use Rattle.std.proofs.Common.{◌≡◌, ◌≢◌, ℕ, false, Option, None, Some, is_some, refl, sym, ap, ◌∙◌, inl, inr, arith}
 use Rattle.std.specs.Ordering.{nat_cmp}
 use Rattle.std.specs.FinMap as map
 use Rattle.std.specs.FinSet as set
@@ -17,9 +17,8 @@ use Rattle.mlt_held.specs.Moments.{Moment}
 use Rattle.mlt_held.specs.Views.{View, view_of}
 use Rattle.mlt_held.proofs.Views.{own_free}
 use Rattle.mlt_record.specs.Plans.{WriteFields}
-use Rattle.mlt_pair.specs.Changes.{HasChanged, IsFound, IsHolding, IsSameView, IsThere, KeepsNoMore, Owes, OwesIf, found_of}
-use Rattle.mlt_pair.specs.Pairs.{IsFinding, PairFields, find_by, most_steps}
-use Rattle.mlt_pair.specs.Reading.{dir_of}
+use Rattle.mlt_pair.specs.Changes.{HasChanged, IsFound, IsHolding, IsSameView, IsThere, KeepsNoMore, OwesIf, found_of}
+use Rattle.mlt_pair.specs.Pairs.{IsFinding, PairFields, find_by}
 use Rattle.mlt_pair.specs.Ways.{HasRead}
 use Rattle.mlt_pair.specs.declared.way.Way.{Way}
 use Rattle.mlt_pair.specs.declared.way.Way.TheVariants as at

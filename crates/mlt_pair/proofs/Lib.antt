@@ -6,5 +6,6 @@ pub mod Makes
 pub mod Nexts
 pub mod Paths
 pub mod Readings
+pub mod Records
 pub mod Slots
 pub mod Together

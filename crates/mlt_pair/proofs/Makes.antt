@@ -1,5 +1,5 @@
 -- What is planned, and what its write makes of a view
-use Rattle.std.proofs.Common.{◌≡◌, ◌≢◌, ◌⊎◌, ℕ, ◌<◌, ◌≤◌, Bool, true, Option, None, Some, is_some, cond, refl, sym, ap, subst, ◌∙◌, inl, inr, arith}
+use Rattle.std.proofs.Common.{◌≡◌, ◌≢◌, ◌⊎◌, ℕ, ◌<◌, ◌≤◌, true, Option, None, Some, is_some, cond, refl, sym, ap, subst, ◌∙◌, inl, inr, arith}
 use Rattle.std.specs.Prelude.{IsSome, nat_lt, ◌==◌}
 use Rattle.std.specs.Cmp.{nat_cmp_total}
 use Rattle.std.specs.Ordering.{nat_cmp}
@@ -17,9 +17,9 @@ use Rattle.mlt_held.specs.PageSteps.{WritesAtMost}
 use Rattle.mlt_held.specs.Views.{ReadsHeldBucket, View, WritesPage, view_of}
 use Rattle.mlt_held.proofs.Views.{image_is_own}
 use Rattle.mlt_record.specs.Plans.{WriteFields, planned_page}
-use Rattle.mlt_pair.specs.Changes.{IsFull, IsFullBehind, IsSameView, LeavesLeft, LeavesRight, MakesAsked, MakesBoth, MakesChange, OwesChange, TellsOfTwo, later_of}
+use Rattle.mlt_pair.specs.Changes.{IsFull, IsSameView, MakesAsked, OwesChange, TellsOfTwo, later_of}
 use Rattle.mlt_pair.specs.Pairs.{IsUnwritten, PairFields}
-use Rattle.mlt_pair.specs.Plans.{FitsSlots, IsPlan, IsPlanned, bucket_after}
+use Rattle.mlt_pair.specs.Plans.{FitsSlots, IsPlanned, bucket_after}
 use Rattle.mlt_page_locks.specs.LockTables.{can_write}
 use Rattle.mlt_pair.specs.Writing.{HasPlan, MayWrite, OwesPlan, TellsOfOne, WritesPlan}
 use Rattle.mlt_pair.specs.declared.answer.ChangeAnswer.{ChangeAnswer}

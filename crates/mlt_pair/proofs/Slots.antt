@@ -1,6 +1,6 @@
 -- What the slots of a bucket have of a key, and what a change for another key leaves of it
-use Rattle.std.proofs.Common.{◌≡◌, ◌≢◌, ◌⊎◌, ℕ, ◌<◌, ◌≤◌, Bool, false, true, List, length, ltb, Option, None, Some, refl, sym, ap, subst, ◌∙◌, inl, inr, arith, slice_index_or, slice_set}
-use Rattle.std.specs.Prelude.{IsSome, ◌==◌}
+use Rattle.std.proofs.Common.{◌≡◌, ◌≢◌, ℕ, ◌<◌, Bool, false, true, List, length, ltb, Option, None, Some, refl, sym, ap, subst, ◌∙◌, inl, inr, arith, slice_index_or, slice_set}
+use Rattle.std.specs.Prelude.{IsSome}
 use Rattle.std.specs.List.{position, position_or_len}
 use Rattle.std.specs.Option.{option_map}
 use Rattle.std.specs.Ordering.{nat_cmp}

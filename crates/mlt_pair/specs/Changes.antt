@@ -7,9 +7,8 @@ use Rattle.mlt_page.specs.Slots.{is_kept}
 use Rattle.mlt_page.specs.declared.page.Page.TheVariants as page
 use Rattle.mlt_page.specs.declared.slot.Slot.TheVariants.{Free}
 use Rattle.mlt_page.specs.Values.{BucketFields}
-use Rattle.mlt_held.specs.Moments.{MayStep, Moment}
-use Rattle.mlt_held.specs.PageSteps.{WritesHeldSlot}
-use Rattle.mlt_held.specs.Views.{ReadsHeldBucket, View, WritesPage, WritesSlot, view_of}
+use Rattle.mlt_held.specs.Moments.{Moment}
+use Rattle.mlt_held.specs.Views.{ReadsHeldBucket, View, WritesPage, view_of}
 use Rattle.mlt_record.specs.Plans.{WriteFields, planned_page}
 use Rattle.mlt_pair.specs.Pairs.{HoldsWays, PairFields}
 use Rattle.mlt_pair.specs.Plans.{FitsFound, HasNoPlan, IsPlan}
@@ -186,3 +185,7 @@ HoldsOn pair old new = (bits : ℕ → ℕ) (root : ℕ) → IsHolding bits root
 abbrev pub KeepsNoMore : set.FinSet nat_cmp → set.FinSet nat_cmp → View → Type 0
 KeepsNoMore before now view = (q : ℕ) (bucket : BucketFields) → view.seen q ≡ Some (Some (page.Bucket bucket))
     → (i : ℕ) → is_kept now (slice_index_or bucket.slots i Free) ≡ true → is_kept before (slice_index_or bucket.slots i Free) ≡ true
+
+-- of the pages that are held only the two buckets are written
+abbrev pub WritesBucketsAlone : PairFields → View → Type 0
+WritesBucketsAlone pair view = (q : ℕ) → q ≢ page_of pair.left_way → q ≢ page_of pair.right_way → view.own q ≡ None

@@ -65,3 +65,14 @@ abbrev pub bucket_after : BucketFields → Plan → BucketFields
 bucket_after bucket plan.Nothing = bucket
 bucket_after bucket (plan.Set write) = with_slot bucket write.at write.slot
 bucket_after bucket plan.Full = bucket
+
+-- the value that the key has once the change is made, and what stands in the slot
+abbrev pub value_after : RecordChange → Option ℕ
+value_after (change.Insert value) = Some value
+value_after (change.Update value) = Some value
+value_after change.Remove = None
+
+abbrev pub slot_after : RecordChange → ℕ → ℕ → Slot
+slot_after (change.Insert value) key tx = Live key value
+slot_after (change.Update value) key tx = Live key value
+slot_after change.Remove key tx = Ghost key 0 tx

@@ -7,7 +7,6 @@ use Rattle.mlt_page_locks.specs.LockTables.{can_write}
 use Rattle.mlt_held.specs.Moments.{Moment}
 use Rattle.mlt_held.specs.PageSteps.{WritesHeldSlot}
 use Rattle.mlt_held.specs.Views.{ReadsHeldBucket, View, WritesSlot, view_of}
-use Rattle.mlt_record.specs.Plans.{WriteFields}
 use Rattle.mlt_pair.specs.Changes.{IsFull, MakesAsked}
 use Rattle.mlt_pair.specs.Pairs.{PairFields}
 use Rattle.mlt_pair.specs.Plans.{FitsSlots, IsPlanned}

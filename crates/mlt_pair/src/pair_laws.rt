@@ -1,16 +1,19 @@
 //! What a pair knows, whatever other transactions do.
 
-ghost use Rattle.std.specs.Prelude.{ℕ, ◌≡◌, ◌≢◌, Option};
+ghost use Rattle.std.specs.Prelude.{ℕ, ◌≡◌, ◌≢◌, Option, Some};
 ghost use Rattle.std.specs.Ordering.{nat_cmp};
 ghost use Rattle.std.specs.FinMap as map;
 ghost use Rattle.std.specs.FinSet as set;
 ghost use Rattle.mlt_page.specs.declared.page.Page.{Page};
 ghost use Rattle.mlt_page_locks.specs.LockTables.{pages_of};
-ghost use Rattle.mlt_hash_form.specs.File.{look_up};
-ghost use Rattle.mlt_hash_form.specs.Held.{Agrees};
+ghost use Rattle.mlt_hash_form.specs.File.{GivesPseudokeys, HasForm, lead_of, look_up};
+ghost use Rattle.mlt_hash_form.specs.Held.{Agrees, over};
+ghost use Rattle.mlt_hash_form.specs.Changes.{ChangesRecord};
 ghost use Rattle.mlt_held.specs.Moments.{Moment};
 ghost use Rattle.mlt_held.specs.Views.{View, view_of};
-ghost use Rattle.mlt_pair.specs.Changes.{HasChanged, IsFound, IsHolding, IsSameView, KeepsNoMore, found_of};
+ghost use Rattle.mlt_pair.specs.Changes.{HasChanged, IsFound, IsHolding, IsSameView, KeepsNoMore, MakesChange, WritesBucketsAlone, found_of, page_of};
+ghost use Rattle.mlt_pair.specs.Plans.{FitsFound, slot_after, value_after};
+ghost use Rattle.mlt_pair.specs.declared.asked.RecordChange.{RecordChange};
 ghost use Rattle.mlt_pair.specs.Pairs.{IsFinding, PairFields, find_by};
 
 /// Who holds no page is at the start of a pair.
@@ -50,4 +53,27 @@ pub fn closed_owners_keep_the_pair()
         (pair : PairFields) (view : View)
         → HasChanged bits root opens tx pair view → KeepsNoMore opens fewer view
         → HasChanged bits root fewer tx pair view }
+{}
+
+/// Whatever is written in the two buckets, each key leads to its own.
+pub fn keys_lead_to_their_buckets()
+    ensures { (bits : ℕ → ℕ) (root : ℕ) (pair : PairFields) (view : View) (clean : ℕ → Option Page)
+        → IsFound pair → IsHolding bits root pair view → Agrees view.seen clean
+        → WritesBucketsAlone pair view
+        → (lead_of (over clean view.own) root (bits pair.left) ≡ page_of pair.left_way)
+        × (lead_of (over clean view.own) root (bits pair.right) ≡ page_of pair.right_way) }
+{}
+
+/// A change that is made changes the record of its key, and nothing else, whatever the clean pages are elsewhere: where
+/// the pages as they are written have the form of a file, the key leads to the bucket, and the change fits what it has.
+pub fn each_change_changes_one_record()
+    ensures { (bits : ℕ → ℕ) (root : ℕ) (opens : set.FinSet nat_cmp) (tx key q : ℕ)
+        (change : RecordChange) (old new : View) (clean : ℕ → Option Page)
+        → GivesPseudokeys bits → Agrees old.seen clean
+        → HasForm bits (over clean old.own) root
+        → lead_of (over clean old.own) root (bits key) ≡ q
+        → FitsFound (Some change) (look_up bits (over clean old.own) root key)
+        → (makes : MakesChange change opens tx key q old new)
+        → ChangesRecord bits (over clean old.own) (over clean new.own) root key
+        (value_after change) q makes.write.at (slot_after change key tx) }
 {}

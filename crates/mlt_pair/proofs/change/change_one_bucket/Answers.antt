@@ -1,5 +1,4 @@
-use Rattle.std.proofs.Common.{◌≡◌, ℕ, Some, ap, refl, subst, sym, ◌∙◌, inl, inr}
-use Rattle.mlt_page.specs.declared.page.Page.{Page}
+use Rattle.std.proofs.Common.{◌≡◌, ap, refl, subst, sym, ◌∙◌, inl, inr}
 use Rattle.mlt_page.specs.declared.page.Page.TheVariants as page
 use Rattle.mlt_page.specs.Values.{BucketFields}
 use Rattle.mlt_held.specs.Moments.{Moment, moment}

@@ -1,9 +1,9 @@
-use Rattle.std.proofs.Common.{◌≡◌, ℕ, ◌<◌, ap, refl, subst, sym, inl, arith}
+use Rattle.std.proofs.Common.{◌≡◌, ◌<◌, ap, refl, inl, arith}
 use Rattle.mlt_held.specs.Moments.{Moment, moment}
 use Rattle.mlt_held.specs.Views.{view_of}
 use Rattle.mlt_held.proofs.Leaving.{leaves_it}
 use Rattle.mlt_pair.specs.Pairs.{PairFields}
-use Rattle.mlt_pair.proofs.Makes.{left_full, may_write_plan, plan_for, right_full, tells_left_later, tells_right_later, writes_left_later, writes_right_later}
+use Rattle.mlt_pair.proofs.Makes.{may_write_plan, plan_for, right_full, tells_left_later, tells_right_later, writes_left_later, writes_right_later}
 use Rattle.mlt_pair.proofs.change.change_two_buckets.Goals as goal
 
 pub returns-in-Full-clause-leaves : goal.returns-in-Full-clause-leaves

@@ -1,14 +1,12 @@
-use Rattle.std.proofs.Common.{◌≡◌, ℕ, inl, inr, refl, subst, sym}
+use Rattle.std.proofs.Common.{◌≡◌, inl, inr, refl, subst, sym}
 use Rattle.std.specs.Prelude.{true}
 use Rattle.mlt_page.specs.Values.{BucketFields}
 use Rattle.mlt_page_locks.specs.LockTables.{can_write}
 use Rattle.mlt_held.specs.Moments.{Moment, moment}
-use Rattle.mlt_held.specs.PageSteps.{WritesHeldSlot}
-use Rattle.mlt_held.specs.Views.{ReadsHeldBucket, WritesSlot, view_of}
+use Rattle.mlt_held.specs.Views.{ReadsHeldBucket, view_of}
 use Rattle.mlt_held.proofs.Leaving.{leaves_it}
 use Rattle.mlt_record.specs.Plans.{WriteFields}
 use Rattle.mlt_pair.specs.Writing.{MayWrite, WritesPlan}
-use Rattle.mlt_pair.specs.declared.plan.Plan.{Plan}
 use Rattle.mlt_pair.specs.declared.plan.Plan.TheVariants as plan
 use Rattle.mlt_pair.proofs.Makes.{first_is_not_third}
 use Rattle.mlt_pair.proofs.change.write_plan.Goals as goal
