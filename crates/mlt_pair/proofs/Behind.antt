@@ -13,10 +13,10 @@ use Rattle.mlt_held.specs.PageSteps.{WritesAtMost}
 use Rattle.mlt_held.specs.Views.{ReadsHeldBucket, View, WritesSlot, view_of}
 use Rattle.mlt_held.proofs.Views.{may_write, write_writes}
 use Rattle.mlt_record.specs.Plans.{WriteFields}
-use Rattle.mlt_pair.specs.Changes.{FitsBoth, HasChanged, HoldsOn, IsFound, IsHolding, IsSide, IsThere, MakesOwed, MayWriteEarlier, Owes, OwesChange, OwesIf, StandsBehind, TellsOfTwo, found_of, later_of, later_page, page_of}
-use Rattle.mlt_pair.specs.Pairs.{HoldsWays, IsFinding, IsUnwritten, PairFields}
+use Rattle.mlt_pair.specs.Changes.{FitsBoth, HasChanged, HoldsOn, IsHolding, IsSide, MakesOwed, MayWriteEarlier, Owes, OwesChange, OwesIf, StandsBehind, TellsOfTwo}
+use Rattle.mlt_pair.specs.Pairs.{HoldsWays, IsFinding, IsFound, IsUnwritten, PairFields, later_of, later_page}
 use Rattle.mlt_pair.specs.Plans.{FitsFound, IsPlan}
-use Rattle.mlt_pair.specs.Ways.{HasRead, IsLocked}
+use Rattle.mlt_pair.specs.Ways.{HasRead, IsLocked, IsThere, found_of, page_of}
 use Rattle.mlt_pair.specs.Writing.{MayPlan, TellsOfOne}
 use Rattle.mlt_pair.specs.declared.way.Way.{Way}
 use Rattle.mlt_pair.specs.declared.way.Way.TheVariants as at
@@ -25,7 +25,8 @@ use Rattle.mlt_pair.specs.declared.answer.ChangeAnswer.TheVariants as answer
 use Rattle.mlt_pair.specs.declared.answer.Side.TheVariants as side
 use Rattle.mlt_pair.specs.declared.asked.Changes.{Changes}
 use Rattle.mlt_pair.specs.declared.asked.RecordChange.{RecordChange}
-use Rattle.mlt_pair.proofs.Makes.{later_left, later_right, second_is_not_third}
+use Rattle.mlt_pair.proofs.Makes.{second_is_not_third}
+use Rattle.mlt_pair.proofs.Together.{later_left, later_right}
 use Rattle.mlt_pair.proofs.Readings.{read_still}
 use Rattle.mlt_pair.proofs.Slots.{fits_slots, plan_number}
 

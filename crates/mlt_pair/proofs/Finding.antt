@@ -12,10 +12,10 @@ use Rattle.mlt_held.specs.Moments.{Moment}
 use Rattle.mlt_held.specs.PageSteps.{Leaves, LocksPage}
 use Rattle.mlt_held.specs.Views.{ReadsHeldPage, ReadsPage, SeesPage, View, view_of}
 use Rattle.mlt_held.proofs.Views.{agrees, count_after_read, page_count_of_view, reads_seen}
-use Rattle.mlt_pair.specs.Pairs.{GoTogether, IsFinding, IsUnderWay, IsUnwritten, MayFind, PairFields, mode_next, most_steps, page_next}
+use Rattle.mlt_pair.specs.Pairs.{GoTogether, IsFinding, IsUnderWay, IsUnwritten, MayFind, PairFields, later_of, mode_next, most_steps, page_next}
 use Rattle.mlt_pair.specs.Reading.{next_page, next_way, way_after}
 use Rattle.mlt_pair.specs.Steps.{GoesOn, HasFound, TellsOfStep, told_by}
-use Rattle.mlt_pair.specs.Ways.{pages_to_read}
+use Rattle.mlt_pair.specs.Ways.{IsThere, page_of, pages_to_read}
 use Rattle.mlt_pair.specs.declared.way.Way.{Way}
 use Rattle.mlt_pair.specs.declared.way.Way.TheVariants as at
 use Rattle.mlt_pair.specs.declared.answer.PairAnswer.{PairAnswer}
@@ -40,9 +40,14 @@ small_header bits clean root (at.Placed dir bucket) read header form sees kind i
 small_header bits clean root (at.AtBucket dir bucket found) read header form sees kind is = absurd kind
 
 -- what a pair is told that went on, by where it is now
-tells_by : (bits : ℕ → ℕ) (root : ℕ) (old new : Moment) (before after : PairFields) (left right : Way) → GoTogether left right → after.left_way ≡ left → after.right_way ≡ right → GoesOn bits root old new before after → TellsOfStep bits root old new before after (told_by left right)
-tells_by bits root old new before after (at.AtBucket d b found) (at.AtBucket d' b' found') together left_is right_is on = (on, subst (λ w. HasFound w found) (sym left_is) refl, subst (λ w. HasFound w found') (sym right_is) refl)
-tells_by bits root old new before after left right together left_is right_is on = (on, subst (λ w. 0 < most_steps w after.right_way) (sym left_is) (subst (λ w. 0 < most_steps left w) (sym right_is) (more_to_come left right together refl)))
+tells_by : (bits : ℕ → ℕ) (root : ℕ) (old new : Moment) (before after : PairFields) (left right : Way) → GoTogether left right → (IsThere left → IsThere right → page_next root before ≡ later_of (page_of left) (page_of right)) → after.left_way ≡ left → after.right_way ≡ right → GoesOn bits root old new before after → TellsOfStep bits root old new before after (told_by left right)
+tells_by bits root old new before after (at.AtBucket d b found) (at.AtBucket d' b' found') together last left_is right_is on = (
+  on,
+  subst (λ w. HasFound w found) (sym left_is) refl,
+  subst (λ w. HasFound w found') (sym right_is) refl,
+  last tt tt ∙ (λ i. later_of (page_of (sym left_is i)) (page_of (sym right_is i))),
+)
+tells_by bits root old new before after left right together last left_is right_is on = (on, subst (λ w. 0 < most_steps w after.right_way) (sym left_is) (subst (λ w. 0 < most_steps left w) (sym right_is) (more_to_come left right together refl)))
 
 module _ (bits : ℕ → ℕ) (root : ℕ) (old : Moment) (before : PairFields) (ready : MayFind bits root old before) (under : IsUnderWay before) where
   abbrev lead : Way
@@ -99,7 +104,7 @@ module _ (bits : ℕ → ℕ) (root : ℕ) (old : Moment) (before : PairFields) 
       right_way = way_after bits root before.right before.right_way (page_next root before) read;
     }
 
-    further : IsFurther before.left_way before.right_way after.left_way after.right_way
+    further : IsFurther before.left_way before.right_way after.left_way after.right_way (page_next root before)
     further = goes_further bits root before.left before.right before.left_way before.right_way read ready.finding.together under kind
 
     finding : IsFinding bits root after (view_of new)
@@ -132,4 +137,4 @@ module _ (bits : ℕ → ℕ) (root : ℕ) (old : Moment) (before : PairFields) 
     Tells pair = TellsOfStep bits root old new before pair (told_by pair.left_way pair.right_way)
 
     pub tells : (pair : PairFields) (told : PairAnswer) → pair ≡ after → told ≡ told_by pair.left_way pair.right_way → TellsOfStep bits root old new before pair told
-    tells pair told pair_is told_is = subst (λ told. TellsOfStep bits root old new before pair told) (sym told_is) (subst Tells (sym pair_is) (tells_by bits root old new before after after.left_way after.right_way further.together refl refl goes_on))
+    tells pair told pair_is told_is = subst (λ told. TellsOfStep bits root old new before pair told) (sym told_is) (subst Tells (sym pair_is) (tells_by bits root old new before after after.left_way after.right_way further.together further.last refl refl goes_on))

@@ -17,9 +17,9 @@ use Rattle.mlt_held.specs.Moments.{Moment}
 use Rattle.mlt_held.specs.Views.{View, view_of}
 use Rattle.mlt_held.proofs.Views.{own_free}
 use Rattle.mlt_record.specs.Plans.{WriteFields}
-use Rattle.mlt_pair.specs.Changes.{HasChanged, IsFound, IsHolding, IsSameView, IsThere, KeepsNoMore, OwesIf, found_of}
-use Rattle.mlt_pair.specs.Pairs.{IsFinding, PairFields, find_by}
-use Rattle.mlt_pair.specs.Ways.{HasRead}
+use Rattle.mlt_pair.specs.Changes.{HasChanged, IsHolding, IsSameView, KeepsNoMore, OwesIf}
+use Rattle.mlt_pair.specs.Pairs.{IsFinding, IsFound, PairFields, find_by}
+use Rattle.mlt_pair.specs.Ways.{HasRead, IsThere, found_of}
 use Rattle.mlt_pair.specs.declared.way.Way.{Way}
 use Rattle.mlt_pair.specs.declared.way.Way.TheVariants as at
 

@@ -1,11 +1,11 @@
 -- What is planned, and what its write makes of a view
 use Rattle.std.proofs.Common.{◌≡◌, ◌≢◌, ◌⊎◌, ℕ, ◌<◌, ◌≤◌, true, Option, None, Some, is_some, cond, refl, sym, ap, subst, ◌∙◌, inl, inr, arith}
-use Rattle.std.specs.Prelude.{IsSome, nat_lt, ◌==◌}
+use Rattle.std.specs.Prelude.{IsSome, ◌==◌}
 use Rattle.std.specs.Cmp.{nat_cmp_total}
 use Rattle.std.specs.Ordering.{nat_cmp}
 use Rattle.std.specs.FinMap as map
 use Rattle.std.specs.FinSet as set
-use Rattle.std.proofs.lemmas.Bool.{cases_eq, cond-false, cond-true, eq-eqb, false≢true, le-ltb, lt-ltb, ne_eqb}
+use Rattle.std.proofs.lemmas.Bool.{cases_eq, cond-false, cond-true, eq-eqb, false≢true, ne_eqb}
 use Rattle.mlt_page.specs.declared.page.Page.{Page}
 use Rattle.mlt_page.specs.declared.page.Page.TheVariants as page
 use Rattle.mlt_page.specs.Values.{BucketFields}
@@ -17,8 +17,8 @@ use Rattle.mlt_held.specs.PageSteps.{WritesAtMost}
 use Rattle.mlt_held.specs.Views.{ReadsHeldBucket, View, WritesPage, view_of}
 use Rattle.mlt_held.proofs.Views.{image_is_own}
 use Rattle.mlt_record.specs.Plans.{WriteFields, planned_page}
-use Rattle.mlt_pair.specs.Changes.{IsFull, IsSameView, MakesAsked, OwesChange, TellsOfTwo, later_of}
-use Rattle.mlt_pair.specs.Pairs.{IsUnwritten, PairFields}
+use Rattle.mlt_pair.specs.Changes.{IsFull, IsSameView, MakesAsked, OwesChange, TellsOfTwo}
+use Rattle.mlt_pair.specs.Pairs.{IsUnwritten, PairFields, later_of}
 use Rattle.mlt_pair.specs.Plans.{FitsSlots, IsPlanned, bucket_after}
 use Rattle.mlt_page_locks.specs.LockTables.{can_write}
 use Rattle.mlt_pair.specs.Writing.{HasPlan, MayWrite, OwesPlan, TellsOfOne, WritesPlan}
@@ -29,6 +29,7 @@ use Rattle.mlt_pair.specs.declared.asked.Changes.{Changes}
 use Rattle.mlt_pair.specs.declared.asked.RecordChange.{RecordChange}
 use Rattle.mlt_pair.specs.declared.plan.Plan.{Plan}
 use Rattle.mlt_pair.specs.declared.plan.Plan.TheVariants as plan
+use Rattle.mlt_pair.proofs.Together.{later_left, later_right}
 use Rattle.mlt_pair.proofs.Slots.{fits_after, plan_number}
 
 -- a page that is not written has no first image
@@ -190,13 +191,6 @@ writes_at_most (plan.Set write) asked opens tx key q old new bucket reads roomy 
     let number = (plan_number planned.0 opens tx key q bucket write planned.2).0 in
     subst (WritesAtMost old new) number (inr (planned_page bucket write, writes.0 bucket (subst (λ n. ReadsHeldBucket (view_of old) n bucket) (sym number) reads)))
 writes_at_most plan.Full asked opens tx key q old new bucket reads roomy none same = inl same
-
--- the later of two pages
-pub later_right : (left right : ℕ) → left < right → later_of left right ≡ right
-later_right left right lt = cond-true (nat_lt left right) right left (lt-ltb left right lt)
-
-pub later_left : (left right : ℕ) → right ≤ left → later_of left right ≡ left
-later_left left right le = cond-false (nat_lt left right) right left (le-ltb left right le)
 
 -- The changes in two buckets
 module _ (opens : set.FinSet nat_cmp) (old new : Moment) (before after : PairFields) (left_page right_page : ℕ) (changes : Changes) (left_plan right_plan : Plan)

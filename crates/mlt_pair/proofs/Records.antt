@@ -18,10 +18,10 @@ use Rattle.mlt_hash_form.proofs.SingleChanges.{put_changes, revive_changes, set_
 use Rattle.mlt_held.specs.Views.{View}
 use Rattle.mlt_held.proofs.Views.{writes_over_clean}
 use Rattle.mlt_record.specs.Plans.{SetsFirst, WriteFields, has_room, planned_page}
-use Rattle.mlt_pair.specs.Changes.{IsFound, IsHolding, IsThere, MakesChange, WritesBucketsAlone, page_of}
-use Rattle.mlt_pair.specs.Pairs.{PairFields}
+use Rattle.mlt_pair.specs.Changes.{IsHolding, MakesChange, WritesBucketsAlone}
+use Rattle.mlt_pair.specs.Pairs.{IsFound, PairFields}
 use Rattle.mlt_pair.specs.Plans.{FitsFound, IsPlan, slot_after, value_after}
-use Rattle.mlt_pair.specs.Ways.{HasRead}
+use Rattle.mlt_pair.specs.Ways.{HasRead, IsThere, page_of}
 use Rattle.mlt_pair.specs.declared.asked.RecordChange.{RecordChange}
 use Rattle.mlt_pair.specs.declared.asked.RecordChange.TheVariants as change
 use Rattle.mlt_pair.specs.declared.way.Way.{Way}

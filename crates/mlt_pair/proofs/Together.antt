@@ -1,15 +1,15 @@
 -- How the two ways go on together
 use Rattle.std.proofs.Common.{◌≡◌, ◌≢◌, ◌⊎◌, ℕ, ◌<◌, ◌≤◌, ◌+◌, false, true, List, Option, slice_index, refl, sym, ap, subst, ◌∙◌, inl, inr, arith}
-use Rattle.std.specs.Prelude.{◌==◌, nat_le}
-use Rattle.std.proofs.lemmas.Bool.{cases_Bool, cases_eq, cond-false, cond-true, eq-eqb, leb-false, leb-true, ne_eqb}
+use Rattle.std.specs.Prelude.{◌==◌, nat_le, nat_lt}
+use Rattle.std.proofs.lemmas.Bool.{cases_Bool, cases_eq, cond-false, cond-true, eq-eqb, le-ltb, leb-false, leb-true, lt-ltb, ne_eqb}
 use Rattle.mlt_page.specs.Values.{BucketFields, HeadFields}
 use Rattle.mlt_page.specs.declared.page.Page.{Page}
 use Rattle.mlt_page.specs.declared.page.Page.TheVariants as page
-use Rattle.mlt_pair.specs.Pairs.{GoTogether, least_steps, most_steps, steps_for}
+use Rattle.mlt_pair.specs.Pairs.{GoTogether, later_of, least_steps, most_steps, steps_for}
 use Rattle.mlt_hash_form.specs.Form.{value_in}
 use Rattle.mlt_pair.specs.Reading.{dir_of, is_before, next_page, next_way, way_after, way_by_header}
 use Rattle.mlt_pair.specs.Steps.{told_by}
-use Rattle.mlt_pair.specs.Ways.{pages_to_read}
+use Rattle.mlt_pair.specs.Ways.{IsThere, page_of, pages_to_read}
 use Rattle.mlt_pair.specs.declared.answer.PairAnswer.TheVariants as answer
 use Rattle.mlt_pair.specs.declared.way.Way.{Way}
 use Rattle.mlt_pair.specs.declared.way.Way.TheVariants as at
@@ -76,30 +76,39 @@ more_to_come (at.AtBucket d b found) (at.Placed d' b') together going = omega ar
 more_to_come (at.AtBucket d b found) (at.AtBucket d' b' found') together going = let none : ⊥ = cc in absurd none
 more_to_come left right together going = absurd together
 
+-- the later of two pages
+pub later_right : (left right : ℕ) → left < right → later_of left right ≡ right
+later_right left right lt = cond-true (nat_lt left right) right left (lt-ltb left right lt)
+
+pub later_left : (left right : ℕ) → right ≤ left → later_of left right ≡ left
+later_left left right le = cond-false (nat_lt left right) right left (le-ltb left right le)
+
 -- the ways are one step further, and that is the only step that is gone
-pub record IsFurther (left right left' right' : Way) : Type 0 where
+pub record IsFurther (left right left' right' : Way) (n : ℕ) : Type 0 where
   pub together : GoTogether left' right'
   pub least : least_steps left right ≤ least_steps left' right' + 1
   pub most : most_steps left' right' + 1 ≤ most_steps left right
+  -- the bucket that is read last is the later one
+  pub last : IsThere left' → IsThere right' → n ≡ later_of (page_of left') (page_of right')
 
 -- the same, of ways that are known to be these
-further_as : (left right left' right' a b : Way) → left' ≡ a → right' ≡ b → IsFurther left right a b → IsFurther left right left' right'
-further_as left right left' right' a b is_a is_b further = subst (λ w. IsFurther left right w right') (sym is_a) (subst (λ w. IsFurther left right a w) (sym is_b) further)
+further_as : (left right left' right' a b : Way) (n : ℕ) → left' ≡ a → right' ≡ b → IsFurther left right a b n → IsFurther left right left' right' n
+further_as left right left' right' a b n is_a is_b further = subst (λ w. IsFurther left right w right' n) (sym is_a) (subst (λ w. IsFurther left right a w n) (sym is_b) further)
 
 module _ (bits : ℕ → ℕ) (root left_key right_key : ℕ) where
   abbrev Goes : Way → Way → ℕ → Page → Type 0
-  Goes left right n read = IsFurther left right (way_after bits root left_key left n read) (way_after bits root right_key right n read)
+  Goes left right n read = IsFurther left right (way_after bits root left_key left n read) (way_after bits root right_key right n read) n
 
   -- what each of them is once this page is read
-  goes_as : (left right a b : Way) (n : ℕ) (read : Page) → way_after bits root left_key left n read ≡ a → way_after bits root right_key right n read ≡ b → IsFurther left right a b → Goes left right n read
-  goes_as left right a b n read is_a is_b further = further_as left right (way_after bits root left_key left n read) (way_after bits root right_key right n read) a b is_a is_b further
+  goes_as : (left right a b : Way) (n : ℕ) (read : Page) → way_after bits root left_key left n read ≡ a → way_after bits root right_key right n read ≡ b → IsFurther left right a b n → Goes left right n read
+  goes_as left right a b n read is_a is_b further = further_as left right (way_after bits root left_key left n read) (way_after bits root right_key right n read) a b n is_a is_b further
 
   from_start : (header : HeadFields) → Goes at.Start at.Start root (page.Head header)
   from_start header =
       let few = one_or_two (dir_of bits header left_key) (dir_of bits header right_key) in
       goes_as at.Start at.Start (way_by_header bits left_key header) (way_by_header bits right_key header) root (page.Head header)
       (after_next bits root left_key at.Start root (page.Head header) refl) (after_next bits root right_key at.Start root (page.Head header) refl)
-      (record { together = tt; least = omega (arith, few); most = omega (arith, few) })
+      (record { together = tt; least = omega (arith, few); most = omega (arith, few); last = λ there other_there. absurd there })
 
   from_header : (p d r p' d' r' n : ℕ) (entries : List ℕ) → (n ≡ d) ⊎ (n ≡ d') → Goes (at.Headed p d r) (at.Headed p' d' r') n (page.Dir entries)
   from_header p d r p' d' r' n entries either = go (cases_eq n d) (cases_eq n d')
@@ -109,15 +118,15 @@ module _ (bits : ℕ → ℕ) (root left_key right_key : ℕ) where
           let step = one_step d d' (sym one ∙ other) in
           let few = one_or_two (slice_index entries r) (slice_index entries r') in
           goes_as (at.Headed p d r) (at.Headed p' d' r') (at.Placed d (slice_index entries r)) (at.Placed d' (slice_index entries r')) n (page.Dir entries) (after_next bits root left_key (at.Headed p d r) n (page.Dir entries) one) (after_next bits root right_key (at.Headed p' d' r') n (page.Dir entries) other)
-          (record { together = tt; least = omega (arith, step, few); most = omega (arith, step, few) })
+          (record { together = tt; least = omega (arith, step, few); most = omega (arith, step, few); last = λ there other_there. absurd there })
       go (inl one) (inr apart) =
           let steps = two_steps d d' (λ same. apart (one ∙ same)) in
           goes_as (at.Headed p d r) (at.Headed p' d' r') (at.Placed d (slice_index entries r)) (at.Headed p' d' r') n (page.Dir entries) (after_next bits root left_key (at.Headed p d r) n (page.Dir entries) one) (after_other bits root right_key (at.Headed p' d' r') n (page.Dir entries) apart)
-          (record { together = tt; least = omega (arith, steps); most = omega (arith, steps) })
+          (record { together = tt; least = omega (arith, steps); most = omega (arith, steps); last = λ there other_there. absurd there })
       go (inr apart) (inl other) =
           let steps = two_steps d d' (λ same. apart (other ∙ sym same)) in
           goes_as (at.Headed p d r) (at.Headed p' d' r') (at.Headed p d r) (at.Placed d' (slice_index entries r')) n (page.Dir entries) (after_other bits root left_key (at.Headed p d r) n (page.Dir entries) apart) (after_next bits root right_key (at.Headed p' d' r') n (page.Dir entries) other)
-          (record { together = tt; least = omega (arith, steps); most = omega (arith, steps) })
+          (record { together = tt; least = omega (arith, steps); most = omega (arith, steps); last = λ there other_there. absurd there })
       go (inr apart) (inr aside) = elim either [
         | inl one ↦ absurd (apart one)
         | inr other ↦ absurd (aside other)
@@ -141,14 +150,14 @@ module _ (bits : ℕ → ℕ) (root left_key right_key : ℕ) where
       let few = one_or_two (slice_index entries r) b' in
       goes_as (at.Headed p d r) (at.Placed d' b') (at.Placed d (slice_index entries r)) (at.Placed d' b') d (page.Dir entries)
       (after_next bits root left_key (at.Headed p d r) d (page.Dir entries) refl) (waits_right d' b' d entries)
-      (record { together = tt; least = omega (arith, few); most = omega (arith, few) })
+      (record { together = tt; least = omega (arith, few); most = omega (arith, few); last = λ there other_there. absurd there })
 
   second_dir_right : (d b p' d' r' : ℕ) (entries : List ℕ) → Goes (at.Placed d b) (at.Headed p' d' r') d' (page.Dir entries)
   second_dir_right d b p' d' r' entries =
       let few = one_or_two b (slice_index entries r') in
       goes_as (at.Placed d b) (at.Headed p' d' r') (at.Placed d b) (at.Placed d' (slice_index entries r')) d' (page.Dir entries)
       (waits_left d b d' entries) (after_next bits root right_key (at.Headed p' d' r') d' (page.Dir entries) refl)
-      (record { together = tt; least = omega (arith, few); most = omega (arith, few) })
+      (record { together = tt; least = omega (arith, few); most = omega (arith, few); last = λ there other_there. absurd there })
 
   -- the bucket of the lower page is read first, and the other one with it where they are one
   from_dirs : (d b d' b' n : ℕ) (fields : BucketFields) → ((n ≡ b) × (b ≤ b')) ⊎ ((n ≡ b') × (b' < b)) → Goes (at.Placed d b) (at.Placed d' b') n (page.Bucket fields)
@@ -158,7 +167,7 @@ module _ (bits : ℕ → ℕ) (root left_key right_key : ℕ) where
       go (inl one) (inl other) =
           let step = one_step b b' (sym one ∙ other) in
           goes_as (at.Placed d b) (at.Placed d' b') (at.AtBucket d b (value_in left_key fields.slots)) (at.AtBucket d' b' (value_in right_key fields.slots)) n (page.Bucket fields) (after_next bits root left_key (at.Placed d b) n (page.Bucket fields) one) (after_next bits root right_key (at.Placed d' b') n (page.Bucket fields) other)
-          (record { together = tt; least = omega (arith, step); most = omega (arith, step) })
+          (record { together = tt; least = omega (arith, step); most = omega (arith, step); last = λ there other_there. let le : b' ≤ b = omega (arith, one, other) in one ∙ sym (later_left b b' le) })
       go (inl one) (inr apart) =
           let steps = two_steps b b' (λ same. apart (one ∙ same)) in
           let low : b < b' = elim either [
@@ -166,7 +175,7 @@ module _ (bits : ℕ → ℕ) (root left_key right_key : ℕ) where
             | inr second ↦ absurd (apart second.0)
           ] in
           goes_as (at.Placed d b) (at.Placed d' b') (at.AtBucket d b (value_in left_key fields.slots)) (at.Placed d' b') n (page.Bucket fields) (after_next bits root left_key (at.Placed d b) n (page.Bucket fields) one) (after_other bits root right_key (at.Placed d' b') n (page.Bucket fields) apart)
-          (record { together = low; least = omega (arith, steps); most = omega (arith, steps) })
+          (record { together = low; least = omega (arith, steps); most = omega (arith, steps); last = λ there other_there. absurd other_there })
       go (inr apart) (inl other) =
           let steps = two_steps b b' (λ same. apart (other ∙ sym same)) in
           let low : b' < b = elim either [
@@ -174,23 +183,23 @@ module _ (bits : ℕ → ℕ) (root left_key right_key : ℕ) where
             | inr second ↦ second.1
           ] in
           goes_as (at.Placed d b) (at.Placed d' b') (at.Placed d b) (at.AtBucket d' b' (value_in right_key fields.slots)) n (page.Bucket fields) (after_other bits root left_key (at.Placed d b) n (page.Bucket fields) apart) (after_next bits root right_key (at.Placed d' b') n (page.Bucket fields) other)
-          (record { together = low; least = omega (arith, steps); most = omega (arith, steps) })
+          (record { together = low; least = omega (arith, steps); most = omega (arith, steps); last = λ there other_there. absurd there })
       go (inr apart) (inr aside) = elim either [
         | inl one ↦ absurd (apart one.0)
         | inr other ↦ absurd (aside other.0)
       ]
 
-  second_bucket_left : (d b d' b' : ℕ) (found' : Option ℕ) (fields : BucketFields) → Goes (at.Placed d b) (at.AtBucket d' b' found') b (page.Bucket fields)
-  second_bucket_left d b d' b' found' fields =
+  second_bucket_left : (d b d' b' : ℕ) (found' : Option ℕ) (fields : BucketFields) → b' < b → Goes (at.Placed d b) (at.AtBucket d' b' found') b (page.Bucket fields)
+  second_bucket_left d b d' b' found' fields low =
       goes_as (at.Placed d b) (at.AtBucket d' b' found') (at.AtBucket d b (value_in left_key fields.slots)) (at.AtBucket d' b' found') b (page.Bucket fields)
       (after_next bits root left_key (at.Placed d b) b (page.Bucket fields) refl) (done_stays bits root right_key d' b' found' b (page.Bucket fields))
-      (record { together = tt; least = omega arith; most = omega arith })
+      (record { together = tt; least = omega arith; most = omega arith; last = λ there other_there. let le : b' ≤ b = omega (arith, low) in sym (later_left b b' le) })
 
-  second_bucket_right : (d b : ℕ) (found : Option ℕ) (d' b' : ℕ) (fields : BucketFields) → Goes (at.AtBucket d b found) (at.Placed d' b') b' (page.Bucket fields)
-  second_bucket_right d b found d' b' fields =
+  second_bucket_right : (d b : ℕ) (found : Option ℕ) (d' b' : ℕ) (fields : BucketFields) → b < b' → Goes (at.AtBucket d b found) (at.Placed d' b') b' (page.Bucket fields)
+  second_bucket_right d b found d' b' fields low =
       goes_as (at.AtBucket d b found) (at.Placed d' b') (at.AtBucket d b found) (at.AtBucket d' b' (value_in right_key fields.slots)) b' (page.Bucket fields)
       (done_stays bits root left_key d b found b' (page.Bucket fields)) (after_next bits root right_key (at.Placed d' b') b' (page.Bucket fields) refl)
-      (record { together = tt; least = omega arith; most = omega arith })
+      (record { together = tt; least = omega arith; most = omega arith; last = λ there other_there. sym (later_right b b' low) })
 
   -- a page of the directory is read for either of two ways
   by_header : (p d r p' d' r' n : ℕ) (lead : Way) (read : Page) → n ≡ next_page root lead → KindIs lead read → ((lead ≡ at.Headed p d r) ⊎ (lead ≡ at.Headed p' d' r')) → Goes (at.Headed p d r) (at.Headed p' d' r') n read
@@ -217,7 +226,7 @@ module _ (bits : ℕ → ℕ) (root left_key right_key : ℕ) where
   goes_further (at.Headed p d r) (at.Placed d' b') read together more kind = subst (Goes (at.Headed p d r) (at.Placed d' b') d) (sym kind.1) (second_dir_left p d r d' b' kind.0)
   goes_further (at.Placed d b) (at.Headed p' d' r') read together more kind = subst (Goes (at.Placed d b) (at.Headed p' d' r') d') (sym kind.1) (second_dir_right d b p' d' r' kind.0)
   goes_further (at.Placed d b) (at.Placed d' b') read together more kind = by_dirs d b d' b' _ (next_way (at.Placed d b) (at.Placed d' b')) read refl kind (which (at.Placed d b) (at.Placed d' b'))
-  goes_further (at.Placed d b) (at.AtBucket d' b' found') read together more kind = subst (Goes (at.Placed d b) (at.AtBucket d' b' found') b) (sym kind.1) (second_bucket_left d b d' b' found' kind.0)
-  goes_further (at.AtBucket d b found) (at.Placed d' b') read together more kind = subst (Goes (at.AtBucket d b found) (at.Placed d' b') b') (sym kind.1) (second_bucket_right d b found d' b' kind.0)
+  goes_further (at.Placed d b) (at.AtBucket d' b' found') read together more kind = subst (Goes (at.Placed d b) (at.AtBucket d' b' found') b) (sym kind.1) (second_bucket_left d b d' b' found' kind.0 together)
+  goes_further (at.AtBucket d b found) (at.Placed d' b') read together more kind = subst (Goes (at.AtBucket d b found) (at.Placed d' b') b') (sym kind.1) (second_bucket_right d b found d' b' kind.0 together)
   goes_further (at.AtBucket d b found) (at.AtBucket d' b' found') read together more kind = let none : ⊥ = omega (arith, more) in absurd none
   goes_further left right read together more kind = absurd together

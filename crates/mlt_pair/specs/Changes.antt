@@ -1,5 +1,5 @@
 -- What the changes of a pair tell, and where it stands behind them
-use Rattle.std.specs.Prelude.{ℕ, ◌≡◌, ◌≢◌, ◌<◌, ◌≤◌, ◌⊎◌, nat_lt, true, if◌then◌else◌, slice_index_or, Option, None, Some}
+use Rattle.std.specs.Prelude.{ℕ, ◌≡◌, ◌≢◌, ◌<◌, ◌≤◌, ◌⊎◌, true, slice_index_or, Option, None, Some}
 use Rattle.std.specs.Ordering.{nat_cmp}
 use Rattle.std.specs.FinMap as map
 use Rattle.std.specs.FinSet as set
@@ -10,44 +10,18 @@ use Rattle.mlt_page.specs.Values.{BucketFields}
 use Rattle.mlt_held.specs.Moments.{Moment}
 use Rattle.mlt_held.specs.Views.{ReadsHeldBucket, View, WritesPage, view_of}
 use Rattle.mlt_record.specs.Plans.{WriteFields, planned_page}
-use Rattle.mlt_pair.specs.Pairs.{HoldsWays, PairFields}
+use Rattle.mlt_pair.specs.Pairs.{HoldsWays, IsFound, PairFields, later_page}
 use Rattle.mlt_pair.specs.Plans.{FitsFound, HasNoPlan, IsPlan}
-use Rattle.mlt_pair.specs.Ways.{HasRead}
-use Rattle.mlt_pair.specs.declared.way.Way.{Way}
-use Rattle.mlt_pair.specs.declared.way.Way.TheVariants as at
+use Rattle.mlt_pair.specs.Ways.{HasRead, found_of, page_of}
 use Rattle.mlt_pair.specs.declared.asked.Changes.{Changes}
 use Rattle.mlt_pair.specs.declared.asked.RecordChange.{RecordChange}
 use Rattle.mlt_pair.specs.declared.answer.ChangeAnswer.{ChangeAnswer}
 use Rattle.mlt_pair.specs.declared.answer.ChangeAnswer.TheVariants as answer
 use Rattle.mlt_pair.specs.declared.answer.Side.TheVariants as side
 
--- a way is at its bucket; the page of the bucket, and what was found there
-abbrev pub IsThere : Way → Type 0
-IsThere (at.AtBucket dir bucket found) = Unit {0}
-IsThere other = ⊥
-
-abbrev pub page_of : Way → ℕ
-page_of (at.AtBucket dir bucket found) = bucket
-page_of other = 0
-
-abbrev pub found_of : Way → Option ℕ
-found_of (at.AtBucket dir bucket found) = found
-found_of other = None
-
--- both keys are found
-abbrev pub IsFound : PairFields → Type 0
-IsFound pair = IsThere pair.left_way × IsThere pair.right_way
-
 -- what is asked fits what was found of both keys
 abbrev pub FitsBoth : Changes → PairFields → Type 0
 FitsBoth changes pair = FitsFound changes.left (found_of pair.left_way) × FitsFound changes.right (found_of pair.right_way)
-
--- the later of two pages, and of the pages of the two buckets: it is read last
-abbrev pub later_of : ℕ → ℕ → ℕ
-later_of left right = if nat_lt left right then right else left
-
-abbrev pub later_page : PairFields → ℕ
-later_page pair = later_of (page_of pair.left_way) (page_of pair.right_way)
 
 -- a view that is not changed
 pub record IsSameView (old new : View) : Type 0 where

@@ -1,5 +1,5 @@
 -- Where a pair on its way stands, by the ways of its two keys: which pages it holds, and what it has read of them
-use Rattle.std.specs.Prelude.{ℕ, ◌≡◌, ◌≢◌, ◌<◌, ◌≤◌, ◌+◌, ◌⊎◌, ◌↔◌, ◌==◌, if◌then◌else◌, Option, None, Some}
+use Rattle.std.specs.Prelude.{ℕ, ◌≡◌, ◌≢◌, ◌<◌, ◌≤◌, ◌+◌, ◌⊎◌, ◌↔◌, ◌==◌, nat_lt, if◌then◌else◌, Option, None, Some}
 use Rattle.std.specs.FinMap as map
 use Rattle.mlt_types.specs.declared.mode.Mode.{Mode}
 use Rattle.mlt_hash_form.specs.File.{GivesPseudokeys}
@@ -7,7 +7,7 @@ use Rattle.mlt_held.specs.Moments.{HasCleanFile, MayStep, Moment}
 use Rattle.mlt_held.specs.Views.{View, view_of}
 use Rattle.mlt_record.specs.Plans.{WriteFields}
 use Rattle.mlt_pair.specs.Reading.{next_mode, next_page, next_way}
-use Rattle.mlt_pair.specs.Ways.{HasRead, IsLocked}
+use Rattle.mlt_pair.specs.Ways.{HasRead, IsLocked, IsThere, page_of}
 use Rattle.mlt_pair.specs.declared.way.Way.{Way}
 use Rattle.mlt_pair.specs.declared.way.Way.TheVariants as at
 
@@ -69,6 +69,17 @@ most_steps (at.AtBucket dir bucket found) other = 1
 -- a key is not at its bucket yet
 abbrev pub IsUnderWay : PairFields → Type 0
 IsUnderWay pair = 0 < most_steps pair.left_way pair.right_way
+
+-- both keys are found
+abbrev pub IsFound : PairFields → Type 0
+IsFound pair = IsThere pair.left_way × IsThere pair.right_way
+
+-- the later of two pages, and of the pages of the two buckets: it is read last
+abbrev pub later_of : ℕ → ℕ → ℕ
+later_of left right = if nat_lt left right then right else left
+
+abbrev pub later_page : PairFields → ℕ
+later_page pair = later_of (page_of pair.left_way) (page_of pair.right_way)
 
 -- the page that the pair locks next, and its mode
 abbrev pub page_next : ℕ → PairFields → ℕ

@@ -4,7 +4,7 @@ use Rattle.mlt_page_locks.specs.Requests.{IsLowest, conflicts}
 use Rattle.mlt_held.specs.Moments.{Moment}
 use Rattle.mlt_held.specs.PageSteps.{LocksPage}
 use Rattle.mlt_held.specs.Views.{view_of}
-use Rattle.mlt_pair.specs.Pairs.{IsFinding, IsUnderWay, PairFields, least_steps, mode_next, most_steps, page_next}
+use Rattle.mlt_pair.specs.Pairs.{IsFinding, IsUnderWay, PairFields, later_page, least_steps, mode_next, most_steps, page_next}
 use Rattle.mlt_pair.specs.Ways.{IsNext, pages_to_read}
 use Rattle.mlt_pair.specs.declared.way.Way.{Way}
 use Rattle.mlt_pair.specs.declared.way.Way.TheVariants as at
@@ -32,12 +32,12 @@ abbrev pub HasFound : Way → Option ℕ → Type 0
 HasFound (at.AtBucket dir bucket found) value = found ≡ value
 HasFound other value = ⊥
 
--- A step to the buckets: it goes on, with more to come, or has found the values of both keys, or waits for the next page, told
--- the lowest transaction whose lock stands against its own, and nothing has changed.
+-- A step to the buckets: it goes on, with more to come, or has found the values of both keys, with the later bucket read last,
+-- or waits for the next page, told the lowest transaction whose lock stands against its own, and nothing has changed.
 abbrev pub TellsOfStep : (ℕ → ℕ) → ℕ → Moment → Moment → PairFields → PairFields → PairAnswer → Type 0
 TellsOfStep bits root old new before after answer.Going = GoesOn bits root old new before after × IsUnderWay after
 TellsOfStep bits root old new before after (answer.Waiting page by) = (page ≡ page_next root before) × IsLowest (conflicts old.locks old.running.tx page (mode_next before)) by × (new ≡ old) × (after ≡ before)
-TellsOfStep bits root old new before after (answer.Found left right) = GoesOn bits root old new before after × HasFound after.left_way left × HasFound after.right_way right
+TellsOfStep bits root old new before after (answer.Found left right) = GoesOn bits root old new before after × HasFound after.left_way left × HasFound after.right_way right × (page_next root before ≡ later_page after)
 
 -- what a step tells that has read its page
 abbrev pub told_by : Way → Way → PairAnswer

@@ -1,6 +1,6 @@
 -- Where the way of one key stands: what it has read, and which pages it holds. Each fact is about these pages alone, so that
 -- what other transactions do can't touch it.
-use Rattle.std.specs.Prelude.{ℕ, ◌≡◌, ◌⊎◌, List, slice_index, Option, Some}
+use Rattle.std.specs.Prelude.{ℕ, ◌≡◌, ◌⊎◌, List, slice_index, Option, None, Some}
 use Rattle.mlt_types.specs.declared.mode.Mode.{Mode}
 use Rattle.mlt_types.specs.declared.mode.Mode.TheVariants.{Exclusive, Shared}
 use Rattle.mlt_page.specs.declared.page.Page.TheVariants as page
@@ -62,3 +62,16 @@ pages_to_read at.Start = 3
 pages_to_read (at.Headed place dir row) = 2
 pages_to_read (at.Placed dir bucket) = 1
 pages_to_read (at.AtBucket dir bucket found) = 0
+
+-- a way is at its bucket; the page of the bucket, and what was found there
+abbrev pub IsThere : Way → Type 0
+IsThere (at.AtBucket dir bucket found) = Unit {0}
+IsThere other = ⊥
+
+abbrev pub page_of : Way → ℕ
+page_of (at.AtBucket dir bucket found) = bucket
+page_of other = 0
+
+abbrev pub found_of : Way → Option ℕ
+found_of (at.AtBucket dir bucket found) = found
+found_of other = None

@@ -6,8 +6,9 @@ ghost use Rattle.mlt_held.specs.Moments.{MayStep, moment};
 ghost use Rattle.mlt_held.specs.PageSteps.{Leaves, WritesAtMost, WritesHeldSlot};
 ghost use Rattle.mlt_held.specs.Views.{view_of};
 ghost use Rattle.mlt_record.specs.Plans.{WriteFields};
-ghost use Rattle.mlt_pair.specs.Changes.{FitsBoth, HoldsOn, IsFound, IsThere, MakesOwed, MayWriteEarlier, StandsBehind, TellsOfChanges, TellsOfTwo, later_of, later_page, page_of};
-ghost use Rattle.mlt_pair.specs.Pairs.{FileRoot, IsFinding, IsUnwritten};
+ghost use Rattle.mlt_pair.specs.Ways.{IsThere, page_of};
+ghost use Rattle.mlt_pair.specs.Changes.{FitsBoth, HoldsOn, MakesOwed, MayWriteEarlier, StandsBehind, TellsOfChanges, TellsOfTwo};
+ghost use Rattle.mlt_pair.specs.Pairs.{FileRoot, IsFinding, IsFound, IsUnwritten, later_of, later_page};
 ghost use Rattle.mlt_pair.specs.Plans.{IsWithin};
 ghost use Rattle.mlt_pair.specs.Writing.{HasPlan, MayPlan, MayWrite, OwesPlan, TellsOfOne, WritesPlan};
 

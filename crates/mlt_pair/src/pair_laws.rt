@@ -11,10 +11,11 @@ ghost use Rattle.mlt_hash_form.specs.Held.{Agrees, over};
 ghost use Rattle.mlt_hash_form.specs.Changes.{ChangesRecord};
 ghost use Rattle.mlt_held.specs.Moments.{Moment};
 ghost use Rattle.mlt_held.specs.Views.{View, view_of};
-ghost use Rattle.mlt_pair.specs.Changes.{HasChanged, IsFound, IsHolding, IsSameView, KeepsNoMore, MakesChange, WritesBucketsAlone, found_of, page_of};
+ghost use Rattle.mlt_pair.specs.Ways.{found_of, page_of};
+ghost use Rattle.mlt_pair.specs.Changes.{HasChanged, IsHolding, IsSameView, KeepsNoMore, MakesChange, WritesBucketsAlone};
 ghost use Rattle.mlt_pair.specs.Plans.{FitsFound, slot_after, value_after};
 ghost use Rattle.mlt_pair.specs.declared.asked.RecordChange.{RecordChange};
-ghost use Rattle.mlt_pair.specs.Pairs.{IsFinding, PairFields, find_by};
+ghost use Rattle.mlt_pair.specs.Pairs.{IsFinding, IsFound, PairFields, find_by};
 
 /// Who holds no page is at the start of a pair.
 pub fn pair_starts_without_pages()

@@ -3,8 +3,9 @@ use Rattle.std.proofs.lemmas.Bool.{eqb-true}
 use Rattle.mlt_held.specs.Moments.{Moment, moment}
 use Rattle.mlt_held.specs.PageSteps.{WritesAtMost}
 use Rattle.mlt_held.specs.Views.{view_of}
-use Rattle.mlt_pair.specs.Changes.{TellsOfTwo, later_of, page_of}
-use Rattle.mlt_pair.specs.Pairs.{PairFields}
+use Rattle.mlt_pair.specs.Ways.{page_of}
+use Rattle.mlt_pair.specs.Changes.{TellsOfTwo}
+use Rattle.mlt_pair.specs.Pairs.{PairFields, later_of}
 use Rattle.mlt_pair.specs.Writing.{MayPlan, TellsOfOne}
 use Rattle.mlt_pair.proofs.Behind.{left_fits, left_writes, one_later, one_tells, right_fits, right_writes, stands_behind}
 use Rattle.mlt_pair.proofs.pair.Pair.change.Goals as goal
