@@ -35,7 +35,8 @@ impl Pair {
     ) -> ChangeAnswer
         ghost file: { FileRoot }
         requires may { MayStep (moment subtx.old pages.old) }
-        requires finding { IsFinding file.bits file.root self.old (view_of (moment subtx.old pages.old)) }
+        requires finding { IsFinding file.bits file.root
+            self.old (view_of (moment subtx.old pages.old)) }
         requires found { IsFound self.old }
         requires asked { IsSome changes.now.left ⊎ IsSome changes.now.right }
         requires fits { FitsBoth changes.now self.old }
