@@ -1,0 +1,11 @@
+pub mod Behind
+pub mod Finding
+pub mod Laws
+pub mod Locks
+pub mod Makes
+pub mod Nexts
+pub mod Paths
+pub mod Readings
+pub mod Records
+pub mod Slots
+pub mod Together

@@ -1,0 +1,25 @@
+use Rattle.std.proofs.Common.{◌≡◌, ℕ, List, Some, true, refl, sym, ap, ◌∙◌, slice_index_or}
+use Rattle.std.specs.List.{position}
+use Rattle.std.proofs.lemmas.Bool.{false≢true}
+use Rattle.std.proofs.lemmas.List.Quantifiers.{position-Some}
+use Rattle.mlt_page.specs.Slots.{is_live_of}
+use Rattle.mlt_page.specs.Values.{BucketFields}
+use Rattle.mlt_page.specs.declared.slot.Slot.{Slot}
+use Rattle.mlt_page.specs.declared.slot.Slot.TheVariants.{Free, Ghost, Live}
+use Rattle.mlt_pair.proofs.way.value_in.Goals as goal
+
+live_slot : (key : ℕ) (slot : Slot) → is_live_of key slot ≡ true → (own : ℕ) × (value : ℕ) × (slot ≡ Live own value)
+live_slot key Free live = absurd (false≢true live)
+live_slot key (Live own value) live = (own, value, refl)
+live_slot key (Ghost own value owner) live = absurd (false≢true live)
+
+-- where a search for a record ends, there is one
+finds_record : (key : ℕ) (slots : List Slot) (i : ℕ) (other : Slot) → position (is_live_of key) slots ≡ Some i → ((own value : ℕ) → slice_index_or slots i other ≡ Live own value → ⊥) → ⊥
+finds_record key slots i other found no_record =
+    let slot = live_slot key (slice_index_or slots i other) (position-Some (is_live_of key) slots i other found).1 in
+    no_record slot.0 slot.1 slot.2
+
+pub unreachable-requires : goal.unreachable-requires
+unreachable-requires c =
+    let found = ap (λ (bucket : BucketFields). position (is_live_of c.args.key.now) bucket.slots) c.bucket.view_is ∙ sym c.in_ok-at.ensures.place in
+    finds_record c.args.key.now c.bucket.inside.slots c.in_ok-at.at _ found c.in_default.not-Live

@@ -1,0 +1,165 @@
+-- What the changes of a pair tell, and where it stands behind them
+use Rattle.std.specs.Prelude.{ℕ, ◌≡◌, ◌≢◌, ◌<◌, ◌≤◌, ◌⊎◌, true, slice_index_or, Option, None, Some}
+use Rattle.std.specs.Ordering.{nat_cmp}
+use Rattle.std.specs.FinMap as map
+use Rattle.std.specs.FinSet as set
+use Rattle.mlt_page.specs.Slots.{is_kept}
+use Rattle.mlt_page.specs.declared.page.Page.TheVariants as page
+use Rattle.mlt_page.specs.declared.slot.Slot.TheVariants.{Free}
+use Rattle.mlt_page.specs.Values.{BucketFields}
+use Rattle.mlt_held.specs.Moments.{Moment}
+use Rattle.mlt_held.specs.Views.{ReadsHeldBucket, View, WritesPage, view_of}
+use Rattle.mlt_record.specs.Plans.{WriteFields, planned_page}
+use Rattle.mlt_pair.specs.Pairs.{HoldsWays, IsFound, PairFields, later_page}
+use Rattle.mlt_pair.specs.Plans.{FitsFound, HasNoPlan, IsPlan}
+use Rattle.mlt_pair.specs.Ways.{HasRead, found_of, page_of}
+use Rattle.mlt_pair.specs.declared.asked.Changes.{Changes}
+use Rattle.mlt_pair.specs.declared.asked.RecordChange.{RecordChange}
+use Rattle.mlt_pair.specs.declared.answer.ChangeAnswer.{ChangeAnswer}
+use Rattle.mlt_pair.specs.declared.answer.ChangeAnswer.TheVariants as answer
+use Rattle.mlt_pair.specs.declared.answer.Side.TheVariants as side
+
+-- what is asked fits what was found of both keys
+abbrev pub FitsBoth : Changes → PairFields → Type 0
+FitsBoth changes pair = FitsFound changes.left (found_of pair.left_way) × FitsFound changes.right (found_of pair.right_way)
+
+-- a view that is not changed
+pub record IsSameView (old new : View) : Type 0 where
+  pub modes : new.modes ≡ old.modes
+  pub seen : (q : ℕ) → new.seen q ≡ old.seen q
+  pub own : (q : ℕ) → new.own q ≡ old.own q
+
+-- transaction tx has changed the record of a key in the bucket on page q: the slot that is planned is set
+pub record MakesChange (change : RecordChange) (opens : set.FinSet nat_cmp) (tx key q : ℕ) (old new : View) : Type 0 where
+  pub bucket : BucketFields
+  pub reads : ReadsHeldBucket old q bucket
+  pub write : WriteFields
+  pub plan : IsPlan change opens tx key q bucket write
+  pub writes : WritesPage old new q (planned_page bucket write)
+
+-- it has made the change that is asked for, if there is one
+abbrev pub MakesAsked : Option RecordChange → set.FinSet nat_cmp → ℕ → ℕ → ℕ → View → View → Type 0
+MakesAsked None opens tx key q old new = IsSameView old new
+MakesAsked (Some change) opens tx key q old new = MakesChange change opens tx key q old new
+
+-- The change of a key's record in the bucket on page q is planned, and still to be written.
+pub record OwesChange (asked : Option RecordChange) (opens : set.FinSet nat_cmp) (tx key q : ℕ) (view : View) (owed : Option WriteFields) : Type 0 where
+  pub change : RecordChange
+  pub asked_is : asked ≡ Some change
+  pub bucket : BucketFields
+  pub reads : ReadsHeldBucket view q bucket
+  pub write : WriteFields
+  pub owed_is : owed ≡ Some write
+  pub plan : IsPlan change opens tx key q bucket write
+
+-- the bucket on page q has no room for the record that is asked for
+pub record IsFull (asked : Option RecordChange) (opens : set.FinSet nat_cmp) (tx key q : ℕ) (view : View) : Type 0 where
+  pub change : RecordChange
+  pub asked_is : asked ≡ Some change
+  pub bucket : BucketFields
+  pub reads : ReadsHeldBucket view q bucket
+  pub none : HasNoPlan change opens tx key bucket
+
+-- Both changes that are asked for are made: in one bucket the left one first, and then the right one. Of two buckets only the
+-- later one is changed.
+pub record MakesBoth (opens : set.FinSet nat_cmp) (tx : ℕ) (old new : View) (pair : PairFields) (left_page right_page : ℕ) (changes : Changes) : Type 0 where
+  pub mid : View
+  pub left : MakesAsked changes.left opens tx pair.left left_page old mid
+  pub right : MakesAsked changes.right opens tx pair.right right_page mid new
+  pub no_left : left_page < right_page → changes.left ≡ None
+  pub no_right : right_page < left_page → changes.right ≡ None
+
+-- The change of the later bucket is made, if one is asked for, and that of the earlier one is owed.
+pub record LeavesLeft (opens : set.FinSet nat_cmp) (tx : ℕ) (old new : View) (before after : PairFields) (left_page right_page : ℕ) (changes : Changes) : Type 0 where
+  pub earlier : left_page < right_page
+  pub right : MakesAsked changes.right opens tx before.right right_page old new
+  pub owes : OwesChange changes.left opens tx before.left left_page old after.owed
+
+pub record LeavesRight (opens : set.FinSet nat_cmp) (tx : ℕ) (old new : View) (before after : PairFields) (left_page right_page : ℕ) (changes : Changes) : Type 0 where
+  pub earlier : right_page < left_page
+  pub left : MakesAsked changes.left opens tx before.left left_page old new
+  pub owes : OwesChange changes.right opens tx before.right right_page old after.owed
+
+-- the right key's bucket has no room for its record, once the left one's change is in it
+pub record IsFullBehind (opens : set.FinSet nat_cmp) (tx : ℕ) (old : View) (pair : PairFields) (left_page right_page : ℕ) (changes : Changes) : Type 0 where
+  pub mid : View
+  pub left : MakesAsked changes.left opens tx pair.left left_page old mid
+  pub right : IsFull changes.right opens tx pair.right right_page mid
+
+-- Changed: all is written. OneLeft: but for the change of the earlier bucket. Full: this key's bucket has no room for its
+-- record, and nothing has changed.
+abbrev pub TellsOfTwo : set.FinSet nat_cmp → Moment → Moment → PairFields → PairFields → ℕ → ℕ → Changes → ChangeAnswer → Type 0
+TellsOfTwo opens old new before after left_page right_page changes answer.Changed = MakesBoth opens old.running.tx (view_of old) (view_of new) before left_page right_page changes × (after ≡ before)
+TellsOfTwo opens old new before after left_page right_page changes answer.OneLeft =
+    (LeavesLeft opens old.running.tx (view_of old) (view_of new) before after left_page right_page changes
+    ⊎ LeavesRight opens old.running.tx (view_of old) (view_of new) before after left_page right_page changes)
+    × (after ≡ record before { owed = after.owed })
+TellsOfTwo opens old new before after left_page right_page changes (answer.Full side.Left) = IsFull changes.left opens old.running.tx before.left left_page (view_of old) × (new ≡ old) × (after ≡ before)
+TellsOfTwo opens old new before after left_page right_page changes (answer.Full side.Right) = IsFullBehind opens old.running.tx (view_of old) before left_page right_page changes × (new ≡ old) × (after ≡ before)
+
+-- by the pages of the pair's buckets
+abbrev pub TellsOfChanges : set.FinSet nat_cmp → Moment → Moment → PairFields → PairFields → Changes → ChangeAnswer → Type 0
+TellsOfChanges opens old new before after changes told = TellsOfTwo opens old new before after (page_of before.left_way) (page_of before.right_way) changes told
+
+-- what a pair has read and holds, whatever it has written
+pub record IsHolding (bits : ℕ → ℕ) (root : ℕ) (pair : PairFields) (view : View) : Type 0 where
+  pub left : HasRead bits root pair.left view pair.left_way
+  pub right : HasRead bits root pair.right view pair.right_way
+  pub holds : HoldsWays root pair.left_way pair.right_way view
+  pub few : map.len view.modes ≤ 5
+
+-- one of the pair's keys, with the page of its bucket
+abbrev pub IsSide : PairFields → ℕ → ℕ → Type 0
+IsSide pair key q = ((key ≡ pair.left) × (q ≡ page_of pair.left_way)) ⊎ ((key ≡ pair.right) × (q ≡ page_of pair.right_way))
+
+-- The write that is owed is the change of a key's record, planned when `planners` were open: no slot's room is kept now that
+-- was not then. Its bucket is the earlier one, and is as it was read.
+pub record Owes (opens : set.FinSet nat_cmp) (tx : ℕ) (pair : PairFields) (view : View) (write : WriteFields) : Type 0 where
+  pub key : ℕ
+  pub change : RecordChange
+  pub planners : set.FinSet nat_cmp
+  pub bucket : BucketFields
+  pub side : IsSide pair key write.number
+  pub earlier : write.number ≢ later_page pair
+  pub seen : view.seen write.number ≡ Some (Some (page.Bucket bucket))
+  pub plan : IsPlan change planners tx key write.number bucket write
+  pub fewer : (i : ℕ) → is_kept opens (slice_index_or bucket.slots i Free) ≡ true → is_kept planners (slice_index_or bucket.slots i Free) ≡ true
+
+abbrev pub OwesIf : Option WriteFields → set.FinSet nat_cmp → ℕ → PairFields → View → Type 0
+OwesIf None opens tx pair view = Unit {0}
+OwesIf (Some write) opens tx pair view = Owes opens tx pair view write
+
+-- A pair has changed its later bucket at most, and may owe the change of the earlier one.
+pub record HasChanged (bits : ℕ → ℕ) (root : ℕ) (opens : set.FinSet nat_cmp) (tx : ℕ) (pair : PairFields) (view : View) : Type 0 where
+  pub found : IsFound pair
+  pub holding : IsHolding bits root pair view
+  pub unwritten : (q : ℕ) → q ≢ later_page pair → view.own q ≡ None
+  pub owes : OwesIf pair.owed opens tx pair view
+
+-- where a pair stands that has made its changes
+abbrev pub StandsBehind : ChangeAnswer → (ℕ → ℕ) → ℕ → set.FinSet nat_cmp → ℕ → PairFields → View → Type 0
+StandsBehind answer.Changed bits root opens tx pair view = HasChanged bits root opens tx pair view
+StandsBehind answer.OneLeft bits root opens tx pair view = HasChanged bits root opens tx pair view
+StandsBehind (answer.Full side) bits root opens tx pair view = Unit {0}
+
+-- What the last step of a pair asks: it has changed its later bucket at most, and owes the change of the earlier one.
+abbrev pub MayWriteEarlier : ℕ → PairFields → View → Type 0
+MayWriteEarlier tx pair view = (bits : ℕ → ℕ) × (root : ℕ) × (opens : set.FinSet nat_cmp) × HasChanged bits root opens tx pair view
+
+-- the change that was owed is made
+abbrev pub MakesOwed : ℕ → PairFields → View → View → Type 0
+MakesOwed tx pair old new = (opens : set.FinSet nat_cmp) (write : WriteFields) → pair.owed ≡ Some write
+    → (owes : Owes opens tx pair old write) → MakesChange owes.change owes.planners tx owes.key write.number old new
+
+-- what was read and held is so still
+abbrev pub HoldsOn : PairFields → View → View → Type 0
+HoldsOn pair old new = (bits : ℕ → ℕ) (root : ℕ) → IsHolding bits root pair old → IsHolding bits root (record pair { owed = None }) new
+
+-- on the buckets that are held no slot's room is kept now that was not before
+abbrev pub KeepsNoMore : set.FinSet nat_cmp → set.FinSet nat_cmp → View → Type 0
+KeepsNoMore before now view = (q : ℕ) (bucket : BucketFields) → view.seen q ≡ Some (Some (page.Bucket bucket))
+    → (i : ℕ) → is_kept now (slice_index_or bucket.slots i Free) ≡ true → is_kept before (slice_index_or bucket.slots i Free) ≡ true
+
+-- of the pages that are held only the two buckets are written
+abbrev pub WritesBucketsAlone : PairFields → View → Type 0
+WritesBucketsAlone pair view = (q : ℕ) → q ≢ page_of pair.left_way → q ≢ page_of pair.right_way → view.own q ≡ None

@@ -1,0 +1,7 @@
+pub mod Changes
+pub mod Pairs
+pub mod Plans
+pub mod Reading
+pub mod Steps
+pub mod Ways
+pub mod Writing
