@@ -13,7 +13,7 @@ use Rattle.mlt_kinds.specs.declared.operation.ObjOp.TheVariants as op
 use Rattle.mlt_kinds.specs.declared.operation.ObjReply.{ObjReply}
 use Rattle.mlt_kinds.specs.declared.operation.ObjReply.TheVariants.{Opened, Done}
 use Rattle.mlt_order.specs.Histories.{lists_of}
-use Rattle.mlt_order.specs.Runs.{IsSerialBase}
+use Rattle.mlt_order.specs.Runs.{IsSerialBase, Runs}
 use Rattle.mlt_history.specs.Entries.{entries_of}
 use Rattle.mlt_trace.specs.declared.item.TraceItem.{TraceItem}
 use Rattle.mlt_trace.specs.declared.item.TraceItem.TheVariants as trace
@@ -39,6 +39,18 @@ deposited : (base next : Base) (reply : ObjReply) → account_at base 1 ≡ Some
 deposited base next reply is step =
     sym (account_one_answer (Some 0) (Deposit 5) Done reply (Some 5) (account_at next 1) ((omega arith, omega arith), refl) (subst (λ s. AccountStep s (Deposit 5) reply (account_at next 1)) is step.0)).1
 
+-- **Done one after the other, they leave 5 in an account that was not there, and nothing else changes.**
+pub leaves_five : (before after : Base) (r q : ObjReply) → Runs Step before (opens r ∷ deposits q ∷ []) after → (account_at before 1 ≡ None → account_at after 1 ≡ Some 5) × SameBut before after (cell.Account 1 ∷ [])
+leaves_five before after r q runs =
+    let middle = runs.0 in
+    let opening : Step before (opens r) middle = runs.1 in
+    let depositing : Step middle (deposits q) after = subst (Step middle (deposits q)) runs.2.2 runs.2.1 in
+    (λ none. deposited middle after q (opened before middle r none opening) depositing, λ other ne. depositing.1 other ne ∙ opening.1 other ne)
+
+-- one more item
+pub one_more : (old new : List TraceItem) (items : List TraceItem) (item : TraceItem) → new ≡ old ++ item ∷ [] → old ≡ items → new ≡ items ++ item ∷ []
+one_more old new items item adds is = adds ∙ ap (λ (l : List TraceItem). l ++ item ∷ []) is
+
 -- all that the history has
 abbrev pub all_of : ℕ → ℕ → ObjOp × ObjReply → ObjOp × ObjReply → List TraceItem
 all_of tx number x y = trace.Begin tx ∷ trace.Op tx x ∷ trace.Op tx y ∷ trace.Commit tx number ∷ []
@@ -46,19 +58,11 @@ all_of tx number x y = trace.Begin tx ∷ trace.Op tx x ∷ trace.Op tx y ∷ tr
 all_committed : (tx number : ℕ) (x y : ObjOp × ObjReply) → committed_by (all_of tx number x y) ≡ (x ∷ y ∷ []) ∷ []
 all_committed tx number x y = rw (eq-eqb tx tx refl) refl
 
--- one more item
-pub one_more : (old new : List TraceItem) (items : List TraceItem) (item : TraceItem) → new ≡ old ++ item ∷ [] → old ≡ items → new ≡ items ++ item ∷ []
-one_more old new items item adds is = adds ∙ ap (λ (l : List TraceItem). l ++ item ∷ []) is
-
--- **The base has the account with 5, and nothing else.**
+-- **The base of a manager that did this alone.**
 pub has_five : {P : Type 0} (m : ManagerFields P) (tx number : ℕ) (r q : ObjReply) (base : Base) → m.commons.history.items ≡ all_of tx number (opens r) (deposits q) → IsCommittedBaseOf m base
     → (account_at base 1 ≡ Some 5) × SameBut empty_base base (cell.Account 1 ∷ [])
 has_five m tx number r q base items committed =
     let told : (lists_by m).committed ≡ (opens r ∷ deposits q ∷ []) ∷ [] = ap committed_by items ∙ all_committed tx number (opens r) (deposits q) in
     let serial : IsSerialBase Step empty_base ((opens r ∷ deposits q ∷ []) ∷ []) base = subst (λ transcripts. IsSerialBase Step empty_base transcripts base) told committed.serial in
-    let runs = serial.1 in
-    let middle = runs.0 in
-    let opening : Step empty_base (opens r) middle = runs.1 in
-    let depositing : Step middle (deposits q) base = subst (Step middle (deposits q)) (runs.2.2 ∙ serial.2) runs.2.1 in
-    let at_zero : account_at middle 1 ≡ Some 0 = opened empty_base middle r (map.get-empty {X = ℕ} nat_cmp 1) opening in
-    (deposited middle base q at_zero depositing, λ other ne. depositing.1 other ne ∙ opening.1 other ne)
+    let five = leaves_five empty_base base r q (subst (Runs Step empty_base (opens r ∷ deposits q ∷ [])) serial.2 serial.1) in
+    (five.0 (map.get-empty {X = ℕ} nat_cmp 1), five.1)
