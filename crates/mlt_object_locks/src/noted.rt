@@ -8,27 +8,25 @@ ghost use Rattle.mlt_object_locks.specs.Noted.{noted_of, SameNoted};
 
 use indexmap::IndexMap;
 use mlt_types::{Refusal, TxId};
-use smallvec::SmallVec;
 use std::alloc::Global;
 use std::marker::Model;
 
 /// Cells, by the numbers of their keys. A contract sees their list, and for how many more there is room.
-/// A few take no memory of their own.
-#[derive(Drop)]
+#[derive(Debug, Drop)]
 pub(crate) struct CellKeys {
-    keys: SmallVec<u64, 8>,
+    keys: Vec<u64>,
 }
 
 impl Model for CellKeys {
     ghost use Rattle.std.specs.Prelude.{◌-◌};
-    ghost use Rattle.smallvec.specs.SmallVec.{small_vec_len};
+    ghost use Rattle.std.specs.Vec.{vec_capacity, vec_len};
     ghost use Rattle.mlt_object_locks.specs.Noted.{KeysWithRoom};
 
     ghost Value = { KeysWithRoom };
 
     ghost view = { λ cells. record {
       keys = cells.keys.items;
-      room = cells.keys.capacity - small_vec_len cells.keys;
+      room = vec_capacity cells.keys - vec_len cells.keys;
     } };
 }
 
@@ -38,7 +36,7 @@ impl CellKeys {
         ensures { result.keys ≡ [] }
     {
         CellKeys {
-            keys: SmallVec::new(alloc),
+            keys: Vec::new(alloc),
         }
     }
 
