@@ -1,11 +1,11 @@
-pub mod Entries
-pub mod Lowest
 pub mod Membership
-pub mod Filled
-pub mod Released
+pub mod Bits
+pub mod ClassLaws
+pub mod Lowest
+pub mod Holding
+pub mod Entries
 pub mod Notes
-pub mod Order
-pub mod HeldCells
 pub mod Changes
+pub mod Released
 pub mod Sound
 pub mod Clashing

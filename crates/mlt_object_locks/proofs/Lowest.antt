@@ -1,20 +1,11 @@
--- The lowest number of another transaction that stands in the way, with one more operation held.
-use Rattle.std.proofs.Common.{◌≡◌, ◌≢◌, ◌⊎◌, ℕ, ◌≤◌, List, [], ◌∷◌, ◌++◌, Option, None, Some, true, false, IsTrue, Contains, nat_eq, not, ap, sym, subst, ◌∙◌, arith, inl, inr}
+-- The lowest number of another transaction that stands in the way, with one more holder.
+use Rattle.std.proofs.Common.{◌≡◌, ◌⊎◌, ℕ, ◌+◌, ◌≤◌, ◌<◌, List, [], ◌∷◌, ◌++◌, Option, None, Some, Contains, length, get_or, take, ap, sym, subst, ◌∙◌, arith, inl, inr}
+use Rattle.std.proofs.lemmas.List.{take_more}
 use Rattle.std.proofs.lemmas.List.Elements.{Contains-append_left, Contains-push, Contains-push_cases}
-use Rattle.mlt_kinds.specs.declared.operation.ObjOp.{ObjOp}
-use Rattle.mlt_kinds.specs.declared.operation.ObjReply.{ObjReply}
-use Rattle.mlt_commute.specs.Clashes.{clashes}
-use Rattle.mlt_object_locks.specs.Locks.{Held, HoldsClash, IsLowestClash, IsLowestIfAny, lower_of}
-
-pub differ : (a b : ℕ) → true ≡ not (nat_eq a b) → a ≢ b
-differ a b h e = first_of (grind arith, cc)
-
-pub agree : (a b : ℕ) → false ≡ not (nat_eq a b) → a ≡ b
-agree a b h = first_of (grind arith, cc)
-
--- the entry is of another transaction, and stands in the way
-abbrev pub StandsIn : Held → ℕ → ObjOp × ObjReply → Type 0
-StandsIn entry tx requested = (entry.0 ≢ tx) × IsTrue (clashes entry.1 requested)
+use Rattle.mlt_object_locks.specs.declared.holders.Holder.{Holder}
+use Rattle.mlt_object_locks.specs.Locks.{lower_of}
+use Rattle.mlt_object_locks.specs.Classes.{Meets}
+use Rattle.mlt_object_locks.specs.Holders.{IsInTheWay, IsLowestInTheWay, StandsIn, holder_of}
 
 lower_left : (low n : ℕ) → lower_of (Some low) n ≤ low
 lower_left low n = grind arith
@@ -25,51 +16,66 @@ lower_right low n = grind arith
 lower_either : (low n : ℕ) → (lower_of (Some low) n ≡ low) ⊎ (lower_of (Some low) n ≡ n)
 lower_either low n = grind arith
 
-module _ (held : List Held) (entry : Held) (tx : ℕ) (requested : ObjOp × ObjReply) where
+module _ (holders : List Holder) (holder : Holder) (tx against : ℕ) where
   abbrev Before : ℕ → Type 0
-  Before holder = HoldsClash held tx requested holder
+  Before n = IsInTheWay holders tx against n
 
   abbrev After : ℕ → Type 0
-  After holder = HoldsClash (held ++ entry ∷ []) tx requested holder
+  After n = IsInTheWay (holders ++ holder ∷ []) tx against n
 
-  still_holds : (holder : ℕ) → Before holder → After holder
-  still_holds holder h = (h.0, (h.1.0, Contains-append_left held (entry ∷ []) (holder, h.1.0) h.1.1, h.1.2))
+  abbrev Own : ℕ → Type 0
+  Own n = (holder.tx ≡ n) × StandsIn holder tx against
 
-  of_cases : (holder : ℕ) (h : After holder) → Contains held (holder, h.1.0) ⊎ (entry ≡ (holder, h.1.0)) → Before holder ⊎ ((entry.0 ≡ holder) × StandsIn entry tx requested)
-  of_cases holder h (inl c) = inl (h.0, (h.1.0, c, h.1.2))
-  of_cases holder h (inr e) =
-      inr (ap (λ p. p.0) e, ((λ k. h.0 (sym (ap (λ p. p.0) e) ∙ k)), subst (λ p. IsTrue (clashes p requested)) (sym (ap (λ p. p.1) e)) h.1.2))
+  still_stands : (n : ℕ) → Before n → After n
+  still_stands n h = (h.0, (h.1.0, Contains-append_left holders (holder ∷ []) (holder_of n h.1.0) h.1.1, h.1.2))
 
-  -- who stands in the way did before, or holds the entry
-  held_or_entry : (holder : ℕ) → After holder → Before holder ⊎ ((entry.0 ≡ holder) × StandsIn entry tx requested)
-  held_or_entry holder h = of_cases holder h (Contains-push_cases held entry (holder, h.1.0) h.1.1)
+  by_cases : (n : ℕ) (h : After n) → Contains holders (holder_of n h.1.0) ⊎ (holder ≡ holder_of n h.1.0) → Before n ⊎ Own n
+  by_cases n h (inl c) = inl (h.0, (h.1.0, c, h.1.2))
+  by_cases n h (inr e) =
+      let number : holder.tx ≡ n = ap (λ (x : Holder). x.tx) e in
+      inr (number, ((λ k. h.0 (sym number ∙ k)), subst (λ (x : Holder). Meets x.classes against) (sym e) h.1.2))
 
-  entry_holds : StandsIn entry tx requested → After entry.0
-  entry_holds s = (s.0, (entry.1, Contains-push held entry, s.1))
+  -- who stands in the way did before, or is the one more
+  old_or_own : (n : ℕ) → After n → Before n ⊎ Own n
+  old_or_own n h = by_cases n h (Contains-push_cases holders holder (holder_of n h.1.0) h.1.1)
 
-  first_of_all : ((other : ℕ) → Before other → ⊥) → (other : ℕ) → Before other ⊎ ((entry.0 ≡ other) × StandsIn entry tx requested) → entry.0 ≤ other
-  first_of_all h other (inl k) = absurd (h other k)
-  first_of_all h other (inr k) = let e = k.0 in omega arith
+  own_stands : StandsIn holder tx against → After holder.tx
+  own_stands s = (s.0, (holder.classes, Contains-push holders holder, s.1))
 
-  below_all : (low : ℕ) → ((other : ℕ) → Before other → low ≤ other) → (other : ℕ) → Before other ⊎ ((entry.0 ≡ other) × StandsIn entry tx requested) → lower_of (Some low) entry.0 ≤ other
-  below_all low h other (inl k) = let a = h other k in let b = lower_left low entry.0 in omega arith
-  below_all low h other (inr k) = let e = k.0 in let b = lower_right low entry.0 in omega arith
+  first_of_all : ((n : ℕ) → Before n → ⊥) → (n : ℕ) → Before n ⊎ Own n → holder.tx ≤ n
+  first_of_all h n (inl k) = absurd (h n k)
+  first_of_all h n (inr k) = let e = k.0 in omega arith
 
-  lower_holds : (low : ℕ) → After low → After entry.0 → (lower_of (Some low) entry.0 ≡ low) ⊎ (lower_of (Some low) entry.0 ≡ entry.0) → After (lower_of (Some low) entry.0)
-  lower_holds low h k (inl e) = subst After (sym e) h
-  lower_holds low h k (inr e) = subst After (sym e) k
+  below_all : (low : ℕ) → ((n : ℕ) → Before n → low ≤ n) → (n : ℕ) → Before n ⊎ Own n → lower_of (Some low) holder.tx ≤ n
+  below_all low h n (inl k) = let a = h n k in let b = lower_left low holder.tx in omega arith
+  below_all low h n (inr k) = let e = k.0 in let b = lower_right low holder.tx in omega arith
 
-  -- an entry that stands in the way: the lower of the two
-  pub lowest_with : (lowest : Option ℕ) → IsLowestIfAny held tx requested lowest → StandsIn entry tx requested → IsLowestClash (held ++ entry ∷ []) tx requested (lower_of lowest entry.0)
-  lowest_with None h s = (entry_holds s, λ other k. first_of_all h other (held_or_entry other k))
+  lower_stands : (low : ℕ) → After low → After holder.tx → (lower_of (Some low) holder.tx ≡ low) ⊎ (lower_of (Some low) holder.tx ≡ holder.tx) → After (lower_of (Some low) holder.tx)
+  lower_stands low h k (inl e) = subst After (sym e) h
+  lower_stands low h k (inr e) = subst After (sym e) k
+
+  -- one that stands in the way: the lower of the two
+  lowest_with : (lowest : Option ℕ) → IsLowestInTheWay holders tx against lowest → StandsIn holder tx against → IsLowestInTheWay (holders ++ holder ∷ []) tx against (Some (lower_of lowest holder.tx))
+  lowest_with None h s = (own_stands s, λ n k. first_of_all h n (old_or_own n k))
   lowest_with (Some low) h s =
-      (lower_holds low (still_holds low h.0) (entry_holds s) (lower_either low entry.0), λ other k. below_all low h.1 other (held_or_entry other k))
+      (lower_stands low (still_stands low h.0) (own_stands s) (lower_either low holder.tx), λ n k. below_all low h.1 n (old_or_own n k))
 
-  not_entry : (StandsIn entry tx requested → ⊥) → (other : ℕ) → Before other ⊎ ((entry.0 ≡ other) × StandsIn entry tx requested) → Before other
-  not_entry s other (inl k) = k
-  not_entry s other (inr k) = absurd (s k.1)
+  not_own : (StandsIn holder tx against → ⊥) → (n : ℕ) → Before n ⊎ Own n → Before n
+  not_own s n (inl k) = k
+  not_own s n (inr k) = absurd (s k.1)
 
-  -- an entry that does not: as before
-  pub lowest_without : (lowest : Option ℕ) → IsLowestIfAny held tx requested lowest → (StandsIn entry tx requested → ⊥) → IsLowestIfAny (held ++ entry ∷ []) tx requested lowest
-  lowest_without None h s = λ other k. h other (not_entry s other (held_or_entry other k))
-  lowest_without (Some low) h s = (still_holds low h.0, λ other k. h.1 other (not_entry s other (held_or_entry other k)))
+  -- one that does not: as before
+  lowest_without : (lowest : Option ℕ) → IsLowestInTheWay holders tx against lowest → (StandsIn holder tx against → ⊥) → IsLowestInTheWay (holders ++ holder ∷ []) tx against lowest
+  lowest_without None h s = λ n k. h n (not_own s n (old_or_own n k))
+  lowest_without (Some low) h s = (still_stands low h.0, λ n k. h.1 n (not_own s n (old_or_own n k)))
+
+one_more : (holders : List Holder) (i : ℕ) (holder : Holder) → i < length holders → get_or holders i holder ≡ holder → take (i + 1) holders ≡ take i holders ++ holder ∷ []
+one_more holders i holder within is = take_more holders i holder within ∙ ap (λ x. take i holders ++ x ∷ []) is
+
+-- the same of the front of a list, with its next holder
+module _ (holders : List Holder) (i : ℕ) (holder : Holder) (tx against : ℕ) (lowest : Option ℕ) (within : i < length holders) (is : get_or holders i holder ≡ holder) (so_far : IsLowestInTheWay (take i holders) tx against lowest) where
+  pub front_with : StandsIn holder tx against → IsLowestInTheWay (take (i + 1) holders) tx against (Some (lower_of lowest holder.tx))
+  front_with s = subst (λ l. IsLowestInTheWay l tx against (Some (lower_of lowest holder.tx))) (sym (one_more holders i holder within is)) (lowest_with (take i holders) holder tx against lowest so_far s)
+
+  pub front_without : (StandsIn holder tx against → ⊥) → IsLowestInTheWay (take (i + 1) holders) tx against lowest
+  front_without s = subst (λ l. IsLowestInTheWay l tx against lowest) (sym (one_more holders i holder within is)) (lowest_without (take i holders) holder tx against lowest so_far s)

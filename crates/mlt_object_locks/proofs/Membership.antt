@@ -1,7 +1,10 @@
 -- What a list contains: one more in front, a filter, and a place that is set.
-use Rattle.std.proofs.Common.{◌≡◌, ◌≢◌, ◌⊎◌, ℕ, ◌<◌, List, [], ◌∷◌, Bool, true, false, cond, Contains, length, get_or, set, length-set, sym, ap, subst, ◌∙◌, refl, true≢false, inl, inr, arith}
-use Rattle.std.specs.List.{filter}
+use Prim.Native.Nat.{zero}
+use Rattle.std.proofs.Common.{◌≡◌, ◌≢◌, ◌⊎◌, ℕ, suc, ◌<◌, List, [], ◌∷◌, Bool, true, false, cond, ◌&&◌, ◌||◌, Some, None, Contains, length, get_or, set, length-set, sym, ap, subst, ◌∙◌, refl, true≢false, inl, inr, arith}
+use Rattle.std.specs.List.{filter, list_all, list_any, position, position_or_len}
+use Rattle.std.specs.List.Retain.{RetainsInTurn}
 use Rattle.std.proofs.lemmas.Bool.{cases_eq}
+use Rattle.std.proofs.lemmas.Bool.Decides.{nat_tests}
 use Rattle.std.proofs.lemmas.List.{get_or-set_same, get_or-set_other, get_or_default}
 use Rattle.std.proofs.lemmas.List.Elements.{Contains-append_cases, Contains-append_right, Contains-append_left, Contains-push, Contains-push_cases, Contains-get_or}
 
@@ -83,3 +86,54 @@ module _ {X : Type 0} where
         by (inr other) =
             let lt : h.0 < length (set xs i v) = let k = h.1 in omega (arith, length-set {A = X}) in
             (h.0, lt, get_or-set_other xs i h.0 v y other ∙ h.2)
+
+-- where the first that passes a test stands, there is one
+found_within : {X : Type 0} (p : X → Bool) (xs : List X) (k : ℕ) (d : X) → k < length xs → p (get_or xs k d) ≡ true → position_or_len p xs < length xs
+found_within p [] k d h passes = absurd (omega arith)
+found_within p (x ∷ xs) zero d h passes = grind arith
+found_within p (x ∷ xs) (suc k) d h passes = let rest = found_within p xs k d (omega arith) passes in grind arith
+
+-- where one passes a test, the first is found
+pub some_found : {X : Type 0} (p : X → Bool) (xs : List X) (x : X) → Contains xs x → p x ≡ true → position p xs ≡ None → ⊥
+some_found p xs x h passes none =
+    let within = found_within p xs h.0 x h.1 (ap p h.2 ∙ passes) in
+    let e : position p xs ≡ Some (position_or_len p xs) = grind (arith, nat_tests) in
+    absurd (cc)
+
+-- where some passes a test, one can be named
+pub named : {X : Type 0} (p : X → Bool) (xs : List X) → list_any p xs ≡ true → (x : X) × Contains xs x × (p x ≡ true)
+named p [] h = absurd (true≢false (sym h))
+named p (x ∷ xs) h = by (p x) refl (λ k. named p xs k) h
+  where
+    by : (b : Bool) → p x ≡ b → (list_any p xs ≡ true → (y : _) × Contains xs y × (p y ≡ true)) → (b || list_any p xs) ≡ true → (y : _) × Contains (x ∷ xs) y × (p y ≡ true)
+    by true is rest h = (x, contains_first x xs, is)
+    by false is rest h = let r = rest h in (r.0, contains_later x xs r.0 r.1, r.2)
+
+-- where all pass a test, each does
+pub each_passes : {X : Type 0} (p : X → Bool) (xs : List X) → list_all p xs ≡ true → (x : X) → Contains xs x → p x ≡ true
+each_passes p [] h x c = absurd (none_in_empty x c)
+each_passes p (y ∷ xs) h x c = by (λ k later. each_passes p xs k x later) (p y) refl h (contains_cases y xs x c)
+  where
+    by : (list_all p xs ≡ true → Contains xs x → p x ≡ true) → (b : Bool) → p y ≡ b → (b && list_all p xs) ≡ true → (y ≡ x) ⊎ Contains xs x → p x ≡ true
+    by rest true is h (inl e) = ap p (sym e) ∙ is
+    by rest true is h (inr later) = rest h later
+    by rest false is h c = absurd (true≢false (sym h))
+
+-- where none passes a test, no one does
+pub none_passes : {X : Type 0} (p : X → Bool) (xs : List X) → list_any p xs ≡ false → (x : X) → Contains xs x → p x ≡ true → ⊥
+none_passes p [] h x c passes = none_in_empty x c
+none_passes p (y ∷ xs) h x c passes = by (λ k later. none_passes p xs k x later passes) (p y) refl h (contains_cases y xs x c)
+  where
+    by : (list_any p xs ≡ false → Contains xs x → ⊥) → (b : Bool) → p y ≡ b → (b || list_any p xs) ≡ false → (y ≡ x) ⊎ Contains xs x → ⊥
+    by rest true is h c = true≢false h
+    by rest false is h (inl e) = true≢false (sym passes ∙ ap p (sym e) ∙ is)
+    by rest false is h (inr later) = rest h later
+
+-- where no call of `retain` changes the closure or the element, what passes the test is left
+pub filter-from_retain : {X F : Type 0} (R : F → X → Bool → F → X → Type 0) (test : X → Bool) (f : F) → ((x : X) (b : Bool) (g : F) (y : X) → R f x b g y → (b ≡ test x) × (g ≡ f) × (y ≡ x)) → (xs ys : List X) → RetainsInTurn R f xs ys → ys ≡ filter test xs
+filter-from_retain R test f says [] ys h = h
+filter-from_retain R test f says (x ∷ xs) ys h =
+    let said = says x h.0 h.1 h.2 h.3 in
+    let later = subst (λ g. RetainsInTurn R g xs h.4) said.1 h.5 in
+    let rest = filter-from_retain R test f says xs h.4 later in
+    h.6 ∙ (λ i. cond (said.0 i) (said.2 i ∷ rest i) (rest i))

@@ -1,35 +1,12 @@
 -- The cells that are noted of each transaction.
-use Rattle.std.proofs.Common.{◌≡◌, ◌≢◌, ◌⊎◌, ℕ, ◌+◌, ◌≤◌, ◌<◌, List, [], ◌∷◌, ◌++◌, Bool, true, false, cond, not, ◌||◌, ◌&&◌, nat_eq, Option, None, Some, is_some, Contains, length, length-append, sym, ap, subst, refl, ◌∙◌, true≢false, inl, inr, arith}
-use Rattle.std.specs.List.{list_any, filter}
+use Rattle.std.proofs.Common.{◌≡◌, ◌≢◌, ◌⊎◌, ℕ, ◌+◌, ◌≤◌, ◌<◌, List, [], ◌∷◌, ◌++◌, Bool, true, false, cond, not, nat_eq, Contains, length, length-append, sym, ap, subst, refl, ◌∙◌, true≢false, inl, inr, arith}
+use Rattle.std.specs.List.{filter}
 use Rattle.std.proofs.lemmas.Bool.{cases_eq}
 use Rattle.std.proofs.lemmas.Bool.Decides.{nat_tests}
 use Rattle.std.proofs.lemmas.List.Elements.{Contains-push, Contains-append_left}
 use Rattle.indexmap.specs.IndexMap.{IndexMap}
-use Rattle.mlt_types.specs.declared.cell.Cell.{Cell}
-use Rattle.mlt_object_locks.specs.declared.places.Grant.{Grant}
-use Rattle.mlt_object_locks.specs.declared.places.Place.{Place}
 use Rattle.mlt_object_locks.specs.Locks.{Held, is_of_other}
 use Rattle.mlt_object_locks.specs.Noted.{KeepsNoted, KeysWithRoom, NotesAtMost, SameNoted, held_count, is_held_by, noted_of}
-use Rattle.mlt_object_locks.specs.Places.{open_place, held_place, is_held_of}
-use Rattle.mlt_object_locks.specs.Cells.{AreNoted, list_at, reserved_key}
-use Rattle.mlt_object_locks.proofs.Membership.{contains_first, contains_later}
-
-held_here : (tx : ℕ) (place : Place) (grant : Grant) → place.tx ≡ tx → place.grant ≡ Some grant → place ≡ held_place tx grant
-held_here tx place grant t g = λ i. record { tx = t i; grant = g i }
-
-named_by : (tx : ℕ) (place : Place) (places : List Place) (b : Bool) (g : Option Grant) → nat_eq place.tx tx ≡ b → place.grant ≡ g
-    → (list_any (is_held_of tx) places ≡ true → (grant : Grant) × Contains places (held_place tx grant)) → ((b && is_some g) || list_any (is_held_of tx) places) ≡ true
-    → (grant : Grant) × Contains (place ∷ places) (held_place tx grant)
-named_by tx place places true (Some grant) is at rest h =
-    let same : place.tx ≡ tx = grind (arith, nat_tests) in
-    (grant, subst (λ p. Contains (place ∷ places) p) (held_here tx place grant same at) (contains_first place places))
-named_by tx place places true None is at rest h = let r = rest h in (r.0, contains_later place places (held_place tx r.0) r.1)
-named_by tx place places false g is at rest h = let r = rest h in (r.0, contains_later place places (held_place tx r.0) r.1)
-
--- where the transaction holds something, it can be named
-pub named : (tx : ℕ) (places : List Place) → list_any (is_held_of tx) places ≡ true → (grant : Grant) × Contains places (held_place tx grant)
-named tx [] h = absurd (true≢false (sym h))
-named tx (place ∷ places) h = named_by tx place places (nat_eq place.tx tx) place.grant refl refl (λ k. named tx places k) h
 
 -- a cell more is noted
 pub notes_one : (old : List ℕ) (new : List ℕ) (key : ℕ) → new ≡ old ++ key ∷ [] → NotesAtMost old new key
@@ -42,21 +19,6 @@ notes_one old new key is = record {
 -- or none is
 pub notes_none : (old : List ℕ) (key : ℕ) → Contains old key → NotesAtMost old old key
 notes_none old key there = record { there = there; keeps = λ k h. h; few = omega arith }
-
-module _ {S S' S'' : Type 0} (cells : IndexMap ℕ (List Place) S) (reserved : IndexMap ℕ Cell S') (noted : IndexMap ℕ KeysWithRoom S'') (are : AreNoted cells reserved noted) where
-  noted_by : (key : ℕ) (place : Place) (g : Option Grant) → place.grant ≡ g → Contains (list_at cells key) place
-      → (reserved_key reserved place.tx ≡ Some key) ⊎ Contains (noted_of noted place.tx).keys key
-  noted_by key place None at h =
-      let is : place ≡ open_place place.tx = λ i. record { tx = place.tx; grant = at i } in
-      are.opened key place.tx (subst (λ p. Contains (list_at cells key) p) is h)
-  noted_by key place (Some grant) at h =
-      let is : place ≡ held_place place.tx grant = λ i. record { tx = place.tx; grant = at i } in
-      inr (are.held key place.tx grant (subst (λ p. Contains (list_at cells key) p) is h))
-
-  -- each place is at a cell that is noted of its transaction or that the transaction reserved
-  pub place_noted : (key : ℕ) (place : Place) → Contains (list_at cells key) place
-      → (reserved_key reserved place.tx ≡ Some key) ⊎ Contains (noted_of noted place.tx).keys key
-  place_noted key place h = noted_by key place place.grant refl h
 
 -- ---- how many operations a transaction holds
 

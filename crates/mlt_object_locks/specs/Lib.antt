@@ -1,4 +1,6 @@
 pub mod Locks
+pub mod Held
+pub mod Classes
+pub mod Holders
 pub mod Noted
-pub mod Places
 pub mod Cells

@@ -6,8 +6,10 @@
 #![tactic(auto)]
 
 mod cells;
+mod classes;
+mod held;
+mod holders;
 mod locks;
 mod noted;
-mod places;
 
 pub use locks::ObjectLocks;

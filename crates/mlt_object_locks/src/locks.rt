@@ -1,19 +1,18 @@
 //! The table of object locks, by cells: a request looks at one cell, and a release at those of its transaction.
-//!
-//! Each grant has a number, by which the order of the grants over all cells can be told. Only contracts ask for it.
 
-ghost use Rattle.std.specs.Prelude.{◌≡◌, ◌≤◌, ℕ, [], ◌∷◌, ◌++◌, Some, None, nat_eq, OnOk, OnErr, IfErr};
+ghost use Rattle.std.specs.Prelude.{◌≡◌, ◌<◌, ◌^◌, ℕ, [], ◌∷◌, ◌++◌, Some, None, OnOk, OnErr, IfErr};
 ghost use Rattle.std.specs.List.{filter};
 ghost use Rattle.mlt_kinds.specs.Operations.{cell_of};
+ghost use Rattle.mlt_types.specs.Cells.{IsInRange, key_number};
+ghost use Rattle.mlt_types.specs.declared.cell.Cell.{Cell};
 ghost use Rattle.mlt_object_locks.specs.Cells.{reserved_key};
 ghost use Rattle.mlt_object_locks.specs.Locks.{no_locks, HoldsClash, IsLowestClash, is_of_other, reservation_of, SameReservations};
 
 use crate::cells::{
-    Cells, fill_place, give_up_earlier, give_up_place, lowest_clash, note_grant, prepare,
-    release_noted, release_reserved,
+    Cells, give_up_earlier, grant, join, lowest_clash, release_noted, release_reserved,
 };
+use crate::held::HeldList;
 use crate::noted::{Noted, make_room};
-use crate::places::Grant;
 use indexmap::IndexMap;
 use mlt_kinds::Done;
 use mlt_types::{Cell, Key, Refusal, TxId};
@@ -23,26 +22,24 @@ use std::marker::Model;
 /// The operations that transactions hold, and the cells that they reserved. A contract sees the list of
 /// the operations with their replies, each with the number of its transaction, in the order in which they
 /// were granted; and beside it the list of the reservations.
-#[derive(Debug, Drop)]
+#[derive(Drop)]
 pub struct ObjectLocks {
     cells: Cells,
     reserved: IndexMap<TxId, Cell>,
     noted: Noted,
-    next: u64,
+    held: HeldList,
 }
 
 impl Model for ObjectLocks {
     ghost use Rattle.mlt_object_locks.specs.Locks.{Locks};
-    ghost use Rattle.mlt_object_locks.specs.Cells.{granted_at, in_order, IsSound};
+    ghost use Rattle.mlt_object_locks.specs.Cells.{IsSound};
 
     ghost Value = { Locks };
 
-    ghost view = { λ locks. record {
-      held = in_order (granted_at locks.cells.entries) locks.next;
-      reserved = locks.reserved.entries;
-    } };
+    ghost view = { λ locks. record { held = locks.held; reserved = locks.reserved.entries } };
 
-    ghost invariant = { λ locks. IsSound locks.cells locks.reserved locks.noted locks.next };
+    ghost invariant = { λ locks.
+        IsSound locks.cells locks.reserved.entries locks.noted locks.held };
 }
 
 impl ObjectLocks {
@@ -54,7 +51,7 @@ impl ObjectLocks {
             cells: IndexMap::new(alloc),
             reserved: IndexMap::new(alloc),
             noted: IndexMap::new(alloc),
-            next: 0,
+            held: HeldList::new(),
         }
     }
 
@@ -62,8 +59,7 @@ impl ObjectLocks {
     /// there was one, is given up.
     ///
     /// # Errors
-    /// `OutOfMemory`, where a growth was refused, or all 2^64 - 1 numbers of grants are spent; what is held and
-    /// reserved is then as before.
+    /// `OutOfMemory`, where a growth was refused; what is held and reserved is then as before.
     pub fn reserve(&mut self, tx: TxId, cell: &Cell) -> Result<(), Refusal>
         ensures held { self.new.held ≡ self.old.held }
         ensures reserved { OnOk result (reservation_of self.new.reserved tx ≡ Some cell.now) }
@@ -71,19 +67,15 @@ impl ObjectLocks {
         ensures err { OnErr result (self.new ≡ self.old) }
         ensures refusal { IfErr result (λ refusal. refusal ≡ Refusal.OutOfMemory) }
     {
-        // Each reservation has a number for its grant.
-        if self.next >= u64::MAX - self.reserved.len() as u64 {
-            return Err(Refusal::OutOfMemory);
-        }
-        let key = Key::of(cell).number();
+        let key = number_of(cell);
         let earlier = reserved_key(&self.reserved, tx);
+        self.reserved.reserve(1)?;
         make_room(&mut self.noted, tx)?;
-        prepare(&mut self.cells, earlier, tx, key)?;
-        let Ok(_) = self.reserved.insert(tx, *cell) else {
-            give_up_place(&mut self.cells, key, tx);
-            return Err(Refusal::OutOfMemory);
-        };
+        join(&mut self.cells, key, tx)?;
         give_up_earlier(&mut self.cells, earlier, key, tx);
+        let Ok(_) = self.reserved.insert(tx, *cell) else {
+            unreachable!();
+        };
         Ok(())
     }
 
@@ -103,15 +95,13 @@ impl ObjectLocks {
         ensures lowest { IfErr result (λ holder. IsLowestClash self.old.held tx done.now holder) }
         ensures err { OnErr result (self.new ≡ self.old) }
     {
-        let key = Key::of(&done.cell()).number();
+        let key = number_of(&done.cell());
         if let Some(holder) = lowest_clash(&self.cells, key, tx, done) {
             return Err(holder);
         }
-        let stamp = self.next;
         self.reserved.swap_remove(&tx);
-        note_grant(&self.cells, &mut self.noted, key, tx);
-        fill_place(&mut self.cells, key, tx, Grant { stamp, done: *done });
-        self.next = stamp + 1;
+        grant(&mut self.cells, &mut self.noted, key, tx, done);
+        self.held.push(tx, *done);
         Ok(())
     }
 
@@ -125,13 +115,47 @@ impl ObjectLocks {
         self.reserved.swap_remove(&tx);
         release_reserved(&mut self.cells, key, tx);
         release_noted(&mut self.cells, &mut self.noted, tx);
+        self.held.release(tx);
     }
 }
 
-/// The number of the key of the cell that the transaction reserved.
+// The number of the key of the cell that the transaction reserved.
 fn reserved_key(reserved: &IndexMap<TxId, Cell>, tx: TxId) -> Option<u64>
-    ensures { result ≡ reserved_key reserved.now tx }
+    ensures { result ≡ reserved_key reserved.now.entries tx }
 {
     let cell = reserved.get(&tx)?;
-    Some(Key::of(cell).number())
+    Some(number_of(cell))
 }
+
+// The number of a cell's key, which no other cell has.
+fn number_of(cell: &Cell) -> u64
+    ensures number { result ≡ key_number cell.now }
+    ensures range { IsInRange cell.now }
+    ensures apart { (other : Cell) → IsInRange other → key_number other ≡ result
+        → other ≡ cell.now }
+{
+    is_in_range(cell);
+    Key::of(cell).number()
+}
+
+// What the types of its numbers say of a cell.
+fn is_in_range(cell: &Cell)
+    ensures { IsInRange cell.now }
+{
+    match *cell {
+        Cell::Account(account) => has_32_bits(account),
+        Cell::Counter(counter) => has_32_bits(counter),
+        Cell::Element(set, element) => {
+            has_16_bits(set);
+            has_32_bits(element);
+        },
+    }
+}
+
+fn has_16_bits(number: u16)
+    ensures { number < 2 ^ 16 }
+{}
+
+fn has_32_bits(number: u32)
+    ensures { number < 2 ^ 32 }
+{}

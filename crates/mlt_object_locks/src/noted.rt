@@ -8,25 +8,27 @@ ghost use Rattle.mlt_object_locks.specs.Noted.{noted_of, SameNoted};
 
 use indexmap::IndexMap;
 use mlt_types::{Refusal, TxId};
+use smallvec::SmallVec;
 use std::alloc::Global;
 use std::marker::Model;
 
 /// Cells, by the numbers of their keys. A contract sees their list, and for how many more there is room.
-#[derive(Debug, Drop)]
+/// A few take no memory of their own.
+#[derive(Drop)]
 pub(crate) struct CellKeys {
-    keys: Vec<u64>,
+    keys: SmallVec<u64, 8>,
 }
 
 impl Model for CellKeys {
     ghost use Rattle.std.specs.Prelude.{◌-◌};
-    ghost use Rattle.std.specs.Vec.{vec_capacity, vec_len};
+    ghost use Rattle.smallvec.specs.SmallVec.{small_vec_len};
     ghost use Rattle.mlt_object_locks.specs.Noted.{KeysWithRoom};
 
     ghost Value = { KeysWithRoom };
 
     ghost view = { λ cells. record {
       keys = cells.keys.items;
-      room = vec_capacity cells.keys - vec_len cells.keys;
+      room = cells.keys.capacity - small_vec_len cells.keys;
     } };
 }
 
@@ -36,7 +38,7 @@ impl CellKeys {
         ensures { result.keys ≡ [] }
     {
         CellKeys {
-            keys: Vec::new(alloc),
+            keys: SmallVec::new(alloc),
         }
     }
 

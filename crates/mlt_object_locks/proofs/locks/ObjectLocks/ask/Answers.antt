@@ -1,72 +1,71 @@
-use Rattle.std.proofs.Common.{◌≡◌, ◌+◌, Some, [], ◌∷◌, ◌++◌, refl, nat_eq, Contains, sym, ap, subst, ◌∙◌}
-use Rattle.indexmap.specs.IndexMap.{index_map_len, get}
-use Rattle.mlt_types.specs.Cells.{key_number}
+use Rattle.std.proofs.Common.{◌≡◌, ℕ, Option, sym, ap, subst, ◌∙◌}
+use Rattle.mlt_types.specs.declared.cell.Cell.{Cell}
+use Rattle.mlt_types.specs.Cells.{IsInRange, key_number}
 use Rattle.mlt_kinds.specs.Operations.{cell_of}
-use Rattle.mlt_object_locks.specs.Locks.{Locks, IsLowestIfAny, reservation_of}
-use Rattle.mlt_object_locks.specs.Places.{grants_of, open_place}
-use Rattle.mlt_object_locks.specs.Cells.{list_at}
+use Rattle.mlt_object_locks.specs.Locks.{Locks, IsLowestIfAny, SameReservations, reservation_of}
+use Rattle.mlt_object_locks.specs.Classes.{bit_of_item}
+use Rattle.mlt_object_locks.specs.Holders.{Grants, IsHere, IsLowestInTheWay}
+use Rattle.mlt_object_locks.specs.Noted.{NotesAtMost, noted_of}
+use Rattle.mlt_object_locks.specs.Cells.{ChangesAt, IsSound, list_at}
 use Rattle.mlt_object_locks.proofs.Entries.{reservation_found, differ}
 use Rattle.mlt_object_locks.proofs.Clashing.{lowest_of_all}
-use Rattle.mlt_object_locks.proofs.Sound.{sound_granted, list_granted}
+use Rattle.mlt_object_locks.proofs.Sound.{sound_granted}
 use Rattle.mlt_object_locks.proofs.locks.ObjectLocks.ask.Goals as goal
 
 pub returns-in-Some-clause-lowest : goal.returns-in-Some-clause-lowest
 returns-in-Some-clause-lowest c =
     let s = c.self.inside in
-    let key : c.number-key.result ≡ key_number (cell_of c.args.done.now.0) = c.number-key.ensures ∙ c.of.ensures.number ∙ ap key_number c.cell.ensures in
-    let here = subst (λ k. IsLowestIfAny (grants_of (list_at s.cells k)) c.args.tx c.args.done.now c.lowest_clash.result) key c.lowest_clash.ensures in
-    let all = lowest_of_all s.cells s.reserved s.noted s.next c.self.invariant c.args.tx c.args.done.now c.lowest_clash.result here in
-    let seen = subst (λ held. IsLowestIfAny held c.args.tx c.args.done.now c.lowest_clash.result) (ap (λ (l : Locks). l.held) c.self.view_is) all in
-    subst (λ lowest. IsLowestIfAny c.args.self.now.held c.args.tx c.args.done.now lowest) c.in-Some.is seen
+    let done = c.args.done.now in
+    let key : c.number_of-key.result ≡ key_number (cell_of done.0) = c.number_of-key.ensures.number ∙ ap key_number c.cell.ensures in
+    let apart : (other : Cell) → IsInRange other → key_number other ≡ key_number (cell_of done.0) → other ≡ cell_of done.0 = λ other range same. c.number_of-key.ensures.apart other range (same ∙ sym key) ∙ c.cell.ensures in
+    let against = c.lowest_clash.ensures.0 in
+    let here = subst (λ k. IsLowestInTheWay (list_at s.cells k) c.args.tx against c.lowest_clash.result) key c.lowest_clash.ensures.2 in
+    let all = lowest_of_all s.cells s.reserved.entries s.noted s.held c.self.invariant c.args.tx against done apart c.lowest_clash.ensures.1 c.lowest_clash.result here in
+    let seen = subst (λ held. IsLowestIfAny held c.args.tx done c.lowest_clash.result) (ap (λ (l : Locks). l.held) c.self.view_is) all in
+    subst (λ lowest. IsLowestIfAny c.args.self.now.held c.args.tx done lowest) c.in-Some.is seen
 
 pub returns-clause-free : goal.returns-clause-free
 returns-clause-free c =
     let s = c.self.inside in
-    let key : c.number-key.result ≡ key_number (cell_of c.args.done.now.0) = c.number-key.ensures ∙ c.of.ensures.number ∙ ap key_number c.cell.ensures in
-    let here = subst (λ k. IsLowestIfAny (grants_of (list_at s.cells k)) c.args.tx c.args.done.now c.lowest_clash.result) key c.lowest_clash.ensures in
-    let all = lowest_of_all s.cells s.reserved s.noted s.next c.self.invariant c.args.tx c.args.done.now c.lowest_clash.result here in
-    let seen = subst (λ held. IsLowestIfAny held c.args.tx c.args.done.now c.lowest_clash.result) (ap (λ (l : Locks). l.held) c.self.view_is) all in
-    subst (λ lowest. IsLowestIfAny c.args.self.now.held c.args.tx c.args.done.now lowest) c.in_default.is seen
+    let done = c.args.done.now in
+    let key : c.number_of-key.result ≡ key_number (cell_of done.0) = c.number_of-key.ensures.number ∙ ap key_number c.cell.ensures in
+    let apart : (other : Cell) → IsInRange other → key_number other ≡ key_number (cell_of done.0) → other ≡ cell_of done.0 = λ other range same. c.number_of-key.ensures.apart other range (same ∙ sym key) ∙ c.cell.ensures in
+    let against = c.lowest_clash.ensures.0 in
+    let here = subst (λ k. IsLowestInTheWay (list_at s.cells k) c.args.tx against c.lowest_clash.result) key c.lowest_clash.ensures.2 in
+    let all = lowest_of_all s.cells s.reserved.entries s.noted s.held c.self.invariant c.args.tx against done apart c.lowest_clash.ensures.1 c.lowest_clash.result here in
+    let seen = subst (λ held. IsLowestIfAny held c.args.tx done c.lowest_clash.result) (ap (λ (l : Locks). l.held) c.self.view_is) all in
+    subst (λ lowest. IsLowestIfAny c.args.self.now.held c.args.tx done lowest) c.in_default.is seen
 
-pub note_grant-requires-clause-room : goal.note_grant-requires-clause-room
-note_grant-requires-clause-room c =
+pub grant-requires-clause-here : goal.grant-requires-clause-here
+grant-requires-clause-here c =
     let s = c.self.inside in
-    let has : get nat_eq s.reserved c.args.tx ≡ Some (cell_of c.args.done.now.0) =
-    sym (reservation_found s.reserved.entries c.args.tx) ∙ ap (λ (l : Locks). reservation_of l.reserved c.args.tx) c.self.view_is ∙ c.requires in
-    c.self.invariant.room c.args.tx (cell_of c.args.done.now.0) has
+    let had = ap (λ (l : Locks). reservation_of l.reserved c.args.tx) c.self.view_is ∙ c.requires in
+    let key : c.number_of-key.result ≡ key_number (cell_of c.args.done.now.0) = c.number_of-key.ensures.number ∙ ap key_number c.cell.ensures in
+    subst (λ k. IsHere (list_at s.cells k) c.args.tx) (sym key) (c.self.invariant.opened c.args.tx (cell_of c.args.done.now.0) had)
 
-pub fill_place-requires : goal.fill_place-requires
-fill_place-requires c =
-    let s = c.self.inside in
-    let has : get nat_eq s.reserved c.args.tx ≡ Some (cell_of c.args.done.now.0) =
-    sym (reservation_found s.reserved.entries c.args.tx) ∙ ap (λ (l : Locks). reservation_of l.reserved c.args.tx) c.self.view_is ∙ c.requires in
-    let key : c.number-key.result ≡ key_number (cell_of c.args.done.now.0) = c.number-key.ensures ∙ c.of.ensures.number ∙ ap key_number c.cell.ensures in
-    subst (λ k. Contains (list_at s.cells k) (open_place c.args.tx)) (sym key) (c.self.invariant.opened c.args.tx (cell_of c.args.done.now.0) has)
+pub grant-requires-clause-room : goal.grant-requires-clause-room
+grant-requires-clause-room c = c.self.invariant.room c.args.tx (cell_of c.args.done.now.0) (ap (λ (l : Locks). reservation_of l.reserved c.args.tx) c.self.view_is ∙ c.requires)
 
 pub invariant_of-self : goal.invariant_of-self
 invariant_of-self c =
     let s = c.self.inside in
-    let cell = cell_of c.args.done.now.0 in
-    let has : get nat_eq s.reserved c.args.tx ≡ Some cell =
-    sym (reservation_found s.reserved.entries c.args.tx) ∙ ap (λ (l : Locks). reservation_of l.reserved c.args.tx) c.self.view_is ∙ c.requires in
-    let key : c.number-key.result ≡ key_number cell = c.number-key.ensures ∙ c.of.ensures.number ∙ ap key_number c.cell.ensures in
-    let was : c.swap_remove.result ≡ Some cell = c.swap_remove.ensures.value ∙ has in
-    let fewer : index_map_len c.swap_remove.new.self + 1 ≡ index_map_len s.reserved = rw was at c.swap_remove.ensures.len in
-    sound_granted s.cells c.fill_place.new.cells s.reserved c.swap_remove.new.self s.noted c.note_grant.new.noted s.next c.number-key.result c.args.tx cell (record { stamp = s.next; done = c.args.done.now })
-    c.self.invariant has (sym key) refl (sym key) c.fill_place.ensures.others c.fill_place.ensures.filled c.swap_remove.ensures.updates.0 fewer c.note_grant.ensures.others c.note_grant.ensures.noted
-
-pub returns-clause-granted : goal.returns-clause-granted
-returns-clause-granted c =
-    let s = c.self.inside in
-    let cell = cell_of c.args.done.now.0 in
-    let has : get nat_eq s.reserved c.args.tx ≡ Some cell =
-    sym (reservation_found s.reserved.entries c.args.tx) ∙ ap (λ (l : Locks). reservation_of l.reserved c.args.tx) c.self.view_is ∙ c.requires in
-    let key : c.number-key.result ≡ key_number cell = c.number-key.ensures ∙ c.of.ensures.number ∙ ap key_number c.cell.ensures in
-    let was : c.swap_remove.result ≡ Some cell = c.swap_remove.ensures.value ∙ has in
-    let fewer : index_map_len c.swap_remove.new.self + 1 ≡ index_map_len s.reserved = rw was at c.swap_remove.ensures.len in
-    list_granted s.cells c.fill_place.new.cells s.reserved c.swap_remove.new.self s.noted c.note_grant.new.noted s.next c.number-key.result c.args.tx cell (record { stamp = s.next; done = c.args.done.now })
-    c.self.invariant has (sym key) refl (sym key) c.fill_place.ensures.others c.fill_place.ensures.filled c.swap_remove.ensures.updates.0 fewer c.note_grant.ensures.others c.note_grant.ensures.noted
-    ∙ ap (λ (l : Locks). l.held ++ (c.args.tx, c.args.done.now) ∷ []) c.self.view_is
+    let tx = c.args.tx in
+    let done = c.args.done.now in
+    let now = c.grant.new.cells in
+    let noted = c.grant.new.noted in
+    let after = c.swap_remove.new.self.entries in
+    let bit : Option ℕ = bit_of_item done in
+    let had = ap (λ (l : Locks). reservation_of l.reserved tx) c.self.view_is ∙ c.requires in
+    let key : c.number_of-key.result ≡ key_number (cell_of done.0) = c.number_of-key.ensures.number ∙ ap key_number c.cell.ensures in
+    let range = subst IsInRange c.cell.ensures c.number_of-key.ensures.range in
+    let changes = subst (ChangesAt s.cells now) key c.grant.ensures.cells in
+    let grants = subst (λ k. Grants (list_at s.cells k) (list_at now k) tx bit) key c.grant.ensures.grants in
+    let notes = subst (NotesAtMost (noted_of s.noted tx).keys (noted_of noted tx).keys) key c.grant.ensures.notes in
+    let own = reservation_found after tx ∙ c.swap_remove.ensures.updates.1 in
+    let others : SameReservations s.reserved.entries after tx = λ other ne.
+    reservation_found after other ∙ c.swap_remove.ensures.updates.2 other (differ tx other ne) ∙ sym (reservation_found s.reserved.entries other) in
+    subst (IsSound now after noted) (sym c.push.ensures)
+    (sound_granted s.cells now s.reserved.entries after s.noted noted s.held tx done c.self.invariant had range changes grants own others c.grant.ensures.others notes)
 
 pub returns-clause-used : goal.returns-clause-used
 returns-clause-used c = reservation_found c.swap_remove.new.self.entries c.args.tx ∙ c.swap_remove.ensures.updates.1

@@ -1,6 +1,6 @@
 use Rattle.std.proofs.Common.{take}
 use Rattle.mlt_object_locks.specs.Cells.{ReleasesAt}
-use Rattle.mlt_object_locks.proofs.cells.release_all_places.Given as goal
+use Rattle.mlt_object_locks.proofs.cells.release_each.Given as goal
 
 -- those that were seen are released
 abbrev pub invariant-loop-key : goal.invariant-loop-key

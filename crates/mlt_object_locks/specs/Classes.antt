@@ -1,0 +1,86 @@
+-- Classes of operations of all kinds, and sets of them as the bits of a number.
+use Rattle.std.specs.Prelude.{ℕ, ◌≡◌, ◌⊎◌, Bool, true, false, Option, Some}
+use Rattle.std.specs.Option.{option_map}
+use Rattle.std.specs.Int.{bit_at}
+use Rattle.mlt_kinds.specs.declared.operation.ObjOp.{ObjOp}
+use Rattle.mlt_kinds.specs.declared.operation.ObjOp.TheVariants as op
+use Rattle.mlt_kinds.specs.declared.operation.ObjReply.{ObjReply}
+use Rattle.mlt_kinds.specs.Operations.{cell_of}
+use Rattle.mlt_commute.specs.declared.accounts.AccountClass.TheVariants as account
+use Rattle.mlt_commute.specs.declared.elements.ElementClass.TheVariants as element
+use Rattle.mlt_commute.specs.declared.counters.CounterClass.TheVariants as counter
+use Rattle.mlt_commute.specs.AccountTable.{account_class, account_marks}
+use Rattle.mlt_commute.specs.CounterTable.{counter_class, counter_marks}
+use Rattle.mlt_commute.specs.ElementTable.{element_class, element_marks}
+use Rattle.mlt_commute.specs.Clashes.{clashes}
+use Rattle.mlt_object_locks.specs.declared.classes.Class.{Class}
+use Rattle.mlt_object_locks.specs.declared.classes.Class.TheVariants.{Account, Element, Counter}
+
+-- the class of an operation with its reply, None where the table of its kind has no such row
+abbrev pub class_of : ObjOp × ObjReply → Option Class
+class_of (op.Account a asked, told) = option_map Account (account_class asked told)
+class_of (op.Element s e asked, told) = option_map Element (element_class asked told)
+class_of (op.Counter c asked, told) = option_map Counter (counter_class asked told)
+
+-- the table of their kind marks the two, held and then requested
+abbrev pub marks : Class → Class → Bool
+marks (Account held) (Account requested) = account_marks held requested
+marks (Element held) (Element requested) = element_marks held requested
+marks (Counter held) (Counter requested) = counter_marks held requested
+marks _ _ = false
+
+-- the bit of a class
+abbrev pub bit_of : Class → ℕ
+bit_of (Account account.Opened) = 0
+bit_of (Account account.Exists) = 1
+bit_of (Account account.Closed) = 2
+bit_of (Account account.NotEmpty) = 3
+bit_of (Account account.Deposited) = 4
+bit_of (Account account.Over) = 5
+bit_of (Account account.Withdrawn) = 6
+bit_of (Account account.Short) = 7
+bit_of (Account account.Balance) = 8
+bit_of (Account account.Missing) = 9
+bit_of (Element element.Added) = 10
+bit_of (Element element.Present) = 11
+bit_of (Element element.Removed) = 12
+bit_of (Element element.Absent) = 13
+bit_of (Element element.Yes) = 14
+bit_of (Element element.No) = 15
+bit_of (Counter counter.Counted) = 16
+bit_of (Counter counter.Read) = 17
+
+-- the bit of an operation's class, where it has one
+abbrev pub bit_of_item : ObjOp × ObjReply → Option ℕ
+bit_of_item item = option_map bit_of (class_of item)
+
+-- the bit is one of the set
+abbrev pub InSet : ℕ → ℕ → Type 0
+InSet set bit = bit_at set bit ≡ 1
+
+-- the new set has the bit, and else what the old one has
+pub record Adds (old new bit : ℕ) : Type 0 where
+  pub has : InSet new bit
+  pub keeps : (k : ℕ) → InSet old k → InSet new k
+  pub only : (k : ℕ) → InSet new k → InSet old k ⊎ (k ≡ bit)
+
+-- the same of a bit, where there is one
+pub record AddsItem (old new : ℕ) (bit : Option ℕ) : Type 0 where
+  pub has : (k : ℕ) → bit ≡ Some k → InSet new k
+  pub keeps : (k : ℕ) → InSet old k → InSet new k
+  pub only : (k : ℕ) → InSet new k → InSet old k ⊎ (bit ≡ Some k)
+
+-- two sets have a bit in common
+abbrev pub Meets : ℕ → ℕ → Type 0
+Meets one other = (k : ℕ) × InSet one k × InSet other k
+
+-- the set has the bits of the held classes that the tables mark beside the requested one
+pub record IsColumn (set : ℕ) (requested : Class) : Type 0 where
+  pub has : (held : Class) → marks held requested ≡ true → InSet set (bit_of held)
+  pub only : (held : Class) → InSet set (bit_of held) → marks held requested ≡ true
+
+-- The set has the bit of each operation with which the requested one clashes. Of one on the same cell with which it
+-- doesn't clash it has not.
+pub record AreInTheWay (set : ℕ) (requested : ObjOp × ObjReply) : Type 0 where
+  pub has : (earlier : ObjOp × ObjReply) → clashes earlier requested ≡ true → (k : ℕ) × (bit_of_item earlier ≡ Some k) × InSet set k
+  pub only : (earlier : ObjOp × ObjReply) (k : ℕ) → cell_of earlier.0 ≡ cell_of requested.0 → bit_of_item earlier ≡ Some k → InSet set k → clashes earlier requested ≡ true

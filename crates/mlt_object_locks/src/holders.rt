@@ -1,0 +1,194 @@
+//! Those who hold something on one cell, or have reserved it.
+
+ghost use Rattle.std.specs.Prelude.{◌≡◌, ◌↔◌, ℕ, [], IsTrue, false, OnOk, OnErr, IfErr, position};
+ghost use Rattle.std.specs.List.{filter, list_all, list_any};
+ghost use Rattle.mlt_object_locks.specs.Locks.{lower_of};
+ghost use Rattle.mlt_object_locks.specs.Classes.{bit_of_item, AreInTheWay};
+ghost use Rattle.mlt_object_locks.specs.Holders.{AreOnce, IsHere, HasBit, Joins, Grants, IsLowestInTheWay, StandsIn, is_of, is_not_of, is_idle_of, is_not_idle_of};
+
+use crate::classes::{ClassSet, in_the_way_of};
+use mlt_kinds::Done;
+use mlt_types::{Refusal, TxId};
+use smallvec::SmallVec;
+use std::alloc::Global;
+use std::marker::Model;
+
+/// A transaction, with the classes of the operations that it holds on a cell. It is idle where it holds none that has a
+/// class, as from its reservation up to its first grant.
+#[derive(Clone, Copy)]
+pub(crate) struct Holder {
+    pub tx: TxId,
+    pub classes: ClassSet,
+}
+
+impl Default for Holder {
+    fn default() -> Holder {
+        Holder {
+            tx: TxId(0),
+            classes: ClassSet::new(),
+        }
+    }
+}
+
+/// The transactions that hold something on one cell, or have reserved it, each once. A contract sees their list. One alone
+/// takes no memory of its own.
+#[derive(Drop)]
+pub(crate) struct Holders {
+    holders: SmallVec<Holder, 1>,
+}
+
+impl Model for Holders {
+    ghost use Rattle.std.specs.Prelude.{List};
+    ghost use Rattle.mlt_object_locks.specs.declared.holders.Holder.{Holder};
+    ghost use Rattle.mlt_object_locks.specs.Holders.{AreOnce};
+
+    ghost Value = { List Holder };
+
+    ghost view = { λ cell. cell.holders.items };
+
+    ghost invariant = { λ cell. AreOnce cell.holders.items };
+}
+
+impl Holders {
+    /// Nobody. It takes no memory.
+    pub fn new(alloc: Global) -> Holders
+        ensures { result ≡ [] }
+    {
+        Holders {
+            holders: SmallVec::new(alloc),
+        }
+    }
+
+    /// Whether there is nobody.
+    pub fn is_empty(&self) -> bool
+        ensures { IsTrue result ↔ (self.now ≡ []) }
+    {
+        self.holders.is_empty()
+    }
+
+    /// Adds the transaction, if it is not there.
+    ///
+    /// # Errors
+    /// `OutOfMemory`, where a growth was refused; the holders are then as before.
+    pub fn join(&mut self, tx: TxId) -> Result<(), Refusal>
+        ensures joins { OnOk result (Joins self.old self.new tx) }
+        ensures err { OnErr result (self.new ≡ self.old) }
+        ensures refusal { IfErr result (λ refusal. refusal ≡ Refusal.OutOfMemory) }
+    {
+        if has(&self.holders, tx) {
+            return Ok(());
+        }
+        let classes = ClassSet::new();
+        self.holders.push(Holder { tx, classes })?;
+        Ok(())
+    }
+
+    /// The lowest number of another transaction that holds an operation here with which this one clashes, if there is
+    /// one.
+    pub fn lowest_clash(&self, tx: TxId, done: &Done) -> Option<TxId>
+        ensures { (against : ℕ) × AreInTheWay against done.now
+            × IsLowestInTheWay self.now tx against result }
+    {
+        if is_alone(&self.holders, tx) {
+            return None;
+        }
+        lowest_in_the_way(&self.holders, tx, &in_the_way_of(done))
+    }
+
+    /// The transaction holds one operation more. Whether it was idle.
+    pub fn grant(&mut self, tx: TxId, done: &Done) -> bool
+        requires { IsHere self.old tx }
+        ensures grants { Grants self.old self.new tx (bit_of_item done.now) }
+        ensures idle { result ≡ false → (bit : ℕ) × HasBit self.old tx bit }
+    {
+        grant_among(&mut self.holders, tx, done)
+    }
+
+    /// Takes the transaction away where it is idle.
+    pub fn give_up(&mut self, tx: TxId)
+        ensures { self.new ≡ filter (is_not_idle_of tx) self.old }
+    {
+        self.holders.retain(|holder| !is_idle_of(holder, tx));
+    }
+
+    /// Takes the transaction away.
+    pub fn release(&mut self, tx: TxId)
+        ensures { self.new ≡ filter (is_not_of tx) self.old }
+    {
+        self.holders.retain(|holder| holder.tx != tx);
+    }
+}
+
+// Whether the transaction is one of them.
+fn has(holders: &[Holder], tx: TxId) -> bool
+    ensures { result ≡ list_any (is_of tx) holders.now }
+{
+    holders.iter().any(|holder| holder.tx == tx)
+}
+
+// Whether nobody else is there.
+fn is_alone(holders: &[Holder], tx: TxId) -> bool
+    ensures { result ≡ list_all (is_of tx) holders.now }
+{
+    holders.iter().all(|holder| holder.tx == tx)
+}
+
+// The lowest number of another transaction that holds something of these classes, if there is one.
+fn lowest_in_the_way(holders: &[Holder], tx: TxId, against: &ClassSet) -> Option<TxId>
+    ensures { IsLowestInTheWay holders.now tx against.now result }
+{
+    let mut lowest = None;
+    for holder in holders {
+        if stands_in(holder, tx, against) {
+            lowest = Some(lower(lowest, holder.tx));
+        }
+    }
+    lowest
+}
+
+// The transaction, which is one of them, holds one operation more. Whether it was idle.
+fn grant_among(holders: &mut [Holder], tx: TxId, done: &Done) -> bool
+    requires { IsHere holders.old tx }
+    ensures grants { Grants holders.old holders.new tx (bit_of_item done.now) }
+    ensures idle { result ≡ false → (bit : ℕ) × HasBit holders.old tx bit }
+    ensures once { AreOnce holders.old → AreOnce holders.new }
+{
+    let Some(at) = place_of(holders, tx) else {
+        unreachable!();
+    };
+    let before = holders[at].classes;
+    let classes = before.with_class_of(done);
+    holders[at] = Holder { tx, classes };
+    before.is_empty()
+}
+
+// Where the transaction is among them.
+fn place_of(holders: &[Holder], tx: TxId) -> Option<usize>
+    ensures { result ≡ position (is_of tx) holders.now }
+{
+    holders.iter().position(|holder| holder.tx == tx)
+}
+
+// Whether it is the transaction, and idle.
+fn is_idle_of(holder: &Holder, tx: TxId) -> bool
+    ensures { result ≡ is_idle_of tx holder.now }
+{
+    holder.tx == tx && holder.classes.is_empty()
+}
+
+// Whether it is another transaction that holds something of these classes.
+fn stands_in(holder: &Holder, tx: TxId, against: &ClassSet) -> bool
+    ensures { IsTrue result ↔ StandsIn holder.now tx against.now }
+{
+    holder.tx != tx && holder.classes.meets(against)
+}
+
+// The lower of two numbers, of which one may be missing.
+fn lower(lowest: Option<TxId>, holder: TxId) -> TxId
+    ensures { result ≡ lower_of lowest holder }
+{
+    match lowest {
+        Some(other) if other < holder => other,
+        _ => holder,
+    }
+}
