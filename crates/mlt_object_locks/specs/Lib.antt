@@ -1,5 +1,4 @@
 pub mod Locks
-pub mod Held
 pub mod Classes
 pub mod Holders
 pub mod Noted

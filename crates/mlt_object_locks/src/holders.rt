@@ -30,11 +30,11 @@ impl Default for Holder {
     }
 }
 
-/// The transactions that hold something on one cell, or have reserved it, each once. A contract sees their list. One alone
-/// takes no memory of its own.
+/// The transactions that hold something on one cell, or have reserved it, each once. A contract sees their list. A few take
+/// no memory of their own.
 #[derive(Drop)]
 pub(crate) struct Holders {
-    holders: SmallVec<Holder, 1>,
+    holders: SmallVec<Holder, 4>,
 }
 
 impl Model for Holders {

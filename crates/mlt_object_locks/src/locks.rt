@@ -36,10 +36,10 @@ impl Model for ObjectLocks {
 
     ghost Value = { Locks };
 
-    ghost view = { λ locks. record { held = locks.held; reserved = locks.reserved.entries } };
+    ghost view = { λ locks. record { held = locks.held.operations; reserved = locks.reserved.entries } };
 
     ghost invariant = { λ locks.
-        IsSound locks.cells locks.reserved.entries locks.noted locks.held };
+        IsSound locks.cells locks.reserved.entries locks.noted locks.held.operations };
 }
 
 impl ObjectLocks {
@@ -101,7 +101,7 @@ impl ObjectLocks {
         }
         self.reserved.swap_remove(&tx);
         grant(&mut self.cells, &mut self.noted, key, tx, done);
-        self.held.push(tx, *done);
+        self.held = self.held.and(&tx, done);
         Ok(())
     }
 
@@ -115,7 +115,7 @@ impl ObjectLocks {
         self.reserved.swap_remove(&tx);
         release_reserved(&mut self.cells, key, tx);
         release_noted(&mut self.cells, &mut self.noted, tx);
-        self.held.release(tx);
+        self.held = self.held.without(&tx);
     }
 }
 

@@ -20,7 +20,7 @@ returns-in-Some-clause-lowest c =
     let apart : (other : Cell) → IsInRange other → key_number other ≡ key_number (cell_of done.0) → other ≡ cell_of done.0 = λ other range same. c.number_of-key.ensures.apart other range (same ∙ sym key) ∙ c.cell.ensures in
     let against = c.lowest_clash.ensures.0 in
     let here = subst (λ k. IsLowestInTheWay (list_at s.cells k) c.args.tx against c.lowest_clash.result) key c.lowest_clash.ensures.2 in
-    let all = lowest_of_all s.cells s.reserved.entries s.noted s.held c.self.invariant c.args.tx against done apart c.lowest_clash.ensures.1 c.lowest_clash.result here in
+    let all = lowest_of_all s.cells s.reserved.entries s.noted s.held.operations c.self.invariant c.args.tx against done apart c.lowest_clash.ensures.1 c.lowest_clash.result here in
     let seen = subst (λ held. IsLowestIfAny held c.args.tx done c.lowest_clash.result) (ap (λ (l : Locks). l.held) c.self.view_is) all in
     subst (λ lowest. IsLowestIfAny c.args.self.now.held c.args.tx done lowest) c.in-Some.is seen
 
@@ -32,7 +32,7 @@ returns-clause-free c =
     let apart : (other : Cell) → IsInRange other → key_number other ≡ key_number (cell_of done.0) → other ≡ cell_of done.0 = λ other range same. c.number_of-key.ensures.apart other range (same ∙ sym key) ∙ c.cell.ensures in
     let against = c.lowest_clash.ensures.0 in
     let here = subst (λ k. IsLowestInTheWay (list_at s.cells k) c.args.tx against c.lowest_clash.result) key c.lowest_clash.ensures.2 in
-    let all = lowest_of_all s.cells s.reserved.entries s.noted s.held c.self.invariant c.args.tx against done apart c.lowest_clash.ensures.1 c.lowest_clash.result here in
+    let all = lowest_of_all s.cells s.reserved.entries s.noted s.held.operations c.self.invariant c.args.tx against done apart c.lowest_clash.ensures.1 c.lowest_clash.result here in
     let seen = subst (λ held. IsLowestIfAny held c.args.tx done c.lowest_clash.result) (ap (λ (l : Locks). l.held) c.self.view_is) all in
     subst (λ lowest. IsLowestIfAny c.args.self.now.held c.args.tx done lowest) c.in_default.is seen
 
@@ -64,8 +64,8 @@ invariant_of-self c =
     let own = reservation_found after tx ∙ c.swap_remove.ensures.updates.1 in
     let others : SameReservations s.reserved.entries after tx = λ other ne.
     reservation_found after other ∙ c.swap_remove.ensures.updates.2 other (differ tx other ne) ∙ sym (reservation_found s.reserved.entries other) in
-    subst (IsSound now after noted) (sym c.push.ensures)
-    (sound_granted s.cells now s.reserved.entries after s.noted noted s.held tx done c.self.invariant had range changes grants own others c.grant.ensures.others notes)
+    subst (IsSound now after noted) (sym c.and-self-inside.ensures)
+    (sound_granted s.cells now s.reserved.entries after s.noted noted s.held.operations tx done c.self.invariant had range changes grants own others c.grant.ensures.others notes)
 
 pub returns-clause-used : goal.returns-clause-used
 returns-clause-used c = reservation_found c.swap_remove.new.self.entries c.args.tx ∙ c.swap_remove.ensures.updates.1

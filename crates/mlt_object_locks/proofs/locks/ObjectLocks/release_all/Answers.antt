@@ -14,8 +14,8 @@ invariant_of-self c =
     let own = reservation_found after tx ∙ c.swap_remove.ensures.updates.1 in
     let others : SameReservations s.reserved.entries after tx = λ other ne.
     reservation_found after other ∙ c.swap_remove.ensures.updates.2 other (differ tx other ne) ∙ sym (reservation_found s.reserved.entries other) in
-    subst (IsSound c.release_noted.new.cells after c.release_noted.new.noted) (sym c.release.ensures)
-    (sound_released s.cells c.release_reserved.new.cells c.release_noted.new.cells s.reserved.entries after s.noted c.release_noted.new.noted s.held tx c.self.invariant first c.release_noted.ensures.released
+    subst (IsSound c.release_noted.new.cells after c.release_noted.new.noted) (sym c.without-self-inside.ensures)
+    (sound_released s.cells c.release_reserved.new.cells c.release_noted.new.cells s.reserved.entries after s.noted c.release_noted.new.noted s.held.operations tx c.self.invariant first c.release_noted.ensures.released
     own others c.release_noted.ensures.others c.release_noted.ensures.none)
 
 pub returns-clause-released : goal.returns-clause-released

@@ -14,8 +14,8 @@ invariant_of-self-in_err-make_room c =
     let s = c.self.inside in
     let more = c.make_room.new.noted in
     let kept = keeps_noted s.noted more c.args.tx c.make_room.ensures.others c.make_room.ensures.keys (λ had. subst (λ n. 0 < n) (sym c.in_err-make_room.ensures.err) had) in
-    subst (λ reserved. IsSound s.cells reserved more s.held) (sym c.reserve.ensures.entries)
-    (sound_unchanged s.cells s.cells s.reserved.entries s.noted more s.held c.self.invariant (λ k. refl) c.self.invariant.unique kept)
+    subst (λ reserved. IsSound s.cells reserved more s.held.operations) (sym c.reserve.ensures.entries)
+    (sound_unchanged s.cells s.cells s.reserved.entries s.noted more s.held.operations c.self.invariant (λ k. refl) c.self.invariant.unique kept)
 
 pub invariant_of-self-in_err-join : goal.invariant_of-self-in_err-join
 invariant_of-self-in_err-join c =
@@ -24,8 +24,8 @@ invariant_of-self-in_err-join c =
     let now = c.join.new.cells in
     let kept = keeps_noted s.noted more c.args.tx c.make_room.ensures.others c.make_room.ensures.keys (λ had. c.in_ok-make_room.ensures.room) in
     let same = same_lists s.cells now c.number_of-key.result c.join.ensures.others c.in_err-join.ensures.err in
-    subst (λ reserved. IsSound now reserved more s.held) (sym c.reserve.ensures.entries)
-    (sound_unchanged s.cells now s.reserved.entries s.noted more s.held c.self.invariant same c.join.ensures.others.unique kept)
+    subst (λ reserved. IsSound now reserved more s.held.operations) (sym c.reserve.ensures.entries)
+    (sound_unchanged s.cells now s.reserved.entries s.noted more s.held.operations c.self.invariant same c.join.ensures.others.unique kept)
 
 pub invariant_of-self-2 : goal.invariant_of-self-2
 invariant_of-self-2 c =
@@ -44,7 +44,7 @@ invariant_of-self-2 c =
     let others : SameReservations s.reserved.entries after c.args.tx = λ other ne.
     reservation_found after other ∙ c.in-Ok.ensures.updates.2 other (differ c.args.tx other ne)
     ∙ sym (reservation_found c.reserve.new.self.entries other) ∙ ap (λ entries. reservation_of entries other) c.reserve.ensures.entries in
-    sound_reserved s.cells mid now s.reserved.entries after s.noted more s.held c.args.tx c.args.cell.now c.self.invariant changes joins gives own others kept c.in_ok-make_room.ensures.room
+    sound_reserved s.cells mid now s.reserved.entries after s.noted more s.held.operations c.args.tx c.args.cell.now c.self.invariant changes joins gives own others kept c.in_ok-make_room.ensures.room
 
 pub returns-clause-reserved : goal.returns-clause-reserved
 returns-clause-reserved c = reservation_found c.insert.new.self.entries c.args.tx ∙ c.in-Ok.ensures.updates.1
