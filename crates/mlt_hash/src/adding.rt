@@ -15,7 +15,7 @@ ghost use Rattle.mlt_hash.specs.Walks.{MayWalk, aim_of, basis_in};
 ghost use Rattle.mlt_split.specs.Rests.{Aim, held_page};
 ghost use Rattle.mlt_split.specs.Steps.{IsMaking};
 ghost use Rattle.mlt_hash.specs.Changes.{PlansSlot};
-ghost use Rattle.mlt_hash.specs.Splitting.{HasToSplit, OfSplit, TellsOfAdding, TellsOfPut, TellsOfSplitting};
+ghost use Rattle.mlt_hash.specs.Splitting.{HasToSplit, OfSplit, TellsOfAdding, TellsOfPut, TellsOfSplitting, walk_step};
 
 use crate::answer::WalkAnswer;
 use crate::pass::{Change, Phase};
@@ -49,8 +49,8 @@ pub(crate) fn add_or_split<P: Pseudo>(
         (moment subtx.old pages.old) walk.old value number room_depth
         × HasNoPageLeft pages.old.store) }
     ensures tells { TellsOfAdding (basis_in P.bits_of setting.now subtx.old.tx)
-        (moment subtx.old pages.old) (moment subtx.new pages.new)
-        walk.old walk.new value number room_depth result }
+        (walk_step (moment subtx.old pages.old) (moment subtx.new pages.new) walk.old walk.new)
+        value number room_depth result }
 {
     if let Some(write) = plan_to_put(walk, value, number, unsplit, subtx, pages, setting.opens) {
         return put(walk, write, value, subtx, pages);
@@ -152,8 +152,8 @@ pub(crate) fn go_on_splitting<P: Pseudo>(
     ensures no_room { (result ≡ WalkAnswer.Refused Refusal.NoRoom)
         ↔ (OfSplit walk.old (λ split. IsMaking split.phase) × HasNoPageLeft pages.old.store) }
     ensures tells { TellsOfSplitting (basis_in P.bits_of setting.now subtx.old.tx)
-        (moment subtx.old pages.old) (moment subtx.new pages.new)
-        walk.old walk.new value room_depth result }
+        (walk_step (moment subtx.old pages.old) (moment subtx.new pages.new) walk.old walk.new)
+        value room_depth result }
 {
     let Some(split) = &mut walk.split else {
         unreachable!()

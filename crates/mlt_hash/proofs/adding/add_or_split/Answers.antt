@@ -10,7 +10,7 @@ use Rattle.mlt_split.specs.Splits.{HasHalves, IsUnderWay, MayBegin}
 use Rattle.mlt_split.specs.Rests.{Aim, IsAtRest}
 use Rattle.mlt_split.proofs.HeldPages.{clean_now}
 use Rattle.mlt_hash.specs.Walks.{Basis, WalkFields, aim_of, basis_in}
-use Rattle.mlt_hash.specs.Splitting.{TellsOfAdding}
+use Rattle.mlt_hash.specs.Splitting.{TellsOfAdding, walk_step}
 use Rattle.mlt_hash.specs.declared.pass.Phase.TheVariants as at
 use Rattle.mlt_hash.specs.declared.answer.WalkAnswer.TheVariants as answer
 use Rattle.mlt_hash.proofs.Puts.{adding_at, adding_plans, begin_is_refused, begins_split, begun_alike, full_is_shallow, has_to_split, may_begin, may_put, need_not_split, nowhere, put_has_room, put_tells}
@@ -89,8 +89,8 @@ returns-in-Ok-clause-tells g c =
     elim c.keep_split.ensures.told [
       | inl going ↦
           let begun = begins_split basis walk c.keep_split.new.walk old new c.args.value c.args.number c.args.room_depth c.args.unsplit c.in-Ok.split c.in-Ok.ensures.makes.0 c.requires.1.1.1.may c.in-Ok.ensures.makes.1 adds needed under_way c.in-Ok.ensures.steps depths.0 depths.1 halves (c.keep_split.ensures.kept going) in
-          subst (λ r. TellsOfAdding basis old new walk c.keep_split.new.walk c.args.value c.args.number c.args.room_depth r) (sym going) begun
-      | inr refused ↦ subst (λ r. TellsOfAdding basis old new walk c.keep_split.new.walk c.args.value c.args.number c.args.room_depth r) (sym refused) refl
+          subst (λ r. TellsOfAdding basis (walk_step old new walk c.keep_split.new.walk) c.args.value c.args.number c.args.room_depth r) (sym going) begun
+      | inr refused ↦ subst (λ r. TellsOfAdding basis (walk_step old new walk c.keep_split.new.walk) c.args.value c.args.number c.args.room_depth r) (sym refused) refl
     ]
 
 pub returns-in-Some-clause-no_room : goal.returns-in-Some-clause-no_room
