@@ -6,7 +6,8 @@ ghost use Rattle.mlt_hash.specs.Walks.{basis_in};
 ghost use Rattle.mlt_operation.specs.Operating.{MayOperate, started_for};
 ghost use Rattle.mlt_kinds.specs.declared.operation.ObjOp.{ObjOp};
 ghost use Rattle.mlt_kinds.specs.declared.operation.ObjReply.{ObjReply};
-ghost use Rattle.mlt_transaction.specs.Steps.{MayStepBack, MayStepOn, TakesBack, TellsOfBack, TellsOfPending, TellsOfStart, answer_of};
+ghost use Rattle.mlt_transaction.specs.Endings.{workplace};
+ghost use Rattle.mlt_transaction.specs.Steps.{KeepsObjects, MayStepBack, MayStepOn, TakesBack, TellsOfBack, TellsOfPending, TellsOfStart, answer_of};
 
 use crate::commons::Commons;
 use crate::ending::finish;
@@ -41,8 +42,9 @@ pub(crate) fn step_on<P: Pseudo>(
     requires ready { MayStepOn (basis_in P.bits_of setting.now subtx.old.tx)
         operation.old subtx.old undo.old commons.old }
     ensures tells { TellsOfPending (basis_in P.bits_of setting.now subtx.old.tx)
-        operation.old operation.new subtx.old subtx.new undo.old undo.new
-        commons.old commons.new result }
+        operation.old operation.new
+        (workplace subtx.old undo.old commons.old) (workplace subtx.new undo.new commons.new)
+        result }
 {
     match (operation.request(), operation.reply()) {
         (_, None) => answer_of(operation.step(setting, subtx, &mut commons.pages)),
@@ -86,8 +88,9 @@ pub(crate) fn step_back<P: Pseudo>(
     requires ready { MayStepBack (basis_in P.bits_of setting.now subtx.old.tx)
         inverting.old subtx.old undo.old commons.old }
     ensures tells { TellsOfBack (basis_in P.bits_of setting.now subtx.old.tx)
-        inverting.old inverting.new subtx.old subtx.new undo.old undo.new
-        commons.old commons.new result }
+        inverting.old inverting.new
+        (workplace subtx.old undo.old commons.old) (workplace subtx.new undo.new commons.new)
+        result }
 {
     match inverting {
         Some(operation) => match operation.reply() {
@@ -120,8 +123,9 @@ fn begin_inverse<P: Pseudo>(
 ) -> Answer
     requires ready { MayOperate (basis_in P.bits_of setting.now subtx.old.tx)
         (moment subtx.old commons.old.pages) (started_for (Request.TakeBack last)) }
-    ensures tells { TellsOfStart (basis_in P.bits_of setting.now subtx.old.tx) last
-        inverting.new subtx.old subtx.new commons.old commons.new result }
+    ensures keeps { KeepsObjects commons.old commons.new }
+    ensures tells { TellsOfStart (basis_in P.bits_of setting.now subtx.old.tx) last inverting.new
+        (moment subtx.old commons.old.pages) (moment subtx.new commons.new.pages) result }
 {
     let mut operation = Operation::start(commons.alloc, Request::TakeBack(last));
     let told = operation.step(setting, subtx, &mut commons.pages);
