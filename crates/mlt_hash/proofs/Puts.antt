@@ -38,7 +38,7 @@ use Rattle.mlt_split.proofs.Few.{rest_holds_few}
 use Rattle.mlt_split.proofs.HeldPages.{not_made}
 use Rattle.mlt_hash.specs.Walks.{Basis, HasPassed, IsAdding, IsChanged, IsSplitting, IsStanding, Stands, WalkFields, aim_of}
 use Rattle.mlt_hash.specs.Changes.{Makes, PlansSlot, PutsLowest, page_of}
-use Rattle.mlt_hash.specs.Splitting.{BeginsSplit, HasToSplit, TellsOfAdding, TellsOfPut}
+use Rattle.mlt_hash.specs.Splitting.{BeginsSplit, HasToSplit, TellsOfAdding, TellsOfPut, walk_step}
 use Rattle.mlt_hash.specs.declared.answer.WalkAnswer.{WalkAnswer}
 use Rattle.mlt_hash.specs.declared.answer.WalkAnswer.TheVariants as answer
 use Rattle.mlt_hash.specs.declared.pass.Pass.{Pass}
@@ -229,14 +229,14 @@ module _ (basis : Basis) (walk after : WalkFields) (old new : Moment) (value n r
       }
 
   -- **What the record that is put tells.**
-  pub put_tells : (told : WalkAnswer) → TellsOfPut old new walk after write value told → TellsOfAdding basis old new walk after value n room_depth told
+  pub put_tells : (told : WalkAnswer) → TellsOfPut old new walk after write value told → TellsOfAdding basis (walk_step old new walk after) value n room_depth told
   put_tells answer.Changed tells = (
     phase,
     put_makes tells.0 tells.1,
     inr (page_with_slot adds.fields write.at write.slot, subst (λ q. WritesHeldPage old new q (page_with_slot adds.fields write.at write.slot)) (ap (λ (w : WriteFields). w.number) plan.written) (tells.0 adds.fields reads)),
     puts_lowest tells.0,
   )
-  put_tells (answer.Refused reason) tells = subst (λ r. TellsOfAdding basis old new walk after value n room_depth (answer.Refused r)) (sym tells.0) refl
+  put_tells (answer.Refused reason) tells = subst (λ r. TellsOfAdding basis (walk_step old new walk after) value n room_depth (answer.Refused r)) (sym tells.0) refl
   put_tells answer.Going tells = absurd tells
   put_tells (answer.Waiting page by) tells = absurd tells
   put_tells (answer.Found found) tells = absurd tells
@@ -251,11 +251,11 @@ put_has_room old new before after write value told tells is =
 
 -- **A split that could not begin.**
 pub begin_is_refused : (basis : Basis) (walk after : WalkFields) (old new : Moment) (value n room_depth : ℕ) (why : Refusal) → after ≡ walk → HasToSplit basis old walk value n room_depth → (why ≡ refusal.NoRoom → map.len old.store.pages ≡ old.store.max_pages)
-    → (why ≡ refusal.NoRoom) ⊎ (why ≡ refusal.OutOfMemory) → TellsOfAdding basis old new walk after value n room_depth (answer.Refused why)
+    → (why ≡ refusal.NoRoom) ⊎ (why ≡ refusal.OutOfMemory) → TellsOfAdding basis (walk_step old new walk after) value n room_depth (answer.Refused why)
 begin_is_refused basis walk after old new value n room_depth why same needed full either =
     elim either [
-      | inl room ↦ subst (λ w. TellsOfAdding basis old new walk after value n room_depth (answer.Refused w)) (sym room) (needed, full room)
-      | inr memory ↦ subst (λ w. TellsOfAdding basis old new walk after value n room_depth (answer.Refused w)) (sym memory) refl
+      | inl room ↦ subst (λ w. TellsOfAdding basis (walk_step old new walk after) value n room_depth (answer.Refused w)) (sym room) (needed, full room)
+      | inr memory ↦ subst (λ w. TellsOfAdding basis (walk_step old new walk after) value n room_depth (answer.Refused w)) (sym memory) refl
     ]
 
 -- a walk is refused for the reason for which its split was not begun
@@ -277,7 +277,7 @@ begun_alike {A} result why is = (
 -- **A split that has begun.**
 pub begins_split : (basis : Basis) (walk after : WalkFields) (old new : Moment) (value n room_depth : ℕ) (unsplit : Bool) (split : SplitFields) (made : Page) → MayStep old → MakesLockedPage old new split.new_page made → (adds : IsAdding basis walk (view_of old) n room_depth unsplit) → HasToSplit basis old walk value n room_depth
     → IsUnderWay (aim_of basis walk room_depth) (view_of new) split → steps_left split ≡ 1 + directory_steps split.depth split.directory_depth → split.depth ≡ adds.fields.depth → split.directory_depth ≡ adds.header.depth → HasHalves (aim_of basis walk room_depth) new.store.pages adds.fields split
-    → after ≡ record walk { phase = at.Splitting value room_depth; split = Some split } → BeginsSplit basis old new walk after value n room_depth
+    → after ≡ record walk { phase = at.Splitting value room_depth; split = Some split } → BeginsSplit basis (walk_step old new walk after) value n room_depth
 begins_split basis walk after old new value n room_depth unsplit split made may makes adds needed under_way steps bucket_depth depth halves after_is =
     let made_there : MakesPage (view_of old) (view_of new) split.new_page made = make_makes old new split.new_page made may makes in
     let here : IsSplitting basis (record walk { phase = at.Splitting value room_depth; split = Some split }) (view_of new) room_depth = record {

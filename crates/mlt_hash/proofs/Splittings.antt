@@ -25,7 +25,7 @@ use Rattle.mlt_split.specs.declared.phase.SplitPhase.TheVariants as split_at
 use Rattle.mlt_split.specs.declared.split.SplitAnswer.{SplitAnswer}
 use Rattle.mlt_split.specs.declared.split.SplitAnswer.TheVariants as split_answer
 use Rattle.mlt_hash.specs.Walks.{Basis, HasPassed, IsAdding, IsSplitting, IsStanding, Stands, StaysNarrow, WalkFields, aim_of}
-use Rattle.mlt_hash.specs.Splitting.{OfSplit, SplitCloses, SplitGoesOn, TellsOfSplitting}
+use Rattle.mlt_hash.specs.Splitting.{OfSplit, SplitCloses, SplitGoesOn, TellsOfSplitting, walk_step}
 use Rattle.mlt_hash.specs.Steps.{TellsOfPath}
 use Rattle.mlt_hash.proofs.Passed.{narrow_keeps_header, passed_as, passes_on, steps_by_split}
 use Rattle.mlt_hash.specs.declared.answer.WalkAnswer.{WalkAnswer}
@@ -177,7 +177,7 @@ making_leaves other aim old new making left = absurd making
 module _ (basis : Basis) (walk after : WalkFields) (old new : Moment) (value room_depth : ℕ) (was : SplitFields) (was_is : walk.split ≡ Some was) where
   -- **A step of the split is refused.**
   pub split_is_refused : (aim : Aim) (is : SplitFields) (why : Refusal) → aim ≡ aim_of basis walk room_depth → after ≡ record walk { split = Some is } → Tells aim old new was is (split_answer.Refused why) → Touches (split_answer.Refused why) aim old new was
-      → TellsOfSplitting basis old new walk after value room_depth (answer.Refused why)
+      → TellsOfSplitting basis (walk_step old new walk after) value room_depth (answer.Refused why)
   split_is_refused aim is refusal.NoRoom same after_is tells left = ((was, was_is, tells.0), making_leaves was.phase aim old new tells.0 left, tells.1)
   split_is_refused aim is refusal.OutOfMemory same after_is tells left = (refl, (was, was_is, subst (λ (a : Aim). IsLeft was.phase a old new) same left))
   split_is_refused aim is why same after_is tells left = (tells, (was, was_is, subst (λ (a : Aim). IsLeft was.phase a old new) same left))

@@ -7,7 +7,7 @@ use Rattle.mlt_hash_form.specs.Held.{Agrees}
 use Rattle.mlt_held.specs.Moments.{Moment}
 use Rattle.mlt_held.specs.Views.{view_of}
 use Rattle.mlt_split.specs.Splits.{SplitFields, directory_steps, steps_left}
-use Rattle.mlt_hash.specs.Splitting.{BeginsSplit, SplitCloses, SplitGoesOn, TellsAt}
+use Rattle.mlt_hash.specs.Splitting.{BeginsSplit, SplitCloses, SplitGoesOn, TellsAt, walk_step}
 use Rattle.mlt_hash.specs.StepsLeft.{IsPutting, bucket_depth, depth_after, directory_depth, steps_of_splits, steps_to_put, steps_to_put_at, steps_with_split}
 use Rattle.mlt_hash.specs.Walks.{Basis, IsSplitting, Stands, WalkFields}
 use Rattle.mlt_hash.specs.declared.answer.WalkAnswer.TheVariants as answer
@@ -24,7 +24,7 @@ some_is_one x y o is_x is_y = let e : Some x ≡ Some y = sym is_x ∙ is_y in c
 
 module _ (basis : Basis) (old new : Moment) (before after : WalkFields) (clean : ℕ → Option Page) (agree : Agrees (view_of new).seen clean) (form : HasForm basis.bits clean basis.root) where
   -- what is left once a split has begun
-  begins : (value n room_depth : ℕ) (unsplit : Bool) → before.phase ≡ at.Adding value n room_depth unsplit → BeginsSplit basis old new before after value n room_depth
+  begins : (value n room_depth : ℕ) (unsplit : Bool) → before.phase ≡ at.Adding value n room_depth unsplit → BeginsSplit basis (walk_step old new before after) value n room_depth
       → steps_to_put basis.root after (view_of new) + 1 ≡ steps_to_put_at (at.Adding value n room_depth unsplit) basis.root before (view_of old)
   begins value n room_depth unsplit phase b =
       let stands : IsSplitting basis after (view_of new) room_depth = subst (λ p. Stands p basis after (view_of new)) b.phase b.on.stands in

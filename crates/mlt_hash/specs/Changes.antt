@@ -1,5 +1,5 @@
 -- What the changes of a walk tell
-use Rattle.std.specs.Prelude.{ℕ, ◌≡◌, ◌≤◌, ◌⊎◌, true, IsSome, Bool, Some, None, position, ◌<◌}
+use Rattle.std.specs.Prelude.{ℕ, ◌≡◌, ◌≤◌, ◌⊎◌, true, IsSome, Bool, List, Some, None, position, ◌<◌}
 use Rattle.std.specs.List.{list_all}
 use Rattle.mlt_types.specs.declared.mode.Mode.TheVariants.{Exclusive}
 use Rattle.mlt_types.specs.declared.refusal.Refusal.TheVariants as refusal
@@ -13,6 +13,7 @@ use Rattle.mlt_hash_form.specs.Room.{is_crowded}
 use Rattle.mlt_held.specs.Moments.{Moment}
 use Rattle.mlt_held.specs.PageSteps.{WritesHeldPage}
 use Rattle.mlt_held.specs.Views.{ReadsHeldBucket, View, WritesPage, view_of}
+use Rattle.mlt_split.specs.declared.setting.Setting.{Setting}
 use Rattle.mlt_record.specs.Plans.{SetsFirst, WriteFields, has_room, planned_page}
 use Rattle.mlt_hash.specs.Passes.{HasRoomFrom, IsNextPass, NeverHasRoom}
 use Rattle.mlt_hash.specs.Walks.{Basis, IsStanding, MayWalk, WalkFields}
@@ -121,7 +122,13 @@ pub record IsFull (basis : Basis) (walk : WalkFields) (view : View) (fields : Bu
   pub no_ghost : position (is_ghost_of walk.key basis.tx) fields.slots ≡ None
   pub no_room : list_all (is_kept basis.opens) fields.slots ≡ true
 
--- at which depths the bucket would have no room for the walk's key
+-- at which depths a bucket with these slots would have no room for a key, in this setting
+abbrev pub crowded_in : {P : Type 0} → (P → ℕ → ℕ) → Setting P → ℕ → List Slot → ℕ → Bool
+crowded_in bits_of setting key slots d =
+    is_crowded (bits_of setting.root.now.pseudo) setting.opens.now d
+    (bits_of setting.root.now.pseudo key) slots
+
+-- and the bucket that a walk is at, for the walk's key
 abbrev pub crowded_at : Basis → WalkFields → BucketFields → ℕ → Bool
 crowded_at basis walk fields d = is_crowded basis.bits basis.opens d (basis.bits walk.key) fields.slots
 

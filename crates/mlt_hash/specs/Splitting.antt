@@ -26,6 +26,16 @@ use Rattle.mlt_hash.specs.declared.pass.Change.TheVariants as change
 use Rattle.mlt_hash.specs.declared.answer.WalkAnswer.{WalkAnswer}
 use Rattle.mlt_hash.specs.declared.answer.WalkAnswer.TheVariants as answer
 
+-- one step of a walk: the moment and the walk, before it and after
+pub record WalkStep : Type 0 where
+  pub old : Moment
+  pub new : Moment
+  pub before : WalkFields
+  pub after : WalkFields
+
+abbrev pub walk_step : Moment → Moment → WalkFields → WalkFields → WalkStep
+walk_step old new before after = record { old = old; new = new; before = before; after = after }
+
 -- the walk is the same and stands somewhere
 pub record StandsOn (basis : Basis) (new : Moment) (before after : WalkFields) : Type 0 where
   pub same : IsSameWalk before after
@@ -44,22 +54,21 @@ OfSplit walk Is = (split : SplitFields) × (walk.split ≡ Some split) × Is spl
 
 -- A split of the bucket on page n begins: with the new bucket made, it takes so many steps more as the depths of the bucket and of
 -- the directory say.
-pub record BeginsSplit (basis : Basis) (old new : Moment) (before after : WalkFields)
-    (value n room_depth : ℕ) : Type 0 where
-  pub needed : HasToSplit basis old before value n room_depth
-  pub on : StandsOn basis new before after
-  pub phase : after.phase ≡ at.Splitting value room_depth
+pub record BeginsSplit (basis : Basis) (step : WalkStep) (value n room_depth : ℕ) : Type 0 where
+  pub needed : HasToSplit basis step.old step.before value n room_depth
+  pub on : StandsOn basis step.new step.before step.after
+  pub phase : step.after.phase ≡ at.Splitting value room_depth
   pub split : SplitFields
-  pub split_is : after.split ≡ Some split
+  pub split_is : step.after.split ≡ Some split
   pub header : HeadFields
-  pub head : held_page (view_of old) basis.root ≡ Some (page.Head header)
+  pub head : held_page (view_of step.old) basis.root ≡ Some (page.Head header)
   pub bucket : BucketFields
-  pub found : held_page (view_of old) n ≡ Some (page.Bucket bucket)
+  pub found : held_page (view_of step.old) n ≡ Some (page.Bucket bucket)
   pub depth : split.depth ≡ bucket.depth
   pub directory_depth : split.directory_depth ≡ header.depth
   pub steps : steps_left split ≡ 1 + directory_steps split.depth split.directory_depth
-  pub made : (page : Page) × MakesLockedPage old new split.new_page page
-  pub halves : HasHalves (aim_of basis before room_depth) new.store.pages bucket split
+  pub made : (page : Page) × MakesLockedPage step.old step.new split.new_page page
+  pub halves : HasHalves (aim_of basis step.before room_depth) step.new.store.pages bucket split
 
 -- The split goes on, one step fewer is left.
 pub record SplitGoesOn (basis : Basis) (new : Moment) (before after : WalkFields) (value room_depth : ℕ) : Type 0 where
@@ -94,45 +103,50 @@ TellsOfPut old new before after write value other = ⊥
 
 -- a step of a walk whose bucket had no room: it puts the record where there is room now, into the lowest slot, but splits once
 -- at least
-abbrev pub TellsOfAdding : Basis → Moment → Moment → WalkFields → WalkFields → ℕ → ℕ → ℕ → WalkAnswer → Type 0
-TellsOfAdding basis old new before after value bucket room_depth answer.Going =
-    BeginsSplit basis old new before after value bucket room_depth
-TellsOfAdding basis old new before after value bucket room_depth answer.Changed =
-    (before.phase ≡ at.Adding value bucket room_depth false)
-    × Makes basis new before after (change.Put value)
-    × WritesAtMost old new bucket
-    × PutsLowest basis (view_of old) (view_of new) before bucket value
-TellsOfAdding basis old new before after value bucket room_depth (answer.Refused refusal.NoRoom) =
-    HasToSplit basis old before value bucket room_depth
-    × (map.len old.store.pages ≡ old.store.max_pages)
-TellsOfAdding basis old new before after value bucket room_depth (answer.Refused reason) = reason ≡ refusal.OutOfMemory
-TellsOfAdding basis old new before after value bucket room_depth other = ⊥
+abbrev pub TellsOfAdding : Basis → WalkStep → ℕ → ℕ → ℕ → WalkAnswer → Type 0
+TellsOfAdding basis step value bucket room_depth answer.Going =
+    BeginsSplit basis step value bucket room_depth
+TellsOfAdding basis step value bucket room_depth answer.Changed =
+    (step.before.phase ≡ at.Adding value bucket room_depth false)
+    × Makes basis step.new step.before step.after (change.Put value)
+    × WritesAtMost step.old step.new bucket
+    × PutsLowest basis (view_of step.old) (view_of step.new) step.before bucket value
+TellsOfAdding basis step value bucket room_depth (answer.Refused refusal.NoRoom) =
+    HasToSplit basis step.old step.before value bucket room_depth
+    × (map.len step.old.store.pages ≡ step.old.store.max_pages)
+TellsOfAdding basis step value bucket room_depth (answer.Refused reason) =
+    reason ≡ refusal.OutOfMemory
+TellsOfAdding basis step value bucket room_depth other = ⊥
 
 -- a step of a walk that splits its bucket tells what the step of the split tells, and which page that one locked or made
-abbrev pub TellsOfSplitting : Basis → Moment → Moment → WalkFields → WalkFields → ℕ → ℕ → WalkAnswer → Type 0
-TellsOfSplitting basis old new before after value room_depth answer.Going =
-    OfSplit before (λ split. IsDone split.phase (aim_of basis before room_depth) old new split)
-    × (SplitGoesOn basis new before after value room_depth ⊎ SplitCloses basis new before after value room_depth)
-TellsOfSplitting basis old new before after value room_depth (answer.Waiting page by) =
-    OfSplit before (λ split. IsNextPage split.phase (aim_of basis before room_depth) (view_of old) page)
-    × IsLowest (conflicts old.locks old.running.tx page Exclusive) by
-    × (new ≡ old)
-    × (after ≡ before)
-TellsOfSplitting basis old new before after value room_depth (answer.Refused refusal.NoRoom) =
-    OfSplit before (λ split. IsMaking split.phase)
-    × (new ≡ old)
-    × (map.len old.store.pages ≡ old.store.max_pages)
-TellsOfSplitting basis old new before after value room_depth (answer.Refused reason) =
+abbrev pub TellsOfSplitting : Basis → WalkStep → ℕ → ℕ → WalkAnswer → Type 0
+TellsOfSplitting basis step value room_depth answer.Going =
+    OfSplit step.before (λ split.
+    IsDone split.phase (aim_of basis step.before room_depth) step.old step.new split)
+    × (SplitGoesOn basis step.new step.before step.after value room_depth
+    ⊎ SplitCloses basis step.new step.before step.after value room_depth)
+TellsOfSplitting basis step value room_depth (answer.Waiting page by) =
+    OfSplit step.before (λ split.
+    IsNextPage split.phase (aim_of basis step.before room_depth) (view_of step.old) page)
+    × IsLowest (conflicts step.old.locks step.old.running.tx page Exclusive) by
+    × (step.new ≡ step.old)
+    × (step.after ≡ step.before)
+TellsOfSplitting basis step value room_depth (answer.Refused refusal.NoRoom) =
+    OfSplit step.before (λ split. IsMaking split.phase)
+    × (step.new ≡ step.old)
+    × (map.len step.old.store.pages ≡ step.old.store.max_pages)
+TellsOfSplitting basis step value room_depth (answer.Refused reason) =
     (reason ≡ refusal.OutOfMemory)
-    × OfSplit before (λ split. IsLeft split.phase (aim_of basis before room_depth) old new)
-TellsOfSplitting basis old new before after value room_depth other = ⊥
+    × OfSplit step.before (λ split.
+    IsLeft split.phase (aim_of basis step.before room_depth) step.old step.new)
+TellsOfSplitting basis step value room_depth other = ⊥
 
 -- what a step tells, by where the walk stood
 abbrev pub TellsAt : Phase → Basis → Moment → Moment → WalkFields → WalkFields → WalkAnswer → Type 0
 TellsAt (at.Adding value bucket room_depth unsplit) basis old new before after told =
-    TellsOfAdding basis old new before after value bucket room_depth told
+    TellsOfAdding basis (walk_step old new before after) value bucket room_depth told
 TellsAt (at.Splitting value room_depth) basis old new before after told =
-    TellsOfSplitting basis old new before after value room_depth told
+    TellsOfSplitting basis (walk_step old new before after) value room_depth told
 TellsAt other basis old new before after told = TellsOfPath basis old new before after told
 
 -- the next step makes a page: it begins a split, or makes a page of the one under way

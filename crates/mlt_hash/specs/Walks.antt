@@ -22,6 +22,7 @@ use Rattle.mlt_held.specs.Moments.{HasCleanFile, MayStep, Moment}
 use Rattle.mlt_held.specs.Views.{View, view_of}
 use Rattle.mlt_split.specs.Rests.{Aim, IsAtRest, held_page}
 use Rattle.mlt_split.specs.Splits.{IsUnderWay, SplitFields}
+use Rattle.mlt_split.specs.declared.setting.Setting.{Setting}
 use Rattle.mlt_hash.specs.Passes.{MayHoldMore, bucket_held, bucket_mode, directory_held, directory_mode, header_held, header_mode, slot_after, value_after}
 use Rattle.mlt_hash.specs.declared.pass.Pass.{Pass}
 use Rattle.mlt_hash.specs.declared.pass.Pass.TheVariants as pass
@@ -56,6 +57,10 @@ basis_by bits_of root opens tx = record {
   max_depth = root.max_depth;
   tx = tx;
 }
+
+-- what it goes by in this setting
+abbrev pub basis_in : {P : Type 0} → (P → ℕ → ℕ) → Setting P → ℕ → Basis
+basis_in bits_of setting tx = basis_by bits_of setting.root.now setting.opens.now tx
 
 -- the key's directory page, by the header, and its entry there
 abbrev pub dir_of : Basis → HeadFields → ℕ → ℕ

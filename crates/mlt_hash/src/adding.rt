@@ -11,20 +11,19 @@ ghost use Rattle.mlt_page_locks.specs.LockTables.{can_read, can_write};
 ghost use Rattle.mlt_held.specs.Moments.{MayStep, moment};
 ghost use Rattle.mlt_held.specs.PageSteps.{HasNoPageLeft, Leaves};
 ghost use Rattle.mlt_held.specs.Views.{view_of};
-ghost use Rattle.mlt_hash.specs.Walks.{MayWalk, aim_of, basis_by};
+ghost use Rattle.mlt_hash.specs.Walks.{MayWalk, aim_of, basis_in};
 ghost use Rattle.mlt_split.specs.Rests.{Aim, held_page};
 ghost use Rattle.mlt_split.specs.Steps.{IsMaking};
 ghost use Rattle.mlt_hash.specs.Changes.{PlansSlot};
-ghost use Rattle.mlt_hash.specs.Splitting.{HasToSplit, OfSplit, TellsOfAdding, TellsOfPut, TellsOfSplitting};
+ghost use Rattle.mlt_hash.specs.Splitting.{HasToSplit, OfSplit, TellsOfAdding, TellsOfPut, TellsOfSplitting, walk_step};
 
 use crate::answer::WalkAnswer;
 use crate::pass::{Change, Phase};
 use crate::walk::Walk;
-use mlt_hash_form::Root;
 use mlt_held::{LockedStore, read_held, write_slot};
 use mlt_page::Page;
 use mlt_record::SlotWrite;
-use mlt_split::{Split, SplitAnswer};
+use mlt_split::{Setting, Split, SplitAnswer};
 use mlt_subtx::Subtx;
 use mlt_types::{OpenSet, PageNo, Pseudo, Refusal, Value};
 
@@ -35,29 +34,28 @@ pub(crate) fn add_or_split<P: Pseudo>(
     number: PageNo,
     room_depth: u8,
     unsplit: bool,
-    root: &Root<P>,
+    setting: &Setting<P>,
     subtx: &mut Subtx,
     pages: &mut LockedStore,
-    opens: &OpenSet,
 ) -> WalkAnswer
     ghost needed: { ℕ }
     requires needed { needed ≡ room_depth }
     requires phase { walk.old.phase ≡ Phase.Adding value number room_depth unsplit }
-    requires ready { MayWalk (basis_by P.bits_of root.now opens.now subtx.old.tx)
+    requires ready { MayWalk (basis_in P.bits_of setting.now subtx.old.tx)
         (moment subtx.old pages.old) walk.old }
     ensures leaves { Leaves (moment subtx.old pages.old) (moment subtx.new pages.new) }
     ensures no_room { (result ≡ WalkAnswer.Refused Refusal.NoRoom)
-        ↔ (HasToSplit (basis_by P.bits_of root.now opens.now subtx.old.tx)
+        ↔ (HasToSplit (basis_in P.bits_of setting.now subtx.old.tx)
         (moment subtx.old pages.old) walk.old value number room_depth
         × HasNoPageLeft pages.old.store) }
-    ensures tells { TellsOfAdding (basis_by P.bits_of root.now opens.now subtx.old.tx)
-        (moment subtx.old pages.old) (moment subtx.new pages.new)
-        walk.old walk.new value number room_depth result }
+    ensures tells { TellsOfAdding (basis_in P.bits_of setting.now subtx.old.tx)
+        (walk_step (moment subtx.old pages.old) (moment subtx.new pages.new) walk.old walk.new)
+        value number room_depth result }
 {
-    if let Some(write) = plan_to_put(walk, value, number, unsplit, subtx, pages, opens) {
+    if let Some(write) = plan_to_put(walk, value, number, unsplit, subtx, pages, setting.opens) {
         return put(walk, write, value, subtx, pages);
     }
-    match Split::begin(root, walk.key, number, subtx, pages, opens) {
+    match Split::begin(setting, walk.key, number, subtx, pages) {
         Ok(split) => keep_split(walk, value, room_depth, split),
         Err(refusal) => WalkAnswer::Refused(refusal),
     }
@@ -135,33 +133,32 @@ fn keep_split(walk: &mut Walk, value: Value, room_depth: u8, split: Split) -> Wa
     WalkAnswer::Going
 }
 
-/// Goes on with the split. `opens` is handed in for what the split knows of the open transactions.
+/// Goes on with the split.
 pub(crate) fn go_on_splitting<P: Pseudo>(
     walk: &mut Walk,
     value: Value,
     room_depth: u8,
-    root: &Root<P>,
+    setting: &Setting<P>,
     subtx: &mut Subtx,
     pages: &mut LockedStore,
-    opens: &OpenSet,
 ) -> WalkAnswer
     ghost aim: { Aim }
     requires aim { aim
-        ≡ aim_of (basis_by P.bits_of root.now opens.now subtx.old.tx) walk.old room_depth }
+        ≡ aim_of (basis_in P.bits_of setting.now subtx.old.tx) walk.old room_depth }
     requires phase { walk.old.phase ≡ Phase.Splitting value room_depth }
-    requires ready { MayWalk (basis_by P.bits_of root.now opens.now subtx.old.tx)
+    requires ready { MayWalk (basis_in P.bits_of setting.now subtx.old.tx)
         (moment subtx.old pages.old) walk.old }
     ensures leaves { Leaves (moment subtx.old pages.old) (moment subtx.new pages.new) }
     ensures no_room { (result ≡ WalkAnswer.Refused Refusal.NoRoom)
         ↔ (OfSplit walk.old (λ split. IsMaking split.phase) × HasNoPageLeft pages.old.store) }
-    ensures tells { TellsOfSplitting (basis_by P.bits_of root.now opens.now subtx.old.tx)
-        (moment subtx.old pages.old) (moment subtx.new pages.new)
-        walk.old walk.new value room_depth result }
+    ensures tells { TellsOfSplitting (basis_in P.bits_of setting.now subtx.old.tx)
+        (walk_step (moment subtx.old pages.old) (moment subtx.new pages.new) walk.old walk.new)
+        value room_depth result }
 {
     let Some(split) = &mut walk.split else {
         unreachable!()
     };
-    match split.advance(root.page, subtx, pages) {
+    match split.advance(setting.root.page, subtx, pages) {
         SplitAnswer::Going => WalkAnswer::Going,
         SplitAnswer::Closed(bucket) => {
             walk.phase = Phase::Adding(value, bucket, room_depth, false);

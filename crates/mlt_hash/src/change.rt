@@ -6,7 +6,7 @@ ghost use Rattle.mlt_page.specs.Values.{BucketFields};
 ghost use Rattle.mlt_page_locks.specs.LockTables.{can_write};
 ghost use Rattle.mlt_held.specs.PageSteps.{Leaves};
 ghost use Rattle.mlt_held.specs.Views.{WritesSlot, view_of};
-ghost use Rattle.mlt_hash.specs.Walks.{Basis, IsUnwritten, basis_by};
+ghost use Rattle.mlt_hash.specs.Walks.{Basis, IsUnwritten, basis_in};
 ghost use Rattle.mlt_hash.specs.declared.pass.Change.TheVariants as change;
 ghost use Rattle.mlt_hash.specs.Changes.{HasOwnGhost, IsAtAbsent, IsAtBucketPhase, IsAtRecord, IsFull, MayChange, MayChangeBy, PlansSlot, RevivesFirst, SeesBucket, TakesSlot, TellsOfAddition, TellsOfChange, WritesIfChanged, page_of};
 
@@ -14,34 +14,33 @@ use crate::answer::WalkAnswer;
 use crate::pass::{Change, Pass, Phase};
 use crate::room::next_pass;
 use crate::walk::Walk;
-use mlt_hash_form::Root;
 use mlt_held::{LockedStore, read_held, write_slot};
 use mlt_page::{Bucket, Page};
 use mlt_record::SlotWrite;
+use mlt_split::Setting;
 use mlt_subtx::Subtx;
-use mlt_types::{OpenSet, PageNo, Pseudo, Refusal, Value};
+use mlt_types::{PageNo, Pseudo, Refusal, Value};
 
 impl Walk {
     /// Adds a record of the walk's key, which has none: revives the transaction's own ghost of the key, else puts the
     /// record into the lowest slot with room, else says that a split is needed, or which pass, and has written nothing.
-    /// `opens` are the open transactions. In a first pass it takes no memory.
+    /// In a first pass it takes no memory.
     pub fn insert<P: Pseudo>(
         &mut self,
         value: Value,
-        root: &Root<P>,
+        setting: &Setting<P>,
         subtx: &mut Subtx,
         pages: &mut LockedStore,
-        opens: &OpenSet,
     ) -> WalkAnswer
-        requires ready { MayChange (basis_by P.bits_of root.now opens.now subtx.old.tx)
+        requires ready { MayChange (basis_in P.bits_of setting.now subtx.old.tx)
             (moment subtx.old pages.old) self.old }
         requires found { IsAtAbsent self.old.phase }
         ensures writes { WritesIfChanged (moment subtx.old pages.old) (moment subtx.new pages.new)
             (page_of self.old.phase) result }
         ensures leaves { Leaves (moment subtx.old pages.old) (moment subtx.new pages.new) }
-        ensures tells { TellsOfAddition (basis_by P.bits_of root.now opens.now subtx.old.tx)
+        ensures tells { TellsOfAddition (basis_in P.bits_of setting.now subtx.old.tx)
             (moment subtx.new pages.new) self.old self.new value result }
-        ensures slot { TakesSlot result (basis_by P.bits_of root.now opens.now subtx.old.tx)
+        ensures slot { TakesSlot result (basis_in P.bits_of setting.now subtx.old.tx)
             (view_of (moment subtx.old pages.old)) (view_of (moment subtx.new pages.new))
             self.old value }
     {
@@ -49,10 +48,10 @@ impl Walk {
         if let Some(write) = mlt_record::revive(number, bucket, self.key, subtx.tx(), value) {
             return write_change(self, write, Change::Revive(value), subtx, pages);
         }
-        if let Some(write) = mlt_record::insert(number, bucket, self.key, value, opens) {
+        if let Some(write) = mlt_record::insert(number, bucket, self.key, value, setting.opens) {
             return write_change(self, write, Change::Put(value), subtx, pages);
         }
-        without_room(self, value, root, subtx, pages, opens)
+        without_room(self, value, setting, subtx, pages)
     }
 
     /// Gives the record of the walk's key another value. It takes no memory.
@@ -176,18 +175,17 @@ fn write_change(
 fn without_room<P: Pseudo>(
     walk: &mut Walk,
     value: Value,
-    root: &Root<P>,
+    setting: &Setting<P>,
     subtx: &Subtx,
     pages: &LockedStore,
-    opens: &OpenSet,
 ) -> WalkAnswer
-    requires ready { MayChange (basis_by P.bits_of root.now opens.now subtx.now.tx)
+    requires ready { MayChange (basis_in P.bits_of setting.now subtx.now.tx)
         (moment subtx.now pages.now) walk.old }
     requires found { IsAtAbsent walk.old.phase }
     requires full { (fields : BucketFields)
-        × IsFull (basis_by P.bits_of root.now opens.now subtx.now.tx)
+        × IsFull (basis_in P.bits_of setting.now subtx.now.tx)
         walk.old (view_of (moment subtx.now pages.now)) fields }
-    ensures tells { TellsOfAddition (basis_by P.bits_of root.now opens.now subtx.now.tx)
+    ensures tells { TellsOfAddition (basis_in P.bits_of setting.now subtx.now.tx)
         (moment subtx.now pages.now) walk.old walk.new value result }
     ensures unchanged { result ≢ WalkAnswer.Changed }
 {
@@ -196,7 +194,7 @@ fn without_room<P: Pseudo>(
         unreachable!()
     };
     let (number, bucket) = held_bucket(walk, subtx, pages);
-    let (next, least) = next_pass(bucket, directory_depth, walk.key, root, opens);
+    let (next, least) = next_pass(bucket, directory_depth, walk.key, setting);
     if let Pass::First = walk.pass {
         walk.phase = Phase::Full(next);
         return WalkAnswer::NeedSplit;

@@ -5,18 +5,17 @@ ghost use Rattle.std.specs.FinMap as map;
 ghost use Rattle.mlt_held.specs.Moments.{moment};
 ghost use Rattle.mlt_held.specs.PageSteps.{HasNoPageLeft, Leaves};
 ghost use Rattle.mlt_hash.specs.Passes.{next_of};
-ghost use Rattle.mlt_hash.specs.Walks.{MayWalk, basis_by};
+ghost use Rattle.mlt_hash.specs.Walks.{MayWalk, basis_in};
 ghost use Rattle.mlt_hash.specs.Splitting.{HasToMake, IsUnderWay, TellsAt};
 
 use crate::adding::{add_or_split, go_on_splitting};
 use crate::answer::WalkAnswer;
 use crate::pass::{Pass, Phase};
 use crate::path::{read_bucket, read_directory, read_header};
-use mlt_hash_form::Root;
 use mlt_held::LockedStore;
-use mlt_split::Split;
+use mlt_split::{Setting, Split};
 use mlt_subtx::Subtx;
-use mlt_types::{Key, Mode, OpenSet, Pseudo, Refusal};
+use mlt_types::{Key, Mode, Pseudo, Refusal};
 use std::alloc::Global;
 use std::marker::Model;
 
@@ -95,39 +94,38 @@ impl Walk {
     }
 
     /// One step: on the way to the bucket it locks a page and reads it; where the bucket had no room it splits the bucket,
-    /// one page written or made, until there is room, and puts the record. `opens` are the open transactions.
+    /// one page written or made, until there is room, and puts the record.
     pub fn advance<P: Pseudo>(
         &mut self,
-        root: &Root<P>,
+        setting: &Setting<P>,
         subtx: &mut Subtx,
         pages: &mut LockedStore,
-        opens: &OpenSet,
     ) -> WalkAnswer
         requires under_way { IsUnderWay self.old.phase }
-        requires ready { MayWalk (basis_by P.bits_of root.now opens.now subtx.old.tx)
+        requires ready { MayWalk (basis_in P.bits_of setting.now subtx.old.tx)
             (moment subtx.old pages.old) self.old }
         ensures leaves { Leaves (moment subtx.old pages.old) (moment subtx.new pages.new) }
         ensures no_room { (result ≡ WalkAnswer.Refused Refusal.NoRoom)
-            ↔ (HasToMake self.old.phase (basis_by P.bits_of root.now opens.now subtx.old.tx)
+            ↔ (HasToMake self.old.phase (basis_in P.bits_of setting.now subtx.old.tx)
             (moment subtx.old pages.old) self.old
             × HasNoPageLeft pages.old.store) }
-        ensures tells { TellsAt self.old.phase (basis_by P.bits_of root.now opens.now subtx.old.tx)
+        ensures tells { TellsAt self.old.phase (basis_in P.bits_of setting.now subtx.old.tx)
             (moment subtx.old pages.old) (moment subtx.new pages.new) self.old self.new result }
     {
         let phase = self.phase;
         match phase {
-            Phase::Start => read_header(self, root, subtx, pages),
+            Phase::Start => read_header(self, setting.root, subtx, pages),
             Phase::Headed(dir, row, depth) => {
-                read_directory(self, dir, row, depth, root, subtx, pages)
+                read_directory(self, dir, row, depth, setting.root, subtx, pages)
             }
-            Phase::Placed(bucket, depth) => { read_bucket(self, bucket, depth, root, subtx, pages) }
+            Phase::Placed(bucket, depth) => {
+                read_bucket(self, bucket, depth, setting.root, subtx, pages)
+            }
             Phase::Adding(value, bucket, depth, unsplit) => {
-                add_or_split(
-                    self, value, bucket, depth, unsplit, root, subtx, pages, opens,
-                )
+                add_or_split(self, value, bucket, depth, unsplit, setting, subtx, pages)
             }
             Phase::Splitting(value, depth) => {
-                go_on_splitting(self, value, depth, root, subtx, pages, opens)
+                go_on_splitting(self, value, depth, setting, subtx, pages)
             }
             Phase::AtBucket(_, _, _) | Phase::Full(_) | Phase::Changed(_, _) => unreachable!(),
         }

@@ -14,7 +14,7 @@ ghost use Rattle.mlt_held.specs.Views.{View, view_of};
 ghost use Rattle.mlt_split.specs.Rests.{KeepsNoMore};
 ghost use Rattle.mlt_split.specs.Steps.{IsNextPage};
 ghost use Rattle.mlt_hash.specs.Walks.{Basis, HasPassed, IsAtBucket, IsAtStart, IsSplitting, IsStanding, WalkFields, aim_of};
-ghost use Rattle.mlt_hash.specs.Splitting.{TellsAt, TellsOfSplitting};
+ghost use Rattle.mlt_hash.specs.Splitting.{TellsAt, TellsOfSplitting, WalkStep};
 ghost use Rattle.mlt_hash.specs.StepsLeft.{IsPutting, steps_to_put};
 ghost use Rattle.mlt_hash.specs.declared.answer.WalkAnswer.TheVariants as answer;
 ghost use Rattle.mlt_hash.specs.declared.pass.Pass.TheVariants as pass;
@@ -79,12 +79,12 @@ pub fn narrow_passes_hold_their_next_page()
 
 /// So a narrow pass that splits is never told to wait.
 pub fn narrow_passes_never_wait()
-    ensures { (basis : Basis) (old new : Moment) (before after : WalkFields)
-        (value room_depth page by : ℕ) (clean : ℕ → Option Page)
-        → MayStep old → IsSplitting basis before (view_of old) room_depth
-        → before.pass ≡ pass.Narrow
-        → Agrees (view_of old).seen clean → HasForm basis.bits clean basis.root
-        → TellsOfSplitting basis old new before after value room_depth (answer.Waiting page by)
+    ensures { (basis : Basis) (step : WalkStep) (value room_depth page by : ℕ)
+        (clean : ℕ → Option Page)
+        → MayStep step.old → IsSplitting basis step.before (view_of step.old) room_depth
+        → step.before.pass ≡ pass.Narrow
+        → Agrees (view_of step.old).seen clean → HasForm basis.bits clean basis.root
+        → TellsOfSplitting basis step value room_depth (answer.Waiting page by)
         → ⊥ }
 {}
 

@@ -6,7 +6,7 @@ use Rattle.mlt_page.specs.declared.page.Page.{Page}
 use Rattle.mlt_subtx.specs.Images.{put_back}
 use Rattle.mlt_held.specs.Moments.{Moment}
 use Rattle.mlt_hash_file.specs.Alone.{KeepsBefore, basis_of, pages_before}
-use Rattle.mlt_hash_file.specs.AloneWalks.{HasChanged, IsFullFor, MayAdd, NeedsRoom, NeedsSplits, NeverHasRoomFor, TellsOfLater, TellsOfPass, TellsOfSplits, added_value}
+use Rattle.mlt_hash_file.specs.AloneWalks.{HasChanged, IsFullFor, MayAdd, NeedsRoom, NeedsSplits, NeverHasRoomFor, TellsOfLater, TellsOfPass, TellsOfSplits, added_value, bounded_before}
 use Rattle.mlt_hash.specs.Walks.{Basis, WalkFields}
 use Rattle.mlt_hash.specs.declared.answer.WalkAnswer.{WalkAnswer}
 use Rattle.mlt_hash.specs.declared.answer.WalkAnswer.TheVariants as answer
@@ -28,7 +28,7 @@ still_full basis mid new before at value keeps needs = subst (λ (pages : ℕ �
 
 -- a pass whose splits lead to more pages than there may be says so of the pages before it
 lacks_pages : (basis : Basis) (mid new : Moment) (before at : WalkFields) (value : ℕ) → KeepsBefore mid new → NeedsSplits basis mid before at value → new.store.max_pages < pages_in_the_end basis.root at mid
-    → LacksPages basis.bits (pages_before new) (put_back new.running.images new.store.pages) basis.root basis.max_depth new.store.max_pages before.key
+    → LacksPages (bounded_before basis new) before.key
 lacks_pages basis mid new before at value keeps needs lacks =
     let before_is : pages_before mid ≡ pages_before new = sym (same_before mid new keeps) in
     let back_is : put_back mid.running.images mid.store.pages ≡ put_back new.running.images new.store.pages = sym (same_put_back mid new keeps) in

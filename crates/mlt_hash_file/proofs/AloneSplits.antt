@@ -31,7 +31,7 @@ use Rattle.mlt_hash.specs.StepsLeft.{IsPutting}
 use Rattle.mlt_hash_file.specs.AloneWalks.{HasChanged, IsHashFile, MayAdd, TellsOfSplits, added_value}
 use Rattle.mlt_hash.specs.Changes.{Makes}
 use Rattle.mlt_hash_file.specs.SplitPages.{left_from, left_from_split, pages_in_the_end, pages_left_at, pages_to_make}
-use Rattle.mlt_hash.specs.Splitting.{BeginsSplit, HasToSplit, OfSplit, SplitCloses, SplitGoesOn, TellsAt, TellsOfAdding, TellsOfSplitting}
+use Rattle.mlt_hash.specs.Splitting.{BeginsSplit, HasToSplit, OfSplit, SplitCloses, SplitGoesOn, TellsAt, TellsOfAdding, TellsOfSplitting, walk_step}
 use Rattle.mlt_hash.specs.Splitting.{IsUnderWay as HasNextStep}
 use Rattle.mlt_hash.specs.Walks.{Basis, IsAdding, IsSplitting, IsStanding, Stands, WalkFields, aim_of}
 use Rattle.mlt_hash.specs.declared.answer.WalkAnswer.{WalkAnswer}
@@ -158,7 +158,7 @@ module _ (bits : ℕ → ℕ) (root max_depth : ℕ) (first now new : Moment) (w
     shallow = subst (λ (p : Option Page). (header_of p).depth ≤ max_depth) (sym stored_head) adding.shallow
 
     -- a split that begins makes one of the pages that it leads to
-    begins_pages : (b : BeginsSplit ours now new walk after value n room_depth) → page_at now.store.pages root ≡ Some (page.Head b.header) → page_at now.store.pages n ≡ Some (page.Bucket b.bucket) → b.split.depth < room_depth
+    begins_pages : (b : BeginsSplit ours (walk_step now new walk after) value n room_depth) → page_at now.store.pages root ≡ Some (page.Head b.header) → page_at now.store.pages n ≡ Some (page.Bucket b.bucket) → b.split.depth < room_depth
         → pages_in_the_end root after new ≤ pages_in_the_end root walk now
     begins_pages b head bucket deep =
         let now_left : pages_left_at walk.phase root walk now ≡ pages_to_make b.bucket.depth b.header.depth room_depth = ap (λ (phase : Phase). pages_left_at phase root walk now) phase_is ∙ (λ i. pages_to_make (bucket_of (bucket i)).depth (header_of (head i)).depth room_depth) in
@@ -166,7 +166,7 @@ module _ (bits : ℕ → ℕ) (root max_depth : ℕ) (first now new : Moment) (w
         let same : pages_to_make b.split.depth b.split.directory_depth room_depth ≡ pages_to_make b.bucket.depth b.header.depth room_depth = (λ i. pages_to_make (b.depth i) (b.directory_depth i) room_depth) in
         one_made _ _ _ _ _ _ (made now new b.split.new_page b.made.0 b.made.1) (begun b.split.depth b.split.directory_depth room_depth b.split.phase deep) now_left _ new_left same
 
-    begins : BeginsSplit ours now new walk after value n room_depth → Advances ours now new walk after
+    begins : BeginsSplit ours (walk_step now new walk after) value n room_depth → Advances ours now new walk after
     begins b =
         let head : page_at now.store.pages root ≡ Some (page.Head b.header) = held_is_stored now root (page.Head b.header) alone.may b.head in
         let bucket : page_at now.store.pages n ≡ Some (page.Bucket b.bucket) = held_is_stored now n (page.Bucket b.bucket) alone.may b.found in
@@ -211,10 +211,10 @@ module _ (bits : ℕ → ℕ) (root max_depth : ℕ) (first now new : Moment) (w
         let left : pages_left_at walk.phase root walk now ≡ pages_to_make adding.fields.depth adding.header.depth room_depth = ap (λ (phase : Phase). pages_left_at phase root walk now) phase_is ∙ (λ i. pages_to_make (bucket_of (stored_bucket i)).depth (header_of (stored_head i)).depth room_depth) in
         past_the_limit _ _ _ _ _ full keeps.max_pages left (one_at_least adding.fields.depth adding.header.depth room_depth (has_to_be_deeper to_split))
 
-    adding_goes : TellsOfAdding ours now new walk after value n room_depth answer.Going → Advances ours now new walk after
+    adding_goes : TellsOfAdding ours (walk_step now new walk after) value n room_depth answer.Going → Advances ours now new walk after
     adding_goes tells = begins tells
 
-    adding_ends : (told : WalkAnswer) → (told ≡ answer.Going → ⊥) → TellsOfAdding ours now new walk after value n room_depth told → TellsOfSplits ours new walk.key value (pages_in_the_end root walk now) told
+    adding_ends : (told : WalkAnswer) → (told ≡ answer.Going → ⊥) → TellsOfAdding ours (walk_step now new walk after) value n room_depth told → TellsOfSplits ours new walk.key value (pages_in_the_end root walk now) told
     adding_ends answer.Going not tells = absurd (not refl)
     adding_ends answer.Changed not tells = puts tells.1 tells.2
     adding_ends (answer.Refused refusal.NoRoom) not tells = full_at_rest tells.0 tells.1
@@ -293,7 +293,7 @@ module _ (bits : ℕ → ℕ) (root max_depth : ℕ) (first now new : Moment) (w
           pages = closes_pages s head bucket done;
         }
 
-    splitting_goes : TellsOfSplitting ours now new walk after value room_depth answer.Going → Advances ours now new walk after
+    splitting_goes : TellsOfSplitting ours (walk_step now new walk after) value room_depth answer.Going → Advances ours now new walk after
     splitting_goes tells = elim tells.1 [ inl goes ↦ split_goes_on goes tells.0 | inr closes ↦ split_closes closes tells.0 ]
 
     -- where the store is full and a page is to be made, the splits lead to more pages than there may be
@@ -307,7 +307,7 @@ module _ (bits : ℕ → ℕ) (root max_depth : ℕ) (first now new : Moment) (w
     full_in_split : (split : SplitFields) → walk.split ≡ Some split → IsMaking split.phase → map.len now.store.pages ≡ now.store.max_pages → new.store.max_pages < pages_in_the_end root walk now
     full_in_split split is making full = past_the_limit _ _ _ _ _ full keeps.max_pages (left_now split is) (one_left split.phase split.depth split.directory_depth (stands_there split is) making)
 
-    splitting_ends : (told : WalkAnswer) → (told ≡ answer.Going → ⊥) → HasNotWaited told → TellsOfSplitting ours now new walk after value room_depth told → TellsOfSplits ours new walk.key value (pages_in_the_end root walk now) told
+    splitting_ends : (told : WalkAnswer) → (told ≡ answer.Going → ⊥) → HasNotWaited told → TellsOfSplitting ours (walk_step now new walk after) value room_depth told → TellsOfSplits ours new walk.key value (pages_in_the_end root walk now) told
     splitting_ends answer.Going not went tells = absurd (not refl)
     splitting_ends (answer.Waiting page by) not went tells = absurd went
     splitting_ends (answer.Refused refusal.NoRoom) not went tells = full_in_split tells.0.0 tells.0.1 tells.0.2 tells.2

@@ -3,7 +3,7 @@ use Rattle.std.proofs.Common.{ℕ}
 use Rattle.mlt_types.specs.declared.mode.Mode.TheVariants.{Exclusive}
 use Rattle.mlt_held.specs.Moments.{Moment}
 use Rattle.mlt_hash_file.specs.Alone.{HasNotWaited, IsAlone}
-use Rattle.mlt_hash.specs.Splitting.{TellsAt, TellsOfAdding, TellsOfSplitting}
+use Rattle.mlt_hash.specs.Splitting.{TellsAt, TellsOfAdding, TellsOfSplitting, walk_step}
 use Rattle.mlt_hash.specs.Steps.{TellsOfPath, next_mode}
 use Rattle.mlt_hash.specs.Walks.{Basis, WalkFields}
 use Rattle.mlt_hash.specs.declared.answer.WalkAnswer.{WalkAnswer}
@@ -23,7 +23,7 @@ path_goes basis old new before after answer.Widen alone tells = tt
 path_goes basis old new before after (answer.Refused reason) alone tells = tt
 
 -- where it puts its record,
-adding_goes : (basis : Basis) (old new : Moment) (before after : WalkFields) (value bucket room_depth : ℕ) (told : WalkAnswer) → TellsOfAdding basis old new before after value bucket room_depth told → HasNotWaited told
+adding_goes : (basis : Basis) (old new : Moment) (before after : WalkFields) (value bucket room_depth : ℕ) (told : WalkAnswer) → TellsOfAdding basis (walk_step old new before after) value bucket room_depth told → HasNotWaited told
 adding_goes basis old new before after value bucket room_depth answer.Going tells = tt
 adding_goes basis old new before after value bucket room_depth (answer.Waiting page by) tells = tells
 adding_goes basis old new before after value bucket room_depth (answer.Found found) tells = tt
@@ -33,7 +33,7 @@ adding_goes basis old new before after value bucket room_depth answer.Widen tell
 adding_goes basis old new before after value bucket room_depth (answer.Refused reason) tells = tt
 
 -- or where it splits
-splitting_goes : (basis : Basis) (old new : Moment) (before after : WalkFields) (value room_depth : ℕ) (told : WalkAnswer) → IsAlone old → TellsOfSplitting basis old new before after value room_depth told → HasNotWaited told
+splitting_goes : (basis : Basis) (old new : Moment) (before after : WalkFields) (value room_depth : ℕ) (told : WalkAnswer) → IsAlone old → TellsOfSplitting basis (walk_step old new before after) value room_depth told → HasNotWaited told
 splitting_goes basis old new before after value room_depth answer.Going alone tells = tt
 splitting_goes basis old new before after value room_depth (answer.Waiting page by) alone tells = nobody_to_wait_for old page by Exclusive alone tells.1
 splitting_goes basis old new before after value room_depth (answer.Found found) alone tells = tt

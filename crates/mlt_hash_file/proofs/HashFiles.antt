@@ -97,8 +97,8 @@ put_back_first old mid idle keeps =
     same_pages (put_back mid.running.images mid.store.pages) old.store.pages (λ q. page_at-put_back mid.running.images mid.store.pages q ∙ keeps.pages q ∙ idle_before old q idle)
 
 -- **An addition that is refused says of the file as it was why.**
-pub refuses : (bits : ℕ → ℕ) (root max_depth : ℕ) (old mid : Moment) (key : ℕ) (reason : Refusal) → IsIdle old → KeepsBefore old mid → TellsRefusal (basis_of bits root max_depth old) mid key reason → RefusesFor bits (page_at old.store.pages) old.store.pages root max_depth old.store.max_pages key reason
+pub refuses : (bits : ℕ → ℕ) (root max_depth : ℕ) (old mid : Moment) (key : ℕ) (reason : Refusal) → IsIdle old → KeepsBefore old mid → TellsRefusal (basis_of bits root max_depth old) mid key reason → RefusesFor (record { bits = bits; has = page_at old.store.pages; pages = old.store.pages; root = root; max_depth = max_depth; max_pages = old.store.max_pages }) key reason
 refuses bits root max_depth old mid key reason idle keeps tells =
     let before : pages_before mid ≡ page_at old.store.pages = same_before old mid keeps ∙ idle_store old idle in
     let pages : put_back mid.running.images mid.store.pages ≡ old.store.pages = put_back_first old mid idle keeps in
-    transport (λ i. RefusesFor bits (before i) (pages i) root max_depth (keeps.max_pages i) key reason) tells
+    transport (λ i. RefusesFor (record { bits = bits; has = before i; pages = pages i; root = root; max_depth = max_depth; max_pages = keeps.max_pages i }) key reason) tells

@@ -7,7 +7,7 @@ use Rattle.mlt_types.specs.declared.refusal.Refusal.{Refusal}
 use Rattle.mlt_types.specs.declared.refusal.Refusal.TheVariants as refusal
 use Rattle.mlt_page.specs.Slots.{is_kept}
 use Rattle.mlt_page.specs.declared.page.Page.{Page}
-use Rattle.mlt_store.specs.Stores.{Pages, page_at}
+use Rattle.mlt_store.specs.Stores.{page_at}
 use Rattle.mlt_hash_form.specs.File.{HasForm, buckets_of, depth_of, look_up}
 use Rattle.mlt_hash_form.specs.Room.{IsCrowded}
 use Rattle.mlt_hash_form.specs.declared.root.Root.{Root}
@@ -19,7 +19,7 @@ use Rattle.mlt_hash.specs.Steps.{HasFound, IsSameWalk}
 use Rattle.mlt_hash.specs.StepsLeft.{IsPutting}
 use Rattle.mlt_hash_file.specs.Alone.{pages_before}
 use Rattle.mlt_hash.specs.Passes.{next_of}
-use Rattle.mlt_hash_file.specs.SplitPages.{HasRoomAt, LacksPages, bucket_for, pages_for, pages_in_the_end}
+use Rattle.mlt_hash_file.specs.SplitPages.{BoundedFile, HasRoomAt, LacksPages, bucket_for, pages_for, pages_in_the_end}
 use Rattle.mlt_hash.specs.declared.pass.Pass.TheVariants as pass
 use Rattle.mlt_hash.specs.declared.pass.Phase.{Phase}
 use Rattle.mlt_hash.specs.declared.pass.Phase.TheVariants as at
@@ -123,19 +123,29 @@ TellsOfSplits basis new key value most other = ⊥
 
 -- Why an addition is refused. The bucket of the key is full; and no split makes room, or there may not be as many pages as
 -- the splits make that do, or a growth was refused to them.
-abbrev pub RefusesFor : (ℕ → ℕ) → (ℕ → Option Page) → Pages → ℕ → ℕ → ℕ → ℕ → Refusal → Type 0
-RefusesFor bits before pages root max_depth max_pages key refusal.NoRoom =
-    IsFullFor bits before root key
-    × (NeverHasRoomFor bits before max_depth key ⊎ LacksPages bits before pages root max_depth max_pages key)
-RefusesFor bits before pages root max_depth max_pages key refusal.OutOfMemory =
-    IsFullFor bits before root key × (NeverHasRoomFor bits before max_depth key → ⊥)
-RefusesFor bits before pages root max_depth max_pages key other = ⊥
+abbrev pub RefusesFor : BoundedFile → ℕ → Refusal → Type 0
+RefusesFor file key refusal.NoRoom =
+    IsFullFor file.bits file.has file.root key
+    × (NeverHasRoomFor file.bits file.has file.max_depth key ⊎ LacksPages file key)
+RefusesFor file key refusal.OutOfMemory =
+    IsFullFor file.bits file.has file.root key
+    × (NeverHasRoomFor file.bits file.has file.max_depth key → ⊥)
+RefusesFor file key other = ⊥
 
--- the same of an addition under way: the pages as they were before it
+-- the file as it was before an addition under way
+abbrev pub bounded_before : Basis → Moment → BoundedFile
+bounded_before basis new = record {
+  bits = basis.bits;
+  has = pages_before new;
+  pages = put_back new.running.images new.store.pages;
+  root = basis.root;
+  max_depth = basis.max_depth;
+  max_pages = new.store.max_pages;
+}
+
+-- why an addition under way is refused
 abbrev pub TellsRefusal : Basis → Moment → ℕ → Refusal → Type 0
-TellsRefusal basis new key reason =
-    RefusesFor basis.bits (pages_before new) (put_back new.running.images new.store.pages)
-    basis.root basis.max_depth new.store.max_pages key reason
+TellsRefusal basis new key reason = RefusesFor (bounded_before basis new) key reason
 
 -- what a later pass tells, with its splits
 abbrev pub TellsOfLater : Basis → Moment → WalkFields → WalkFields → ℕ → WalkAnswer → Type 0

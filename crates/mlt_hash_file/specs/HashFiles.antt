@@ -6,6 +6,7 @@ use Rattle.mlt_page.specs.contracts.page.Page.{the_row}
 use Rattle.mlt_types.specs.declared.refusal.Refusal.{Refusal}
 use Rattle.mlt_store.specs.Stores.{Pages, page_at}
 use Rattle.mlt_hash_file.specs.AloneWalks.{IsHashFile, RefusesFor}
+use Rattle.mlt_hash_file.specs.SplitPages.{BoundedFile}
 
 -- the pages of a hash file, the page of its header, how deep its directory may get and how many pages there may be, and
 -- the function from keys to pseudokeys
@@ -20,10 +21,20 @@ pub record HashFileFields (P : Type 0) : Type 0 where
 abbrev pub IsFileOf : {P : Type 0} → (P → ℕ → ℕ) → HashFileFields P → Type 0
 IsFileOf bits_of file = IsHashFile (bits_of file.pseudo) (page_at file.pages) file.root file.max_depth
 
+-- it, with its bounds
+abbrev pub bounded_by : {P : Type 0} → (P → ℕ → ℕ) → HashFileFields P → BoundedFile
+bounded_by bits_of file = record {
+  bits = bits_of file.pseudo;
+  has = page_at file.pages;
+  pages = file.pages;
+  root = file.root;
+  max_depth = file.max_depth;
+  max_pages = file.max_pages;
+}
+
 -- an addition of the key's record is refused for this reason
 abbrev pub Refuses : {P : Type 0} → (P → ℕ → ℕ) → HashFileFields P → ℕ → Refusal → Type 0
-Refuses bits_of file key refusal =
-    RefusesFor (bits_of file.pseudo) (page_at file.pages) file.pages file.root file.max_depth file.max_pages key refusal
+Refuses bits_of file key refusal = RefusesFor (bounded_by bits_of file) key refusal
 
 -- a hash file is stored as the tuple of its fields
 abbrev pub hash_file_code : {P : Type 0} → Coded P → Coded (HashFileFields P)

@@ -36,12 +36,21 @@ HasRoomAt bits pages root max_depth key d =
 abbrev pub pages_for : (ℕ → ℕ) → (ℕ → Option Page) → ℕ → ℕ → ℕ → ℕ
 pages_for bits pages root key d = pages_to_make (bucket_for bits pages root key).depth (depth_of pages root) d
 
--- There may be fewer pages than the splits lead to that make room.
-pub record LacksPages (bits : ℕ → ℕ) (before : ℕ → Option Page) (pages : Pages)
-    (root max_depth max_pages key : ℕ) : Type 0 where
+-- a hash file with its bounds: the function of keys, what each page has, the pages, the page of the header, how deep
+-- the directory may get, and how many pages there may be
+pub record BoundedFile : Type 0 where
+  pub bits : ℕ → ℕ
+  pub has : ℕ → Option Page
+  pub pages : Pages
+  pub root : ℕ
+  pub max_depth : ℕ
+  pub max_pages : ℕ
+
+-- There may be fewer pages than the splits lead to that make room for the key.
+pub record LacksPages (file : BoundedFile) (key : ℕ) : Type 0 where
   pub d : ℕ
-  pub least : HasRoomAt bits before root max_depth key d
-  pub lacks : max_pages < map.len pages + pages_for bits before root key d
+  pub least : HasRoomAt file.bits file.has file.root file.max_depth key d
+  pub lacks : file.max_pages < map.len file.pages + pages_for file.bits file.has file.root key d
 
 -- the pages that a directory of depth g gains by the split of a bucket of depth l
 abbrev pub gained_pages : ℕ → ℕ → ℕ

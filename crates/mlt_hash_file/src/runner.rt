@@ -15,7 +15,7 @@ ghost use Rattle.mlt_hash_file.specs.SplitPages.{pages_in_the_end};
 ghost use Rattle.mlt_hash.specs.declared.pass.Pass.{Pass};
 ghost use Rattle.mlt_hash.specs.declared.pass.Phase.{Phase};
 
-use mlt_hash::{Walk, WalkAnswer};
+use mlt_hash::{Setting, Walk, WalkAnswer};
 use mlt_hash_form::Root;
 use mlt_held::LockedStore;
 use mlt_store::Store;
@@ -62,7 +62,11 @@ impl Runner {
         ensures goes { HasNotWaited result }
         ensures alone { IsAlone self.old × IsAlone self.new }
     {
-        walk.advance(root, &mut self.subtx, &mut self.pages, &self.opens)
+        let setting = Setting {
+            root,
+            opens: &self.opens,
+        };
+        walk.advance(&setting, &mut self.subtx, &mut self.pages)
     }
 
     /// Goes on to the bucket of the walk's key: the value that the key has there, if it has one.
@@ -101,7 +105,11 @@ impl Runner {
             self.new walk.old walk.new value result }
     {
         self.find(walk, root);
-        walk.insert(value, root, &mut self.subtx, &mut self.pages, &self.opens)
+        let setting = Setting {
+            root,
+            opens: &self.opens,
+        };
+        walk.insert(value, &setting, &mut self.subtx, &mut self.pages)
     }
 
     /// Rolls a pass back that found no room, and runs the one that follows.

@@ -28,7 +28,7 @@ use Rattle.mlt_transaction.specs.Steps.{KeepsRest, TellsOfPending, Walks}
 use Rattle.mlt_transaction.specs.Endings.{IsBlocked}
 use Rattle.mlt_hash.specs.Walks.{IsAtStart}
 use Rattle.mlt_hash.proofs.Laws.{at_start}
-use Rattle.mlt_transaction.specs.Transactions.{GivesUpRoom, LeavesRoom, StepsPending, pending_after}
+use Rattle.mlt_transaction.specs.Transactions.{GivesUpRoom, LeavesRoom, StepsPending, pending_after, workplace_of}
 use Rattle.mlt_invariant.specs.Events.{KeepsCleanPages, with_transaction}
 use Rattle.mlt_invariant.specs.Sound.{FitsAt, HasPending, IsSound}
 use Rattle.mlt_invariant.specs.States.{State, all_of, is_undoing, pending_room, room_of, world_of}
@@ -155,7 +155,7 @@ module _ (s : State) (i : ℕ) (o : OperationFields) (before after : Transaction
 
   -- it is blocked, and to be run anew
   blocked : (next : OperationFields) (by : ℕ) → after.at ≡ at.Pending next → next ≡ started_for o.request
-      → (item : ObjOp × ObjReply) → IsBlocked item before.subtx after.subtx before.undo after.undo s.commons commons by
+      → (item : ObjOp × ObjReply) → IsBlocked item (workplace_of before s.commons) (workplace_of after commons) by
       → KeepsCleanPages s i before after commons
   blocked next by is anew item b =
       let fits = sound.fits i before was in
@@ -176,21 +176,21 @@ module _ (s : State) (i : ℕ) (o : OperationFields) (before after : Transaction
       sound_after s i before after commons sound was (after_roll_back all i) leaves both.0 both.1 tx b.kept b.objects (ap (λ (h : ItemsWithRoom). h.items) b.history) (same_room next is b.kept b.history) (still_forward (at.Pending next) is refl)
       (subst (λ (a : At). FitsAt a (with_transaction s i after commons images) i after) (sym is) (still images next both.1 tx (ap (λ (p : OperationFields). p.request) anew) operates b.kept b.objects))
 
-  by_answer : (told : Answer) (next : OperationFields) (between : Commons) → TellsOfPending (basis_of (world_of s) i) o next before.subtx after.subtx before.undo after.undo s.commons between told
+  by_answer : (told : Answer) (next : OperationFields) (between : Commons) → TellsOfPending (basis_of (world_of s) i) o next (workplace_of before s.commons) (workplace_of after between) told
       → after.at ≡ pending_after told next → LeavesRoom told between commons → ((reply : ObjReply) → told ≡ answer.Done reply → ⊥)
       → KeepsCleanPages s i before after commons
   by_answer answer.Going next between tells is same not =
-      let w = subst (λ (b : Commons). Walks (basis_of (world_of s) i) o next before.subtx after.subtx before.undo after.undo s.commons b step.Going) (sym same) tells in
+      let w = subst (λ (b : Commons). Walks (basis_of (world_of s) i) o next (workplace_of before s.commons) (workplace_of after b) step.Going) (sym same) tells in
       elim w.tells [
         | inl goes ↦ turned next is w.rest goes.turn goes.request goes.operates
         | inr (inl splits) ↦ turned next is w.rest splits.turn splits.request splits.operates
         | inr (inr again) ↦ restarted next is w.rest again.back again.request again.operates
       ]
   by_answer (answer.Waiting page by) next between tells is same not =
-      let w = subst (λ (b : Commons). Walks (basis_of (world_of s) i) o next before.subtx after.subtx before.undo after.undo s.commons b (step.Waiting page by)) (sym same) tells in
+      let w = subst (λ (b : Commons). Walks (basis_of (world_of s) i) o next (workplace_of before s.commons) (workplace_of after b) (step.Waiting page by)) (sym same) tells in
       waited next is w.rest w.tells.pages w.tells.stays
   by_answer (answer.Blocked by) next between (ends, anew) is same not =
-      blocked next by is anew (ends.op, ends.reply) (subst (λ (b : Commons). IsBlocked (ends.op, ends.reply) before.subtx after.subtx before.undo after.undo s.commons b by) (sym same) ends.tells)
+      blocked next by is anew (ends.op, ends.reply) (subst (λ (b : Commons). IsBlocked (ends.op, ends.reply) (workplace_of before s.commons) (workplace_of after b) by) (sym same) ends.tells)
   by_answer (answer.Done reply) next between tells is same not = absurd (not reply refl)
   by_answer (answer.Refused reason) next between tells is gives not = refused between tells.tells.back tells.rest gives is
   by_answer answer.Undone next between tells is same not = absurd tells

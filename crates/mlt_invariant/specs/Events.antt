@@ -12,6 +12,7 @@ use Rattle.mlt_kinds.specs.declared.operation.ObjReply.{ObjReply}
 use Rattle.mlt_subtx_laws.specs.Running.{KeepsRunning, clean_of}
 use Rattle.mlt_operation.specs.Operating.{OperationFields, started_for}
 use Rattle.mlt_event.specs.declared.answer.Answer.TheVariants as answer
+use Rattle.mlt_transaction.specs.Transactions.{workplace_of}
 use Rattle.mlt_transaction.specs.declared.transaction.At.TheVariants as at
 use Rattle.mlt_transaction.specs.Steps.{Ends}
 use Rattle.mlt_transaction.specs.declared.commons.Commons.{Commons}
@@ -58,7 +59,7 @@ with_end s i t commons base = record (with_transaction s i t commons (map.insert
 pub record EndsPending (s : State) (i : ℕ) (o : OperationFields) (before after : Transaction)
     (commons : Commons) (told : ObjReply) : Type 0 where
   pub pending : before.at ≡ at.Pending o
-  pub ends : Ends o before.subtx after.subtx before.undo after.undo s.commons commons
+  pub ends : Ends o (workplace_of before s.commons) (workplace_of after commons)
       (answer.Done told)
   pub idle : after.at ≡ at.Idle
 

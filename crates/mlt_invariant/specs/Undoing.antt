@@ -6,6 +6,7 @@ use Rattle.mlt_kinds.specs.declared.operation.ObjOp.{ObjOp}
 use Rattle.mlt_kinds.specs.declared.operation.ObjReply.{ObjReply}
 use Rattle.mlt_operation.specs.Operating.{OperationFields}
 use Rattle.mlt_event.specs.declared.answer.Answer.{Answer}
+use Rattle.mlt_transaction.specs.Transactions.{workplace_of}
 use Rattle.mlt_transaction.specs.declared.commons.Commons.{Commons}
 use Rattle.mlt_transaction.specs.declared.transaction.At.TheVariants as at
 use Rattle.mlt_transaction.specs.declared.transaction.Transaction.{Transaction}
@@ -30,7 +31,7 @@ pub record TakesLastBack (s : State) (inverting : Option OperationFields) (befor
     (commons : Commons) (told : Answer) : Type 0 where
   pub was_at : before.at ≡ at.Undoing inverting
   pub is_at : after.at ≡ at.Undoing None
-  pub ends : EndsBack inverting None before.subtx after.subtx before.undo after.undo s.commons commons
+  pub ends : EndsBack inverting None (workplace_of before s.commons) (workplace_of after commons)
       told
 
 -- The item that is taken back was the last, the base is one from which it leads to what it was, and the state with this

@@ -23,7 +23,7 @@ use Rattle.mlt_transaction.specs.declared.commons.Commons.{Commons}
 use Rattle.mlt_transaction.specs.declared.transaction.At.{At}
 use Rattle.mlt_transaction.specs.declared.transaction.At.TheVariants as at
 use Rattle.mlt_transaction.specs.declared.transaction.Transaction.{Transaction}
-use Rattle.mlt_transaction.specs.Endings.{EndsSubtx, IsDone, RollsBackSubtx}
+use Rattle.mlt_transaction.specs.Endings.{EndsSubtx, IsDone, RollsBackSubtx, workplace}
 use Rattle.mlt_transaction.specs.Steps.{EndsBack, TakesBack, TellsOfBack, TellsOfPending}
 use Rattle.mlt_transaction.specs.Transactions.{LeavesRoom, TellsAt, TellsOfCancel}
 
@@ -94,7 +94,7 @@ moment_counts running running' old new k same = record { locks = k.locks; pages 
 rolls_counts : (before after : Running) (old new : Commons) → RollsBackSubtx before after old new → new.history ≡ old.history → KeepsCounts old new
 rolls_counts before after old new b same = record { locks = λ i. (b.locks i).max_open; pages = λ i. (b.store i).max_pages; commits = λ i. commit_count ((same i).items) }
 
-done_counts : (item : ObjOp × ObjReply) (before after : Running) (undo undo' : Undo) (old new : Commons) → IsDone item before after undo undo' old new → KeepsCounts old new
+done_counts : (item : ObjOp × ObjReply) (before after : Running) (undo undo' : Undo) (old new : Commons) → IsDone item (workplace before undo old) (workplace after undo' new) → KeepsCounts old new
 done_counts item before after undo undo' old new d = record {
   locks = λ i. (d.ends.locks i).max_open;
   pages = λ i. (d.ends.store i).max_pages;
@@ -102,7 +102,7 @@ done_counts item before after undo undo' old new d = record {
 }
 
 pending_counts : (basis : Basis) (o o' : OperationFields) (running running' : Running) (undo undo' : Undo) (old new : Commons) (told : Answer)
-    → TellsOfPending basis o o' running running' undo undo' old new told → KeepsCounts old new
+    → TellsOfPending basis o o' (workplace running undo old) (workplace running' undo' new) told → KeepsCounts old new
 pending_counts basis o o' running running' undo undo' old new answer.Going w =
     moment_counts running running' old new (step_limits basis (moment running old.pages) (moment running' new.pages) o o' step.Going w.tells) w.rest.history
 pending_counts basis o o' running running' undo undo' old new (answer.Waiting page by) w =
@@ -134,14 +134,14 @@ end_counts : (before after : Running) (old new : Commons) → EndsSubtx before a
 end_counts before after old new e same = record { locks = λ i. (e.locks i).max_open; pages = λ i. (e.store i).max_pages; commits = λ i. commit_count ((same i).items) }
 
 ends_back_counts : (inverting inverting' : Option OperationFields) (running running' : Running) (undo undo' : Undo) (old new : Commons) (told : Answer)
-    → EndsBack inverting inverting' running running' undo undo' old new told → KeepsCounts old new
+    → EndsBack inverting inverting' (workplace running undo old) (workplace running' undo' new) told → KeepsCounts old new
 ends_back_counts inverting inverting' running running' undo undo' old new told e =
     both_counts old e.between new
     (between_counts inverting running running' old e.between e.at_once (λ o is. end_counts running running' old e.between (e.at_end o is).1 (e.at_end o is).3))
     (takes_counts running.tx undo undo' e.between new told e.takes)
 
 back_counts : (basis : Basis) (inverting inverting' : Option OperationFields) (running running' : Running) (undo undo' : Undo) (old new : Commons) (told : Answer)
-    → TellsOfBack basis inverting inverting' running running' undo undo' old new told → KeepsCounts old new
+    → TellsOfBack basis inverting inverting' (workplace running undo old) (workplace running' undo' new) told → KeepsCounts old new
 back_counts basis inverting inverting' running running' undo undo' old new answer.Going s =
     moment_counts running running' old new (turn_limits (moment running old.pages) (moment running' new.pages) s.tells.turn) s.rest.history
 back_counts basis inverting inverting' running running' undo undo' old new (answer.Waiting page by) s =

@@ -30,7 +30,7 @@ use Rattle.mlt_transaction.specs.declared.transaction.At.TheVariants as at
 use Rattle.mlt_transaction.specs.declared.transaction.Transaction.{Transaction}
 use Rattle.mlt_transaction.specs.declared.commons.Commons.{Commons}
 use Rattle.mlt_transaction.specs.Steps.{TellsOfBack, TellsOfPending}
-use Rattle.mlt_transaction.specs.Transactions.{TellsAt}
+use Rattle.mlt_transaction.specs.Transactions.{TellsAt, workplace_of}
 use Rattle.mlt_open.specs.Tables.{Table}
 use Rattle.mlt_invariant.specs.Sound.{FitsAt}
 use Rattle.mlt_invariant.specs.States.{State, images_kept, world_of}
@@ -134,7 +134,7 @@ module _ {P : Type 0} (bits_of : P → ℕ → ℕ) (m : ManagerFields P) (h : I
         let other = other_holds m.commons.pages.locks before.subtx.tx page by mode lowest.has_it in
         (λ same. other.0 (same ∙ sym number), holder_runs bits_of m h by other.1)
 
-    named_pending : (basis : Basis) (o next : OperationFields) (between : Commons) (told : Answer) → TellsOfPending basis o next before.subtx after.subtx before.undo after.undo m.commons between told → IsByAnother told m.txs tx
+    named_pending : (basis : Basis) (o next : OperationFields) (between : Commons) (told : Answer) → TellsOfPending basis o next (workplace_of before m.commons) (workplace_of after between) told → IsByAnother told m.txs tx
     named_pending basis o next between (answer.Waiting page by) w = by_lowest page by w.tells.mode w.tells.lowest
     named_pending basis o next between (answer.Blocked by) (e, anew) =
         let clash = e.tells.lowest.0 in
@@ -145,7 +145,7 @@ module _ {P : Type 0} (bits_of : P → ℕ → ℕ) (m : ManagerFields P) (h : I
     named_pending basis o next between answer.Undone none = tt
     named_pending basis o next between answer.Aborted none = tt
 
-    named_back : (basis : Basis) (inverting next : Option OperationFields) (told : Answer) → TellsOfBack basis inverting next before.subtx after.subtx before.undo after.undo m.commons commons told → IsByAnother told m.txs tx
+    named_back : (basis : Basis) (inverting next : Option OperationFields) (told : Answer) → TellsOfBack basis inverting next (workplace_of before m.commons) (workplace_of after commons) told → IsByAnother told m.txs tx
     named_back basis inverting next (answer.Waiting page by) w = by_lowest page by w.tells.mode w.tells.lowest
     named_back basis inverting next (answer.Blocked by) none = absurd none
     named_back basis inverting next answer.Going w = tt

@@ -16,7 +16,7 @@ use Rattle.mlt_transaction.specs.declared.transaction.At.{At}
 use Rattle.mlt_transaction.specs.declared.transaction.At.TheVariants as at
 use Rattle.mlt_transaction.specs.declared.transaction.Transaction.{Transaction}
 use Rattle.mlt_transaction.specs.Steps.{TellsOfPending}
-use Rattle.mlt_transaction.specs.Transactions.{IsPending, StepsPending, TellsAt, pending_after}
+use Rattle.mlt_transaction.specs.Transactions.{IsPending, StepsPending, TellsAt, pending_after, workplace_of}
 use Rattle.mlt_open.specs.Tables.{Table}
 use Rattle.mlt_invariant.proofs.Tables.{inserted_here}
 use Rattle.mlt_manager.specs.Answers.{AnswersCall, HasCalled, HasStepped, IsOpenAt, txs_after}
@@ -65,7 +65,7 @@ module _ {P : Type 0} (bits_of : P → ℕ → ℕ) (m m' : ManagerFields P) (tx
   pub blocked_is_pending : (by : ℕ) → told ≡ answer.Blocked by → IsOpenAt m'.txs tx IsPending
   blocked_is_pending by is = pending_by (answer.Blocked by) is refl refl
 
-  stops_by : (t : Answer) (between : Commons) → TellsOfPending (basis_by bits_of m.root m.opens d.steps.changes.before.subtx.tx) operation_at.0 steps_pending.next d.steps.changes.before.subtx d.steps.changes.after.subtx d.steps.changes.before.undo d.steps.changes.after.undo m.commons between t
+  stops_by : (t : Answer) (between : Commons) → TellsOfPending (basis_by bits_of m.root m.opens d.steps.changes.before.subtx.tx) operation_at.0 steps_pending.next (workplace_of d.steps.changes.before m.commons) (workplace_of d.steps.changes.after between) t
       → (t ≡ answer.Going → ⊥) → Stops t
   stops_by answer.Going between tells not = absurd (not refl)
   stops_by (answer.Waiting page by) between tells not = tt

@@ -22,7 +22,7 @@ use Rattle.mlt_transaction.specs.declared.transaction.At.{At}
 use Rattle.mlt_transaction.specs.declared.transaction.At.TheVariants as at
 use Rattle.mlt_transaction.specs.declared.transaction.Transaction.{Transaction}
 use Rattle.mlt_transaction.specs.Steps.{EndsBack, Ends}
-use Rattle.mlt_transaction.specs.Transactions.{StepsBack, StepsPending, TellsAt}
+use Rattle.mlt_transaction.specs.Transactions.{StepsBack, StepsPending, TellsAt, workplace_of}
 use Rattle.mlt_open.specs.Tables.{Table}
 use Rattle.mlt_invariant.specs.Events.{EndsPending, KeepsCleanPages}
 use Rattle.mlt_invariant.specs.States.{State, images_kept, world_of}
@@ -104,10 +104,10 @@ module _ {P : Type 0} (bits_of : P → ℕ → ℕ) (m : ManagerFields P) (h : I
         )
 
     ends_pending : (o next : OperationFields) (reply : ObjReply) (between : Commons) → before.at ≡ at.Pending o → after.at ≡ at.Idle → commons ≡ between
-        → Ends o before.subtx after.subtx before.undo after.undo m.commons between (answer.Done reply) → EndsPending now tx o before after commons reply
+        → Ends o (workplace_of before m.commons) (workplace_of after between) (answer.Done reply) → EndsPending now tx o before after commons reply
     ends_pending o next reply between pending_at idle same ends = record {
       pending = pending_at;
-      ends = subst (λ (k : Commons). Ends o before.subtx after.subtx before.undo after.undo m.commons k (answer.Done reply)) (sym same) ends;
+      ends = subst (λ (k : Commons). Ends o (workplace_of before m.commons) (workplace_of after k) (answer.Done reply)) (sym same) ends;
       idle = idle;
     }
 
@@ -148,14 +148,14 @@ module _ {P : Type 0} (bits_of : P → ℕ → ℕ) (m : ManagerFields P) (h : I
 
     -- the last operation is taken back
     takes_back : (inverting next : Option OperationFields) (told : Answer) → before.at ≡ at.Undoing inverting → after.at ≡ at.Undoing next
-        → EndsBack inverting next before.subtx after.subtx before.undo after.undo m.commons commons told → TakesLastBack now inverting before after commons told
+        → EndsBack inverting next (workplace_of before m.commons) (workplace_of after commons) told → TakesLastBack now inverting before after commons told
     takes_back inverting next told back_at now_at ends = record {
       was_at = back_at;
       is_at = now_at ∙ ap at.Undoing ends.none;
-      ends = subst (λ (n : Option OperationFields). EndsBack inverting n before.subtx after.subtx before.undo after.undo m.commons commons told) ends.none ends;
+      ends = subst (λ (n : Option OperationFields). EndsBack inverting n (workplace_of before m.commons) (workplace_of after commons) told) ends.none ends;
     }
 
-    history_between : (inverting next : Option OperationFields) (told : Answer) (e : EndsBack inverting next before.subtx after.subtx before.undo after.undo m.commons commons told) → e.between.history ≡ m.commons.history
+    history_between : (inverting next : Option OperationFields) (told : Answer) (e : EndsBack inverting next (workplace_of before m.commons) (workplace_of after commons) told) → e.between.history ≡ m.commons.history
     history_between None next told e = ap (λ (k : Commons). k.history) (e.at_once refl).0
     history_between (Some o) next told e = (e.at_end o refl).3
 

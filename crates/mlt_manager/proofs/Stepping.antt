@@ -54,7 +54,7 @@ may_cancel bits_of m tx h pending =
 -- a step that is told `Aborted`, and any other
 module _ {P : Type 0} (bits_of : P → ℕ → ℕ) (m : ManagerFields P) (tx : ℕ) (commons : Commons) (txs : Table) (busy : IsOpenAt m.txs tx IsBusy) where
   pub stepped_last : (txs' : Table) (opens' : set.FinSet nat_cmp) (told : Answer) → told ≡ answer.Aborted → txs' ≡ map.remove txs tx → opens' ≡ set.remove m.opens tx
-      → StepsOne bits_of m.root m.opens tx m.txs txs m.commons commons told
+      → StepsOne (basis_by bits_of m.root m.opens) tx m.txs txs m.commons commons told
       → HasStepped bits_of m (record m { commons = commons; txs = txs'; opens = opens' }) tx told
   stepped_last txs' opens' told is out out_of steps = record {
     busy = busy;
@@ -71,7 +71,7 @@ module _ {P : Type 0} (bits_of : P → ℕ → ℕ) (m : ManagerFields P) (tx : 
   stays_open answer.Aborted not = absurd (not refl)
   stays_open other not = refl
 
-  pub stepped_on : (told : Answer) → (told ≡ answer.Aborted → ⊥) → StepsOne bits_of m.root m.opens tx m.txs txs m.commons commons told
+  pub stepped_on : (told : Answer) → (told ≡ answer.Aborted → ⊥) → StepsOne (basis_by bits_of m.root m.opens) tx m.txs txs m.commons commons told
       → HasStepped bits_of m (record m { commons = commons; txs = txs }) tx told
   stepped_on told not steps = record {
     busy = busy;

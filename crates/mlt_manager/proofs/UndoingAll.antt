@@ -14,7 +14,7 @@ use Rattle.mlt_transaction.specs.declared.transaction.At.{At}
 use Rattle.mlt_transaction.specs.declared.transaction.At.TheVariants as at
 use Rattle.mlt_transaction.specs.declared.transaction.Transaction.{Transaction}
 use Rattle.mlt_transaction.specs.Steps.{TellsOfBack}
-use Rattle.mlt_transaction.specs.Transactions.{StepsBack, TellsAt}
+use Rattle.mlt_transaction.specs.Transactions.{StepsBack, TellsAt, workplace_of}
 use Rattle.mlt_manager.specs.Answers.{HasStepped, IsOpenAt, IsUndoing, txs_after}
 use Rattle.mlt_manager.specs.Managers.{ManagerFields}
 use Rattle.mlt_manager.specs.Undoings.{GoesOnBack, StepsBackUpTo, StopsBack}
@@ -84,7 +84,7 @@ module _ {P : Type 0} (bits_of : P → ℕ → ℕ) (m m' : ManagerFields P) (tx
       ap (λ (o : Option Transaction). left_for o m'.root.page m'.commons) (there_now goes) ∙ ap (λ (a : At). left_at a m'.root.page d.steps.changes.after m'.commons) steps_back.now_at
       ∙ ap (λ (n : ManagerFields P). 6 * length d.steps.changes.after.undo.entries + left_of steps_back.next n.root.page d.steps.changes.after m'.commons) d.rest
 
-  fewer_by : (inverting next : Option OperationFields) (t : Answer) → TellsOfBack (basis_by bits_of m.root m.opens d.steps.changes.before.subtx.tx) inverting next d.steps.changes.before.subtx d.steps.changes.after.subtx d.steps.changes.before.undo d.steps.changes.after.undo m.commons m'.commons t
+  fewer_by : (inverting next : Option OperationFields) (t : Answer) → TellsOfBack (basis_by bits_of m.root m.opens d.steps.changes.before.subtx.tx) inverting next (workplace_of d.steps.changes.before m.commons) (workplace_of d.steps.changes.after m'.commons) t
       → GoesOnBack t → 6 * length d.steps.changes.after.undo.entries + left_of next m.root.page d.steps.changes.after m'.commons < 6 * length d.steps.changes.before.undo.entries + left_of inverting m.root.page d.steps.changes.before m.commons
   fewer_by None next answer.Going s goes =
       let same : length d.steps.changes.after.undo.entries ≡ length d.steps.changes.before.undo.entries = ap (λ (u : Undo). length u.entries) s.rest.undo_kept in
@@ -114,7 +114,7 @@ module _ {P : Type 0} (bits_of : P → ℕ → ℕ) (m m' : ManagerFields P) (tx
       let fewer = fewer_by inverse_at.0 steps_back.next told steps_back.tells goes in
       omega (arith, was, is, fewer)
 
-  kept_by : (inverting next : Option OperationFields) → TellsOfBack (basis_by bits_of m.root m.opens d.steps.changes.before.subtx.tx) inverting next d.steps.changes.before.subtx d.steps.changes.after.subtx d.steps.changes.before.undo d.steps.changes.after.undo m.commons m'.commons answer.Going
+  kept_by : (inverting next : Option OperationFields) → TellsOfBack (basis_by bits_of m.root m.opens d.steps.changes.before.subtx.tx) inverting next (workplace_of d.steps.changes.before m.commons) (workplace_of d.steps.changes.after m'.commons) answer.Going
       → d.steps.changes.after.undo.entries ≡ d.steps.changes.before.undo.entries
   kept_by inverting next s = ap (λ (u : Undo). u.entries) s.rest.undo_kept
 
@@ -122,9 +122,9 @@ module _ {P : Type 0} (bits_of : P → ℕ → ℕ) (m m' : ManagerFields P) (tx
   pub going_entries : told ≡ answer.Going → d.steps.changes.after.undo.entries ≡ d.steps.changes.before.undo.entries
   going_entries is =
       kept_by inverse_at.0 steps_back.next
-      (subst (λ (t : Answer). TellsOfBack (basis_by bits_of m.root m.opens d.steps.changes.before.subtx.tx) inverse_at.0 steps_back.next d.steps.changes.before.subtx d.steps.changes.after.subtx d.steps.changes.before.undo d.steps.changes.after.undo m.commons m'.commons t) is steps_back.tells)
+      (subst (λ (t : Answer). TellsOfBack (basis_by bits_of m.root m.opens d.steps.changes.before.subtx.tx) inverse_at.0 steps_back.next (workplace_of d.steps.changes.before m.commons) (workplace_of d.steps.changes.after m'.commons) t) is steps_back.tells)
 
-  stops_by : (inverting next : Option OperationFields) (t : Answer) → TellsOfBack (basis_by bits_of m.root m.opens d.steps.changes.before.subtx.tx) inverting next d.steps.changes.before.subtx d.steps.changes.after.subtx d.steps.changes.before.undo d.steps.changes.after.undo m.commons m'.commons t
+  stops_by : (inverting next : Option OperationFields) (t : Answer) → TellsOfBack (basis_by bits_of m.root m.opens d.steps.changes.before.subtx.tx) inverting next (workplace_of d.steps.changes.before m.commons) (workplace_of d.steps.changes.after m'.commons) t
       → (t ≡ answer.Going → ⊥) → (t ≡ answer.Undone → ⊥) → StopsBack t
   stops_by inverting next answer.Going s going undone = absurd (going refl)
   stops_by inverting next answer.Undone s going undone = absurd (undone refl)

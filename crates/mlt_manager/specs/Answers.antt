@@ -17,6 +17,7 @@ use Rattle.mlt_transaction.specs.declared.transaction.At.{At}
 use Rattle.mlt_transaction.specs.declared.transaction.At.TheVariants as at
 use Rattle.mlt_transaction.specs.declared.transaction.Transaction.{Transaction}
 use Rattle.mlt_transaction.specs.Transactions.{IsPending}
+use Rattle.mlt_hash.specs.Walks.{basis_by}
 use Rattle.mlt_open.specs.Tables.{CallsNone, CallsOne, CancelsOne, PutsOneAt, StepsOne, Table}
 use Rattle.mlt_meeting.specs.Presences.{IsOpInRange}
 use Rattle.mlt_manager.specs.Managers.{ManagerFields}
@@ -145,7 +146,8 @@ pub record HasStepped {P : Type 0} (bits_of : P → ℕ → ℕ) (old new : Mana
     (told : Answer) : Type 0 where
   pub busy : IsOpenAt old.txs tx IsBusy
   pub txs : Table
-  pub steps : StepsOne bits_of old.root old.opens tx old.txs txs old.commons new.commons told
+  pub steps : StepsOne (basis_by bits_of old.root old.opens) tx old.txs txs
+      old.commons new.commons told
   pub rest : new ≡ record old {
     commons = new.commons;
     txs = txs_after told tx txs;

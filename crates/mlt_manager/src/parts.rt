@@ -11,7 +11,7 @@ ghost use Rattle.mlt_manager.specs.Parts.{IsStageOf, fields_of};
 ghost use Rattle.mlt_manager.specs.Managers.{IsManager};
 
 use mlt_event::Answer;
-use mlt_hash::open_file;
+use mlt_hash::{Setting, open_file};
 use mlt_hash_form::Root;
 use mlt_held::LockedStore;
 use mlt_history::History;
@@ -237,9 +237,11 @@ impl<P: Pseudo> Parts<P> {
         requires busy { IsOpenAt self.old.txs tx IsBusy }
         ensures steps { HasStepped P.bits_of (fields_of self.old) (fields_of self.new) tx result }
     {
-        let answer = self
-            .txs
-            .step(tx, &mut self.commons, &self.root, &self.opens);
+        let setting = Setting {
+            root: &self.root,
+            opens: &self.opens,
+        };
+        let answer = self.txs.step(tx, &mut self.commons, &setting);
         if let Answer::Aborted = answer {
             self.txs.remove(tx);
             self.opens.remove(tx);

@@ -19,7 +19,7 @@ use Rattle.mlt_transaction.specs.declared.transaction.At.TheVariants as at
 use Rattle.mlt_transaction.specs.declared.transaction.Transaction.{Transaction}
 use Rattle.mlt_transaction.specs.Endings.{EndsSubtx}
 use Rattle.mlt_transaction.specs.Steps.{EndsBack}
-use Rattle.mlt_transaction.specs.Transactions.{StepsBack, StepsPending, TellsAt}
+use Rattle.mlt_transaction.specs.Transactions.{StepsBack, StepsPending, TellsAt, workplace_of}
 use Rattle.mlt_open.specs.Tables.{Table}
 use Rattle.mlt_invariant.specs.Events.{KeepsCleanPages, with_transaction}
 use Rattle.mlt_invariant.specs.States.{State, all_of, images_kept, world_of}
@@ -75,7 +75,7 @@ module _ {P : Type 0} (bits_of : P → ℕ → ℕ) (m : ManagerFields P) (h : I
     by_pending o after commons answer.Undone is s = absurd s.tells
     by_pending o after commons answer.Aborted is s = absurd s.tells
 
-    between_sees : (inverting next : Option OperationFields) (after : Transaction) (commons : Commons) (told : Answer) (e : EndsBack inverting next before.subtx after.subtx before.undo after.undo m.commons commons told)
+    between_sees : (inverting next : Option OperationFields) (after : Transaction) (commons : Commons) (told : Answer) (e : EndsBack inverting next (workplace_of before m.commons) (workplace_of after commons) told)
         → view_in t e.between ≡ view_in t m.commons
     between_sees None next after commons told e = ap (λ (c : Commons). view_in t c) (e.at_once refl).0
     between_sees (Some o) next after commons told e = end_sees after.subtx e.between (e.at_end o refl).1

@@ -2,13 +2,11 @@
 use Rattle.std.specs.Prelude.{ℕ, ◌≡◌, [], Option, None, Some}
 use Rattle.std.specs.Ordering.{nat_cmp}
 use Rattle.std.specs.FinMap as map
-use Rattle.std.specs.FinSet as set
 use Rattle.mlt_types.specs.Maps.{with_entry}
 use Rattle.mlt_page.specs.declared.page.Page.{Page}
 use Rattle.mlt_subtx.specs.Images.{image_of, started}
 use Rattle.mlt_kinds.specs.declared.operation.ObjOp.{ObjOp}
-use Rattle.mlt_hash_form.specs.declared.root.Root.{Root}
-use Rattle.mlt_hash.specs.Walks.{basis_by}
+use Rattle.mlt_hash.specs.Walks.{Basis}
 use Rattle.mlt_event.specs.declared.answer.Answer.{Answer}
 use Rattle.mlt_transaction.specs.declared.commons.Commons.{Commons}
 use Rattle.mlt_transaction.specs.declared.transaction.At.{At}
@@ -50,11 +48,11 @@ pub record CallsNone (tx : ℕ) (old new : Table) (commons commons' : Commons) :
   pub changes : ChangesOne tx old new
   pub tells : IsNotCalled changes.before changes.after commons commons'
 
--- the transaction of this number takes a step
-pub record StepsOne {P : Type 0} (bits_of : P → ℕ → ℕ) (root : Root P) (opens : set.FinSet nat_cmp)
-    (tx : ℕ) (old new : Table) (commons commons' : Commons) (told : Answer) : Type 0 where
+-- the transaction of this number takes a step; `basis` is what the transaction of each number goes by
+pub record StepsOne (basis : ℕ → Basis) (tx : ℕ) (old new : Table) (commons commons' : Commons)
+    (told : Answer) : Type 0 where
   pub changes : ChangesOne tx old new
-  pub tells : TellsOfTransaction (basis_by bits_of root opens changes.before.subtx.tx)
+  pub tells : TellsOfTransaction (basis changes.before.subtx.tx)
       changes.before changes.after commons commons' told
 
 -- the pending operation of the transaction of this number is dropped

@@ -2,16 +2,16 @@
 
 ghost use Rattle.std.specs.Prelude.{◌≡◌, ◌≤◌, None, Some, OnOk, OnErr, IfOk, IfErr, option_copied};
 ghost use Rattle.mlt_subtx.specs.Images.{AreThere, image_of};
-ghost use Rattle.mlt_hash.specs.Walks.{basis_by};
+ghost use Rattle.mlt_hash.specs.Walks.{basis_in};
 ghost use Rattle.mlt_open.specs.Tables.{HasDoneNothing};
 ghost use Rattle.mlt_transaction.specs.Transactions.{IsNotCalled, IsPending, MayStepIn, TellsOfCall, TellsOfCancel, TellsOfTransaction};
 
 use mlt_event::Answer;
-use mlt_hash_form::Root;
+use mlt_hash::Setting;
 use mlt_kinds::ObjOp;
 use mlt_page::Page;
 use mlt_transaction::{At, Commons, Transaction};
-use mlt_types::{OpenSet, PageNo, Pseudo, Refusal, TxId};
+use mlt_types::{PageNo, Pseudo, Refusal, TxId};
 use std::alloc::{AllocError, Global};
 use std::marker::Model;
 
@@ -78,18 +78,13 @@ impl Berth {
     }
 
     /// [`Transaction::step`].
-    pub(crate) fn step<P: Pseudo>(
-        &mut self,
-        commons: &mut Commons,
-        root: &Root<P>,
-        opens: &OpenSet,
-    ) -> Answer
-        requires ready { MayStepIn (basis_by P.bits_of root.now opens.now self.old.subtx.tx)
+    pub(crate) fn step<P: Pseudo>(&mut self, commons: &mut Commons, setting: &Setting<P>) -> Answer
+        requires ready { MayStepIn (basis_in P.bits_of setting.now self.old.subtx.tx)
             self.old commons.old }
-        ensures tells { TellsOfTransaction (basis_by P.bits_of root.now opens.now self.old.subtx.tx)
+        ensures tells { TellsOfTransaction (basis_in P.bits_of setting.now self.old.subtx.tx)
             self.old self.new commons.old commons.new result }
     {
-        self.transaction.step(commons, root, opens)
+        self.transaction.step(commons, setting)
     }
 
     /// [`Transaction::cancel`].

@@ -4,18 +4,18 @@ ghost use Rattle.std.specs.Prelude.{◌≡◌, ◌≤◌, None, Some, IsSome, On
 ghost use Rattle.std.specs.FinMap as map;
 ghost use Rattle.mlt_types.specs.Maps.{with_entry};
 ghost use Rattle.mlt_subtx.specs.Images.{AreThere};
-ghost use Rattle.mlt_hash.specs.Walks.{basis_by};
+ghost use Rattle.mlt_hash.specs.Walks.{basis_in};
 ghost use Rattle.mlt_transaction.specs.declared.transaction.Transaction.{Transaction as TransactionFields};
 ghost use Rattle.mlt_transaction.specs.Transactions.{IsPending, MayStepIn};
 ghost use Rattle.mlt_open.specs.Tables.{BeginsOne, CallsNone, CallsOne, CancelsOne, KeepsImage, KeepsNoImage, PutsOneAt, StepsOne};
 
 use crate::berth::{Berth, leave_berth, take_berth};
 use mlt_event::Answer;
-use mlt_hash_form::Root;
+use mlt_hash::Setting;
 use mlt_kinds::ObjOp;
 use mlt_page::Page;
 use mlt_transaction::{At, Commons, Transaction};
-use mlt_types::{OpenSet, PageNo, Pseudo, Refusal, TxId};
+use mlt_types::{PageNo, Pseudo, Refusal, TxId};
 use std::alloc::Global;
 use std::collections::BTreeMap;
 use std::marker::Model;
@@ -132,16 +132,15 @@ impl OpenTransactions {
         &mut self,
         tx: TxId,
         commons: &mut Commons,
-        root: &Root<P>,
-        opens: &OpenSet,
+        setting: &Setting<P>,
     ) -> Answer
         requires is_open { (t : TransactionFields) × (map.get self.old tx ≡ Some t)
-            × MayStepIn (basis_by P.bits_of root.now opens.now t.subtx.tx) t commons.old }
-        ensures steps { StepsOne P.bits_of root.now opens.now tx self.old self.new
+            × MayStepIn (basis_in P.bits_of setting.now t.subtx.tx) t commons.old }
+        ensures steps { StepsOne (basis_in P.bits_of setting.now) tx self.old self.new
             commons.old commons.new result }
     {
         match self.txs.get_mut(&tx.0) {
-            Some(transaction) => transaction.step(commons, root, opens),
+            Some(transaction) => transaction.step(commons, setting),
             None => unreachable!(),
         }
     }

@@ -7,7 +7,7 @@ use Rattle.mlt_hash_form.specs.Held.{Agrees}
 use Rattle.mlt_held.specs.Moments.{Moment}
 use Rattle.mlt_held.specs.Views.{view_of}
 use Rattle.mlt_split.specs.Splits.{SplitFields}
-use Rattle.mlt_hash.specs.Splitting.{BeginsSplit, SplitCloses, SplitGoesOn, TellsAt}
+use Rattle.mlt_hash.specs.Splitting.{BeginsSplit, SplitCloses, SplitGoesOn, TellsAt, walk_step}
 use Rattle.mlt_hash.specs.StepsLeft.{IsPutting, bucket_depth, depth_after, directory_depth}
 use Rattle.mlt_hash.specs.Walks.{Basis, IsSplitting, Stands, WalkFields}
 use Rattle.mlt_hash.specs.declared.answer.WalkAnswer.TheVariants as answer
@@ -20,7 +20,7 @@ some_is_one x y o is_x is_y = let e : Some x ≡ Some y = sym is_x ∙ is_y in c
 
 module _ (basis : Basis) (old new : Moment) (before after : WalkFields) where
   -- a split has begun
-  begins : (value n room_depth : ℕ) (unsplit : Bool) → before.phase ≡ at.Adding value n room_depth unsplit → BeginsSplit basis old new before after value n room_depth
+  begins : (value n room_depth : ℕ) (unsplit : Bool) → before.phase ≡ at.Adding value n room_depth unsplit → BeginsSplit basis (walk_step old new before after) value n room_depth
       → GoesDown basis.root before after (view_of old) (view_of new)
   begins value n room_depth unsplit phase b =
       let l : bucket_depth (view_of old) n ≡ b.split.depth = ap (λ p. (bucket_of p).depth) b.found ∙ sym b.depth in

@@ -2,7 +2,7 @@
 
 ghost use Rattle.std.specs.Prelude.{◌≡◌};
 ghost use Rattle.mlt_held.specs.Moments.{moment};
-ghost use Rattle.mlt_hash.specs.Walks.{basis_by};
+ghost use Rattle.mlt_hash.specs.Walks.{basis_in};
 ghost use Rattle.mlt_hash.specs.Splitting.{IsUnderWay};
 ghost use Rattle.mlt_operation.specs.Answers.{TellsOfStep};
 ghost use Rattle.mlt_operation.specs.AtBucket.{MayDecide, TellsAtBucket};
@@ -11,12 +11,11 @@ ghost use Rattle.mlt_operation.specs.Operating.{MayOperate, started_for};
 use crate::answer::StepAnswer;
 use crate::perform::perform;
 use crate::request::Request;
-use mlt_hash::{Walk, WalkAnswer};
-use mlt_hash_form::Root;
+use mlt_hash::{Setting, Walk, WalkAnswer};
 use mlt_held::LockedStore;
 use mlt_kinds::ObjReply;
 use mlt_subtx::Subtx;
-use mlt_types::{OpenSet, Pseudo, Value};
+use mlt_types::{Pseudo, Value};
 use std::alloc::Global;
 use std::marker::Model;
 
@@ -66,26 +65,25 @@ impl Operation {
 
     /// One step, up to the one before its end: on the way to its bucket it locks a page and reads it. At the bucket it
     /// learns what it is told, and makes its change there. Where there is no room, the pass is rolled back and another
-    /// begins, which splits the bucket, one page a step. `opens` are the open transactions.
+    /// begins, which splits the bucket, one page a step.
     ///
     /// It takes memory in a later pass than the first alone. Where it is refused all is rolled back.
     pub fn step<P: Pseudo>(
         &mut self,
-        root: &Root<P>,
+        setting: &Setting<P>,
         subtx: &mut Subtx,
         pages: &mut LockedStore,
-        opens: &OpenSet,
     ) -> StepAnswer
         requires under_way { IsUnderWay self.old.walk.phase }
-        requires ready { MayOperate (basis_by P.bits_of root.now opens.now subtx.old.tx)
+        requires ready { MayOperate (basis_in P.bits_of setting.now subtx.old.tx)
             (moment subtx.old pages.old) self.old }
-        ensures tells { TellsOfStep (basis_by P.bits_of root.now opens.now subtx.old.tx)
+        ensures tells { TellsOfStep (basis_in P.bits_of setting.now subtx.old.tx)
             (moment subtx.old pages.old) (moment subtx.new pages.new) self.old self.new result }
     {
-        match self.walk.advance(root, subtx, pages, opens) {
+        match self.walk.advance(setting, subtx, pages) {
             WalkAnswer::Going => StepAnswer::Going,
             WalkAnswer::Waiting(page, by) => StepAnswer::Waiting(page, by),
-            WalkAnswer::Found(found) => self.act_on(found, root, subtx, pages, opens),
+            WalkAnswer::Found(found) => self.act_on(found, setting, subtx, pages),
             WalkAnswer::Changed => {
                 self.reply = Some(self.request.decide(None).0);
                 StepAnswer::Going
@@ -102,14 +100,13 @@ impl Operation {
     fn act_on<P: Pseudo>(
         &mut self,
         found: Option<Value>,
-        root: &Root<P>,
+        setting: &Setting<P>,
         subtx: &mut Subtx,
         pages: &mut LockedStore,
-        opens: &OpenSet,
     ) -> StepAnswer
-        requires ready { MayDecide (basis_by P.bits_of root.now opens.now subtx.old.tx)
+        requires ready { MayDecide (basis_in P.bits_of setting.now subtx.old.tx)
             (moment subtx.old pages.old) self.old found }
-        ensures tells { TellsAtBucket (basis_by P.bits_of root.now opens.now subtx.old.tx)
+        ensures tells { TellsAtBucket (basis_in P.bits_of setting.now subtx.old.tx)
             (moment subtx.old pages.old) (moment subtx.new pages.new) self.old self.new result }
     {
         let (reply, decided) = self.request.decide(found);
@@ -117,7 +114,7 @@ impl Operation {
             self.reply = Some(reply);
             return StepAnswer::Going;
         };
-        match perform(&mut self.walk, change, found, root, subtx, pages, opens) {
+        match perform(&mut self.walk, change, found, setting, subtx, pages) {
             WalkAnswer::Changed => {
                 self.reply = Some(reply);
                 StepAnswer::Going

@@ -5,29 +5,27 @@ ghost use Rattle.mlt_base.specs.Records.{CanChange};
 ghost use Rattle.mlt_held.specs.Moments.{moment};
 ghost use Rattle.mlt_held.specs.PageSteps.{Leaves};
 ghost use Rattle.mlt_held.specs.Views.{view_of};
-ghost use Rattle.mlt_hash.specs.Walks.{basis_by};
+ghost use Rattle.mlt_hash.specs.Walks.{basis_in};
 ghost use Rattle.mlt_hash.specs.Changes.{HasOwnGhost, MayChange, WritesIfChanged, page_of};
 ghost use Rattle.mlt_hash.specs.Steps.{HasFound};
 ghost use Rattle.mlt_operation.specs.Performing.{TellsOfDecision};
 
 use mlt_base::RecChange;
-use mlt_hash::{Walk, WalkAnswer};
-use mlt_hash_form::Root;
+use mlt_hash::{Setting, Walk, WalkAnswer};
 use mlt_held::LockedStore;
 use mlt_subtx::Subtx;
-use mlt_types::{OpenSet, Pseudo, Value};
+use mlt_types::{Pseudo, Value};
 
 /// Makes a change of the record that the walk has found with this value, or not found. Only an addition may lack room.
 pub(crate) fn perform<P: Pseudo>(
     walk: &mut Walk,
     decided: RecChange,
     found: Option<Value>,
-    root: &Root<P>,
+    setting: &Setting<P>,
     subtx: &mut Subtx,
     pages: &mut LockedStore,
-    opens: &OpenSet,
 ) -> WalkAnswer
-    requires ready { MayChange (basis_by P.bits_of root.now opens.now subtx.old.tx)
+    requires ready { MayChange (basis_in P.bits_of setting.now subtx.old.tx)
         (moment subtx.old pages.old) walk.old }
     requires found { HasFound walk.old.phase found }
     requires fits { CanChange (Some decided) found }
@@ -36,11 +34,11 @@ pub(crate) fn perform<P: Pseudo>(
     ensures writes { WritesIfChanged (moment subtx.old pages.old) (moment subtx.new pages.new)
         (page_of walk.old.phase) result }
     ensures leaves { Leaves (moment subtx.old pages.old) (moment subtx.new pages.new) }
-    ensures tells { TellsOfDecision (basis_by P.bits_of root.now opens.now subtx.old.tx)
+    ensures tells { TellsOfDecision (basis_in P.bits_of setting.now subtx.old.tx)
         (moment subtx.new pages.new) walk.old walk.new decided found result }
 {
     match (decided, found) {
-        (RecChange::Add(value), _) => walk.insert(value, root, subtx, pages, opens),
+        (RecChange::Add(value), _) => walk.insert(value, setting, subtx, pages),
         (RecChange::Set(value), _) => walk.update(value, subtx, pages),
         (RecChange::ToGhost, _) => walk.remove(subtx, pages),
         (RecChange::Revive, _) => walk.revive(0, subtx, pages),

@@ -13,7 +13,7 @@ use Rattle.mlt_held.specs.PageSteps.{WritesAtMost}
 use Rattle.mlt_held.specs.Views.{ReadsHeldBucket, View, WritesSlot, view_of}
 use Rattle.mlt_held.proofs.Views.{may_write, write_writes}
 use Rattle.mlt_record.specs.Plans.{WriteFields}
-use Rattle.mlt_pair.specs.Changes.{FitsBoth, HasChanged, HoldsOn, IsHolding, IsSide, MakesOwed, MayWriteEarlier, Owes, OwesChange, OwesIf, StandsBehind, TellsOfTwo}
+use Rattle.mlt_pair.specs.Changes.{FitsBoth, HasChanged, HoldsOn, IsHolding, IsSide, MakesOwed, MayWriteEarlier, Owes, OwesChange, OwesIf, StandsBehind, TellsOfTwo, task_in, task_of}
 use Rattle.mlt_pair.specs.Pairs.{HoldsWays, IsFinding, IsFound, IsUnwritten, PairFields, later_of, later_page}
 use Rattle.mlt_pair.specs.Plans.{FitsFound, IsPlan}
 use Rattle.mlt_pair.specs.Ways.{HasRead, IsLocked, IsThere, found_of, page_of}
@@ -48,11 +48,11 @@ right_held root left right m there holds = may_write m (page_of right) ((holds (
 
 -- what one bucket tells, told of the pair
 pub one_tells : (told : ChangeAnswer) (opens : set.FinSet nat_cmp) (old new : Moment) (before after : PairFields) (q left_page right_page : ℕ) (changes : Changes) → q ≡ left_page → q ≡ right_page → after ≡ before
-    → TellsOfOne opens old new before.left before.right q changes told → TellsOfTwo opens old new before after left_page right_page changes told
+    → TellsOfOne (task_in opens before.left before.right q changes) old new told → TellsOfTwo (task_of opens before left_page right_page changes) old new before after told
 one_tells told opens old new before after q left_page right_page changes is_left is_right stays tells =
-    subst (λ p. TellsOfTwo opens old new before after p right_page changes told) is_left (subst (λ p. TellsOfTwo opens old new before after q p changes told) is_right (go told tells))
+    subst (λ p. TellsOfTwo (task_of opens before p right_page changes) old new before after told) is_left (subst (λ p. TellsOfTwo (task_of opens before q p changes) old new before after told) is_right (go told tells))
   where
-    go : (told : ChangeAnswer) → TellsOfOne opens old new before.left before.right q changes told → TellsOfTwo opens old new before after q q changes told
+    go : (told : ChangeAnswer) → TellsOfOne (task_in opens before.left before.right q changes) old new told → TellsOfTwo (task_of opens before q q changes) old new before after told
     go answer.Changed tells = (record { mid = tells.0; left = tells.1; right = tells.2; no_left = λ lt. absurd (omega (arith, lt)); no_right = λ lt. absurd (omega (arith, lt)) }, stays)
     go answer.OneLeft tells = absurd tells
     go (answer.Full side.Left) tells = (tells.0, tells.1, stays)
@@ -119,7 +119,7 @@ module _ (bits : ℕ → ℕ) (root : ℕ) (opens : set.FinSet nat_cmp) (old new
       }))
 
   -- **A pair that has made its changes stands where it stood, with the change of the earlier bucket owed or nothing.**
-  pub stands_behind : (told : ChangeAnswer) (after : PairFields) (changes : Changes) → TellsOfTwo opens old new before after (page_of before.left_way) (page_of before.right_way) changes told → StandsBehind told bits root opens old.running.tx after (view_of new)
+  pub stands_behind : (told : ChangeAnswer) (after : PairFields) (changes : Changes) → TellsOfTwo (task_of opens before (page_of before.left_way) (page_of before.right_way) changes) old new before after told → StandsBehind told bits root opens old.running.tx after (view_of new)
   stands_behind answer.Changed after changes tells = subst (λ p. HasChanged bits root opens old.running.tx p (view_of new)) (sym tells.1) stands_done
   stands_behind answer.OneLeft after changes tells =
       subst (λ p. HasChanged bits root opens old.running.tx p (view_of new)) (sym tells.1)

@@ -17,7 +17,7 @@ use Rattle.mlt_held.specs.PageSteps.{WritesAtMost}
 use Rattle.mlt_held.specs.Views.{ReadsHeldBucket, View, WritesPage, view_of}
 use Rattle.mlt_held.proofs.Views.{image_is_own}
 use Rattle.mlt_record.specs.Plans.{WriteFields, planned_page}
-use Rattle.mlt_pair.specs.Changes.{IsFull, IsSameView, MakesAsked, OwesChange, TellsOfTwo}
+use Rattle.mlt_pair.specs.Changes.{IsFull, IsSameView, MakesAsked, OwesChange, TellsOfTwo, task_in, task_of}
 use Rattle.mlt_pair.specs.Pairs.{IsUnwritten, PairFields, later_of}
 use Rattle.mlt_pair.specs.Plans.{FitsSlots, IsPlanned, bucket_after}
 use Rattle.mlt_page_locks.specs.LockTables.{can_write}
@@ -156,7 +156,7 @@ module _ (opens : set.FinSet nat_cmp) (old : Moment) (left right q : ℕ) (chang
   mid_reads : ReadsHeldBucket mid q (bucket_after bucket left_plan)
   mid_reads = mid_reads_here opens old.running.tx left q changes.left bucket left_plan (view_of old) reads
 
-  pub one_full : (new : Moment) → new ≡ old → IsPlanned plan.Full changes.right opens old.running.tx right q (bucket_after bucket left_plan) → TellsOfOne opens old new left right q changes (answer.Full side.Right)
+  pub one_full : (new : Moment) → new ≡ old → IsPlanned plan.Full changes.right opens old.running.tx right q (bucket_after bucket left_plan) → TellsOfOne (task_in opens left right q changes) old new (answer.Full side.Right)
   one_full new same planned = ((mid, left_made, full_asked opens old.running.tx right q changes.right (bucket_after bucket left_plan) mid planned mid_reads), same)
 
   right_made : (right_plan : Plan) (new : View) → IsRoomy right_plan → IsPlanned right_plan changes.right opens old.running.tx right q (bucket_after bucket left_plan) → (IsSome changes.left ⊎ IsSome changes.right)
@@ -181,7 +181,7 @@ module _ (opens : set.FinSet nat_cmp) (old : Moment) (left right q : ℕ) (chang
   right_made plan.Full new roomy planned asked writes = absurd (roomy refl)
 
   pub one_changed : (new : Moment) (right_plan : Plan) → IsRoomy right_plan → IsPlanned right_plan changes.right opens old.running.tx right q (bucket_after bucket left_plan) → (IsSome changes.left ⊎ IsSome changes.right)
-      → WritesPage (view_of old) (view_of new) q (page.Bucket (bucket_after (bucket_after bucket left_plan) right_plan)) → TellsOfOne opens old new left right q changes answer.Changed
+      → WritesPage (view_of old) (view_of new) q (page.Bucket (bucket_after (bucket_after bucket left_plan) right_plan)) → TellsOfOne (task_in opens left right q changes) old new answer.Changed
   one_changed new right_plan roomy planned asked writes = (mid, left_made, right_made right_plan (view_of new) roomy planned asked writes)
 
 -- a plan that is written writes its page at most
@@ -195,11 +195,11 @@ writes_at_most plan.Full asked opens tx key q old new bucket reads roomy none sa
 -- The changes in two buckets
 module _ (opens : set.FinSet nat_cmp) (old new : Moment) (before after : PairFields) (left_page right_page : ℕ) (changes : Changes) (left_plan right_plan : Plan)
     (left_has : HasPlan left_plan changes.left opens old.running.tx before.left left_page (view_of old)) (right_has : HasPlan right_plan changes.right opens old.running.tx before.right right_page (view_of old)) where
-  pub left_full : left_plan ≡ plan.Full → new ≡ old → after ≡ before → TellsOfTwo opens old new before after left_page right_page changes (answer.Full side.Left)
+  pub left_full : left_plan ≡ plan.Full → new ≡ old → after ≡ before → TellsOfTwo (task_of opens before left_page right_page changes) old new before after (answer.Full side.Left)
   left_full full same stays = (full_asked opens old.running.tx before.left left_page changes.left left_has.0 (view_of old) (subst (λ this. IsPlanned this changes.left opens old.running.tx before.left left_page left_has.0) full left_has.2) left_has.1, same, stays)
 
   module _ (apart : left_page ≢ right_page) (left_roomy : IsRoomy left_plan) where
-    pub right_full : right_plan ≡ plan.Full → new ≡ old → after ≡ before → TellsOfTwo opens old new before after left_page right_page changes (answer.Full side.Right)
+    pub right_full : right_plan ≡ plan.Full → new ≡ old → after ≡ before → TellsOfTwo (task_of opens before left_page right_page changes) old new before after (answer.Full side.Right)
     right_full full same stays = (
       record {
         mid = mid_of opens old.running.tx before.left left_page changes.left left_has.0 left_plan (view_of old);
@@ -218,8 +218,8 @@ module _ (opens : set.FinSet nat_cmp) (old new : Moment) (before after : PairFie
         right_is_made : MakesAsked changes.right opens old.running.tx before.right right_page (view_of old) (view_of new)
         right_is_made = makes_asked opens old.running.tx before.right right_page changes.right right_has.0 right_plan old new right_roomy right_has.2 right_has.1 writes
 
-        tells_left : (this : Plan) → this ≡ left_plan → IsPlanned this changes.left opens old.running.tx before.left left_page left_has.0 → OwesPlan this before after told → TellsOfTwo opens old new before after left_page right_page changes told
-        tells_left plan.Nothing is none owes = subst (TellsOfTwo opens old new before after left_page right_page changes) (sym owes.1) (
+        tells_left : (this : Plan) → this ≡ left_plan → IsPlanned this changes.left opens old.running.tx before.left left_page left_has.0 → OwesPlan this before after told → TellsOfTwo (task_of opens before left_page right_page changes) old new before after told
+        tells_left plan.Nothing is none owes = subst (TellsOfTwo (task_of opens before left_page right_page changes) old new before after) (sym owes.1) (
           record {
             mid = view_of old;
             left = subst (λ asked. MakesAsked asked opens old.running.tx before.left left_page (view_of old) (view_of old)) (sym none) (unchanged (view_of old));
@@ -229,7 +229,7 @@ module _ (opens : set.FinSet nat_cmp) (old new : Moment) (before after : PairFie
           },
           owes.0,
         )
-        tells_left (plan.Set write) is planned owes = subst (TellsOfTwo opens old new before after left_page right_page changes) (sym owes.1) (
+        tells_left (plan.Set write) is planned owes = subst (TellsOfTwo (task_of opens before left_page right_page changes) old new before after) (sym owes.1) (
           inl (record {
             earlier = low;
             right = right_is_made;
@@ -239,7 +239,7 @@ module _ (opens : set.FinSet nat_cmp) (old new : Moment) (before after : PairFie
         )
         tells_left plan.Full is none owes = absurd (left_roomy (sym is))
 
-        pub tells_right_later : TellsOfTwo opens old new before after left_page right_page changes told
+        pub tells_right_later : TellsOfTwo (task_of opens before left_page right_page changes) old new before after told
         tells_right_later = tells_left left_plan refl left_has.2 owes
 
         pub writes_right_later : WritesAtMost old new (later_of left_page right_page)
@@ -250,8 +250,8 @@ module _ (opens : set.FinSet nat_cmp) (old new : Moment) (before after : PairFie
         left_is_made : MakesAsked changes.left opens old.running.tx before.left left_page (view_of old) (view_of new)
         left_is_made = makes_asked opens old.running.tx before.left left_page changes.left left_has.0 left_plan old new left_roomy left_has.2 left_has.1 writes
 
-        tells_right : (this : Plan) → this ≡ right_plan → IsPlanned this changes.right opens old.running.tx before.right right_page right_has.0 → OwesPlan this before after told → TellsOfTwo opens old new before after left_page right_page changes told
-        tells_right plan.Nothing is none owes = subst (TellsOfTwo opens old new before after left_page right_page changes) (sym owes.1) (
+        tells_right : (this : Plan) → this ≡ right_plan → IsPlanned this changes.right opens old.running.tx before.right right_page right_has.0 → OwesPlan this before after told → TellsOfTwo (task_of opens before left_page right_page changes) old new before after told
+        tells_right plan.Nothing is none owes = subst (TellsOfTwo (task_of opens before left_page right_page changes) old new before after) (sym owes.1) (
           record {
             mid = view_of new;
             left = left_is_made;
@@ -261,7 +261,7 @@ module _ (opens : set.FinSet nat_cmp) (old new : Moment) (before after : PairFie
           },
           owes.0,
         )
-        tells_right (plan.Set write) is planned owes = subst (TellsOfTwo opens old new before after left_page right_page changes) (sym owes.1) (
+        tells_right (plan.Set write) is planned owes = subst (TellsOfTwo (task_of opens before left_page right_page changes) old new before after) (sym owes.1) (
           inr (record {
             earlier = low;
             left = left_is_made;
@@ -271,7 +271,7 @@ module _ (opens : set.FinSet nat_cmp) (old new : Moment) (before after : PairFie
         )
         tells_right plan.Full is none owes = absurd (right_roomy (sym is))
 
-        pub tells_left_later : TellsOfTwo opens old new before after left_page right_page changes told
+        pub tells_left_later : TellsOfTwo (task_of opens before left_page right_page changes) old new before after told
         tells_left_later = tells_right right_plan refl right_has.2 owes
 
         pub writes_left_later : WritesAtMost old new (later_of left_page right_page)

@@ -60,46 +60,85 @@ pub record IsFull (asked : Option RecordChange) (opens : set.FinSet nat_cmp) (tx
   pub reads : ReadsHeldBucket view q bucket
   pub none : HasNoPlan change opens tx key bucket
 
--- Both changes that are asked for are made: in one bucket the left one first, and then the right one. Of two buckets only the
--- later one is changed.
-pub record MakesBoth (opens : set.FinSet nat_cmp) (tx : ℕ) (old new : View) (pair : PairFields) (left_page right_page : ℕ) (changes : Changes) : Type 0 where
+-- what a pair is to do, and where: the changes of these keys' records, in the buckets on these pages, with these
+-- transactions open
+pub record Task : Type 0 where
+  pub opens : set.FinSet nat_cmp
+  pub left : ℕ
+  pub right : ℕ
+  pub left_page : ℕ
+  pub right_page : ℕ
+  pub changes : Changes
+
+abbrev pub task_of : set.FinSet nat_cmp → PairFields → ℕ → ℕ → Changes → Task
+task_of opens pair left_page right_page changes = record {
+  opens = opens;
+  left = pair.left;
+  right = pair.right;
+  left_page = left_page;
+  right_page = right_page;
+  changes = changes;
+}
+
+-- in one bucket, on page q
+abbrev pub task_in : set.FinSet nat_cmp → ℕ → ℕ → ℕ → Changes → Task
+task_in opens left right q changes = record {
+  opens = opens;
+  left = left;
+  right = right;
+  left_page = q;
+  right_page = q;
+  changes = changes;
+}
+
+-- Both changes are made: in one bucket the left one first, and then the right one. Of two buckets only the later one
+-- is changed.
+pub record MakesBoth (task : Task) (tx : ℕ) (old new : View) : Type 0 where
   pub mid : View
-  pub left : MakesAsked changes.left opens tx pair.left left_page old mid
-  pub right : MakesAsked changes.right opens tx pair.right right_page mid new
-  pub no_left : left_page < right_page → changes.left ≡ None
-  pub no_right : right_page < left_page → changes.right ≡ None
+  pub left : MakesAsked task.changes.left task.opens tx task.left task.left_page old mid
+  pub right : MakesAsked task.changes.right task.opens tx task.right task.right_page mid new
+  pub no_left : task.left_page < task.right_page → task.changes.left ≡ None
+  pub no_right : task.right_page < task.left_page → task.changes.right ≡ None
 
 -- The change of the later bucket is made, if one is asked for, and that of the earlier one is owed.
-pub record LeavesLeft (opens : set.FinSet nat_cmp) (tx : ℕ) (old new : View) (before after : PairFields) (left_page right_page : ℕ) (changes : Changes) : Type 0 where
-  pub earlier : left_page < right_page
-  pub right : MakesAsked changes.right opens tx before.right right_page old new
-  pub owes : OwesChange changes.left opens tx before.left left_page old after.owed
+pub record LeavesLeft (task : Task) (tx : ℕ) (old new : View) (owed : Option WriteFields)
+    : Type 0 where
+  pub earlier : task.left_page < task.right_page
+  pub right : MakesAsked task.changes.right task.opens tx task.right task.right_page old new
+  pub owes : OwesChange task.changes.left task.opens tx task.left task.left_page old owed
 
-pub record LeavesRight (opens : set.FinSet nat_cmp) (tx : ℕ) (old new : View) (before after : PairFields) (left_page right_page : ℕ) (changes : Changes) : Type 0 where
-  pub earlier : right_page < left_page
-  pub left : MakesAsked changes.left opens tx before.left left_page old new
-  pub owes : OwesChange changes.right opens tx before.right right_page old after.owed
+pub record LeavesRight (task : Task) (tx : ℕ) (old new : View) (owed : Option WriteFields)
+    : Type 0 where
+  pub earlier : task.right_page < task.left_page
+  pub left : MakesAsked task.changes.left task.opens tx task.left task.left_page old new
+  pub owes : OwesChange task.changes.right task.opens tx task.right task.right_page old owed
 
 -- the right key's bucket has no room for its record, once the left one's change is in it
-pub record IsFullBehind (opens : set.FinSet nat_cmp) (tx : ℕ) (old : View) (pair : PairFields) (left_page right_page : ℕ) (changes : Changes) : Type 0 where
+pub record IsFullBehind (task : Task) (tx : ℕ) (old : View) : Type 0 where
   pub mid : View
-  pub left : MakesAsked changes.left opens tx pair.left left_page old mid
-  pub right : IsFull changes.right opens tx pair.right right_page mid
+  pub left : MakesAsked task.changes.left task.opens tx task.left task.left_page old mid
+  pub right : IsFull task.changes.right task.opens tx task.right task.right_page mid
 
 -- Changed: all is written. OneLeft: but for the change of the earlier bucket. Full: this key's bucket has no room for its
 -- record, and nothing has changed.
-abbrev pub TellsOfTwo : set.FinSet nat_cmp → Moment → Moment → PairFields → PairFields → ℕ → ℕ → Changes → ChangeAnswer → Type 0
-TellsOfTwo opens old new before after left_page right_page changes answer.Changed = MakesBoth opens old.running.tx (view_of old) (view_of new) before left_page right_page changes × (after ≡ before)
-TellsOfTwo opens old new before after left_page right_page changes answer.OneLeft =
-    (LeavesLeft opens old.running.tx (view_of old) (view_of new) before after left_page right_page changes
-    ⊎ LeavesRight opens old.running.tx (view_of old) (view_of new) before after left_page right_page changes)
+abbrev pub TellsOfTwo : Task → Moment → Moment → PairFields → PairFields → ChangeAnswer → Type 0
+TellsOfTwo task old new before after answer.Changed =
+    MakesBoth task old.running.tx (view_of old) (view_of new) × (after ≡ before)
+TellsOfTwo task old new before after answer.OneLeft =
+    (LeavesLeft task old.running.tx (view_of old) (view_of new) after.owed
+    ⊎ LeavesRight task old.running.tx (view_of old) (view_of new) after.owed)
     × (after ≡ record before { owed = after.owed })
-TellsOfTwo opens old new before after left_page right_page changes (answer.Full side.Left) = IsFull changes.left opens old.running.tx before.left left_page (view_of old) × (new ≡ old) × (after ≡ before)
-TellsOfTwo opens old new before after left_page right_page changes (answer.Full side.Right) = IsFullBehind opens old.running.tx (view_of old) before left_page right_page changes × (new ≡ old) × (after ≡ before)
+TellsOfTwo task old new before after (answer.Full side.Left) =
+    IsFull task.changes.left task.opens old.running.tx task.left task.left_page (view_of old)
+    × (new ≡ old) × (after ≡ before)
+TellsOfTwo task old new before after (answer.Full side.Right) =
+    IsFullBehind task old.running.tx (view_of old) × (new ≡ old) × (after ≡ before)
 
 -- by the pages of the pair's buckets
 abbrev pub TellsOfChanges : set.FinSet nat_cmp → Moment → Moment → PairFields → PairFields → Changes → ChangeAnswer → Type 0
-TellsOfChanges opens old new before after changes told = TellsOfTwo opens old new before after (page_of before.left_way) (page_of before.right_way) changes told
+TellsOfChanges opens old new before after changes told =
+    TellsOfTwo (task_of opens before (page_of before.left_way) (page_of before.right_way) changes)
+    old new before after told
 
 -- what a pair has read and holds, whatever it has written
 pub record IsHolding (bits : ℕ → ℕ) (root : ℕ) (pair : PairFields) (view : View) : Type 0 where

@@ -7,7 +7,7 @@ use Rattle.mlt_page_locks.specs.LockTables.{can_write}
 use Rattle.mlt_held.specs.Moments.{Moment}
 use Rattle.mlt_held.specs.PageSteps.{WritesHeldSlot}
 use Rattle.mlt_held.specs.Views.{ReadsHeldBucket, View, WritesSlot, view_of}
-use Rattle.mlt_pair.specs.Changes.{IsFull, MakesAsked}
+use Rattle.mlt_pair.specs.Changes.{IsFull, MakesAsked, Task}
 use Rattle.mlt_pair.specs.Pairs.{PairFields}
 use Rattle.mlt_pair.specs.Plans.{FitsSlots, IsPlanned}
 use Rattle.mlt_pair.specs.declared.asked.Changes.{Changes}
@@ -27,11 +27,23 @@ abbrev pub HasPlan : Plan → Option RecordChange → set.FinSet nat_cmp → ℕ
 HasPlan plan asked opens tx key q view = (bucket : BucketFields) × ReadsHeldBucket view q bucket × IsPlanned plan asked opens tx key q bucket
 
 -- both changes in one bucket, the left one first
-abbrev pub TellsOfOne : set.FinSet nat_cmp → Moment → Moment → ℕ → ℕ → ℕ → Changes → ChangeAnswer → Type 0
-TellsOfOne opens old new left right q changes answer.Changed = (mid : View) × MakesAsked changes.left opens old.running.tx left q (view_of old) mid × MakesAsked changes.right opens old.running.tx right q mid (view_of new)
-TellsOfOne opens old new left right q changes answer.OneLeft = ⊥
-TellsOfOne opens old new left right q changes (answer.Full side.Left) = IsFull changes.left opens old.running.tx left q (view_of old) × (new ≡ old)
-TellsOfOne opens old new left right q changes (answer.Full side.Right) = ((mid : View) × MakesAsked changes.left opens old.running.tx left q (view_of old) mid × IsFull changes.right opens old.running.tx right q mid) × (new ≡ old)
+abbrev pub TellsOfOne : Task → Moment → Moment → ChangeAnswer → Type 0
+TellsOfOne task old new answer.Changed =
+    (mid : View)
+    × MakesAsked task.changes.left task.opens old.running.tx task.left task.left_page
+    (view_of old) mid
+    × MakesAsked task.changes.right task.opens old.running.tx task.right task.right_page
+    mid (view_of new)
+TellsOfOne task old new answer.OneLeft = ⊥
+TellsOfOne task old new (answer.Full side.Left) =
+    IsFull task.changes.left task.opens old.running.tx task.left task.left_page (view_of old)
+    × (new ≡ old)
+TellsOfOne task old new (answer.Full side.Right) =
+    ((mid : View)
+    × MakesAsked task.changes.left task.opens old.running.tx task.left task.left_page
+    (view_of old) mid
+    × IsFull task.changes.right task.opens old.running.tx task.right task.right_page mid)
+    × (new ≡ old)
 
 -- the slot that is planned may be written
 abbrev pub MayWrite : Plan → Moment → Type 0

@@ -7,7 +7,7 @@ ghost use Rattle.mlt_held.specs.PageSteps.{Leaves, WritesAtMost, WritesHeldSlot}
 ghost use Rattle.mlt_held.specs.Views.{view_of};
 ghost use Rattle.mlt_record.specs.Plans.{WriteFields};
 ghost use Rattle.mlt_pair.specs.Ways.{IsThere, page_of};
-ghost use Rattle.mlt_pair.specs.Changes.{FitsBoth, HoldsOn, MakesOwed, MayWriteEarlier, StandsBehind, TellsOfChanges, TellsOfTwo};
+ghost use Rattle.mlt_pair.specs.Changes.{FitsBoth, HoldsOn, MakesOwed, MayWriteEarlier, StandsBehind, TellsOfChanges, TellsOfTwo, task_in, task_of};
 ghost use Rattle.mlt_pair.specs.Pairs.{FileRoot, IsFinding, IsFound, IsUnwritten, later_of, later_page};
 ghost use Rattle.mlt_pair.specs.Plans.{IsWithin};
 ghost use Rattle.mlt_pair.specs.Writing.{HasPlan, MayPlan, MayWrite, OwesPlan, TellsOfOne, WritesPlan};
@@ -116,9 +116,8 @@ fn change_one_bucket(
         (view_of (moment subtx.old pages.old)) }
     ensures writes { WritesAtMost (moment subtx.old pages.old) (moment subtx.new pages.new) number }
     ensures leaves { Leaves (moment subtx.old pages.old) (moment subtx.new pages.new) }
-    ensures tells { TellsOfOne opens.now
-        (moment subtx.old pages.old) (moment subtx.new pages.new)
-        left.now right.now number changes.now result }
+    ensures tells { TellsOfOne (task_in opens.now left.now right.now number changes.now)
+        (moment subtx.old pages.old) (moment subtx.new pages.new) result }
 {
     let Page::Bucket(bucket) = read_held(subtx, pages, number) else {
         unreachable!()
@@ -184,9 +183,8 @@ fn change_two_buckets(
     ensures writes { WritesAtMost (moment subtx.old pages.old) (moment subtx.new pages.new)
         (later_of left right) }
     ensures leaves { Leaves (moment subtx.old pages.old) (moment subtx.new pages.new) }
-    ensures tells { TellsOfTwo opens.now
-        (moment subtx.old pages.old) (moment subtx.new pages.new)
-        pair.old pair.new left right changes.now result }
+    ensures tells { TellsOfTwo (task_of opens.now pair.old left right changes.now)
+        (moment subtx.old pages.old) (moment subtx.new pages.new) pair.old pair.new result }
 {
     let left_plan = plan_held(left, &pair.left, &changes.left, subtx, pages, opens);
     if let Plan::Full = left_plan {

@@ -13,8 +13,8 @@ use Rattle.mlt_page.specs.declared.page.Page.TheVariants as page
 use Rattle.mlt_hash_form.specs.File.{HasForm, bucket_of, lead_of}
 use Rattle.mlt_hash_form.specs.Held.{Agrees, KeepsFile, over, own_or}
 use Rattle.mlt_hash_form.specs.Room.{is_crowded}
-use Rattle.mlt_hash_form.specs.declared.root.Root.{Root}
 use Rattle.mlt_held.specs.Views.{View}
+use Rattle.mlt_split.specs.declared.setting.Setting.{Setting}
 
 -- what a walk's splits are for: the function of keys, who is open, the header's page, the key that asks for room, the
 -- transaction that adds it, and a depth at which its bucket has room for it
@@ -26,12 +26,12 @@ pub record Aim : Type 0 where
   pub owner : ℕ
   pub room_depth : ℕ
 
--- the aim of a transaction that goes by this root, with these transactions open, and adds a record of this key
-abbrev pub aim_by : {P : Type 0} → (P → ℕ → ℕ) → Root P → set.FinSet nat_cmp → ℕ → ℕ → ℕ → Aim
-aim_by bits_of root opens key owner room_depth = record {
-  bits = bits_of root.pseudo;
-  opens = opens;
-  root = root.page;
+-- the aim of a transaction that adds a record of this key in this setting
+abbrev pub aim_by : {P : Type 0} → (P → ℕ → ℕ) → Setting P → ℕ → ℕ → ℕ → Aim
+aim_by bits_of setting key owner room_depth = record {
+  bits = bits_of setting.root.now.pseudo;
+  opens = setting.opens.now;
+  root = setting.root.now.page;
   key = key;
   owner = owner;
   room_depth = room_depth;

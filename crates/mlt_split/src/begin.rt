@@ -13,12 +13,12 @@ ghost use Rattle.mlt_split.specs.Rests.{IsAtRest, aim_by, held_page};
 ghost use Rattle.mlt_split.specs.Splits.{HasHalves, IsUnderWay, MayBegin, directory_steps, steps_left};
 
 use crate::phase::SplitPhase;
+use crate::setting::Setting;
 use crate::split::Split;
-use mlt_hash_form::Root;
 use mlt_held::{LockedStore, make_page, read_held};
 use mlt_page::{Bucket, DirPage, HeadPage, Page};
 use mlt_subtx::Subtx;
-use mlt_types::{Key, OpenSet, PageNo, Pseudo, Refusal};
+use mlt_types::{Key, PageNo, Pseudo, Refusal};
 
 impl Split {
     /// Begins to split the bucket on page `old`, to which the key leads: makes the page of the new bucket. The bucket is
@@ -28,33 +28,32 @@ impl Split {
     /// `NoRoom` exactly where the store has as many pages as it may have; else `OutOfMemory`, where a growth was
     /// refused. Then nothing has changed.
     pub fn begin<P: Pseudo>(
-        root: &Root<P>,
+        setting: &Setting<P>,
         key: Key,
         old: PageNo,
         subtx: &mut Subtx,
         pages: &mut LockedStore,
-        opens: &OpenSet,
     ) -> Result<Split, Refusal>
         ghost room_depth: { ℕ }
         requires may { MayStep (moment subtx.old pages.old) }
-        requires file { HasCleanFile (P.bits_of root.now.pseudo) root.now.page
-            (moment subtx.old pages.old) }
-        requires begins { MayBegin (aim_by P.bits_of root.now opens.now key subtx.old.tx room_depth)
+        requires file { HasCleanFile (P.bits_of setting.now.root.now.pseudo)
+            setting.now.root.now.page (moment subtx.old pages.old) }
+        requires begins { MayBegin (aim_by P.bits_of setting.now key subtx.old.tx room_depth)
             (view_of (moment subtx.old pages.old)) old }
         ensures makes { IfOk result (λ split. (page : Page)
             × MakesLockedPage (moment subtx.old pages.old) (moment subtx.new pages.new)
             split.new_page page) }
         ensures halves { IfOk result (λ split. (bucket : BucketFields)
             → held_page (view_of (moment subtx.old pages.old)) old ≡ Some (page.Bucket bucket)
-            → HasHalves (aim_by P.bits_of root.now opens.now key subtx.old.tx room_depth)
+            → HasHalves (aim_by P.bits_of setting.now key subtx.old.tx room_depth)
             pages.new.store.pages bucket split) }
         ensures under_way { IfOk result (λ split.
-            IsUnderWay (aim_by P.bits_of root.now opens.now key subtx.old.tx room_depth)
+            IsUnderWay (aim_by P.bits_of setting.now key subtx.old.tx room_depth)
             (view_of (moment subtx.new pages.new)) split) }
         ensures steps { IfOk result (λ split.
             steps_left split ≡ 1 + directory_steps split.depth split.directory_depth) }
         ensures depths { IfOk result (λ split. (header : HeadFields) (bucket : BucketFields)
-            → IsAtRest (aim_by P.bits_of root.now opens.now key subtx.old.tx room_depth)
+            → IsAtRest (aim_by P.bits_of setting.now key subtx.old.tx room_depth)
             (view_of (moment subtx.old pages.old)) old header bucket
             → (split.depth ≡ bucket.depth) × (split.directory_depth ≡ header.depth)) }
         ensures leaves { Leaves (moment subtx.old pages.old) (moment subtx.new pages.new) }
@@ -63,7 +62,7 @@ impl Split {
         ensures refusal { IfErr result (λ refusal.
             (refusal ≡ Refusal.NoRoom) ⊎ (refusal ≡ Refusal.OutOfMemory)) }
     {
-        let Page::Head(header) = read_held(subtx, pages, root.page) else {
+        let Page::Head(header) = read_held(subtx, pages, setting.root.page) else {
             unreachable!()
         };
         let directory_depth = header.depth;
@@ -75,10 +74,10 @@ impl Split {
             unreachable!()
         };
         let depth = bucket.depth;
-        let (zeros, ones) = bucket.part(depth, &root.pseudo, opens);
+        let (zeros, ones) = bucket.part(depth, &setting.root.pseudo, setting.opens);
         let new = make_page(subtx, pages, Page::Bucket(ones))?;
         Ok(Split {
-            seed: root.pseudo.bits(&key),
+            seed: setting.root.pseudo.bits(&key),
             old_page: old,
             new_page: new,
             depth,

@@ -18,6 +18,7 @@ use Rattle.mlt_accepted.proofs.Places.{whole_begin, whole_more}
 use Rattle.mlt_operation.specs.Operating.{OperationFields}
 use Rattle.mlt_event.specs.declared.answer.Answer.{Answer}
 use Rattle.mlt_event.specs.declared.answer.Answer.TheVariants as answer
+use Rattle.mlt_transaction.specs.Transactions.{workplace_of}
 use Rattle.mlt_transaction.specs.declared.commons.Commons.{Commons}
 use Rattle.mlt_transaction.specs.declared.transaction.Transaction.{Transaction}
 use Rattle.mlt_transaction.specs.Steps.{EndsBack}
@@ -68,7 +69,7 @@ done_traced s i o before after commons told_reply base sound traced was ends =
 -- ---- the last operation is taken back
 
 items_between : (inverting : Option OperationFields) (s : State) (before after : Transaction) (commons : Commons) (answered : Answer)
-    → (ends : EndsBack inverting None before.subtx after.subtx before.undo after.undo s.commons commons answered) → ends.between.history.items ≡ s.commons.history.items
+    → (ends : EndsBack inverting None (workplace_of before s.commons) (workplace_of after commons) answered) → ends.between.history.items ≡ s.commons.history.items
 items_between None s before after commons answered ends = ap (λ (c : Commons). c.history.items) (ends.at_once refl).0
 items_between (Some o) s before after commons answered ends = ap (λ (h : ItemsWithRoom). h.items) (ends.at_end o refl).3
 

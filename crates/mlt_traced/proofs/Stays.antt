@@ -24,7 +24,7 @@ use Rattle.mlt_transaction.specs.declared.commons.Commons.{Commons}
 use Rattle.mlt_transaction.specs.declared.transaction.At.TheVariants as at
 use Rattle.mlt_transaction.specs.declared.transaction.Transaction.{Transaction}
 use Rattle.mlt_transaction.specs.Steps.{TellsOfBack, TellsOfPending}
-use Rattle.mlt_transaction.specs.Transactions.{LeavesRoom, StepsBack, StepsPending, TellsOfCancel}
+use Rattle.mlt_transaction.specs.Transactions.{LeavesRoom, StepsBack, StepsPending, TellsOfCancel, workplace_of}
 use Rattle.mlt_invariant.specs.Events.{Calls, KeepsClean, with_transaction}
 use Rattle.mlt_invariant.specs.Opening.{opening_state}
 use Rattle.mlt_invariant.specs.Sound.{IsSound}
@@ -64,7 +64,7 @@ module _ (s : State) (i : ℕ) (before after : Transaction) (commons : Commons) 
   pub cancelled_traced : (o : OperationFields) → before.at ≡ at.Pending o → TellsOfCancel before after s.commons commons → IsTraced (with_transaction s i after commons images)
   cancelled_traced o pending c = stays (c.room.items ∙ ap (λ (h : ItemsWithRoom). h.items) c.history) (λ not_undone. ap is_undoing pending)
 
-  by_answer : (basis : Basis) (o next : OperationFields) (between : Commons) (told_answer : Answer) → TellsOfPending basis o next before.subtx after.subtx before.undo after.undo s.commons between told_answer
+  by_answer : (basis : Basis) (o next : OperationFields) (between : Commons) (told_answer : Answer) → TellsOfPending basis o next (workplace_of before s.commons) (workplace_of after between) told_answer
       → LeavesRoom told_answer between commons → ((reply : ObjReply) → told_answer ≡ answer.Done reply → ⊥) → commons.history.items ≡ s.commons.history.items
   by_answer basis o next between answer.Going tells same apart = ap (λ (c : Commons). c.history.items) same ∙ ap (λ (h : ItemsWithRoom). h.items) tells.rest.history
   by_answer basis o next between (answer.Waiting page by) tells same apart = ap (λ (c : Commons). c.history.items) same ∙ ap (λ (h : ItemsWithRoom). h.items) tells.rest.history
@@ -79,7 +79,7 @@ module _ (s : State) (i : ℕ) (before after : Transaction) (commons : Commons) 
   not_done_traced basis o told_answer pending steps apart =
       stays (by_answer basis o steps.next steps.between told_answer steps.tells steps.leaves apart) (λ not_undone. ap is_undoing pending)
 
-  by_back : (basis : Basis) (inverting next : Option OperationFields) (told_answer : Answer) → TellsOfBack basis inverting next before.subtx after.subtx before.undo after.undo s.commons commons told_answer
+  by_back : (basis : Basis) (inverting next : Option OperationFields) (told_answer : Answer) → TellsOfBack basis inverting next (workplace_of before s.commons) (workplace_of after commons) told_answer
       → (told_answer ≡ answer.Undone → ⊥) → (told_answer ≡ answer.Aborted → ⊥) → commons.history.items ≡ s.commons.history.items
   by_back basis inverting next answer.Going tells undone aborted = same_items tells.rest.history
   by_back basis inverting next (answer.Waiting page by) tells undone aborted = same_items tells.rest.history

@@ -6,6 +6,7 @@ use Rattle.mlt_hash.specs.Walks.{Basis}
 use Rattle.mlt_operation.specs.Operating.{OperationFields}
 use Rattle.mlt_event.specs.declared.answer.Answer.{Answer}
 use Rattle.mlt_event.specs.declared.answer.Answer.TheVariants as answer
+use Rattle.mlt_transaction.specs.Endings.{workplace}
 use Rattle.mlt_transaction.specs.declared.commons.Commons.{Commons}
 use Rattle.mlt_transaction.specs.Steps.{EndsBack, TellsOfBack}
 
@@ -28,7 +29,7 @@ same_some x y is = cc
 
 -- **The end of an inverse is what a step of the abort tells.**
 pub end_tells : (basis : Basis) (inverting inverting' : Option OperationFields) (running running' : Running) (undo undo' : Undo) (old new : Commons) (told : Answer)
-    → EndsBack inverting inverting' running running' undo undo' old new told → TellsOfBack basis inverting inverting' running running' undo undo' old new told
+    → EndsBack inverting inverting' (workplace running undo old) (workplace running' undo' new) told → TellsOfBack basis inverting inverting' (workplace running undo old) (workplace running' undo' new) told
 end_tells basis inverting inverting' running running' undo undo' old new answer.Undone ends = ends
 end_tells basis inverting inverting' running running' undo undo' old new answer.Aborted ends = ends
 end_tells basis inverting inverting' running running' undo undo' old new other ends = absurd ends.takes

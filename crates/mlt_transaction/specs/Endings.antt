@@ -24,31 +24,37 @@ pub record RollsBackSubtx (before after : Running) (old new : Commons) : Type 0 
   pub store : new.pages.store
       ≡ record old.pages.store { pages = put_back before.images old.pages.store.pages }
 
+-- where a transaction works: its subtransaction, its undo list, and what all transactions share
+pub record Workplace : Type 0 where
+  pub running : Running
+  pub undo : Undo
+  pub commons : Commons
+
+abbrev pub workplace : Running → Undo → Commons → Workplace
+workplace running undo commons = record { running = running; undo = undo; commons = commons }
+
 -- The item is done: nobody else holds a clash, and the transaction holds it, may take it back, and has it in the
 -- history.
-pub record IsDone (item : ObjOp × ObjReply) (before after : Running) (undo undo' : Undo)
-    (old new : Commons) : Type 0 where
-  pub free : (holder : ℕ) → HoldsClash old.objects.held before.tx item holder → ⊥
-  pub ends : EndsSubtx before after old new
-  pub held : new.objects.held ≡ old.objects.held ++ (before.tx, item) ∷ []
-  pub reserved : SameReservations old.objects.reserved new.objects.reserved before.tx
-  pub entries : undo'.entries ≡ undo.entries ++ item ∷ []
-  pub items : new.history.items ≡ old.history.items ++ trace.Op before.tx item ∷ []
-  pub room : new.history.room + 1 ≡ old.history.room
+pub record IsDone (item : ObjOp × ObjReply) (old new : Workplace) : Type 0 where
+  pub free : (holder : ℕ) → HoldsClash old.commons.objects.held old.running.tx item holder → ⊥
+  pub ends : EndsSubtx old.running new.running old.commons new.commons
+  pub held : new.commons.objects.held ≡ old.commons.objects.held ++ (old.running.tx, item) ∷ []
+  pub reserved : SameReservations old.commons.objects.reserved new.commons.objects.reserved
+      old.running.tx
+  pub entries : new.undo.entries ≡ old.undo.entries ++ item ∷ []
+  pub items : new.commons.history.items
+      ≡ old.commons.history.items ++ trace.Op old.running.tx item ∷ []
+  pub room : new.commons.history.room + 1 ≡ old.commons.history.room
 
 -- The item clashes with what this transaction holds, the lowest, and is rolled back.
-pub record IsBlocked (item : ObjOp × ObjReply) (before after : Running) (undo undo' : Undo)
-    (old new : Commons) (by : ℕ) : Type 0 where
-  pub lowest : IsLowestClash old.objects.held before.tx item by
-  pub back : RollsBackSubtx before after old new
-  pub objects : new.objects ≡ old.objects
-  pub history : new.history ≡ old.history
-  pub kept : undo' ≡ undo
+pub record IsBlocked (item : ObjOp × ObjReply) (old new : Workplace) (by : ℕ) : Type 0 where
+  pub lowest : IsLowestClash old.commons.objects.held old.running.tx item by
+  pub back : RollsBackSubtx old.running new.running old.commons new.commons
+  pub objects : new.commons.objects ≡ old.commons.objects
+  pub history : new.commons.history ≡ old.commons.history
+  pub kept : new.undo ≡ old.undo
 
-abbrev pub TellsOfEnd : ObjOp × ObjReply → Running → Undo → Commons → Running → Undo → Commons
-    → Answer → Type 0
-TellsOfEnd item before undo old after undo' new (answer.Done reply) =
-    (reply ≡ item.1) × IsDone item before after undo undo' old new
-TellsOfEnd item before undo old after undo' new (answer.Blocked by) =
-    IsBlocked item before after undo undo' old new by
-TellsOfEnd item before undo old after undo' new other = ⊥
+abbrev pub TellsOfEnd : ObjOp × ObjReply → Workplace → Workplace → Answer → Type 0
+TellsOfEnd item old new (answer.Done reply) = (reply ≡ item.1) × IsDone item old new
+TellsOfEnd item old new (answer.Blocked by) = IsBlocked item old new by
+TellsOfEnd item old new other = ⊥

@@ -8,7 +8,7 @@ use Rattle.mlt_base.specs.Effects.{inverse_of}
 use Rattle.mlt_subtx.specs.Images.{AreThere, Running}
 use Rattle.mlt_undo.specs.Undo.{Undo}
 use Rattle.mlt_object_locks.specs.Locks.{SameReservations, is_of_other, reservation_of}
-use Rattle.mlt_held.specs.Moments.{moment}
+use Rattle.mlt_held.specs.Moments.{Moment, moment}
 use Rattle.mlt_hash.specs.Walks.{Basis}
 use Rattle.mlt_hash.specs.declared.pass.Pass.TheVariants as pass
 use Rattle.mlt_operation.specs.declared.answer.StepAnswer.{StepAnswer}
@@ -20,7 +20,7 @@ use Rattle.mlt_trace.specs.declared.item.TraceItem.TheVariants as trace
 use Rattle.mlt_event.specs.declared.answer.Answer.{Answer}
 use Rattle.mlt_event.specs.declared.answer.Answer.TheVariants as answer
 use Rattle.mlt_transaction.specs.declared.commons.Commons.{Commons}
-use Rattle.mlt_transaction.specs.Endings.{EndsSubtx, TellsOfEnd}
+use Rattle.mlt_transaction.specs.Endings.{EndsSubtx, TellsOfEnd, Workplace}
 
 -- the answer to a step, as its transaction gives it
 abbrev pub answer_of : StepAnswer → Answer
@@ -51,35 +51,32 @@ pub record KeepsRest (undo undo' : Undo) (old new : Commons) : Type 0 where
   pub history : new.history ≡ old.history
 
 -- the operation's walk took a step
-pub record Walks (basis : Basis) (o o' : OperationFields) (running running' : Running)
-    (undo undo' : Undo) (old new : Commons) (told : StepAnswer) : Type 0 where
+pub record Walks (basis : Basis) (o o' : OperationFields) (old new : Workplace) (told : StepAnswer)
+    : Type 0 where
   pub unready : o.reply ≡ None
-  pub rest : KeepsRest undo undo' old new
-  pub tells : TellsOfStep basis (moment running old.pages) (moment running' new.pages) o o' told
+  pub rest : KeepsRest old.undo new.undo old.commons new.commons
+  pub tells : TellsOfStep basis
+      (moment old.running old.commons.pages) (moment new.running new.commons.pages) o o' told
 
 -- the operation came to its end
-pub record Ends (o : OperationFields) (running running' : Running) (undo undo' : Undo)
-    (old new : Commons) (told : Answer) : Type 0 where
+pub record Ends (o : OperationFields) (old new : Workplace) (told : Answer) : Type 0 where
   pub op : ObjOp
   pub reply : ObjReply
   pub asked : o.request ≡ Do op
   pub ready : o.reply ≡ Some reply
-  pub tells : TellsOfEnd (op, reply) running undo old running' undo' new told
+  pub tells : TellsOfEnd (op, reply) old new told
 
-abbrev pub TellsOfPending : Basis → OperationFields → OperationFields → Running → Running → Undo
-    → Undo → Commons → Commons → Answer → Type 0
-TellsOfPending basis o o' running running' undo undo' old new answer.Going =
-    Walks basis o o' running running' undo undo' old new step.Going
-TellsOfPending basis o o' running running' undo undo' old new (answer.Waiting page by) =
-    Walks basis o o' running running' undo undo' old new (step.Waiting page by)
-TellsOfPending basis o o' running running' undo undo' old new (answer.Refused reason) =
-    Walks basis o o' running running' undo undo' old new (step.Refused reason)
-TellsOfPending basis o o' running running' undo undo' old new (answer.Blocked by) =
-    Ends o running running' undo undo' old new (answer.Blocked by)
-    × (o' ≡ started_for o.request)
-TellsOfPending basis o o' running running' undo undo' old new (answer.Done reply) =
-    Ends o running running' undo undo' old new (answer.Done reply)
-TellsOfPending basis o o' running running' undo undo' old new other = ⊥
+abbrev pub TellsOfPending : Basis → OperationFields → OperationFields → Workplace → Workplace
+    → Answer → Type 0
+TellsOfPending basis o o' old new answer.Going = Walks basis o o' old new step.Going
+TellsOfPending basis o o' old new (answer.Waiting page by) =
+    Walks basis o o' old new (step.Waiting page by)
+TellsOfPending basis o o' old new (answer.Refused reason) =
+    Walks basis o o' old new (step.Refused reason)
+TellsOfPending basis o o' old new (answer.Blocked by) =
+    Ends o old new (answer.Blocked by) × (o' ≡ started_for o.request)
+TellsOfPending basis o o' old new (answer.Done reply) = Ends o old new (answer.Done reply)
+TellsOfPending basis o o' old new other = ⊥
 
 -- The last operation is taken off, the pages stay, and the history tells it.
 pub record TakesOff (tx : ℕ) (undo undo' : Undo) (old new : Commons) : Type 0 where
@@ -141,22 +138,19 @@ pub record KeepsObjects (old new : Commons) : Type 0 where
 
 -- the first step of the inverse of the item
 pub record StartsInverse (item : ObjOp × ObjReply) (inverting' : Option OperationFields)
-    (old new : Commons) (Is : OperationFields → OperationFields → Type 0) : Type 0 where
+    (Is : OperationFields → OperationFields → Type 0) : Type 0 where
   pub after : OperationFields
   pub is : inverting' ≡ Some after
   pub inverts : IsInverting item after
-  pub keeps : KeepsObjects old new
   pub tells : Is (started_for (TakeBack item)) after
 
-abbrev pub TellsOfStart : Basis → ObjOp × ObjReply → Option OperationFields → Running → Running
-    → Commons → Commons → Answer → Type 0
-TellsOfStart basis item inverting' running running' old new answer.Going =
-    StartsInverse item inverting' old new (λ o o'.
-    StepsOn basis (moment running old.pages) (moment running' new.pages) o o')
-TellsOfStart basis item inverting' running running' old new (answer.Waiting page by) =
-    StartsInverse item inverting' old new (λ o o'.
-    Waits basis (moment running old.pages) (moment running' new.pages) o o' page by)
-TellsOfStart basis item inverting' running running' old new other = ⊥
+abbrev pub TellsOfStart : Basis → ObjOp × ObjReply → Option OperationFields → Moment → Moment
+    → Answer → Type 0
+TellsOfStart basis item inverting' old new answer.Going =
+    StartsInverse item inverting' (λ o o'. StepsOn basis old new o o')
+TellsOfStart basis item inverting' old new (answer.Waiting page by) =
+    StartsInverse item inverting' (λ o o'. Waits basis old new o o' page by)
+TellsOfStart basis item inverting' old new other = ⊥
 
 -- The inverse takes a step, of which this is so.
 pub record InverseSteps (inverting inverting' : Option OperationFields) (undo undo' : Undo)
@@ -172,29 +166,31 @@ pub record InverseSteps (inverting inverting' : Option OperationFields) (undo un
   pub tells : Is (inverse_from inverting last) after
 
 -- The inverse is at its end, or the last operation has none: it is taken back.
-pub record EndsBack (inverting inverting' : Option OperationFields) (running running' : Running)
-    (undo undo' : Undo) (old new : Commons) (told : Answer) : Type 0 where
+pub record EndsBack (inverting inverting' : Option OperationFields) (old new : Workplace)
+    (told : Answer) : Type 0 where
   pub between : Commons
   pub none : inverting' ≡ None
-  pub at_once : inverting ≡ None → (between ≡ old) × (running' ≡ running)
+  pub at_once : inverting ≡ None → (between ≡ old.commons) × (new.running ≡ old.running)
   pub without : (front : List (ObjOp × ObjReply)) (last : ObjOp × ObjReply) → inverting ≡ None
-      → undo.entries ≡ front ++ last ∷ [] → inverse_of last ≡ None
+      → old.undo.entries ≡ front ++ last ∷ [] → inverse_of last ≡ None
   pub at_end : (o : OperationFields) → inverting ≡ Some o
-      → IsSome o.reply × EndsSubtx running running' old between
-      × (between.objects ≡ old.objects) × (between.history ≡ old.history)
-  pub takes : TakesBack running.tx undo undo' between new told
+      → IsSome o.reply × EndsSubtx old.running new.running old.commons between
+      × (between.objects ≡ old.commons.objects) × (between.history ≡ old.commons.history)
+  pub takes : TakesBack old.running.tx old.undo new.undo between new.commons told
 
 -- A step of an abort goes on, or waits, or takes the last operation back. It is never refused.
-abbrev pub TellsOfBack : Basis → Option OperationFields → Option OperationFields → Running → Running
-    → Undo → Undo → Commons → Commons → Answer → Type 0
-TellsOfBack basis inverting inverting' running running' undo undo' old new answer.Going =
-    InverseSteps inverting inverting' undo undo' old new (λ o o'.
-    StepsOn basis (moment running old.pages) (moment running' new.pages) o o')
-TellsOfBack basis inverting inverting' running running' undo undo' old new (answer.Waiting page by) =
-    InverseSteps inverting inverting' undo undo' old new (λ o o'.
-    Waits basis (moment running old.pages) (moment running' new.pages) o o' page by)
-TellsOfBack basis inverting inverting' running running' undo undo' old new answer.Undone =
-    EndsBack inverting inverting' running running' undo undo' old new answer.Undone
-TellsOfBack basis inverting inverting' running running' undo undo' old new answer.Aborted =
-    EndsBack inverting inverting' running running' undo undo' old new answer.Aborted
-TellsOfBack basis inverting inverting' running running' undo undo' old new other = ⊥
+abbrev pub TellsOfBack : Basis → Option OperationFields → Option OperationFields → Workplace
+    → Workplace → Answer → Type 0
+TellsOfBack basis inverting inverting' old new answer.Going =
+    InverseSteps inverting inverting' old.undo new.undo old.commons new.commons (λ o o'.
+    StepsOn basis (moment old.running old.commons.pages) (moment new.running new.commons.pages)
+    o o')
+TellsOfBack basis inverting inverting' old new (answer.Waiting page by) =
+    InverseSteps inverting inverting' old.undo new.undo old.commons new.commons (λ o o'.
+    Waits basis (moment old.running old.commons.pages) (moment new.running new.commons.pages)
+    o o' page by)
+TellsOfBack basis inverting inverting' old new answer.Undone =
+    EndsBack inverting inverting' old new answer.Undone
+TellsOfBack basis inverting inverting' old new answer.Aborted =
+    EndsBack inverting inverting' old new answer.Aborted
+TellsOfBack basis inverting inverting' old new other = ⊥

@@ -12,8 +12,12 @@ use Rattle.mlt_transaction.specs.declared.commons.Commons.{Commons}
 use Rattle.mlt_transaction.specs.declared.transaction.At.{At}
 use Rattle.mlt_transaction.specs.declared.transaction.At.TheVariants as at
 use Rattle.mlt_transaction.specs.declared.transaction.Transaction.{Transaction}
-use Rattle.mlt_transaction.specs.Endings.{RollsBackSubtx}
+use Rattle.mlt_transaction.specs.Endings.{RollsBackSubtx, Workplace}
 use Rattle.mlt_transaction.specs.Steps.{MayStepBack, MayStepOn, TellsOfBack, TellsOfPending}
+
+-- where a transaction works
+abbrev pub workplace_of : Transaction → Commons → Workplace
+workplace_of t commons = record { running = t.subtx; undo = t.undo; commons = commons }
 
 -- an operation is pending
 abbrev pub IsPending : At → Type 0
@@ -43,8 +47,8 @@ pub record StepsPending (basis : Basis) (o : OperationFields) (before after : Tr
     (old new : Commons) (told : Answer) : Type 0 where
   pub next : OperationFields
   pub between : Commons
-  pub tells : TellsOfPending basis o next before.subtx after.subtx before.undo after.undo old
-      between told
+  pub tells : TellsOfPending basis o next
+      (workplace_of before old) (workplace_of after between) told
   pub now_at : after.at ≡ pending_after told next
   pub leaves : LeavesRoom told between new
 
@@ -52,8 +56,8 @@ pub record StepsPending (basis : Basis) (o : OperationFields) (before after : Tr
 pub record StepsBack (basis : Basis) (inverting : Option OperationFields)
     (before after : Transaction) (old new : Commons) (told : Answer) : Type 0 where
   pub next : Option OperationFields
-  pub tells : TellsOfBack basis inverting next before.subtx after.subtx before.undo after.undo old
-      new told
+  pub tells : TellsOfBack basis inverting next
+      (workplace_of before old) (workplace_of after new) told
   pub now_at : after.at ≡ at.Undoing next
 
 -- what a step asks, by what the transaction is at

@@ -4,7 +4,7 @@ ghost use Rattle.std.specs.Prelude.{◌≡◌, ◌≤◌, ◌+◌, [], ◌∷◌
 ghost use Rattle.mlt_kinds.specs.Operations.{cell_of};
 ghost use Rattle.mlt_object_locks.specs.Locks.{reservation_of};
 ghost use Rattle.mlt_subtx.specs.Images.{AreThere};
-ghost use Rattle.mlt_transaction.specs.Endings.{TellsOfEnd};
+ghost use Rattle.mlt_transaction.specs.Endings.{TellsOfEnd, workplace};
 
 use crate::commons::Commons;
 use mlt_event::Answer;
@@ -26,7 +26,8 @@ pub(crate) fn finish(
     requires spare { 1 ≤ undo.old.spare }
     requires room { 1 ≤ commons.old.history.room }
     requires there { AreThere subtx.old.images commons.old.pages.store.pages }
-    ensures tells { TellsOfEnd done subtx.old undo.old commons.old subtx.new undo.new commons.new
+    ensures tells { TellsOfEnd done
+        (workplace subtx.old undo.old commons.old) (workplace subtx.new undo.new commons.new)
         result }
 {
     let tx = subtx.tx();

@@ -2,22 +2,23 @@
 
 ghost use Rattle.std.specs.Prelude.{◌≡◌, ◌≤◌, ◌+◌, ◌++◌, [], ◌∷◌, List};
 ghost use Rattle.mlt_held.specs.Moments.{moment};
-ghost use Rattle.mlt_hash.specs.Walks.{basis_by};
+ghost use Rattle.mlt_hash.specs.Walks.{basis_in};
 ghost use Rattle.mlt_operation.specs.Operating.{MayOperate, started_for};
 ghost use Rattle.mlt_kinds.specs.declared.operation.ObjOp.{ObjOp};
 ghost use Rattle.mlt_kinds.specs.declared.operation.ObjReply.{ObjReply};
-ghost use Rattle.mlt_transaction.specs.Steps.{MayStepBack, MayStepOn, TakesBack, TellsOfBack, TellsOfPending, TellsOfStart, answer_of};
+ghost use Rattle.mlt_transaction.specs.Endings.{workplace};
+ghost use Rattle.mlt_transaction.specs.Steps.{KeepsObjects, MayStepBack, MayStepOn, TakesBack, TellsOfBack, TellsOfPending, TellsOfStart, answer_of};
 
 use crate::commons::Commons;
 use crate::ending::finish;
 use mlt_base::inverse;
 use mlt_event::Answer;
-use mlt_hash_form::Root;
+use mlt_hash::Setting;
 use mlt_kinds::Done;
 use mlt_operation::{Operation, Request, StepAnswer};
 use mlt_subtx::Subtx;
 use mlt_trace::TraceItem;
-use mlt_types::{OpenSet, Pseudo, TxId};
+use mlt_types::{Pseudo, TxId};
 use mlt_undo::UndoList;
 
 fn answer_of(told: StepAnswer) -> Answer
@@ -36,17 +37,17 @@ pub(crate) fn step_on<P: Pseudo>(
     subtx: &mut Subtx,
     undo: &mut UndoList,
     commons: &mut Commons,
-    root: &Root<P>,
-    opens: &OpenSet,
+    setting: &Setting<P>,
 ) -> Answer
-    requires ready { MayStepOn (basis_by P.bits_of root.now opens.now subtx.old.tx)
+    requires ready { MayStepOn (basis_in P.bits_of setting.now subtx.old.tx)
         operation.old subtx.old undo.old commons.old }
-    ensures tells { TellsOfPending (basis_by P.bits_of root.now opens.now subtx.old.tx)
-        operation.old operation.new subtx.old subtx.new undo.old undo.new
-        commons.old commons.new result }
+    ensures tells { TellsOfPending (basis_in P.bits_of setting.now subtx.old.tx)
+        operation.old operation.new
+        (workplace subtx.old undo.old commons.old) (workplace subtx.new undo.new commons.new)
+        result }
 {
     match (operation.request(), operation.reply()) {
-        (_, None) => answer_of(operation.step(root, subtx, &mut commons.pages, opens)),
+        (_, None) => answer_of(operation.step(setting, subtx, &mut commons.pages)),
         (Request::Do(op), Some(reply)) => {
             let answer = finish(Done::new(op, reply), subtx, undo, commons);
             if let Answer::Blocked { .. } = answer {
@@ -82,18 +83,18 @@ pub(crate) fn step_back<P: Pseudo>(
     subtx: &mut Subtx,
     undo: &mut UndoList,
     commons: &mut Commons,
-    root: &Root<P>,
-    opens: &OpenSet,
+    setting: &Setting<P>,
 ) -> Answer
-    requires ready { MayStepBack (basis_by P.bits_of root.now opens.now subtx.old.tx)
+    requires ready { MayStepBack (basis_in P.bits_of setting.now subtx.old.tx)
         inverting.old subtx.old undo.old commons.old }
-    ensures tells { TellsOfBack (basis_by P.bits_of root.now opens.now subtx.old.tx)
-        inverting.old inverting.new subtx.old subtx.new undo.old undo.new
-        commons.old commons.new result }
+    ensures tells { TellsOfBack (basis_in P.bits_of setting.now subtx.old.tx)
+        inverting.old inverting.new
+        (workplace subtx.old undo.old commons.old) (workplace subtx.new undo.new commons.new)
+        result }
 {
     match inverting {
         Some(operation) => match operation.reply() {
-            None => answer_of(operation.step(root, subtx, &mut commons.pages, opens)),
+            None => answer_of(operation.step(setting, subtx, &mut commons.pages)),
             Some(_) => {
                 subtx.end(&mut commons.pages.locks);
                 *inverting = None;
@@ -106,7 +107,7 @@ pub(crate) fn step_back<P: Pseudo>(
             };
             match inverse(&last) {
                 None => take_back(subtx.tx(), undo, commons),
-                Some(_) => begin_inverse(last, inverting, subtx, commons, root, opens),
+                Some(_) => begin_inverse(last, inverting, subtx, commons, setting),
             }
         }
     }
@@ -118,16 +119,16 @@ fn begin_inverse<P: Pseudo>(
     inverting: &mut Option<Operation>,
     subtx: &mut Subtx,
     commons: &mut Commons,
-    root: &Root<P>,
-    opens: &OpenSet,
+    setting: &Setting<P>,
 ) -> Answer
-    requires ready { MayOperate (basis_by P.bits_of root.now opens.now subtx.old.tx)
+    requires ready { MayOperate (basis_in P.bits_of setting.now subtx.old.tx)
         (moment subtx.old commons.old.pages) (started_for (Request.TakeBack last)) }
-    ensures tells { TellsOfStart (basis_by P.bits_of root.now opens.now subtx.old.tx) last
-        inverting.new subtx.old subtx.new commons.old commons.new result }
+    ensures keeps { KeepsObjects commons.old commons.new }
+    ensures tells { TellsOfStart (basis_in P.bits_of setting.now subtx.old.tx) last inverting.new
+        (moment subtx.old commons.old.pages) (moment subtx.new commons.new.pages) result }
 {
     let mut operation = Operation::start(commons.alloc, Request::TakeBack(last));
-    let told = operation.step(root, subtx, &mut commons.pages, opens);
+    let told = operation.step(setting, subtx, &mut commons.pages);
     *inverting = Some(operation);
     answer_of(told)
 }

@@ -1,18 +1,18 @@
 //! Transactions.
 
 ghost use Rattle.std.specs.Prelude.{◌≡◌, ◌≤◌, ◌+◌, [], None, OnOk, OnErr, IfErr};
-ghost use Rattle.mlt_hash.specs.Walks.{basis_by};
+ghost use Rattle.mlt_hash.specs.Walks.{basis_in};
 ghost use Rattle.mlt_subtx.specs.Images.{AreThere, started};
 ghost use Rattle.mlt_transaction.specs.Transactions.{IsNotCalled, IsPending, MayStepIn, TellsOfCall, TellsOfCancel, TellsOfTransaction};
 
 use crate::commons::Commons;
 use crate::stepping::{step_back, step_on};
 use mlt_event::Answer;
-use mlt_hash_form::Root;
+use mlt_hash::Setting;
 use mlt_kinds::ObjOp;
 use mlt_operation::{Operation, Request};
 use mlt_subtx::Subtx;
-use mlt_types::{OpenSet, Pseudo, Refusal, TxId};
+use mlt_types::{Pseudo, Refusal, TxId};
 use mlt_undo::UndoList;
 use std::alloc::Global;
 
@@ -85,28 +85,16 @@ impl Transaction {
     /// One step of its pending operation, or of its abort. An operation that is done or refused is pending no more, and
     /// one that is refused gives up the room that it had in the history. A step of a first pass, or of an abort, takes no
     /// memory.
-    pub fn step<P: Pseudo>(
-        &mut self,
-        commons: &mut Commons,
-        root: &Root<P>,
-        opens: &OpenSet,
-    ) -> Answer
-        requires ready { MayStepIn (basis_by P.bits_of root.now opens.now self.old.subtx.tx)
+    pub fn step<P: Pseudo>(&mut self, commons: &mut Commons, setting: &Setting<P>) -> Answer
+        requires ready { MayStepIn (basis_in P.bits_of setting.now self.old.subtx.tx)
             self.old commons.old }
-        ensures tells { TellsOfTransaction (basis_by P.bits_of root.now opens.now self.old.subtx.tx)
+        ensures tells { TellsOfTransaction (basis_in P.bits_of setting.now self.old.subtx.tx)
             self.old self.new commons.old commons.new result }
     {
         match &mut self.at {
             At::Idle => unreachable!(),
             At::Pending(operation) => {
-                let answer = step_on(
-                    operation,
-                    &mut self.subtx,
-                    &mut self.undo,
-                    commons,
-                    root,
-                    opens,
-                );
+                let answer = step_on(operation, &mut self.subtx, &mut self.undo, commons, setting);
                 match answer {
                     Answer::Done(_) => self.at = At::Idle,
                     Answer::Refused(_) => {
@@ -122,8 +110,7 @@ impl Transaction {
                 &mut self.subtx,
                 &mut self.undo,
                 commons,
-                root,
-                opens,
+                setting,
             ),
         }
     }

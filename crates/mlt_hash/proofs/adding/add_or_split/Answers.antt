@@ -9,8 +9,8 @@ use Rattle.mlt_record.specs.Plans.{has_room}
 use Rattle.mlt_split.specs.Splits.{HasHalves, IsUnderWay, MayBegin}
 use Rattle.mlt_split.specs.Rests.{Aim, IsAtRest}
 use Rattle.mlt_split.proofs.HeldPages.{clean_now}
-use Rattle.mlt_hash.specs.Walks.{Basis, WalkFields, aim_of, basis_by}
-use Rattle.mlt_hash.specs.Splitting.{TellsOfAdding}
+use Rattle.mlt_hash.specs.Walks.{Basis, WalkFields, aim_of, basis_in}
+use Rattle.mlt_hash.specs.Splitting.{TellsOfAdding, walk_step}
 use Rattle.mlt_hash.specs.declared.pass.Phase.TheVariants as at
 use Rattle.mlt_hash.specs.declared.answer.WalkAnswer.TheVariants as answer
 use Rattle.mlt_hash.proofs.Puts.{adding_at, adding_plans, begin_is_refused, begins_split, begun_alike, full_is_shallow, has_to_split, may_begin, may_put, need_not_split, nowhere, put_has_room, put_tells}
@@ -18,7 +18,7 @@ use Rattle.mlt_hash.proofs.adding.add_or_split.Goals as goal
 
 pub plan_to_put-requires-clause-found : goal.plan_to_put-requires-clause-found
 plan_to_put-requires-clause-found g c =
-    let basis : Basis = basis_by g.P.Pseudo.bits_of c.args.root.now c.args.opens.now c.args.subtx.now.tx in
+    let basis : Basis = basis_in g.P.Pseudo.bits_of c.args.setting.now c.args.subtx.now.tx in
     let walk : WalkFields = c.args.walk.now in
     let old : Moment = moment c.args.subtx.now c.args.pages.now in
     let adds = adding_at basis walk old c.args.value c.args.number c.args.room_depth c.args.unsplit c.requires.1.1.0 c.requires.1.1.1.stands in
@@ -26,25 +26,25 @@ plan_to_put-requires-clause-found g c =
 
 pub put-requires-clause-held : goal.put-requires-clause-held
 put-requires-clause-held g c =
-    let basis : Basis = basis_by g.P.Pseudo.bits_of c.args.root.now c.args.opens.now c.args.subtx.now.tx in
+    let basis : Basis = basis_in g.P.Pseudo.bits_of c.args.setting.now c.args.subtx.now.tx in
     let walk : WalkFields = c.args.walk.now in
     let old : Moment = moment c.args.subtx.now c.args.pages.now in
     let adds = adding_at basis walk old c.args.value c.args.number c.args.room_depth c.args.unsplit c.requires.1.1.0 c.requires.1.1.1.stands in
     let planned = c.in-Some.ensures adds.fields adds.rest.found in
-    may_put basis walk old c.args.number c.args.room_depth c.args.unsplit adds (has_room c.args.opens.now) (Live walk.key c.args.value) c.in-Some.write planned.1
+    may_put basis walk old c.args.number c.args.room_depth c.args.unsplit adds (has_room c.args.setting.now.opens.now) (Live walk.key c.args.value) c.in-Some.write planned.1
 
 pub put-requires-clause-planned : goal.put-requires-clause-planned
 put-requires-clause-planned g c =
-    let basis : Basis = basis_by g.P.Pseudo.bits_of c.args.root.now c.args.opens.now c.args.subtx.now.tx in
+    let basis : Basis = basis_in g.P.Pseudo.bits_of c.args.setting.now c.args.subtx.now.tx in
     let walk : WalkFields = c.args.walk.now in
     let old : Moment = moment c.args.subtx.now c.args.pages.now in
     let adds = adding_at basis walk old c.args.value c.args.number c.args.room_depth c.args.unsplit c.requires.1.1.0 c.requires.1.1.1.stands in
     let planned = c.in-Some.ensures adds.fields adds.rest.found in
-    adding_plans basis walk old c.args.number c.args.room_depth c.args.unsplit adds (has_room c.args.opens.now) (Live walk.key c.args.value) c.in-Some.write planned.1
+    adding_plans basis walk old c.args.number c.args.room_depth c.args.unsplit adds (has_room c.args.setting.now.opens.now) (Live walk.key c.args.value) c.in-Some.write planned.1
 
 pub returns-in-Some-clause-tells : goal.returns-in-Some-clause-tells
 returns-in-Some-clause-tells g c =
-    let basis : Basis = basis_by g.P.Pseudo.bits_of c.args.root.now c.args.opens.now c.args.subtx.now.tx in
+    let basis : Basis = basis_in g.P.Pseudo.bits_of c.args.setting.now c.args.subtx.now.tx in
     let walk : WalkFields = c.args.walk.now in
     let old : Moment = moment c.args.subtx.now c.args.pages.now in
     let adds = adding_at basis walk old c.args.value c.args.number c.args.room_depth c.args.unsplit c.requires.1.1.0 c.requires.1.1.1.stands in
@@ -56,7 +56,7 @@ returns-in-Some-clause-tells g c =
 
 pub begin-requires : goal.begin-requires
 begin-requires g c κs within =
-    let basis : Basis = basis_by g.P.Pseudo.bits_of c.args.root.now c.args.opens.now c.args.subtx.now.tx in
+    let basis : Basis = basis_in g.P.Pseudo.bits_of c.args.setting.now c.args.subtx.now.tx in
     let walk : WalkFields = c.args.walk.now in
     let old : Moment = moment c.args.subtx.now c.args.pages.now in
     let adds = adding_at basis walk old c.args.value c.args.number c.args.room_depth c.args.unsplit c.requires.1.1.0 c.requires.1.1.1.stands in
@@ -73,7 +73,7 @@ begin-requires g c κs within =
 
 pub returns-in-Ok-clause-tells : goal.returns-in-Ok-clause-tells
 returns-in-Ok-clause-tells g c =
-    let basis : Basis = basis_by g.P.Pseudo.bits_of c.args.root.now c.args.opens.now c.args.subtx.now.tx in
+    let basis : Basis = basis_in g.P.Pseudo.bits_of c.args.setting.now c.args.subtx.now.tx in
     let walk : WalkFields = c.args.walk.now in
     let old : Moment = moment c.args.subtx.now c.args.pages.now in
     let adds = adding_at basis walk old c.args.value c.args.number c.args.room_depth c.args.unsplit c.requires.1.1.0 c.requires.1.1.1.stands in
@@ -89,13 +89,13 @@ returns-in-Ok-clause-tells g c =
     elim c.keep_split.ensures.told [
       | inl going ↦
           let begun = begins_split basis walk c.keep_split.new.walk old new c.args.value c.args.number c.args.room_depth c.args.unsplit c.in-Ok.split c.in-Ok.ensures.makes.0 c.requires.1.1.1.may c.in-Ok.ensures.makes.1 adds needed under_way c.in-Ok.ensures.steps depths.0 depths.1 halves (c.keep_split.ensures.kept going) in
-          subst (λ r. TellsOfAdding basis old new walk c.keep_split.new.walk c.args.value c.args.number c.args.room_depth r) (sym going) begun
-      | inr refused ↦ subst (λ r. TellsOfAdding basis old new walk c.keep_split.new.walk c.args.value c.args.number c.args.room_depth r) (sym refused) refl
+          subst (λ r. TellsOfAdding basis (walk_step old new walk c.keep_split.new.walk) c.args.value c.args.number c.args.room_depth r) (sym going) begun
+      | inr refused ↦ subst (λ r. TellsOfAdding basis (walk_step old new walk c.keep_split.new.walk) c.args.value c.args.number c.args.room_depth r) (sym refused) refl
     ]
 
 pub returns-in-Some-clause-no_room : goal.returns-in-Some-clause-no_room
 returns-in-Some-clause-no_room g c =
-    let basis : Basis = basis_by g.P.Pseudo.bits_of c.args.root.now c.args.opens.now c.args.subtx.now.tx in
+    let basis : Basis = basis_in g.P.Pseudo.bits_of c.args.setting.now c.args.subtx.now.tx in
     let walk : WalkFields = c.args.walk.now in
     let old : Moment = moment c.args.subtx.now c.args.pages.now in
     let adds = adding_at basis walk old c.args.value c.args.number c.args.room_depth c.args.unsplit c.requires.1.1.0 c.requires.1.1.1.stands in
@@ -116,7 +116,7 @@ returns-in-Ok-clause-no_room g c = (
 
 pub returns-in-Err-clause-no_room : goal.returns-in-Err-clause-no_room
 returns-in-Err-clause-no_room g c =
-    let basis : Basis = basis_by g.P.Pseudo.bits_of c.args.root.now c.args.opens.now c.args.subtx.now.tx in
+    let basis : Basis = basis_in g.P.Pseudo.bits_of c.args.setting.now c.args.subtx.now.tx in
     let walk : WalkFields = c.args.walk.now in
     let old : Moment = moment c.args.subtx.now c.args.pages.now in
     let adds = adding_at basis walk old c.args.value c.args.number c.args.room_depth c.args.unsplit c.requires.1.1.0 c.requires.1.1.1.stands in
@@ -126,7 +126,7 @@ returns-in-Err-clause-no_room g c =
 
 pub returns-in-Err-clause-tells : goal.returns-in-Err-clause-tells
 returns-in-Err-clause-tells g c =
-    let basis : Basis = basis_by g.P.Pseudo.bits_of c.args.root.now c.args.opens.now c.args.subtx.now.tx in
+    let basis : Basis = basis_in g.P.Pseudo.bits_of c.args.setting.now c.args.subtx.now.tx in
     let walk : WalkFields = c.args.walk.now in
     let old : Moment = moment c.args.subtx.now c.args.pages.now in
     let adds = adding_at basis walk old c.args.value c.args.number c.args.room_depth c.args.unsplit c.requires.1.1.0 c.requires.1.1.1.stands in

@@ -5,14 +5,14 @@ use Rattle.mlt_split.specs.Rests.{Aim}
 use Rattle.mlt_split.specs.Splits.{SplitFields, steps_left}
 use Rattle.mlt_split.specs.Steps.{IsDone, IsNextPage}
 use Rattle.mlt_split.specs.Tells.{GoesOn, Rests}
-use Rattle.mlt_hash.specs.Walks.{Basis, WalkFields, basis_by}
+use Rattle.mlt_hash.specs.Walks.{Basis, WalkFields, basis_in}
 use Rattle.mlt_hash.specs.declared.pass.Phase.TheVariants as at
 use Rattle.mlt_hash.proofs.Splittings.{no_room_in_split, refused_alike, split_closes_walk, split_goes_on, split_is_refused}
 use Rattle.mlt_hash.proofs.adding.go_on_splitting.Goals as goal
 
 pub returns-in-Going-clause-tells : goal.returns-in-Going-clause-tells
 returns-in-Going-clause-tells g c =
-    let basis : Basis = basis_by g.P.Pseudo.bits_of c.args.root.now c.args.opens.now c.args.subtx.now.tx in
+    let basis : Basis = basis_in g.P.Pseudo.bits_of c.args.setting.now c.args.subtx.now.tx in
     let walk : WalkFields = c.args.walk.now in
     let old = moment c.args.subtx.now c.args.pages.now in
     let new = moment c.advance.new.subtx c.advance.new.pages in
@@ -23,7 +23,7 @@ returns-in-Going-clause-tells g c =
 
 pub returns-in-Closed-clause-tells : goal.returns-in-Closed-clause-tells
 returns-in-Closed-clause-tells g c =
-    let basis : Basis = basis_by g.P.Pseudo.bits_of c.args.root.now c.args.opens.now c.args.subtx.now.tx in
+    let basis : Basis = basis_in g.P.Pseudo.bits_of c.args.setting.now c.args.subtx.now.tx in
     let walk : WalkFields = c.args.walk.now in
     let old = moment c.args.subtx.now c.args.pages.now in
     let new = moment c.advance.new.subtx c.advance.new.pages in
@@ -46,7 +46,7 @@ returns-in-Waiting-clause-tells g c =
 
 pub returns-in-Refused-clause-tells : goal.returns-in-Refused-clause-tells
 returns-in-Refused-clause-tells g c =
-    let basis : Basis = basis_by g.P.Pseudo.bits_of c.args.root.now c.args.opens.now c.args.subtx.now.tx in
+    let basis : Basis = basis_in g.P.Pseudo.bits_of c.args.setting.now c.args.subtx.now.tx in
     let walk : WalkFields = c.args.walk.now in
     let old = moment c.args.subtx.now c.args.pages.now in
     let new = moment c.advance.new.subtx c.advance.new.pages in

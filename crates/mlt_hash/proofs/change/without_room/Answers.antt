@@ -3,7 +3,7 @@ use Rattle.std.proofs.lemmas.Bool.{false≢true}
 use Rattle.mlt_page.specs.Values.{BucketFields}
 use Rattle.mlt_held.specs.Moments.{Moment, moment}
 use Rattle.mlt_held.specs.Views.{view_of}
-use Rattle.mlt_hash.specs.Walks.{Basis, WalkFields, basis_by}
+use Rattle.mlt_hash.specs.Walks.{Basis, WalkFields, basis_in}
 use Rattle.mlt_hash.specs.Changes.{IsFull, directory_depth_of}
 use Rattle.mlt_hash.specs.declared.pass.Pass.TheVariants as pass
 use Rattle.mlt_hash.specs.declared.pass.Phase.TheVariants as at
@@ -13,7 +13,7 @@ use Rattle.mlt_hash.proofs.change.without_room.Goals as goal
 
 pub next_pass-next-requires-clause-bucket : goal.next_pass-next-requires-clause-bucket
 next_pass-next-requires-clause-bucket g c =
-    let basis : Basis = basis_by g.P.Pseudo.bits_of c.args.root.now c.args.opens.now c.args.subtx.now.tx in
+    let basis : Basis = basis_in g.P.Pseudo.bits_of c.args.setting.now c.args.subtx.now.tx in
     let walk : WalkFields = c.args.walk.now in
     let m : Moment = moment c.args.subtx.now c.args.pages.now in
     let number = c.held_bucket-number.result.0 in
@@ -23,7 +23,7 @@ next_pass-next-requires-clause-bucket g c =
 
 pub returns-in-First-clause-tells : goal.returns-in-First-clause-tells
 returns-in-First-clause-tells g c =
-    let basis : Basis = basis_by g.P.Pseudo.bits_of c.args.root.now c.args.opens.now c.args.subtx.now.tx in
+    let basis : Basis = basis_in g.P.Pseudo.bits_of c.args.setting.now c.args.subtx.now.tx in
     let walk : WalkFields = c.args.walk.now in
     let m : Moment = moment c.args.subtx.now c.args.pages.now in
     let number = c.held_bucket-number.result.0 in
@@ -39,7 +39,7 @@ returns-in-First-clause-tells g c =
 
 pub returns-then-must_widen-clause-tells : goal.returns-then-must_widen-clause-tells
 returns-then-must_widen-clause-tells g c =
-    let basis : Basis = basis_by g.P.Pseudo.bits_of c.args.root.now c.args.opens.now c.args.subtx.now.tx in
+    let basis : Basis = basis_in g.P.Pseudo.bits_of c.args.setting.now c.args.subtx.now.tx in
     let walk : WalkFields = c.args.walk.now in
     let m : Moment = moment c.args.subtx.now c.args.pages.now in
     let number = c.held_bucket-number.result.0 in
@@ -56,7 +56,7 @@ returns-then-must_widen-clause-tells g c =
 
 pub returns-in_default-least-clause-tells : goal.returns-in_default-least-clause-tells
 returns-in_default-least-clause-tells g c =
-    let basis : Basis = basis_by g.P.Pseudo.bits_of c.args.root.now c.args.opens.now c.args.subtx.now.tx in
+    let basis : Basis = basis_in g.P.Pseudo.bits_of c.args.setting.now c.args.subtx.now.tx in
     let walk : WalkFields = c.args.walk.now in
     let m : Moment = moment c.args.subtx.now c.args.pages.now in
     let number = c.held_bucket-number.result.0 in
@@ -74,7 +74,7 @@ returns-in_default-least-clause-tells g c =
 
 pub returns-clause-tells : goal.returns-clause-tells
 returns-clause-tells g c =
-    let basis : Basis = basis_by g.P.Pseudo.bits_of c.args.root.now c.args.opens.now c.args.subtx.now.tx in
+    let basis : Basis = basis_in g.P.Pseudo.bits_of c.args.setting.now c.args.subtx.now.tx in
     let walk : WalkFields = c.args.walk.now in
     let m : Moment = moment c.args.subtx.now c.args.pages.now in
     let number = c.held_bucket-number.result.0 in

@@ -5,7 +5,7 @@ use Rattle.mlt_kinds.specs.declared.operation.ObjReply.{ObjReply}
 use Rattle.mlt_base.specs.Effects.{inverse_of}
 use Rattle.mlt_held.specs.Moments.{Moment, moment}
 use Rattle.mlt_held.specs.Views.{view_of}
-use Rattle.mlt_hash.specs.Walks.{Basis, basis_by}
+use Rattle.mlt_hash.specs.Walks.{Basis, basis_in}
 use Rattle.mlt_operation.specs.declared.request.Request.TheVariants.{TakeBack}
 use Rattle.mlt_operation.specs.Operating.{MayOperate, OperationFields, started_for}
 use Rattle.mlt_transaction.specs.declared.commons.Commons.{Commons}
@@ -18,7 +18,7 @@ use Rattle.mlt_transaction.proofs.stepping.step_back.Goals as goal
 
 pub step-requires-clause-under_way : goal.step-requires-clause-under_way
 step-requires-clause-under_way g c =
-    let basis : Basis = basis_by g.P.Pseudo.bits_of c.args.root.now c.args.opens.now c.args.subtx.now.tx in
+    let basis : Basis = basis_in g.P.Pseudo.bits_of c.args.setting.now c.args.subtx.now.tx in
     let m : Moment = moment c.args.subtx.now c.args.commons.now.pages in
     let o : OperationFields = c.in-Some.operation in
     let none : o.reply ≡ None = sym c.reply.ensures ∙ c.in-None-reply.is in
@@ -29,7 +29,7 @@ step-requires-clause-ready g c = c.requires.ready.goes c.in-Some.operation c.in-
 
 pub begin_inverse-requires : goal.begin_inverse-requires
 begin_inverse-requires g c =
-    let basis : Basis = basis_by g.P.Pseudo.bits_of c.args.root.now c.args.opens.now c.args.subtx.now.tx in
+    let basis : Basis = basis_in g.P.Pseudo.bits_of c.args.setting.now c.args.subtx.now.tx in
     let m : Moment = moment c.args.subtx.now c.args.commons.now.pages in
     let last : IsLast (Some c.in-Some-last.last) c.args.undo.now.entries = c.in-Some-last.ensures in
     let same : c.requires.ready.last ≡ c.in-Some-last.last = one_last c.args.undo.now.entries c.requires.ready.front last.0 c.requires.ready.last c.in-Some-last.last c.requires.ready.entries last.1 in
@@ -39,7 +39,7 @@ begin_inverse-requires g c =
 
 pub returns-in-Some-reply : goal.returns-in-Some-reply
 returns-in-Some-reply g c =
-    let basis : Basis = basis_by g.P.Pseudo.bits_of c.args.root.now c.args.opens.now c.args.subtx.now.tx in
+    let basis : Basis = basis_in g.P.Pseudo.bits_of c.args.setting.now c.args.subtx.now.tx in
     let old : Commons = c.args.commons.now in
     let between : Commons = record { alloc = old.alloc; pages = record { store = old.pages.store; locks = c.end.new.locks }; objects = old.objects; history = old.history } in
     let tx : c.tx.result ≡ c.args.subtx.now.tx = c.tx.ensures ∙ ap (λ (r : Running). r.tx) c.end.ensures.images in
@@ -64,7 +64,7 @@ returns-in-Some-reply g c =
 
 pub returns-in-None-inverse : goal.returns-in-None-inverse
 returns-in-None-inverse g c =
-    let basis : Basis = basis_by g.P.Pseudo.bits_of c.args.root.now c.args.opens.now c.args.subtx.now.tx in
+    let basis : Basis = basis_in g.P.Pseudo.bits_of c.args.setting.now c.args.subtx.now.tx in
     let last : IsLast (Some c.in-Some-last.last) c.args.undo.now.entries = c.in-Some-last.ensures in
     let takes = subst (λ (tx : ℕ). TakesBack tx c.args.undo.now c.take_back-in-None-inverse.new.undo c.args.commons.now c.take_back-in-None-inverse.new.commons c.take_back-in-None-inverse.result) c.tx-in-None-inverse.ensures c.take_back-in-None-inverse.ensures.tells in
     record {

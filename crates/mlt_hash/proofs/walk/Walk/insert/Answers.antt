@@ -6,7 +6,7 @@ use Rattle.mlt_held.specs.Moments.{Moment, moment}
 use Rattle.mlt_held.proofs.Leaving.{leaves_it}
 use Rattle.mlt_held.specs.Views.{view_of}
 use Rattle.mlt_record.specs.Plans.{has_room}
-use Rattle.mlt_hash.specs.Walks.{Basis, WalkFields, basis_by}
+use Rattle.mlt_hash.specs.Walks.{Basis, WalkFields, basis_in}
 use Rattle.mlt_hash.specs.Changes.{page_of}
 use Rattle.mlt_hash.specs.declared.pass.Change.TheVariants as change
 use Rattle.mlt_hash.proofs.Additions.{absent_from_bucket, absent_may_write, absent_plans, absent_sees, is_full, put_takes, put_tells, revival_takes, revival_tells, unmade_takes}
@@ -15,14 +15,14 @@ use Rattle.mlt_hash.proofs.walk.Walk.insert.Goals as goal
 
 pub held_bucket-number-requires-clause-sees : goal.held_bucket-number-requires-clause-sees
 held_bucket-number-requires-clause-sees g c =
-    let basis : Basis = basis_by g.P.Pseudo.bits_of c.args.root.now c.args.opens.now c.args.subtx.now.tx in
+    let basis : Basis = basis_in g.P.Pseudo.bits_of c.args.setting.now c.args.subtx.now.tx in
     let walk : WalkFields = c.args.self.now in
     let before : Moment = moment c.args.subtx.now c.args.pages.now in
     absent_sees basis walk (view_of before) c.requires.found c.requires.ready.walks.stands
 
 pub revive-requires : goal.revive-requires
 revive-requires g c =
-    let basis : Basis = basis_by g.P.Pseudo.bits_of c.args.root.now c.args.opens.now c.args.subtx.now.tx in
+    let basis : Basis = basis_in g.P.Pseudo.bits_of c.args.setting.now c.args.subtx.now.tx in
     let walk : WalkFields = c.args.self.now in
     let before : Moment = moment c.args.subtx.now c.args.pages.now in
     let number = c.held_bucket-number.result.0 in
@@ -32,7 +32,7 @@ revive-requires g c =
 
 pub write_change-requires-clause-held : goal.write_change-requires-clause-held
 write_change-requires-clause-held g c =
-    let basis : Basis = basis_by g.P.Pseudo.bits_of c.args.root.now c.args.opens.now c.args.subtx.now.tx in
+    let basis : Basis = basis_in g.P.Pseudo.bits_of c.args.setting.now c.args.subtx.now.tx in
     let walk : WalkFields = c.args.self.now in
     let before : Moment = moment c.args.subtx.now c.args.pages.now in
     let number = c.held_bucket-number.result.0 in
@@ -41,7 +41,7 @@ write_change-requires-clause-held g c =
 
 pub write_change-requires-clause-planned : goal.write_change-requires-clause-planned
 write_change-requires-clause-planned g c =
-    let basis : Basis = basis_by g.P.Pseudo.bits_of c.args.root.now c.args.opens.now c.args.subtx.now.tx in
+    let basis : Basis = basis_in g.P.Pseudo.bits_of c.args.setting.now c.args.subtx.now.tx in
     let walk : WalkFields = c.args.self.now in
     let before : Moment = moment c.args.subtx.now c.args.pages.now in
     let number = c.held_bucket-number.result.0 in
@@ -56,7 +56,7 @@ returns-in-Some-clause-writes g c =
 
 pub returns-in-Some-clause-tells : goal.returns-in-Some-clause-tells
 returns-in-Some-clause-tells g c =
-    let basis : Basis = basis_by g.P.Pseudo.bits_of c.args.root.now c.args.opens.now c.args.subtx.now.tx in
+    let basis : Basis = basis_in g.P.Pseudo.bits_of c.args.setting.now c.args.subtx.now.tx in
     let walk : WalkFields = c.args.self.now in
     let before : Moment = moment c.args.subtx.now c.args.pages.now in
     let number = c.held_bucket-number.result.0 in
@@ -69,7 +69,7 @@ returns-in-Some-clause-tells g c =
 
 pub returns-in-Some-clause-slot : goal.returns-in-Some-clause-slot
 returns-in-Some-clause-slot g c =
-    let basis : Basis = basis_by g.P.Pseudo.bits_of c.args.root.now c.args.opens.now c.args.subtx.now.tx in
+    let basis : Basis = basis_in g.P.Pseudo.bits_of c.args.setting.now c.args.subtx.now.tx in
     let walk : WalkFields = c.args.self.now in
     let before : Moment = moment c.args.subtx.now c.args.pages.now in
     let number = c.held_bucket-number.result.0 in
@@ -82,7 +82,7 @@ returns-in-Some-clause-slot g c =
 
 pub insert-requires : goal.insert-requires
 insert-requires g c =
-    let basis : Basis = basis_by g.P.Pseudo.bits_of c.args.root.now c.args.opens.now c.args.subtx.now.tx in
+    let basis : Basis = basis_in g.P.Pseudo.bits_of c.args.setting.now c.args.subtx.now.tx in
     let walk : WalkFields = c.args.self.now in
     let before : Moment = moment c.args.subtx.now c.args.pages.now in
     let number = c.held_bucket-number.result.0 in
@@ -92,7 +92,7 @@ insert-requires g c =
 
 pub write_change-requires-in-Some-insert-clause-held : goal.write_change-requires-in-Some-insert-clause-held
 write_change-requires-in-Some-insert-clause-held g c =
-    let basis : Basis = basis_by g.P.Pseudo.bits_of c.args.root.now c.args.opens.now c.args.subtx.now.tx in
+    let basis : Basis = basis_in g.P.Pseudo.bits_of c.args.setting.now c.args.subtx.now.tx in
     let walk : WalkFields = c.args.self.now in
     let before : Moment = moment c.args.subtx.now c.args.pages.now in
     let number = c.held_bucket-number.result.0 in
@@ -101,7 +101,7 @@ write_change-requires-in-Some-insert-clause-held g c =
 
 pub write_change-requires-in-Some-insert-clause-planned : goal.write_change-requires-in-Some-insert-clause-planned
 write_change-requires-in-Some-insert-clause-planned g c =
-    let basis : Basis = basis_by g.P.Pseudo.bits_of c.args.root.now c.args.opens.now c.args.subtx.now.tx in
+    let basis : Basis = basis_in g.P.Pseudo.bits_of c.args.setting.now c.args.subtx.now.tx in
     let walk : WalkFields = c.args.self.now in
     let before : Moment = moment c.args.subtx.now c.args.pages.now in
     let number = c.held_bucket-number.result.0 in
@@ -112,11 +112,11 @@ pub returns-in-Some-insert-clause-writes : goal.returns-in-Some-insert-clause-wr
 returns-in-Some-insert-clause-writes g c =
     let before : Moment = moment c.args.subtx.now c.args.pages.now in
     let after : Moment = moment c.write_change-in-Some-insert.new.subtx c.write_change-in-Some-insert.new.pages in
-    plan_is_written before after (page_of c.args.self.now.phase) c.held_bucket-number.result.0 c.held_bucket-number.result.1.now (has_room c.args.opens.now) (Live c.self.inside.key c.args.value) c.in-Some-insert.write c.write_change-in-Some-insert.result c.held_bucket-number.ensures.number c.in-Some-insert.ensures.plan c.write_change-in-Some-insert.ensures.writes
+    plan_is_written before after (page_of c.args.self.now.phase) c.held_bucket-number.result.0 c.held_bucket-number.result.1.now (has_room c.args.setting.now.opens.now) (Live c.self.inside.key c.args.value) c.in-Some-insert.write c.write_change-in-Some-insert.result c.held_bucket-number.ensures.number c.in-Some-insert.ensures.plan c.write_change-in-Some-insert.ensures.writes
 
 pub returns-in-Some-insert-clause-tells : goal.returns-in-Some-insert-clause-tells
 returns-in-Some-insert-clause-tells g c =
-    let basis : Basis = basis_by g.P.Pseudo.bits_of c.args.root.now c.args.opens.now c.args.subtx.now.tx in
+    let basis : Basis = basis_in g.P.Pseudo.bits_of c.args.setting.now c.args.subtx.now.tx in
     let walk : WalkFields = c.args.self.now in
     let before : Moment = moment c.args.subtx.now c.args.pages.now in
     let number = c.held_bucket-number.result.0 in
@@ -129,7 +129,7 @@ returns-in-Some-insert-clause-tells g c =
 
 pub returns-in-Some-insert-clause-slot : goal.returns-in-Some-insert-clause-slot
 returns-in-Some-insert-clause-slot g c =
-    let basis : Basis = basis_by g.P.Pseudo.bits_of c.args.root.now c.args.opens.now c.args.subtx.now.tx in
+    let basis : Basis = basis_in g.P.Pseudo.bits_of c.args.setting.now c.args.subtx.now.tx in
     let walk : WalkFields = c.args.self.now in
     let before : Moment = moment c.args.subtx.now c.args.pages.now in
     let number = c.held_bucket-number.result.0 in
@@ -142,7 +142,7 @@ returns-in-Some-insert-clause-slot g c =
 
 pub without_room-requires-clause-full : goal.without_room-requires-clause-full
 without_room-requires-clause-full g c =
-    let basis : Basis = basis_by g.P.Pseudo.bits_of c.args.root.now c.args.opens.now c.args.subtx.now.tx in
+    let basis : Basis = basis_in g.P.Pseudo.bits_of c.args.setting.now c.args.subtx.now.tx in
     let walk : WalkFields = c.args.self.now in
     let before : Moment = moment c.args.subtx.now c.args.pages.now in
     let number = c.held_bucket-number.result.0 in
@@ -155,6 +155,6 @@ returns-clause-leaves g c = leaves_it (moment c.args.subtx.now c.args.pages.now)
 
 pub returns-clause-slot : goal.returns-clause-slot
 returns-clause-slot g c =
-    let basis : Basis = basis_by g.P.Pseudo.bits_of c.args.root.now c.args.opens.now c.args.subtx.now.tx in
+    let basis : Basis = basis_in g.P.Pseudo.bits_of c.args.setting.now c.args.subtx.now.tx in
     let before : Moment = moment c.args.subtx.now c.args.pages.now in
     unmade_takes c.without_room.result basis (view_of before) (view_of before) c.args.self.now c.args.value c.without_room.ensures.unchanged

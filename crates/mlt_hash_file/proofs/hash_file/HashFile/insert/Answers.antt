@@ -3,7 +3,8 @@ use Rattle.std.proofs.Math.Path.{transport}
 use Rattle.std.specs.FinMap as map
 use Rattle.mlt_store.specs.Stores.{PageStore, page_at}
 use Rattle.mlt_hash_form.specs.Records.{live_records}
-use Rattle.mlt_hash_file.specs.AloneWalks.{IsHashFile, RefusesFor}
+use Rattle.mlt_hash_file.specs.AloneWalks.{IsHashFile}
+use Rattle.mlt_hash_file.specs.HashFiles.{Refuses}
 use Rattle.mlt_hash_file.proofs.Alone.{keeps_both, keeps_same}
 use Rattle.mlt_hash_file.proofs.AloneEnds.{idle_starts}
 use Rattle.mlt_hash_file.proofs.HashFiles.{absent_before, file_before, idle_store_stays, inserts, refuses}
@@ -38,7 +39,7 @@ returns-in-Refused-clause-err g c =
 
 pub returns-in-Refused-clause-refusal : goal.returns-in-Refused-clause-refusal
 returns-in-Refused-clause-refusal g c =
-    transport (λ i. RefusesFor (g.P.Pseudo.bits_of ((c.self.view_is i).pseudo)) (page_at ((c.self.view_is i).pages)) ((c.self.view_is i).pages) ((c.self.view_is i).root) ((c.self.view_is i).max_depth) ((c.self.view_is i).max_pages) ((c.find-walk.ensures i).key) c.in-Refused.refusal)
+    transport (λ i. Refuses g.P.Pseudo.bits_of (c.self.view_is i) ((c.find-walk.ensures i).key) c.in-Refused.refusal)
     (refuses (g.P.Pseudo.bits_of c.self.inside.root.pseudo) c.self.inside.root.page c.self.inside.root.max_depth c.self.inside.runner c.insert.new.self c.find-walk.result.key c.in-Refused.refusal c.self.invariant.0 c.in-Refused.ensures.keeps c.in-Refused.ensures.tells)
 
 pub returns-in-Refused-clause-file : goal.returns-in-Refused-clause-file

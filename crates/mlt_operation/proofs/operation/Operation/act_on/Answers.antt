@@ -2,7 +2,7 @@ use Rattle.std.proofs.Common.{◌≡◌, Option, Some, refl, sym, ap, subst, ◌
 use Rattle.std.proofs.lemmas.Bool.{false≢true}
 use Rattle.mlt_base.specs.declared.record.RecChange.{RecChange}
 use Rattle.mlt_held.specs.Moments.{Moment, moment}
-use Rattle.mlt_hash.specs.Walks.{Basis, WalkFields, basis_by}
+use Rattle.mlt_hash.specs.Walks.{Basis, WalkFields, basis_in}
 use Rattle.mlt_hash.specs.Changes.{HasOwnGhost, MayChange, WritesIfChanged, page_of}
 use Rattle.mlt_hash.specs.declared.answer.WalkAnswer.TheVariants as answer
 use Rattle.mlt_base.specs.Records.{CanChange}
@@ -19,7 +19,7 @@ use Rattle.mlt_operation.proofs.operation.Operation.act_on.Goals as goal
 
 pub returns-in_default : goal.returns-in_default
 returns-in_default g c =
-    let basis : Basis = basis_by g.P.Pseudo.bits_of c.args.root.now c.args.opens.now c.args.subtx.now.tx in
+    let basis : Basis = basis_in g.P.Pseudo.bits_of c.args.setting.now c.args.subtx.now.tx in
     let m : Moment = moment c.args.subtx.now c.args.pages.now in
     let before : OperationFields = c.args.self.now in
     let reply = c.decide-reply.result.0 in
@@ -29,7 +29,7 @@ returns-in_default g c =
 
 pub perform-requires-clause-ready : goal.perform-requires-clause-ready
 perform-requires-clause-ready g c =
-    let basis : Basis = basis_by g.P.Pseudo.bits_of c.args.root.now c.args.opens.now c.args.subtx.now.tx in
+    let basis : Basis = basis_in g.P.Pseudo.bits_of c.args.setting.now c.args.subtx.now.tx in
     let m : Moment = moment c.args.subtx.now c.args.pages.now in
     let before : OperationFields = c.args.self.now in
     let reply = c.decide-reply.result.0 in
@@ -39,7 +39,7 @@ perform-requires-clause-ready g c =
 
 pub perform-requires-clause-ghost_found : goal.perform-requires-clause-ghost_found
 perform-requires-clause-ghost_found g c revives =
-    let basis : Basis = basis_by g.P.Pseudo.bits_of c.args.root.now c.args.opens.now c.args.subtx.now.tx in
+    let basis : Basis = basis_in g.P.Pseudo.bits_of c.args.setting.now c.args.subtx.now.tx in
     let m : Moment = moment c.args.subtx.now c.args.pages.now in
     let before : OperationFields = c.args.self.now in
     let walk_is : c.self.inside.walk ≡ before.walk = ap (λ (o : OperationFields). o.walk) c.self.view_is in
@@ -50,7 +50,7 @@ perform-requires-clause-ghost_found g c revives =
 
 pub returns-in-Changed : goal.returns-in-Changed
 returns-in-Changed g c =
-    let basis : Basis = basis_by g.P.Pseudo.bits_of c.args.root.now c.args.opens.now c.args.subtx.now.tx in
+    let basis : Basis = basis_in g.P.Pseudo.bits_of c.args.setting.now c.args.subtx.now.tx in
     let m : Moment = moment c.args.subtx.now c.args.pages.now in
     let before : OperationFields = c.args.self.now in
     let walk_is : c.self.inside.walk ≡ before.walk = ap (λ (o : OperationFields). o.walk) c.self.view_is in
@@ -64,7 +64,7 @@ returns-in-Changed g c =
 
 pub returns-in-NeedSplit : goal.returns-in-NeedSplit
 returns-in-NeedSplit g c =
-    let basis : Basis = basis_by g.P.Pseudo.bits_of c.args.root.now c.args.opens.now c.args.subtx.now.tx in
+    let basis : Basis = basis_in g.P.Pseudo.bits_of c.args.setting.now c.args.subtx.now.tx in
     let m : Moment = moment c.args.subtx.now c.args.pages.now in
     let before : OperationFields = c.args.self.now in
     let walk_is : c.self.inside.walk ≡ before.walk = ap (λ (o : OperationFields). o.walk) c.self.view_is in
@@ -78,7 +78,7 @@ returns-in-NeedSplit g c =
 
 pub returns-in-Refused : goal.returns-in-Refused
 returns-in-Refused g c =
-    let basis : Basis = basis_by g.P.Pseudo.bits_of c.args.root.now c.args.opens.now c.args.subtx.now.tx in
+    let basis : Basis = basis_in g.P.Pseudo.bits_of c.args.setting.now c.args.subtx.now.tx in
     let m : Moment = moment c.args.subtx.now c.args.pages.now in
     let before : OperationFields = c.args.self.now in
     let walk_is : c.self.inside.walk ≡ before.walk = ap (λ (o : OperationFields). o.walk) c.self.view_is in
@@ -95,7 +95,7 @@ returns-in-Refused g c =
 
 pub returns-in-NeedSplit-2 : goal.returns-in-NeedSplit-2
 returns-in-NeedSplit-2 g c =
-    let basis : Basis = basis_by g.P.Pseudo.bits_of c.args.root.now c.args.opens.now c.args.subtx.now.tx in
+    let basis : Basis = basis_in g.P.Pseudo.bits_of c.args.setting.now c.args.subtx.now.tx in
     let m : Moment = moment c.args.subtx.now c.args.pages.now in
     let before : OperationFields = c.args.self.now in
     let walk_is : c.self.inside.walk ≡ before.walk = ap (λ (o : OperationFields). o.walk) c.self.view_is in

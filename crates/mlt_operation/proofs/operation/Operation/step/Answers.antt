@@ -1,6 +1,6 @@
 use Rattle.std.proofs.Common.{◌≡◌, ◌↔◌, ℕ, Option, None, Some, refl, sym, ap, subst, ◌∙◌, inl}
 use Rattle.mlt_held.specs.Moments.{Moment, moment}
-use Rattle.mlt_hash.specs.Walks.{Basis, WalkFields, basis_by}
+use Rattle.mlt_hash.specs.Walks.{Basis, WalkFields, basis_in}
 use Rattle.mlt_hash.specs.Splitting.{HasToMake, TellsAt}
 use Rattle.mlt_held.specs.PageSteps.{HasNoPageLeft}
 use Rattle.mlt_held.proofs.OwnSteps.{step_keeps_tx}
@@ -18,7 +18,7 @@ use Rattle.mlt_operation.proofs.operation.Operation.step.Goals as goal
 
 pub act_on-requires : goal.act_on-requires
 act_on-requires g c =
-    let basis : Basis = basis_by g.P.Pseudo.bits_of c.args.root.now c.args.opens.now c.args.subtx.now.tx in
+    let basis : Basis = basis_in g.P.Pseudo.bits_of c.args.setting.now c.args.subtx.now.tx in
     let old : Moment = moment c.args.subtx.now c.args.pages.now in
     let mid : Moment = moment c.advance.new.subtx c.advance.new.pages in
     let before : OperationFields = c.args.self.now in
@@ -30,11 +30,11 @@ act_on-requires g c =
     let tx : mid.running.tx ≡ old.running.tx = step_keeps_tx old mid c.in-Found.ensures.leaves.touches in
     let at : OperationFields = record { request = c.self.inside.request; reply = c.self.inside.reply; walk = c.advance.new.self } in
     let decides = may_decide basis old mid before at c.in-Found.found c.requires.ready c.in-Found.ensures.leaves tells request same in
-    record { ready = subst (λ (t : ℕ). MayDecide (basis_by g.P.Pseudo.bits_of c.args.root.now c.args.opens.now t) mid at c.in-Found.found) (sym tx) decides }
+    record { ready = subst (λ (t : ℕ). MayDecide (basis_in g.P.Pseudo.bits_of c.args.setting.now t) mid at c.in-Found.found) (sym tx) decides }
 
 pub returns-in-Going : goal.returns-in-Going
 returns-in-Going g c =
-    let basis : Basis = basis_by g.P.Pseudo.bits_of c.args.root.now c.args.opens.now c.args.subtx.now.tx in
+    let basis : Basis = basis_in g.P.Pseudo.bits_of c.args.setting.now c.args.subtx.now.tx in
     let old : Moment = moment c.args.subtx.now c.args.pages.now in
     let mid : Moment = moment c.advance.new.subtx c.advance.new.pages in
     let before : OperationFields = c.args.self.now in
@@ -47,7 +47,7 @@ returns-in-Going g c =
 
 pub returns-in-Waiting : goal.returns-in-Waiting
 returns-in-Waiting g c =
-    let basis : Basis = basis_by g.P.Pseudo.bits_of c.args.root.now c.args.opens.now c.args.subtx.now.tx in
+    let basis : Basis = basis_in g.P.Pseudo.bits_of c.args.setting.now c.args.subtx.now.tx in
     let old : Moment = moment c.args.subtx.now c.args.pages.now in
     let mid : Moment = moment c.advance.new.subtx c.advance.new.pages in
     let before : OperationFields = c.args.self.now in
@@ -60,7 +60,7 @@ returns-in-Waiting g c =
 
 pub returns-in-Found : goal.returns-in-Found
 returns-in-Found g c =
-    let basis : Basis = basis_by g.P.Pseudo.bits_of c.args.root.now c.args.opens.now c.args.subtx.now.tx in
+    let basis : Basis = basis_in g.P.Pseudo.bits_of c.args.setting.now c.args.subtx.now.tx in
     let old : Moment = moment c.args.subtx.now c.args.pages.now in
     let mid : Moment = moment c.advance.new.subtx c.advance.new.pages in
     let before : OperationFields = c.args.self.now in
@@ -73,12 +73,12 @@ returns-in-Found g c =
     let tx : mid.running.tx ≡ old.running.tx = step_keeps_tx old mid c.in-Found.ensures.leaves.touches in
     let at : OperationFields = record { request = c.self.inside.request; reply = c.self.inside.reply; walk = c.advance.new.self } in
     let at_bucket : TellsAtBucket basis mid new at c.act_on.new.self c.act_on.result =
-    subst (λ (t : ℕ). TellsAtBucket (basis_by g.P.Pseudo.bits_of c.args.root.now c.args.opens.now t) mid new at c.act_on.new.self c.act_on.result) tx c.act_on.ensures.tells in
+    subst (λ (t : ℕ). TellsAtBucket (basis_in g.P.Pseudo.bits_of c.args.setting.now t) mid new at c.act_on.new.self c.act_on.result) tx c.act_on.ensures.tells in
     record { tells = found_tells basis old mid new before at c.act_on.new.self c.in-Found.found c.act_on.result c.requires.ready c.in-Found.ensures.leaves tells request same at_bucket }
 
 pub returns-in-Changed : goal.returns-in-Changed
 returns-in-Changed g c =
-    let basis : Basis = basis_by g.P.Pseudo.bits_of c.args.root.now c.args.opens.now c.args.subtx.now.tx in
+    let basis : Basis = basis_in g.P.Pseudo.bits_of c.args.setting.now c.args.subtx.now.tx in
     let old : Moment = moment c.args.subtx.now c.args.pages.now in
     let mid : Moment = moment c.advance.new.subtx c.advance.new.pages in
     let before : OperationFields = c.args.self.now in
@@ -91,7 +91,7 @@ returns-in-Changed g c =
 
 pub returns-in-Refused : goal.returns-in-Refused
 returns-in-Refused g c =
-    let basis : Basis = basis_by g.P.Pseudo.bits_of c.args.root.now c.args.opens.now c.args.subtx.now.tx in
+    let basis : Basis = basis_in g.P.Pseudo.bits_of c.args.setting.now c.args.subtx.now.tx in
     let old : Moment = moment c.args.subtx.now c.args.pages.now in
     let mid : Moment = moment c.advance.new.subtx c.advance.new.pages in
     let before : OperationFields = c.args.self.now in

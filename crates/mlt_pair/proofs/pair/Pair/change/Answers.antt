@@ -4,7 +4,7 @@ use Rattle.mlt_held.specs.Moments.{Moment, moment}
 use Rattle.mlt_held.specs.PageSteps.{WritesAtMost}
 use Rattle.mlt_held.specs.Views.{view_of}
 use Rattle.mlt_pair.specs.Ways.{page_of}
-use Rattle.mlt_pair.specs.Changes.{TellsOfTwo}
+use Rattle.mlt_pair.specs.Changes.{TellsOfTwo, task_in, task_of}
 use Rattle.mlt_pair.specs.Pairs.{PairFields, later_of}
 use Rattle.mlt_pair.specs.Writing.{MayPlan, TellsOfOne}
 use Rattle.mlt_pair.proofs.Behind.{left_fits, left_writes, one_later, one_tells, right_fits, right_writes, stands_behind}
@@ -61,7 +61,7 @@ returns-then-eq-clause-tells g c =
     let right : c.bucket_page-right.result ≡ page_of c.args.self.now.right_way = c.bucket_page-right.ensures ∙ ap (λ (p : PairFields). page_of p.right_way) c.self.view_is in
     let same : c.bucket_page-left.result ≡ c.bucket_page-right.result = eqb-true c.bucket_page-left.result c.bucket_page-right.result (sym c.if-eq.ensures) in
     one_tells c.change_one_bucket.result c.args.opens.now m new c.args.self.now c.args.self.now c.bucket_page-left.result (page_of c.args.self.now.left_way) (page_of c.args.self.now.right_way) c.args.changes.now left (same ∙ right) refl
-    (subst (λ (p : PairFields). TellsOfOne c.args.opens.now m new p.left p.right c.bucket_page-left.result c.args.changes.now c.change_one_bucket.result) c.self.view_is c.change_one_bucket.ensures.tells)
+    (subst (λ (p : PairFields). TellsOfOne (task_in c.args.opens.now p.left p.right c.bucket_page-left.result c.args.changes.now) m new c.change_one_bucket.result) c.self.view_is c.change_one_bucket.ensures.tells)
 
 pub returns-then-eq-clause-stands : goal.returns-then-eq-clause-stands
 returns-then-eq-clause-stands g c =
@@ -83,5 +83,5 @@ returns-else-eq-clause-stands g c =
     stands_behind g.file.bits g.file.root c.args.opens.now m new c.args.self.now c.requires.1.0 c.requires.1.1.0
     (subst (WritesAtMost m new) (λ i. later_of (left i) (right i)) c.change_two_buckets.ensures.writes)
     c.change_two_buckets.result c.change_two_buckets.new.pair c.args.changes.now
-    (subst (λ q. TellsOfTwo c.args.opens.now m new c.args.self.now c.change_two_buckets.new.pair q (page_of c.args.self.now.right_way) c.args.changes.now c.change_two_buckets.result) left
-    (subst (λ q. TellsOfTwo c.args.opens.now m new c.args.self.now c.change_two_buckets.new.pair c.bucket_page-left.result q c.args.changes.now c.change_two_buckets.result) right c.change_two_buckets.ensures.tells))
+    (subst (λ q. TellsOfTwo (task_of c.args.opens.now c.args.self.now q (page_of c.args.self.now.right_way) c.args.changes.now) m new c.args.self.now c.change_two_buckets.new.pair c.change_two_buckets.result) left
+    (subst (λ q. TellsOfTwo (task_of c.args.opens.now c.args.self.now c.bucket_page-left.result q c.args.changes.now) m new c.args.self.now c.change_two_buckets.new.pair c.change_two_buckets.result) right c.change_two_buckets.ensures.tells))

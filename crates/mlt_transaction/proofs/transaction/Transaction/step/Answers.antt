@@ -1,5 +1,5 @@
 use Rattle.std.proofs.Common.{refl, sym, ap, subst}
-use Rattle.mlt_hash.specs.Walks.{Basis, basis_by}
+use Rattle.mlt_hash.specs.Walks.{Basis, basis_in}
 use Rattle.mlt_event.specs.declared.answer.Answer.{Answer}
 use Rattle.mlt_transaction.specs.declared.commons.Commons.{Commons}
 use Rattle.mlt_transaction.specs.declared.transaction.At.{At}
@@ -11,7 +11,7 @@ use Rattle.mlt_transaction.proofs.transaction.Transaction.step.Goals as goal
 
 pub returns-in-Done : goal.returns-in-Done
 returns-in-Done g c =
-    let basis : Basis = basis_by g.P.Pseudo.bits_of c.args.root.now c.args.opens.now c.args.self.now.subtx.tx in
+    let basis : Basis = basis_in g.P.Pseudo.bits_of c.args.setting.now c.args.self.now.subtx.tx in
     let told : Answer = c.step_on-answer.result in
     let after : Transaction = record { subtx = c.step_on-answer.new.subtx; undo = c.step_on-answer.new.undo; at = at.Idle } in
     let new : Commons = c.step_on-answer.new.commons in
@@ -27,7 +27,7 @@ returns-in-Done g c =
 
 pub returns-in-Refused : goal.returns-in-Refused
 returns-in-Refused g c =
-    let basis : Basis = basis_by g.P.Pseudo.bits_of c.args.root.now c.args.opens.now c.args.self.now.subtx.tx in
+    let basis : Basis = basis_in g.P.Pseudo.bits_of c.args.setting.now c.args.self.now.subtx.tx in
     let told : Answer = c.step_on-answer.result in
     let after : Transaction = record { subtx = c.step_on-answer.new.subtx; undo = c.step_on-answer.new.undo; at = at.Idle } in
     let between : Commons = c.step_on-answer.new.commons in
@@ -44,7 +44,7 @@ returns-in-Refused g c =
 
 pub returns-in_default : goal.returns-in_default
 returns-in_default g c =
-    let basis : Basis = basis_by g.P.Pseudo.bits_of c.args.root.now c.args.opens.now c.args.self.now.subtx.tx in
+    let basis : Basis = basis_in g.P.Pseudo.bits_of c.args.setting.now c.args.self.now.subtx.tx in
     let told : Answer = c.step_on-answer.result in
     let after : Transaction = record { subtx = c.step_on-answer.new.subtx; undo = c.step_on-answer.new.undo; at = at.Pending c.step_on-answer.new.operation } in
     let new : Commons = c.step_on-answer.new.commons in
