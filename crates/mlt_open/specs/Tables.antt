@@ -48,7 +48,7 @@ pub record CallsNone (tx : ℕ) (old new : Table) (commons commons' : Commons) :
   pub changes : ChangesOne tx old new
   pub tells : IsNotCalled changes.before changes.after commons commons'
 
--- the transaction of this number takes a step; each transaction goes by its basis
+-- the transaction of this number takes a step; `basis` is what the transaction of each number goes by
 pub record StepsOne (basis : ℕ → Basis) (tx : ℕ) (old new : Table) (commons commons' : Commons)
     (told : Answer) : Type 0 where
   pub changes : ChangesOne tx old new

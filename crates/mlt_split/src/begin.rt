@@ -36,8 +36,8 @@ impl Split {
     ) -> Result<Split, Refusal>
         ghost room_depth: { ℕ }
         requires may { MayStep (moment subtx.old pages.old) }
-        requires file { HasCleanFile (P.bits_of setting.now.root.now.pseudo) setting.now.root.now.page
-            (moment subtx.old pages.old) }
+        requires file { HasCleanFile (P.bits_of setting.now.root.now.pseudo)
+            setting.now.root.now.page (moment subtx.old pages.old) }
         requires begins { MayBegin (aim_by P.bits_of setting.now key subtx.old.tx room_depth)
             (view_of (moment subtx.old pages.old)) old }
         ensures makes { IfOk result (λ split. (page : Page)
