@@ -11,19 +11,17 @@ use std::array;
 use std::hint::spin_loop;
 use std::sync::ledger::{Ledger, Share};
 use std::sync::{Condvar, Mutex, MutexGuard, Wait};
-use std::thread::yield_now;
 
-// How often the lock is looked at before a thread sleeps for it.
-const LOOKS: u32 = 10;
+// How often the one who waits next looks at the lock before it sleeps for it, and after how many pauses of the processor
+// each time. Who has the lock takes it some ten times meanwhile.
+const LOOKS: u32 = 20;
 
-// Between the first six looks lie 1 to 16 pauses of the processor, and then others run.
-const SPINS: u32 = 6;
-
-const MOST_DOUBLINGS: u32 = 4;
+const PAUSES: u32 = 256;
 
 /// A lock over the manager, and the bells that wake desks.
 pub struct Shared<P: Pseudo, L: Ledger> {
     hall: Mutex<Hall<P, L>>,
+    next: Mutex<()>,
     bells: [Condvar; 256],
 }
 
@@ -32,21 +30,27 @@ impl<P: Pseudo, L: Ledger> Shared<P, L> {
     pub fn new(hall: Hall<P, L>) -> Shared<P, L> {
         Shared {
             hall: Mutex::new(hall),
+            next: Mutex::new(()),
             bells: array::from_fn(|_| Condvar::new()),
         }
     }
 
     /// The hall, once nobody else has it.
     ///
-    /// A hold takes a millionth part of a second, and to put a thread to sleep and wake it takes many: so the lock is first
-    /// looked at again and again, each time after twice the wait (exponential backoff: Anderson, IEEE TPDS 1(1), 1990,
-    /// section 3). Who holds it may not be running, so the last looks let other threads run. Only then is it slept for.
+    /// A hold takes less than a millionth part of a second, and to put a thread to sleep and wake it takes many. So of those who
+    /// find the lock taken one alone looks at it again, after a wait in which its holder may take it for its next events: then
+    /// what it works on stays in its processor. All others sleep until that one has the lock (Dice, Malthusian Locks, EuroSys
+    /// 2017, section 3). Whoever holds it may not be running, so the one that looks ends by sleeping too.
     pub(crate) fn lock<R: Wait>(&self, rt: &R) -> MutexGuard<'_, Hall<P, L>> {
-        for look in 0..LOOKS {
+        if let Some(hall) = self.hall.try_lock() {
+            return hall;
+        }
+        let _next = self.next.lock(rt);
+        for _ in 0..LOOKS {
             if let Some(hall) = self.hall.try_lock() {
                 return hall;
             }
-            pause(look);
+            pause();
         }
         self.hall.lock(rt)
     }
@@ -104,28 +108,27 @@ impl<P: Pseudo, L: Ledger> Shared<P, L> {
         ensures amount { all.new.amount ≡ all.old.amount }
         ensures parts { all.new.parts ≡ all.old.parts }
     {
-        let Shared { hall, bells: _ } = self;
+        let Shared {
+            hall,
+            next: _,
+            bells: _,
+        } = self;
         hall.into_inner().close(all)
     }
 
     /// The manager, where the shares are not at hand.
     pub fn into_manager(self) -> Manager<P> {
-        let Shared { hall, bells: _ } = self;
+        let Shared {
+            hall,
+            next: _,
+            bells: _,
+        } = self;
         hall.into_inner().into_manager()
     }
 }
 
-// Waits twice as long at each of the first looks as at the one before, and then lets other threads run.
-fn pause(look: u32) {
-    if look < SPINS {
-        spin(1 << look.min(MOST_DOUBLINGS));
-    } else {
-        yield_now();
-    }
-}
-
-fn spin(pauses: u32) {
-    for _ in 0..pauses {
+fn pause() {
+    for _ in 0..PAUSES {
         spin_loop();
     }
 }
