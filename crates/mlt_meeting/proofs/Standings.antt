@@ -41,7 +41,7 @@ module _ (world : World) (h : PagesMeanHistory world) where
   stands_by_item op is owner p last =
       let from = last_from (op_key op) ((lists_in world).transcripts owner) p last in
       let held = (lists_kept world h).covers owner from.0 from.1 in
-      (from.0, held, same_cell (cell_of from.0.0) (cell_of op) (h.in_range owner from.0 held) is from.2, from.3)
+      (from.0, held, same_cell (cell_of from.0.0) (cell_of op) (h.records.in_range owner from.0 held) is from.2, from.3)
 
   -- a transaction that may do an item meets no opposite one
   pub may_do_unopposed : (tx : ℕ) (item : ObjOp × ObjReply) → MayDo world tx item → (o : Option Presence) → presence_of item ≡ o → IsUnopposed o (ledger_of world) tx (op_key item.0)

@@ -44,7 +44,7 @@ use Rattle.mlt_meeting.proofs.Undoing.{inverse_can}
 -- ---- what is found
 
 pub record_looked_up : (world : World) (op : ObjOp) → PagesMeanHistory world → record_of world op ≡ look_up world.bits (map.get world.pages) world.root (op_key op)
-record_looked_up world op h = map_is_look_up world.bits world.pages world.root h.bounded h.form (op_key op)
+record_looked_up world op h = map_is_look_up world.bits world.pages world.root h.file.bounded h.file.form (op_key op)
 
 pub found_is_record : (world : World) (tx : ℕ) (op : ObjOp) (walk : WalkFields) (view : View) (found : Option ℕ) → PagesMeanHistory world → HasPassed (basis_of world tx) walk view found → walk.key ≡ op_key op → Agrees view.seen (map.get world.pages)
     → found ≡ record_of world op
@@ -83,7 +83,7 @@ module _ (world : World) (tx : ℕ) (item : ObjOp × ObjReply) (walk : WalkField
       ap (λ (t : List (ObjOp × ObjReply)). last_of (presences_on (op_key item.0) t)) may.last ∙ last_is may.rest item Removed (revives_removal item revives)
       in
       let last : last_by (ledger_of world) tx walk.key ≡ Some Removed = ap (last_by (ledger_of world) tx) key_is ∙ stood in
-      let ghost = ((undone_found (ledger_of world) tx walk.key h.ghosts h.form may.is_open).1 last).0 in
+      let ghost = ((undone_found (ledger_of world) tx walk.key h.file.ghosts h.file.form may.is_open).1 last).0 in
       let led = led_at pages world.root (world.bits walk.key) here.header here.dir bucket here.fields (path_taken (basis_of world tx) walk view bucket depth found pages here agree) in
       let slots : (buckets_of pages (lead_of pages world.root (world.bits walk.key))).slots ≡ here.fields.slots =
       ap (λ (n : ℕ). (buckets_of pages n).slots) led.0 ∙ ap (λ (b : BucketFields). b.slots) led.1
@@ -101,7 +101,7 @@ module _ (world : World) (tx : ℕ) (walk : WalkFields) (view : View) (h : Pages
   kept_without_new n i Free is kept = absurd (false≢true kept)
   kept_without_new n i (Live key value) is kept = refl
   kept_without_new n i (Ghost key value owner) is kept =
-      let low = h.ghosts.left owner key n i (value, is) in
+      let low = h.file.ghosts.left owner key n i (value, is) in
       sym (inserted_beside world.opens (world.begun + 1) owner (λ e. absurd (omega (arith, low, e)))) ∙ kept
 
   kept_by_fewer : (slot : Slot) (x : ℕ) → is_kept (set.remove world.opens x) slot ≡ true → is_kept world.opens slot ≡ true
@@ -114,8 +114,8 @@ module _ (world : World) (tx : ℕ) (walk : WalkFields) (view : View) (h : Pages
       kept_without_new n i (slice_index_or (bucket_of p).slots i Free) (ap (λ (q : Option Page). slice_index_or (bucket_of q).slots i Free) (agree n p sees)) kept
 
   pub stands_by_begin : IsStanding (record (basis_of world tx) { opens = set.insert world.opens (world.begun + 1) }) walk view
-  stands_by_begin = stands_still (basis_of world tx) (set.insert world.opens (world.begun + 1)) walk view (map.get world.pages) no_more_by_begin agree h.form stands
+  stands_by_begin = stands_still (basis_of world tx) (set.insert world.opens (world.begun + 1)) walk view (map.get world.pages) no_more_by_begin agree h.file.form stands
 
   pub stands_by_end : (other : ℕ) → IsStanding (record (basis_of world tx) { opens = set.remove world.opens other }) walk view
   stands_by_end other =
-      stands_still (basis_of world tx) (set.remove world.opens other) walk view (map.get world.pages) (λ n p sees i kept. kept_by_fewer (slice_index_or (bucket_of p).slots i Free) other kept) agree h.form stands
+      stands_still (basis_of world tx) (set.remove world.opens other) walk view (map.get world.pages) (λ n p sees i kept. kept_by_fewer (slice_index_or (bucket_of p).slots i Free) other kept) agree h.file.form stands
