@@ -46,7 +46,7 @@ module _ (world : World) (i : ℕ) (o : OperationFields) (view : View) (op : Obj
   key_is = ap (λ (t : ℕ × Mode). t.0) (operates.target ∙ ap target_of asked)
 
   found_here : (found : Option ℕ) → HasPassed (basis_of world i) o.walk view found → found ≡ record_of world op
-  found_here found passed = found_is_record world i op o.walk view found match passed key_is agree
+  found_here found passed = found_is_record world i (cell_of op) o.walk view found match passed key_is agree
 
   decided_here : (found : Option ℕ) (r : ObjReply) (change : Option RecChange) → HasPassed (basis_of world i) o.walk view found → o.reply ≡ Some r → decision o.request found ≡ (r, change)
       → reply_of op (record_of world op) ≡ (reply, change)

@@ -110,7 +110,7 @@ module _ (s : State) (i : ℕ) (before : Transaction) (between commons : Commons
         let key_is = ap (λ (t : ℕ × Mode). t.0) (fits.operates.target ∙ ap target_of fits.inverts.asked) in
         walk_leaves_change (world_of s) i (clean_pages (map.insert s.images i map.empty) commons.pages.store.pages) o.walk view has.bucket has.done has.changed agrees
         (λ q. clean_at_end q ∙ ap (λ f. f q) (end_clean (all_of s) i sound.running)) sound.match.file.form (cell_of fits.last.0) has.change key_is
-        (subst (λ (f : Option ℕ). Performs has.change f has.done) (found_is_record (world_of s) i fits.last.0 o.walk view has.found sound.match has.passed key_is agrees) has.performs)
+        (subst (λ (f : Option ℕ). Performs has.change f has.done) (found_is_record (world_of s) i (cell_of fits.last.0) o.walk view has.found sound.match has.passed key_is agrees) has.performs)
 
     pub cleared_by_inverse : IsCleared s i commons fits.last
     cleared_by_inverse = record {

@@ -81,7 +81,7 @@ module _ (world : World) (tx : ℕ) (op : ObjOp) (pages : map.FinMap nat_cmp Pag
 
     still_counted : (i : ℕ) (x : ObjOp × ObjReply) → Contains (lists.transcripts i) x → HasWhatIsUndone x (map.get (live_records pages) (op_key x.0))
     still_counted i x there =
-        counted_after world pages op (record_after change live) records_are x (h.records.in_range i x ((lists_kept world h).covers i x there)) may.in_range.cell (h.records.counted i x there)
+        counted_after world pages (cell_of op) (record_after change live) records_are x (h.records.in_range i x ((lists_kept world h).covers i x there)) may.in_range.cell (h.records.counted i x there)
         (λ same has. reply_keeps_counters x op live same has)
 
     done_fits : (base : Base) → FitsLists (with_done world tx item pages base) (after_entry lists (Did tx item))
@@ -93,7 +93,7 @@ module _ (world : World) (tx : ℕ) (op : ObjOp) (pages : map.FinMap nat_cmp Pag
           (may_do_unopposed world h tx item may (presence_of item) refl);
       in_range = listed lists.held tx item (λ x. IsInRange (cell_of x.0)) h.records.in_range may.in_range.cell;
       counted = listed lists.transcripts tx item (λ x. HasWhatIsUndone x (map.get (live_records pages) (op_key x.0))) still_counted
-          (subst (HasWhatIsUndone item) (sym (record_now world pages op (record_after change live) records_are)) (reply_leaves_counters op live));
+          (subst (HasWhatIsUndone item) (sym (record_now world pages (cell_of op) (record_after change live) records_are)) (reply_leaves_counters op live));
     }
 
     pub operation_keeps : (base : Base) × Step world.base item base × PagesMeanHistory (with_done world tx item pages base)

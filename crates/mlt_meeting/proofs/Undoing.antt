@@ -101,7 +101,7 @@ module _ (world : World) (tx : ℕ) (item : ObjOp × ObjReply) (h : PagesMeanHis
       in_range = h.records.in_range;
       counted = λ i x there.
           let was = was_listed i x there in
-          counted_after world pages item.0 (record_after (inverse_of item) live) records_are x (h.records.in_range i x ((lists_kept world h).covers i x was)) range (h.records.counted i x was)
+          counted_after world pages (cell_of item.0) (record_after (inverse_of item) live) records_are x (h.records.in_range i x ((lists_kept world h).covers i x was)) range (h.records.counted i x was)
           (λ same has. inverse_keeps_counters x item live same has);
     }
 
