@@ -4,7 +4,7 @@ ghost use Rattle.std.specs.Prelude.{◌≡◌, ◌≢◌, ◌↔◌, ℕ, List, 
 ghost use Rattle.mlt_commute.specs.BaseConflicts.{SomeLikeThemBreak};
 ghost use Rattle.mlt_commute.specs.Clashes.{clashes};
 ghost use Rattle.mlt_kinds.specs.Bases.{Base, Runs as RunsOfBases, Step, Transcript, empty_base};
-ghost use Rattle.mlt_kinds.specs.Operations.{cell_of};
+ghost use Rattle.mlt_kinds.specs.Operations.{AreApart};
 ghost use Rattle.mlt_kinds.specs.declared.operation.ObjOp.{ObjOp};
 ghost use Rattle.mlt_kinds.specs.declared.operation.ObjReply.{ObjReply};
 ghost use Rattle.mlt_order.specs.Histories.{Entry, IsCommitOrderSerializable, IsHistory, Lists, MayCome, lists_of};
@@ -14,10 +14,11 @@ ghost use Rattle.mlt_order.specs.Interleavings.{UndoneTo};
 ghost use Rattle.mlt_order.specs.Runs.{IsFunctional, IsInjective, IsSerialBase, RightCommutesBackward, Runs};
 ghost use Rattle.mlt_order.specs.Tables.{AreFinitelyMany};
 
-/// Over whole bases an operation right commutes backward with a held one where the two are on different cells,
-/// and where they do not clash. Where they clash, some operations on the cell and of their classes do not.
+/// Two operations do not clash that are locked on no cell of both. Over whole bases an operation right commutes
+/// backward with a held one where they do not clash. Where they clash, some operations on the cell and of their
+/// classes do not.
 pub fn clashes_are_exact()
-    ensures apart { (held requested : ObjOp × ObjReply) → cell_of held.0 ≢ cell_of requested.0
+    ensures apart { (held requested : ObjOp × ObjReply) → AreApart held.0 requested.0
         → clashes held requested ≡ false }
     ensures passes { (held requested : ObjOp × ObjReply) → clashes held requested ≡ false
         → RightCommutesBackward Step held requested }

@@ -32,7 +32,7 @@ use Rattle.mlt_meeting.specs.Events.{with_closed, with_undone as world_undone}
 use Rattle.mlt_meeting.specs.Worlds.{PagesMeanHistory, lists_in}
 use Rattle.mlt_meeting.proofs.OpenNumbers.{removed_beside, removed_here as closed_here}
 use Rattle.mlt_meeting.proofs.Transactions.{close_keeps as close_keeps_match}
-use Rattle.mlt_meeting.proofs.WalkEnds.{same_pages_match}
+use Rattle.mlt_meeting.proofs.Matches.{same_pages_match}
 use Rattle.mlt_meeting.proofs.Walks.{stands_by_end}
 use Rattle.mlt_operation.specs.Operating.{OperationFields}
 use Rattle.mlt_event.specs.declared.answer.Answer.TheVariants as answer

@@ -23,10 +23,9 @@ use Rattle.mlt_subtx_laws.specs.Running.{AllRunning, HoldsNothing, KeepsRunning,
 use Rattle.mlt_subtx_laws.proofs.AllEvents.{begin_clean, begin_keeps, nothing_at_begin}
 use Rattle.mlt_meeting.specs.Events.{with_begun}
 use Rattle.mlt_meeting.specs.Worlds.{PagesMeanHistory, lists_in}
-use Rattle.mlt_meeting.proofs.Matches.{lists_kept}
 use Rattle.mlt_meeting.proofs.OpenNumbers as numbers
 use Rattle.mlt_meeting.proofs.Transactions as meeting
-use Rattle.mlt_meeting.proofs.WalkEnds.{same_pages_match}
+use Rattle.mlt_meeting.proofs.Matches.{lists_kept, same_pages_match}
 use Rattle.mlt_meeting.proofs.Walks.{stands_by_begin}
 use Rattle.mlt_transaction.specs.declared.commons.Commons.{Commons}
 use Rattle.mlt_transaction.specs.declared.transaction.At.{At}
@@ -46,7 +45,7 @@ module _ (s : State) (t : Transaction) (commons : Commons) (sound : IsSound s) (
   now = with_next s t commons
 
   not_open : set.contains s.opens i ≡ false
-  not_open = not_true (set.contains s.opens i) (λ is. let low = sound.match.ghosts.opened i is in absurd (omega (arith, low)))
+  not_open = not_true (set.contains s.opens i) (λ is. let low = sound.match.file.ghosts.opened i is in absurd (omega (arith, low)))
 
   no_transaction : map.get s.txs i ≡ None
   no_transaction = not_there (map.get s.txs i) (sym (sound.opened i) ∙ not_open)
@@ -98,7 +97,7 @@ module _ (s : State) (t : Transaction) (commons : Commons) (sound : IsSound s) (
   ]
 
   nothing_stands : (lists_in (world_of s)).transcripts i ≡ []
-  nothing_stands = ((lists_kept (world_of s) sound.match).only i (λ runs. false≢true (sym not_open ∙ (sound.match.running i).1 runs))).0
+  nothing_stands = ((lists_kept (world_of s) sound.match).only i (λ runs. false≢true (sym not_open ∙ (sound.match.records.running i).1 runs))).0
 
   nothing : HoldsNothing (all_of now) i
   nothing = subst (λ (all : AllRunning). HoldsNothing all i) (sym same_all) (nothing_at_begin (all_of s) i sound.running closed)

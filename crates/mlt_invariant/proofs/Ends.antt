@@ -26,7 +26,7 @@ use Rattle.mlt_meeting.specs.Events.{IsOpenAt}
 use Rattle.mlt_meeting.specs.Worlds.{PagesMeanHistory, World, lists_in}
 use Rattle.mlt_meeting.proofs.OpenNumbers as numbers
 use Rattle.mlt_meeting.proofs.Transactions as meeting
-use Rattle.mlt_meeting.proofs.WalkEnds.{same_pages_match}
+use Rattle.mlt_meeting.proofs.Matches.{same_pages_match}
 use Rattle.mlt_meeting.proofs.Walks.{stands_by_end}
 use Rattle.mlt_transaction.specs.declared.commons.Commons.{Commons}
 use Rattle.mlt_transaction.specs.declared.transaction.At.{At}

@@ -7,6 +7,7 @@ use Rattle.mlt_types.specs.declared.mode.Mode.{Mode}
 use Rattle.mlt_page.specs.declared.page.Page.{Page}
 use Rattle.mlt_kinds.specs.declared.operation.ObjOp.{ObjOp}
 use Rattle.mlt_kinds.specs.declared.operation.ObjReply.{ObjReply}
+use Rattle.mlt_kinds.specs.Operations.{cell_of}
 use Rattle.mlt_base.specs.declared.record.RecChange.{RecChange}
 use Rattle.mlt_base.specs.Effects.{reply_of, changes_on}
 use Rattle.mlt_hash_form.specs.Held.{Agrees, own_or, over}
@@ -23,6 +24,7 @@ use Rattle.mlt_operation.specs.Requests.{decision, target_of}
 use Rattle.mlt_meeting.specs.Ends.{ChangesPages}
 use Rattle.mlt_meeting.specs.Presences.{op_key}
 use Rattle.mlt_meeting.specs.Worlds.{PagesMeanHistory, World, basis_of, record_of}
+use Rattle.mlt_meeting.proofs.WalkEnds.{walk_leaves_change}
 use Rattle.mlt_meeting.proofs.Walks.{found_is_record}
 
 -- the operation is told what the record of its cell asks for, and makes the change that goes with it
@@ -44,7 +46,7 @@ module _ (world : World) (i : ℕ) (o : OperationFields) (view : View) (op : Obj
   key_is = ap (λ (t : ℕ × Mode). t.0) (operates.target ∙ ap target_of asked)
 
   found_here : (found : Option ℕ) → HasPassed (basis_of world i) o.walk view found → found ≡ record_of world op
-  found_here found passed = found_is_record world i op o.walk view found match passed key_is agree
+  found_here found passed = found_is_record world i (cell_of op) o.walk view found match passed key_is agree
 
   decided_here : (found : Option ℕ) (r : ObjReply) (change : Option RecChange) → HasPassed (basis_of world i) o.walk view found → o.reply ≡ Some r → decision o.request found ≡ (r, change)
       → reply_of op (record_of world op) ≡ (reply, change)
@@ -66,17 +68,8 @@ module _ (world : World) (i : ℕ) (o : OperationFields) (view : View) (op : Obj
   by_phase (at.Splitting value depth) is fits stands = absurd (none-some reply (sym fits.0 ∙ told))
   by_phase (at.Changed bucket done) is fits stands =
       answered_by world i op reply pages (Some fits.decided) (decided_here fits.found fits.reply (Some fits.decided) fits.passed fits.told fits.asked)
-      (record {
-        walk = o.walk;
-        view = view;
-        bucket = bucket;
-        done = done;
-        changed = stands;
-        key_is = key_is;
-        agrees = agree;
-        performs = subst (λ (f : Option ℕ). Performs fits.decided f done) (found_here fits.found fits.passed) fits.performs;
-        ends = ends;
-      })
+      (walk_leaves_change world i pages o.walk view bucket done stands agree ends match.file.form (cell_of op) fits.decided key_is
+      (subst (λ (f : Option ℕ). Performs fits.decided f done) (found_here fits.found fits.passed) fits.performs))
 
   -- **An operation that is told its reply was told what the base has, and its end makes the change.**
   pub is_answered : IsAnswered world i op reply pages

@@ -24,8 +24,9 @@ use Rattle.mlt_subtx_laws.specs.CleanPages.{clean_pages}
 use Rattle.mlt_subtx_laws.specs.Running.{AllRunning, HoldsNothing, KeepsRunning, after_end, clean_of, is_open, moment_of}
 use Rattle.mlt_subtx_laws.proofs.AllEvents.{end_clean, end_keeps, nothing_at_end}
 use Rattle.mlt_subtx_laws.proofs.AllRunning.{agrees_with_each}
-use Rattle.mlt_meeting.specs.Ends.{ChangesPages, EndsWalk}
+use Rattle.mlt_meeting.specs.Ends.{ChangesPages, LeavesChange}
 use Rattle.mlt_meeting.specs.Worlds.{basis_of}
+use Rattle.mlt_meeting.proofs.WalkEnds.{walk_leaves_change}
 use Rattle.mlt_meeting.proofs.Walks.{found_is_record}
 use Rattle.mlt_transaction.specs.declared.commons.Commons.{Commons}
 use Rattle.mlt_transaction.specs.declared.transaction.Transaction.{Transaction}
@@ -102,28 +103,20 @@ module _ (s : State) (i : ℕ) (before : Transaction) (between commons : Commons
     clean_at_end : (q : ℕ) → clean_of (cleared s i commons) q ≡ clean_of (after_end (all_of s) i) q
     clean_at_end q = ap (λ all. clean_of all q) (sym is_end)
 
-    ends_walk : EndsWalk (world_of s) i (cell_of fits.last.0) has.change (clean_pages (map.insert s.images i map.empty) commons.pages.store.pages)
-    ends_walk =
+    leaves_change : LeavesChange (world_of s) i (cell_of fits.last.0) has.change (clean_pages (map.insert s.images i map.empty) commons.pages.store.pages)
+    leaves_change =
         let view = view_of (moment_of (all_of s) i) in
         let agrees = agrees_with_each (all_of s) i sound.running (open_there s i before sound was) in
         let key_is = ap (λ (t : ℕ × Mode). t.0) (fits.operates.target ∙ ap target_of fits.inverts.asked) in
-        record {
-          walk = o.walk;
-          view = view;
-          bucket = has.bucket;
-          done = has.done;
-          changed = has.changed;
-          key_is = key_is;
-          agrees = agrees;
-          performs = subst (λ (f : Option ℕ). Performs has.change f has.done) (found_is_record (world_of s) i fits.last.0 o.walk view has.found sound.match has.passed key_is agrees) has.performs;
-          ends = λ q. clean_at_end q ∙ ap (λ f. f q) (end_clean (all_of s) i sound.running);
-        }
+        walk_leaves_change (world_of s) i (clean_pages (map.insert s.images i map.empty) commons.pages.store.pages) o.walk view has.bucket has.done has.changed agrees
+        (λ q. clean_at_end q ∙ ap (λ f. f q) (end_clean (all_of s) i sound.running)) sound.match.file.form (cell_of fits.last.0) has.change key_is
+        (subst (λ (f : Option ℕ). Performs has.change f has.done) (found_is_record (world_of s) i (cell_of fits.last.0) o.walk view has.found sound.match has.passed key_is agrees) has.performs)
 
     pub cleared_by_inverse : IsCleared s i commons fits.last
     cleared_by_inverse = record {
       keeps = subst (KeepsRunning i (all_of s)) is_end (end_keeps (all_of s) i sound.running (open_there s i before sound was));
       nothing = subst (λ all. HoldsNothing all i) is_end (nothing_at_end (all_of s) i);
-      changes = subst (λ c. ChangesPages (world_of s) i (changes_on fits.last.0 c) (clean_pages (map.insert s.images i map.empty) commons.pages.store.pages)) (sym has.is) ends_walk;
+      changes = subst (λ c. ChangesPages (world_of s) i (changes_on fits.last.0 c) (clean_pages (map.insert s.images i map.empty) commons.pages.store.pages)) (sym has.is) leaves_change;
     }
 
   module _ (item : ObjOp × ObjReply) (nothing : HoldsNothing (all_of s) i) (same : between ≡ s.commons) (none : inverse_of item ≡ None) where

@@ -62,11 +62,11 @@ module _ (s : State) (i : ℕ) (t : Transaction) (sound : IsSound s) (is : map.g
 
   may_walk : (walk : WalkFields) → IsStanding (basis_of (world_of s) i) walk (view_of (moment_of (all_of s) i)) → MayWalk (basis_of (world_of s) i) (moment_of (all_of s) i) walk
   may_walk walk stands = record {
-    bounded = sound.match.bounded;
-    small = sound.match.small;
+    bounded = sound.match.file.bounded;
+    small = sound.match.file.small;
     may = each_may_step (all_of s) i sound.running is_open_now;
-    file = record { clean = clean_of (all_of s); is_clean = clean_for_each (all_of s) i sound.running; form = sound.match.form };
-    shallow = sound.match.shallow;
+    file = record { clean = clean_of (all_of s); is_clean = clean_for_each (all_of s) i sound.running; form = sound.match.file.form };
+    shallow = sound.match.file.shallow;
     stands = stands;
   }
 

@@ -19,7 +19,7 @@ use Rattle.mlt_history.proofs.RoomLaws.{total_room-empty}
 use Rattle.mlt_hash_form.specs.Changes.{IsOpening}
 use Rattle.mlt_hash_form.specs.File.{GivesPseudokeys}
 use Rattle.mlt_subtx_laws.specs.CleanPages.{clean_pages}
-use Rattle.mlt_meeting.proofs.WalkEnds.{same_pages_match}
+use Rattle.mlt_meeting.proofs.Matches.{same_pages_match}
 use Rattle.mlt_subtx_laws.specs.Running.{AllMayStep, clean_of, nobody_running}
 use Rattle.mlt_subtx_laws.proofs.AllRunning.{first_clean, first_may_step}
 use Rattle.mlt_meeting.specs.Events.{new_world}

@@ -14,7 +14,7 @@ use Rattle.mlt_history.specs.Numbers.{AreBegunInOrder, AreCounted, begin_count}
 use Rattle.mlt_history.proofs.RoomLaws.{total_room-insert}
 use Rattle.mlt_subtx_laws.specs.CleanPages.{RunningImages, clean_pages}
 use Rattle.mlt_meeting.specs.Worlds.{PagesMeanHistory, lists_in}
-use Rattle.mlt_meeting.proofs.WalkEnds.{same_pages_match}
+use Rattle.mlt_meeting.proofs.Matches.{same_pages_match}
 use Rattle.mlt_transaction.specs.declared.commons.Commons.{Commons}
 use Rattle.mlt_transaction.specs.declared.transaction.Transaction.{Transaction}
 use Rattle.mlt_invariant.specs.Events.{KeepsClean, with_transaction}

@@ -1,6 +1,6 @@
 -- The laws of whole bases: what the cells hold is the base, a step has one answer and one start, and steps on
 -- different cells pass each other.
-use Rattle.std.proofs.Common.{◌≡◌, ◌≢◌, ◌⊎◌, inl, inr, ℕ, zero, suc, Bool, true, false, cond, Option, None, Some, is_some, refl, sym, ap, subst, ◌∙◌, arith}
+use Rattle.std.proofs.Common.{◌≡◌, ◌≢◌, ◌⊎◌, inl, inr, ℕ, zero, suc, Bool, true, false, cond, Option, None, Some, Contains, is_some, refl, sym, ap, subst, ◌∙◌, arith}
 use Rattle.std.proofs.lemmas.Bool.{cases_eq}
 use Rattle.std.proofs.lemmas.Cmp.{on_total, then_total, tied_itself}
 use Rattle.std.specs.declared.cmp.Ordering.{Ordering}
@@ -20,7 +20,7 @@ use Rattle.mlt_kinds.specs.Cells.{CellState, CellStep}
 use Rattle.mlt_kinds.specs.Cells.CellState.{AccountState, ElementState, CounterState}
 use Rattle.mlt_kinds.specs.CounterLaws.{counter_one_answer, counter_one_start}
 use Rattle.mlt_kinds.specs.ElementLaws.{element_one_answer, element_one_start}
-use Rattle.mlt_kinds.specs.Operations.{cell_of}
+use Rattle.mlt_kinds.specs.Operations.{AreApart, cell_of, cells_of}
 use Rattle.mlt_kinds.specs.Passing.{Passes, PassesOnCell}
 
 -- ---- orders and keys
@@ -191,6 +191,13 @@ step_to b x t h =
     (subst (CellStep (state_at b (cell_of x.0)) x) here h, state_beside b (cell_of x.0) t)
 
 -- ---- passing
+
+-- operations that are locked on no cell of both are on different cells
+own_cell : (op : ObjOp) → Contains (cells_of op) (cell_of op)
+own_cell op = (0, omega arith, refl)
+
+pub apart_on_two_cells : (op other : ObjOp) → AreApart op other → cell_of op ≢ cell_of other
+apart_on_two_cells op other apart e = apart (cell_of op) (own_cell op) (subst (Contains (cells_of other)) (sym e) (own_cell other))
 
 -- operations on different cells pass
 pub apart_steps_pass : (p q : ObjOp × ObjReply) → cell_of p.0 ≢ cell_of q.0 → Passes p q

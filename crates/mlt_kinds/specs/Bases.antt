@@ -12,7 +12,7 @@ use Rattle.mlt_kinds.specs.declared.operation.ObjOp.{ObjOp}
 use Rattle.mlt_kinds.specs.declared.operation.ObjReply.{ObjReply}
 use Rattle.mlt_kinds.specs.Cells.{CellState, CellStep}
 use Rattle.mlt_kinds.specs.Cells.CellState.{AccountState, ElementState, CounterState}
-use Rattle.mlt_kinds.specs.Operations.{cells_of}
+use Rattle.mlt_kinds.specs.Operations.{cell_of}
 
 -- elements by their sets, and in one set by their numbers
 abbrev pub element_cmp : ℕ × ℕ → ℕ × ℕ → Ordering
@@ -78,30 +78,14 @@ with_state b (Element s e) (ElementState p) = record b { elements = with_entry b
 with_state b (Counter c) (CounterState v) = record b { counters = with_entry b.counters c (counter_entry v) }
 with_state b _ _ = b
 
--- what cells hold
-abbrev pub states_at : Base → List Cell → List CellState
-states_at b [] = []
-states_at b (cell ∷ cells) = state_at b cell ∷ states_at b cells
+-- the two bases differ in this cell alone
+abbrev pub SameBut : Base → Base → Cell → Type 0
+SameBut b b' cell = (other : Cell) → other ≢ cell → state_at b' other ≡ state_at b other
 
--- the cell is none of these
-abbrev pub IsNoneOf : Cell → List Cell → Type 0
-IsNoneOf other [] = Unit {0}
-IsNoneOf other (cell ∷ []) = other ≢ cell
-IsNoneOf other (cell ∷ cells) = (other ≢ cell) × IsNoneOf other cells
-
--- the two bases differ in no cell but these
-abbrev pub SameBut : Base → Base → List Cell → Type 0
-SameBut b b' cells = (other : Cell) → IsNoneOf other cells → state_at b' other ≡ state_at b other
-
--- what an operation with its reply makes of what its cells hold
-abbrev pub CellsStep : List CellState → ObjOp × ObjReply → List CellState → Type 0
-CellsStep (s ∷ []) x (t ∷ []) = CellStep s x t
-CellsStep _ x _ = ⊥
-
--- An operation with its reply is a step of the cells that it is on; all other cells are as before.
+-- An operation with its reply is a step of the cell that it is on; all other cells are as before.
 abbrev pub Step : Base → ObjOp × ObjReply → Base → Type 0
 Step b x b' =
-    CellsStep (states_at b (cells_of x.0)) x (states_at b' (cells_of x.0)) × SameBut b b' (cells_of x.0)
+    CellStep (state_at b (cell_of x.0)) x (state_at b' (cell_of x.0)) × SameBut b b' (cell_of x.0)
 
 -- operations with their replies, in order
 abbrev pub Transcript : Type 0

@@ -1,5 +1,5 @@
--- Operations and the cells that they are on.
-use Rattle.std.specs.Prelude.{List, [], ◌∷◌}
+-- Operations, the cells that they are on, and those on which they are locked.
+use Rattle.std.specs.Prelude.{List, [], ◌∷◌, Contains}
 use Rattle.mlt_types.specs.declared.cell.Cell.{Cell}
 use Rattle.mlt_types.specs.declared.cell.Cell.TheVariants as cell
 use Rattle.mlt_kinds.specs.declared.operation.ObjOp.{ObjOp}
@@ -10,6 +10,10 @@ cell_of (Account a op) = cell.Account a
 cell_of (Element s e op) = cell.Element s e
 cell_of (Counter c op) = cell.Counter c
 
--- The cells that an operation is on: a list of at most two. Each operation of today is on one alone.
+-- The cells on which an operation is locked: a list of at most two. Each operation of today is locked on its own alone.
 abbrev pub cells_of : ObjOp → List Cell
 cells_of op = cell_of op ∷ []
+
+-- the two operations are locked on no cell of both
+abbrev pub AreApart : ObjOp → ObjOp → Type 0
+AreApart op other = (cell : Cell) → Contains (cells_of op) cell → Contains (cells_of other) cell → ⊥

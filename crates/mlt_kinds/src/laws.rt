@@ -1,9 +1,9 @@
 //! Laws of the steps of whole bases. Each is the contract of a function that does nothing.
 
-ghost use Rattle.std.specs.Prelude.{◌≡◌, ◌≢◌, ◌≤◌, length};
+ghost use Rattle.std.specs.Prelude.{◌≡◌, ◌≤◌, length};
 ghost use Rattle.mlt_kinds.specs.Bases.{Base, state_at, Step, with_state};
 ghost use Rattle.mlt_kinds.specs.Cells.{CellState, CellStep};
-ghost use Rattle.mlt_kinds.specs.Operations.{cell_of, cells_of};
+ghost use Rattle.mlt_kinds.specs.Operations.{AreApart, cell_of, cells_of};
 ghost use Rattle.mlt_kinds.specs.Passing.{Passes, PassesOnCell};
 ghost use Rattle.mlt_kinds.specs.declared.operation.ObjReply.{ObjReply};
 ghost use Rattle.mlt_kinds.specs.declared.operation.ObjOp.{ObjOp};
@@ -11,7 +11,7 @@ ghost use Rattle.mlt_types.specs.declared.cell.Cell.{Cell};
 
 /// A base is what its cells hold. An operation on it is told one reply and leads to one base, and with its
 /// reply it leads to a base from one base: each (operation, reply) is injective where it is legal. A step of
-/// the cell that an operation is on is a step of the base. No operation is on more than two cells.
+/// the cell that an operation is on is a step of the base. No operation is locked on more than two cells.
 pub fn steps_of_bases_are_fixed()
     ensures cells { (b d : Base) → ((c : Cell) → state_at b c ≡ state_at d c) → b ≡ d }
     ensures one_answer { (b c d : Base) (op : ObjOp) (r q : ObjReply) → Step b (op, r) c
@@ -24,10 +24,10 @@ pub fn steps_of_bases_are_fixed()
     ensures few { (op : ObjOp) → length (cells_of op) ≤ 2 }
 {}
 
-/// Operations on different cells pass each other in every base, and operations on one cell do where they do
-/// so on the cell: then the second may come before the first, with the same end.
+/// Operations that are locked on no cell of both pass each other in every base, and operations on one cell do where
+/// they do so on the cell: then the second may come before the first, with the same end.
 pub fn steps_of_bases_pass()
-    ensures apart { (p q : ObjOp × ObjReply) → cell_of p.0 ≢ cell_of q.0 → Passes p q }
+    ensures apart { (p q : ObjOp × ObjReply) → AreApart p.0 q.0 → Passes p q }
     ensures on_one_cell { (p q : ObjOp × ObjReply) → cell_of p.0 ≡ cell_of q.0 → PassesOnCell p q
         → Passes p q }
 {}

@@ -63,7 +63,7 @@ module _ {P : Type 0} (bits_of : P → ℕ → ℕ) (m : ManagerFields P) (h : I
   pub clean_header : (p : Option Page) → HasCleanPage m m.root.page p → p ≡ Some (page.Head (header_of p))
   clean_header p is =
       let same = sym is.has ∙ same_clean is.clean m.root.page is.is_clean in
-      subst (λ p. p ≡ Some (page.Head (header_of p))) (sym same) h.sound.match.form.head
+      subst (λ p. p ≡ Some (page.Head (header_of p))) (sym same) h.sound.match.file.form.head
 
   -- with the depth of the directory, which is at most 16
   pub has_depth : (p : Option Page) → HasCleanPage m m.root.page p → HasDepth m (header_of p).depth
@@ -77,7 +77,7 @@ module _ {P : Type 0} (bits_of : P → ℕ → ℕ) (m : ManagerFields P) (h : I
   pub depth_at_most : (p : Option Page) → HasCleanPage m m.root.page p → (header_of p).depth ≤ 16
   depth_at_most p is =
       let same = sym is.has ∙ same_clean is.clean m.root.page is.is_clean in
-      subst (λ p. (header_of p).depth ≤ 16) (sym same) h.sound.match.form.listed.small
+      subst (λ p. (header_of p).depth ≤ 16) (sym same) h.sound.match.file.form.listed.small
 
 -- the header of a page that was read
 pub header_read : (got : Option (Bor Page)) (one : Bor Page) (header : HeadFields) → got ≡ Some one → one.now ≡ page.Head header → header_of (option_copied got) ≡ header

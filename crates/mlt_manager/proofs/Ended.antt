@@ -111,7 +111,7 @@ module _ {P : Type 0} (bits_of : P → ℕ → ℕ) (m : ManagerFields P) (h : I
         room = b.room;
       } in
       let few : map.len m.txs < m.commons.pages.locks.max_open = subst (λ (n : ℕ). map.len m.txs < n) (sym h.limits.locks_for) b.free in
-      let not_open : set.contains m.opens (m.begun + 1) ≡ false = not_true (set.contains m.opens (m.begun + 1)) (λ is. let low = h.sound.match.ghosts.opened (m.begun + 1) is in absurd (omega (arith, low))) in
+      let not_open : set.contains m.opens (m.begun + 1) ≡ false = not_true (set.contains m.opens (m.begun + 1)) (λ is. let low = h.sound.match.file.ghosts.opened (m.begun + 1) is in absurd (omega (arith, low))) in
       let more : map.len (map.insert m.txs (m.begun + 1) b.one) ≡ map.len m.txs + 1 = len_added m.txs (m.begun + 1) b.one (sym (h.sound.opened (m.begun + 1)) ∙ not_open) in
       let more_open : set.len (set.insert m.opens (m.begun + 1)) ≡ set.len m.opens + 1 = set_added m.opens (m.begun + 1) not_open in
       same_manager bits_of m' (record m { commons = m'.commons; txs = map.insert m.txs (m.begun + 1) b.one; opens = set.insert m.opens (m.begun + 1); begun = m.begun + 1 })

@@ -111,7 +111,7 @@ module _ {P : Type 0} (bits_of : P → ℕ → ℕ) (m : ManagerFields P) (h : I
   owner_open by item held =
       let listed : Contains ((lists_in (world_of now)).held by) item = subst (λ (l : List (ObjOp × ObjReply)). Contains l item) (h.sound.held by) (under_number by m.commons.objects.held item held) in
       let running = holds_if by item ((lists_in (world_of now)).stage by) refl listed in
-      sym (h.sound.opened by) ∙ (h.sound.match.running by).1 running
+      sym (h.sound.opened by) ∙ (h.sound.match.records.running by).1 running
 
 -- who is named is another transaction, where the one that changes is left aside
 still_another : (told : Answer) (txs : Table) (tx : ℕ) (after : Transaction) → IsByAnother told txs tx → IsByAnother told (map.insert txs tx after) tx

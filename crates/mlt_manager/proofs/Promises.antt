@@ -36,14 +36,14 @@ module _ {P : Type 0} (bits_of : P → ℕ → ℕ) (m : ManagerFields P) (h : I
     clean = clean_pages h.images m.commons.pages.store.pages;
     is_clean = record { images = h.images; kept = h.sound.kept; put_back = λ q. refl };
     state = h.base;
-    means = h.sound.match.means;
-    serial = serializable m.commons.history.items h.base h.sound.match.history;
-    file = has_file (bits_of m.root.pseudo) m.opens (map.get (clean_pages h.images m.commons.pages.store.pages)) m.root.page h.sound.match.bounded h.sound.match.form;
-    ghosts = kept_by_match (ledger_of (world_of (state_of bits_of m h.images h.base))) h.sound.match.ghosts;
+    means = h.sound.match.records.means;
+    serial = serializable m.commons.history.items h.base h.sound.match.records.history;
+    file = has_file (bits_of m.root.pseudo) m.opens (map.get (clean_pages h.images m.commons.pages.store.pages)) m.root.page h.sound.match.file.bounded h.sound.match.file.form;
+    ghosts = kept_by_match (ledger_of (world_of (state_of bits_of m h.images h.base))) h.sound.match.file.ghosts;
     locks = λ i. record { of_pass = pass_locks (state_of bits_of m h.images h.base) i h.sound; written = written_locks (state_of bits_of m h.images h.base) i h.sound };
     books = record {
       in_table = h.sound.opened;
-      in_history = h.sound.match.running;
+      in_history = h.sound.match.records.running;
       number = λ i one there. (h.sound.fits i one there).number;
       undo = λ i one there. (h.sound.fits i one there).stands;
       held = h.sound.held;

@@ -108,7 +108,7 @@ on_ends bits_of old m m' tx told w d not = last_taken bits_of GoesOn old m m' tx
 
 -- the depth of a manager's directory is at most 16
 pub is_small : {P : Type 0} (bits_of : P → ℕ → ℕ) (m : ManagerFields P) → IsManager bits_of m → m.root.max_depth ≤ 16
-is_small bits_of m h = h.sound.match.small
+is_small bits_of m h = h.sound.match.file.small
 
 -- what was called is pending
 pub called_is_pending : {P : Type 0} (m m' : ManagerFields P) (tx : ℕ) (op : ObjOp) → HasCalled m m' tx op → IsOpenAt m'.txs tx IsPending

@@ -96,7 +96,7 @@ module _ {P : Type 0} (bits_of : P → ℕ → ℕ) (m : ManagerFields P) (h : I
           pending = asked_here o e.ends.op e.pending e.ends.asked;
           adds = record {
             items = e.ends.tells.1.items ∙ ap (λ (n : ℕ). m.commons.history.items ++ trace.Op n (e.ends.op, e.ends.reply) ∷ []) number;
-            leads = λ base leads. (d.0, subst (λ (b : Base). Step b (e.ends.op, e.ends.reply) d.0) (sym (same_base base leads)) d.1, d.2.match.history);
+            leads = λ base leads. (d.0, subst (λ (b : Base). Step b (e.ends.op, e.ends.reply) d.0) (sym (same_base base leads)) d.1, d.2.match.records.history);
           };
         } in (
           record { images = map.insert h.images tx map.empty; base = d.0; sound = d.2; traced = done_traced now tx o before after commons reply d.0 h.sound h.traced was e },
@@ -188,7 +188,7 @@ module _ {P : Type 0} (bits_of : P → ℕ → ℕ) (m : ManagerFields P) (h : I
           (
             after.undo.entries,
             led.last,
-            led_back answer.Undone (with_undone now tx after commons) after.undo.entries (trace.Back tx ∷ []) led refl led.sound.match.history (takes.ends.takes.items ∙ (λ p. (history p).items ++ trace.Back (number p) ∷ [])) stands_after,
+            led_back answer.Undone (with_undone now tx after commons) after.undo.entries (trace.Back tx ∷ []) led refl led.sound.match.records.history (takes.ends.takes.items ∙ (λ p. (history p).items ++ trace.Back (number p) ∷ [])) stands_after,
           ),
         )
 
@@ -201,7 +201,7 @@ module _ {P : Type 0} (bits_of : P → ℕ → ℕ) (m : ManagerFields P) (h : I
               (record { images = map.remove h.images tx; base = led.base; sound = led.sound; traced = last_undone_traced now tx inverting before after commons led.base h.sound h.traced was takes }),
           (
             led.last,
-            led_back answer.Aborted (with_aborted now tx commons) [] (trace.Back tx ∷ trace.Abort tx ∷ []) led takes.ends.takes.none led.sound.match.history
+            led_back answer.Aborted (with_aborted now tx commons) [] (trace.Back tx ∷ trace.Abort tx ∷ []) led takes.ends.takes.none led.sound.match.records.history
                 (takes.ends.takes.items ∙ (λ p. (history p).items ++ trace.Back (number p) ∷ trace.Abort (number p) ∷ [])) (nothing_after []),
           ),
         )

@@ -148,7 +148,7 @@ module _ {P : Type 0} (bits_of : P → ℕ → ℕ) (i u : ℕ) (t : Transaction
 -- a new number is not that of an open transaction
 is_older : {P : Type 0} (bits_of : P → ℕ → ℕ) (m : ManagerFields P) (h : IsManager bits_of m) (u : ℕ) (t : Transaction) → map.get m.txs u ≡ Some t → u ≡ m.begun + 1 → ⊥
 is_older bits_of m h u t there same =
-    let low = h.sound.match.ghosts.opened u (h.sound.opened u ∙ ap is_some there) in
+    let low = h.sound.match.file.ghosts.opened u (h.sound.opened u ∙ ap is_some there) in
     absurd (omega (arith, low, same))
 
 pub of_begin : {P : Type 0} (bits_of : P → ℕ → ℕ) (u : ℕ) (t : Transaction) (m m' : ManagerFields P) (h : IsManager bits_of m) (there : map.get m.txs u ≡ Some t) (told : Told) → Meets bits_of event.Begin told m m' → StaysAs m m' u t

@@ -40,7 +40,7 @@ deposited base next reply is step =
     sym (account_one_answer (Some 0) (Deposit 5) Done reply (Some 5) (account_at next 1) ((omega arith, omega arith), refl) (subst (λ s. AccountStep s (Deposit 5) reply (account_at next 1)) is step.0)).1
 
 -- **Done one after the other, they leave 5 in an account that was not there, and nothing else changes.**
-pub leaves_five : (before after : Base) (r q : ObjReply) → Runs Step before (opens r ∷ deposits q ∷ []) after → (account_at before 1 ≡ None → account_at after 1 ≡ Some 5) × SameBut before after (cell.Account 1 ∷ [])
+pub leaves_five : (before after : Base) (r q : ObjReply) → Runs Step before (opens r ∷ deposits q ∷ []) after → (account_at before 1 ≡ None → account_at after 1 ≡ Some 5) × SameBut before after (cell.Account 1)
 leaves_five before after r q runs =
     let middle = runs.0 in
     let opening : Step before (opens r) middle = runs.1 in
@@ -60,7 +60,7 @@ all_committed tx number x y = rw (eq-eqb tx tx refl) refl
 
 -- **The base of a manager that did this alone.**
 pub has_five : {P : Type 0} (m : ManagerFields P) (tx number : ℕ) (r q : ObjReply) (base : Base) → m.commons.history.items ≡ all_of tx number (opens r) (deposits q) → IsCommittedBaseOf m base
-    → (account_at base 1 ≡ Some 5) × SameBut empty_base base (cell.Account 1 ∷ [])
+    → (account_at base 1 ≡ Some 5) × SameBut empty_base base (cell.Account 1)
 has_five m tx number r q base items committed =
     let told : (lists_by m).committed ≡ (opens r ∷ deposits q ∷ []) ∷ [] = ap committed_by items ∙ all_committed tx number (opens r) (deposits q) in
     let serial : IsSerialBase Step empty_base ((opens r ∷ deposits q ∷ []) ∷ []) base = subst (λ transcripts. IsSerialBase Step empty_base transcripts base) told committed.serial in

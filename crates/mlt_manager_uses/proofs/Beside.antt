@@ -59,7 +59,7 @@ module _ {P : Type 0} (m0 m1 m2 m3 m4 : ManagerFields P) (tx number : ℕ) (begi
   -- **The base has the account with 5, and nothing else has changed.**
   pub adds_five : (r q : ObjReply) (before base : Base) → m2.commons.history.items ≡ m1.commons.history.items ++ trace.Op tx (opens r) ∷ []
       → m3.commons.history.items ≡ m2.commons.history.items ++ trace.Op tx (deposits q) ∷ [] → m4.commons.history.items ≡ m3.commons.history.items ++ trace.Commit tx number ∷ [] → IsCommittedBaseOf m0 before
-      → IsCommittedBaseOf m4 base → (account_at before 1 ≡ None → account_at base 1 ≡ Some 5) × SameBut before base (cell.Account 1 ∷ [])
+      → IsCommittedBaseOf m4 base → (account_at before 1 ≡ None → account_at base 1 ≡ Some 5) × SameBut before base (cell.Account 1)
   adds_five r q before base first second commits was is =
       let all = subst (λ transcripts. IsSerialBase Step empty_base transcripts base) (committed_more (opens r) (deposits q) first second commits) is.serial in
       let last = last_run (lists_by m0).committed (opens r ∷ deposits q ∷ []) empty_base base all in

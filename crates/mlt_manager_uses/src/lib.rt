@@ -22,7 +22,7 @@ use std::alloc::Global;
 pub fn open_with_five<P: Pseudo>(manager: &mut Manager<P>) -> Result<Base, Refusal>
     requires new { manager.old.commons.history.items ≡ [] }
     ensures balance { IfOk result (λ base. account_at base 1 ≡ Some 5) }
-    ensures others { IfOk result (λ base. SameBut empty_base base (Account 1 ∷ [])) }
+    ensures others { IfOk result (λ base. SameBut empty_base base (Account 1)) }
 {
     let tx = manager.begin()?;
     ask(manager, tx, ObjOp::Account(1, AccountOp::Open))?;
@@ -55,7 +55,7 @@ pub fn base_with_five<P: Pseudo>(alloc: Global, limits: Limits, pseudo: P) -> Re
 where
     P: Drop,
     ensures balance { IfOk result (λ base. account_at base 1 ≡ Some 5) }
-    ensures others { IfOk result (λ base. SameBut empty_base base (Account 1 ∷ [])) }
+    ensures others { IfOk result (λ base. SameBut empty_base base (Account 1)) }
 {
     let mut manager = Manager::new(alloc, limits, pseudo)?;
     let base = open_with_five(&mut manager);
@@ -71,7 +71,7 @@ pub fn open_beside_others<P: Pseudo>(manager: &mut Manager<P>) -> Result<Base, R
     ensures balance { (before : ObjectBase) → IsCommittedBaseOf manager.old before
         → account_at before 1 ≡ None → IfOk result (λ base. account_at base 1 ≡ Some 5) }
     ensures others { (before : ObjectBase) → IsCommittedBaseOf manager.old before
-        → IfOk result (λ base. SameBut before base (Account 1 ∷ [])) }
+        → IfOk result (λ base. SameBut before base (Account 1)) }
 {
     let tx = manager.begin()?;
     manager.keeps_its_promises();

@@ -61,8 +61,8 @@ module _ (world : World) (op : ObjOp) (h : PagesMeanHistory world) (range : IsIn
   steps_by_record small =
       let r = reply_of op (record_of world op) in
       let after = state_of_record (cell_of op) (record_after r.1 (record_of world op)) in
-      let cell = (reply_steps op (record_of world op) (h.means.can_be (cell_of op) range) small).0 in
-      (with_state world.base (cell_of op) after, step_to world.base (op, r.0) after (subst (λ (s : CellState). CellStep s (op, r.0) after) (sym (h.means.holds (cell_of op) range)) cell))
+      let cell = (reply_steps op (record_of world op) (h.records.means.can_be (cell_of op) range) small).0 in
+      (with_state world.base (cell_of op) after, step_to world.base (op, r.0) after (subst (λ (s : CellState). CellStep s (op, r.0) after) (sym (h.records.means.holds (cell_of op) range)) cell))
 
   -- and no other reply is
   pub step_fixes : (reply : ObjReply) (after : Base) → Step world.base (op, reply) after → reply ≡ (reply_of op (record_of world op)).0
@@ -74,7 +74,7 @@ pub step_there : (world : World) (op : ObjOp) → PagesMeanHistory world → IsO
 step_there world op h is = steps_by_record world op h is.cell is.amount
 
 pub pages_fix : (world : World) (other : Base) → PagesMeanHistory world → Means (live_records world.pages) other → other ≡ world.base
-pages_fix world other h means = one_meaning (live_records world.pages) other world.base means h.means
+pages_fix world other h means = one_meaning (live_records world.pages) other world.base means h.records.means
 
 pub history_fixes : (world : World) (other : Base) → PagesMeanHistory world → IsHistory Step empty_base world.history other → other ≡ world.base
-history_fixes world other h leads = follow_to_one Step base_functional base_injective world.history no_lists empty_base other world.base leads h.history
+history_fixes world other h leads = follow_to_one Step base_functional base_injective world.history no_lists empty_base other world.base leads h.records.history

@@ -6,6 +6,7 @@ pub mod Opening
 pub mod Operations
 pub mod OpenNumbers
 pub mod Opposites
+pub mod RecordChanges
 pub mod RecordsAfter
 pub mod Replies
 pub mod SlotGhosts

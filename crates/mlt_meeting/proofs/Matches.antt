@@ -1,8 +1,11 @@
--- The match of clean pages and a history in two parts: what the pages mean, and what the lists of the history ask of them.
-use Rattle.std.proofs.Common.{◌≡◌, ◌↔◌, ℕ, ◌<◌, ◌≤◌, true, List, [], ◌∷◌, ◌++◌, Contains, sym, subst, ap, ◌∙◌}
+-- The match of clean pages and a history, by what the lists of the history ask of the rest.
+use Rattle.std.proofs.Common.{◌≡◌, ◌↔◌, ℕ, ◌<◌, true, List, [], ◌∷◌, ◌++◌, Contains, sym, subst, ap, ◌∙◌}
+use Rattle.std.specs.Cmp.{nat_cmp_total}
 use Rattle.std.specs.FinMap as map
 use Rattle.std.specs.FinSet as set
+use Rattle.std.specs.Ordering.{nat_cmp}
 use Rattle.mlt_types.specs.Cells.{IsInRange}
+use Rattle.mlt_page.specs.declared.page.Page.{Page}
 use Rattle.mlt_kinds.specs.Bases.{Base, Step, empty_base}
 use Rattle.mlt_kinds.specs.Operations.{cell_of}
 use Rattle.mlt_kinds.specs.declared.operation.ObjOp.{ObjOp}
@@ -14,54 +17,28 @@ use Rattle.mlt_order.proofs.Keeping.{Kept, kept_by_history}
 use Rattle.mlt_base.specs.Meaning.{Means}
 use Rattle.mlt_base.specs.Records.{HasWhatIsUndone}
 use Rattle.mlt_commute.proofs.BaseOrder.{base_functional, base_injective}
-use Rattle.mlt_hash_form.specs.File.{GivesPseudokeys, HasForm, depth_of}
 use Rattle.mlt_hash_form.specs.Records.{live_records}
-use Rattle.mlt_ghosts.specs.Ghosts.{PagesMatchOperations}
-use Rattle.mlt_ghosts.specs.Ledgers.{Ledger}
+use Rattle.mlt_meeting.specs.Ends.{KeepsPages}
 use Rattle.mlt_meeting.specs.Presences.{standing_of}
-use Rattle.mlt_meeting.specs.Worlds.{PagesMeanHistory, World, ledger_of, lists_in, record_of}
-
--- the pages are a hash file that means the base
-pub record MeansBase (world : World) : Type 0 where
-  pub bounded : GivesPseudokeys world.bits
-  pub small : world.max_depth ≤ 16
-  pub form : HasForm world.bits (map.get world.pages) world.root
-  pub shallow : depth_of (map.get world.pages) world.root ≤ world.max_depth
-  pub means : Means (live_records world.pages) world.base
-
--- the ledger, with the operations that stand by these lists
-abbrev pub ledger_by : World → Lists (ObjOp × ObjReply) → Ledger
-ledger_by world lists = record (ledger_of world) { standing = standing_of lists.transcripts }
+use Rattle.mlt_meeting.specs.Worlds.{IsFileWithGhosts, PagesMeanHistory, World, ledger_with, lists_in, record_of}
 
 -- what lists ask of the rest
 pub record FitsLists (world : World) (lists : Lists (ObjOp × ObjReply)) : Type 0 where
+  pub file : IsFileWithGhosts (ledger_with world (standing_of lists.transcripts)) world.max_depth
   pub running : (i : ℕ) → (set.contains world.opens i ≡ true) ↔ (lists.stage i ≡ Running)
   pub fresh : (i : ℕ) → world.begun < i → lists.stage i ≡ Fresh
-  pub ghosts : PagesMatchOperations (ledger_by world lists)
   pub in_range : (i : ℕ) (item : ObjOp × ObjReply) → Contains (lists.held i) item → IsInRange (cell_of item.0)
   pub counted : (i : ℕ) (item : ObjOp × ObjReply) → Contains (lists.transcripts i) item → HasWhatIsUndone item (record_of world item.0)
 
-pub means_base : (world : World) → PagesMeanHistory world → MeansBase world
-means_base world h = record { bounded = h.bounded; small = h.small; form = h.form; shallow = h.shallow; means = h.means }
-
-pub both : (world : World) → MeansBase world → IsHistory Step empty_base world.history world.base → FitsLists world (lists_in world) → PagesMeanHistory world
+pub both : (world : World) → Means (live_records world.pages) world.base → IsHistory Step empty_base world.history world.base → FitsLists world (lists_in world) → PagesMeanHistory world
 both world means history fits = record {
-  bounded = means.bounded;
-  small = means.small;
-  form = means.form;
-  shallow = means.shallow;
-  means = means.means;
-  history = history;
-  running = fits.running;
-  fresh = fits.fresh;
-  ghosts = fits.ghosts;
-  in_range = fits.in_range;
-  counted = fits.counted;
+  file = fits.file;
+  records = record { means = means; history = history; running = fits.running; fresh = fits.fresh; in_range = fits.in_range; counted = fits.counted };
 }
 
 -- a history that has grown by an entry
 pub grown : (world : World) (history : List (Entry (ObjOp × ObjReply))) (entry : Entry (ObjOp × ObjReply)) (before : Base) → world.history ≡ history ++ entry ∷ []
-    → MeansBase world → IsHistory Step empty_base history before → MayCome Step (lists_of history) before entry world.base
+    → Means (live_records world.pages) world.base → IsHistory Step empty_base history before → MayCome Step (lists_of history) before entry world.base
     → FitsLists world (after_entry (lists_of history) entry) → PagesMeanHistory world
 grown world history entry before is means leads comes fits =
     let lists : lists_in world ≡ after_entry (lists_of history) entry = ap lists_of is ∙ after_entries-push history no_lists entry in
@@ -70,10 +47,18 @@ grown world history entry before is means leads comes fits =
     in
     both world means whole (subst (FitsLists world) (sym lists) fits)
 
+-- pages that are the same, number by number, are the same pages
+pub kept_pages : (world : World) (pages : map.FinMap nat_cmp Page) → KeepsPages world pages → pages ≡ world.pages
+kept_pages world pages same = map.same_map nat_cmp_total map.nat_cmp-IsAntisymmetric pages world.pages same
+
+-- the match is about the pages as they are
+pub same_pages_match : (world : World) (pages : map.FinMap nat_cmp Page) → PagesMeanHistory world → KeepsPages world pages → PagesMeanHistory (record world { pages = pages })
+same_pages_match world pages h keeps = subst (λ (p : map.FinMap nat_cmp Page). PagesMeanHistory (record world { pages = p })) (sym (kept_pages world pages keeps)) h
+
 -- what every history keeps of its lists
 pub lists_kept : (world : World) → PagesMeanHistory world → Kept Step empty_base (lists_in world) world.base
-lists_kept world h = kept_by_history Step empty_base base_functional base_injective world.history world.base h.history
+lists_kept world h = kept_by_history Step empty_base base_functional base_injective world.history world.base h.records.history
 
 -- an open transaction runs
 pub runs : (world : World) → PagesMeanHistory world → (tx : ℕ) → set.contains world.opens tx ≡ true → (lists_in world).stage tx ≡ Running
-runs world h tx is_open = (h.running tx).0 is_open
+runs world h tx is_open = (h.records.running tx).0 is_open

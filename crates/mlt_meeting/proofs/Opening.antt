@@ -49,15 +49,19 @@ module _ (bits : ℕ → ℕ) (root max_depth : ℕ) (pages : map.FinMap nat_cmp
   opening_matches bounded small is =
       let none_open : (i : ℕ) → set.contains (set.empty {R = nat_cmp}) i ≡ false = λ i. set.contains-empty nat_cmp i in
       record {
-        bounded = bounded;
-        small = small;
-        form = opening_has_form bits (map.get pages) root d n is;
-        shallow = subst (λ (depth : ℕ). depth ≤ max_depth) (sym (ap (λ p. (header_of p).depth) is.head)) (omega arith);
-        means = empty_means (live_records pages) (opening_map pages root d n is);
-        history = refl;
-        running = λ i. (λ o. absurd (both_ways _ (none_open i) o), λ r. let f : Fresh ≡ Running = r in cc f);
-        fresh = λ i above. refl;
-        ghosts = free_file (ledger_of (new_world bits root max_depth pages undoing)) refl (opening_is_free bits (map.get pages) root d n is);
-        in_range = λ i item there. absurd (contains-nothing item there);
-        counted = λ i item there. absurd (contains-nothing item there);
+        file = record {
+          bounded = bounded;
+          small = small;
+          form = opening_has_form bits (map.get pages) root d n is;
+          shallow = subst (λ (depth : ℕ). depth ≤ max_depth) (sym (ap (λ p. (header_of p).depth) is.head)) (omega arith);
+          ghosts = free_file (ledger_of (new_world bits root max_depth pages undoing)) refl (opening_is_free bits (map.get pages) root d n is);
+        };
+        records = record {
+          means = empty_means (live_records pages) (opening_map pages root d n is);
+          history = refl;
+          running = λ i. (λ o. absurd (both_ways _ (none_open i) o), λ r. let f : Fresh ≡ Running = r in cc f);
+          fresh = λ i above. refl;
+          in_range = λ i item there. absurd (contains-nothing item there);
+          counted = λ i item there. absurd (contains-nothing item there);
+        };
       }

@@ -25,13 +25,13 @@ use Rattle.mlt_hash_form.specs.Records.{live_records}
 use Rattle.mlt_meeting.specs.Ends.{ChangesPages}
 use Rattle.mlt_meeting.specs.Presences.{op_key, presence_of, standing_of}
 use Rattle.mlt_meeting.specs.Events.{MayDo, with_done}
-use Rattle.mlt_meeting.specs.Worlds.{PagesMeanHistory, World, lists_in, record_of}
-use Rattle.mlt_meeting.proofs.DoneGhosts.{done_keeps_ghosts}
+use Rattle.mlt_meeting.specs.Worlds.{PagesMeanHistory, World, lists_in, record_of, stood_in}
+use Rattle.mlt_meeting.proofs.DoneGhosts.{done_keeps_file}
 use Rattle.mlt_meeting.proofs.Matches.{FitsLists, grown, lists_kept, runs}
+use Rattle.mlt_meeting.proofs.RecordChanges.{records_become}
 use Rattle.mlt_meeting.proofs.RecordsAfter.{counted_after, record_now}
 use Rattle.mlt_meeting.proofs.Replies.{reply_keeps_counters, reply_leaves_counters, reply_steps}
 use Rattle.mlt_meeting.proofs.Standings.{gain_says, may_do_unopposed}
-use Rattle.mlt_meeting.proofs.WalkEnds.{BecomesFile, pages_become}
 
 only_one : (x y : ObjOp × ObjReply) → Contains (x ∷ []) y → x ≡ y
 only_one x y h =
@@ -66,34 +66,34 @@ module _ (world : World) (tx : ℕ) (op : ObjOp) (pages : map.FinMap nat_cmp Pag
   lists = lists_in world
 
   module _ (may : MayDo world tx item) (changes : ChangesPages world tx (changes_on op change) pages) where
-    file : BecomesFile world pages (with_live (live_records world.pages) (op_key op) (record_after change live))
-    file = pages_become world tx op change pages h changes
+    records_are : live_records pages ≡ with_live (live_records world.pages) (op_key op) (record_after change live)
+    records_are = records_become world (stood_in world) h.file tx pages op change changes
 
     steps : (after : Base) × Step world.base item after × Means (live_records pages) after
     steps =
         let range = may.in_range.cell in
-        let cell = reply_steps op live (h.means.can_be (cell_of op) range) may.in_range.amount in
-        let step = means_step (live_records world.pages) world.base item (record_after change live) h.means range cell.1 cell.0 in
-        (step.0, step.1, subst (λ (records : map.FinMap nat_cmp ℕ). Means records step.0) (sym file.records_are) step.2)
+        let cell = reply_steps op live (h.records.means.can_be (cell_of op) range) may.in_range.amount in
+        let step = means_step (live_records world.pages) world.base item (record_after change live) h.records.means range cell.1 cell.0 in
+        (step.0, step.1, subst (λ (records : map.FinMap nat_cmp ℕ). Means records step.0) (sym records_are) step.2)
 
     gains : Gains lists.transcripts (after_entry lists (Did tx item)).transcripts tx item
     gains = changed lists.transcripts tx (lists.transcripts tx ++ item ∷ [])
 
     still_counted : (i : ℕ) (x : ObjOp × ObjReply) → Contains (lists.transcripts i) x → HasWhatIsUndone x (map.get (live_records pages) (op_key x.0))
     still_counted i x there =
-        counted_after world pages op (record_after change live) file.records_are x (h.in_range i x ((lists_kept world h).covers i x there)) may.in_range.cell (h.counted i x there)
+        counted_after world pages (cell_of op) (record_after change live) records_are x (h.records.in_range i x ((lists_kept world h).covers i x there)) may.in_range.cell (h.records.counted i x there)
         (λ same has. reply_keeps_counters x op live same has)
 
     done_fits : (base : Base) → FitsLists (with_done world tx item pages base) (after_entry lists (Did tx item))
     done_fits base = record {
-      running = h.running;
-      fresh = h.fresh;
-      ghosts = done_keeps_ghosts world tx op pages (standing_of (after_entry lists (Did tx item)).transcripts) h may.is_open may.forward may.in_range.cell changes
+      running = h.records.running;
+      fresh = h.records.fresh;
+      file = done_keeps_file world tx op pages (standing_of (after_entry lists (Did tx item)).transcripts) h may.is_open may.forward may.in_range.cell changes
           (gain_says lists.transcripts (after_entry lists (Did tx item)).transcripts tx item gains (presence_of item) refl)
           (may_do_unopposed world h tx item may (presence_of item) refl);
-      in_range = listed lists.held tx item (λ x. IsInRange (cell_of x.0)) h.in_range may.in_range.cell;
+      in_range = listed lists.held tx item (λ x. IsInRange (cell_of x.0)) h.records.in_range may.in_range.cell;
       counted = listed lists.transcripts tx item (λ x. HasWhatIsUndone x (map.get (live_records pages) (op_key x.0))) still_counted
-          (subst (HasWhatIsUndone item) (sym (record_now world pages op (record_after change live) file.records_are)) (reply_leaves_counters op live));
+          (subst (HasWhatIsUndone item) (sym (record_now world pages (cell_of op) (record_after change live) records_are)) (reply_leaves_counters op live));
     }
 
     pub operation_keeps : (base : Base) × Step world.base item base × PagesMeanHistory (with_done world tx item pages base)
@@ -102,6 +102,5 @@ module _ (world : World) (tx : ℕ) (op : ObjOp) (pages : map.FinMap nat_cmp Pag
           step.0,
           step.1,
           grown (with_done world tx item pages step.0) world.history (Did tx item) world.base refl
-              (record { bounded = h.bounded; small = h.small; form = file.form; shallow = file.shallow; means = step.2 })
-              h.history (did_may_come lists world.base step.0 tx item (runs world h tx may.is_open) step.1 may.free) (done_fits step.0),
+              step.2 h.records.history (did_may_come lists world.base step.0 tx item (runs world h tx may.is_open) step.1 may.free) (done_fits step.0),
         )

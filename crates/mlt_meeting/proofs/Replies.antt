@@ -1,6 +1,8 @@
 -- What an operation is told of a record and changes: a step of its cell, by one of five kinds of change.
 use Rattle.std.proofs.Common.{◌≡◌, ℕ, ◌+◌, ◌-◌, ◌%◌, ◌^◌, ◌<◌, ◌≤◌, Bool, true, false, cond, Option, Some, None, is_some, IsSome, nat_eq, nat_lt, refl, arith}
 use Rattle.std.proofs.lemmas.Bool.{eqb-true, ltb-true}
+use Rattle.mlt_types.specs.declared.cell.Cell.{Cell}
+use Rattle.mlt_types.specs.declared.cell.Cell.TheVariants as cell
 use Rattle.mlt_kinds.specs.declared.account.AccountOp.{AccountOp}
 use Rattle.mlt_kinds.specs.declared.account.AccountOp.TheVariants.{Open, Close, Deposit, Withdraw, Balance}
 use Rattle.mlt_kinds.specs.declared.counter.CounterOp.{CounterOp}
@@ -84,18 +86,18 @@ reply_steps (Counter c op) live can small = counter_steps op live can small
 
 -- ---- the kinds of changes
 
--- it is on a counter
-abbrev pub IsOnCounter : ObjOp → Type 0
-IsOnCounter (Account a op) = ⊥
-IsOnCounter (Element s e op) = ⊥
-IsOnCounter (Counter c op) = Unit {0}
+-- it is a counter's cell
+abbrev pub IsCounterCell : Cell → Type 0
+IsCounterCell (cell.Account a) = ⊥
+IsCounterCell (cell.Element s e) = ⊥
+IsCounterCell (cell.Counter c) = Unit {0}
 
 -- A fact about what was done to the presence of a key, and to its record, is shown for the five kinds that there are.
 pub record ForReplies (op : ObjOp) (F : Option Presence → Option RecChange → Type 0) : Type 0 where
   pub added : (v : ℕ) → F (Some Added) (Some (Add v))
   pub removed : F (Some Removed) (Some ToGhost)
   pub updated : (v : ℕ) → F None (Some (Set v))
-  pub counted : IsOnCounter op → (v : ℕ) → F None (Some (Add v))
+  pub counted : IsCounterCell (cell_of op) → (v : ℕ) → F None (Some (Add v))
   pub stays : F None None
 
 account_replies : (a : ℕ) (op : AccountOp) (live : Option ℕ) (F : Option Presence → Option RecChange → Type 0) → ForReplies (Account a op) F

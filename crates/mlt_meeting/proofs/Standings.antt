@@ -1,9 +1,11 @@
 -- What items do to the operations that stand, and who else has such on their keys.
 use Rattle.std.proofs.Common.{◌≡◌, ℕ, Option, Some, None, Contains}
 use Rattle.std.proofs.lemmas.Bool.{both_ways}
-use Rattle.mlt_types.specs.Cells.{IsInRange}
+use Rattle.mlt_types.specs.Cells.{IsInRange, key_number}
+use Rattle.mlt_types.specs.declared.cell.Cell.{Cell}
+use Rattle.mlt_types.specs.declared.cell.Cell.TheVariants as cell
 use Rattle.mlt_kinds.specs.declared.operation.ObjOp.{ObjOp}
-use Rattle.mlt_kinds.specs.declared.operation.ObjOp.TheVariants.{Account, Element, Counter}
+use Rattle.mlt_kinds.specs.declared.operation.ObjOp.TheVariants as op
 use Rattle.mlt_kinds.specs.declared.operation.ObjReply.{ObjReply}
 use Rattle.mlt_kinds.specs.Bases.{Transcript}
 use Rattle.mlt_kinds.specs.Operations.{cell_of}
@@ -16,7 +18,7 @@ use Rattle.mlt_meeting.specs.Events.{MayDo}
 use Rattle.mlt_meeting.specs.Worlds.{PagesMeanHistory, World, ledger_of, lists_in}
 use Rattle.mlt_meeting.proofs.Matches.{lists_kept}
 use Rattle.mlt_meeting.proofs.Opposites.{opposites_clash}
-use Rattle.mlt_meeting.proofs.Replies.{IsOnCounter}
+use Rattle.mlt_meeting.proofs.Replies.{IsCounterCell}
 use Rattle.mlt_meeting.proofs.Transcripts.{gains_none, gains_presence, last_from}
 
 -- one item more of transaction tx makes of what stands what it did to its key's presence
@@ -35,30 +37,28 @@ IsUnopposed (Some p) ledger tx key = (q : Presence) → (q ≡ p → ⊥) → No
 IsUnopposed None ledger tx key = Unit {0}
 
 module _ (world : World) (h : PagesMeanHistory world) where
-  -- what stands last of a key was done by an open item, on the same cell
-  stands_by_item : (op : ObjOp) → IsInRange (cell_of op) → (owner : ℕ) (p : Presence) → last_by (ledger_of world) owner (op_key op) ≡ Some p
-      → (item : ObjOp × ObjReply) × Contains ((lists_in world).held owner) item × (cell_of item.0 ≡ cell_of op) × (presence_of item ≡ Some p)
-  stands_by_item op is owner p last =
-      let from = last_from (op_key op) ((lists_in world).transcripts owner) p last in
+  -- what stands last of a key was done by an open item, on the key's cell
+  stands_by_item : (cell : Cell) → IsInRange cell → (owner : ℕ) (p : Presence) → last_by (ledger_of world) owner (key_number cell) ≡ Some p
+      → (item : ObjOp × ObjReply) × Contains ((lists_in world).held owner) item × (cell_of item.0 ≡ cell) × (presence_of item ≡ Some p)
+  stands_by_item cell is owner p last =
+      let from = last_from (key_number cell) ((lists_in world).transcripts owner) p last in
       let held = (lists_kept world h).covers owner from.0 from.1 in
-      (from.0, held, same_cell (cell_of from.0.0) (cell_of op) (h.in_range owner from.0 held) is from.2, from.3)
+      (from.0, held, same_cell (cell_of from.0.0) cell (h.records.in_range owner from.0 held) is from.2, from.3)
 
   -- a transaction that may do an item meets no opposite one
   pub may_do_unopposed : (tx : ℕ) (item : ObjOp × ObjReply) → MayDo world tx item → (o : Option Presence) → presence_of item ≡ o → IsUnopposed o (ledger_of world) tx (op_key item.0)
   may_do_unopposed tx item may None is = tt
   may_do_unopposed tx item may (Some p) is = λ q differ other is_open others last.
-      let by = stands_by_item item.0 may.in_range.cell other q last in
+      let by = stands_by_item (cell_of item.0) may.in_range.cell other q last in
       both_ways _ (may.free other by.0 others by.1) (opposites_clash by.0 item q p by.2 by.3 is differ)
 
-  counter_says_nothing : (item : ObjOp × ObjReply) (op : ObjOp) (p : Presence) → IsOnCounter op → cell_of item.0 ≡ cell_of op → presence_of item ≡ Some p → ⊥
-  counter_says_nothing (Counter c other, reply) op p on same is = cc
-  counter_says_nothing (Account a other, reply) (Counter d op) p on same is = cc
-  counter_says_nothing (Element s e other, reply) (Counter d op) p on same is = cc
-  counter_says_nothing (Account a other, reply) (Account b op) p on same is = on
-  counter_says_nothing (Account a other, reply) (Element t f op) p on same is = on
-  counter_says_nothing (Element s e other, reply) (Account b op) p on same is = on
-  counter_says_nothing (Element s e other, reply) (Element t f op) p on same is = on
+  counter_says_nothing : (item : ObjOp × ObjReply) (cell : Cell) (p : Presence) → IsCounterCell cell → cell_of item.0 ≡ cell → presence_of item ≡ Some p → ⊥
+  counter_says_nothing (op.Counter c other, reply) (cell.Counter d) p on same is = cc
+  counter_says_nothing (op.Account a other, reply) (cell.Counter d) p on same is = cc
+  counter_says_nothing (op.Element s e other, reply) (cell.Counter d) p on same is = cc
+  counter_says_nothing item (cell.Account a) p on same is = on
+  counter_says_nothing item (cell.Element s e) p on same is = on
 
   -- of a counter's key nothing stands
-  pub nothing_on_counters : (op : ObjOp) → IsOnCounter op → IsInRange (cell_of op) → (owner : ℕ) (p : Presence) → last_by (ledger_of world) owner (op_key op) ≡ Some p → ⊥
-  nothing_on_counters op on is owner p last = let by = stands_by_item op is owner p last in counter_says_nothing by.0 op p on by.2 by.3
+  pub nothing_on_counters : (cell : Cell) → IsCounterCell cell → IsInRange cell → (owner : ℕ) (p : Presence) → last_by (ledger_of world) owner (key_number cell) ≡ Some p → ⊥
+  nothing_on_counters cell on is owner p last = let by = stands_by_item cell is owner p last in counter_says_nothing by.0 cell p on by.2 by.3

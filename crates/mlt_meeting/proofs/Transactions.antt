@@ -16,7 +16,7 @@ use Rattle.mlt_ghosts.proofs.Transactions.{begin_law, close_law}
 use Rattle.mlt_meeting.specs.Presences.{presences_on, standing_of}
 use Rattle.mlt_meeting.specs.Events.{IsOpenAt, with_begun, with_closed, with_committed}
 use Rattle.mlt_meeting.specs.Worlds.{PagesMeanHistory, World, ledger_of, lists_in}
-use Rattle.mlt_meeting.proofs.Matches.{FitsLists, both, grown, lists_kept, means_base, runs}
+use Rattle.mlt_meeting.proofs.Matches.{FitsLists, both, grown, lists_kept, runs}
 use Rattle.mlt_meeting.proofs.OpenNumbers.{inserted_beside, inserted_here, removed_beside, removed_here}
 
 -- of who is not open nobody asks whether it is undone
@@ -47,10 +47,10 @@ module _ (world : World) (undoing : ℕ → Bool) (h : PagesMeanHistory world) (
   lists = lists_in world
 
   new_is_fresh : lists.stage (world.begun + 1) ≡ Fresh
-  new_is_fresh = h.fresh (world.begun + 1) (omega arith)
+  new_is_fresh = h.records.fresh (world.begun + 1) (omega arith)
 
   open_is_old : (t : ℕ) → set.contains world.opens t ≡ true → t ≡ world.begun + 1 → ⊥
-  open_is_old t is_open e = let low = h.ghosts.opened t is_open in absurd (omega (arith, low, e))
+  open_is_old t is_open e = let low = h.file.ghosts.opened t is_open in absurd (omega (arith, low, e))
 
   nothing_stands : (key : ℕ) → standing_of lists.transcripts (world.begun + 1) key ≡ []
   nothing_stands key = ap (presences_on key) ((lists_kept world h).only (world.begun + 1) (fresh_is_not_running _ new_is_fresh)).0
@@ -62,41 +62,40 @@ module _ (world : World) (undoing : ℕ → Bool) (h : PagesMeanHistory world) (
         | inl e ↦ (λ o. ap (with_entry lists.stage (world.begun + 1) Running) e ∙ stage.0, λ r. ap (set.contains (set.insert world.opens (world.begun + 1))) e ∙ inserted_here world.opens (world.begun + 1))
         | inr n ↦
             let there = inserted_beside world.opens (world.begun + 1) i n in
-            (λ o. stage.1 i n ∙ (h.running i).0 (sym there ∙ o), λ r. there ∙ (h.running i).1 (sym (stage.1 i n) ∙ r))
+            (λ o. stage.1 i n ∙ (h.records.running i).0 (sym there ∙ o), λ r. there ∙ (h.records.running i).1 (sym (stage.1 i n) ∙ r))
       ]
 
   begun_fits : FitsLists (with_begun world undoing) (after_entry lists (Begun (world.begun + 1)))
   begun_fits = record {
     running = begun_runs;
-    fresh = λ i above. (changed lists.stage (world.begun + 1) Running).1 i (λ e. absurd (omega (arith, above, e))) ∙ h.fresh i (omega (arith, above));
-    ghosts = begin_law (record (ledger_of world) { undoing = undoing }) (standing_of lists.transcripts)
-        (undoing_changed (ledger_of world) undoing h.ghosts (λ t is_open f. sym (same t (open_is_old t is_open)) ∙ f))
-        nothing_stands (λ owner key differs. refl);
-    in_range = h.in_range;
-    counted = h.counted;
+    fresh = λ i above. (changed lists.stage (world.begun + 1) Running).1 i (λ e. absurd (omega (arith, above, e))) ∙ h.records.fresh i (omega (arith, above));
+    file = let ghosts =
+        begin_law (record (ledger_of world) { undoing = undoing }) (standing_of lists.transcripts)
+        (undoing_changed (ledger_of world) undoing h.file.ghosts (λ t is_open f. sym (same t (open_is_old t is_open)) ∙ f))
+        nothing_stands (λ owner key differs. refl) in
+        record { bounded = h.file.bounded; small = h.file.small; form = h.file.form; shallow = h.file.shallow; ghosts = ghosts };
+    in_range = h.records.in_range;
+    counted = h.records.counted;
   }
 
   pub begin_keeps : PagesMeanHistory (with_begun world undoing)
   begin_keeps =
-      let m = means_base world h in
-      grown (with_begun world undoing) world.history (Begun (world.begun + 1)) world.base refl
-      (record { bounded = m.bounded; small = m.small; form = m.form; shallow = m.shallow; means = m.means })
-      h.history (new_is_fresh, refl) begun_fits
+      grown (with_begun world undoing) world.history (Begun (world.begun + 1)) world.base refl h.records.means h.records.history (new_is_fresh, refl) begun_fits
 
 -- ---- the beginning of an abort
 
 pub abort_keeps : (world : World) (undoing : ℕ → Bool) → PagesMeanHistory world → ((tx : ℕ) → undoing tx ≡ false → world.undoing tx ≡ false)
     → PagesMeanHistory (record world { undoing = undoing })
 abort_keeps world undoing h fewer =
-    both (record world { undoing = undoing })
-    (record { bounded = h.bounded; small = h.small; form = h.form; shallow = h.shallow; means = h.means })
-    h.history
+    both (record world { undoing = undoing }) h.records.means h.records.history
     (record {
-      running = h.running;
-      fresh = h.fresh;
-      ghosts = undoing_changed (ledger_of world) undoing h.ghosts (λ t is_open f. fewer t f);
-      in_range = h.in_range;
-      counted = h.counted;
+      running = h.records.running;
+      fresh = h.records.fresh;
+      file = let ghosts =
+          undoing_changed (ledger_of world) undoing h.file.ghosts (λ t is_open f. fewer t f) in
+          record { bounded = h.file.bounded; small = h.file.small; form = h.file.form; shallow = h.file.shallow; ghosts = ghosts };
+      in_range = h.records.in_range;
+      counted = h.records.counted;
     })
 
 -- ---- an end
@@ -118,7 +117,7 @@ module _ (world : World) (tx : ℕ) (undoing : ℕ → Bool) (h : PagesMeanHisto
         )
         | inr n ↦
             let there = removed_beside world.opens tx i n in
-            (λ o. stage.1 i n ∙ (h.running i).0 (sym there ∙ o), λ r. there ∙ (h.running i).1 (sym (stage.1 i n) ∙ r))
+            (λ o. stage.1 i n ∙ (h.records.running i).0 (sym there ∙ o), λ r. there ∙ (h.records.running i).1 (sym (stage.1 i n) ∙ r))
       ]
 
   -- of other transactions what is listed stays
@@ -135,27 +134,27 @@ module _ (world : World) (tx : ℕ) (undoing : ℕ → Bool) (h : PagesMeanHisto
   ended_fits = record {
     running = others_run;
     fresh = λ i above.
-        let low = h.ghosts.opened tx is_open in
-        (changed old.stage tx Ended).1 i (λ e. absurd (omega (arith, above, low, e))) ∙ h.fresh i above;
-    ghosts = undoing_changed (record (ledger_of world) { opens = set.remove world.opens tx; standing = standing_of (ended old tx).transcripts }) undoing
-        (close_law (ledger_of world) (standing_of (ended old tx).transcripts) tx h.ghosts (λ t key differs. ap (presences_on key) ((changed old.transcripts tx []).1 t differs))).0
-        (λ t still_open f. sym (same t (λ e. both_ways _ (removed_here world.opens tx) (ap (set.contains (set.remove world.opens tx)) (sym e) ∙ still_open))) ∙ f);
-    in_range = λ i item there. h.in_range i item (still old.held i item there);
-    counted = λ i item there. h.counted i item (still old.transcripts i item there);
+        let low = h.file.ghosts.opened tx is_open in
+        (changed old.stage tx Ended).1 i (λ e. absurd (omega (arith, above, low, e))) ∙ h.records.fresh i above;
+    file = let ghosts =
+        undoing_changed (record (ledger_of world) { opens = set.remove world.opens tx; standing = standing_of (ended old tx).transcripts }) undoing
+        (close_law (ledger_of world) (standing_of (ended old tx).transcripts) tx h.file.ghosts (λ t key differs. ap (presences_on key) ((changed old.transcripts tx []).1 t differs))).0
+        (λ t still_open f. sym (same t (λ e. both_ways _ (removed_here world.opens tx) (ap (set.contains (set.remove world.opens tx)) (sym e) ∙ still_open))) ∙ f) in
+        record { bounded = h.file.bounded; small = h.file.small; form = h.file.form; shallow = h.file.shallow; ghosts = ghosts };
+    in_range = λ i item there. h.records.in_range i item (still old.held i item there);
+    counted = λ i item there. h.records.counted i item (still old.transcripts i item there);
   }
 
   pub commit_keeps : PagesMeanHistory (with_committed world tx undoing)
   commit_keeps =
       let fits = ended_fits in
       grown (with_committed world tx undoing) world.history (Committed tx) world.base refl
-      (record { bounded = h.bounded; small = h.small; form = h.form; shallow = h.shallow; means = h.means })
-      h.history (runs world h tx is_open, refl)
-      (record { running = fits.running; fresh = fits.fresh; ghosts = fits.ghosts; in_range = fits.in_range; counted = fits.counted })
+      h.records.means h.records.history (runs world h tx is_open, refl)
+      (record { running = fits.running; fresh = fits.fresh; file = fits.file; in_range = fits.in_range; counted = fits.counted })
 
   pub close_keeps : old.transcripts tx ≡ [] → PagesMeanHistory (with_closed world tx undoing)
   close_keeps none =
       let fits = ended_fits in
       grown (with_closed world tx undoing) world.history (Closed tx) world.base refl
-      (record { bounded = h.bounded; small = h.small; form = h.form; shallow = h.shallow; means = h.means })
-      h.history (runs world h tx is_open, none, refl)
-      (record { running = fits.running; fresh = fits.fresh; ghosts = fits.ghosts; in_range = fits.in_range; counted = fits.counted })
+      h.records.means h.records.history (runs world h tx is_open, none, refl)
+      (record { running = fits.running; fresh = fits.fresh; file = fits.file; in_range = fits.in_range; counted = fits.counted })

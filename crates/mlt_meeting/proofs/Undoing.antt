@@ -28,13 +28,13 @@ use Rattle.mlt_hash_form.specs.Records.{live_records}
 use Rattle.mlt_meeting.specs.Ends.{ChangesPages}
 use Rattle.mlt_meeting.specs.Presences.{op_key, presence_of, standing_of}
 use Rattle.mlt_meeting.specs.Events.{MayUndo, with_undone}
-use Rattle.mlt_meeting.specs.Worlds.{PagesMeanHistory, World, lists_in, record_of}
+use Rattle.mlt_meeting.specs.Worlds.{PagesMeanHistory, World, lists_in, record_of, stood_in}
 use Rattle.mlt_meeting.proofs.Inverses.{GoesBack, inverse_back, inverse_keeps_counters}
 use Rattle.mlt_meeting.proofs.Matches.{FitsLists, grown, lists_kept}
+use Rattle.mlt_meeting.proofs.RecordChanges.{records_become}
 use Rattle.mlt_meeting.proofs.RecordsAfter.{counted_after}
 use Rattle.mlt_meeting.proofs.Standings.{gain_says}
-use Rattle.mlt_meeting.proofs.UndoneGhosts.{undone_keeps_ghosts}
-use Rattle.mlt_meeting.proofs.WalkEnds.{BecomesFile, pages_become}
+use Rattle.mlt_meeting.proofs.UndoneGhosts.{undone_keeps_file}
 
 module _ (world : World) (tx : ℕ) (item : ObjOp × ObjReply) (h : PagesMeanHistory world) (may : MayUndo world tx item) where
   abbrev live : Option ℕ
@@ -48,29 +48,29 @@ module _ (world : World) (tx : ℕ) (item : ObjOp × ObjReply) (h : PagesMeanHis
   is_listed = subst (λ (l : List (ObjOp × ObjReply)). Contains l item) (sym may.last) (Contains-append_right may.rest (item ∷ []) item (contains-first item []))
 
   range : IsInRange (cell_of item.0)
-  range = h.in_range tx item ((lists_kept world h).covers tx item is_listed)
+  range = h.records.in_range tx item ((lists_kept world h).covers tx item is_listed)
 
   -- a step of its cell led here, which its inverse takes back
   earlier : (before : CellState) × CellStep before item (state_of_record (cell_of item.0) live)
   earlier =
-      let goes = last_goes Step empty_base base_functional base_injective world.history world.base tx may.rest item h.history may.last in
-      (state_at goes.0 (cell_of item.0), subst (CellStep (state_at goes.0 (cell_of item.0)) item) (h.means.holds (cell_of item.0) range) goes.1.0)
+      let goes = last_goes Step empty_base base_functional base_injective world.history world.base tx may.rest item h.records.history may.last in
+      (state_at goes.0 (cell_of item.0), subst (CellStep (state_at goes.0 (cell_of item.0)) item) (h.records.means.holds (cell_of item.0) range) goes.1.0)
 
   back : GoesBack (state_of_record (cell_of item.0)) (IsRecord (cell_of item.0)) earlier.0 (inverse_of item) live
-  back = inverse_back item earlier.0 live (h.means.can_be (cell_of item.0) range) (h.counted tx item is_listed) earlier.1
+  back = inverse_back item earlier.0 live (h.records.means.can_be (cell_of item.0) range) (h.records.counted tx item is_listed) earlier.1
 
   pub inverse_can : CanChange (inverse_of item) live
   inverse_can = back.2
 
   module _ (pages : map.FinMap nat_cmp Page) (changes : ChangesPages world tx (changes_on item.0 (inverse_of item)) pages) where
-    file : BecomesFile world pages (with_live (live_records world.pages) (op_key item.0) (record_after (inverse_of item) live))
-    file = pages_become world tx item.0 (inverse_of item) pages h changes
+    records_are : live_records pages ≡ with_live (live_records world.pages) (op_key item.0) (record_after (inverse_of item) live)
+    records_are = records_become world (stood_in world) h.file tx pages item.0 (inverse_of item) changes
 
     step_back : (before : Base) × Step before item world.base × Means (live_records pages) before
     step_back =
         let cell = subst (λ (s : CellState). CellStep s item (state_of_record (cell_of item.0) live)) (sym back.0) earlier.1 in
-        let step = means_step_back (live_records world.pages) world.base item (record_after (inverse_of item) live) h.means range back.1 cell in
-        (step.0, step.1, subst (λ (records : map.FinMap nat_cmp ℕ). Means records step.0) (sym file.records_are) step.2)
+        let step = means_step_back (live_records world.pages) world.base item (record_after (inverse_of item) live) h.records.means range back.1 cell in
+        (step.0, step.1, subst (λ (records : map.FinMap nat_cmp ℕ). Means records step.0) (sym records_are) step.2)
 
     abbrev left : Lists (ObjOp × ObjReply)
     left = after_entry lists (TookBack tx)
@@ -94,14 +94,14 @@ module _ (world : World) (tx : ℕ) (item : ObjOp × ObjReply) (h : PagesMeanHis
 
     undone_fits : (base : Base) → FitsLists (with_undone world tx pages base) left
     undone_fits base = record {
-      running = h.running;
-      fresh = h.fresh;
-      ghosts = undone_keeps_ghosts world tx item.0 pages (standing_of left.transcripts) h may.is_open may.backward item.1 changes
+      running = h.records.running;
+      fresh = h.records.fresh;
+      file = undone_keeps_file world tx item.0 pages (standing_of left.transcripts) h may.is_open may.backward item.1 changes
           (gain_says left.transcripts lists.transcripts tx item gains (presence_of item) refl);
-      in_range = h.in_range;
+      in_range = h.records.in_range;
       counted = λ i x there.
           let was = was_listed i x there in
-          counted_after world pages item.0 (record_after (inverse_of item) live) file.records_are x (h.in_range i x ((lists_kept world h).covers i x was)) range (h.counted i x was)
+          counted_after world pages (cell_of item.0) (record_after (inverse_of item) live) records_are x (h.records.in_range i x ((lists_kept world h).covers i x was)) range (h.records.counted i x was)
           (λ same has. inverse_keeps_counters x item live same has);
     }
 
@@ -111,6 +111,5 @@ module _ (world : World) (tx : ℕ) (item : ObjOp × ObjReply) (h : PagesMeanHis
           step.0,
           step.1,
           grown (with_undone world tx pages step.0) world.history (TookBack tx) world.base refl
-              (record { bounded = h.bounded; small = h.small; form = file.form; shallow = file.shallow; means = step.2 })
-              h.history (may.rest, item, may.last, step.1) (undone_fits step.0),
+              step.2 h.records.history (may.rest, item, may.last, step.1) (undone_fits step.0),
         )

@@ -4,6 +4,8 @@ use Rattle.std.specs.Prelude.{position, slice_index_or}
 use Rattle.std.specs.FinMap as map
 use Rattle.std.specs.FinSet as set
 use Rattle.std.proofs.lemmas.Bool.{false≢true}
+use Rattle.mlt_types.specs.Cells.{key_number}
+use Rattle.mlt_types.specs.declared.cell.Cell.{Cell}
 use Rattle.mlt_page.specs.Slots.{is_ghost_of, is_kept}
 use Rattle.mlt_page.specs.Values.{BucketFields}
 use Rattle.mlt_page.specs.declared.page.Page.{Page}
@@ -11,6 +13,7 @@ use Rattle.mlt_page.specs.declared.slot.Slot.{Slot}
 use Rattle.mlt_page.specs.declared.slot.Slot.TheVariants.{Free, Live, Ghost}
 use Rattle.mlt_kinds.specs.declared.operation.ObjOp.{ObjOp}
 use Rattle.mlt_kinds.specs.declared.operation.ObjReply.{ObjReply}
+use Rattle.mlt_kinds.specs.Operations.{cell_of}
 use Rattle.mlt_base.specs.declared.record.RecChange.{RecChange}
 use Rattle.mlt_base.specs.declared.record.RecChange.TheVariants as rec
 use Rattle.mlt_base.specs.Effects.{inverse_of}
@@ -35,7 +38,7 @@ use Rattle.mlt_ghosts.specs.Operations.{Presence, Removed, last_of}
 use Rattle.mlt_ghosts.proofs.GhostLookup.{undone_found}
 use Rattle.mlt_meeting.specs.Presences.{op_key, presence_of, presences_on}
 use Rattle.mlt_meeting.specs.Events.{MayUndo}
-use Rattle.mlt_meeting.specs.Worlds.{PagesMeanHistory, World, basis_of, ledger_of, record_of}
+use Rattle.mlt_meeting.specs.Worlds.{PagesMeanHistory, World, basis_of, ledger_of, record_at}
 use Rattle.mlt_meeting.proofs.Inverses.{by_inverse}
 use Rattle.mlt_meeting.proofs.OpenNumbers.{inserted_beside, removed_was}
 use Rattle.mlt_meeting.proofs.Transcripts.{last_is}
@@ -43,14 +46,14 @@ use Rattle.mlt_meeting.proofs.Undoing.{inverse_can}
 
 -- ---- what is found
 
-pub record_looked_up : (world : World) (op : ObjOp) → PagesMeanHistory world → record_of world op ≡ look_up world.bits (map.get world.pages) world.root (op_key op)
-record_looked_up world op h = map_is_look_up world.bits world.pages world.root h.bounded h.form (op_key op)
+pub record_looked_up : (world : World) (cell : Cell) → PagesMeanHistory world → record_at world cell ≡ look_up world.bits (map.get world.pages) world.root (key_number cell)
+record_looked_up world cell h = map_is_look_up world.bits world.pages world.root h.file.bounded h.file.form (key_number cell)
 
-pub found_is_record : (world : World) (tx : ℕ) (op : ObjOp) (walk : WalkFields) (view : View) (found : Option ℕ) → PagesMeanHistory world → HasPassed (basis_of world tx) walk view found → walk.key ≡ op_key op → Agrees view.seen (map.get world.pages)
-    → found ≡ record_of world op
-found_is_record world tx op walk view found h passed key_is agree =
+pub found_is_record : (world : World) (tx : ℕ) (cell : Cell) (walk : WalkFields) (view : View) (found : Option ℕ) → PagesMeanHistory world → HasPassed (basis_of world tx) walk view found → walk.key ≡ key_number cell → Agrees view.seen (map.get world.pages)
+    → found ≡ record_at world cell
+found_is_record world tx cell walk view found h passed key_is agree =
     found_still (basis_of world tx) walk view found (map.get world.pages) passed agree
-    ∙ ap (look_up world.bits (map.get world.pages) world.root) key_is ∙ sym (record_looked_up world op h)
+    ∙ ap (look_up world.bits (map.get world.pages) world.root) key_is ∙ sym (record_looked_up world cell h)
 
 -- ---- what is taken back
 
@@ -73,7 +76,7 @@ module _ (world : World) (tx : ℕ) (item : ObjOp × ObjReply) (walk : WalkField
 
   undo_can : CanChange (inverse_of item) found
   undo_can =
-      let is = found_is_record world tx item.0 walk view found h (passed_at_bucket (basis_of world tx) walk view bucket depth found here) key_is agree in
+      let is = found_is_record world tx (cell_of item.0) walk view found h (passed_at_bucket (basis_of world tx) walk view bucket depth found here) key_is agree in
       subst (CanChange (inverse_of item)) (sym is) (inverse_can world tx item h may)
 
   own_ghost : inverse_of item ≡ Some rec.Revive → HasOwnGhost tx walk view
@@ -83,7 +86,7 @@ module _ (world : World) (tx : ℕ) (item : ObjOp × ObjReply) (walk : WalkField
       ap (λ (t : List (ObjOp × ObjReply)). last_of (presences_on (op_key item.0) t)) may.last ∙ last_is may.rest item Removed (revives_removal item revives)
       in
       let last : last_by (ledger_of world) tx walk.key ≡ Some Removed = ap (last_by (ledger_of world) tx) key_is ∙ stood in
-      let ghost = ((undone_found (ledger_of world) tx walk.key h.ghosts h.form may.is_open).1 last).0 in
+      let ghost = ((undone_found (ledger_of world) tx walk.key h.file.ghosts h.file.form may.is_open).1 last).0 in
       let led = led_at pages world.root (world.bits walk.key) here.header here.dir bucket here.fields (path_taken (basis_of world tx) walk view bucket depth found pages here agree) in
       let slots : (buckets_of pages (lead_of pages world.root (world.bits walk.key))).slots ≡ here.fields.slots =
       ap (λ (n : ℕ). (buckets_of pages n).slots) led.0 ∙ ap (λ (b : BucketFields). b.slots) led.1
@@ -101,7 +104,7 @@ module _ (world : World) (tx : ℕ) (walk : WalkFields) (view : View) (h : Pages
   kept_without_new n i Free is kept = absurd (false≢true kept)
   kept_without_new n i (Live key value) is kept = refl
   kept_without_new n i (Ghost key value owner) is kept =
-      let low = h.ghosts.left owner key n i (value, is) in
+      let low = h.file.ghosts.left owner key n i (value, is) in
       sym (inserted_beside world.opens (world.begun + 1) owner (λ e. absurd (omega (arith, low, e)))) ∙ kept
 
   kept_by_fewer : (slot : Slot) (x : ℕ) → is_kept (set.remove world.opens x) slot ≡ true → is_kept world.opens slot ≡ true
@@ -114,8 +117,8 @@ module _ (world : World) (tx : ℕ) (walk : WalkFields) (view : View) (h : Pages
       kept_without_new n i (slice_index_or (bucket_of p).slots i Free) (ap (λ (q : Option Page). slice_index_or (bucket_of q).slots i Free) (agree n p sees)) kept
 
   pub stands_by_begin : IsStanding (record (basis_of world tx) { opens = set.insert world.opens (world.begun + 1) }) walk view
-  stands_by_begin = stands_still (basis_of world tx) (set.insert world.opens (world.begun + 1)) walk view (map.get world.pages) no_more_by_begin agree h.form stands
+  stands_by_begin = stands_still (basis_of world tx) (set.insert world.opens (world.begun + 1)) walk view (map.get world.pages) no_more_by_begin agree h.file.form stands
 
   pub stands_by_end : (other : ℕ) → IsStanding (record (basis_of world tx) { opens = set.remove world.opens other }) walk view
   stands_by_end other =
-      stands_still (basis_of world tx) (set.remove world.opens other) walk view (map.get world.pages) (λ n p sees i kept. kept_by_fewer (slice_index_or (bucket_of p).slots i Free) other kept) agree h.form stands
+      stands_still (basis_of world tx) (set.remove world.opens other) walk view (map.get world.pages) (λ n p sees i kept. kept_by_fewer (slice_index_or (bucket_of p).slots i Free) other kept) agree h.file.form stands

@@ -19,6 +19,7 @@ use Rattle.mlt_hash_form.specs.Records.{live_records}
 use Rattle.mlt_hash.specs.Walks.{Basis}
 use Rattle.mlt_ghosts.specs.Ghosts.{PagesMatchOperations}
 use Rattle.mlt_ghosts.specs.Ledgers.{Ledger}
+use Rattle.mlt_ghosts.specs.Operations.{Standing}
 use Rattle.mlt_meeting.specs.Presences.{standing_of}
 
 pub record World : Type 0 where
@@ -41,17 +42,24 @@ pub record World : Type 0 where
 abbrev pub lists_in : World → Lists (ObjOp × ObjReply)
 lists_in world = lists_of world.history
 
--- what the laws of ghosts are about
-abbrev pub ledger_of : World → Ledger
-ledger_of world = record {
+-- what stands of the operations of its transactions on the presence of keys
+abbrev pub stood_in : World → Standing
+stood_in world = standing_of (lists_in world).transcripts
+
+-- what the laws of ghosts are about, where this stands
+abbrev pub ledger_with : World → Standing → Ledger
+ledger_with world standing = record {
   bits = world.bits;
   root = world.root;
   pages = map.get world.pages;
   begun = world.begun;
   opens = world.opens;
   undoing = world.undoing;
-  standing = standing_of (lists_in world).transcripts;
+  standing = standing;
 }
+
+abbrev pub ledger_of : World → Ledger
+ledger_of world = ledger_with world (stood_in world)
 
 -- what a walk of transaction tx goes by
 abbrev pub basis_of : World → ℕ → Basis
@@ -71,24 +79,30 @@ record_at world cell = map.get (live_records world.pages) (key_number cell)
 abbrev pub record_of : World → ObjOp → Option ℕ
 record_of world op = record_at world (cell_of op)
 
--- The clean pages are a hash file that means the base to which the history leads, and they have what its open
--- transactions may take back.
-pub record PagesMeanHistory (world : World) : Type 0 where
-  -- the pages are a hash file, and its directory is no deeper than it may get
-  pub bounded : GivesPseudokeys world.bits
-  pub small : world.max_depth ≤ 16
-  pub form : HasForm world.bits (map.get world.pages) world.root
-  pub shallow : depth_of (map.get world.pages) world.root ≤ world.max_depth
-  -- its records mean the base
+-- The clean pages are a hash file, its directory is no deeper than it may get, and ghosts are where removals that
+-- stand ask for them. It says nothing of what the records mean: each change of a record keeps it.
+pub record IsFileWithGhosts (ledger : Ledger) (max_depth : ℕ) : Type 0 where
+  pub bounded : GivesPseudokeys ledger.bits
+  pub small : max_depth ≤ 16
+  pub form : HasForm ledger.bits ledger.pages ledger.root
+  pub shallow : depth_of ledger.pages ledger.root ≤ max_depth
+  pub ghosts : PagesMatchOperations ledger
+
+-- The records mean the base to which the history leads, and have what its open transactions may take back. Between
+-- two changes of one operation they need not.
+pub record RecordsMeanHistory (world : World) : Type 0 where
   pub means : Means (live_records world.pages) world.base
   -- the history leads to the base from the empty one
   pub history : IsHistory Step empty_base world.history world.base
   -- the open transactions are those that run, and what was not given out has not begun
   pub running : (i : ℕ) → (set.contains world.opens i ≡ true) ↔ ((lists_in world).stage i ≡ Running)
   pub fresh : (i : ℕ) → world.begun < i → (lists_in world).stage i ≡ Fresh
-  -- ghosts are where removals that stand ask for them
-  pub ghosts : PagesMatchOperations (ledger_of world)
   -- all that is held is on cells that there can be, and counters that are to be counted back have their records
   pub in_range : (i : ℕ) (item : ObjOp × ObjReply) → Contains ((lists_in world).held i) item → IsInRange (cell_of item.0)
   pub counted : (i : ℕ) (item : ObjOp × ObjReply) → Contains ((lists_in world).transcripts i) item
       → HasWhatIsUndone item (record_of world item.0)
+
+-- The clean pages are a hash file with its ghosts, whose records mean the base to which the history leads.
+pub record PagesMeanHistory (world : World) : Type 0 where
+  pub file : IsFileWithGhosts (ledger_of world) world.max_depth
+  pub records : RecordsMeanHistory world

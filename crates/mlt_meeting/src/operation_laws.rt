@@ -13,8 +13,8 @@ ghost use Rattle.mlt_meeting.specs.Events.{MayDo, MayUndo, with_done, with_undon
 ghost use Rattle.mlt_meeting.specs.Worlds.{PagesMeanHistory, World, record_of};
 
 /// Where an operation ends, the base makes its step, with the reply that the record of its cell asks for, and the
-/// match is kept. It asks that the walk has made the change that goes with that reply, and that nobody else holds
-/// an operation that clashes with it.
+/// match is kept. It asks that the pages are those that the change leaves which goes with that reply, and that nobody
+/// else holds an operation that clashes with it.
 pub fn operation_keeps_the_match()
     ensures { (world : World) (tx : ℕ) (op : ObjOp) (pages : map.FinMap nat_cmp Page)
         → let done = reply_of op (record_of world op) in
@@ -25,7 +25,8 @@ pub fn operation_keeps_the_match()
 {}
 
 /// Where the inverse of the last item of a transaction ends, the base is one from which the item leads to what it
-/// was, and the match is kept. It asks that the transaction is being undone, and that the walk has made the inverse.
+/// was, and the match is kept. It asks that the transaction is being undone, and that the pages are those that the
+/// inverse leaves.
 pub fn undoing_keeps_the_match()
     ensures { (world : World) (tx : ℕ) (item : ObjOp × ObjReply) (pages : map.FinMap nat_cmp Page)
         → PagesMeanHistory world → MayUndo world tx item

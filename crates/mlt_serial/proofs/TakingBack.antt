@@ -18,7 +18,7 @@ use Rattle.mlt_kinds.specs.Elements as elements
 use Rattle.mlt_kinds.specs.Counters as counters
 use Rattle.mlt_kinds.specs.Cells.{CellState, CellStep}
 use Rattle.mlt_kinds.specs.Cells.CellState.{AccountState, ElementState, CounterState}
-use Rattle.mlt_kinds.specs.Operations.{cell_of, cells_of}
+use Rattle.mlt_kinds.specs.Operations.{cell_of}
 use Rattle.mlt_kinds.proofs.BaseLaws.{base_one_answer, same_base, one_cell_or_two}
 use Rattle.mlt_kinds.specs.Bases.{Base, Step, Runs, Transcript, state_at, SameBut}
 use Rattle.mlt_serial.specs.TakingBack.{opposite_of}
@@ -58,7 +58,7 @@ leads_back x m c next o r h is k =
     let d = cell_of x.0 in
     let back : LeadsBack d (Some o) (state_at m d) (state_at c d) = subst (λ z. LeadsBack d z (state_at m d) (state_at c d)) is (cell_back x (state_at m d) (state_at c d) h.0) in
     let here : CellStep (state_at c (cell_of o)) (o, back.1) (state_at m (cell_of o)) = subst (λ (z : Cell). CellStep (state_at c z) (o, back.1) (state_at m z)) (sym back.0) back.2 in
-    let beside : SameBut c m (cells_of o) = λ other n. sym (h.1 other (λ e. n (e ∙ sym back.0))) in
+    let beside : SameBut c m (cell_of o) = λ other n. sym (h.1 other (λ e. n (e ∙ sym back.0))) in
     (base_one_answer c next m o r back.1 k (here, beside)).1
 
 -- and where there is none, the base is the one before

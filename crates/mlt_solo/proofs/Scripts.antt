@@ -204,7 +204,7 @@ module _ {P : Type 0} (bits_of : P → ℕ → ℕ) where
 
     begun_base : (base : Base) → HasBase old base → HasBase m base
     begun_base base leads =
-        let fresh : (lists_by old).stage tx ≡ Fresh = rest.manager.sound.match.fresh tx (omega (arith, begun.number)) in
+        let fresh : (lists_by old).stage tx ≡ Fresh = rest.manager.sound.match.records.fresh tx (omega (arith, begun.number)) in
         let grown = follow_push Step (entries_of old.commons.history.items) no_lists empty_base base base (Begun tx) leads (fresh, refl) in
         let same : entries_of m.commons.history.items ≡ entries_of old.commons.history.items ++ Begun tx ∷ [] = ap entries_of begun.items ∙ entries_of-append old.commons.history.items (trace.Begin tx ∷ []) in
         subst (λ (es : List (Entry (ObjOp × ObjReply))). IsHistory Step empty_base es base) (sym same) grown

@@ -27,7 +27,7 @@ begin_place s sound other h =
 
 module _ (s : State) (i : ℕ) (t : Transaction) (sound : IsSound s) (was : map.get s.txs i ≡ Some t) where
   pub runs_now : IsRunning s.commons.history.items i
-  runs_now = (sound.match.running i).0 (sound.opened i ∙ ap is_some was)
+  runs_now = (sound.match.records.running i).0 (sound.opened i ∙ ap is_some was)
 
   pub done_place : (done : ObjOp × ObjReply) → IsWhole s.commons.history.items i → HasPlace s.commons.history.items (trace.Op i done)
   done_place done whole = (runs_now, whole)

@@ -104,11 +104,11 @@ AcceptedWithOpen s = (base : Base) × IsAcceptedTrace (trace_text s.commons.hist
 pub text_accepted : (s : State) → IsSound s → IsTraced s → AllFit s.commons.history.items → AcceptedWithOpen s
 text_accepted s sound traced fit =
     let items = s.commons.history.items in
-    accepted_history items s.base (writable items traced.placed sound.begun fit) traced.placed sound.match.history
+    accepted_history items s.base (writable items traced.placed sound.begun fit) traced.placed sound.match.records.history
 
 pub nobody_runs : (s : State) → IsSound s → ((i : ℕ) → map.get s.txs i ≡ None) → (i : ℕ) → (told s.commons.history.items).stage i ≢ Running
 nobody_runs s sound none i running =
-    let opened = (sound.match.running i).1 running in
+    let opened = (sound.match.records.running i).1 running in
     let f : true ≡ false = sym opened ∙ sound.opened i ∙ ap is_some (none i) in
     cc f
 
@@ -116,5 +116,5 @@ pub text_accepted_where_nobody_is_open : (s : State) → IsSound s → IsTraced 
     → IsAcceptedTrace (trace_text s.commons.history.items) (committed_txs s.commons.history.items) s.base
 text_accepted_where_nobody_is_open s sound traced fit none =
     let items = s.commons.history.items in
-    accepted_where_nothing_is_open items s.base (writable items traced.placed sound.begun fit) traced.placed sound.match.history
-    (λ tx. nothing_of_others items s.base sound.match.history tx (nobody_runs s sound none tx))
+    accepted_where_nothing_is_open items s.base (writable items traced.placed sound.begun fit) traced.placed sound.match.records.history
+    (λ tx. nothing_of_others items s.base sound.match.records.history tx (nobody_runs s sound none tx))
