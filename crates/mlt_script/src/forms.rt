@@ -59,10 +59,7 @@ fn asking_is(text: &[u8]) -> Option<((Asking, Wanted), &[u8])>
 fn finished(form: LineForm, rest: &[u8]) -> Option<LineForm>
     ensures { result ≡ finish form (words_of rest.now) }
 {
-    match next_word(rest) {
-        None => Some(form),
-        Some(_) => None,
-    }
+    if has_word(rest) { None } else { Some(form) }
 }
 
 /// What stands after `begin`.

@@ -12,7 +12,7 @@ ghost use Rattle.mlt_tree.specs.Scripts.{ScriptForm, open_of};
 use crate::forms::LineForm;
 use crate::line::{Reading, read_line};
 use crate::open_script::OpenScript;
-use mlt_tree::{Ending, Script};
+use mlt_tree::{Ending, Line, Script, Statement};
 use mlt_types::{Refusal, ScriptCause};
 use mlt_words::first_line;
 use std::alloc::Global;
@@ -100,11 +100,31 @@ impl Parser {
         }
     }
 
+    /// Goes over a statement, in place.
+    fn ask(&mut self, line: u64, statement: Statement) -> Result<(), Refusal>
+        ensures { Advances result line
+            (step (state_of self.old) (LineForm.Says (Line.Plain statement))) (state_of self.new) }
+    {
+        match &mut self.begun {
+            None => Err(misplaced(line)),
+            Some(script) => match script.long_fault() {
+                Some(cause) => Err(Refusal::ScriptFault { line, cause }),
+                None => {
+                    script.ask(statement)?;
+                    Ok(())
+                }
+            },
+        }
+    }
+
     /// Goes over a line of a form.
     fn step(&mut self, alloc: Global, line: u64, form: LineForm) -> Result<(), Refusal>
         requires { IsReading (Reading.Form form) }
         ensures { Advances result line (step (state_of self.old) form) (state_of self.new) }
     {
+        if let LineForm::Says(Line::Plain(statement)) = form {
+            return self.ask(line, statement);
+        }
         match self.begun.take() {
             None => self.begin(alloc, line, form),
             Some(script) => self.go_on(script, line, form),
