@@ -4,17 +4,16 @@ ghost use Rattle.std.specs.Prelude.{◌≡◌, ◌≤◌, ◌<◌, ◌⊎◌, �
 ghost use Rattle.mlt_types.specs.declared.refusal.ScriptCause.{ScriptCause};
 ghost use Rattle.mlt_script.specs.Grammar.{Spells, IsFirstFault, IsDecided};
 ghost use Rattle.mlt_words.specs.Lines.{lines};
-ghost use Rattle.mlt_script.specs.Readings.{reading, IsReading};
+ghost use Rattle.mlt_script.specs.Readings.{IsReading};
 ghost use Rattle.mlt_script.specs.Scan.{scan, step, ended, advance, at_end, Gives, Advances};
 ghost use Rattle.mlt_script.specs.Scan.State.{Outside, Inside};
 ghost use Rattle.mlt_tree.specs.Scripts.{ScriptForm, open_of};
 
 use crate::forms::LineForm;
-use crate::line::{Reading, read_line};
+use crate::line::{Reading, read_first};
 use crate::open_script::OpenScript;
 use mlt_tree::{Ending, Line, Script, Statement};
 use mlt_types::{Refusal, ScriptCause};
-use mlt_words::first_line;
 use std::alloc::Global;
 
 /// What was read of a text so far. After an `Err` it is of no more use.
@@ -132,12 +131,11 @@ impl Parser {
     }
 
     /// Goes over a line.
-    fn read(&mut self, alloc: Global, line: u64, bytes: &[u8], ended: bool) -> Result<(), Refusal>
-        ensures { Advances result line
-            (advance (state_of self.old) (reading record { bytes = bytes.now; ended = ended }))
-            (state_of self.new) }
+    fn read(&mut self, alloc: Global, line: u64, reading: Reading) -> Result<(), Refusal>
+        requires { IsReading reading }
+        ensures { Advances result line (advance (state_of self.old) reading) (state_of self.new) }
     {
-        match read_line(bytes, ended) {
+        match reading {
             Reading::Bad(cause) => Err(Refusal::ScriptFault { line, cause }),
             Reading::Skip => Ok(()),
             Reading::Form(form) => self.step(alloc, line, form),
@@ -166,9 +164,9 @@ fn read_lines(alloc: Global, text: &[u8]) -> Result<Vec<Script>, Refusal>
     let mut rest = text;
     let mut line = 0u64;
     while !rest.is_empty() {
-        let (bytes, ended, after) = first_line(rest);
+        let (reading, after) = read_first(rest);
         line += 1;
-        parser.read(alloc, line, bytes, ended)?;
+        parser.read(alloc, line, reading)?;
         rest = after;
     }
     parser.finish(line)
