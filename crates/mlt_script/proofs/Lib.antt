@@ -4,3 +4,5 @@ pub mod Forming
 pub mod Soundness
 pub mod Completeness
 pub mod Deciding
+pub mod Numbers
+pub mod Saying

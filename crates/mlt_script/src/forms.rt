@@ -6,7 +6,7 @@ ghost use Rattle.mlt_words.specs.Words.{words_of};
 
 use crate::operations::{asking, keyword, number_32, wanted};
 use mlt_tree::{Asking, Ending, Line, Source, Statement, Wanted};
-use mlt_words::{Keyword, Letter, Word, has_word, next_word};
+use mlt_words::{Keyword, Letter, Word, has_word, next_number, next_word};
 
 /// What a line says.
 #[derive(Clone, Copy)]
@@ -19,12 +19,12 @@ pub enum LineForm {
     Closes(Ending),
 }
 
-#[tactic(auto, unfolding(crate::specs::Forms::number_below))]
+#[tactic(auto, using(crate::proofs::Numbers::below_number))]
 fn client(text: &[u8]) -> Option<(u16, &[u8])>
     ensures { Reads result (number_below 1000 (words_of text.now)) }
 {
-    match next_word(text)? {
-        (Word::Number(number), rest) if number < 1000 => Some((number as u16, rest)),
+    match next_number(text)? {
+        (number, rest) if number < 1000 => Some((number as u16, rest)),
         _ => None,
     }
 }
@@ -59,10 +59,7 @@ fn asking_is(text: &[u8]) -> Option<((Asking, Wanted), &[u8])>
 fn finished(form: LineForm, rest: &[u8]) -> Option<LineForm>
     ensures { result ≡ finish form (words_of rest.now) }
 {
-    match next_word(rest) {
-        None => Some(form),
-        Some(_) => None,
-    }
+    if has_word(rest) { None } else { Some(form) }
 }
 
 /// What stands after `begin`.

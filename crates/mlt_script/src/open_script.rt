@@ -1,6 +1,6 @@
 //! Scripts whose ending has not come yet.
 
-ghost use Rattle.std.specs.Prelude.{◌≡◌, ◌<◌, ◌≤◌, None, [], IfOk, reverse};
+ghost use Rattle.std.specs.Prelude.{◌≡◌, ◌<◌, ◌≤◌, None, [], IfOk, OnOk, OnErr, reverse};
 ghost use Rattle.mlt_tree.specs.Blocks.{path, widest, deepest, lines_open};
 ghost use Rattle.mlt_tree.specs.Blocks.Block.{Nothing};
 ghost use Rattle.mlt_tree.specs.Blocks.Open.{Top};
@@ -44,7 +44,8 @@ impl OpenScript {
         }
     }
 
-    fn long_fault(&self) -> Option<ScriptCause>
+    /// Why a statement may not stand here.
+    pub fn long_fault(&self) -> Option<ScriptCause>
         ensures { result ≡ long_fault (open_of self.now.lines.items) }
     {
         if self.count >= 256 {
@@ -87,26 +88,18 @@ impl OpenScript {
         }
     }
 
-    fn ask(self, statement: Statement) -> Result<OpenScript, AllocError>
-        requires { line_fault (open_of self.lines.items) (Line.Plain statement) ≡ None }
-        ensures client { IfOk result (λ script. script.client ≡ self.client) }
-        ensures lines { IfOk result
-            (λ script. open_of script.lines.items
-            ≡ one_more (open_of self.lines.items) (Line.Plain statement)) }
+    /// Goes over a statement that may stand here. Where memory runs out, nothing has changed.
+    pub fn ask(&mut self, statement: Statement) -> Result<(), AllocError>
+        requires { line_fault (open_of self.old.lines.items) (Line.Plain statement) ≡ None }
+        ensures client { self.new.client ≡ self.old.client }
+        ensures lines { OnOk result
+            (open_of self.new.lines.items
+            ≡ one_more (open_of self.old.lines.items) (Line.Plain statement)) }
+        ensures err { OnErr result (self.new.lines.items ≡ self.old.lines.items) }
     {
-        let OpenScript {
-            client,
-            mut lines,
-            count,
-            ifs,
-        } = self;
-        lines.push(Line::Plain(statement))?;
-        Ok(OpenScript {
-            client,
-            lines,
-            count: count + 1,
-            ifs,
-        })
+        self.lines.push(Line::Plain(statement))?;
+        self.count += 1;
+        Ok(())
     }
 
     fn open(self, asking: Asking, wanted: Wanted) -> Result<OpenScript, AllocError>
@@ -203,7 +196,11 @@ impl OpenScript {
             (λ script. open_of script.lines.items ≡ one_more (open_of self.lines.items) line) }
     {
         match line {
-            Line::Plain(statement) => self.ask(statement),
+            Line::Plain(statement) => {
+                let mut script = self;
+                script.ask(statement)?;
+                Ok(script)
+            }
             Line::If(asking, wanted) => self.open(asking, wanted),
             Line::Else => self.turn(),
             Line::End => self.close(),

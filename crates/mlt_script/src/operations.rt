@@ -6,7 +6,7 @@ ghost use Rattle.mlt_words.specs.Words.{words_of};
 
 use mlt_kinds::{AccountOp, CounterOp, ElementOp, ObjOp, ObjReply};
 use mlt_tree::{AmountOp, Asking, Wanted};
-use mlt_words::{Keyword, Word, next_word};
+use mlt_words::{Keyword, Word, next_number, next_word};
 
 /// A keyword.
 #[tactic(auto, unfolding(crate::specs::Forms::key_at))]
@@ -20,44 +20,43 @@ pub fn keyword(text: &[u8]) -> Option<(Keyword, &[u8])>
 }
 
 /// A number below 2^16.
-#[tactic(auto, unfolding(crate::specs::Forms::number_below))]
+#[tactic(auto, using(crate::proofs::Numbers::below_number))]
 pub fn number_16(text: &[u8]) -> Option<(u16, &[u8])>
     ensures { Reads result (number_below (2 ^ 16) (words_of text.now)) }
 {
-    match next_word(text)? {
-        (Word::Number(number), rest) if number < 1 << 16 => Some((number as u16, rest)),
+    match next_number(text)? {
+        (number, rest) if number < 1 << 16 => Some((number as u16, rest)),
         _ => None,
     }
 }
 
 /// A number below 2^32.
-#[tactic(auto, unfolding(crate::specs::Forms::number_below))]
+#[tactic(auto, using(crate::proofs::Numbers::below_number))]
 pub fn number_32(text: &[u8]) -> Option<(u32, &[u8])>
     ensures { Reads result (number_below (2 ^ 32) (words_of text.now)) }
 {
-    match next_word(text)? {
-        (Word::Number(number), rest) if number < 1 << 32 => Some((number as u32, rest)),
+    match next_number(text)? {
+        (number, rest) if number < 1 << 32 => Some((number as u32, rest)),
         _ => None,
     }
 }
 
 /// A number below 2^64.
-#[tactic(auto, unfolding(crate::specs::Forms::number_below))]
+#[tactic(auto, using(crate::proofs::Numbers::below_number))]
 fn number_64(text: &[u8]) -> Option<(u64, &[u8])>
     ensures { Reads result (number_below (2 ^ 64) (words_of text.now)) }
 {
-    match next_word(text)? {
-        (Word::Number(number), rest) => Some((number, rest)),
-        _ => None,
-    }
+    next_number(text)
 }
 
 #[tactic(auto, unfolding(crate::specs::Forms::amount_at))]
 fn amount(op: AmountOp, text: &[u8]) -> Option<(Asking, &[u8])>
     ensures { Reads result (amount_at op (words_of text.now)) }
 {
+    if let Some((number, rest)) = next_number(text) {
+        return Some((Asking::Fixed(op.with(number)), rest));
+    }
     match next_word(text)? {
-        (Word::Number(number), rest) => Some((Asking::Fixed(op.with(number)), rest)),
         (Word::Variable(letter), rest) => Some((Asking::By(op, letter), rest)),
         _ => None,
     }

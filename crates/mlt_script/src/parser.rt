@@ -4,17 +4,16 @@ ghost use Rattle.std.specs.Prelude.{◌≡◌, ◌≤◌, ◌<◌, ◌⊎◌, �
 ghost use Rattle.mlt_types.specs.declared.refusal.ScriptCause.{ScriptCause};
 ghost use Rattle.mlt_script.specs.Grammar.{Spells, IsFirstFault, IsDecided};
 ghost use Rattle.mlt_words.specs.Lines.{lines};
-ghost use Rattle.mlt_script.specs.Readings.{reading, IsReading};
+ghost use Rattle.mlt_script.specs.Readings.{IsReading};
 ghost use Rattle.mlt_script.specs.Scan.{scan, step, ended, advance, at_end, Gives, Advances};
 ghost use Rattle.mlt_script.specs.Scan.State.{Outside, Inside};
 ghost use Rattle.mlt_tree.specs.Scripts.{ScriptForm, open_of};
 
 use crate::forms::LineForm;
-use crate::line::{Reading, read_line};
+use crate::line::{Reading, read_first};
 use crate::open_script::OpenScript;
-use mlt_tree::{Ending, Script};
+use mlt_tree::{Ending, Line, Script, Statement};
 use mlt_types::{Refusal, ScriptCause};
-use mlt_words::first_line;
 use std::alloc::Global;
 
 /// What was read of a text so far. After an `Err` it is of no more use.
@@ -100,11 +99,31 @@ impl Parser {
         }
     }
 
+    /// Goes over a statement, in place.
+    fn ask(&mut self, line: u64, statement: Statement) -> Result<(), Refusal>
+        ensures { Advances result line
+            (step (state_of self.old) (LineForm.Says (Line.Plain statement))) (state_of self.new) }
+    {
+        match &mut self.begun {
+            None => Err(misplaced(line)),
+            Some(script) => match script.long_fault() {
+                Some(cause) => Err(Refusal::ScriptFault { line, cause }),
+                None => {
+                    script.ask(statement)?;
+                    Ok(())
+                }
+            },
+        }
+    }
+
     /// Goes over a line of a form.
     fn step(&mut self, alloc: Global, line: u64, form: LineForm) -> Result<(), Refusal>
         requires { IsReading (Reading.Form form) }
         ensures { Advances result line (step (state_of self.old) form) (state_of self.new) }
     {
+        if let LineForm::Says(Line::Plain(statement)) = form {
+            return self.ask(line, statement);
+        }
         match self.begun.take() {
             None => self.begin(alloc, line, form),
             Some(script) => self.go_on(script, line, form),
@@ -112,12 +131,11 @@ impl Parser {
     }
 
     /// Goes over a line.
-    fn read(&mut self, alloc: Global, line: u64, bytes: &[u8], ended: bool) -> Result<(), Refusal>
-        ensures { Advances result line
-            (advance (state_of self.old) (reading record { bytes = bytes.now; ended = ended }))
-            (state_of self.new) }
+    fn read(&mut self, alloc: Global, line: u64, reading: Reading) -> Result<(), Refusal>
+        requires { IsReading reading }
+        ensures { Advances result line (advance (state_of self.old) reading) (state_of self.new) }
     {
-        match read_line(bytes, ended) {
+        match reading {
             Reading::Bad(cause) => Err(Refusal::ScriptFault { line, cause }),
             Reading::Skip => Ok(()),
             Reading::Form(form) => self.step(alloc, line, form),
@@ -146,9 +164,9 @@ fn read_lines(alloc: Global, text: &[u8]) -> Result<Vec<Script>, Refusal>
     let mut rest = text;
     let mut line = 0u64;
     while !rest.is_empty() {
-        let (bytes, ended, after) = first_line(rest);
+        let (reading, after) = read_first(rest);
         line += 1;
-        parser.read(alloc, line, bytes, ended)?;
+        parser.read(alloc, line, reading)?;
         rest = after;
     }
     parser.finish(line)

@@ -1,11 +1,11 @@
 -- The first line of a text.
 use Rattle.std.proofs.Common.{◌≡◌, ℕ, suc, zero, ◌+◌, ◌-◌, ◌<◌, ◌≤◌, List, [], ◌∷◌, length, take, drop, get_or, Bool, true, false, cond, ltb, Some, None, refl, ap, ◌∙◌, arith}
-use Rattle.std.specs.List.{position, position_or_len}
+use Rattle.std.specs.List.{list_all, position, position_or_len}
 use Rattle.std.proofs.lemmas.List.{take_all, length-drop}
 use Rattle.std.proofs.lemmas.List.Sums.{fails_before_first}
 use Rattle.std.proofs.lemmas.List.Quantifiers.{position-Some}
 use Rattle.std.proofs.lemmas.Bool.{ltb-false}
-use Rattle.mlt_words.specs.Lines.{lines, onto, is_lf}
+use Rattle.mlt_words.specs.Lines.{lines, onto, is_lf, is_allowed, is_unprintable}
 
 at_lf : (b : ℕ) (bs : List ℕ) → is_lf b ≡ true → lines (b ∷ bs) ≡ record { bytes = []; ended = true } ∷ lines bs
 unfolding lines
@@ -44,3 +44,24 @@ not_found [] h e = absurd (omega arith)
 not_found (b ∷ bs) h e =
     let l : length (b ∷ bs) ≤ position_or_len is_lf (b ∷ bs) = ltb-false _ _ (none_found (ltb (position_or_len is_lf (b ∷ bs)) (length (b ∷ bs))) _ e) in
     whole b bs (λ k m. fails_before_first is_lf (b ∷ bs) k 0 (omega arith))
+
+no_lf : (b : ℕ) → is_unprintable b ≡ false → is_lf b ≡ false
+no_lf b h = grind arith
+
+allowed : (b : ℕ) → is_unprintable b ≡ false → is_allowed b ≡ true
+allowed b h = grind arith
+
+all_allowed : (text : List ℕ) (i : ℕ) → ((k : ℕ) → k < i → is_unprintable (get_or text k 0) ≡ false) → i < length text → list_all is_allowed (take i text) ≡ true
+all_allowed [] i o h = absurd (omega arith)
+all_allowed (b ∷ bs) zero o h = refl
+all_allowed (b ∷ bs) (suc i) o h = rw (allowed b (o zero (omega arith))) (all_allowed bs i (λ k l. o (suc k) (omega arith)) (omega arith))
+
+-- a line of printable bytes up to its LF
+pub printable : (text : List ℕ) (i : ℕ) → position is_unprintable text ≡ Some i → is_lf (get_or text i 0) ≡ true
+    → (lines text ≡ record { bytes = take i text; ended = true } ∷ lines (take (length text - (i + 1)) (drop (i + 1) text)))
+    × (list_all is_allowed (take i text) ≡ true)
+printable text i e f =
+    let h = position-Some is_unprintable text i 0 e in
+    let s : i + 1 ≡ suc i = omega arith in
+    let t : take (length text - (i + 1)) (drop (i + 1) text) ≡ drop (i + 1) text = take_all (length text - (i + 1)) (drop (i + 1) text) (rw length-drop (omega arith)) in
+    (rw (t, s) (up_to text i h.0 f (λ k l. no_lf (get_or text k 0) (h.2 k l))), all_allowed text i h.2 h.0)

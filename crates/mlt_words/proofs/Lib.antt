@@ -2,3 +2,4 @@ pub mod Splitting
 pub mod Cutting
 pub mod Numerals
 pub mod Pieces
+pub mod Digits

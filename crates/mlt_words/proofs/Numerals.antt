@@ -18,7 +18,7 @@ grows : (n : ℕ) (bs : List ℕ) → n ≤ digits_value_after 10 n bs
 grows n [] = omega arith
 grows n (b ∷ bs) = let h = grows (n * 10 + digit_value b) bs in omega (arith, h)
 
-digit_is : (b : ℕ) → is_digit b ≡ true → digit_value b ≡ b - 48
+pub digit_is : (b : ℕ) → is_digit b ≡ true → digit_value b ≡ b - 48
 digit_is b h = grind arith
 
 abbrev Reached : ℕ → List ℕ → Type 0

@@ -154,7 +154,7 @@ all_digits n h =
 digit_parts : (b : ℕ) → is_digit b ≡ true → (48 ≤ b) × (b ≤ 57)
 digit_parts b h = grind arith
 
-digit_no_blank : (b : ℕ) → is_digit b ≡ true → is_blank b ≡ false
+pub digit_no_blank : (b : ℕ) → is_digit b ≡ true → is_blank b ≡ false
 digit_no_blank b h = grind arith
 
 digit_printable : (b : ℕ) → is_digit b ≡ true → is_printable b ≡ true
@@ -230,7 +230,7 @@ not_letter_word : (d : ℕ) (ds : List ℕ) → is_digit d ≡ true → letter_w
 not_letter_word d [] h = not_letter d h
 not_letter_word d (e ∷ ds) h = refl
 
-word_is_number : (t : List ℕ) (n : ℕ) → 0 < length t → list_all is_digit t ≡ true → number_of t ≡ Some n → word_of t ≡ Number n
+pub word_is_number : (t : List ℕ) (n : ℕ) → 0 < length t → list_all is_digit t ≡ true → number_of t ≡ Some n → word_of t ≡ Number n
 unfolding word_of keyword_of
 word_is_number [] n l h e = absurd (omega (arith, l))
 word_is_number (d ∷ ds) n l h e =

@@ -29,7 +29,7 @@ unfolding words_from
 blanks [] o = refl
 blanks (b ∷ bs) o = past_blank b bs (o zero (omega arith)) ∙ blanks bs (λ k l. o (suc k) (omega arith))
 
-at_blank : (begun : List ℕ) (b : ℕ) (bs : List ℕ) → is_blank b ≡ true → words_from begun (b ∷ bs) ≡ word_if begun ++ words_from [] (b ∷ bs)
+pub at_blank : (begun : List ℕ) (b : ℕ) (bs : List ℕ) → is_blank b ≡ true → words_from begun (b ∷ bs) ≡ word_if begun ++ words_from [] (b ∷ bs)
 unfolding words_from
 at_blank begun b bs h = rw h refl
 
@@ -51,7 +51,7 @@ to_end [] begun o = ap word_if (sym (append-nil begun))
 to_end (b ∷ bs) begun o =
     at_other begun b bs (o zero (omega arith)) ∙ to_end bs (begun ++ b ∷ []) (λ k l. o (suc k) (omega arith)) ∙ ap word_if (append_assoc begun (b ∷ []) bs)
 
-is_word : (w : List ℕ) → 0 < length w → word_if w ≡ w ∷ []
+pub is_word : (w : List ℕ) → 0 < length w → word_if w ≡ w ∷ []
 is_word [] h = absurd (omega arith)
 is_word (b ∷ bs) h = refl
 
@@ -67,7 +67,7 @@ none_of f text e k l =
 pub no_word : (text : List ℕ) → position is_black text ≡ None → raw_words text ≡ []
 no_word text e = blanks text (none_of is_black text e)
 
-at_word : (text : List ℕ) (start : ℕ) → position is_black text ≡ Some start
+pub at_word : (text : List ℕ) (start : ℕ) → position is_black text ≡ Some start
     → (raw_words text ≡ raw_words (drop start text)) × (start < length text) × (is_blank (get_or (drop start text) 0 0) ≡ false)
 at_word text start e =
     let h = position-Some is_black text start 0 e in
@@ -94,7 +94,7 @@ only : (front : List ℕ) → 0 < length front → position is_blank front ≡ N
 unfolding words_from
 only front l e = to_end front [] (none_of is_blank front e) ∙ is_word front l
 
-to_the_end : (text : List ℕ) (start : ℕ) → take (length text - start) (drop start text) ≡ drop start text
+pub to_the_end : (text : List ℕ) (start : ℕ) → take (length text - start) (drop start text) ≡ drop start text
 to_the_end text start = take_all (length text - start) (drop start text) (rw length-drop (omega arith))
 
 -- the first word with a blank behind it, and the text from the blank on

@@ -1,5 +1,5 @@
 -- The lines of a text.
-use Rattle.std.specs.Prelude.{ℕ, ◌-◌, List, [], ◌∷◌, length, nat_lt, nat_le, ◌==◌, Bool, true, false, ◌&&◌, ◌||◌, slice_index, take, if◌then◌else◌}
+use Rattle.std.specs.Prelude.{ℕ, ◌-◌, List, [], ◌∷◌, length, nat_lt, nat_le, ◌==◌, Bool, true, false, ◌&&◌, ◌||◌, slice_index, take, not, if◌then◌else◌}
 use Rattle.mlt_words.specs.Words.{is_blank}
 
 -- the bytes before the LF, a CR among them, and whether an LF ends them
@@ -35,3 +35,7 @@ is_comment (b ∷ bs) = if is_blank b then is_comment bs else b == 35
 -- a tab, or 0x20 to 0x7E
 abbrev pub is_allowed : ℕ → Bool
 is_allowed byte = byte == 9 || (nat_le 32 byte && nat_le byte 126)
+
+-- any other byte than 0x20 to 0x7E
+abbrev pub is_unprintable : ℕ → Bool
+is_unprintable byte = not (nat_le 32 byte && nat_le byte 126)

@@ -1,5 +1,5 @@
 -- The words of a line.
-use Rattle.std.specs.Prelude.{ℕ, nat_eq, List, [], ◌∷◌, ◌++◌, map, Option, Some, None, ◌==◌, Bool, ◌||◌, not, if◌then◌else◌, codes}
+use Rattle.std.specs.Prelude.{ℕ, nat_eq, List, [], ◌∷◌, ◌++◌, map, Option, Some, None, option_and_then, ◌==◌, Bool, true, ◌||◌, not, if◌then◌else◌, codes}
 use Rattle.std.specs.List.{starts_with}
 use Rattle.std.specs.Str.{bytes_eq}
 use Rattle.mlt_words.specs.declared.keyword.Keyword.{Keyword}
@@ -123,3 +123,16 @@ words_of line = map word_of (raw_words line)
 abbrev pub word_at : List Word → Option (Word × List Word)
 word_at [] = None
 word_at (w ∷ ws) = Some (w, ws)
+
+abbrev pub number_word : Word → List Word → Option (ℕ × List Word)
+number_word (word.Number n) rest = Some (n, rest)
+number_word w rest = None
+
+-- the first word, where it is a number, and those after it
+abbrev pub number_at : List Word → Option (ℕ × List Word)
+number_at words = option_and_then (λ w. number_word w.0 w.1) (word_at words)
+
+-- whether a word that stands before these bytes ends there
+abbrev pub is_over : List ℕ → Bool
+is_over [] = true
+is_over (b ∷ bs) = is_blank b

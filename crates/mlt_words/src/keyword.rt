@@ -1,6 +1,7 @@
 //! Keywords, and what a word of a line is.
 
-ghost use Rattle.std.specs.Prelude.{◌≡◌, filter};
+ghost use Rattle.std.specs.Prelude.{◌≡◌, filter, if◌then◌else◌, Some};
+ghost use Rattle.std.specs.Str.{bytes_eq};
 ghost use Rattle.mlt_words.specs.Words.{spelling, keyword_of, letter_word, word_of, all_keywords, begins_with, spelled_among};
 
 use crate::letter::{Letter, find_letter};
@@ -104,47 +105,62 @@ impl Keyword {
     }
 }
 
-// The first of these keywords that is spelled so.
-fn spelled(keywords: &[Keyword], word: &[u8]) -> Option<Keyword>
-    ensures { result ≡ spelled_among keywords.now word.now }
+// The keyword, where it is spelled so, and else the other.
+fn or_else(keyword: Keyword, word: &[u8], other: Option<Keyword>) -> Option<Keyword>
+    ensures { result ≡ (if bytes_eq (spelling keyword) word.now then Some keyword else other) }
 {
-    for keyword in keywords {
-        if keyword.text() == word {
-            return Some(*keyword);
-        }
+    if keyword.text() == word {
+        Some(keyword)
+    } else {
+        other
     }
-    None
 }
 
-// The keywords that begin with this byte: at most four, of which at most two are of one length.
-fn beginning_with(first: u8) -> &'static [Keyword]
-    ensures { result.now ≡ filter (begins_with first) all_keywords }
+// The keyword that begins with this byte and is spelled so.
+fn spelled(first: u8, word: &[u8]) -> Option<Keyword>
+    ensures { result ≡ spelled_among (filter (begins_with first) all_keywords) word.now }
 {
     match first {
-        b'=' => &[Keyword::Equals],
-        b'a' => &[
-            Keyword::Abort,
-            Keyword::Add,
-            Keyword::Added,
-            Keyword::Absent,
-        ],
-        b'b' => &[Keyword::Begin, Keyword::Balance],
-        b'c' => &[Keyword::Commit, Keyword::Close, Keyword::Closed],
-        b'd' => &[Keyword::Deposit, Keyword::Down, Keyword::Done],
-        b'e' => &[Keyword::Else, Keyword::End, Keyword::Exists],
-        b'h' => &[Keyword::Has],
-        b'i' => &[Keyword::If, Keyword::Is],
-        b'l' => &[Keyword::Let],
-        b'm' => &[Keyword::Missing],
-        b'n' => &[Keyword::Need, Keyword::NotEmpty, Keyword::No],
-        b'o' => &[Keyword::Open, Keyword::Opened, Keyword::Over],
-        b'p' => &[Keyword::Present],
-        b'r' => &[Keyword::Remove, Keyword::Read, Keyword::Removed],
-        b's' => &[Keyword::Short],
-        b'u' => &[Keyword::Up],
-        b'w' => &[Keyword::Withdraw],
-        b'y' => &[Keyword::Yes],
-        _ => &[],
+        b'=' => or_else(Keyword::Equals, word, None),
+        b'a' => {
+            let added = or_else(Keyword::Added, word, or_else(Keyword::Absent, word, None));
+            or_else(Keyword::Abort, word, or_else(Keyword::Add, word, added))
+        }
+        b'b' => or_else(Keyword::Begin, word, or_else(Keyword::Balance, word, None)),
+        b'c' => {
+            let closed = or_else(Keyword::Closed, word, None);
+            or_else(Keyword::Commit, word, or_else(Keyword::Close, word, closed))
+        }
+        b'd' => {
+            let done = or_else(Keyword::Done, word, None);
+            or_else(Keyword::Deposit, word, or_else(Keyword::Down, word, done))
+        }
+        b'e' => {
+            let exists = or_else(Keyword::Exists, word, None);
+            or_else(Keyword::Else, word, or_else(Keyword::End, word, exists))
+        }
+        b'h' => or_else(Keyword::Has, word, None),
+        b'i' => or_else(Keyword::If, word, or_else(Keyword::Is, word, None)),
+        b'l' => or_else(Keyword::Let, word, None),
+        b'm' => or_else(Keyword::Missing, word, None),
+        b'n' => {
+            let no = or_else(Keyword::No, word, None);
+            or_else(Keyword::Need, word, or_else(Keyword::NotEmpty, word, no))
+        }
+        b'o' => {
+            let over = or_else(Keyword::Over, word, None);
+            or_else(Keyword::Open, word, or_else(Keyword::Opened, word, over))
+        }
+        b'p' => or_else(Keyword::Present, word, None),
+        b'r' => {
+            let removed = or_else(Keyword::Removed, word, None);
+            or_else(Keyword::Remove, word, or_else(Keyword::Read, word, removed))
+        }
+        b's' => or_else(Keyword::Short, word, None),
+        b'u' => or_else(Keyword::Up, word, None),
+        b'w' => or_else(Keyword::Withdraw, word, None),
+        b'y' => or_else(Keyword::Yes, word, None),
+        _ => None,
     }
 }
 
@@ -153,7 +169,7 @@ fn find_keyword(word: &[u8]) -> Option<Keyword>
     ensures { result ≡ keyword_of word.now }
 {
     let first = word.first()?;
-    spelled(beginning_with(*first), word)
+    spelled(*first, word)
 }
 
 fn variable(word: &[u8]) -> Option<Letter>

@@ -1,8 +1,8 @@
 //! The lines of a text.
 
-ghost use Rattle.std.specs.Prelude.{◌≡◌, ◌<◌, ◌∷◌, length};
+ghost use Rattle.std.specs.Prelude.{◌≡◌, ◌<◌, ◌∷◌, length, true, IfSome};
 ghost use Rattle.std.specs.List.{list_all, position};
-ghost use Rattle.mlt_words.specs.Lines.{lines, is_lf, is_comment, is_allowed, without_cr};
+ghost use Rattle.mlt_words.specs.Lines.{lines, is_lf, is_comment, is_allowed, is_unprintable, without_cr};
 
 fn find_lf(text: &[u8]) -> Option<usize>
     ensures { result ≡ position is_lf text.now }
@@ -20,6 +20,29 @@ pub fn first_line(text: &[u8]) -> (&[u8], bool, &[u8])
     match find_lf(text) {
         Some(end) => (&text[..end], true, &text[end + 1..]),
         None => (text, false, &[]),
+    }
+}
+
+fn find_unprintable(text: &[u8]) -> Option<usize>
+    ensures { result ≡ position is_unprintable text.now }
+{
+    text.iter()
+        .position(|byte| !(*byte >= 0x20 && *byte <= 0x7E))
+}
+
+/// The first line and the text after it, found in one pass over its bytes. `None` where a byte of it is not from 0x20
+/// to 0x7E, or no LF ends it: then `first_line` has the line.
+pub fn first_printable_line(text: &[u8]) -> Option<(&[u8], &[u8])>
+    ensures first { IfSome result
+        (λ x. lines text.now ≡ record { bytes = x.0.now; ended = true } ∷ lines x.1.now) }
+    ensures allowed { IfSome result (λ x. list_all is_allowed x.0.now ≡ true) }
+    ensures less { IfSome result (λ x. length x.1.now < length text.now) }
+{
+    let end = find_unprintable(text)?;
+    if text[end] == b'\n' {
+        Some((&text[..end], &text[end + 1..]))
+    } else {
+        None
     }
 }
 

@@ -1,28 +1,36 @@
-use Rattle.std.proofs.Common.{◌≡◌, length, [], subst, rules, arith}
+use Rattle.std.proofs.Common.{◌≡◌, ◌+◌, length, [], Err, ap, sym, subst, ◌∙◌, rules, arith}
 use Rattle.std.proofs.lemmas.Result.{err_from_is_err_and}
 use Rattle.mlt_words.specs.Lines.{lines}
 use Rattle.mlt_script.specs.Parsers.{state_of}
-use Rattle.mlt_script.specs.Scan.{scan, Gives}
+use Rattle.mlt_script.specs.Readings.{IsReading}
+use Rattle.mlt_script.specs.Scan.{scan, advance, Advances, Gives}
 use Rattle.mlt_script.specs.Scan.State.{Outside}
+use Rattle.mlt_script.proofs.Forming.{readings}
 use Rattle.mlt_script.proofs.Scanning.{goes_on, exits, ends}
 use Rattle.mlt_script.proofs.parser.read_lines.Goals as goal
+
+pub read-requires : goal.read-requires
+read-requires c =
+    let f = c.read_first-reading.ensures.first in
+    subst IsReading (sym f.2) (readings f.0)
 
 pub returns-in_err-read : goal.returns-in_err-read
 returns-in_err-read c =
     let p = err_from_is_err_and c.from_residual.result c.from_residual.ensures.1 in
     let l = c.loop-rest in
-    let f = c.first_line-ended.result in
-    rw (p.1, p.2) (exits c.in_err-read.field-0.0 (state_of l.parser) (state_of c.read.new.self) l.line l.rest.now f.2.now (record { bytes = f.0.now; ended = f.1 })
-    (scan (Outside []) 0 (lines c.args.text.now)) c.first_line-ended.ensures.first c.in_err-read.ensures l.invariant.same)
+    let f = c.read_first-reading.ensures.first in
+    let told = subst (λ x. Advances (Err c.in_err-read.field-0.0) (l.line + 1) (advance (state_of l.parser) x) (state_of c.read.new.self)) f.2 c.in_err-read.ensures in
+    rw (p.1, p.2) (exits c.in_err-read.field-0.0 (state_of l.parser) (state_of c.read.new.self) l.line l.rest.now c.read_first-reading.result.1.now f.0
+    (scan (Outside []) 0 (lines c.args.text.now)) f.1 told l.invariant.same)
 
 pub loop-rest-preserved : goal.loop-rest-preserved
 loop-rest-preserved c =
     let l = c.loop-rest in
-    let f = c.first_line-ended.result in
+    let f = c.read_first-reading.ensures.first in
     record {
-      counted = let b = l.invariant.counted in let s = c.first_line-ended.ensures.less in omega (arith, b, s);
-      same = goes_on (state_of l.parser) (state_of c.read.new.self) l.line l.rest.now f.2.now (record { bytes = f.0.now; ended = f.1 })
-          (scan (Outside []) 0 (lines c.args.text.now)) c.first_line-ended.ensures.first c.in_ok-read.ensures l.invariant.same;
+      counted = let b = l.invariant.counted in let s = c.read_first-reading.ensures.less in omega (arith, b, s);
+      same = goes_on (state_of l.parser) (state_of c.read.new.self) l.line l.rest.now c.read_first-reading.result.1.now f.0
+          (scan (Outside []) 0 (lines c.args.text.now)) f.1 (ap (advance (state_of l.parser)) (sym f.2) ∙ c.in_ok-read.ensures) l.invariant.same;
     }
 
 pub returns : goal.returns

@@ -38,4 +38,4 @@ pub returns-in_err-first : goal.returns-in_err-first
 returns-in_err-first c = c.from_residual.ensures ∙ no_word c.args.word.now c.in_err-first.ensures.value
 
 pub returns : goal.returns
-returns c = let n = c.spelled.ensures in let m = c.beginning_with.ensures in let e = by_first c.args.word.now c.in_ok-first.first.now c.in_ok-first.ensures.value in cc
+returns c = let n = c.spelled.ensures in let e = by_first c.args.word.now c.in_ok-first.first.now c.in_ok-first.ensures.value in cc
