@@ -1,5 +1,5 @@
 -- A text that a checker goes over, line by line.
-use Rattle.std.proofs.Common.{◌≡◌, ℕ, ◌+◌, Bool, true, false, cond, List, [], ◌∷◌, ◌++◌, length, map, Ok, Err, Option, Some, None, nat_lt, refl, sym, ap, subst, ◌∙◌, inl, inr, append_assoc, length-append, arith}
+use Rattle.std.proofs.Common.{◌≡◌, ℕ, ◌+◌, Bool, true, false, cond, List, [], ◌∷◌, ◌++◌, length, map, Result, Ok, Err, Option, Some, None, nat_lt, refl, sym, ap, subst, ◌∙◌, inl, inr, append_assoc, length-append, arith}
 use Rattle.std.proofs.lemmas.List.{map-append}
 use Rattle.std.specs.List.{list_all}
 use Rattle.mlt_types.specs.declared.refusal.Refusal.{Refusal}
@@ -14,9 +14,9 @@ use Rattle.mlt_check.specs.declared.checker.Checker.{Checker}
 use Rattle.mlt_check.specs.declared.reading.Reading.{Reading}
 use Rattle.mlt_check.specs.declared.reading.Reading.TheVariants.{Bad, Says}
 use Rattle.mlt_check.specs.Answering.{Answers, TakesLine, WentOver}
-use Rattle.mlt_check.specs.Checkers.{Knows}
+use Rattle.mlt_check.specs.Checkers.{Knows, Takes}
 use Rattle.mlt_check.specs.Readings.{item_of, item_or_fault, reading}
-use Rattle.mlt_check.specs.Traces.{ArePlaced, HasPlace, IsAcceptedTrace, IsLineFault}
+use Rattle.mlt_check.specs.Traces.{ArePlaced, HasPlace, IsAcceptedTrace, IsItemFault, IsLineFault}
 use Rattle.mlt_check.proofs.Growing.{append_nil, no_cut, split_last}
 
 -- ---- a line that is faulty by itself
@@ -54,6 +54,22 @@ own_fault other own items base raw line is at = absurd own
 
 pub bad_line : (raw : Raw) (fault : TraceCause) (items : List TraceItem) (base : Base) (line : ℕ) → reading raw ≡ Bad fault → line ≡ length items + 1 → IsLineFault items base raw line fault
 bad_line raw fault items base line is at = own_fault fault (subst IsOwnReading is (own_reading raw)) items base raw line is at
+
+-- a line that says an item has the item's faults
+fault_line : (fault : TraceCause) (items : List TraceItem) (base : Base) (raw : Raw) (item : TraceItem) (line : ℕ) → reading raw ≡ Says item
+    → IsItemFault items base item line fault → IsLineFault items base raw line fault
+fault_line cause.Line items base raw item line is found = absurd found
+fault_line cause.Cut items base raw item line is found = absurd found
+fault_line cause.Words items base raw item line is found = absurd found
+fault_line cause.Place items base raw item line is found = (item, is, found)
+fault_line cause.Reply items base raw item line is found = (item, is, found)
+
+pub item_line : (result : Result (Unit {0}) Refusal) (old new : Checker) (line : ℕ) (raw : Raw) (item : TraceItem) → reading raw ≡ Says item
+    → Takes result old new line item → TakesLine result old new line raw
+item_line (Ok done) old new line raw item is takes = (item, is, takes)
+item_line (Err OutOfMemory) old new line raw item is takes = tt
+item_line (Err (TraceFault n fault)) old new line raw item is takes = λ items h at. fault_line fault items old.base raw item n is (takes items h at)
+item_line (Err refusal) old new line raw item is takes = absurd takes
 
 -- ---- one more line
 

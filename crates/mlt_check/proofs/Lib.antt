@@ -10,3 +10,4 @@ pub mod AcceptedItems
 pub mod Stepping
 pub mod Standing
 pub mod Judging
+pub mod Allowed

@@ -96,14 +96,13 @@ impl Checker {
     fn done(&mut self, tx: u64, done: &Done, line: u64) -> Result<(), Refusal>
         ensures { Takes result self.old self.new line (TraceItem.Op tx done.now) }
     {
-        let Some(mut one) = take_tx(&mut self.running, tx) else {
+        let Some(one) = self.running.get_mut(&tx) else {
             return Err(misplaced(line));
         };
         if one.undoing {
             return Err(misplaced(line));
         }
-        one.ops.push((line, *done))?;
-        put_tx(&mut self.running, tx, one)?;
+        one.push(line, *done)?;
         Ok(())
     }
 

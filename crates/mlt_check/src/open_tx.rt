@@ -1,6 +1,6 @@
 //! The transactions of a trace that are running.
 
-ghost use Rattle.std.specs.Prelude.{◌≡◌, ◌≢◌, ℕ, IfErr, OnOk, None, Some};
+ghost use Rattle.std.specs.Prelude.{◌≡◌, ◌≢◌, ◌++◌, ◌∷◌, [], ℕ, IfErr, OnOk, None, Some};
 ghost use Rattle.std.specs.BTreeMap as tree;
 ghost use Rattle.std.specs.Ordering.{nat_cmp};
 
@@ -14,6 +14,18 @@ use std::collections::BTreeMap;
 pub(crate) struct OpenTx {
     pub(crate) ops: Vec<(u64, Done)>,
     pub(crate) undoing: bool,
+}
+
+impl OpenTx {
+    // Adds an operation, in the line of this number, behind the others.
+    pub(crate) fn push(&mut self, line: u64, done: Done) -> Result<(), Refusal>
+        ensures ops { OnOk result (self.new.ops.items ≡ self.old.ops.items ++ (line, done) ∷ []) }
+        ensures undoing { OnOk result (self.new.undoing ≡ self.old.undoing) }
+        ensures refusal { IfErr result (λ refusal. refusal ≡ Refusal.OutOfMemory) }
+    {
+        self.ops.push((line, done))?;
+        Ok(())
+    }
 }
 
 // Takes a transaction out of the map, if it is there.

@@ -1,13 +1,15 @@
 //! What a line of a trace says.
 
-ghost use Rattle.std.specs.Prelude.{◌≡◌};
-ghost use Rattle.mlt_check.specs.Readings.{alone, item_of, item_or_fault, item_with, reading};
+ghost use Rattle.std.specs.Prelude.{◌≡◌, ◌<◌, ◌∷◌, length, true};
+ghost use Rattle.std.specs.List.{list_all};
+ghost use Rattle.mlt_words.specs.Lines.{Raw, lines, is_allowed};
+ghost use Rattle.mlt_check.specs.Readings.{Judges, alone, item_of, item_or_fault, item_with, reading};
 ghost use Rattle.mlt_words.specs.Words.{raw_words};
 
 use crate::words::{done, positive};
 use mlt_trace::TraceItem;
 use mlt_types::{TraceCause, TxId};
-use mlt_words::{is_allowed_line, next_raw_word, trimmed};
+use mlt_words::{first_line, first_printable_line, is_allowed_line, next_raw_word, trimmed};
 
 /// What a line is by itself.
 #[derive(Clone, Copy)]
@@ -69,20 +71,60 @@ fn read_words(line: &[u8]) -> Reading
     }
 }
 
-/// What a line is, given its bytes before the LF and whether an LF ends it.
+// The line, whose bytes are allowed and stand before its LF, where its words are to be read.
+#[tactic(auto, using(crate::proofs::Allowed::allowed_reading))]
+fn judge_allowed(line: &[u8]) -> Result<&[u8], TraceCause>
+    requires { list_all is_allowed line.now ≡ true }
+    ensures { Judges result (reading record { bytes = line.now; ended = true }) }
+{
+    if line.len() > 200 {
+        return Err(TraceCause::Line);
+    }
+    Ok(line)
+}
+
+// A line without its end, where its words are to be read, given its bytes before the LF and whether an LF ends it.
 #[tactic(auto, unfolding(crate::specs::Readings::reading))]
-pub fn read_line(bytes: &[u8], ended: bool) -> Reading
-    ensures { result ≡ reading record { bytes = bytes.now; ended = ended } }
+fn judge(bytes: &[u8], ended: bool) -> Result<&[u8], TraceCause>
+    ensures { Judges result (reading record { bytes = bytes.now; ended = ended }) }
 {
     if bytes.len() > 200 {
-        return Reading::Bad(TraceCause::Line);
+        return Err(TraceCause::Line);
     }
     let line = if ended { trimmed(bytes) } else { bytes };
     if !is_allowed_line(line) {
-        return Reading::Bad(TraceCause::Line);
+        return Err(TraceCause::Line);
     }
     if !ended {
-        return Reading::Bad(TraceCause::Cut);
+        return Err(TraceCause::Cut);
     }
-    read_words(line)
+    Ok(line)
+}
+
+// The first line of a text, where its words are to be read, and the text after it.
+fn judge_first(text: &[u8]) -> (Result<&[u8], TraceCause>, &[u8])
+    requires { 0 < length text.now }
+    ensures first { (raw : Raw) × (lines text.now ≡ raw ∷ lines result.1.now)
+        × Judges result.0 (reading raw) }
+    ensures less { length result.1.now < length text.now }
+{
+    if let Some((line, rest)) = first_printable_line(text) {
+        return (judge_allowed(line), rest);
+    }
+    let (bytes, ended, rest) = first_line(text);
+    (judge(bytes, ended), rest)
+}
+
+/// What the first line of a text is, and the text after it.
+pub fn read_first(text: &[u8]) -> (Reading, &[u8])
+    requires { 0 < length text.now }
+    ensures first { (raw : Raw) × (lines text.now ≡ raw ∷ lines result.1.now)
+        × (result.0 ≡ reading raw) }
+    ensures less { length result.1.now < length text.now }
+{
+    let (judged, rest) = judge_first(text);
+    match judged {
+        Ok(line) => (read_words(line), rest),
+        Err(cause) => (Reading::Bad(cause), rest),
+    }
 }

@@ -4,16 +4,17 @@ ghost use Rattle.std.specs.Prelude.{◌≡◌, ◌⊎◌, ℕ, List, Err, IfErr,
 ghost use Rattle.mlt_types.specs.declared.refusal.TraceCause.{TraceCause};
 ghost use Rattle.mlt_text.specs.Failures.{IsTraceFault, IsWant, ReadsWithinLimit, RefusesLong};
 ghost use Rattle.mlt_text.specs.Inputs.{GivesWhole};
+ghost use Rattle.mlt_words.specs.Lines.{Raw};
+ghost use Rattle.mlt_check.specs.Readings.{reading};
 ghost use Rattle.mlt_check.specs.Answering.{Answers, TakesLine};
 ghost use Rattle.mlt_kinds.specs.Bases.{Base as ObjectBase};
 ghost use Rattle.mlt_check.specs.Traces.{IsAcceptedTrace, IsFirstFault};
 
 use crate::checker::Checker;
-use crate::reading::{Reading, read_line};
+use crate::reading::{Reading, read_first};
 use mlt_base::Base;
 use mlt_text::read_input;
 use mlt_types::{Refusal, TxId};
-use mlt_words::first_line;
 use std::alloc::Global;
 use std::io::Read;
 
@@ -26,18 +27,12 @@ pub struct Order {
     pub base: Base,
 }
 
-// Goes over a line.
-fn take_line(
-    checker: &mut Checker,
-    alloc: Global,
-    line: u64,
-    bytes: &[u8],
-    ended: bool,
-) -> Result<(), Refusal>
-    ensures { TakesLine result checker.old checker.new line
-        record { bytes = bytes.now; ended = ended } }
+// Goes over a line that says this.
+fn take_line(checker: &mut Checker, alloc: Global, line: u64, said: Reading) -> Result<(), Refusal>
+    ensures { (raw : Raw) → reading raw ≡ said
+        → TakesLine result checker.old checker.new line raw }
 {
-    match read_line(bytes, ended) {
+    match said {
         Reading::Bad(cause) => Err(Refusal::TraceFault { line, cause }),
         Reading::Says(item) => checker.take(alloc, &item, line),
     }
@@ -51,9 +46,9 @@ pub(crate) fn check_text(alloc: Global, text: &[u8]) -> Result<Order, Refusal>
     let mut rest = text;
     let mut line = 0u64;
     while !rest.is_empty() {
-        let (bytes, ended, after) = first_line(rest);
+        let (said, after) = read_first(rest);
         line += 1;
-        take_line(&mut checker, alloc, line, bytes, ended)?;
+        take_line(&mut checker, alloc, line, said)?;
         rest = after;
     }
     let Checker {
