@@ -7,9 +7,8 @@ import subprocess
 import threading
 import time
 from contextlib import suppress
-from pathlib import Path
 
-from harness import PATIENCE, each, expect, free_address, holds, lines, listening, same, test
+from harness import PATIENCE, each, expect, free_address, holds, lines, listening, same, state_of, test
 
 FAULT = b"mltx: 13 Io\n"
 
@@ -293,9 +292,9 @@ def connections_gone_before_they_are_accepted(mltx, case):
 
 
 def comes_to(process, states):
-    """Waits until a process is in one of these states of /proc: S is asleep, T is stopped."""
+    """Waits until a process is in one of these states."""
     for _ in range(100 * PATIENCE):
-        if Path(f"/proc/{process.pid}/stat").read_text().rpartition(") ")[2][0] in states:
+        if state_of(f"/proc/{process.pid}") in states:
             return
         time.sleep(0.01)
     holds(False, f"the process never came to {states}")

@@ -5,7 +5,6 @@ import contextlib
 import enum
 import random
 import re
-import signal
 import socket
 import subprocess
 import sys
@@ -487,9 +486,9 @@ def server_that_ends_at_the_commit(mltx):
     with mltx.serve() as server, connected(server) as client:
         tx = client.begin()
         tx.up(7, 1)
-        server.process.send_signal(signal.SIGSTOP)
+        server.stop()
         receive = tx.session.receive
-        tx.session.receive = lambda: (server.kill(), receive())
+        tx.session.receive = lambda: (server.kill(), receive())[1]
         same(raised(CommitUnknown, tx.commit).transaction, 1)
         raised(TransactionOver, tx.commit)
 

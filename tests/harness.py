@@ -8,6 +8,7 @@ import difflib
 import errno
 import os
 import shutil
+import signal
 import socket
 import subprocess
 import tempfile
@@ -140,6 +141,11 @@ def _compile(source, library):
     holds(made.returncode == 0, f"cc does not compile {source}: {made.stderr}")
 
 
+def state_of(folder):
+    """The state of the process or thread with this folder of /proc: S is asleep, T is stopped."""
+    return Path(folder, "stat").read_text(encoding="ascii").rpartition(") ")[2][0]
+
+
 class Program:
     """The program under test, run in a folder of its own that is removed afterwards."""
 
@@ -238,6 +244,15 @@ class Server:
         except subprocess.TimeoutExpired:
             raise Failed(f"the server had not ended after {self.timeout} seconds") from None
         return Ran(self.process.returncode, out, err.removeprefix(listening(self.address).encode()))
+
+    def stop(self):
+        """Stops it, and returns once each of its threads has stopped: a signal reaches them one after another."""
+        self.process.send_signal(signal.SIGSTOP)
+        deadline = time.monotonic() + PATIENCE
+        while any(state_of(thread) != "T" for thread in Path(f"/proc/{self.process.pid}/task").iterdir()):
+            if time.monotonic() > deadline:
+                raise Failed("the server did not stop")
+            time.sleep(0.001)
 
     def kill(self):
         self.process.kill()
