@@ -95,9 +95,26 @@ def texts_works():
     yield Work("texts", "solo of operations that are not met", "MB/s", (Side("mltx", speed_of_parser),))
 
 
+def beside_records(accounts, bench, program):
+    """How long an operation of a transfer takes with so many accounts open: the time of a run without the transfers is
+    taken off."""
+    accounts, count = bench.pick((accounts, 100_000), (min(accounts, 300), 300))
+    moved, operations = bench.file(f"moved-{accounts}", lambda dice: texts.transfers(dice, count, accounts))
+    opened, before = bench.file(f"opened-{accounts}", lambda _dice: texts.opened(accounts))
+    seconds = seconds_of([program, "solo", moved]) - seconds_of([program, "solo", opened])
+    return Sample(seconds * 1e6 / (operations - before))
+
+
+def records_works():
+    for accounts in (100, 1_000, 10_000, 100_000):
+        side = Side("mltx", partial(beside_records, accounts))
+        yield Work("records", f"an operation of a transfer, {accounts:,} accounts", "microseconds", (side,))
+
+
 # By its name what a group measures, and its works.
 GROUPS = {
     "solo": ("transfers by scripts, with reading and printing, against SQLite in memory", solo_works),
+    "records": ("how long an operation takes with 100 to 100,000 accounts", records_works),
     "workers": ("scripts side by side, by 1 to 8 workers", workers_works),
     "instructions": ("instructions an operation, against SQLite", instructions_works),
     "texts": ("how fast traces are checked and scripts are parsed", texts_works),

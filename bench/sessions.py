@@ -124,6 +124,13 @@ def serve_works():
             yield Work("serve", f"{clients}, {way}", "transactions/s", sides_of(load, *others))
 
 
+def connections_works():
+    for connections in (1, 2, 4, 8, 16, 32, SESSIONS):
+        load = Load(THREE, connections, counters=50_000)
+        clients = f"{connections} connection{'s' * (connections > 1)}"
+        yield Work("connections", f"{clients}, a line a round trip", "transactions/s", sides_of(load, "Redis"))
+
+
 def with_tail(side, beside):
     """The same with so many busy processes beside, and how many times the median the 99th percentile is."""
 
@@ -181,6 +188,23 @@ def held_works():
             Side("another counter", partial(up_beside_held, ANOTHER, held), ("load",)),
         )
         yield Work("held", f"an up of a counter of which {held:,} are held", "microseconds", sides)
+
+
+def up_beside_open(count, bench, program):
+    """How long an `up` takes while so many transactions are open, each of which holds a counter of its own."""
+    load = Load(transaction(*[f"up {ANOTHER} 1"] * ASKED), whole=True)
+    with mltx_server(program) as server, ExitStack() as stack:
+        for place in range(count):
+            holder = stack.enter_context(session(server))
+            must_answer(holder, BEGIN, f"up {100 + place} 1")
+        told = figures_of(bench, server.port, load, **bench.limits(few=10))
+    return Sample(told["median"] / ASKED)
+
+
+def open_works():
+    for count in (0, 15, 63):
+        side = Side("mltx", partial(up_beside_open, count), ("load",))
+        yield Work("open", f"an up beside {count} open transactions", "microseconds", (side,))
 
 
 OTHERS = Load(transaction("up 11 1", "up 12 1", "up 13 1"))
@@ -303,8 +327,10 @@ def memory_works():
 # By its name what a group measures, and its works.
 GROUPS = {
     "serve": ("sessions that add to 3 of 50,000 counters, against Redis, PostgreSQL and a bare echo", serve_works),
+    "connections": ("1 to 64 sessions that add to 3 of 50,000 counters, against Redis", connections_works),
     "hot": ("8 sessions on 3 counters, quiet and beside busy processes, against Redis", hot_works),
     "held": ("an up of a counter of which many operations are held, against one of another counter", held_works),
+    "open": ("an up beside up to 63 open transactions", open_works),
     "bystander": ("who has no part in a deadlock, and who waits for a silent session", bystander_works),
     "readers": ("an insert that doubles the directory, beside readers that never pause", readers_works),
     "memory": ("bytes that a server keeps for a transaction", memory_works),
