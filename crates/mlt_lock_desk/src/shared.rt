@@ -12,16 +12,19 @@ use std::hint::spin_loop;
 use std::sync::ledger::{Ledger, Share};
 use std::sync::{Condvar, Mutex, MutexGuard, Wait};
 
-// How often the one who waits next looks at the lock before it sleeps for it, and after how many pauses of the processor
-// each time. Who has the lock takes it some ten times meanwhile.
-const LOOKS: u32 = 20;
+// How often each thread looks at a lock that is taken before it queues, and how often the first of the queue does before it
+// sleeps for the lock. Between two looks lie so many pauses of the processor: some 3 microseconds, in which who has the lock
+// takes it for some ten events.
+const LOOKS_OF_ALL: u32 = 4;
+
+const LOOKS_OF_FIRST: u32 = 20;
 
 const PAUSES: u32 = 256;
 
 /// A lock over the manager, and the bells that wake desks.
 pub struct Shared<P: Pseudo, L: Ledger> {
     hall: Mutex<Hall<P, L>>,
-    next: Mutex<()>,
+    queue: Mutex<()>,
     bells: [Condvar; 256],
 }
 
@@ -30,29 +33,37 @@ impl<P: Pseudo, L: Ledger> Shared<P, L> {
     pub fn new(hall: Hall<P, L>) -> Shared<P, L> {
         Shared {
             hall: Mutex::new(hall),
-            next: Mutex::new(()),
+            queue: Mutex::new(()),
             bells: array::from_fn(|_| Condvar::new()),
         }
     }
 
     /// The hall, once nobody else has it.
     ///
-    /// A hold takes less than a millionth part of a second, and to put a thread to sleep and wake it takes many. So of those who
-    /// find the lock taken one alone looks at it again, after a wait in which its holder may take it for its next events: then
-    /// what it works on stays in its processor. All others sleep until that one has the lock (Dice, Malthusian Locks, EuroSys
-    /// 2017, section 3). Whoever holds it may not be running, so the one that looks ends by sleeping too.
+    /// A hold takes less than a millionth part of a second, and to put a thread to sleep and wake it takes many. So a lock that is
+    /// taken is looked at again a few times, each time after a wait in which its holder may take it for its next events: then what
+    /// it works on stays in its processor. After that a thread queues, and of the queue the first alone goes on looking (Dice,
+    /// Malthusian Locks, EuroSys 2017, section 3). Who holds the lock may not be running, so that one too sleeps in the end.
     pub(crate) fn lock<R: Wait>(&self, rt: &R) -> MutexGuard<'_, Hall<P, L>> {
-        if let Some(hall) = self.hall.try_lock() {
+        if let Some(hall) = self.look(LOOKS_OF_ALL) {
             return hall;
         }
-        let _next = self.next.lock(rt);
-        for _ in 0..LOOKS {
+        let _first = self.queue.lock(rt);
+        if let Some(hall) = self.look(LOOKS_OF_FIRST) {
+            return hall;
+        }
+        self.hall.lock(rt)
+    }
+
+    // The hall, if it is free at one of so many looks, with a wait after each.
+    fn look(&self, looks: u32) -> Option<MutexGuard<'_, Hall<P, L>>> {
+        for _ in 0..looks {
             if let Some(hall) = self.hall.try_lock() {
-                return hall;
+                return Some(hall);
             }
             pause();
         }
-        self.hall.lock(rt)
+        None
     }
 
     /// The hall for a desk's next event, once nobody else has it and the desk is awake, if it sleeps. One that is to call an
@@ -110,7 +121,7 @@ impl<P: Pseudo, L: Ledger> Shared<P, L> {
     {
         let Shared {
             hall,
-            next: _,
+            queue: _,
             bells: _,
         } = self;
         hall.into_inner().close(all)
@@ -120,7 +131,7 @@ impl<P: Pseudo, L: Ledger> Shared<P, L> {
     pub fn into_manager(self) -> Manager<P> {
         let Shared {
             hall,
-            next: _,
+            queue: _,
             bells: _,
         } = self;
         hall.into_inner().into_manager()
