@@ -8,7 +8,7 @@ use Rattle.mlt_page.specs.Slots.{is_ghost_of, is_kept, is_live_of}
 use Rattle.mlt_page.specs.Values.{BucketFields}
 use Rattle.mlt_page.specs.declared.slot.Slot.{Slot}
 use Rattle.mlt_page.specs.declared.slot.Slot.TheVariants.{Free, Live, Ghost}
-use Rattle.mlt_hash_form.specs.Changes.{ChangesRecord, IsHome, Spot, slot_of}
+use Rattle.mlt_hash_form.specs.Changes.{ChangesRecord, IsHome, Spot, slot_of, slot_change}
 use Rattle.mlt_hash_form.specs.Form.{slot_at, value_in}
 use Rattle.mlt_hash_form.specs.File.{FilePages, HasRecord, bucket_of, buckets_of}
 use Rattle.mlt_ghosts.specs.Ghosts.{IsGhostAt, IsInStep, PagesMatchOperations}
@@ -77,7 +77,7 @@ module _ (ledger : Ledger) (pages' : FilePages) (key n i : ℕ) (bucket : Bucket
         | inr e ↦ elim e [ inl f ↦ absurd (not_one f) | inr f ↦ absurd (not_other f) ]
       ]
 
-  module _ (standing' : Standing) (owner : ℕ) (value : Option ℕ) (s : Slot) (change : ChangesRecord ledger.bits ledger.pages pages' ledger.root key value n i s) (owner_open : fin.contains ledger.opens owner ≡ true)
+  module _ (standing' : Standing) (owner : ℕ) (value : Option ℕ) (s : Slot) (change : ChangesRecord ledger.bits ledger.pages pages' ledger.root (slot_change key value n i s)) (owner_open : fin.contains ledger.opens owner ≡ true)
       (others : (t k : ℕ) → (t ≡ owner → k ≡ key → ⊥) → standing' t k ≡ ledger.standing t k)
       (alone : (t : ℕ) → fin.contains ledger.opens t ≡ true → (t ≡ owner → ⊥) → last_of (ledger.standing t key) ≡ None)
       (new_ghost : (k v t : ℕ) → s ≡ Ghost k v t → (k ≡ key) × (t ≡ owner))
@@ -167,7 +167,7 @@ module _ (ledger : Ledger) (pages' : FilePages) (key n i : ℕ) (bucket : Bucket
     taken_alone p less = others_none owner owner_open (λ empty. not_empty (standing' owner key) p (sym less.here ∙ empty))
 
     -- a record that becomes a ghost, and a slot that becomes a record
-    ghost_made : (w : ℕ) → slot_at (buckets_of ledger.pages) n i ≡ Live key w → ChangesRecord ledger.bits ledger.pages pages' ledger.root key None n i (Ghost key 0 owner)
+    ghost_made : (w : ℕ) → slot_at (buckets_of ledger.pages) n i ≡ Live key w → ChangesRecord ledger.bits ledger.pages pages' ledger.root (slot_change key None n i (Ghost key 0 owner))
         → ((t k : ℕ) → (t ≡ owner → k ≡ key → ⊥) → standing' t k ≡ ledger.standing t k)
         → ((t : ℕ) → fin.contains ledger.opens t ≡ true → (t ≡ owner → ⊥) → last_of (ledger.standing t key) ≡ None)
         → TakeTurns None (standing' owner key)
@@ -184,7 +184,7 @@ module _ (ledger : Ledger) (pages' : FilePages) (key n i : ℕ) (bucket : Bucket
         turns
         (made ledger.bits ledger.pages pages' ledger.root n i (Ghost key 0 owner) home.form change.form change.sets within (ledger.undoing owner) (last_of (standing' owner key)) owner key w refl live none removed forward)
 
-    record_made : (value : ℕ) → ChangesRecord ledger.bits ledger.pages pages' ledger.root key (Some value) n i (Live key value)
+    record_made : (value : ℕ) → ChangesRecord ledger.bits ledger.pages pages' ledger.root (slot_change key (Some value) n i (Live key value))
         → ((t k : ℕ) → (t ≡ owner → k ≡ key → ⊥) → standing' t k ≡ ledger.standing t k)
         → ((t : ℕ) → fin.contains ledger.opens t ≡ true → (t ≡ owner → ⊥) → last_of (ledger.standing t key) ≡ None)
         → ((k v t : ℕ) → fin.contains ledger.opens t ≡ true → slot_at (buckets_of ledger.pages) n i ≡ Ghost k v t → (k ≡ key) × (t ≡ owner))
@@ -211,7 +211,7 @@ module _ (ledger : Ledger) (pages' : FilePages) (key n i : ℕ) (bucket : Bucket
     no_record v e k w f = let g : Ghost key v owner ≡ Live k w = sym e ∙ f in cc
 
     pub removal : ledger.undoing owner ≡ false → NoOtherLast ledger owner key Added → is_live_of key (get_or bucket.slots i Free) ≡ true
-        → ChangesRecord ledger.bits ledger.pages pages' ledger.root key None n i (Ghost key 0 owner) → Appends ledger.standing standing' owner key Removed
+        → ChangesRecord ledger.bits ledger.pages pages' ledger.root (slot_change key None n i (Ghost key 0 owner)) → Appends ledger.standing standing' owner key Removed
         → PagesMatchOperations (record ledger { standing = standing'; pages = pages' })
     removal forward unopposed test change more =
         let live = old_live test in
@@ -224,7 +224,7 @@ module _ (ledger : Ledger) (pages' : FilePages) (key n i : ℕ) (bucket : Bucket
         (λ _. last)
 
     pub undone_addition : ledger.undoing owner ≡ true → is_live_of key (get_or bucket.slots i Free) ≡ true
-        → ChangesRecord ledger.bits ledger.pages pages' ledger.root key None n i (Ghost key 0 owner) → Appends standing' ledger.standing owner key Added
+        → ChangesRecord ledger.bits ledger.pages pages' ledger.root (slot_change key None n i (Ghost key 0 owner)) → Appends standing' ledger.standing owner key Added
         → PagesMatchOperations (record ledger { standing = standing'; pages = pages' })
     undone_addition back test change less =
         let live = old_live test in
@@ -235,7 +235,7 @@ module _ (ledger : Ledger) (pages' : FilePages) (key n i : ℕ) (bucket : Bucket
         (λ forward. absurd (both_ways _ forward back))
 
     pub addition_by_ghost : (value : ℕ) → NoOtherLast ledger owner key Removed → value_in key bucket.slots ≡ None → is_ghost_of key owner (get_or bucket.slots i Free) ≡ true
-        → ChangesRecord ledger.bits ledger.pages pages' ledger.root key (Some value) n i (Live key value) → Appends ledger.standing standing' owner key Added
+        → ChangesRecord ledger.bits ledger.pages pages' ledger.root (slot_change key (Some value) n i (Live key value)) → Appends ledger.standing standing' owner key Added
         → PagesMatchOperations (record ledger { standing = standing'; pages = pages' })
     addition_by_ghost value unopposed none test change more =
         let ghost = old_ghost owner test in
@@ -248,7 +248,7 @@ module _ (ledger : Ledger) (pages' : FilePages) (key n i : ℕ) (bucket : Bucket
         (λ e. let f : Some Added ≡ Some Removed = sym last ∙ e in cc)
 
     pub addition_by_put : (value : ℕ) → NoOtherLast ledger owner key Removed → value_in key bucket.slots ≡ None → position (is_ghost_of key owner) bucket.slots ≡ None → is_kept ledger.opens (get_or bucket.slots i Free) ≡ false
-        → ChangesRecord ledger.bits ledger.pages pages' ledger.root key (Some value) n i (Live key value) → Appends ledger.standing standing' owner key Added
+        → ChangesRecord ledger.bits ledger.pages pages' ledger.root (slot_change key (Some value) n i (Live key value)) → Appends ledger.standing standing' owner key Added
         → PagesMatchOperations (record ledger { standing = standing'; pages = pages' })
     addition_by_put value unopposed none no_own free change more =
         let last = appended_last Added more in
@@ -260,7 +260,7 @@ module _ (ledger : Ledger) (pages' : FilePages) (key n i : ℕ) (bucket : Bucket
         (λ e. let f : Some Added ≡ Some Removed = sym last ∙ e in cc)
 
     pub undone_removal : (value : ℕ) → is_ghost_of key owner (get_or bucket.slots i Free) ≡ true
-        → ChangesRecord ledger.bits ledger.pages pages' ledger.root key (Some value) n i (Live key value) → Appends standing' ledger.standing owner key Removed
+        → ChangesRecord ledger.bits ledger.pages pages' ledger.root (slot_change key (Some value) n i (Live key value)) → Appends standing' ledger.standing owner key Removed
         → PagesMatchOperations (record ledger { standing = standing'; pages = pages' })
     undone_removal value test change less =
         let ghost = old_ghost owner test in
@@ -272,7 +272,7 @@ module _ (ledger : Ledger) (pages' : FilePages) (key n i : ℕ) (bucket : Bucket
         turns.1
 
   -- a slot that becomes a record, or gets another value, for no operation on the key's presence
-  module _ (value : ℕ) (change : ChangesRecord ledger.bits ledger.pages pages' ledger.root key (Some value) n i (Live key value))
+  module _ (value : ℕ) (change : ChangesRecord ledger.bits ledger.pages pages' ledger.root (slot_change key (Some value) n i (Live key value)))
       (was_ghost : (k v t : ℕ) → fin.contains ledger.opens t ≡ true → slot_at (buckets_of ledger.pages) n i ≡ Ghost k v t → ⊥)
       (was_live : (k v : ℕ) → slot_at (buckets_of ledger.pages) n i ≡ Live k v → k ≡ key)
       (unopposed : (t : ℕ) → fin.contains ledger.opens t ≡ true → last_of (ledger.standing t key) ≡ Some Removed → ⊥) where
@@ -301,7 +301,7 @@ module _ (ledger : Ledger) (pages' : FilePages) (key n i : ℕ) (bucket : Bucket
     plain : PagesMatchOperations (record ledger { pages = pages' })
     plain = record { step = plain_step; turns = matches.turns; alone = matches.alone; opened = matches.opened; left = plain_left }
 
-  pub plain_update : (value : ℕ) → is_live_of key (get_or bucket.slots i Free) ≡ true → ChangesRecord ledger.bits ledger.pages pages' ledger.root key (Some value) n i (Live key value) → PagesMatchOperations (record ledger { pages = pages' })
+  pub plain_update : (value : ℕ) → is_live_of key (get_or bucket.slots i Free) ≡ true → ChangesRecord ledger.bits ledger.pages pages' ledger.root (slot_change key (Some value) n i (Live key value)) → PagesMatchOperations (record ledger { pages = pages' })
   plain_update value test change =
       let live = old_live test in
       plain value change
@@ -309,7 +309,7 @@ module _ (ledger : Ledger) (pages' : FilePages) (key n i : ℕ) (bucket : Bucket
       (λ k v e. let f : Live key live.0 ≡ Live k v = sym live.1 ∙ e in cc)
       (not_removed live.0 live.1)
 
-  pub plain_put : (value : ℕ) → ((t : ℕ) → fin.contains ledger.opens t ≡ true → last_of (ledger.standing t key) ≡ Some Removed → ⊥) → is_kept ledger.opens (get_or bucket.slots i Free) ≡ false → ChangesRecord ledger.bits ledger.pages pages' ledger.root key (Some value) n i (Live key value) → PagesMatchOperations (record ledger { pages = pages' })
+  pub plain_put : (value : ℕ) → ((t : ℕ) → fin.contains ledger.opens t ≡ true → last_of (ledger.standing t key) ≡ Some Removed → ⊥) → is_kept ledger.opens (get_or bucket.slots i Free) ≡ false → ChangesRecord ledger.bits ledger.pages pages' ledger.root (slot_change key (Some value) n i (Live key value)) → PagesMatchOperations (record ledger { pages = pages' })
   plain_put value unopposed free change =
       plain value change
       (λ k v t is_open e. old_not_kept (Ghost k v t) free e is_open)

@@ -6,7 +6,7 @@ use Rattle.mlt_page.specs.Slots.{is_ghost_of, is_kept}
 use Rattle.mlt_page.specs.declared.slot.Slot.{Slot}
 use Rattle.mlt_hash_form.specs.Form.{value_in}
 use Rattle.mlt_hash_form.specs.File.{FilePages}
-use Rattle.mlt_hash_form.specs.Changes.{ChangesRecord, IsAtHome, Spot, slot_of}
+use Rattle.mlt_hash_form.specs.Changes.{ChangesRecord, IsAtHome, Spot, slot_of, slot_change}
 use Rattle.mlt_ghosts.specs.Ledgers.{IsOpenIn, Ledger, NoOtherLast}
 use Rattle.mlt_ghosts.specs.Operations.{Added, Removed}
 
@@ -15,8 +15,8 @@ use Rattle.mlt_ghosts.specs.Operations.{Added, Removed}
 pub record ChangesSlot (ledger : Ledger) (pages : FilePages) (spot : Spot) (key : ℕ)
     (value : Option ℕ) (made : Slot) : Type 0 where
   pub at_home : IsAtHome ledger.bits ledger.pages ledger.root key spot
-  pub changes : ChangesRecord ledger.bits ledger.pages pages ledger.root key value
-      spot.number spot.at made
+  pub changes : ChangesRecord ledger.bits ledger.pages pages ledger.root
+      (slot_change key value spot.number spot.at made)
 
 -- the transaction is open, its abort has not begun, and no other open one has added the key
 pub record MayRemoveKey (ledger : Ledger) (owner key : ℕ) : Type 0 where

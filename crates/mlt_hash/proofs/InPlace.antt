@@ -20,7 +20,7 @@ use Rattle.mlt_page_locks.proofs.LockLaws.{writer_reads}
 use Rattle.mlt_page_locks.proofs.Maps.{same_entries}
 use Rattle.mlt_page_locks.specs.Requests.{stronger, with_page}
 use Rattle.mlt_subtx.specs.Images.{Images, image_of}
-use Rattle.mlt_hash_form.specs.Changes.{ChangesRecord, IsHome}
+use Rattle.mlt_hash_form.specs.Changes.{ChangesRecord, IsHome, slot_change}
 use Rattle.mlt_hash_form.specs.File.{HasForm, IsPath, Writes}
 use Rattle.mlt_hash_form.specs.Form.{value_in, slot_value}
 use Rattle.mlt_hash_form.specs.Held.{Agrees, ChangesFile, over, own_or}
@@ -118,7 +118,7 @@ bucket_is_exclusive basis walk view bucket depth found stands exclusive =
 
 -- what a change of one slot of the key's bucket does to clean pages, by what stood in the slot
 pub changes_by : (basis : Basis) (pages pages' : ℕ → Option Page) (key n i : ℕ) (fields : BucketFields) (done : Change) → IsHome basis.bits pages basis.root key n fields → i < 8 → StoodBefore done basis key fields.slots (slice_index_or fields.slots i Free)
-    → Writes pages pages' n (page_with_slot fields i (slot_after done key basis.tx)) → ChangesRecord basis.bits pages pages' basis.root key (value_after done) n i (slot_after done key basis.tx)
+    → Writes pages pages' n (page_with_slot fields i (slot_after done key basis.tx)) → ChangesRecord basis.bits pages pages' basis.root (slot_change key (value_after done) n i (slot_after done key basis.tx))
 changes_by basis pages pages' key n i fields (change.Put value) home within was writes = put_changes basis.bits basis.opens pages pages' basis.root key value n i fields home was.0 within was.2 writes
 changes_by basis pages pages' key n i fields (change.Revive value) home within was writes = revive_changes basis.bits pages pages' basis.root key basis.tx value n i fields home was.0 within was.1 writes
 changes_by basis pages pages' key n i fields (change.Set value) home within was writes = set_value_changes basis.bits pages pages' basis.root key value n i fields home within was writes
@@ -146,7 +146,7 @@ module _ (basis : Basis) (walk : WalkFields) (view : View) (n depth : ℕ) (foun
     agreed_before : (clean : ℕ → Option Page) → Agrees new.seen clean → Agrees view.seen clean
     agreed_before clean agree q first is = agree q first (writes.seen q ∙ is)
 
-    changes_file : ChangesFile basis.bits basis.opens basis.root new.seen (λ _. None) new.own walk.key (value_after done) n i (slot_after done walk.key basis.tx)
+    changes_file : ChangesFile basis.bits basis.opens basis.root new.seen (λ _. None) new.own (slot_change walk.key (value_after done) n i (slot_after done walk.key basis.tx))
     changes_file = record {
       keeps = keeps_none basis.bits basis.opens basis.root new.seen;
       changes = λ clean agree form.

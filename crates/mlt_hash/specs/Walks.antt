@@ -15,7 +15,7 @@ use Rattle.mlt_page.specs.declared.page.Page.TheVariants as page
 use Rattle.mlt_page.specs.Values.{BucketFields, HeadFields}
 use Rattle.mlt_hash_form.specs.Form.{value_in}
 use Rattle.mlt_hash_form.specs.File.{HasForm, depth_of}
-use Rattle.mlt_hash_form.specs.Changes.{IsHome}
+use Rattle.mlt_hash_form.specs.Changes.{IsHome, slot_change}
 use Rattle.mlt_hash_form.specs.Held.{Agrees, ChangesFile, over}
 use Rattle.mlt_hash_form.specs.declared.root.Root.{Root}
 use Rattle.mlt_held.specs.Moments.{HasCleanFile, MayStep, Moment}
@@ -224,8 +224,8 @@ pub record IsChanged (basis : Basis) (walk : WalkFields) (view : View) (bucket :
       → HasForm basis.bits clean basis.root
       → IsHome basis.bits (over clean rest) basis.root walk.key bucket fields
   pub was : StoodBefore done basis walk.key fields.slots (slice_index_or fields.slots slot Free)
-  pub changes : ChangesFile basis.bits basis.opens basis.root view.seen rest view.own walk.key
-      (value_after done) bucket slot (slot_after done walk.key basis.tx)
+  pub changes : ChangesFile basis.bits basis.opens basis.root view.seen rest view.own
+      (slot_change walk.key (value_after done) bucket slot (slot_after done walk.key basis.tx))
 
 abbrev pub Stands : Phase → Basis → WalkFields → View → Type 0
 Stands at.Start basis walk view = IsAtStart view

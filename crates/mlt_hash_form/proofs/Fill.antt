@@ -5,12 +5,12 @@ use Rattle.std.proofs.lemmas.Bool.{cases_eq}
 use Rattle.mlt_page.specs.declared.page.Page.{Page}
 use Rattle.mlt_page.specs.declared.page.Page.TheVariants as page
 use Rattle.mlt_hash_form.specs.File.{entries_of, Writes}
-use Rattle.mlt_hash_form.specs.Splits.{IsFilling, IsLonger}
+use Rattle.mlt_hash_form.specs.Splits.{IsFilling, IsLonger, directory_change}
 
 row : (ℕ → Option Page) → ℕ → ℕ → ℕ
 row pages n r = slice_index (entries_of (pages n)) r
 
-module _ (pages pages' : ℕ → Option Page) (made made' dirs : List ℕ) (to old : ℕ → ℕ) (j k count n : ℕ) (d : List ℕ) (before : IsFilling pages made dirs to old j k count) (writes : Writes pages pages' n (page.Dir d)) (longer : IsLonger made made' j n) (size : length d ≡ 256) (right : (r : ℕ) → r < 256 → slice_index d r ≡ to (256 * j + r)) where
+module _ (pages pages' : ℕ → Option Page) (made made' dirs : List ℕ) (to old : ℕ → ℕ) (j k count n : ℕ) (d : List ℕ) (before : IsFilling (directory_change dirs to old count) pages made j k) (writes : Writes pages pages' n (page.Dir d)) (longer : IsLonger made made' j n) (size : length d ≡ 256) (right : (r : ℕ) → r < 256 → slice_index d r ≡ to (256 * j + r)) where
   -- the page of a new place is another than those before it
   at_last : (q : ℕ) → q < j + 1 → (q ≡ j) ⊎ (q < j)
   at_last q h = elim (cases_eq q j) [ inl e ↦ inl e | inr ne ↦ inr (omega arith) ]
@@ -50,7 +50,7 @@ module _ (pages pages' : ℕ → Option Page) (made made' dirs : List ℕ) (to o
         ]
 
   -- an old page is written in its new place
-  pub fill_over : k < count → slice_index dirs k ≡ n → ((r : ℕ) → k < r → r < count → slice_index dirs r ≡ n → ⊥) → IsFilling pages' made' dirs to old (j + 1) (k + 1) count
+  pub fill_over : k < count → slice_index dirs k ≡ n → ((r : ℕ) → k < r → r < count → slice_index dirs r ≡ n → ⊥) → IsFilling (directory_change dirs to old count) pages' made' (j + 1) (k + 1)
   fill_over in_list at later =
       let new : (q : ℕ) → q < j → slice_index made q ≡ n → ⊥ = λ q h e. before.apart q k h (omega arith) in_list (e ∙ sym at) in
       record {
@@ -68,7 +68,7 @@ module _ (pages pages' : ℕ → Option Page) (made made' dirs : List ℕ) (to o
       }
 
   -- a new page is made
-  pub fill_made : pages n ≡ None → IsFilling pages' made' dirs to old (j + 1) k count
+  pub fill_made : pages n ≡ None → IsFilling (directory_change dirs to old count) pages' made' (j + 1) k
   fill_made none =
       let empty : length (entries_of (pages n)) ≡ 0 = ap (λ p. length (entries_of p)) none in
       let new : (q : ℕ) → q < j → slice_index made q ≡ n → ⊥ = λ q h e. let full = rw e at (before.sized q h) in absurd (omega (arith, full, empty)) in

@@ -7,7 +7,7 @@ use Rattle.std.proofs.lemmas.Nat.{div-mul-add, pow_pos, shr_below, div_below, le
 use Rattle.std.proofs.Math.Nat.{pow-le-pow_right}
 use Rattle.mlt_page.specs.declared.page.Page.{Page}
 use Rattle.mlt_hash_form.specs.File.{entries_of, entry, IsDirectory}
-use Rattle.mlt_hash_form.specs.Splits.{target, IsFilling}
+use Rattle.mlt_hash_form.specs.Splits.{target, IsFilling, directory_change}
 
 page_of_place : (q r : ℕ) → r < 256 → (256 * q + r) / 256 ≡ q
 page_of_place q r h = omega arith
@@ -36,14 +36,14 @@ pub entry_at : (pages : ℕ → Option Page) (dirs : List ℕ) (q r : ℕ) → r
 entry_at pages dirs q r h = rw (page_of_place q r h, index_of_place q r h)
 
 -- once the pages that a depth asks for are written, the places read as they are to be
-pub filled_reads : (pages : ℕ → Option Page) (made dirs : List ℕ) (to old : ℕ → ℕ) (g k count : ℕ) → IsFilling pages made dirs to old (2 ^ (g - 8)) k count → (i : ℕ) → i < 2 ^ g → entry pages made i ≡ to i
+pub filled_reads : (pages : ℕ → Option Page) (made dirs : List ℕ) (to old : ℕ → ℕ) (g k count : ℕ) → IsFilling (directory_change dirs to old count) pages made (2 ^ (g - 8)) k → (i : ℕ) → i < 2 ^ g → entry pages made i ≡ to i
 filled_reads pages made dirs to old g k count f i h = f.filled (i / 256) (i % 256) (page_listed g i h) (omega arith) ∙ ap to (place_parts i)
 
-pub filled_listed : (pages : ℕ → Option Page) (made dirs : List ℕ) (to old : ℕ → ℕ) (g k count : ℕ) → g ≤ 16 → IsFilling pages made dirs to old (2 ^ (g - 8)) k count → IsDirectory pages g made
+pub filled_listed : (pages : ℕ → Option Page) (made dirs : List ℕ) (to old : ℕ → ℕ) (g k count : ℕ) → g ≤ 16 → IsFilling (directory_change dirs to old count) pages made (2 ^ (g - 8)) k → IsDirectory pages g made
 filled_listed pages made dirs to old g k count small f = record { small = small; full = f.sized; once = f.once }
 
 -- doubling begins with no page
-pub double_none : (base pages : ℕ → Option Page) (made dirs : List ℕ) (to : ℕ → ℕ) (g : ℕ) → IsDirectory base g dirs → ((q : ℕ) → q < 2 ^ (g - 8) → pages (slice_index dirs q) ≡ base (slice_index dirs q)) → IsFilling pages made dirs to (entry base dirs) 0 0 (2 ^ (g - 8))
+pub double_none : (base pages : ℕ → Option Page) (made dirs : List ℕ) (to : ℕ → ℕ) (g : ℕ) → IsDirectory base g dirs → ((q : ℕ) → q < 2 ^ (g - 8) → pages (slice_index dirs q) ≡ base (slice_index dirs q)) → IsFilling (directory_change dirs to (entry base dirs) (2 ^ (g - 8))) pages made 0 0
 double_none base pages made dirs to g l same = record {
   filled = λ q r h k. absurd (omega arith);
   sized = λ q h. absurd (omega arith);
@@ -107,7 +107,7 @@ module _ (base pages : ℕ → Option Page) (dirs : List ℕ) (g l prefix new : 
   abbrev old : ℕ → ℕ
   old = entry base dirs
 
-  pub place_none : (q0 : ℕ) → ((q : ℕ) → q < 2 ^ (g - 8) → pages (slice_index dirs q) ≡ base (slice_index dirs q)) → 256 * q0 ≤ prefix * run → q0 ≤ 2 ^ (g - 8) → IsFilling pages dirs dirs (target old g g l prefix new) old q0 q0 (2 ^ (g - 8))
+  pub place_none : (q0 : ℕ) → ((q : ℕ) → q < 2 ^ (g - 8) → pages (slice_index dirs q) ≡ base (slice_index dirs q)) → 256 * q0 ≤ prefix * run → q0 ≤ 2 ^ (g - 8) → IsFilling (directory_change dirs (target old g g l prefix new) old (2 ^ (g - 8))) pages dirs q0 q0
   place_none q0 same h m = record {
     filled = λ q r k n. rw (same q (omega arith)) (sym (entry_at base dirs q r n) ∙ sym (target_off old g l prefix new (256 * q + r) (off_below run prefix (256 * q + r) (pow_pos (g - (l + 1))) (omega arith))));
     sized = λ q k. rw (same q (omega arith)) (s.full q (omega arith));
@@ -117,7 +117,7 @@ module _ (base pages : ℕ → Option Page) (dirs : List ℕ) (g l prefix new : 
     once = λ q r k n e. s.once q r (omega arith) (omega arith) e;
   }
 
-  pub place_all : (q1 : ℕ) → IsFilling pages dirs dirs (target old g g l prefix new) old q1 q1 (2 ^ (g - 8)) → prefix * run + run ≤ 256 * q1 → IsFilling pages dirs dirs (target old g g l prefix new) old (2 ^ (g - 8)) (2 ^ (g - 8)) (2 ^ (g - 8))
+  pub place_all : (q1 : ℕ) → IsFilling (directory_change dirs (target old g g l prefix new) old (2 ^ (g - 8))) pages dirs q1 q1 → prefix * run + run ≤ 256 * q1 → IsFilling (directory_change dirs (target old g g l prefix new) old (2 ^ (g - 8))) pages dirs (2 ^ (g - 8)) (2 ^ (g - 8))
   place_all q1 f h = record {
     filled = λ q r k n. elim (cases_lt q q1) [
       | inl lt ↦ f.filled q r lt n

@@ -10,7 +10,7 @@ use Rattle.mlt_page.specs.Slots.{is_kept}
 use Rattle.mlt_page.specs.declared.slot.Slot.{Slot}
 use Rattle.mlt_page.specs.declared.slot.Slot.TheVariants.{Free, Live}
 use Rattle.mlt_page.specs.declared.page.Page.{Page}
-use Rattle.mlt_hash_form.specs.Changes.{ChangesRecord, IsSplit}
+use Rattle.mlt_hash_form.specs.Changes.{ChangesRecord, IsSplit, slot_change}
 use Rattle.mlt_hash_form.specs.Form.{HasSlot, is_used, slot_at}
 use Rattle.mlt_hash_form.specs.File.{bucket_of, buckets_of, lead_of, look_up, HasForm, Writes}
 use Rattle.mlt_hash_form.specs.Held.{own_or, over, Agrees, StoodOnHeld, KeepsFile, ChangesFile}
@@ -83,8 +83,8 @@ module _ (bits : ℕ → ℕ) (opens : set.FinSet nat_cmp) (root : ℕ) (seen : 
 
     -- a change of what is written, at a moment of rest, changes the file
     pub change_of_kept : (own' : ℕ → Option Page) (key n i : ℕ) (value : Option ℕ) (after : Slot)
-        → ((clean : ℕ → Option Page) → Agrees seen clean → HasForm bits clean root → HasForm bits (over clean own) root → ChangesRecord bits (over clean own) (over clean own') root key value n i after)
-        → ChangesFile bits opens root seen own own' key value n i after
+        → ((clean : ℕ → Option Page) → Agrees seen clean → HasForm bits clean root → HasForm bits (over clean own) root → ChangesRecord bits (over clean own) (over clean own') root (slot_change key value n i after))
+        → ChangesFile bits opens root seen own own' (slot_change key value n i after)
     change_of_kept own' key n i value after step = record { keeps = keeps; changes = λ clean a f. step clean a f (keeps clean a f).form }
 
     -- what stands on a held page of what is written stood on a held page
@@ -130,7 +130,7 @@ module _ (bits : ℕ → ℕ) (opens : set.FinSet nat_cmp) (root : ℕ) (seen : 
 
 -- a file that is changed has its form, the new value, and the other values that it had
 pub changed_values : (bits : ℕ → ℕ) (opens : set.FinSet nat_cmp) (root key n i : ℕ) (value : Option ℕ) (after : Slot) (seen : ℕ → Option (Option Page)) (rest own clean : ℕ → Option Page)
-    → ChangesFile bits opens root seen rest own key value n i after → Agrees seen clean → HasForm bits clean root
+    → ChangesFile bits opens root seen rest own (slot_change key value n i after) → Agrees seen clean → HasForm bits clean root
     → HasForm bits (over clean own) root × (look_up bits (over clean own) root key ≡ value) × ((k : ℕ) → (k ≡ key → ⊥) → look_up bits (over clean own) root k ≡ look_up bits clean root k)
 changed_values bits opens root key n i value after seen rest own clean changes a f =
     let c = changes.changes clean a f in

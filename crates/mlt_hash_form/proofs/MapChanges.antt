@@ -10,7 +10,7 @@ use Rattle.mlt_types.specs.Maps.{with_entry}
 use Rattle.mlt_page.specs.declared.slot.Slot.{Slot}
 use Rattle.mlt_page.specs.declared.slot.Slot.TheVariants.{Free, Live}
 use Rattle.mlt_page.specs.declared.page.Page.{Page}
-use Rattle.mlt_hash_form.specs.Changes.{ChangesRecord, IsOpening, IsSplit}
+use Rattle.mlt_hash_form.specs.Changes.{ChangesRecord, IsOpening, IsSplit, slot_change}
 use Rattle.mlt_hash_form.specs.File.{FilePages, GivesPseudokeys, buckets_of, lead_of, HasForm, look_up}
 use Rattle.mlt_hash_form.specs.Form.{slot_at}
 use Rattle.mlt_hash_form.specs.Held.{Agrees, ChangesFile, SeenPages, over}
@@ -57,18 +57,18 @@ module _ (bits : ℕ → ℕ) (pages pages' : map.FinMap nat_cmp Page) (root key
       change_at bits pages pages' root key value bounded file file' here others q ∙ sym (with_entry_at (live_records pages) key value q))
 
 pub inserted : (bits : ℕ → ℕ) (pages pages' : map.FinMap nat_cmp Page) (root key value n i : ℕ) (after : Slot) → GivesPseudokeys bits → HasForm bits (map.get pages) root
-    → ChangesRecord bits (map.get pages) (map.get pages') root key (Some value) n i after → live_records pages' ≡ map.insert (live_records pages) key value
+    → ChangesRecord bits (map.get pages) (map.get pages') root (slot_change key (Some value) n i after) → live_records pages' ≡ map.insert (live_records pages) key value
 inserted bits pages pages' root key value n i after bounded file changes =
     changed_map bits pages pages' root key (Some value) bounded file changes.form changes.here changes.others
 
 pub removed : (bits : ℕ → ℕ) (pages pages' : map.FinMap nat_cmp Page) (root key n i : ℕ) (after : Slot) → GivesPseudokeys bits → HasForm bits (map.get pages) root
-    → ChangesRecord bits (map.get pages) (map.get pages') root key None n i after → live_records pages' ≡ map.remove (live_records pages) key
+    → ChangesRecord bits (map.get pages) (map.get pages') root (slot_change key None n i after) → live_records pages' ≡ map.remove (live_records pages) key
 removed bits pages pages' root key n i after bounded file changes =
     changed_map bits pages pages' root key None bounded file changes.form changes.here changes.others
 
 -- a walk's change of the file, where its pages become clean
 pub changed_file_map : (bits : ℕ → ℕ) (opens : set.FinSet nat_cmp) (root key n i : ℕ) (value : Option ℕ) (after : Slot) (seen : SeenPages) (rest own : FilePages) (pages pages' : map.FinMap nat_cmp Page)
-    → ChangesFile bits opens root seen rest own key value n i after
+    → ChangesFile bits opens root seen rest own (slot_change key value n i after)
     → Agrees seen (map.get pages) → GivesPseudokeys bits → HasForm bits (map.get pages) root
     → ((q : ℕ) → map.get pages' q ≡ over (map.get pages) own q)
     → HasForm bits (map.get pages') root × (live_records pages' ≡ with_entry (live_records pages) key value)

@@ -9,7 +9,7 @@ use Rattle.mlt_page.specs.Values.{BucketFields, HeadFields}
 use Rattle.mlt_page.specs.declared.page.Page.{Page}
 use Rattle.mlt_page.specs.declared.page.Page.TheVariants as page
 use Rattle.mlt_hash_form.specs.File.{header_of, entries_of, bucket_of, entry, lead_of, buckets_of, IsDirectory, HasForm, Writes}
-use Rattle.mlt_hash_form.specs.Splits.{target, IsFilling, IsMidway}
+use Rattle.mlt_hash_form.specs.Splits.{target, IsFilling, IsMidway, bucket_split, directory_change}
 use Rattle.mlt_hash_form.proofs.InPages.{data_from_slots}
 use Rattle.mlt_hash_form.proofs.FillEnds.{filled_reads, filled_listed, double_none, place_none, place_all}
 use Rattle.mlt_hash_form.proofs.Midway.{fill_beside}
@@ -46,7 +46,7 @@ module _ (bits : ℕ → ℕ) (opens : set.FinSet nat_cmp) (base one two : ℕ �
       (λ e. let c = data_from_slots (base b) full in let at = rw (e, c.1) at sized in absurd (omega (arith, at)))
       (λ e. let at = rw (e, fresh) at sized in absurd (omega (arith, at)))
 
-  begun : (g' : ℕ) (made : List ℕ) (j k : ℕ) → IsFilling two made (header_of (base root)).dirs (target (entry base (header_of (base root)).dirs) (header_of (base root)).depth g' (buckets_of base b).depth (2 * first_bits (buckets_of base b).depth seed + 1) new) (entry base (header_of (base root)).dirs) j k (2 ^ ((header_of (base root)).depth - 8)) → IsMidway bits opens base two root b new seed g' made j k
+  begun : (g' : ℕ) (made : List ℕ) (j k : ℕ) → IsFilling (directory_change (header_of (base root)).dirs (target (entry base (header_of (base root)).dirs) (header_of (base root)).depth g' (buckets_of base b).depth (2 * first_bits (buckets_of base b).depth seed + 1) new) (entry base (header_of (base root)).dirs) (2 ^ ((header_of (base root)).depth - 8))) two made j k → IsMidway (bucket_split bits opens base root b new seed) g' two made j k
   begun g' made j k f = record {
     header = root_same;
     zeros = second_write.here;
@@ -56,15 +56,15 @@ module _ (bits : ℕ → ℕ) (opens : set.FinSet nat_cmp) (base one two : ℕ �
   }
 
   -- a directory that is to be doubled
-  pub midway_double : (g' : ℕ) (made : List ℕ) → IsMidway bits opens base two root b new seed g' made 0 0
+  pub midway_double : (g' : ℕ) (made : List ℕ) → IsMidway (bucket_split bits opens base root b new seed) g' two made 0 0
   midway_double g' made = begun g' made 0 0 (double_none base two made _ _ _ file.listed dirs_same)
 
   -- a directory that is written in place, from the page of the run's first place on
-  pub midway_place : (q0 : ℕ) → 256 * q0 ≤ (2 * first_bits (buckets_of base b).depth seed + 1) * 2 ^ ((header_of (base root)).depth - ((buckets_of base b).depth + 1)) → q0 ≤ 2 ^ ((header_of (base root)).depth - 8) → IsMidway bits opens base two root b new seed (header_of (base root)).depth (header_of (base root)).dirs q0 q0
+  pub midway_place : (q0 : ℕ) → 256 * q0 ≤ (2 * first_bits (buckets_of base b).depth seed + 1) * 2 ^ ((header_of (base root)).depth - ((buckets_of base b).depth + 1)) → q0 ≤ 2 ^ ((header_of (base root)).depth - 8) → IsMidway (bucket_split bits opens base root b new seed) (header_of (base root)).depth two (header_of (base root)).dirs q0 q0
   midway_place q0 h m = begun _ _ q0 q0 (place_none base two _ _ (buckets_of base b).depth (2 * first_bits (buckets_of base b).depth seed + 1) new file.listed q0 dirs_same h m)
 
 module _ (bits : ℕ → ℕ) (opens : set.FinSet nat_cmp) (base pages : ℕ → Option Page) (root b new seed : ℕ) (bounded : (k : ℕ) → bits k < 2 ^ 64) (file : HasForm bits base root) (seed_ok : seed < 2 ^ 64) (at_b : lead_of base root seed ≡ b) (fresh : base new ≡ None) where
-  module _ (pages' : ℕ → Option Page) (made : List ℕ) (g' k : ℕ) (h' : HeadFields) (before : IsMidway bits opens base pages root b new seed g' made (2 ^ (g' - 8)) k) (writes : Writes pages pages' root (page.Head h')) (depth : h'.depth ≡ g') (dirs : h'.dirs ≡ made) (small : g' ≤ 16) (deeper : (header_of (base root)).depth ≤ g') (room : (buckets_of base b).depth < g') where
+  module _ (pages' : ℕ → Option Page) (made : List ℕ) (g' k : ℕ) (h' : HeadFields) (before : IsMidway (bucket_split bits opens base root b new seed) g' pages made (2 ^ (g' - 8)) k) (writes : Writes pages pages' root (page.Head h')) (depth : h'.depth ≡ g') (dirs : h'.dirs ≡ made) (small : g' ≤ 16) (deeper : (header_of (base root)).depth ≤ g') (room : (buckets_of base b).depth < g') where
     root_is : pages root ≡ Some (page.Head (header_of (base root)))
     root_is = before.header ∙ file.head
 
@@ -74,7 +74,7 @@ module _ (bits : ℕ → ℕ) (opens : set.FinSet nat_cmp) (base pages : ℕ →
     not_data : (n : ℕ) (c : BucketFields) → pages n ≡ Some (page.Bucket c) → n ≡ root → ⊥
     not_data n c e f = let q : Some (page.Head (header_of (base root))) ≡ Some (page.Bucket c) = sym root_is ∙ ap pages (sym f) ∙ e in cc
 
-    filling' : IsFilling pages' made (header_of (base root)).dirs (target (entry base (header_of (base root)).dirs) (header_of (base root)).depth g' (buckets_of base b).depth (2 * first_bits (buckets_of base b).depth seed + 1) new) (entry base (header_of (base root)).dirs) (2 ^ (g' - 8)) k (2 ^ ((header_of (base root)).depth - 8))
+    filling' : IsFilling (directory_change (header_of (base root)).dirs (target (entry base (header_of (base root)).dirs) (header_of (base root)).depth g' (buckets_of base b).depth (2 * first_bits (buckets_of base b).depth seed + 1) new) (entry base (header_of (base root)).dirs) (2 ^ ((header_of (base root)).depth - 8))) pages' made (2 ^ (g' - 8)) k
     filling' = fill_beside pages pages' made _ _ _ _ k _ root (page.Head h') before.filling writes not_dir
 
     header_is : header_of (pages' root) ≡ h'
@@ -101,7 +101,7 @@ module _ (bits : ℕ → ℕ) (opens : set.FinSet nat_cmp) (base pages : ℕ →
         file_is_split bits opens base pages' root b new seed bounded file head' listed' deeper' room' seed_ok at_b fresh zeros' ones' others' reads'
 
   -- in place there is no header to write: the last directory page closes the split
-  pub split_closes_in_place : (q1 : ℕ) → IsMidway bits opens base pages root b new seed (header_of (base root)).depth (header_of (base root)).dirs q1 q1 → (2 * first_bits (buckets_of base b).depth seed + 1) * 2 ^ ((header_of (base root)).depth - ((buckets_of base b).depth + 1)) + 2 ^ ((header_of (base root)).depth - ((buckets_of base b).depth + 1)) ≤ 256 * q1 → (buckets_of base b).depth < (header_of (base root)).depth → IsSplit bits opens base pages root b new
+  pub split_closes_in_place : (q1 : ℕ) → IsMidway (bucket_split bits opens base root b new seed) (header_of (base root)).depth pages (header_of (base root)).dirs q1 q1 → (2 * first_bits (buckets_of base b).depth seed + 1) * 2 ^ ((header_of (base root)).depth - ((buckets_of base b).depth + 1)) + 2 ^ ((header_of (base root)).depth - ((buckets_of base b).depth + 1)) ≤ 256 * q1 → (buckets_of base b).depth < (header_of (base root)).depth → IsSplit bits opens base pages root b new
   split_closes_in_place q1 m h room =
       let f = place_all base pages _ _ (buckets_of base b).depth (2 * first_bits (buckets_of base b).depth seed + 1) new file.listed q1 m.filling h in
       let same : header_of (pages root) ≡ header_of (base root) = ap header_of m.header in

@@ -11,7 +11,7 @@ use Rattle.mlt_page.specs.declared.slot.Slot.TheVariants.{Free, Live, Ghost}
 use Rattle.mlt_page.specs.Values.{BucketFields}
 use Rattle.mlt_page.specs.declared.page.Page.{Page}
 use Rattle.mlt_page.specs.declared.page.Page.TheVariants as page
-use Rattle.mlt_hash_form.specs.Changes.{IsHome, ChangesRecord}
+use Rattle.mlt_hash_form.specs.Changes.{IsHome, ChangesRecord, slot_change}
 use Rattle.mlt_hash_form.specs.File.{bucket_of, buckets_of, lead_of, look_up, Writes}
 use Rattle.mlt_hash_form.specs.Form.{MaySet, value_in, slot_value, slot_at}
 use Rattle.mlt_hash_form.proofs.Lookup.{live_is, value_from_live}
@@ -66,7 +66,7 @@ module _ (bits : ℕ → ℕ) (pages pages' : ℕ → Option Page) (root key n i
     abbrev now : BucketFields
     now = record was { slots = set was.slots i s }
 
-    changes : (value : Option ℕ) → look_up bits pages' root key ≡ value → ChangesRecord bits pages pages' root key value n i s
+    changes : (value : Option ℕ) → look_up bits pages' root key ≡ value → ChangesRecord bits pages pages' root (slot_change key value n i s)
     changes value here = record {
       form = file_change bits pages pages' root n i s was now home.bounded home.form home.found writes refl refl fits;
       here = here;
@@ -79,32 +79,32 @@ module _ (bits : ℕ → ℕ) (pages pages' : ℕ → Option Page) (root key n i
     found_now : (v : ℕ) → (look_up bits pages' root (key_of s) ≡ Some v) ↔ (s ≡ Live (key_of s) v)
     found_now = value_here bits pages pages' root n i s was now home.bounded home.form home.found writes refl refl fits
 
-  live_changes : (value : ℕ) → Writes pages pages' n (page.Bucket (record was { slots = set was.slots i (Live key value) })) → MaySet bits (lead_of pages root) (buckets_of pages) n i (Live key value) → ChangesRecord bits pages pages' root key (Some value) n i (Live key value)
+  live_changes : (value : ℕ) → Writes pages pages' n (page.Bucket (record was { slots = set was.slots i (Live key value) })) → MaySet bits (lead_of pages root) (buckets_of pages) n i (Live key value) → ChangesRecord bits pages pages' root (slot_change key (Some value) n i (Live key value))
   live_changes value writes fits = changes (Live key value) refl writes fits (Some value) ((found_now (Live key value) refl writes fits value).1 refl)
 
-  ghost_changes : (owner : ℕ) → Writes pages pages' n (page.Bucket (record was { slots = set was.slots i (Ghost key 0 owner) })) → MaySet bits (lead_of pages root) (buckets_of pages) n i (Ghost key 0 owner) → ChangesRecord bits pages pages' root key None n i (Ghost key 0 owner)
+  ghost_changes : (owner : ℕ) → Writes pages pages' n (page.Bucket (record was { slots = set was.slots i (Ghost key 0 owner) })) → MaySet bits (lead_of pages root) (buckets_of pages) n i (Ghost key 0 owner) → ChangesRecord bits pages pages' root (slot_change key None n i (Ghost key 0 owner))
   ghost_changes owner writes fits = changes (Ghost key 0 owner) refl writes fits None (none_from _ (λ v e. let q : Ghost key 0 owner ≡ Live key v = (found_now (Ghost key 0 owner) refl writes fits v).0 e in cc))
 
 pub put_changes : (bits : ℕ → ℕ) (opens : fin.FinSet nat_cmp) (pages pages' : ℕ → Option Page) (root key value n i : ℕ) (was : BucketFields)
     → IsHome bits pages root key n was → value_in key was.slots ≡ None → i < 8 → is_kept opens (get_or was.slots i Free) ≡ false
-    → Writes pages pages' n (page.Bucket (record was { slots = set was.slots i (Live key value) })) → ChangesRecord bits pages pages' root key (Some value) n i (Live key value)
+    → Writes pages pages' n (page.Bucket (record was { slots = set was.slots i (Live key value) })) → ChangesRecord bits pages pages' root (slot_change key (Some value) n i (Live key value))
 put_changes bits opens pages pages' root key value n i was home none lt free writes =
     live_changes bits pages pages' root key n i was home lt value writes (may_add bits pages pages' root key n i was home lt (Live key value) refl none (λ q w e. both_ways _ free (ap (is_kept opens) e)))
 
 pub set_value_changes : (bits : ℕ → ℕ) (pages pages' : ℕ → Option Page) (root key value n i : ℕ) (was : BucketFields)
     → IsHome bits pages root key n was → i < 8 → is_live_of key (get_or was.slots i Free) ≡ true
-    → Writes pages pages' n (page.Bucket (record was { slots = set was.slots i (Live key value) })) → ChangesRecord bits pages pages' root key (Some value) n i (Live key value)
+    → Writes pages pages' n (page.Bucket (record was { slots = set was.slots i (Live key value) })) → ChangesRecord bits pages pages' root (slot_change key (Some value) n i (Live key value))
 set_value_changes bits pages pages' root key value n i was home lt live writes =
     live_changes bits pages pages' root key n i was home lt value writes (may_change bits pages pages' root key n i was home lt (Live key value) refl live)
 
 pub to_ghost_changes : (bits : ℕ → ℕ) (pages pages' : ℕ → Option Page) (root key owner n i : ℕ) (was : BucketFields)
     → IsHome bits pages root key n was → i < 8 → is_live_of key (get_or was.slots i Free) ≡ true
-    → Writes pages pages' n (page.Bucket (record was { slots = set was.slots i (Ghost key 0 owner) })) → ChangesRecord bits pages pages' root key None n i (Ghost key 0 owner)
+    → Writes pages pages' n (page.Bucket (record was { slots = set was.slots i (Ghost key 0 owner) })) → ChangesRecord bits pages pages' root (slot_change key None n i (Ghost key 0 owner))
 to_ghost_changes bits pages pages' root key owner n i was home lt live writes =
     ghost_changes bits pages pages' root key n i was home lt owner writes (may_change bits pages pages' root key n i was home lt (Ghost key 0 owner) refl live)
 
 pub revive_changes : (bits : ℕ → ℕ) (pages pages' : ℕ → Option Page) (root key owner value n i : ℕ) (was : BucketFields)
     → IsHome bits pages root key n was → value_in key was.slots ≡ None → i < 8 → is_ghost_of key owner (get_or was.slots i Free) ≡ true
-    → Writes pages pages' n (page.Bucket (record was { slots = set was.slots i (Live key value) })) → ChangesRecord bits pages pages' root key (Some value) n i (Live key value)
+    → Writes pages pages' n (page.Bucket (record was { slots = set was.slots i (Live key value) })) → ChangesRecord bits pages pages' root (slot_change key (Some value) n i (Live key value))
 revive_changes bits pages pages' root key owner value n i was home none lt ghost writes =
     live_changes bits pages pages' root key n i was home lt value writes (may_add bits pages pages' root key n i was home lt (Live key value) refl none (λ q w e. both_ways _ (ap (is_ghost_of key owner) e) ghost))

@@ -10,7 +10,7 @@ use Rattle.mlt_page.specs.declared.slot.Slot.{Slot}
 use Rattle.mlt_page.specs.declared.page.Page.{Page}
 use Rattle.mlt_page.specs.declared.page.Page.TheVariants as page
 use Rattle.mlt_hash_form.specs.File.{header_of, bucket_of, entry, lead_of, buckets_of, IsDirectory, HasForm}
-use Rattle.mlt_hash_form.specs.Form.{HasSlot, IsSpread, SplitsBucket}
+use Rattle.mlt_hash_form.specs.Form.{HasSlot, IsSpread, SplitsBucket, spread}
 use Rattle.mlt_hash_form.specs.Splits.{target}
 use Rattle.mlt_hash_form.proofs.Bits.{first_bits-first_bits, first_bits_below, first_bits_next}
 use Rattle.mlt_hash_form.proofs.Same.{form_same}
@@ -67,7 +67,7 @@ module _ (bits : ℕ → ℕ) (opens : set.FinSet nat_cmp) (pages pages' : ℕ �
       not_both (sym (deep.together seed x seed_ok h q) ∙ at_b) (omega (arith, n, e)) in
       lead_is x h ∙ cond-false _ new _ (ne_eqb _ _ off)
 
-  split : SplitsBucket bits opens (lead_of pages root) (lead_of pages' root) (buckets_of pages) (buckets_of pages') b new
+  split : SplitsBucket bits opens (spread (lead_of pages root) (buckets_of pages)) (spread (lead_of pages' root) (buckets_of pages')) b new
   split = record { zeros = ap bucket_of zeros; ones = ap bucket_of ones; others = others; goes = goes; stays = stays }
 
   no_slots : (buckets_of pages new).slots ≡ []

@@ -10,7 +10,7 @@ use Rattle.mlt_page.specs.Slots.{is_kept, key_of, kept_if, half}
 use Rattle.mlt_page.specs.declared.slot.Slot.{Slot}
 use Rattle.mlt_page.specs.declared.slot.Slot.TheVariants.{Free, Live, Ghost}
 use Rattle.mlt_page.specs.Values.{BucketFields}
-use Rattle.mlt_hash_form.specs.Form.{slot_at, HasSlot, IsSpread, is_used, SplitsBucket}
+use Rattle.mlt_hash_form.specs.Form.{slot_at, HasSlot, IsSpread, is_used, SplitsBucket, spread}
 use Rattle.std.proofs.Math.Nat.{pow-suc}
 use Rattle.std.proofs.Math.Numerals.{add-one}
 use Rattle.mlt_hash_form.proofs.Bits.{first_bits_next, first_bits_below, side_cases, next_same, front_same, with_first_bits, first_bits-with_first_bits, with_first_bits_below}
@@ -51,7 +51,7 @@ half_at bits opens l side ss j =
           get_or_past (map f ss) j Free long ∙ sym (ap f (get_or_past ss j Free h))
     ]
 
-module _ (bits : ℕ → ℕ) (opens : set.FinSet nat_cmp) (g : ℕ) (lead lead' : ℕ → ℕ) (buckets buckets' : ℕ → BucketFields) (b new : ℕ) (bounded : (k : ℕ) → bits k < 2 ^ 64) (form : IsSpread bits g lead buckets) (split : SplitsBucket bits opens lead lead' buckets buckets' b new) (fresh : (buckets new).slots ≡ []) (seed : ℕ) (seed_ok : seed < 2 ^ 64) (at_b : lead seed ≡ b) (room : (buckets b).depth < g) (small : g ≤ 64) where
+module _ (bits : ℕ → ℕ) (opens : set.FinSet nat_cmp) (g : ℕ) (lead lead' : ℕ → ℕ) (buckets buckets' : ℕ → BucketFields) (b new : ℕ) (bounded : (k : ℕ) → bits k < 2 ^ 64) (form : IsSpread bits g lead buckets) (split : SplitsBucket bits opens (spread lead buckets) (spread lead' buckets') b new) (fresh : (buckets new).slots ≡ []) (seed : ℕ) (seed_ok : seed < 2 ^ 64) (at_b : lead seed ≡ b) (room : (buckets b).depth < g) (small : g ≤ 64) where
   -- the new page was no bucket
   not_new : (x : ℕ) → x < 2 ^ 64 → lead x ≡ new → ⊥
   not_new x h e =

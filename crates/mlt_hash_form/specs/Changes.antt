@@ -39,16 +39,31 @@ abbrev pub WritesSpot : FilePages → FilePages → Spot → Slot → Type 0
 WritesSpot pages pages' spot s =
     Writes pages pages' spot.number (page_with_slot spot.bucket spot.at s)
 
--- Slot i of page n becomes `after`, and with it the one key has this value, or none. The form stays, and so do
--- the value of each other key and all other slots.
-pub record ChangesRecord (bits : ℕ → ℕ) (pages pages' : FilePages) (root key : ℕ)
-    (value : Option ℕ) (n i : ℕ) (after : Slot) : Type 0 where
+-- One slot that is set: the key whose record it changes, and the value that the key has then, or none; the number of
+-- the slot's page, its place there, and what it is then
+pub record SlotChange : Type 0 where
+  pub key : ℕ
+  pub value : Option ℕ
+  pub number : ℕ
+  pub at : ℕ
+  pub after : Slot
+
+abbrev pub slot_change : ℕ → Option ℕ → ℕ → ℕ → Slot → SlotChange
+slot_change key value number at after =
+    record { key = key; value = value; number = number; at = at; after = after }
+
+-- The slot is set, and with it the one key has its value, or none. The form stays, and so do the value of each
+-- other key and all other slots.
+pub record ChangesRecord (bits : ℕ → ℕ) (pages pages' : FilePages) (root : ℕ) (change : SlotChange)
+    : Type 0 where
   pub form : HasForm bits pages' root
-  pub here : look_up bits pages' root key ≡ value
-  pub others : (k : ℕ) → (k ≡ key → ⊥) → look_up bits pages' root k ≡ look_up bits pages root k
-  pub sets : SetsOneSlot (buckets_of pages) (buckets_of pages') n i after
-  pub gained : HasSlot (buckets_of pages') after
-  pub kept : (t : Slot) → (t ≡ after → ⊥) → (t ≡ slot_at (buckets_of pages) n i → ⊥)
+  pub here : look_up bits pages' root change.key ≡ change.value
+  pub others : (k : ℕ) → (k ≡ change.key → ⊥)
+      → look_up bits pages' root k ≡ look_up bits pages root k
+  pub sets : SetsOneSlot (buckets_of pages) (buckets_of pages') change.number change.at change.after
+  pub gained : HasSlot (buckets_of pages') change.after
+  pub kept : (t : Slot) → (t ≡ change.after → ⊥)
+      → (t ≡ slot_at (buckets_of pages) change.number change.at → ⊥)
       → HasSlot (buckets_of pages') t ↔ HasSlot (buckets_of pages) t
 
 -- A file, the pseudokey x, the bucket page n that x leads to, and a page number that is not there: what a split

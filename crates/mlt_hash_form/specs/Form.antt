@@ -82,14 +82,23 @@ half_of bits opens bucket bit = record {
   slots = map (half bits opens bucket.depth bit) bucket.slots;
 }
 
+-- a file apart from its directory
+pub record Spread : Type 0 where
+  pub lead : ℕ → ℕ
+  pub buckets : ℕ → BucketFields
+
+abbrev pub spread : (ℕ → ℕ) → (ℕ → BucketFields) → Spread
+spread lead buckets = record { lead = lead; buckets = buckets }
+
 -- The bucket on page n is split: the half of the bit 0 stays there, and the half of the bit 1 goes to page new.
 -- The pseudokeys of the second half lead to page new, and all others as before.
-pub record SplitsBucket (bits : ℕ → ℕ) (opens : set.FinSet nat_cmp) (lead lead' : ℕ → ℕ)
-    (buckets buckets' : ℕ → BucketFields) (n new : ℕ) : Type 0 where
-  pub zeros : buckets' n ≡ half_of bits opens (buckets n) 0
-  pub ones : buckets' new ≡ half_of bits opens (buckets n) 1
-  pub others : (m : ℕ) → (m ≡ n → ⊥) → (m ≡ new → ⊥) → buckets' m ≡ buckets m
+pub record SplitsBucket (bits : ℕ → ℕ) (opens : set.FinSet nat_cmp) (before after : Spread)
+    (n new : ℕ) : Type 0 where
+  pub zeros : after.buckets n ≡ half_of bits opens (before.buckets n) 0
+  pub ones : after.buckets new ≡ half_of bits opens (before.buckets n) 1
+  pub others : (m : ℕ) → (m ≡ n → ⊥) → (m ≡ new → ⊥) → after.buckets m ≡ before.buckets m
   pub goes : (x : ℕ) → x < 2 ^ 64
-      → lead x ≡ n → bit_at (buckets n).depth x ≡ 1 → lead' x ≡ new
+      → before.lead x ≡ n → bit_at (before.buckets n).depth x ≡ 1 → after.lead x ≡ new
   pub stays : (x : ℕ) → x < 2 ^ 64
-      → (lead x ≡ n → bit_at (buckets n).depth x ≡ 1 → ⊥) → lead' x ≡ lead x
+      → (before.lead x ≡ n → bit_at (before.buckets n).depth x ≡ 1 → ⊥)
+      → after.lead x ≡ before.lead x

@@ -7,7 +7,7 @@ use Rattle.mlt_page.specs.declared.slot.Slot.{Slot}
 use Rattle.mlt_page.specs.declared.page.Page.{Page}
 use Rattle.mlt_hash_form.specs.Form.{HasSlot, is_used, slot_at}
 use Rattle.mlt_hash_form.specs.File.{FilePages, buckets_of, HasForm}
-use Rattle.mlt_hash_form.specs.Changes.{ChangesRecord}
+use Rattle.mlt_hash_form.specs.Changes.{ChangesRecord, SlotChange}
 
 -- Of each page that a walk holds, what the clean pages have of it: None of a page that it doesn't hold, and
 -- `Some None` of one that it made
@@ -52,9 +52,9 @@ KeepsFile bits opens root seen own =
     → RearrangesSlots bits opens seen clean (over clean own) root
 
 -- Whatever the clean pages are elsewhere, the walk's writes rearrange slots (those up to `rest`), and then change one
--- record: slot i of page n becomes `after`, and the key has this value, or none.
+-- record, by setting one slot.
 pub record ChangesFile (bits : ℕ → ℕ) (opens : set.FinSet nat_cmp) (root : ℕ) (seen : SeenPages)
-    (rest own : FilePages) (key : ℕ) (value : Option ℕ) (n i : ℕ) (after : Slot) : Type 0 where
+    (rest own : FilePages) (change : SlotChange) : Type 0 where
   pub keeps : KeepsFile bits opens root seen rest
   pub changes : (clean : FilePages) → Agrees seen clean → HasForm bits clean root
-      → ChangesRecord bits (over clean rest) (over clean own) root key value n i after
+      → ChangesRecord bits (over clean rest) (over clean own) root change

@@ -3,6 +3,7 @@ use Rattle.std.specs.Prelude.{ℕ, ◌≡◌, ◌<◌, ◌≤◌, ◌+◌, ◌-�
 use Rattle.std.specs.Ordering.{nat_cmp}
 use Rattle.std.specs.FinSet as set
 use Rattle.mlt_page.specs.Bits.{first_bits}
+use Rattle.mlt_page.specs.Values.{BucketFields}
 use Rattle.mlt_page.specs.declared.page.Page.TheVariants as page
 use Rattle.mlt_hash_form.specs.Form.{half_of}
 use Rattle.mlt_hash_form.specs.File.{FilePages, depth_of, dirs_of, entries_of, entry, buckets_of, Writes}
@@ -35,20 +36,31 @@ run_start pages root n x = prefix_of pages n x * run_length pages root n
 abbrev pub HasEntries : List ℕ → ℕ → (ℕ → ℕ) → Type 0
 HasEntries dir q names = (r : ℕ) → r < 256 → slice_index dir r ≡ names (256 * q + r)
 
+-- What a directory is written anew from: the list of its old pages, which has this count, and the bucket pages that
+-- its places are to name and did name
+pub record DirectoryChange : Type 0 where
+  pub dirs : List ℕ
+  pub to : ℕ → ℕ
+  pub old : ℕ → ℕ
+  pub count : ℕ
+
+abbrev pub directory_change : List ℕ → (ℕ → ℕ) → (ℕ → ℕ) → ℕ → DirectoryChange
+directory_change dirs to old count = record { dirs = dirs; to = to; old = old; count = count }
+
 -- A directory that is being written: the first j pages of the list `made` are as they are to be, and of the old
--- list `dirs`, which has this count, those from the k-th on are as they were. (A directory that is not doubled is
--- written in place: there the lists are one, and k is j.)
-pub record IsFilling (pages : FilePages) (made dirs : List ℕ) (to old : ℕ → ℕ) (j k count : ℕ)
+-- list those from the k-th on are as they were. (A directory that is not doubled is written in place: there the lists
+-- are one, and k is j.)
+pub record IsFilling (change : DirectoryChange) (pages : FilePages) (made : List ℕ) (j k : ℕ)
     : Type 0 where
   pub filled : (q r : ℕ) → q < j → r < 256
-      → slice_index (entries_of (pages (slice_index made q))) r ≡ to (256 * q + r)
+      → slice_index (entries_of (pages (slice_index made q))) r ≡ change.to (256 * q + r)
   pub sized : (q : ℕ) → q < j → length (entries_of (pages (slice_index made q))) ≡ 256
-  pub rest : (q r : ℕ) → k ≤ q → q < count → r < 256
-      → slice_index (entries_of (pages (slice_index dirs q))) r ≡ old (256 * q + r)
-  pub rest_sized : (q : ℕ) → k ≤ q → q < count
-      → length (entries_of (pages (slice_index dirs q))) ≡ 256
-  pub apart : (q r : ℕ) → q < j → k ≤ r → r < count
-      → slice_index made q ≡ slice_index dirs r → ⊥
+  pub rest : (q r : ℕ) → k ≤ q → q < change.count → r < 256
+      → slice_index (entries_of (pages (slice_index change.dirs q))) r ≡ change.old (256 * q + r)
+  pub rest_sized : (q : ℕ) → k ≤ q → q < change.count
+      → length (entries_of (pages (slice_index change.dirs q))) ≡ 256
+  pub apart : (q r : ℕ) → q < j → k ≤ r → r < change.count
+      → slice_index made q ≡ slice_index change.dirs r → ⊥
   pub once : (q r : ℕ) → q < j → r < j → slice_index made q ≡ slice_index made r → q ≡ r
 
 -- the new list has page n behind the first j, which stay
@@ -56,23 +68,64 @@ pub record IsLonger (made made' : List ℕ) (j n : ℕ) : Type 0 where
   pub last : slice_index made' j ≡ n
   pub before : (q : ℕ) → q < j → slice_index made' q ≡ slice_index made q
 
--- The file `before` with a split under way: both halves of the bucket on page n are written, the second on page
--- new, and the directory, which goes to depth g' through the list `made`, is filled as j and k say.
-pub record IsMidway (bits : ℕ → ℕ) (opens : set.FinSet nat_cmp) (before pages : FilePages)
-    (root n new x g' : ℕ) (made : List ℕ) (j k : ℕ) : Type 0 where
-  pub header : pages root ≡ before root
-  pub zeros : pages n ≡ Some (page.Bucket (half_of bits opens (buckets_of before n) 0))
-  pub ones : pages new ≡ Some (page.Bucket (half_of bits opens (buckets_of before n) 1))
-  pub others : (m : ℕ) → (m ≡ n → ⊥) → (m ≡ new → ⊥) → buckets_of pages m ≡ buckets_of before m
-  pub filling : IsFilling pages made (dirs_of before root) (target_of before root n new x g')
-      (entry before (dirs_of before root)) j k (2 ^ (depth_of before root - 8))
+-- What stays the same as long as a bucket is split: the pseudokeys of the keys, the owners that were open as it began,
+-- the pages before, the page of the header, those of the old bucket and of the new one, and a pseudokey that leads to
+-- the old bucket
+pub record BucketSplit : Type 0 where
+  pub bits : ℕ → ℕ
+  pub opens : set.FinSet nat_cmp
+  pub before : FilePages
+  pub root : ℕ
+  pub old_page : ℕ
+  pub new_page : ℕ
+  pub seed : ℕ
+
+abbrev pub bucket_split
+    : (ℕ → ℕ) → set.FinSet nat_cmp → FilePages → ℕ → ℕ → ℕ → ℕ → BucketSplit
+bucket_split bits opens before root old_page new_page seed = record {
+  bits = bits;
+  opens = opens;
+  before = before;
+  root = root;
+  old_page = old_page;
+  new_page = new_page;
+  seed = seed;
+}
+
+-- one half of the old bucket
+abbrev pub half_in : BucketSplit → ℕ → BucketFields
+half_in split bit = half_of split.bits split.opens (buckets_of split.before split.old_page) bit
+
+-- what is left at a place of the directory, which goes to depth g'
+abbrev pub target_in : BucketSplit → ℕ → ℕ → ℕ
+target_in split g' =
+    target_of split.before split.root split.old_page split.new_page split.seed g'
+
+-- the directory's pages before, and what its places are to name and did name
+abbrev pub directory_in : BucketSplit → ℕ → DirectoryChange
+directory_in split g' = record {
+  dirs = dirs_of split.before split.root;
+  to = target_in split g';
+  old = entry split.before (dirs_of split.before split.root);
+  count = 2 ^ (depth_of split.before split.root - 8);
+}
+
+-- A split under way: both halves of the bucket are written, the second on the new page, and the directory, which
+-- goes to depth g' through the list `made`, is filled as j and k say.
+pub record IsMidway (split : BucketSplit) (g' : ℕ) (pages : FilePages) (made : List ℕ) (j k : ℕ)
+    : Type 0 where
+  pub header : pages split.root ≡ split.before split.root
+  pub zeros : pages split.old_page ≡ Some (page.Bucket (half_in split 0))
+  pub ones : pages split.new_page ≡ Some (page.Bucket (half_in split 1))
+  pub others : (m : ℕ) → (m ≡ split.old_page → ⊥) → (m ≡ split.new_page → ⊥)
+      → buckets_of pages m ≡ buckets_of split.before m
+  pub filling : IsFilling (directory_in split g') pages made j k
 
 -- a split in place under way: the directory keeps its depth and its pages, and the first q of these are as they
 -- are to be
-abbrev pub IsMidwayInPlace
-    : (ℕ → ℕ) → set.FinSet nat_cmp → FilePages → FilePages → ℕ → ℕ → ℕ → ℕ → ℕ → Type 0
-IsMidwayInPlace bits opens before pages root n new x q =
-    IsMidway bits opens before pages root n new x (depth_of before root) (dirs_of before root) q q
+abbrev pub IsMidwayInPlace : BucketSplit → FilePages → ℕ → Type 0
+IsMidwayInPlace split pages q =
+    IsMidway split (depth_of split.before split.root) pages (dirs_of split.before split.root) q q
 
 -- the second half of the bucket on page n is written on page new, and then the first one on page n
 pub record WritesBothHalves (bits : ℕ → ℕ) (opens : set.FinSet nat_cmp) (before one two : FilePages)
@@ -80,11 +133,20 @@ pub record WritesBothHalves (bits : ℕ → ℕ) (opens : set.FinSet nat_cmp) (b
   pub ones : Writes before one new (page.Bucket (half_of bits opens (buckets_of before n) 1))
   pub zeros : Writes one two n (page.Bucket (half_of bits opens (buckets_of before n) 0))
 
--- page m becomes the j-th page of the new directory: the new list has it behind the first j, and its entries are
--- as they are to be
-pub record WritesDirPage (before pages pages' : FilePages) (root n new x g' : ℕ)
-    (made made' : List ℕ) (j m : ℕ) (dir : List ℕ) : Type 0 where
-  pub writes : Writes pages pages' m (page.Dir dir)
-  pub longer : IsLonger made made' j m
-  pub size : length dir ≡ 256
-  pub right : HasEntries dir j (target_of before root n new x g')
+-- the next page of a new directory: its place in the list of pages, its number, and the bucket pages that it names
+pub record NextPage : Type 0 where
+  pub place : ℕ
+  pub number : ℕ
+  pub names : List ℕ
+
+abbrev pub next_page : ℕ → ℕ → List ℕ → NextPage
+next_page place number names = record { place = place; number = number; names = names }
+
+-- a page becomes the next one of the new directory, of depth g': the new list has it behind those before its place,
+-- and its entries are as they are to be
+pub record WritesDirPage (split : BucketSplit) (g' : ℕ) (pages pages' : FilePages)
+    (made made' : List ℕ) (dir : NextPage) : Type 0 where
+  pub writes : Writes pages pages' dir.number (page.Dir dir.names)
+  pub longer : IsLonger made made' dir.place dir.number
+  pub size : length dir.names ≡ 256
+  pub right : HasEntries dir.names dir.place (target_in split g')

@@ -9,7 +9,7 @@ ghost use Rattle.mlt_page.specs.Slots.{is_kept};
 ghost use Rattle.mlt_page.specs.declared.page.Page.{Page};
 ghost use Rattle.mlt_page.specs.declared.slot.Slot.{Slot};
 ghost use Rattle.mlt_page.specs.declared.slot.Slot.TheVariants.{Free};
-ghost use Rattle.mlt_hash_form.specs.Changes.{ChangesRecord, IsSplit};
+ghost use Rattle.mlt_hash_form.specs.Changes.{ChangesRecord, IsSplit, slot_change};
 ghost use Rattle.mlt_hash_form.specs.File.{FilePages, HasForm, Writes, bucket_of, buckets_of, look_up};
 ghost use Rattle.mlt_hash_form.specs.Form.{slot_at};
 ghost use Rattle.mlt_hash_form.specs.Held.{Agrees, ChangesFile, KeepsFile, SeenPages, over};
@@ -70,15 +70,16 @@ pub fn change_of_a_kept_file()
         → KeepsFile bits opens root seen rest
         → ((clean : FilePages) → Agrees seen clean → HasForm bits clean root
         → HasForm bits (over clean rest) root
-        → ChangesRecord bits (over clean rest) (over clean own) root key value n i after)
-        → ChangesFile bits opens root seen rest own key value n i after }
+        → ChangesRecord bits (over clean rest) (over clean own) root
+        (slot_change key value n i after))
+        → ChangesFile bits opens root seen rest own (slot_change key value n i after) }
 {}
 
 /// A file that is changed has its form, the new value at the key, and at each other key the value that it had.
 pub fn changed_file_has_its_values()
     ensures { (bits : ℕ → ℕ) (opens : set.FinSet nat_cmp) (root key n i : ℕ) (value : Option ℕ)
         (after : Slot) (seen : SeenPages) (rest own clean : FilePages)
-        → ChangesFile bits opens root seen rest own key value n i after
+        → ChangesFile bits opens root seen rest own (slot_change key value n i after)
         → Agrees seen clean → HasForm bits clean root
         → HasForm bits (over clean own) root
         × (look_up bits (over clean own) root key ≡ value)

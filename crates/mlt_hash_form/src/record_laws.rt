@@ -7,7 +7,7 @@ ghost use Rattle.std.specs.FinSet as set;
 ghost use Rattle.mlt_types.specs.Maps.{with_entry};
 ghost use Rattle.mlt_page.specs.declared.page.Page.{Page};
 ghost use Rattle.mlt_page.specs.declared.slot.Slot.{Slot};
-ghost use Rattle.mlt_hash_form.specs.Changes.{ChangesRecord, IsOpening, IsSplit};
+ghost use Rattle.mlt_hash_form.specs.Changes.{ChangesRecord, IsOpening, IsSplit, slot_change};
 ghost use Rattle.mlt_hash_form.specs.File.{FilePages, GivesPseudokeys, HasForm, look_up};
 ghost use Rattle.mlt_hash_form.specs.Held.{Agrees, ChangesFile, SeenPages, over};
 ghost use Rattle.mlt_hash_form.specs.Records.{IsRecordMap, live_records};
@@ -31,7 +31,8 @@ pub fn change_to_a_value_inserts()
     ensures { (bits : ℕ → ℕ) (pages pages' : map.FinMap nat_cmp Page) (root key value n i : ℕ)
         (after : Slot)
         → GivesPseudokeys bits → HasForm bits (map.get pages) root
-        → ChangesRecord bits (map.get pages) (map.get pages') root key (Some value) n i after
+        → ChangesRecord bits (map.get pages) (map.get pages') root
+        (slot_change key (Some value) n i after)
         → live_records pages' ≡ map.insert (live_records pages) key value }
 {}
 
@@ -40,7 +41,7 @@ pub fn change_to_no_value_removes()
     ensures { (bits : ℕ → ℕ) (pages pages' : map.FinMap nat_cmp Page) (root key n i : ℕ)
         (after : Slot)
         → GivesPseudokeys bits → HasForm bits (map.get pages) root
-        → ChangesRecord bits (map.get pages) (map.get pages') root key None n i after
+        → ChangesRecord bits (map.get pages) (map.get pages') root (slot_change key None n i after)
         → live_records pages' ≡ map.remove (live_records pages) key }
 {}
 
@@ -50,7 +51,7 @@ pub fn changed_file_changes_the_map()
     ensures { (bits : ℕ → ℕ) (opens : set.FinSet nat_cmp) (root key n i : ℕ) (value : Option ℕ)
         (after : Slot) (seen : SeenPages) (rest own : FilePages)
         (pages pages' : map.FinMap nat_cmp Page)
-        → ChangesFile bits opens root seen rest own key value n i after
+        → ChangesFile bits opens root seen rest own (slot_change key value n i after)
         → Agrees seen (map.get pages) → GivesPseudokeys bits → HasForm bits (map.get pages) root
         → ((q : ℕ) → map.get pages' q ≡ over (map.get pages) own q)
         → HasForm bits (map.get pages') root

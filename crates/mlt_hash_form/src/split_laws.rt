@@ -8,7 +8,7 @@ ghost use Rattle.mlt_page.specs.declared.page.Page.TheVariants as page;
 ghost use Rattle.mlt_page.specs.Values.{HeadFields};
 ghost use Rattle.mlt_hash_form.specs.File.{FilePages, Writes, buckets_of, depth_of, dirs_of, entry};
 ghost use Rattle.mlt_hash_form.specs.Changes.{IsSplit, MaySplit};
-ghost use Rattle.mlt_hash_form.specs.Splits.{HasEntries, IsLonger, IsMidway, IsMidwayInPlace, WritesBothHalves, WritesDirPage, run_length, run_start};
+ghost use Rattle.mlt_hash_form.specs.Splits.{HasEntries, IsLonger, IsMidway, IsMidwayInPlace, WritesBothHalves, WritesDirPage, run_length, run_start, bucket_split, next_page};
 
 /// A split that doubles the directory begins with the new bucket and the old one.
 pub fn split_begins_to_double()
@@ -16,7 +16,7 @@ pub fn split_begins_to_double()
         (root x n new deeper : ℕ) (made : List ℕ)
         → MaySplit bits before root x n new
         → WritesBothHalves bits opens before one two n new
-        → IsMidway bits opens before two root n new x deeper made 0 0 }
+        → IsMidway (bucket_split bits opens before root n new x) deeper two made 0 0 }
 {}
 
 /// A split that leaves the directory as deep as it is begins so too. No page of the directory before the first
@@ -27,7 +27,7 @@ pub fn split_begins_in_place()
         → MaySplit bits before root x n new
         → WritesBothHalves bits opens before one two n new
         → 256 * q ≤ run_start before root n x → q ≤ 2 ^ (depth_of before root - 8)
-        → IsMidwayInPlace bits opens before two root n new x q }
+        → IsMidwayInPlace (bucket_split bits opens before root n new x) two q }
 {}
 
 /// The next page of the old directory is written as the next page of the new one.
@@ -35,10 +35,12 @@ pub fn split_rewrites_a_page()
     ensures { (bits : ℕ → ℕ) (opens : set.FinSet nat_cmp) (before pages pages' : FilePages)
         (root x n new deeper j k m : ℕ) (made made' dir : List ℕ)
         → MaySplit bits before root x n new
-        → IsMidway bits opens before pages root n new x deeper made j k
-        → WritesDirPage before pages pages' root n new x deeper made made' j m dir
+        → IsMidway (bucket_split bits opens before root n new x) deeper pages made j k
+        → WritesDirPage (bucket_split bits opens before root n new x) deeper pages pages'
+        made made' (next_page j m dir)
         → k < 2 ^ (depth_of before root - 8) → slice_index (dirs_of before root) k ≡ m
-        → IsMidway bits opens before pages' root n new x deeper made' (j + 1) (k + 1) }
+        → IsMidway (bucket_split bits opens before root n new x) deeper pages'
+        made' (j + 1) (k + 1) }
 {}
 
 /// A page that was not there is made as the next page of the new directory.
@@ -46,9 +48,10 @@ pub fn split_makes_a_page()
     ensures { (bits : ℕ → ℕ) (opens : set.FinSet nat_cmp) (before pages pages' : FilePages)
         (root x n new deeper j k m : ℕ) (made made' dir : List ℕ)
         → MaySplit bits before root x n new
-        → IsMidway bits opens before pages root n new x deeper made j k
-        → WritesDirPage before pages pages' root n new x deeper made made' j m dir → pages m ≡ None
-        → IsMidway bits opens before pages' root n new x deeper made' (j + 1) k }
+        → IsMidway (bucket_split bits opens before root n new x) deeper pages made j k
+        → WritesDirPage (bucket_split bits opens before root n new x) deeper pages pages'
+        made made' (next_page j m dir) → pages m ≡ None
+        → IsMidway (bucket_split bits opens before root n new x) deeper pages' made' (j + 1) k }
 {}
 
 /// With all pages of the deeper directory written, the header closes the split: no record and no ghost of an
@@ -58,7 +61,8 @@ pub fn split_closes_by_header()
         (root x n new k : ℕ) (header : HeadFields)
         → MaySplit bits before root x n new
         → let count = 2 ^ (header.depth - 8) in
-        IsMidway bits opens before pages root n new x header.depth header.dirs count k
+        IsMidway (bucket_split bits opens before root n new x) header.depth pages
+        header.dirs count k
         → header.depth ≤ 16 → depth_of before root ≤ header.depth
         → (buckets_of before n).depth < header.depth → Writes pages pages' root (page.Head header)
         → IsSplit bits opens before pages' root n new }
@@ -69,7 +73,7 @@ pub fn split_closes_in_place()
     ensures { (bits : ℕ → ℕ) (opens : set.FinSet nat_cmp) (before pages : FilePages)
         (root x n new q : ℕ)
         → MaySplit bits before root x n new
-        → IsMidwayInPlace bits opens before pages root n new x q
+        → IsMidwayInPlace (bucket_split bits opens before root n new x) pages q
         → run_start before root n x + run_length before root n ≤ 256 * q
         → (buckets_of before n).depth < depth_of before root
         → IsSplit bits opens before pages root n new }
@@ -86,7 +90,7 @@ pub fn directory_page_has_its_entries()
 pub fn unwritten_page_is_as_it_was()
     ensures { (bits : ℕ → ℕ) (opens : set.FinSet nat_cmp) (before pages : FilePages)
         (root n new x deeper j k q : ℕ) (made : List ℕ)
-        → IsMidway bits opens before pages root n new x deeper made j k
+        → IsMidway (bucket_split bits opens before root n new x) deeper pages made j k
         → k ≤ q → q < 2 ^ (depth_of before root - 8)
         → let dirs = dirs_of before root in
         (dir : List ℕ) × (pages (slice_index dirs q) ≡ Some (page.Dir dir)) × (length dir ≡ 256)

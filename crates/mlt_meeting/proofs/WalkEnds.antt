@@ -8,7 +8,7 @@ use Rattle.mlt_types.specs.declared.cell.Cell.{Cell}
 use Rattle.mlt_page.specs.declared.page.Page.{Page}
 use Rattle.mlt_page.specs.declared.page.Page.TheVariants as page
 use Rattle.mlt_base.specs.declared.record.RecChange.{RecChange}
-use Rattle.mlt_hash_form.specs.Changes.{ChangesRecord, IsAtHome, Spot, slot_of}
+use Rattle.mlt_hash_form.specs.Changes.{ChangesRecord, IsAtHome, Spot, slot_of, slot_change}
 use Rattle.mlt_hash_form.specs.File.{FilePages, HasForm, header_of}
 use Rattle.mlt_hash_form.specs.Held.{Agrees, over, own_or}
 use Rattle.mlt_held.specs.Views.{View}
@@ -39,7 +39,7 @@ module _ (world : World) (tx : ℕ) (pages : map.FinMap nat_cmp Page) (walk : Wa
   abbrev SaysOfKey : FilePages → ℕ → Type 0
   SaysOfKey after key = IsAtHome world.bits rest world.root key spot
       × StoodBefore done (basis_of world tx) key spot.bucket.slots (slot_of spot)
-      × ChangesRecord world.bits rest after world.root key (value_after done) spot.number spot.at (slot_after done key tx)
+      × ChangesRecord world.bits rest after world.root (slot_change key (value_after done) spot.number spot.at (slot_after done key tx))
 
   by_walk : SaysOfKey (over (map.get world.pages) view.own) walk.key
   by_walk = (

@@ -7,7 +7,7 @@ use Rattle.mlt_types.specs.Cells.{key_number}
 use Rattle.mlt_page.specs.Slots.{is_kept}
 use Rattle.mlt_page.specs.declared.page.Page.{Page}
 use Rattle.mlt_base.specs.declared.record.RecChange.{RecChange}
-use Rattle.mlt_hash_form.specs.Changes.{ChangesRecord, IsAtHome, Spot, slot_of}
+use Rattle.mlt_hash_form.specs.Changes.{ChangesRecord, IsAtHome, Spot, slot_of, slot_change}
 use Rattle.mlt_hash_form.specs.File.{FilePages, depth_of}
 use Rattle.mlt_hash.specs.Passes.{slot_after, value_after}
 use Rattle.mlt_hash.specs.Walks.{StoodBefore}
@@ -28,8 +28,9 @@ pub record LeavesChange (world : World) (tx : ℕ) (cell : Cell) (change : RecCh
   pub done : Change
   pub performs : Performs change (record_at world cell) done
   pub was : StoodBefore done (basis_of world tx) (key_number cell) spot.bucket.slots (slot_of spot)
-  pub changes : ChangesRecord world.bits rest (map.get pages) world.root (key_number cell)
-      (value_after done) spot.number spot.at (slot_after done (key_number cell) tx)
+  pub changes : ChangesRecord world.bits rest (map.get pages) world.root
+      (slot_change (key_number cell) (value_after done) spot.number spot.at
+      (slot_after done (key_number cell) tx))
   pub shallow : depth_of (map.get pages) world.root ≤ world.max_depth
 
 -- the clean pages are as they were

@@ -10,7 +10,7 @@ use Rattle.mlt_page.specs.declared.page.Page.TheVariants as page
 use Rattle.mlt_page.specs.declared.slot.Slot.{Slot}
 use Rattle.mlt_page.specs.declared.slot.Slot.TheVariants.{Free, Ghost, Live}
 use Rattle.mlt_page.specs.Values.{BucketFields, HeadFields}
-use Rattle.mlt_hash_form.specs.Changes.{ChangesRecord, IsHome}
+use Rattle.mlt_hash_form.specs.Changes.{ChangesRecord, IsHome, slot_change}
 use Rattle.mlt_hash_form.specs.File.{GivesPseudokeys, HasForm, Writes, bucket_of, buckets_of, lead_of, look_up}
 use Rattle.mlt_hash_form.specs.Form.{value_in}
 use Rattle.mlt_hash_form.specs.Held.{Agrees, over, own_or}
@@ -75,7 +75,7 @@ first_spot q bucket has slot write sets = (
 
 module _ (bits : ℕ → ℕ) (pages pages' : ℕ → Option Page) (root : ℕ) (opens : set.FinSet nat_cmp) (tx key q : ℕ) (bucket : BucketFields) (home : IsHome bits pages root key q bucket) (write : WriteFields) (writes : Writes pages pages' q (planned_page bucket write)) where
   abbrev Changed : RecordChange → Type 0
-  Changed change = ChangesRecord bits pages pages' root key (value_after change) q write.at (slot_after change key tx)
+  Changed change = ChangesRecord bits pages pages' root (slot_change key (value_after change) q write.at (slot_after change key tx))
 
   writes_as : (slot : Slot) → write.slot ≡ slot → Writes pages pages' q (planned_page bucket (record write { slot = slot }))
   writes_as slot is = subst (λ slot. Writes pages pages' q (planned_page bucket (record write { slot = slot }))) is writes
@@ -100,7 +100,7 @@ module _ (bits : ℕ → ℕ) (pages pages' : ℕ → Option Page) (root : ℕ) 
 -- **A change that is made changes one record of the file.**
 pub changes_one : (bits : ℕ → ℕ) (root : ℕ) (opens : set.FinSet nat_cmp) (tx key q : ℕ) (change : RecordChange) (old new : View) (clean : ℕ → Option Page) → GivesPseudokeys bits → Agrees old.seen clean → HasForm bits (over clean old.own) root
     → lead_of (over clean old.own) root (bits key) ≡ q → FitsFound (Some change) (look_up bits (over clean old.own) root key) → (makes : MakesChange change opens tx key q old new)
-    → ChangesRecord bits (over clean old.own) (over clean new.own) root key (value_after change) q makes.write.at (slot_after change key tx)
+    → ChangesRecord bits (over clean old.own) (over clean new.own) root (slot_change key (value_after change) q makes.write.at (slot_after change key tx))
 changes_one bits root opens tx key q change old new clean bounded agree form leads fits makes =
     let there : over clean old.own q ≡ Some (page.Bucket makes.bucket) = ap (own_or (old.own q)) (agree q makes.reads.0 makes.reads.1) ∙ makes.reads.2 in
     let home : IsHome bits (over clean old.own) root key q makes.bucket = record { bounded = bounded; form = form; leads = leads; found = there } in

@@ -8,7 +8,7 @@ ghost use Rattle.mlt_page.specs.declared.page.Page.{Page};
 ghost use Rattle.mlt_page_locks.specs.LockTables.{pages_of};
 ghost use Rattle.mlt_hash_form.specs.File.{GivesPseudokeys, HasForm, lead_of, look_up};
 ghost use Rattle.mlt_hash_form.specs.Held.{Agrees, over};
-ghost use Rattle.mlt_hash_form.specs.Changes.{ChangesRecord};
+ghost use Rattle.mlt_hash_form.specs.Changes.{ChangesRecord, slot_change};
 ghost use Rattle.mlt_held.specs.Moments.{Moment};
 ghost use Rattle.mlt_held.specs.Views.{View, view_of};
 ghost use Rattle.mlt_pair.specs.Ways.{found_of, page_of};
@@ -75,6 +75,6 @@ pub fn each_change_changes_one_record()
         → lead_of (over clean old.own) root (bits key) ≡ q
         → FitsFound (Some change) (look_up bits (over clean old.own) root key)
         → (makes : MakesChange change opens tx key q old new)
-        → ChangesRecord bits (over clean old.own) (over clean new.own) root key
-        (value_after change) q makes.write.at (slot_after change key tx) }
+        → ChangesRecord bits (over clean old.own) (over clean new.own) root
+        (slot_change key (value_after change) q makes.write.at (slot_after change key tx)) }
 {}

@@ -19,7 +19,7 @@ use Rattle.mlt_hash_form.specs.File.{HasForm, Writes, bucket_of, buckets_of, dep
 use Rattle.mlt_hash_form.specs.Changes.{IsSplit, MaySplit}
 use Rattle.mlt_hash_form.specs.Held.{Agrees, KeepsFile, over, own_or}
 use Rattle.mlt_hash_form.specs.Room.{is_crowded}
-use Rattle.mlt_hash_form.specs.Splits.{IsMidway, run_length, run_start, target_of}
+use Rattle.mlt_hash_form.specs.Splits.{IsMidway, run_length, run_start, target_of, bucket_split}
 use Rattle.mlt_hash_form.proofs.Bits.{first_bits-first_bits, first_bits_below, first_bits_next, side_cases}
 use Rattle.mlt_hash_form.proofs.Crowd.{crowded_half}
 use Rattle.mlt_hash_form.proofs.FillEnds.{filled_reads, place_all}
@@ -65,7 +65,7 @@ target_leads base pages root n new x g' made x_ok small deeper room leads reads 
 
 module _ (bits : ℕ → ℕ) (splitters : set.FinSet nat_cmp) (base : ℕ → Option Page) (root n new x : ℕ) (may : MaySplit bits base root x n new) where
   -- the last page of a directory that keeps its depth closes the split
-  pub closed_in_place : (pages : ℕ → Option Page) (q : ℕ) → IsMidway bits splitters base pages root n new x (depth_of base root) (dirs_of base root) q q
+  pub closed_in_place : (pages : ℕ → Option Page) (q : ℕ) → IsMidway (bucket_split bits splitters base root n new x) (depth_of base root) pages (dirs_of base root) q q
       → run_start base root n x + run_length base root n ≤ 256 * q → (buckets_of base n).depth < depth_of base root → IsClosed bits splitters base pages root n new x
   closed_in_place pages q m h room =
       let f = place_all base pages _ _ (buckets_of base n).depth (2 * first_bits (buckets_of base n).depth x + 1) new may.form.listed q m.filling h in
@@ -79,7 +79,7 @@ module _ (bits : ℕ → ℕ) (splitters : set.FinSet nat_cmp) (base : ℕ → O
       }
 
   -- and the header that of a doubled directory
-  pub closed_by_header : (pages pages' : ℕ → Option Page) (k : ℕ) (header : HeadFields) → IsMidway bits splitters base pages root n new x header.depth header.dirs (2 ^ (header.depth - 8)) k
+  pub closed_by_header : (pages pages' : ℕ → Option Page) (k : ℕ) (header : HeadFields) → IsMidway (bucket_split bits splitters base root n new x) header.depth pages header.dirs (2 ^ (header.depth - 8)) k
       → header.depth ≤ 16 → depth_of base root ≤ header.depth → (buckets_of base n).depth < header.depth → Writes pages pages' root (page.Head header)
       → IsClosed bits splitters base pages' root n new x
   closed_by_header pages pages' k header m small deeper room writes =

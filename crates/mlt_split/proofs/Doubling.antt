@@ -11,7 +11,7 @@ use Rattle.mlt_page_locks.specs.LockTables.{Modes}
 use Rattle.mlt_store.specs.Stores.{page_at}
 use Rattle.mlt_hash_form.specs.File.{HasForm, buckets_of, bucket_of, depth_of, dirs_of, entry, header_of}
 use Rattle.mlt_hash_form.specs.Held.{Agrees, over, own_or}
-use Rattle.mlt_hash_form.specs.Splits.{IsMidway, prefix_of, target_of}
+use Rattle.mlt_hash_form.specs.Splits.{IsMidway, prefix_of, target_of, bucket_split}
 use Rattle.mlt_hash_form.proofs.HeldPages.{writes_over}
 use Rattle.mlt_hash_form.proofs.PageContents.{doubled_right}
 use Rattle.mlt_hash_form.proofs.SplitSteps.{page_as_it_was, pages_when_doubled, rewrites_a_page, set_is_longer}
@@ -180,7 +180,7 @@ module _ (aim : Aim) (view mid view' : View) (split : SplitFields) (place number
     dir_read = ap (over clean view.own) (sym listed_as) ∙ reads_over view mid number Exclusive (Some (page.Dir dir)) clean reads ((agrees_through_write mid view' number (page.Dir first) clean writes).1 agree')
 
     -- the page was written as the next page of the new directory,
-    pub double_filled : IsMidway aim.bits under.splitters (over clean under.rest) (over clean view'.own) aim.root split.old_page split.new_page (seed_of aim) split.made.depth (slice_set split.made.dirs (2 * place) number) (2 * place + 1) (place + 1)
+    pub double_filled : IsMidway (bucket_split aim.bits under.splitters (over clean under.rest) aim.root split.old_page split.new_page (seed_of aim)) split.made.depth (over clean view'.own) (slice_set split.made.dirs (2 * place) number) (2 * place + 1) (place + 1)
     double_filled =
         rewrites_a_page aim.bits under.splitters (over clean under.rest) aim.root (seed_of aim) split.old_page split.new_page (under.begins clean agree form).may (over clean view.own) (over clean view'.own) split.made.depth split.made.dirs (slice_set split.made.dirs (2 * place) number) (2 * place) place number first stood.filled
         (record {
@@ -230,7 +230,7 @@ module _ (aim : Aim) (view mid view' : View) (split : SplitFields) (place number
       stays_under_way aim view view' split renamed second at.Header under later (λ clean agree form. let s = stood clean agree form in record {
         deep = s.deep;
         taken = place + 1;
-        filled = subst (λ (j : ℕ). IsMidway aim.bits under.splitters (over clean under.rest) (over clean view'.own) aim.root split.old_page split.new_page (seed_of aim) split.made.depth (slice_set split.made.dirs (2 * place) number) j (place + 1)) (sym all) (double_filled clean agree form);
+        filled = subst (λ (j : ℕ). IsMidway (bucket_split aim.bits under.splitters (over clean under.rest) aim.root split.old_page split.new_page (seed_of aim)) split.made.depth (over clean view'.own) (slice_set split.made.dirs (2 * place) number) j (place + 1)) (sym all) (double_filled clean agree form);
         deeper = s.deeper;
       })
       (among_all_made view' under.header.dirs (slice_set split.made.dirs (2 * place) number) (place + 1) (2 ^ (split.directory_depth - 8)) (2 * place + 1) (most_held (split.depth + 1) split.directory_depth + place) (2 ^ (split.made.depth - 8)) (most_held (split.depth + 1) split.made.depth) all (omega (arith, all, one_page)) (among_rewritten more))

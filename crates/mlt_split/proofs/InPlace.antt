@@ -14,7 +14,7 @@ use Rattle.mlt_hash_form.specs.File.{HasForm, Writes, bucket_of, buckets_of, dep
 use Rattle.mlt_hash_form.specs.Held.{Agrees, over, own_or}
 use Rattle.mlt_hash_form.specs.Form.{half_of}
 use Rattle.mlt_page.specs.Bits.{bit_at}
-use Rattle.mlt_hash_form.specs.Splits.{IsMidway, run_length, run_start, target_of}
+use Rattle.mlt_hash_form.specs.Splits.{IsMidway, run_length, run_start, target_of, bucket_split}
 use Rattle.mlt_hash_form.proofs.HeldPages.{keeps_more}
 use Rattle.mlt_hash_form.proofs.PageContents.{placed_right}
 use Rattle.mlt_hash_form.proofs.SplitSteps.{page_as_it_was, rewrites_a_page}
@@ -89,10 +89,10 @@ module _ (aim : Aim) (splitters : set.FinSet nat_cmp) (base pages : ℕ → Opti
         (λ r h le lt. has.inside r h (omega (arith, start_is, le)) (omega (arith, start_is, length_is, lt)))
         (subst (λ (p : ℕ × ℕ). (r : ℕ) → r < 256 → (256 * place + r < p.0) ⊎ (p.0 + p.1 ≤ 256 * place + r) → slice_index made r ≡ slice_index dir r) (λ i. (start_is i, length_is i)) has.outside)
 
-    filled_in_base : IsMidway aim.bits splitters base pages' aim.root split.old_page split.new_page (seed_of aim) (depth_of base aim.root) (dirs_of base aim.root) (place + 1) (place + 1)
+    filled_in_base : IsMidway (bucket_split aim.bits splitters base aim.root split.old_page split.new_page (seed_of aim)) (depth_of base aim.root) pages' (dirs_of base aim.root) (place + 1) (place + 1)
     filled_in_base =
         let number : slice_index (dirs_of base aim.root) place ≡ slice_index header.dirs place = ap (λ (h : HeadFields). slice_index h.dirs place) header_is in
-        let filled : IsMidway aim.bits splitters base pages aim.root split.old_page split.new_page (seed_of aim) (depth_of base aim.root) (dirs_of base aim.root) place place = subst (λ g. IsMidway aim.bits splitters base pages aim.root split.old_page split.new_page (seed_of aim) g (dirs_of base aim.root) place place) (sym b.directory_depth) s.filled in
+        let filled : IsMidway (bucket_split aim.bits splitters base aim.root split.old_page split.new_page (seed_of aim)) (depth_of base aim.root) pages (dirs_of base aim.root) place place = subst (λ g. IsMidway (bucket_split aim.bits splitters base aim.root split.old_page split.new_page (seed_of aim)) g pages (dirs_of base aim.root) place place) (sym b.directory_depth) s.filled in
         rewrites_a_page aim.bits splitters base aim.root (seed_of aim) split.old_page split.new_page b.may pages pages' (depth_of base aim.root) (dirs_of base aim.root) (dirs_of base aim.root) place place (slice_index header.dirs place) made filled
         (record { writes = writes; longer = record { last = number; before = λ q lt. refl }; size = has.size; right = right })
         listed number
@@ -101,7 +101,7 @@ module _ (aim : Aim) (splitters : set.FinSet nat_cmp) (base pages : ℕ → Opti
     pub in_place_further : place + 1 < end → IsInPlace aim splitters base pages' (record split { phase = at.InPlace (place + 1) end }) (place + 1) end
     in_place_further more = record {
       shallow = s.shallow;
-      filled = subst (λ g. IsMidway aim.bits splitters base pages' aim.root split.old_page split.new_page (seed_of aim) g (dirs_of base aim.root) (place + 1) (place + 1)) b.directory_depth filled_in_base;
+      filled = subst (λ g. IsMidway (bucket_split aim.bits splitters base aim.root split.old_page split.new_page (seed_of aim)) g pages' (dirs_of base aim.root) (place + 1) (place + 1)) b.directory_depth filled_in_base;
       first = s.first;
       places = s.places;
       from = let from = s.from in omega (arith, from);

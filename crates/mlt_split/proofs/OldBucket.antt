@@ -14,7 +14,7 @@ use Rattle.mlt_page.specs.declared.page.Page.TheVariants as page
 use Rattle.mlt_hash_form.specs.File.{Writes, bucket_of, buckets_of, depth_of, dirs_of, header_of, lead_of}
 use Rattle.mlt_hash_form.specs.Form.{half_of}
 use Rattle.mlt_hash_form.specs.Held.{over}
-use Rattle.mlt_hash_form.specs.Splits.{IsMidway}
+use Rattle.mlt_hash_form.specs.Splits.{IsMidway, bucket_split}
 use Rattle.mlt_hash_form.proofs.FillEnds.{page_listed}
 use Rattle.mlt_hash_form.proofs.InPlace.{one_page, whole_pages}
 use Rattle.mlt_hash_form.proofs.SplitSteps.{begins_in_place, begins_to_double}
@@ -110,7 +110,7 @@ module _ (aim : Aim) (splitters : set.FinSet nat_cmp) (base one two : ℕ → Op
       let more : place < end = omega (arith, first.1.count, some) in
       record {
         shallow = first.0;
-        filled = subst (λ g. IsMidway aim.bits splitters base two aim.root split.old_page split.new_page (seed_of aim) g (dirs_of base aim.root) place place) b.directory_depth
+        filled = subst (λ g. IsMidway (bucket_split aim.bits splitters base aim.root split.old_page split.new_page (seed_of aim)) g two (dirs_of base aim.root) place place) b.directory_depth
             (begins_in_place aim.bits splitters base aim.root (seed_of aim) split.old_page split.new_page b.may one two first_write second_write place have.first (omega (arith, more, have.within)));
         first = place;
         places = first.1;
@@ -120,7 +120,7 @@ module _ (aim : Aim) (splitters : set.FinSet nat_cmp) (base one two : ℕ → Op
       }
   old_bucket_written (at.Double place) first = record {
     deep = first.0;
-    filled = subst (λ k. IsMidway aim.bits splitters base two aim.root split.old_page split.new_page (seed_of aim) split.made.depth split.made.dirs (2 * k) k) (sym first.1)
+    filled = subst (λ k. IsMidway (bucket_split aim.bits splitters base aim.root split.old_page split.new_page (seed_of aim)) split.made.depth two split.made.dirs (2 * k) k) (sym first.1)
         (begins_to_double aim.bits splitters base aim.root (seed_of aim) split.old_page split.new_page b.may one two first_write second_write split.made.depth split.made.dirs);
     more = let some = pow_pos (split.directory_depth - 8) in omega (arith, first.1, some);
     deeper = ap (λ (h : HeadFields). h.depth) (stands.doubles first.0);

@@ -9,7 +9,7 @@ use Rattle.mlt_page.specs.Values.{HeadFields}
 use Rattle.mlt_page_locks.specs.LockTables.{Modes}
 use Rattle.mlt_hash_form.specs.File.{HasForm}
 use Rattle.mlt_hash_form.specs.Held.{Agrees, over, own_or}
-use Rattle.mlt_hash_form.specs.Splits.{IsMidway}
+use Rattle.mlt_hash_form.specs.Splits.{IsMidway, bucket_split}
 use Rattle.mlt_hash_form.proofs.SplitSteps.{makes_a_page, pages_when_doubled, set_is_longer}
 use Rattle.mlt_held.specs.Moments.{HasCleanFile, MayStep, Moment}
 use Rattle.mlt_held.specs.Views.{MakesPage, View, view_of}
@@ -86,7 +86,7 @@ module _ (aim : Aim) (view view' : View) (split : SplitFields) (place n : ℕ) (
 
   -- the page was made as the next page of the new directory
   pub second_half_filled : (clean : ℕ → Option Page) → Agrees view'.seen clean → HasForm aim.bits clean aim.root
-      → IsMidway aim.bits under.splitters (over clean under.rest) (over clean view'.own) aim.root split.old_page split.new_page (seed_of aim) split.made.depth (slice_set split.made.dirs (2 * place + 1) n) (2 * place + 1 + 1) (place + 1)
+      → IsMidway (bucket_split aim.bits under.splitters (over clean under.rest) aim.root split.old_page split.new_page (seed_of aim)) split.made.depth (over clean view'.own) (slice_set split.made.dirs (2 * place + 1) n) (2 * place + 1 + 1) (place + 1)
   second_half_filled clean agree form =
       let begins = under.begins clean (agreed_before aim.root view view' clean later agree) form in
       let s = stood clean agree form in
@@ -112,7 +112,7 @@ module _ (aim : Aim) (view view' : View) (split : SplitFields) (place n : ℕ) (
       let most : most_held (split.depth + 1) split.directory_depth + place + 1 ≡ most_held (split.depth + 1) split.directory_depth + (place + 1) = omega arith in
       stays_under_way aim view view' split named split.second (at.Double (place + 1)) under later (λ clean agree form. let s = stood clean agree form in record {
         deep = s.deep;
-        filled = subst (λ (j : ℕ). IsMidway aim.bits under.splitters (over clean under.rest) (over clean view'.own) aim.root split.old_page split.new_page (seed_of aim) split.made.depth (slice_set split.made.dirs (2 * place + 1) n) j (place + 1)) twice (second_half_filled clean agree form);
+        filled = subst (λ (j : ℕ). IsMidway (bucket_split aim.bits under.splitters (over clean under.rest) aim.root split.old_page split.new_page (seed_of aim)) split.made.depth (over clean view'.own) (slice_set split.made.dirs (2 * place + 1) n) j (place + 1)) twice (second_half_filled clean agree form);
         more = more;
         deeper = s.deeper;
       })
@@ -127,7 +127,7 @@ module _ (aim : Aim) (view view' : View) (split : SplitFields) (place n : ℕ) (
       stays_under_way aim view view' split named split.second at.Header under later (λ clean agree form. let s = stood clean agree form in record {
         deep = s.deep;
         taken = place + 1;
-        filled = subst (λ (j : ℕ). IsMidway aim.bits under.splitters (over clean under.rest) (over clean view'.own) aim.root split.old_page split.new_page (seed_of aim) split.made.depth (slice_set split.made.dirs (2 * place + 1) n) j (place + 1)) (sym all) (second_half_filled clean agree form);
+        filled = subst (λ (j : ℕ). IsMidway (bucket_split aim.bits under.splitters (over clean under.rest) aim.root split.old_page split.new_page (seed_of aim)) split.made.depth (over clean view'.own) (slice_set split.made.dirs (2 * place + 1) n) j (place + 1)) (sym all) (second_half_filled clean agree form);
         deeper = s.deeper;
       })
       (among_all_made view' under.header.dirs (slice_set split.made.dirs (2 * place + 1) n) (place + 1) (2 ^ (split.directory_depth - 8)) (2 * place + 1 + 1) (most_held (split.depth + 1) split.directory_depth + place + 1) (2 ^ (split.made.depth - 8)) (most_held (split.depth + 1) split.made.depth) all (omega (arith, all, last)) among)

@@ -16,7 +16,7 @@ use Rattle.mlt_hash_form.specs.File.{HasForm, Writes, depth_of, dirs_of}
 use Rattle.mlt_hash_form.specs.Changes.{MaySplit}
 use Rattle.mlt_hash_form.specs.Held.{Agrees, KeepsFile, over}
 use Rattle.mlt_hash_form.specs.Room.{is_crowded}
-use Rattle.mlt_hash_form.specs.Splits.{IsMidway, run_length, run_start, target_of}
+use Rattle.mlt_hash_form.specs.Splits.{BucketSplit, IsMidway, bucket_split, run_length, run_start, target_in}
 use Rattle.mlt_held.specs.Moments.{HasCleanFile, MayStep, Moment}
 use Rattle.mlt_held.specs.Views.{View, view_of}
 use Rattle.mlt_split.specs.Rests.{Aim, IsAtRest, HoldsAmong, held_page, most_held, seed_of}
@@ -75,13 +75,10 @@ pub record MayBegin (aim : Aim) (view : View) (n : ℕ) : Type 0 where
   pub shallow : bucket.depth < aim.room_depth
   pub doubles : bucket.depth ≡ header.depth → map.get view.modes aim.root ≡ Some Exclusive
 
--- how far the split is, with the list of the new directory's pages, of which the first j are written, and with the old
--- ones from the k-th on as they were
-abbrev pub IsFilled : Aim → set.FinSet nat_cmp → (ℕ → Option Page) → (ℕ → Option Page) → SplitFields
-    → ℕ → List ℕ → ℕ → ℕ → Type 0
-IsFilled aim splitters base pages split deeper made j k =
-    IsMidway aim.bits splitters base pages aim.root split.old_page split.new_page (seed_of aim)
-    deeper made j k
+-- what stays the same while the split is under way, which began with these pages and these open owners
+abbrev pub split_in : Aim → set.FinSet nat_cmp → (ℕ → Option Page) → SplitFields → BucketSplit
+split_in aim splitters base split =
+    bucket_split aim.bits splitters base aim.root split.old_page split.new_page (seed_of aim)
 
 -- the new bucket is made, and the old one to be written
 pub record IsAtOldBucket (aim : Aim) (splitters : set.FinSet nat_cmp) (base pages : ℕ → Option Page)
@@ -104,7 +101,8 @@ pub record HaveNewPlaces (seed l g place end : ℕ) : Type 0 where
 pub record IsInPlace (aim : Aim) (splitters : set.FinSet nat_cmp) (base pages : ℕ → Option Page)
     (split : SplitFields) (place end : ℕ) : Type 0 where
   pub shallow : split.depth < split.directory_depth
-  pub filled : IsFilled aim splitters base pages split split.directory_depth (dirs_of base aim.root) place place
+  pub filled : IsMidway (split_in aim splitters base split) split.directory_depth pages
+      (dirs_of base aim.root) place place
   pub first : ℕ
   pub places : HaveNewPlaces split.seed split.depth split.directory_depth first end
   pub from : first ≤ place
@@ -115,7 +113,8 @@ pub record IsInPlace (aim : Aim) (splitters : set.FinSet nat_cmp) (base pages : 
 pub record IsAtDouble (aim : Aim) (splitters : set.FinSet nat_cmp) (base pages : ℕ → Option Page)
     (split : SplitFields) (place : ℕ) : Type 0 where
   pub deep : split.depth ≡ split.directory_depth
-  pub filled : IsFilled aim splitters base pages split split.made.depth split.made.dirs (2 * place) place
+  pub filled : IsMidway (split_in aim splitters base split) split.made.depth pages
+      split.made.dirs (2 * place) place
   pub more : place < 2 ^ (split.directory_depth - 8)
   pub deeper : split.made.depth ≡ split.directory_depth + 1
 
@@ -123,23 +122,23 @@ pub record IsAtDouble (aim : Aim) (splitters : set.FinSet nat_cmp) (base pages :
 pub record IsAtSecondHalf (aim : Aim) (splitters : set.FinSet nat_cmp)
     (base pages : ℕ → Option Page) (split : SplitFields) (place : ℕ) : Type 0 where
   pub deep : split.depth ≡ split.directory_depth
-  pub filled : IsFilled aim splitters base pages split split.made.depth split.made.dirs (2 * place + 1) (place + 1)
+  pub filled : IsMidway (split_in aim splitters base split) split.made.depth pages
+      split.made.dirs (2 * place + 1) (place + 1)
   pub more : place < 2 ^ (split.directory_depth - 8)
   pub deeper : split.made.depth ≡ split.directory_depth + 1
   pub long : 8 ≤ split.directory_depth
   pub sized : length split.second ≡ 256
   pub right : (r : ℕ) → r < 256
       → slice_index split.second r
-      ≡ target_of base aim.root split.old_page split.new_page (seed_of aim) split.made.depth
-      (256 * (2 * place + 1) + r)
+      ≡ target_in (split_in aim splitters base split) split.made.depth (256 * (2 * place + 1) + r)
 
 -- every page of the doubled directory is written
 pub record IsAtHeader (aim : Aim) (splitters : set.FinSet nat_cmp) (base pages : ℕ → Option Page)
     (split : SplitFields) : Type 0 where
   pub deep : split.depth ≡ split.directory_depth
   pub taken : ℕ
-  pub filled : IsFilled aim splitters base pages split split.made.depth split.made.dirs
-      (2 ^ (split.made.depth - 8)) taken
+  pub filled : IsMidway (split_in aim splitters base split) split.made.depth pages
+      split.made.dirs (2 ^ (split.made.depth - 8)) taken
   pub deeper : split.made.depth ≡ split.directory_depth + 1
 
 abbrev pub StandsAt : SplitPhase → Aim → set.FinSet nat_cmp → (ℕ → Option Page) → (ℕ → Option Page)
