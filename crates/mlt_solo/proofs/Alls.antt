@@ -70,11 +70,9 @@ module _ {P : Type 0} (bits_of : P → ℕ → ℕ) where
           outcomes = outcomes;
           base = led.0;
           spells = subst (λ (b : List ℕ). Spells b scripts) same_bytes spells;
-          solo = record {
-            serial = (last.commits, subst (λ (n : ℕ). AreRuns scripts empty_base n outcomes led.0 last.commits) new.commits led.2, refl);
-            can = ran.can;
-            numbered = ran.numbered;
-            manager = record { opening = m; opens = new; exchanges = ran.exchanges; told = ran.told; run = ran.run; leads = led.1 };
-          };
+          serial = (last.commits, subst (λ (n : ℕ). AreRuns scripts empty_base n outcomes led.0 last.commits) new.commits led.2, refl);
+          can = ran.can;
+          numbered = ran.numbered;
+          manager = record { opening = m; opens = new; exchanges = ran.exchanges; told = ran.told; run = ran.run; leads = led.1 };
           is = refl;
         }

@@ -2,7 +2,6 @@
 use Rattle.std.specs.Prelude.{◌≡◌, ℕ, List, [], Option}
 use Rattle.mlt_types.specs.declared.limits.Limits.{Limits}
 use Rattle.mlt_types.specs.declared.refusal.Refusal.{Refusal}
-use Rattle.mlt_text.specs.Inputs.{GivesWhole}
 use Rattle.mlt_kinds.specs.Bases.{Base}
 use Rattle.mlt_script.specs.Grammar.{Spells}
 use Rattle.mlt_tree.specs.Scripts.{ScriptForm}
@@ -28,17 +27,8 @@ pub record IsRunByManager {P : Type 0} (bits_of : P → ℕ → ℕ) (limits : L
   pub run : IsRunOf bits_of opening exchanges new
   pub leads : HasBase new base
 
--- The scripts ran one after another from the empty base, just the marked ones were refused, at their marks; and a
--- manager told them so.
-pub record AreSolo {P : Type 0} (bits_of : P → ℕ → ℕ) (limits : Limits) (pseudo : P)
-    (scripts : List ScriptForm) (marks : List (Option (ℕ × Refusal))) (outcomes : List Outcome)
-    (base : Base) (new : ManagerFields P) : Type 0 where
-  pub serial : IsSerialRun scripts marks outcomes base
-  pub can : CanBeMarks marks
-  pub numbered : AreNumbered [] scripts outcomes
-  pub manager : IsRunByManager bits_of limits pseudo scripts outcomes base new
-
--- The input spells scripts, and the text is that of their outcomes.
+-- The input spells scripts. They ran one after another from the empty base, just the marked ones were refused, at
+-- their marks; and a manager told them so. The text is that of their outcomes.
 pub record IsSoloText {P : Type 0} (bits_of : P → ℕ → ℕ) (limits : Limits) (pseudo : P)
     (input text : List ℕ) (new : ManagerFields P) : Type 0 where
   pub scripts : List ScriptForm
@@ -46,11 +36,8 @@ pub record IsSoloText {P : Type 0} (bits_of : P → ℕ → ℕ) (limits : Limit
   pub outcomes : List Outcome
   pub base : Base
   pub spells : Spells input scripts
-  pub solo : AreSolo bits_of limits pseudo scripts marks outcomes base new
+  pub serial : IsSerialRun scripts marks outcomes base
+  pub can : CanBeMarks marks
+  pub numbered : AreNumbered [] scripts outcomes
+  pub manager : IsRunByManager bits_of limits pseudo scripts outcomes base new
   pub is : text ≡ report_text Solo outcomes base
-
--- a reader gave the input whole, and the text is that of its scripts
-abbrev pub IsSoloOf : {P : Type 0} → (P → ℕ → ℕ) → Limits → P → Option (List ℕ) → Option (List ℕ)
-    → List ℕ → List ℕ → ManagerFields P → Type 0
-IsSoloOf bits_of limits pseudo before after input text new =
-    GivesWhole before after input × IsSoloText bits_of limits pseudo input text new

@@ -6,7 +6,7 @@ ghost use Rattle.mlt_types.specs.declared.refusal.ScriptCause.{ScriptCause};
 ghost use Rattle.mlt_text.specs.Failures.{FailsCleanly, IsScriptFault, IsWant};
 ghost use Rattle.mlt_text.specs.Inputs.{GivesWhole};
 ghost use Rattle.mlt_script.specs.Grammar.{IsFirstFault};
-ghost use Rattle.mlt_solo.specs.Solo.{IsSoloOf, IsSoloText};
+ghost use Rattle.mlt_solo.specs.Solo.{IsSoloText};
 
 use crate::manager_desk::ManagerDesk;
 use crate::running::run_all;
@@ -38,8 +38,8 @@ where
     P: Drop,
     // what is written is the text of the scripts read, which the manager was asked for
     ensures text { IfOk result (λ manager. (input text : List ℕ)
-        × IsSoloOf P.bits_of limits pseudo (R.remaining reader.old) (R.remaining reader.new)
-        input text manager
+        × (GivesWhole (R.remaining reader.old) (R.remaining reader.new) input
+        × IsSoloText P.bits_of limits pseudo input text manager)
         × Appends (W.contents writer.old) (W.contents writer.new) text) }
     // a fault is the first one of the input
     ensures fault { (line : ℕ) (cause : ScriptCause) → result ≡ Err (Refusal.ScriptFault line cause)

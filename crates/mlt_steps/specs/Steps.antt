@@ -1,7 +1,6 @@
 -- What `steps` writes for an input.
-use Rattle.std.specs.Prelude.{◌≡◌, ℕ, List, [], ◌∷◌, ◌++◌, Option, codes}
+use Rattle.std.specs.Prelude.{◌≡◌, ℕ, List, [], ◌∷◌, ◌++◌, codes}
 use Rattle.mlt_types.specs.declared.limits.Limits.{Limits}
-use Rattle.mlt_text.specs.Inputs.{GivesWhole}
 use Rattle.mlt_kinds.specs.Bases.{Base}
 use Rattle.mlt_kinds.specs.Texts.{with_number}
 use Rattle.mlt_base.specs.BaseText.{base_text}
@@ -37,9 +36,3 @@ pub record IsStepsText {P : Type 0} (bits_of : P → ℕ → ℕ) (limits : Limi
   pub spelled : Spells input events
   pub played : Plays bits_of limits pseudo events tolds manager
   pub written : IsTextOf tolds manager text
-
--- a reader gave the input whole, and the text is that of its events
-abbrev pub IsStepsOf : {P : Type 0} → (P → ℕ → ℕ) → Limits → P → Option (List ℕ)
-    → Option (List ℕ) → List ℕ → List ℕ → ManagerFields P → Type 0
-IsStepsOf bits_of limits pseudo before after input text manager =
-    GivesWhole before after input × IsStepsText bits_of limits pseudo input text manager

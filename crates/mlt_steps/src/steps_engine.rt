@@ -6,7 +6,7 @@ ghost use Rattle.mlt_types.specs.declared.refusal.ScriptCause.{ScriptCause};
 ghost use Rattle.mlt_text.specs.Failures.{FailsCleanly, IsScriptFault, IsWant};
 ghost use Rattle.mlt_text.specs.Inputs.{GivesWhole};
 ghost use Rattle.mlt_event_text.specs.Grammar.{IsFirstFault};
-ghost use Rattle.mlt_steps.specs.Steps.{IsStepsOf, IsStepsText};
+ghost use Rattle.mlt_steps.specs.Steps.{IsStepsText};
 
 use crate::report::write_tolds;
 use mlt_event_text::parse_events;
@@ -36,8 +36,8 @@ where
     P: Drop,
     // what is written is the text of the events read, as the manager that is answered has played them
     ensures text { IfOk result (λ manager. (input text : List ℕ)
-        × IsStepsOf P.bits_of limits pseudo
-        (R.remaining reader.old) (R.remaining reader.new) input text manager
+        × (GivesWhole (R.remaining reader.old) (R.remaining reader.new) input
+        × IsStepsText P.bits_of limits pseudo input text manager)
         × Appends (W.contents writer.old) (W.contents writer.new) text) }
     // a fault is the first one of the input
     ensures fault { (line : ℕ) (cause : ScriptCause) → result ≡ Err (Refusal.ScriptFault line cause)

@@ -8,9 +8,9 @@ use Rattle.std.specs.Io.KnownBytes.{Appends, Consumes, IsAtEnd, Keeps}
 use Rattle.std.proofs.KnownBytes.{Appends-nil, Appends-trans, Consumes-nil, Consumes-trans}
 use Rattle.mlt_text.specs.Texts.{AppendsFront}
 use Rattle.mlt_request.specs.declared.line.Line.{Line}
-use Rattle.mlt_wire.specs.Batches.{Answered, Covers, IsRest, lines_in}
+use Rattle.mlt_wire.specs.Batches.{Answered, Covers, IsRest, front, lines_in}
 use Rattle.mlt_request.specs.Inputs.{lines_of, Begins, Splits}
-use Rattle.mlt_wire.specs.Rounds.{Replied, Stopped, Unwritten, Listens, Talked, Broken, BrokenHeard, AreLines, EndsInput}
+use Rattle.mlt_wire.specs.Rounds.{Replied, Stopped, Unwritten, Listens, Talked, Broken, BrokenHeard, AreLines, EndsInput, streams}
 use Rattle.mlt_wire.specs.Talks.{Turn, turn_text}
 use Rattle.mlt_wire.specs.Turns.{Place, Goes}
 use Rattle.mlt_request.proofs.Splitting.{splits_none, splits_both, prefix_lines, prefix_begins}
@@ -29,7 +29,7 @@ text_join : (ts us : List Turn) → flat_map turn_text (ts ++ us) ≡ flat_map t
 text_join ts us = flat_map-append turn_text ts us
 
 -- a session of which nothing was read
-pub starts : {D : Type 0} (moves : Moves D) (client : ℕ) (p : Place D) (a w : Option (List ℕ)) → p.progress.lines ≡ 0 → lines_of [] ≡ [] → Listens moves client p a a w w [] 0 p
+pub starts : {D : Type 0} (moves : Moves D) (client : ℕ) (p : Place D) (a w : Option (List ℕ)) → p.progress.lines ≡ 0 → lines_of [] ≡ [] → Listens moves client p (streams a a w w) [] 0 p
 starts moves client p a w l e =
     record {
       turns = [];
@@ -55,7 +55,7 @@ taken_length prefix held piece total most e l = omega (arith, length-append (pre
 
 -- the input ended
 pub ends_here : {D : Type 0} (moves : Moves D) (client : ℕ) (p q : Place D) (a b c w v : Option (List ℕ)) (held piece : List ℕ) (total : ℕ)
-    → Listens moves client p a b w v held total q → total + length piece ≤ 16777216 → q.progress.over ≡ false → length piece ≡ 0 → Consumes b c piece → IsAtEnd c → Talked moves client p a c w v q
+    → Listens moves client p (streams a b w v) held total q → total + length piece ≤ 16777216 → q.progress.over ≡ false → length piece ≡ 0 → Consumes b c piece → IsAtEnd c → Talked moves client p (streams a c w v) q
 ends_here moves client p q a b c w v held piece total h fits o n read end =
     record {
       taken = (h.prefix ++ held) ++ piece;
@@ -74,7 +74,7 @@ prefix_of_all w v text h = (text, [], sym (append-nil text), h)
 
 -- a read failed, or gave too much
 pub breaks : {D : Type 0} (moves : Moves D) (client : ℕ) (p q : Place D) (a b c w v : Option (List ℕ)) (held piece : List ℕ) (total : ℕ)
-    → Listens moves client p a b w v held total q → total + length piece ≤ 16777217 → Consumes b c piece → Broken moves client p a c w v q
+    → Listens moves client p (streams a b w v) held total q → total + length piece ≤ 16777217 → Consumes b c piece → Broken moves client p (streams a c w v) q
 breaks moves client p q a b c w v held piece total h fits read =
     record {
       taken = (h.prefix ++ held) ++ piece;
@@ -93,8 +93,8 @@ up_to_limit front piece limit fits (inr full) = subst (λ (n : ℕ). take n (fro
 
 -- a read failed, or gave too much: all lines up to the limit were heard
 pub breaks_heard : {D : Type 0} (moves : Moves D) (client : ℕ) (p q : Place D) (a b c w v : Option (List ℕ)) (held piece : List ℕ) (total : ℕ)
-    → Listens moves client p a b w v held total q → total ≤ 16777216 → total + length piece ≤ 16777217 → (length piece ≡ 0) ⊎ (total ≡ 16777216) → q.progress.over ≡ false
-    → Consumes b c piece → BrokenHeard moves client p a c w v q
+    → Listens moves client p (streams a b w v) held total q → total ≤ 16777216 → total + length piece ≤ 16777217 → (length piece ≡ 0) ⊎ (total ≡ 16777216) → q.progress.over ≡ false
+    → Consumes b c piece → BrokenHeard moves client p (streams a c w v) q
 unfolding breaks
 breaks_heard moves client p q a b c w v held piece total h fits few cut o read =
     let n : length (h.prefix ++ held) ≡ total = (let s = h.sum in omega (arith, length-append h.prefix held)) in
@@ -113,7 +113,7 @@ appends_prefix_trans w v u xs ys h k =
 
 -- an answer was not written, or not kept
 pub stops : {D : Type 0} (moves : Moves D) (client : ℕ) (p m q : Place D) (a b c w v u : Option (List ℕ)) (held piece text : List ℕ) (total : ℕ)
-    → Listens moves client p a b w v held total m → total + length piece ≤ 16777217 → Consumes b c piece → text ≡ held ++ piece → Stopped moves client m text v u q → Broken moves client p a c w u q
+    → Listens moves client p (streams a b w v) held total m → total + length piece ≤ 16777217 → Consumes b c piece → text ≡ held ++ piece → Stopped moves client m text v u q → Broken moves client p (streams a c w u) q
 stops moves client p m q a b c w v u held piece text total h fits read e s =
     record {
       taken = (h.prefix ++ held) ++ piece;
@@ -129,7 +129,7 @@ stops moves client p m q a b c w v u held piece text total h fits read e s =
 
 -- the lines of a text were answered, and the answers not all written
 pub not_written : {D : Type 0} (moves : Moves D) (client : ℕ) (p q : Place D) (text before out : List ℕ) (at : ℕ) (w v : Option (List ℕ))
-    → Answered moves client p text before at out q → before ≡ [] → AppendsFront w v out → Unwritten moves client p text w v q
+    → Answered moves client p (front text at) before out q → before ≡ [] → AppendsFront w v out → Unwritten moves client p text w v q
 not_written moves client p q text before out at w v (r, rest) none written =
     record {
       stopped = record {
@@ -148,8 +148,8 @@ lines_behind true prefix text ls ms s e h = prefix_begins prefix text ls ms s e 
 
 -- an answer was not written: all lines were heard
 pub stops_heard : {D : Type 0} (moves : Moves D) (client : ℕ) (p m q : Place D) (a b c w v u : Option (List ℕ)) (held piece text : List ℕ) (total : ℕ)
-    → Listens moves client p a b w v held total m → total + length piece ≤ 16777216 → Consumes b c piece → text ≡ held ++ piece → Unwritten moves client m text v u q
-    → BrokenHeard moves client p a c w u q
+    → Listens moves client p (streams a b w v) held total m → total + length piece ≤ 16777216 → Consumes b c piece → text ≡ held ++ piece → Unwritten moves client m text v u q
+    → BrokenHeard moves client p (streams a c w u) q
 unfolding stops
 stops_heard moves client p m q a b c w v u held piece text total h fits read e s =
     let turns : List Turn = s.stopped.turns in
@@ -165,7 +165,7 @@ stops_heard moves client p m q a b c w v u held piece text total h fits read e s
 
 -- a line ended the session
 pub is_over : {D : Type 0} (moves : Moves D) (client : ℕ) (p m q : Place D) (a b c w v u : Option (List ℕ)) (held piece text : List ℕ) (total at : ℕ)
-    → Listens moves client p a b w v held total m → total + length piece ≤ 16777216 → Consumes b c piece → text ≡ held ++ piece → Replied moves client m text v at u q → q.progress.over ≡ true → Talked moves client p a c w u q
+    → Listens moves client p (streams a b w v) held total m → total + length piece ≤ 16777216 → Consumes b c piece → text ≡ held ++ piece → Replied moves client m (front text at) v u q → q.progress.over ≡ true → Talked moves client p (streams a c w u) q
 is_over moves client p m q a b c w v u held piece text total at h fits read e r o =
     let begins = subst (λ over. Covers over text at (lines_in r.turns)) o r.covers in
     record {
@@ -184,8 +184,8 @@ is_over moves client p m q a b c w v u held piece text total at h fits read e r 
 
 -- the session goes on
 pub goes_further : {D : Type 0} (moves : Moves D) (client : ℕ) (p m q : Place D) (a b c w v u : Option (List ℕ)) (held piece text left : List ℕ) (total at : ℕ)
-    → Listens moves client p a b w v held total m → Consumes b c piece → text ≡ held ++ piece → Replied moves client m text v at u q → q.progress.over ≡ false
-    → q.progress.lines ≤ m.progress.lines + at → left ≡ drop at text → Listens moves client p a c w u left (total + length piece) q
+    → Listens moves client p (streams a b w v) held total m → Consumes b c piece → text ≡ held ++ piece → Replied moves client m (front text at) v u q → q.progress.over ≡ false
+    → q.progress.lines ≤ m.progress.lines + at → left ≡ drop at text → Listens moves client p (streams a c w u) left (total + length piece) q
 goes_further moves client p m q a b c w v u held piece text left total at h read e r o few same =
     let covers = subst (λ over. Covers over text at (lines_in r.turns)) o r.covers in
     let rest = subst (λ over. IsRest over (drop at text)) o r.rest in

@@ -9,7 +9,7 @@ use Rattle.std.specs.Prelude.{Result, Ok, Err, IsErrAnd, IsErrOf, OnErr}
 use Rattle.mlt_request.specs.declared.line.Line.{Line}
 use Rattle.mlt_request.specs.declared.line.Line.TheVariants.{Says, TooLong}
 use Rattle.mlt_wire.specs.declared.said.Said.{Said}
-use Rattle.mlt_wire.specs.Batches.{Covers, IsRest, Reaches, BrokeOff, lines_in}
+use Rattle.mlt_wire.specs.Batches.{Covers, IsRest, Reaches, BrokeOff, front, lines_in}
 use Rattle.mlt_wire.specs.Rounds.{AreLines}
 use Rattle.mlt_request.specs.Inputs.{lines_of, Splits, Begins, NextLine, IsNext}
 use Rattle.mlt_request.proofs.Splitting.{splits_both}
@@ -78,8 +78,8 @@ text_at_end ts t = flat_map-append turn_text ts (t ∷ []) ∙ ap (λ (rest : Li
 
 -- one more line was answered
 pub reaches_more : {D : Type 0} (moves : Moves D) (client : ℕ) (p m q : Place D) (text before mid after : List ℕ) (at n : ℕ) (line : Line) (said : Said)
-    → Reaches moves client p text before at mid m → m.progress.over ≡ false → NextLine (take (length text - at) (drop at text)) (Some (line, n)) → TakesTurn moves client m line said q
-    → after ≡ mid ++ said_text said → Reaches moves client p text before (at + n) after q
+    → Reaches moves client p (front text at) before mid m → m.progress.over ≡ false → NextLine (take (length text - at) (drop at text)) (Some (line, n)) → TakesTurn moves client m line said q
+    → after ≡ mid ++ said_text said → Reaches moves client p (front text (at + n)) before after q
 reaches_more moves client p m q text before mid after at n line said r o next t e =
     let turn : Turn = record { open_before = m.progress.tx; line = line; answer = t.answer } in
     let nx = subst (λ (rest : List ℕ). NextLine rest (Some (line, n))) (take_rest text at) next in
@@ -96,20 +96,20 @@ reaches_more moves client p m q text before mid after at n line said r o next t 
 
 -- nothing more was asked
 pub broke_before : {D : Type 0} (moves : Moves D) (client : ℕ) (p m q : Place D) (text before mid : List ℕ) (at : ℕ)
-    → Reaches moves client p text before at mid m → q ≡ m → BrokeOff moves client p text q
+    → Reaches moves client p (front text at) before mid m → q ≡ m → BrokeOff moves client p text q
 broke_before moves client p m q text before mid at r e =
     record { turns = r.turns; goes = subst (Goes moves client p r.turns) (sym e) r.goes; begins = covers_begin m.progress.over text at (lines_in r.turns) r.covers }
 
 -- a line was answered, and its answer not kept
 pub broke_after : {D : Type 0} (moves : Moves D) (client : ℕ) (p m q : Place D) (text before mid : List ℕ) (at n : ℕ) (line : Line) (said : Said)
-    → Reaches moves client p text before at mid m → m.progress.over ≡ false → NextLine (take (length text - at) (drop at text)) (Some (line, n)) → TakesTurn moves client m line said q
+    → Reaches moves client p (front text at) before mid m → m.progress.over ≡ false → NextLine (take (length text - at) (drop at text)) (Some (line, n)) → TakesTurn moves client m line said q
     → BrokeOff moves client p text q
 broke_after moves client p m q text before mid at n line said r o next t =
     let all = reaches_more moves client p m q text before mid (mid ++ said_text said) at n line said r o next t refl in
     broke_before moves client p q q text before (mid ++ said_text said) (at + n) all refl
 
 -- at the start
-pub reaches_none : {D : Type 0} (moves : Moves D) (client : ℕ) (p : Place D) (text before : List ℕ) → p.progress.over ≡ false → lines_of [] ≡ [] → Reaches moves client p text before 0 before p
+pub reaches_none : {D : Type 0} (moves : Moves D) (client : ℕ) (p : Place D) (text before : List ℕ) → p.progress.over ≡ false → lines_of [] ≡ [] → Reaches moves client p (front text 0) before before p
 reaches_none moves client p text before o e =
     record {
       turns = [];

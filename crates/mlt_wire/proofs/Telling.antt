@@ -12,7 +12,7 @@ use Rattle.mlt_wire.specs.Batches.{lines_in}
 use Rattle.mlt_wire.specs.Desks.{Moves, Answers}
 use Rattle.mlt_request.specs.Inputs.{Begins}
 use Rattle.mlt_wire.specs.Receipts.{begins_by, receipts_of}
-use Rattle.mlt_wire.specs.Rounds.{Talked, Broken, BrokenHeard, AreLines, EndsInput}
+use Rattle.mlt_wire.specs.Rounds.{Talked, Broken, BrokenHeard, AreLines, EndsInput, streams}
 use Rattle.mlt_wire.specs.Sessions.{Spoken, SpokenLong, Summed, BrokenOff, HeardAll, all_calls, all_answers, scene}
 use Rattle.mlt_wire.specs.Talks.{Turn, turns, one_turn, unless_ended, ends, option_list, open_after, call_for, calls_in, answers_in, open_at_end, closing, closing_answers, session_turns, commits_by, commits_in, ends_in, long_in, is_long}
 use Rattle.mlt_wire.specs.Turns.{Place, Step, Goes, Asked}
@@ -179,7 +179,7 @@ noted_turns moves client p q rs ss ts i j n x z h =
 -- a session that ended by itself
 pub speaks : {D : Type 0} (moves : Moves D) (client : ℕ) (p q : Place D) (desk : D) (a b w v : Option (List ℕ)) (rs ss : List Outcome)
     → p.receipts ≡ rs → q.receipts ≡ ss → p.progress.over ≡ false → p.progress.tx ≡ None → p.progress.begun ≡ 0
-    → Talked moves client p a b w v q → Answers moves q.desk (closing q.progress.tx) (closing_answers q.progress.tx) desk
+    → Talked moves client p (streams a b w v) q → Answers moves q.desk (closing q.progress.tx) (closing_answers q.progress.tx) desk
     → Spoken moves client (scene p.desk a w rs) (scene desk b v ss)
 speaks moves client p q desk a b w v rs ss i j n x z t k =
     record {
@@ -199,7 +199,7 @@ speaks moves client p q desk a b w v rs ss i j n x z t k =
 -- its counts
 pub sums : {D : Type 0} (moves : Moves D) (client : ℕ) (p q : Place D) (desk : D) (a b w v : Option (List ℕ)) (rs ss : List Outcome)
     → p.receipts ≡ rs → q.receipts ≡ ss → p.progress.over ≡ false → p.progress.tx ≡ None → p.progress.begun ≡ 0 → p.progress.lines ≡ 0
-    → p.progress.commits ≡ 0 → p.progress.long ≡ false → q.progress.long ≡ false → Talked moves client p a b w v q
+    → p.progress.commits ≡ 0 → p.progress.long ≡ false → q.progress.long ≡ false → Talked moves client p (streams a b w v) q
     → Answers moves q.desk (closing q.progress.tx) (closing_answers q.progress.tx) desk
     → Summed moves client (scene p.desk a w rs) (scene desk b v ss) q.progress.lines q.progress.commits
 unfolding speaks
@@ -216,7 +216,7 @@ sums moves client p q desk a b w v rs ss i j n x z l c g s t k =
 -- a session that a line ended that was too long
 pub speaks_long : {D : Type 0} (moves : Moves D) (client : ℕ) (p q : Place D) (desk : D) (a b w v : Option (List ℕ)) (rs ss : List Outcome)
     → p.receipts ≡ rs → q.receipts ≡ ss → p.progress.over ≡ false → p.progress.tx ≡ None → p.progress.begun ≡ 0
-    → p.progress.long ≡ false → q.progress.long ≡ true → Talked moves client p a b w v q
+    → p.progress.long ≡ false → q.progress.long ≡ true → Talked moves client p (streams a b w v) q
     → Answers moves q.desk (closing q.progress.tx) (closing_answers q.progress.tx) desk
     → SpokenLong moves client (scene p.desk a w rs) (scene desk b v ss)
 unfolding speaks
@@ -229,7 +229,7 @@ speaks_long moves client p q desk a b w v rs ss i j n x z g s t k =
 -- a session that was broken off
 pub breaks_off : {D : Type 0} (moves : Moves D) (client : ℕ) (p q : Place D) (desk : D) (a b w v : Option (List ℕ)) (rs ss : List Outcome)
     → p.receipts ≡ rs → q.receipts ≡ ss → p.progress.over ≡ false → p.progress.tx ≡ None → p.progress.begun ≡ 0
-    → Broken moves client p a b w v q → Answers moves q.desk (closing q.progress.tx) (closing_answers q.progress.tx) desk
+    → Broken moves client p (streams a b w v) q → Answers moves q.desk (closing q.progress.tx) (closing_answers q.progress.tx) desk
     → BrokenOff moves client (scene p.desk a w rs) (scene desk b v ss)
 breaks_off moves client p q desk a b w v rs ss i j n x z t k =
     let e = first_turns moves client p q t.taken t.turns q.progress.over refl n x t.goes t.begins in
@@ -250,7 +250,7 @@ breaks_off moves client p q desk a b w v rs ss i j n x z t k =
 -- a session that was broken off when it had heard all lines
 pub hears_all : {D : Type 0} (moves : Moves D) (client : ℕ) (p q : Place D) (desk : D) (a b w v : Option (List ℕ)) (rs ss : List Outcome)
     → p.receipts ≡ rs → q.receipts ≡ ss → p.progress.over ≡ false → p.progress.tx ≡ None → p.progress.begun ≡ 0
-    → BrokenHeard moves client p a b w v q → Answers moves q.desk (closing q.progress.tx) (closing_answers q.progress.tx) desk
+    → BrokenHeard moves client p (streams a b w v) q → Answers moves q.desk (closing q.progress.tx) (closing_answers q.progress.tx) desk
     → HeardAll moves client (scene p.desk a w rs) (scene desk b v ss)
 unfolding breaks_off
 hears_all moves client p q desk a b w v rs ss i j n x z t k =

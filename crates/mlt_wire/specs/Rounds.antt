@@ -4,21 +4,37 @@ use Rattle.std.specs.List.{flat_map}
 use Rattle.std.specs.Io.KnownBytes.{Appends, Consumes, IsAtEnd}
 use Rattle.mlt_text.specs.Texts.{AppendsFront}
 use Rattle.mlt_request.specs.declared.line.Line.{Line}
-use Rattle.mlt_wire.specs.Batches.{Covers, IsRest, lines_in}
+use Rattle.mlt_wire.specs.Batches.{Covers, Front, IsRest, lines_in}
 use Rattle.mlt_request.specs.Inputs.{lines_of, Splits, Begins}
 use Rattle.mlt_wire.specs.Desks.{Moves}
 use Rattle.mlt_wire.specs.Talks.{Turn, turn_text}
 use Rattle.mlt_wire.specs.Turns.{Place, Goes}
 
+-- the bytes that a reader has left and those that a writer took, where these are known, before and after
+pub record Streams : Type 0 where
+  pub read_before : Option (List ℕ)
+  pub read_after : Option (List ℕ)
+  pub wrote_before : Option (List ℕ)
+  pub wrote_after : Option (List ℕ)
+
+abbrev pub streams : Option (List ℕ) → Option (List ℕ) → Option (List ℕ) → Option (List ℕ) → Streams
+streams read_before read_after wrote_before wrote_after =
+    record {
+      read_before = read_before;
+      read_after = read_after;
+      wrote_before = wrote_before;
+      wrote_after = wrote_after;
+    }
+
 -- the complete lines of the text were answered, and the answers written
-pub record Replied {D : Type 0} (moves : Moves D) (client : ℕ) (p : Place D) (text : List ℕ)
-    (before : Option (List ℕ)) (at : ℕ) (after : Option (List ℕ)) (q : Place D) : Type 0 where
+pub record Replied {D : Type 0} (moves : Moves D) (client : ℕ) (p : Place D) (up_to : Front)
+    (before after : Option (List ℕ)) (q : Place D) : Type 0 where
   pub turns : List Turn
   pub goes : Goes moves client p turns q
   pub wrote : Appends before after (flat_map turn_text turns)
-  pub within : at ≤ length text
-  pub covers : Covers q.progress.over text at (lines_in turns)
-  pub rest : IsRest q.progress.over (drop at text)
+  pub within : up_to.at ≤ length up_to.text
+  pub covers : Covers q.progress.over up_to.text up_to.at (lines_in turns)
+  pub rest : IsRest q.progress.over (drop up_to.at up_to.text)
 
 -- some lines of the text were answered, and a prefix of the answers written
 pub record Stopped {D : Type 0} (moves : Moves D) (client : ℕ) (p : Place D) (text : List ℕ)
@@ -42,14 +58,12 @@ pub record Unwritten {D : Type 0} (moves : Moves D) (client : ℕ) (p : Place D)
 -- a session that goes on: its lines up to here, and the bytes that it holds, which are no complete
 -- line
 pub record Listens {D : Type 0} (moves : Moves D) (client : ℕ) (p : Place D)
-    (read_before read_after wrote_before wrote_after : Option (List ℕ)) (held : List ℕ)
-    (total : ℕ)
-    (q : Place D) : Type 0 where
+    (bytes : Streams) (held : List ℕ) (total : ℕ) (q : Place D) : Type 0 where
   pub turns : List Turn
   pub prefix : List ℕ
   pub goes : Goes moves client p turns q
-  pub consumed : Consumes read_before read_after (prefix ++ held)
-  pub wrote : Appends wrote_before wrote_after (flat_map turn_text turns)
+  pub consumed : Consumes bytes.read_before bytes.read_after (prefix ++ held)
+  pub wrote : Appends bytes.wrote_before bytes.wrote_after (flat_map turn_text turns)
   pub splits : Splits prefix
   pub lines : lines_of prefix ≡ lines_in turns
   pub rest : lines_of held ≡ []
@@ -63,35 +77,32 @@ EndsInput true rest = Unit {0}
 
 -- a session that ended by itself: all that was read was answered, up to the line that ended it
 pub record Talked {D : Type 0} (moves : Moves D) (client : ℕ) (p : Place D)
-    (read_before read_after wrote_before wrote_after : Option (List ℕ))
-    (q : Place D) : Type 0 where
+    (bytes : Streams) (q : Place D) : Type 0 where
   pub taken : List ℕ
   pub turns : List Turn
-  pub consumed : Consumes read_before read_after taken
+  pub consumed : Consumes bytes.read_before bytes.read_after taken
   pub within : length taken ≤ 16777216
   pub goes : Goes moves client p turns q
   pub lines : AreLines q.progress.over taken (lines_in turns)
-  pub wrote : Appends wrote_before wrote_after (flat_map turn_text turns)
-  pub ended : EndsInput q.progress.over read_after
+  pub wrote : Appends bytes.wrote_before bytes.wrote_after (flat_map turn_text turns)
+  pub ended : EndsInput q.progress.over bytes.read_after
 
 -- a session that was broken off
 pub record Broken {D : Type 0} (moves : Moves D) (client : ℕ) (p : Place D)
-    (read_before read_after wrote_before wrote_after : Option (List ℕ))
-    (q : Place D) : Type 0 where
+    (bytes : Streams) (q : Place D) : Type 0 where
   pub taken : List ℕ
   pub turns : List Turn
-  pub consumed : Consumes read_before read_after taken
+  pub consumed : Consumes bytes.read_before bytes.read_after taken
   pub within : length taken ≤ 16777217
   pub goes : Goes moves client p turns q
   pub begins : Begins taken (lines_in turns)
-  pub wrote : AppendsFront wrote_before wrote_after (flat_map turn_text turns)
+  pub wrote : AppendsFront bytes.wrote_before bytes.wrote_after (flat_map turn_text turns)
 
 -- a session that a read, a write or the byte limit broke off: all that was read up to the limit was
 -- answered
 pub record BrokenHeard {D : Type 0} (moves : Moves D) (client : ℕ) (p : Place D)
-    (read_before read_after wrote_before wrote_after : Option (List ℕ))
-    (q : Place D) : Type 0 where
-  pub broken : Broken moves client p read_before read_after wrote_before wrote_after q
+    (bytes : Streams) (q : Place D) : Type 0 where
+  pub broken : Broken moves client p bytes q
   pub lines : AreLines q.progress.over (take 16777216 broken.taken) (lines_in broken.turns)
   pub whole : length broken.taken ≡ 16777217
-      → Appends wrote_before wrote_after (flat_map turn_text broken.turns)
+      → Appends bytes.wrote_before bytes.wrote_after (flat_map turn_text broken.turns)

@@ -2,7 +2,7 @@
 
 ghost use Rattle.std.specs.Prelude.{◌≡◌, ◌<◌, ◌≤◌, ◌+◌, ◌^◌, false, length, IfOk, OnErr, OnOk};
 ghost use Rattle.std.specs.String.{string_bytes};
-ghost use Rattle.mlt_wire.specs.Batches.{Answered, BrokeOff};
+ghost use Rattle.mlt_wire.specs.Batches.{Answered, BrokeOff, front};
 ghost use Rattle.mlt_wire.specs.Desks.{moves};
 ghost use Rattle.mlt_wire.specs.Turns.{IsSmall, place};
 
@@ -30,7 +30,7 @@ pub fn answer_lines<D: Desk>(
     requires few { notes.old.progress.lines + length text.now < 2 ^ 62 }
     ensures ok { IfOk result
         (λ at. Answered (moves D.begins D.answers D.commits D.aborts) client
-        (place client notes.old desk.old) text.now (string_bytes out.old) at
+        (place client notes.old desk.old) (front text.now at) (string_bytes out.old)
         (string_bytes out.new) (place client notes.new desk.new)) }
     ensures lines { IfOk result
         (λ at. notes.new.progress.lines ≤ notes.old.progress.lines + at) }

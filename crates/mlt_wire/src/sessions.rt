@@ -2,9 +2,10 @@
 
 ghost use Rattle.std.specs.Prelude.{◌≡◌, ◌<◌, ◌≤◌, ◌+◌, ◌-◌, ◌^◌, ◌⊎◌, ℕ, List, false, None, length, take, drop, vec_len, IfOk, IfErr, OnOk, OnErr, IsErrOf, ◌++◌};
 ghost use Rattle.std.specs.Io.KnownBytes.{Consumes, IsAtEnd, Keeps};
+ghost use Rattle.mlt_wire.specs.Batches.{front};
 ghost use Rattle.mlt_wire.specs.Desks.{Answers, moves};
 ghost use Rattle.mlt_wire.specs.Noting.{receipts_in};
-ghost use Rattle.mlt_wire.specs.Rounds.{Replied, Stopped, Unwritten, Talked, Broken, BrokenHeard};
+ghost use Rattle.mlt_wire.specs.Rounds.{Replied, Stopped, Unwritten, Talked, Broken, BrokenHeard, streams};
 ghost use Rattle.mlt_wire.specs.Sessions.{SpokenLong, Summed, BrokenOff, HeardAll, scene};
 ghost use Rattle.mlt_wire.specs.Talks.{closing, closing_answers};
 ghost use Rattle.mlt_wire.specs.Turns.{IsSmall, place, start};
@@ -68,7 +69,7 @@ fn reply<W: Write, D: Desk>(
     requires few { notes.old.progress.lines + length text.now < 2 ^ 62 }
     ensures ok { IfOk result
         (λ at. Replied (moves D.begins D.answers D.commits D.aborts) client
-        (place client notes.old desk.old) text.now (W.contents writer.old) at
+        (place client notes.old desk.old) (front text.now at) (W.contents writer.old)
         (W.contents writer.new) (place client notes.new desk.new)) }
     ensures lines { IfOk result
         (λ at. notes.new.progress.lines ≤ notes.old.progress.lines + at) }
@@ -106,16 +107,19 @@ fn listen<R: Read, W: Write, D: Desk>(
     requires room { (200 < length buffer.old) × (length buffer.old < 2 ^ 32) }
     ensures ok { OnOk result
         (Talked (moves D.begins D.answers D.commits D.aborts) client
-        (place client notes.old desk.old) (R.remaining reader.old) (R.remaining reader.new)
-        (W.contents writer.old) (W.contents writer.new) (place client notes.new desk.new)) }
+        (place client notes.old desk.old)
+        (streams (R.remaining reader.old) (R.remaining reader.new)
+        (W.contents writer.old) (W.contents writer.new)) (place client notes.new desk.new)) }
     ensures err { OnErr result
         (Broken (moves D.begins D.answers D.commits D.aborts) client
-        (place client notes.old desk.old) (R.remaining reader.old) (R.remaining reader.new)
-        (W.contents writer.old) (W.contents writer.new) (place client notes.new desk.new)) }
+        (place client notes.old desk.old)
+        (streams (R.remaining reader.old) (R.remaining reader.new)
+        (W.contents writer.old) (W.contents writer.new)) (place client notes.new desk.new)) }
     ensures io { IsErrOf result Refusal.Io
         → BrokenHeard (moves D.begins D.answers D.commits D.aborts) client
-        (place client notes.old desk.old) (R.remaining reader.old) (R.remaining reader.new)
-        (W.contents writer.old) (W.contents writer.new) (place client notes.new desk.new) }
+        (place client notes.old desk.old)
+        (streams (R.remaining reader.old) (R.remaining reader.new)
+        (W.contents writer.old) (W.contents writer.new)) (place client notes.new desk.new) }
     ensures refusal { IfErr result
         (λ refusal. (refusal ≡ Refusal.OutOfMemory) ⊎ (refusal ≡ Refusal.Io)) }
 {

@@ -1,5 +1,5 @@
 use Rattle.std.proofs.Common.{◌≡◌, inl, inr, refl, ◌+◌, ℕ, [], length, take, ◌∙◌, ap, subst, arith, length-take}
-use Rattle.mlt_wire.specs.Rounds.{Listens}
+use Rattle.mlt_wire.specs.Rounds.{Listens, streams}
 use Rattle.std.proofs.KnownBytes.{Consumes-nil}
 use Rattle.mlt_wire.specs.Desks.{moves}
 use Rattle.mlt_wire.specs.Turns.{place}
@@ -105,8 +105,8 @@ rounds-preserved g c =
     let w = f.4 in
     let h = c.keep-held.ensures.held in
     record {
-      listens = subst (λ (n : ℕ). Listens (moves g.D.Desk.begins g.D.Answering.answers g.D.Desk.commits g.D.Desk.aborts) c.args.client (place c.args.client c.args.notes.now c.args.desk.now) (g.R.Read.remaining c.args.reader.now) (g.R.Read.remaining c.fill.new.reader)
-          (g.W.Write.contents c.args.writer.now) (g.W.Write.contents c.reply.new.writer) (take c.keep-held.result c.keep-held.new.buffer) n (place c.args.client c.reply.new.notes c.reply.new.desk)) sum more;
+      listens = subst (λ (n : ℕ). Listens (moves g.D.Desk.begins g.D.Answering.answers g.D.Desk.commits g.D.Desk.aborts) c.args.client (place c.args.client c.args.notes.now c.args.desk.now) (streams (g.R.Read.remaining c.args.reader.now) (g.R.Read.remaining c.fill.new.reader)
+          (g.W.Write.contents c.args.writer.now) (g.W.Write.contents c.reply.new.writer)) (take c.keep-held.result c.keep-held.new.buffer) n (place c.args.client c.reply.new.notes c.reply.new.desk)) sum more;
       held = omega (arith, length-take c.keep-held.result c.keep-held.new.buffer);
       total = omega arith;
       commits = c.in_ok-at.ensures.commits;
