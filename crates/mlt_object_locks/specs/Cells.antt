@@ -36,8 +36,11 @@ pub record ChangesAt {X S : Type 0} (old new : IndexMap ℕ (List X) S) (key : �
 pub record GivesUp {S : Type 0} (old new : IndexMap ℕ (List Holder) S) (earlier : Option ℕ) (key tx : ℕ) : Type 0 where
   pub unique : IsUnique nat_eq new
   pub only : (k : ℕ) (holder : Holder) → Contains (list_at new k) holder → Contains (list_at old k) holder
-  pub gone : (k : ℕ) (holder : Holder) → Contains (list_at new k) holder → holder.tx ≡ tx → earlier ≡ Some k → k ≢ key → holder.classes ≢ 0
-  pub keeps : (k : ℕ) (holder : Holder) → (holder.tx ≡ tx → earlier ≡ Some k → k ≢ key → holder.classes ≢ 0) → Contains (list_at old k) holder → Contains (list_at new k) holder
+  pub gone : (k : ℕ) (holder : Holder) → Contains (list_at new k) holder
+      → holder.tx ≡ tx → earlier ≡ Some k → k ≢ key → holder.classes ≢ 0
+  pub keeps : (k : ℕ) (holder : Holder)
+      → (holder.tx ≡ tx → earlier ≡ Some k → k ≢ key → holder.classes ≢ 0)
+      → Contains (list_at old k) holder → Contains (list_at new k) holder
 
 -- a transaction is gone at these cells, and all others are as they were
 pub record ReleasesAt {S : Type 0} (old new : IndexMap ℕ (List Holder) S) (keys : List ℕ) (tx : ℕ) : Type 0 where
@@ -63,7 +66,9 @@ HoldsBit held key tx bit =
 -- Each cell has the classes of what is held there. Each transaction that reserved a cell is one of its holders, with room
 -- for the cell to be noted; and where one is a holder, it reserved the cell, or the cell is noted of it. No more cells are
 -- noted of a transaction than it holds operations.
-pub record IsSound {S S' : Type 0} (cells : IndexMap ℕ (List Holder) S) (reserved : List (ℕ × Cell)) (noted : IndexMap ℕ KeysWithRoom S') (held : List Held) : Type 0 where
+pub record IsSound {S S' : Type 0} (cells : IndexMap ℕ (List Holder) S)
+    (reserved : List (ℕ × Cell)) (noted : IndexMap ℕ KeysWithRoom S') (held : List Held)
+    : Type 0 where
   pub unique : IsUnique nat_eq cells
   pub in_range : (tx : ℕ) (done : ObjOp × ObjReply) → Contains held (tx, done) → IsInRange (cell_of done.0)
   pub has : (key tx bit : ℕ) → HoldsBit held key tx bit → HasBit (list_at cells key) tx bit

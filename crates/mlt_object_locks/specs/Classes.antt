@@ -82,5 +82,7 @@ pub record IsColumn (set : ℕ) (requested : Class) : Type 0 where
 -- The set has the bit of each operation with which the requested one clashes. Of one on the same cell with which it
 -- doesn't clash it has not.
 pub record AreInTheWay (set : ℕ) (requested : ObjOp × ObjReply) : Type 0 where
-  pub has : (earlier : ObjOp × ObjReply) → clashes earlier requested ≡ true → (k : ℕ) × (bit_of_item earlier ≡ Some k) × InSet set k
-  pub only : (earlier : ObjOp × ObjReply) (k : ℕ) → cell_of earlier.0 ≡ cell_of requested.0 → bit_of_item earlier ≡ Some k → InSet set k → clashes earlier requested ≡ true
+  pub has : (earlier : ObjOp × ObjReply) → clashes earlier requested ≡ true
+      → (k : ℕ) × (bit_of_item earlier ≡ Some k) × InSet set k
+  pub only : (earlier : ObjOp × ObjReply) (k : ℕ) → cell_of earlier.0 ≡ cell_of requested.0
+      → bit_of_item earlier ≡ Some k → InSet set k → clashes earlier requested ≡ true

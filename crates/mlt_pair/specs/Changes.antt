@@ -43,7 +43,8 @@ MakesAsked None opens tx key q old new = IsSameView old new
 MakesAsked (Some change) opens tx key q old new = MakesChange change opens tx key q old new
 
 -- The change of a key's record in the bucket on page q is planned, and still to be written.
-pub record OwesChange (asked : Option RecordChange) (opens : set.FinSet nat_cmp) (tx key q : ℕ) (view : View) (owed : Option WriteFields) : Type 0 where
+pub record OwesChange (asked : Option RecordChange) (opens : set.FinSet nat_cmp)
+    (tx key q : ℕ) (view : View) (owed : Option WriteFields) : Type 0 where
   pub change : RecordChange
   pub asked_is : asked ≡ Some change
   pub bucket : BucketFields

@@ -35,9 +35,16 @@ HasFound other value = ⊥
 -- A step to the buckets: it goes on, with more to come, or has found the values of both keys, with the later bucket read last,
 -- or waits for the next page, told the lowest transaction whose lock stands against its own, and nothing has changed.
 abbrev pub TellsOfStep : (ℕ → ℕ) → ℕ → Moment → Moment → PairFields → PairFields → PairAnswer → Type 0
-TellsOfStep bits root old new before after answer.Going = GoesOn bits root old new before after × IsUnderWay after
-TellsOfStep bits root old new before after (answer.Waiting page by) = (page ≡ page_next root before) × IsLowest (conflicts old.locks old.running.tx page (mode_next before)) by × (new ≡ old) × (after ≡ before)
-TellsOfStep bits root old new before after (answer.Found left right) = GoesOn bits root old new before after × HasFound after.left_way left × HasFound after.right_way right × (page_next root before ≡ later_page after)
+TellsOfStep bits root old new before after answer.Going =
+    GoesOn bits root old new before after × IsUnderWay after
+TellsOfStep bits root old new before after (answer.Waiting page by) =
+    (page ≡ page_next root before)
+    × IsLowest (conflicts old.locks old.running.tx page (mode_next before)) by
+    × (new ≡ old) × (after ≡ before)
+TellsOfStep bits root old new before after (answer.Found left right) =
+    GoesOn bits root old new before after
+    × HasFound after.left_way left × HasFound after.right_way right
+    × (page_next root before ≡ later_page after)
 
 -- what a step tells that has read its page
 abbrev pub told_by : Way → Way → PairAnswer

@@ -48,13 +48,16 @@ TellsOfOne task old new (answer.Full side.Right) =
 -- the slot that is planned may be written
 abbrev pub MayWrite : Plan → Moment → Type 0
 MayWrite plan.Nothing m = Unit {0}
-MayWrite (plan.Set write) m = (can_write m.locks m.running.tx write.number ≡ true) × ((bucket : BucketFields) × ReadsHeldBucket (view_of m) write.number bucket)
+MayWrite (plan.Set write) m = (can_write m.locks m.running.tx write.number ≡ true)
+    × ((bucket : BucketFields) × ReadsHeldBucket (view_of m) write.number bucket)
 MayWrite plan.Full m = Unit {0}
 
 -- and is written
 abbrev pub WritesPlan : Plan → Moment → Moment → Type 0
 WritesPlan plan.Nothing old new = new ≡ old
-WritesPlan (plan.Set write) old new = WritesHeldSlot old new write.number write.at write.slot × WritesSlot (view_of old) (view_of new) write.number write.at write.slot
+WritesPlan (plan.Set write) old new =
+    WritesHeldSlot old new write.number write.at write.slot
+    × WritesSlot (view_of old) (view_of new) write.number write.at write.slot
 WritesPlan plan.Full old new = new ≡ old
 
 -- a plan is owed, if a slot is to be set

@@ -70,9 +70,10 @@ fn serve_with<L: Ledger + Send + Sync, P: Pseudo + Drop + Send, R: Threads + Wai
 /// long, the others go on. After a session at most a second is spent on reading away what its client still sends.
 ///
 /// # Errors
-/// `Io`, where an accept failed; one whose connection broke off before is tried again. `OutOfMemory`, where a growth or a thread was refused, in a session too. Either ends the
-/// accepting, and the connections that were taken are served. `Audit`, where neither came, and the receipts do not agree with
-/// the manager's history or not all connections were served. All threads are joined.
+/// `Io`, where an accept failed; one whose connection broke off before is tried again. `OutOfMemory`, where a growth or a thread
+/// was refused, in a session too. Either ends the accepting, and the connections that were taken are served. `Audit`, where
+/// neither came, and the receipts do not agree with the manager's history or not all connections were served. All threads are
+/// joined.
 pub fn serve_on<P: Pseudo + Drop + Send, R: Threads + Wait + Clock + Sync>(
     rt: &R,
     alloc: Global,
