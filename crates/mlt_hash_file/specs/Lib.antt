@@ -2,3 +2,4 @@ pub mod Alone
 pub mod AloneWalks
 pub mod HashFiles
 pub mod SplitPages
+pub mod TwoKeys

@@ -1,0 +1,122 @@
+//! Changes of the records of two keys at once.
+
+ghost use Rattle.std.specs.Prelude.{◌≡◌, IfErr, IfOk, OnErr, OnOk};
+ghost use Rattle.std.specs.FinMap as map;
+ghost use Rattle.mlt_store.specs.Stores.{page_at};
+ghost use Rattle.mlt_hash_form.specs.File.{look_up};
+ghost use Rattle.mlt_hash_form.specs.Records.{live_records};
+ghost use Rattle.mlt_held.specs.Views.{view_of};
+ghost use Rattle.mlt_pair.specs.Pairs.{FileRoot, IsFinding, IsFound, IsUnderWay};
+ghost use Rattle.mlt_pair.specs.Steps.{TellsOfStep};
+ghost use Rattle.mlt_hash_file.specs.Alone.{IsAlone, KeepsBefore, basis_alone, pages_before};
+ghost use Rattle.mlt_hash_file.specs.AloneWalks.{IsFileBefore};
+ghost use Rattle.mlt_hash_file.specs.HashFiles.{IsFileOf};
+ghost use Rattle.mlt_hash_file.specs.TwoKeys.{AsksOfTwo, FitsValues, HasArrivedAtBoth, HasNoRoomFor, HasNotWaited, TellsOfBoth, two_keys, with_changes};
+
+use crate::hash_file::HashFile;
+use crate::runner::Runner;
+use mlt_hash_form::Root;
+use mlt_pair::{ChangeAnswer, Changes, Pair, PairAnswer, Side};
+use mlt_types::{Key, Pseudo};
+
+impl Runner {
+    /// One step of a pair.
+    fn step_pair<P: Pseudo>(&mut self, pair: &mut Pair, root: &Root<P>) -> PairAnswer
+        requires under_way { IsUnderWay pair.old }
+        requires file { IsFileBefore P.bits_of root.now self.old }
+        requires finding { IsFinding (P.bits_of root.now.pseudo) root.now.page
+            pair.old (view_of self.old) }
+        ensures keeps { KeepsBefore self.old self.new }
+        ensures tells { TellsOfStep (P.bits_of root.now.pseudo) root.now.page
+            self.old self.new pair.old pair.new result }
+        ensures goes { HasNotWaited result }
+        ensures alone { IsAlone self.new }
+    {
+        pair.advance(root, &self.subtx, &mut self.pages)
+    }
+
+    /// Goes on to the buckets of both keys.
+    fn find_both<P: Pseudo>(&mut self, pair: &mut Pair, root: &Root<P>)
+        requires under_way { IsUnderWay pair.old }
+        requires file { IsFileBefore P.bits_of root.now self.old }
+        requires finding { IsFinding (P.bits_of root.now.pseudo) root.now.page
+            pair.old (view_of self.old) }
+        ensures keeps { KeepsBefore self.old self.new }
+        ensures arrives { HasArrivedAtBoth (P.bits_of root.now.pseudo) root.now.page
+            self.new pair.old pair.new }
+        ensures alone { IsAlone self.new }
+    {
+        loop {
+            match self.step_pair(pair, root) {
+                PairAnswer::Going => {}
+                PairAnswer::Found(_, _) => return,
+                PairAnswer::Waiting(_, _) => unreachable!(),
+            }
+        }
+    }
+
+    /// Makes at most one change of each key's record, in both buckets, or finds no room for one of them.
+    fn change_both<P: Pseudo>(
+        &mut self,
+        pair: &mut Pair,
+        changes: &Changes,
+        root: &Root<P>,
+    ) -> ChangeAnswer
+        ghost read_by: { FileRoot }
+        requires read_by { read_by
+            ≡ record { bits = P.bits_of root.now.pseudo; root = root.now.page } }
+        requires file { IsFileBefore P.bits_of root.now self.old }
+        requires found { IsFound pair.old }
+        requires finding { IsFinding (P.bits_of root.now.pseudo) root.now.page
+            pair.old (view_of self.old) }
+        requires asks { AsksOfTwo (two_keys pair.old.left pair.old.right changes.now) }
+        requires fits { FitsValues (two_keys pair.old.left pair.old.right changes.now)
+            (look_up (P.bits_of root.now.pseudo) (pages_before self.old) root.now.page) }
+        ensures keeps { KeepsBefore self.old self.new }
+        ensures tells { TellsOfBoth (basis_alone P.bits_of root.now self.old) self.new
+            (two_keys pair.old.left pair.old.right changes.now) result }
+    {
+        match pair.change(changes, &mut self.subtx, &mut self.pages, &self.opens) {
+            ChangeAnswer::OneLeft => {
+                pair.write_earlier(&mut self.subtx, &mut self.pages);
+                ChangeAnswer::Changed
+            }
+            answer => answer,
+        }
+    }
+}
+
+impl<P: Pseudo> HashFile<P> {
+    /// Makes at most one change of the record of each of two keys, which differ: both at once, as their buckets are, without
+    /// a split.
+    ///
+    /// # Errors
+    /// The side whose key's bucket has no room for its record: of the left key, or of the right one once the left one's
+    /// change is made. The file is then as before.
+    pub fn change_both(&mut self, left: Key, right: Key, changes: &Changes) -> Result<(), Side>
+        requires asks { AsksOfTwo (two_keys left right changes.now) }
+        requires fits { FitsValues (two_keys left right changes.now)
+            (map.get (live_records self.old.pages)) }
+        ensures records { OnOk result (live_records self.new.pages
+            ≡ with_changes (live_records self.old.pages) (two_keys left right changes.now)) }
+        ensures limits { self.new ≡ record self.old { pages = self.new.pages } }
+        ensures file { IsFileOf P.bits_of self.new }
+        ensures err { OnErr result (self.new ≡ self.old) }
+        ensures full { IfErr result (λ side. HasNoRoomFor side (P.bits_of self.old.pseudo)
+            (page_at self.old.pages) self.old.root (two_keys left right changes.now)) }
+    {
+        let mut pair = Pair::find(left, right);
+        self.runner.find_both(&mut pair, &self.root);
+        match self.runner.change_both(&mut pair, changes, &self.root) {
+            ChangeAnswer::Full(side) => {
+                self.runner.roll_back();
+                Err(side)
+            }
+            ChangeAnswer::Changed => {
+                self.runner.end();
+                Ok(())
+            }
+            ChangeAnswer::OneLeft => unreachable!(),
+        }
+    }
+}
