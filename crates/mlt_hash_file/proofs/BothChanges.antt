@@ -131,11 +131,12 @@ module _ (bits : ℕ → ℕ) (root max_depth tx : ℕ) (pair : PairFields) (cha
   -- **and for the right one's.**
   pub full_right : (opens : set.FinSet nat_cmp) → opens ≡ set.empty → IsFullBehind (task_of opens pair (page_of pair.left_way) (page_of pair.right_way) changes) tx old → HasNoRoomFor side.Right bits clean root (two_keys pair.left pair.right changes)
   full_right opens none behind =
-      let one = does_one bits root opens tx pair clean file.bounded found changes.left pair.left (page_of pair.left_way) old behind.mid left_is before (fits_by changes.left _ _ (sym (value_before pair.left)) fits.0) behind.left in
-      (asked_some changes.right behind.right.change behind.right.asked_is,
-      over clean behind.mid.own,
-      subst (λ (pages : FilePages). DoesAsked changes.left bits pages (over clean behind.mid.own) root pair.left) unwritten one.1.does,
-      full_for changes.right opens pair.right (page_of pair.right_way) behind.mid none right_is one.0 behind.right)
+      let one = does_one bits root opens tx pair clean file.bounded found changes.left pair.left (page_of pair.left_way) old behind.mid left_is before (fits_by changes.left _ _ (sym (value_before pair.left)) fits.0) behind.left in (
+        asked_some changes.right behind.right.change behind.right.asked_is,
+        over clean behind.mid.own,
+        subst (λ (pages : FilePages). DoesAsked changes.left bits pages (over clean behind.mid.own) root pair.left) unwritten one.1.does,
+        full_for changes.right opens pair.right (page_of pair.right_way) behind.mid none right_is one.0 behind.right,
+      )
 
   -- what is seen of a page stays so
   seen_still : (asked : Option RecordChange) (opens : set.FinSet nat_cmp) (key q : ℕ) (mid : View) → MakesAsked asked opens tx key q old mid → (p : ℕ) → mid.seen p ≡ old.seen p

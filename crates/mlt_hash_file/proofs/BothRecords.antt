@@ -59,26 +59,30 @@ module _ (bits : ℕ → ℕ) (root : ℕ) (opens : set.FinSet nat_cmp) (tx : �
   pub does_one : (asked : Option RecordChange) (key q : ℕ) (old new : View) → IsSide pair key q → IsBetween bits root pair clean old → FitsFound asked (look_up bits (over clean old.own) root key) → MakesAsked asked opens tx key q old new
       → IsBetween bits root pair clean new × DoesOne asked bits (over clean old.own) (over clean new.own) root key
   does_one None key q old new side between fits same =
-      let pages : over clean new.own ≡ over clean old.own = λ i p. over clean (λ q. same.own q i) p in
-      (record {
-        holding = holds_still old new same.modes same.seen between.holding;
-        agree = agrees_still old new same.seen between.agree;
-        alone = λ p ne ne'. same.own p ∙ between.alone p ne ne';
-        form = subst (λ (pages : FilePages). HasForm bits pages root) (sym pages) between.form;
-      }, record {
-        does = pages;
-        here = ap (λ (pages : FilePages). look_up bits pages root key) pages;
-        others = λ k ne. ap (λ (pages : FilePages). look_up bits pages root k) pages;
-      })
+      let pages : over clean new.own ≡ over clean old.own = λ i p. over clean (λ q. same.own q i) p in (
+        record {
+          holding = holds_still old new same.modes same.seen between.holding;
+          agree = agrees_still old new same.seen between.agree;
+          alone = λ p ne ne'. same.own p ∙ between.alone p ne ne';
+          form = subst (λ (pages : FilePages). HasForm bits pages root) (sym pages) between.form;
+        },
+        record {
+          does = pages;
+          here = ap (λ (pages : FilePages). look_up bits pages root key) pages;
+          others = λ k ne. ap (λ (pages : FilePages). look_up bits pages root k) pages;
+        },
+      )
   does_one (Some change) key q old new side between fits makes =
-      let changes = changes_one bits root opens tx key q change old new clean bounded between.agree between.form (side_leads old key q side between) fits makes in
-      (record {
-        holding = holds_still old new makes.writes.modes makes.writes.seen between.holding;
-        agree = agrees_still old new makes.writes.seen between.agree;
-        alone = λ p ne ne'. makes.writes.others p (side_page key q side p ne ne') ∙ between.alone p ne ne';
-        form = changes.form;
-      }, record {
-        does = (q, makes.write.at, _, changes);
-        here = changes.here;
-        others = changes.others;
-      })
+      let changes = changes_one bits root opens tx key q change old new clean bounded between.agree between.form (side_leads old key q side between) fits makes in (
+        record {
+          holding = holds_still old new makes.writes.modes makes.writes.seen between.holding;
+          agree = agrees_still old new makes.writes.seen between.agree;
+          alone = λ p ne ne'. makes.writes.others p (side_page key q side p ne ne') ∙ between.alone p ne ne';
+          form = changes.form;
+        },
+        record {
+          does = (q, makes.write.at, _, changes);
+          here = changes.here;
+          others = changes.others;
+        },
+      )

@@ -6,3 +6,5 @@
 mod ghosts;
 #[cfg(test)]
 mod hash_files;
+#[cfg(test)]
+mod two_keys;

@@ -28,10 +28,25 @@ change_both-requires g c κs within =
     let file = file_before bits c.self.inside.root.page c.self.inside.root.max_depth c.self.inside.runner c.self.invariant.0 c.self.invariant.1 in
     let asks : AsksOfTwo (two_keys c.find_both.new.pair.left c.find_both.new.pair.right c.args.changes.now) = transport (λ i. AsksOfTwo (two_keys (sym left i) (sym right i) c.args.changes.now)) c.requires.asks in
     let fits : FitsValues (two_keys c.find_both.new.pair.left c.find_both.new.pair.right c.args.changes.now) (map.get (live_records c.self.inside.runner.store.pages)) =
-    transport (λ i. FitsValues (two_keys (sym left i) (sym right i) c.args.changes.now) (map.get (live_records ((sym c.self.view_is i).pages)))) c.requires.fits in
-    (within, (refl, (file_kept bits c.self.inside.root.page c.self.inside.root.max_depth c.self.inside.runner c.find_both.new.self c.find_both.ensures.keeps file,
-    (c.find_both.ensures.arrives.found, (c.find_both.ensures.arrives.finding, (asks,
-    fits_file bits c.self.inside.root.page c.self.inside.root.max_depth c.self.inside.runner c.find_both.new.self (two_keys c.find_both.new.pair.left c.find_both.new.pair.right c.args.changes.now) c.self.invariant.0 c.self.invariant.1 c.find_both.ensures.keeps fits))))))
+    transport (λ i. FitsValues (two_keys (sym left i) (sym right i) c.args.changes.now) (map.get (live_records ((sym c.self.view_is i).pages)))) c.requires.fits in (
+      within,
+      (
+        refl,
+        (
+          file_kept bits c.self.inside.root.page c.self.inside.root.max_depth c.self.inside.runner c.find_both.new.self c.find_both.ensures.keeps file,
+          (
+            c.find_both.ensures.arrives.found,
+            (
+              c.find_both.ensures.arrives.finding,
+              (
+                asks,
+                fits_file bits c.self.inside.root.page c.self.inside.root.max_depth c.self.inside.runner c.find_both.new.self (two_keys c.find_both.new.pair.left c.find_both.new.pair.right c.args.changes.now) c.self.invariant.0 c.self.invariant.1 c.find_both.ensures.keeps fits,
+              ),
+            ),
+          ),
+        ),
+      ),
+    )
 
 pub invariant_of-self : goal.invariant_of-self
 invariant_of-self g c =
