@@ -171,7 +171,7 @@ module _ (basis : Basis) (walk : WalkFields) (m : Moment) (fields : BucketFields
       dirs_below_have bucket.header.dirs (2 ^ (bucket.header.depth - 8)) (first_bits bucket.header.depth seed / 256) below
 
   -- few pages are held
-  among : HoldsAmong (view_of m) bucket.header.dirs bucket.header.dirs 0 (2 ^ (bucket.header.depth - 8)) 0 (most_held fields.depth bucket.header.depth)
+  among : HoldsAmong (view_of m) bucket.header.dirs bucket.header.dirs 0 (2 ^ (bucket.header.depth - 8)) 0 (most_held 0 fields.depth bucket.header.depth)
   among =
       let count = 2 ^ (bucket.header.depth - 8) in
       let dirs : List ℕ = dirs_below bucket.header.dirs count in
@@ -209,6 +209,7 @@ module _ (basis : Basis) (walk : WalkFields) (m : Moment) (fields : BucketFields
     no_ghost = nowhere_at (is_ghost_of walk.key basis.tx) fields.slots refl full.no_ghost;
     room = room;
     small = small;
+    few_before = omega arith;
     among = among;
   }
 

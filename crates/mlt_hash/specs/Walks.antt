@@ -149,7 +149,7 @@ pub record StaysNarrow (root : ℕ) (view : View) (room_depth l g : ℕ) : Type 
   pub one_page : g ≤ l + 8
   pub unwritten : view.own root ≡ None
 
--- what a walk's splits are for
+-- what a walk's splits are for: it goes to one key, and holds no bucket of another
 abbrev pub aim_of : Basis → WalkFields → ℕ → Aim
 aim_of basis walk room_depth = record {
   bits = basis.bits;
@@ -158,6 +158,7 @@ aim_of basis walk room_depth = record {
   key = walk.key;
   owner = basis.tx;
   room_depth = room_depth;
+  held_before = 0;
 }
 
 -- The bucket has no room yet, but has it once it is split down to this depth. Nothing was found of the key.

@@ -1,5 +1,5 @@
 -- What a walk holds, seen apart from all that it doesn't hold: facts about a view can't be touched by what others do
-use Rattle.std.specs.Prelude.{ℕ, ◌≡◌, cond, Option, None, Some}
+use Rattle.std.specs.Prelude.{ℕ, ◌≡◌, cond, true, is_some, Option, None, Some}
 use Rattle.mlt_types.specs.declared.mode.Mode.{Mode}
 use Rattle.mlt_types.specs.declared.mode.Mode.TheVariants.{Exclusive}
 use Rattle.mlt_page.specs.declared.page.Page.{Page}
@@ -11,6 +11,7 @@ use Rattle.mlt_store.specs.Stores.{page_at}
 use Rattle.mlt_page_locks.specs.LockTables.{Modes, can_read, pages_of}
 use Rattle.mlt_page_locks.specs.Requests.{with_page}
 use Rattle.mlt_subtx.specs.Images.{image_of}
+use Rattle.mlt_hash_form.specs.File.{FilePages}
 use Rattle.mlt_hash_form.specs.Held.{own_or}
 use Rattle.mlt_held.specs.Moments.{Moment, page_before}
 
@@ -81,3 +82,17 @@ pub record MakesPage (old new : View) (q : ℕ) (page : Page) : Type 0 where
   pub own_before : old.own q ≡ None
   pub own_here : new.own q ≡ Some page
   pub own_others : (p : ℕ) → (p ≡ q → ⊥) → new.own p ≡ old.own p
+
+-- what was seen of a page, with what was written on it taken as seen, if it was written
+abbrev pub seen_with : Option Page → Option (Option Page) → Option (Option Page)
+seen_with None seen = seen
+seen_with (Some page) seen = Some (Some page)
+
+-- the view with these writes taken as seen: each page that they wrote was as they left it, and any other as it was seen
+abbrev pub rebased : FilePages → View → View
+rebased before view = record view { seen = λ q. seen_with (before q) (view.seen q) }
+
+-- each page that was written before is held, and written
+abbrev pub HasWritten : FilePages → View → Type 0
+HasWritten before view =
+    (q : ℕ) → is_some (before q) ≡ true → (is_some (view.seen q) ≡ true) × (is_some (view.own q) ≡ true)

@@ -9,5 +9,6 @@ mod view_laws;
 pub use locked_store::LockedStore;
 pub use pages::{lock, make_page, read_held, write_held, write_slot};
 pub use view_laws::{
-    own_steps_see_more, view_agrees_with_clean_pages, written_pages_are_held_exclusively,
+    own_steps_see_more, rebased_views_agree_with_what_was_written, rebased_views_step_alike,
+    view_agrees_with_clean_pages, written_pages_are_held_exclusively,
 };

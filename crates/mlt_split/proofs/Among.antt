@@ -41,8 +41,8 @@ pub few_pages : (g : ℕ) → g ≤ 16 → 2 ^ (g - 8) ≤ 256
 few_pages g small = let le : g - 8 ≤ 8 = omega arith in pow-le-pow_right {n = 2} (omega arith) le
 
 -- a walk's splits hold fewer than 300 pages
-pub most_is_small : (l g : ℕ) → l ≤ 17 → g ≤ 16 → most_held l g < 300
-most_is_small l g shallow small = let pages = few_pages g small in omega (arith, pages)
+pub most_is_small : (before l g : ℕ) → before ≤ 17 → l ≤ 17 → g ≤ 16 → most_held before l g < 300
+most_is_small before l g few shallow small = let pages = few_pages g small in omega (arith, pages)
 
 -- a page that stands in front of a list is in it, and so are those behind
 pub first_is_in : (q : ℕ) (pages : List ℕ) → IsIn q (q ∷ pages)

@@ -46,10 +46,10 @@ pub few_at_rest : (aim : Aim) (m : Moment) (n : ℕ) (header : HeadFields) (buck
 few_at_rest aim m n header bucket w rest =
     let small = rest_is_small aim (view_of m) n header bucket rest w in
     let shallow = rest_is_shallow aim (view_of m) n header bucket rest w in
-    count_is_few m header.dirs header.dirs 0 (2 ^ (header.depth - 8)) 0 (most_held bucket.depth header.depth) rest.among (most_is_small bucket.depth header.depth (omega arith) small)
+    count_is_few m header.dirs header.dirs 0 (2 ^ (header.depth - 8)) 0 (most_held aim.held_before bucket.depth header.depth) rest.among (most_is_small aim.held_before bucket.depth header.depth rest.few_before (omega arith) small)
 
-one_more_held : (l g : ℕ) → most_held l g + 1 ≡ most_held (l + 1) g
-one_more_held l g = omega arith
+one_more_held : (before l g : ℕ) → most_held before l g + 1 ≡ most_held before (l + 1) g
+one_more_held before l g = omega arith
 
 -- **A split whose new bucket is made is under way.**
 module _ (aim : Aim) (old new : View) (n q : ℕ) (ones : BucketFields) (header : HeadFields) (bucket : BucketFields) (rest : IsAtRest aim old n header bucket) (shallow : bucket.depth < aim.room_depth) (doubles : bucket.depth ≡ header.depth → map.get old.modes aim.root ≡ Some Exclusive) (makes : MakesPage old new q (page.Bucket ones)) (ones_is : ones ≡ half_of aim.bits aim.opens bucket 1) where
@@ -101,9 +101,10 @@ module _ (aim : Aim) (old new : View) (n q : ℕ) (ones : BucketFields) (header 
     no_ghost = rest.no_ghost;
     room = rest.room;
     small = rest.small;
+    few_before = rest.few_before;
     begins = begins_over second;
     stands = stands_over second;
-    among = subst (λ most. HoldsAmong new header.dirs header.dirs 0 (2 ^ (header.depth - 8)) 0 most) (one_more_held bucket.depth header.depth) (among_after_make old new header.dirs header.dirs 0 (2 ^ (header.depth - 8)) 0 (most_held bucket.depth header.depth) rest.among q Exclusive makes.modes);
+    among = subst (λ most. HoldsAmong new header.dirs header.dirs 0 (2 ^ (header.depth - 8)) 0 most) (one_more_held aim.held_before bucket.depth header.depth) (among_after_make old new header.dirs header.dirs 0 (2 ^ (header.depth - 8)) 0 (most_held aim.held_before bucket.depth header.depth) rest.among q Exclusive makes.modes);
   }
 
 -- what is read of the walk's file at rest

@@ -111,9 +111,10 @@ pub record HasClosed (aim : Aim) (view : View) (rest : ℕ → Option Page) (spl
   pub no_ghost : (i : ℕ) → is_ghost_of aim.key aim.owner (slice_index_or bucket.slots i Free) ≡ false
   pub room : is_crowded aim.bits aim.opens aim.room_depth (seed_of aim) bucket.slots ≡ false
   pub small : aim.room_depth ≤ 16
+  pub few_before : aim.held_before ≤ 17
   pub begins : (clean : ℕ → Option Page) → Agrees view.seen clean → HasForm aim.bits clean aim.root → Begins aim (over clean rest) split bucket
   pub closed : (clean : ℕ → Option Page) → Agrees view.seen clean → HasForm aim.bits clean aim.root → IsClosed aim.bits splitters (over clean rest) (over clean view.own) aim.root split.old_page split.new_page (seed_of aim)
-  pub among : HoldsAmong view header.dirs header.dirs 0 (2 ^ (header.depth - 8)) 0 (most_held (split.depth + 1) header.depth)
+  pub among : HoldsAmong view header.dirs header.dirs 0 (2 ^ (header.depth - 8)) 0 (most_held aim.held_before (split.depth + 1) header.depth)
 
 -- the clean pages of one moment, as a witness
 pub record HasClean (aim : Aim) (view : View) : Type 0 where
@@ -203,5 +204,6 @@ module _ (aim : Aim) (view : View) (rest : ℕ → Option Page) (splitters : set
     no_ghost = half_passes_none aim.bits splitters bucket.depth side (is_ghost_of aim.key aim.owner) bucket.slots refl done.no_ghost;
     room = not_true _ _ (crowded_half aim.bits splitters aim.opens bucket.depth side aim.room_depth (seed_of aim) bucket.slots) done.room;
     small = done.small;
-    among = let depth : split.depth ≡ bucket.depth = sym (done.begins witness.clean witness.agrees witness.form).depth in subst (λ l. HoldsAmong view header.dirs header.dirs 0 (2 ^ (header.depth - 8)) 0 (most_held (l + 1) header.depth)) depth done.among;
+    few_before = done.few_before;
+    among = let depth : split.depth ≡ bucket.depth = sym (done.begins witness.clean witness.agrees witness.form).depth in subst (λ l. HoldsAmong view header.dirs header.dirs 0 (2 ^ (header.depth - 8)) 0 (most_held aim.held_before (l + 1) header.depth)) depth done.among;
   }

@@ -115,9 +115,9 @@ place_of_double aim m split place phase may file under =
 pub few_at_double : (aim : Aim) (m : Moment) (split : SplitFields) (place : ℕ) → split.phase ≡ at.Double place → MayStep m → HasCleanFile aim.bits aim.root m → IsUnderWay aim (view_of m) split → map.len (view_of m).modes < 300
 few_at_double aim m split place phase may file under =
     let depth = depth_of_double aim m split place phase may file under in
-    let among = subst (λ (p : SplitPhase). HoldsAmongAt p (view_of m) under.header.dirs split) phase under.among in
+    let among = subst (λ (p : SplitPhase). HoldsAmongAt p aim.held_before (view_of m) under.header.dirs split) phase under.among in
     let few = few_are_held (view_of m) _ _ _ _ _ _ among in
-    omega (arith, few, depth.0, depth.1, depth.2, half_pages split.directory_depth depth.0)
+    omega (arith, few, under.few_before, depth.0, depth.1, depth.2, half_pages split.directory_depth depth.0)
 
 -- the header is held as it was read
 pub header_as_read : (view : View) (at root : ℕ) (result : Page) (header : HeadFields) → at ≡ root → result ≡ page.Head header → (first : Option Page) × (view.seen at ≡ Some first) × (own_or (view.own at) first ≡ Some result) → held_page view root ≡ Some (page.Head header)
@@ -201,10 +201,10 @@ module _ (aim : Aim) (view mid view' : View) (split : SplitFields) (place number
 
   -- the pages that are held are those of before, and this one, which was among them
   pub among_rewritten : place < 2 ^ (split.directory_depth - 8)
-      → HoldsAmong view' under.header.dirs (slice_set split.made.dirs (2 * place) number) (place + 1) (2 ^ (split.directory_depth - 8)) (2 * place + 1) (most_held (split.depth + 1) split.directory_depth + place)
+      → HoldsAmong view' under.header.dirs (slice_set split.made.dirs (2 * place) number) (place + 1) (2 ^ (split.directory_depth - 8)) (2 * place + 1) (most_held aim.held_before (split.depth + 1) split.directory_depth + place)
   among_rewritten more =
-      among_by_rewrite view view' under.header.dirs split.made.dirs place (2 ^ (split.directory_depth - 8)) (2 * place) (most_held (split.depth + 1) split.directory_depth + place) number (page.Dir first) sized more (sym listed_as)
-      (subst (λ (p : SplitPhase). HoldsAmongAt p view under.header.dirs split) phase under.among) rewritten
+      among_by_rewrite view view' under.header.dirs split.made.dirs place (2 ^ (split.directory_depth - 8)) (2 * place) (most_held aim.held_before (split.depth + 1) split.directory_depth + place) number (page.Dir first) sized more (sym listed_as)
+      (subst (λ (p : SplitPhase). HoldsAmongAt p aim.held_before view under.header.dirs split) phase under.among) rewritten
 
   -- the page of the second half is next,
   pub second_half_stands : 8 ≤ split.directory_depth → place < 2 ^ (split.directory_depth - 8) → IsUnderWay aim view' (record split { made = renamed; second = second; phase = at.SecondHalf place })
@@ -233,7 +233,7 @@ module _ (aim : Aim) (view mid view' : View) (split : SplitFields) (place number
         filled = subst (λ (j : ℕ). IsMidway (bucket_split aim.bits under.splitters (over clean under.rest) aim.root split.old_page split.new_page (seed_of aim)) split.made.depth (over clean view'.own) (slice_set split.made.dirs (2 * place) number) j (place + 1)) (sym all) (double_filled clean agree form);
         deeper = s.deeper;
       })
-      (among_all_made view' under.header.dirs (slice_set split.made.dirs (2 * place) number) (place + 1) (2 ^ (split.directory_depth - 8)) (2 * place + 1) (most_held (split.depth + 1) split.directory_depth + place) (2 ^ (split.made.depth - 8)) (most_held (split.depth + 1) split.made.depth) all (omega (arith, all, one_page)) (among_rewritten more))
+      (among_all_made view' under.header.dirs (slice_set split.made.dirs (2 * place) number) (place + 1) (2 ^ (split.directory_depth - 8)) (2 * place + 1) (most_held aim.held_before (split.depth + 1) split.directory_depth + place) (2 ^ (split.made.depth - 8)) (most_held aim.held_before (split.depth + 1) split.made.depth) all (omega (arith, all, one_page)) (among_rewritten more))
 
 -- what is known where a page of the old directory was read and written
 pub record IsRewrite (old mid new : Moment) (root : ℕ) (split : SplitFields) (place number : ℕ) (header : HeadFields) (dir first second : List ℕ) : Type 0 where

@@ -59,7 +59,7 @@ module _ (aim : Aim) (old new : Moment) (split : SplitFields) (phase : split.pha
   -- with the header written, the split is closed over the pages that the walk holds
   pub header_closes : HasClosed aim (view_of new) under.rest under.splitters split split.made under.bucket
   header_closes =
-      let among = subst (λ (p : SplitPhase). HoldsAmongAt p (view_of old) under.header.dirs split) phase under.among in
+      let among = subst (λ (p : SplitPhase). HoldsAmongAt p aim.held_before (view_of old) under.header.dirs split) phase under.among in
       record {
         bounded = under.bounded;
         keeps = keeps_more aim.bits aim.opens aim.root (view_of old).seen (view_of new).seen under.rest (λ q first sees. writes.seen q ∙ sees) under.keeps;
@@ -74,6 +74,7 @@ module _ (aim : Aim) (old new : Moment) (split : SplitFields) (phase : split.pha
         no_ghost = under.no_ghost;
         room = under.room;
         small = under.small;
+        few_before = under.few_before;
         begins = λ clean agree form. under.begins clean (before clean agree) form;
         closed = closed;
         among = record {

@@ -123,8 +123,8 @@ module _ (aim : Aim) (m : Moment) (split : SplitFields) (place end : ℕ) (may :
   stands_here : IsInPlace aim way.splitters (over file.clean way.rest) (over file.clean (view_of m).own) split place end
   stands_here = stands_now aim m split (at.InPlace place end) at_place may file way
 
-  among_here : HoldsAmong (view_of m) way.header.dirs way.header.dirs 0 (2 ^ (split.directory_depth - 8)) 0 (most_held (split.depth + 1) split.directory_depth)
-  among_here = subst (λ (p : SplitPhase). HoldsAmongAt p (view_of m) way.header.dirs split) at_place way.among
+  among_here : HoldsAmong (view_of m) way.header.dirs way.header.dirs 0 (2 ^ (split.directory_depth - 8)) 0 (most_held aim.held_before (split.depth + 1) split.directory_depth)
+  among_here = subst (λ (p : SplitPhase). HoldsAmongAt p aim.held_before (view_of m) way.header.dirs split) at_place way.among
 
   head_over : (clean : ℕ → Option Page) → Agrees (view_of m).seen clean → over clean (view_of m).own aim.root ≡ Some (page.Head way.header)
   head_over clean agrees = sym (held_page_over (view_of m) clean aim.root agrees way.head_held) ∙ way.head
@@ -151,7 +151,7 @@ module _ (aim : Aim) (m : Moment) (split : SplitFields) (place end : ℕ) (may :
   pub few_are_held_here : page_count m.locks m.running.tx < 300
   few_are_held_here =
       let d = depths_here in
-      count_is_few m way.header.dirs way.header.dirs 0 (2 ^ (split.directory_depth - 8)) 0 (most_held (split.depth + 1) split.directory_depth) among_here (most_is_small (split.depth + 1) split.directory_depth (omega (arith, d.0, d.1)) d.1)
+      count_is_few m way.header.dirs way.header.dirs 0 (2 ^ (split.directory_depth - 8)) 0 (most_held aim.held_before (split.depth + 1) split.directory_depth) among_here (most_is_small aim.held_before (split.depth + 1) split.directory_depth way.few_before (omega (arith, d.0, d.1)) d.1)
 
   module _ (header : HeadFields) (head : held_page (view_of m) aim.root ≡ Some (page.Head header)) (q : ℕ) (number : q ≡ slice_index header.dirs place) where
     number_is : q ≡ slice_index way.header.dirs place
@@ -195,13 +195,13 @@ module _ (aim : Aim) (m : Moment) (split : SplitFields) (place end : ℕ) (may :
       stood : (clean : ℕ → Option Page) → Agrees (view_of m).seen clean → HasForm aim.bits clean aim.root → IsInPlace aim way.splitters (over clean way.rest) (over clean (view_of m).own) split place end
       stood clean agrees form = subst (λ (p : SplitPhase). StandsAt p aim way.splitters (over clean way.rest) (over clean (view_of m).own) split way.bucket) at_place (way.stands clean agrees form)
 
-      among_after : HoldsAmong (view_of new) way.header.dirs way.header.dirs 0 (2 ^ (split.directory_depth - 8)) 0 (most_held (split.depth + 1) split.directory_depth)
+      among_after : HoldsAmong (view_of new) way.header.dirs way.header.dirs 0 (2 ^ (split.directory_depth - 8)) 0 (most_held aim.held_before (split.depth + 1) split.directory_depth)
       among_after =
           let more = stands_here.more in
           let within = stands_here.places.within in
           let a = among_here in
           let listed : IsIn (slice_index way.header.dirs place) a.pages = a.old_dirs place (omega arith) (omega (arith, more, within)) in
-          among_after_lock (view_of m) (view_of new) way.header.dirs way.header.dirs 0 (2 ^ (split.directory_depth - 8)) 0 (most_held (split.depth + 1) split.directory_depth) a q Exclusive (subst (λ n. IsIn n a.pages) (sym number_is) listed) rewritten.modes
+          among_after_lock (view_of m) (view_of new) way.header.dirs way.header.dirs 0 (2 ^ (split.directory_depth - 8)) 0 (most_held aim.held_before (split.depth + 1) split.directory_depth) a q Exclusive (subst (λ n. IsIn n a.pages) (sym number_is) listed) rewritten.modes
 
       -- **A page that is written in place is a step further,**
       pub in_place_goes_on : place + 1 < end → GoesOn aim new split (record split { phase = at.InPlace (place + 1) end })
@@ -231,11 +231,12 @@ module _ (aim : Aim) (m : Moment) (split : SplitFields) (place end : ℕ) (may :
         no_ghost = way.no_ghost;
         room = way.room;
         small = way.small;
+        few_before = way.few_before;
         begins = λ clean agrees form. way.begins clean (agreed_before aim.root (view_of m) (view_of new) clean later agrees) form;
         closed = λ clean agrees form.
             let before = agreed_before aim.root (view_of m) (view_of new) clean later agrees in
             in_place_closed aim way.splitters (over clean way.rest) (over clean (view_of m).own) split way.bucket place end way.header (way.begins clean before form) (stood clean before form) (head_over clean before) (over clean (view_of new).own) dir made first count places has (read_over clean agrees) (written_over clean) at_end;
-        among = subst (λ g. HoldsAmong (view_of new) way.header.dirs way.header.dirs 0 (2 ^ (g - 8)) 0 (most_held (split.depth + 1) g)) (sym (same_depth aim way.splitters (over file.clean way.rest) (over file.clean (view_of m).own) split way.bucket place end way.header begins_here stands_here (head_over file.clean (agrees_now aim.bits aim.root m may file)))) among_after;
+        among = subst (λ g. HoldsAmong (view_of new) way.header.dirs way.header.dirs 0 (2 ^ (g - 8)) 0 (most_held aim.held_before (split.depth + 1) g)) (sym (same_depth aim way.splitters (over file.clean way.rest) (over file.clean (view_of m).own) split way.bucket place end way.header begins_here stands_here (head_over file.clean (agrees_now aim.bits aim.root m may file)))) among_after;
       }
 
       -- **or closes the split.**

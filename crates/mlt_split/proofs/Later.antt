@@ -115,7 +115,7 @@ held_over view q clean agree held =
 -- **A split stays under way at a later view**, where it stands and the pages that are held are among those of its new phase.
 pub stays_under_way : (aim : Aim) (view view' : View) (split : SplitFields) (made : HeadFields) (second : List ℕ) (phase : SplitPhase) (under : IsUnderWay aim view split) → IsLater aim.root view view'
     → ((clean : ℕ → Option Page) → Agrees view'.seen clean → HasForm aim.bits clean aim.root → StandsAt phase aim under.splitters (over clean under.rest) (over clean view'.own) (record split { made = made; second = second; phase = phase }) under.bucket)
-    → HoldsAmongAt phase view' under.header.dirs (record split { made = made; second = second; phase = phase })
+    → HoldsAmongAt phase aim.held_before view' under.header.dirs (record split { made = made; second = second; phase = phase })
     → IsUnderWay aim view' (record split { made = made; second = second; phase = phase })
 stays_under_way aim view view' split made second phase under later stands among = record {
   bounded = under.bounded;
@@ -135,6 +135,7 @@ stays_under_way aim view view' split made second phase under later stands among 
   no_ghost = under.no_ghost;
   room = under.room;
   small = under.small;
+  few_before = under.few_before;
   begins = λ clean agree form. let b = under.begins clean (agreed_before aim.root view view' clean later agree) form in record {
     may = b.may;
     was = b.was;

@@ -60,6 +60,7 @@ rest_with_fewer aim fewer view n header bucket clean agrees form rest no_more =
       no_ghost = rest.no_ghost;
       room = not_true _ _ (crowded_with_fewer aim.bits aim.opens fewer aim.room_depth (seed_of aim) bucket.slots (λ i lt. kept i)) rest.room;
       small = rest.small;
+      few_before = rest.few_before;
       among = rest.among;
     }
 
@@ -94,6 +95,7 @@ under_way_with_fewer aim fewer view split clean agrees form way no_more =
       no_ghost = way.no_ghost;
       room = not_true _ _ (crowded_with_fewer aim.bits aim.opens fewer aim.room_depth (seed_of aim) way.bucket.slots (λ i lt. kept i)) way.room;
       small = way.small;
+      few_before = way.few_before;
       begins = λ clean2 a f. let b = way.begins clean2 a f in record { may = b.may; was = b.was; seed = b.seed; depth = b.depth; directory_depth = b.directory_depth; deep = b.deep };
       stands = λ clean2 a f. stands_with_fewer split.phase aim fewer way.splitters (over clean2 way.rest) (over clean2 view.own) split way.bucket (way.stands clean2 a f);
       among = way.among;

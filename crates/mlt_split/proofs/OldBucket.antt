@@ -129,18 +129,18 @@ module _ (aim : Aim) (splitters : set.FinSet nat_cmp) (base one two : ℕ → Op
   old_bucket_written at.Header first = absurd first
 
 -- the pages that are held are among those of the next phase
-pub among_in_first_phase : (view : View) (dirs : List ℕ) (split : SplitFields) (phase : SplitPhase) → HoldsAmong view dirs dirs 0 (2 ^ (split.directory_depth - 8)) 0 (most_held (split.depth + 1) split.directory_depth) → IsFirstPhase split phase → HoldsAmongAt phase view dirs (record split { phase = phase })
-among_in_first_phase view dirs split at.OldBucket among first = absurd first
-among_in_first_phase view dirs split (at.InPlace place end) among first = among
-among_in_first_phase view dirs split (at.Double place) among first = record {
+pub among_in_first_phase : (before : ℕ) (view : View) (dirs : List ℕ) (split : SplitFields) (phase : SplitPhase) → HoldsAmong view dirs dirs 0 (2 ^ (split.directory_depth - 8)) 0 (most_held before (split.depth + 1) split.directory_depth) → IsFirstPhase split phase → HoldsAmongAt phase before view dirs (record split { phase = phase })
+among_in_first_phase before view dirs split at.OldBucket among first = absurd first
+among_in_first_phase before view dirs split (at.InPlace place end) among first = among
+among_in_first_phase before view dirs split (at.Double place) among first = record {
   pages = among.pages;
   few = omega (arith, among.few);
   all = among.all;
   old_dirs = λ i le lt. among.old_dirs i (omega arith) lt;
   new_dirs = λ i lt. absurd (omega (arith, lt, first.1));
 }
-among_in_first_phase view dirs split (at.SecondHalf place) among first = absurd first
-among_in_first_phase view dirs split at.Header among first = absurd first
+among_in_first_phase before view dirs split (at.SecondHalf place) among first = absurd first
+among_in_first_phase before view dirs split at.Header among first = absurd first
 
 twice_pages : (g : ℕ) → 8 ≤ g → 2 ^ (g - 7) ≡ 2 * 2 ^ (g - 8)
 twice_pages g h = let e : g - 7 ≡ 1 + (g - 8) = omega arith in ap (λ k. 2 ^ k) e ∙ pow-add 2 1 (g - 8)
@@ -175,14 +175,14 @@ old_bucket_step aim m new split phase may file way at_old writes first =
       exclusive = λ p was. ap (λ modes. map.get modes p) writes.modes ∙ was;
       head = writes.others aim.root elsewhere;
     } in
-    let was_among : HoldsAmong view way.header.dirs way.header.dirs 0 (2 ^ (split.directory_depth - 8)) 0 (most_held (split.depth + 1) split.directory_depth) = subst (λ (p : SplitPhase). HoldsAmongAt p view way.header.dirs split) at_old way.among in
+    let was_among : HoldsAmong view way.header.dirs way.header.dirs 0 (2 ^ (split.directory_depth - 8)) 0 (most_held aim.held_before (split.depth + 1) split.directory_depth) = subst (λ (p : SplitPhase). HoldsAmongAt p aim.held_before view way.header.dirs split) at_old way.among in
     record {
       under_way = stays_under_way aim view view' split split.made split.second phase way later
           (λ clean agrees form.
           let before = agreed_before aim.root view view' clean later agrees in
           let stood = subst (λ (p : SplitPhase). StandsAt p aim way.splitters (over clean way.rest) (over clean view.own) split way.bucket) at_old (way.stands clean before form) in
           old_bucket_written aim way.splitters (over clean way.rest) (over clean view.own) (over clean view'.own) split way.bucket (way.begins clean before form) stood (writes_over_clean view view' split.old_page (page.Bucket split.zeros) clean writes) phase first)
-          (among_in_first_phase view' way.header.dirs split phase (among_still view view' way.header.dirs way.header.dirs 0 (2 ^ (split.directory_depth - 8)) 0 (most_held (split.depth + 1) split.directory_depth) was_among writes.modes) first);
+          (among_in_first_phase aim.held_before view' way.header.dirs split phase (among_still view view' way.header.dirs way.header.dirs 0 (2 ^ (split.directory_depth - 8)) 0 (most_held aim.held_before (split.depth + 1) split.directory_depth) was_among writes.modes) first);
       fewer = steps_of_first_phase split phase first ∙ ap (steps_left_at split.depth split.directory_depth) (sym at_old);
       depth = refl;
       directory_depth = refl;

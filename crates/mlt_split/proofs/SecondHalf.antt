@@ -69,9 +69,9 @@ place_of_second_half aim m split place phase may file under =
 pub few_at_second_half : (aim : Aim) (m : Moment) (split : SplitFields) (place : ℕ) → split.phase ≡ at.SecondHalf place → MayStep m → HasCleanFile aim.bits aim.root m → IsUnderWay aim (view_of m) split → map.len (view_of m).modes < 300
 few_at_second_half aim m split place phase may file under =
     let depth = depth_of_second_half aim m split place phase may file under in
-    let among = subst (λ (p : SplitPhase). HoldsAmongAt p (view_of m) under.header.dirs split) phase under.among in
+    let among = subst (λ (p : SplitPhase). HoldsAmongAt p aim.held_before (view_of m) under.header.dirs split) phase under.among in
     let few = few_are_held (view_of m) _ _ _ _ _ _ among in
-    omega (arith, few, depth.1, depth.2, depth.3, half_pages split.directory_depth depth.1)
+    omega (arith, few, under.few_before, depth.1, depth.2, depth.3, half_pages split.directory_depth depth.1)
 
 module _ (aim : Aim) (view view' : View) (split : SplitFields) (place n : ℕ) (phase : split.phase ≡ at.SecondHalf place) (under : IsUnderWay aim view split) (makes : MakesPage view view' n (page.Dir split.second)) (sized : 2 * place + 1 < length split.made.dirs) where
   later : IsLater aim.root view view'
@@ -100,23 +100,23 @@ module _ (aim : Aim) (view view' : View) (split : SplitFields) (place n : ℕ) (
       }) none
 
   -- what is left of the pages that may be held
-  among : HoldsAmong view' under.header.dirs (slice_set split.made.dirs (2 * place + 1) n) (place + 1) (2 ^ (split.directory_depth - 8)) (2 * place + 1 + 1) (most_held (split.depth + 1) split.directory_depth + place + 1)
+  among : HoldsAmong view' under.header.dirs (slice_set split.made.dirs (2 * place + 1) n) (place + 1) (2 ^ (split.directory_depth - 8)) (2 * place + 1 + 1) (most_held aim.held_before (split.depth + 1) split.directory_depth + place + 1)
   among =
-      among_with_made view view' under.header.dirs split.made.dirs (place + 1) (2 ^ (split.directory_depth - 8)) (2 * place + 1) (most_held (split.depth + 1) split.directory_depth + place) n (page.Dir split.second) sized
-      (subst (λ (p : SplitPhase). HoldsAmongAt p view under.header.dirs split) phase under.among) makes
+      among_with_made view view' under.header.dirs split.made.dirs (place + 1) (2 ^ (split.directory_depth - 8)) (2 * place + 1) (most_held aim.held_before (split.depth + 1) split.directory_depth + place) n (page.Dir split.second) sized
+      (subst (λ (p : SplitPhase). HoldsAmongAt p aim.held_before view under.header.dirs split) phase under.among) makes
 
   -- another page of the old directory is next,
   pub another_page_stands : place + 1 < 2 ^ (split.directory_depth - 8) → IsUnderWay aim view' (record split { made = named; phase = at.Double (place + 1) })
   another_page_stands more =
       let twice : 2 * place + 1 + 1 ≡ 2 * (place + 1) = omega arith in
-      let most : most_held (split.depth + 1) split.directory_depth + place + 1 ≡ most_held (split.depth + 1) split.directory_depth + (place + 1) = omega arith in
+      let most : most_held aim.held_before (split.depth + 1) split.directory_depth + place + 1 ≡ most_held aim.held_before (split.depth + 1) split.directory_depth + (place + 1) = omega arith in
       stays_under_way aim view view' split named split.second (at.Double (place + 1)) under later (λ clean agree form. let s = stood clean agree form in record {
         deep = s.deep;
         filled = subst (λ (j : ℕ). IsMidway (bucket_split aim.bits under.splitters (over clean under.rest) aim.root split.old_page split.new_page (seed_of aim)) split.made.depth (over clean view'.own) (slice_set split.made.dirs (2 * place + 1) n) j (place + 1)) twice (second_half_filled clean agree form);
         more = more;
         deeper = s.deeper;
       })
-      (subst (λ (j : ℕ). HoldsAmong view' under.header.dirs (slice_set split.made.dirs (2 * place + 1) n) (place + 1) (2 ^ (split.directory_depth - 8)) j (most_held (split.depth + 1) split.directory_depth + (place + 1))) twice
+      (subst (λ (j : ℕ). HoldsAmong view' under.header.dirs (slice_set split.made.dirs (2 * place + 1) n) (place + 1) (2 ^ (split.directory_depth - 8)) j (most_held aim.held_before (split.depth + 1) split.directory_depth + (place + 1))) twice
       (subst (λ (most : ℕ). HoldsAmong view' under.header.dirs (slice_set split.made.dirs (2 * place + 1) n) (place + 1) (2 ^ (split.directory_depth - 8)) (2 * place + 1 + 1) most) most among))
 
   -- or the header
@@ -130,7 +130,7 @@ module _ (aim : Aim) (view view' : View) (split : SplitFields) (place n : ℕ) (
         filled = subst (λ (j : ℕ). IsMidway (bucket_split aim.bits under.splitters (over clean under.rest) aim.root split.old_page split.new_page (seed_of aim)) split.made.depth (over clean view'.own) (slice_set split.made.dirs (2 * place + 1) n) j (place + 1)) (sym all) (second_half_filled clean agree form);
         deeper = s.deeper;
       })
-      (among_all_made view' under.header.dirs (slice_set split.made.dirs (2 * place + 1) n) (place + 1) (2 ^ (split.directory_depth - 8)) (2 * place + 1 + 1) (most_held (split.depth + 1) split.directory_depth + place + 1) (2 ^ (split.made.depth - 8)) (most_held (split.depth + 1) split.made.depth) all (omega (arith, all, last)) among)
+      (among_all_made view' under.header.dirs (slice_set split.made.dirs (2 * place + 1) n) (place + 1) (2 ^ (split.directory_depth - 8)) (2 * place + 1 + 1) (most_held aim.held_before (split.depth + 1) split.directory_depth + place + 1) (2 ^ (split.made.depth - 8)) (most_held aim.held_before (split.depth + 1) split.made.depth) all (omega (arith, all, last)) among)
 
 -- **The split goes on once the page of a second half is made.**
 pub goes_on_to_another_page : (aim : Aim) (old new : Moment) (split now : SplitFields) (place n : ℕ) (made : HeadFields) (next : SplitPhase) → split ≡ now → now.phase ≡ at.SecondHalf place → MayStep old → HasCleanFile aim.bits aim.root old → IsUnderWay aim (view_of old) now

@@ -16,8 +16,9 @@ use Rattle.mlt_hash_form.specs.Room.{is_crowded}
 use Rattle.mlt_held.specs.Views.{View}
 use Rattle.mlt_split.specs.declared.setting.Setting.{Setting}
 
--- what a walk's splits are for: the function of keys, who is open, the header's page, the key that asks for room, the
--- transaction that adds it, and a depth at which its bucket has room for it
+-- What a walk's splits are for: the function of keys, who is open, the header's page, the key that asks for room, the
+-- transaction that adds it, and a depth at which its bucket has room for it. And how many buckets of another key it holds
+-- at most, to which it went before: none, where it goes to one key.
 pub record Aim : Type 0 where
   pub bits : ℕ → ℕ
   pub opens : set.FinSet nat_cmp
@@ -25,16 +26,18 @@ pub record Aim : Type 0 where
   pub key : ℕ
   pub owner : ℕ
   pub room_depth : ℕ
+  pub held_before : ℕ
 
 -- the aim of a transaction that adds a record of this key in this setting
-abbrev pub aim_by : {P : Type 0} → (P → ℕ → ℕ) → Setting P → ℕ → ℕ → ℕ → Aim
-aim_by bits_of setting key owner room_depth = record {
+abbrev pub aim_by : {P : Type 0} → (P → ℕ → ℕ) → Setting P → ℕ → ℕ → ℕ → ℕ → Aim
+aim_by bits_of setting key owner room_depth held_before = record {
   bits = bits_of setting.root.now.pseudo;
   opens = setting.opens.now;
   root = setting.root.now.page;
   key = key;
   owner = owner;
   room_depth = room_depth;
+  held_before = held_before;
 }
 
 -- the pseudokey of the key that asks for room
@@ -57,14 +60,14 @@ pub record HoldsAmong (view : View) (dirs made : List ℕ) (k count j most : ℕ
   pub old_dirs : (i : ℕ) → k ≤ i → i < count → IsIn (slice_index dirs i) pages
   pub new_dirs : (i : ℕ) → i < j → IsIn (slice_index made i) pages
 
--- how many pages a walk's splits hold at most, at a bucket of depth l in a directory of depth g: the header, the first
--- bucket, one for each split, and all pages of the directory
-abbrev pub most_held : ℕ → ℕ → ℕ
-most_held l g = 2 + l + 2 ^ (g - 8)
+-- how many pages a walk's splits hold at most, at a bucket of depth l in a directory of depth g: the buckets that were held
+-- before, the header, the first bucket, one for each split, and all pages of the directory
+abbrev pub most_held : ℕ → ℕ → ℕ → ℕ
+most_held before l g = before + 2 + l + 2 ^ (g - 8)
 
 -- The file that a walk has written so far is a hash file with its slots rearranged. The key leads to the bucket on
 -- page n, which the walk holds exclusively. It has neither a record of the key nor the owner's ghost of it, and there is
--- a depth at which the key finds room.
+-- a depth at which the key finds room. One key has 17 buckets at most: the first one, and one of each split.
 pub record IsAtRest (aim : Aim) (view : View) (n : ℕ) (header : HeadFields) (bucket : BucketFields) : Type 0 where
   pub bounded : (k : ℕ) → aim.bits k < 2 ^ 64
   pub keeps : KeepsFile aim.bits aim.opens aim.root view.seen view.own
@@ -79,7 +82,9 @@ pub record IsAtRest (aim : Aim) (view : View) (n : ℕ) (header : HeadFields) (b
   pub no_ghost : (i : ℕ) → is_ghost_of aim.key aim.owner (slice_index_or bucket.slots i Free) ≡ false
   pub room : is_crowded aim.bits aim.opens aim.room_depth (seed_of aim) bucket.slots ≡ false
   pub small : aim.room_depth ≤ 16
-  pub among : HoldsAmong view header.dirs header.dirs 0 (2 ^ (header.depth - 8)) 0 (most_held bucket.depth header.depth)
+  pub few_before : aim.held_before ≤ 17
+  pub among : HoldsAmong view header.dirs header.dirs 0 (2 ^ (header.depth - 8)) 0
+      (most_held aim.held_before bucket.depth header.depth)
 
 -- on the pages that are held no slot's room is kept now that was not before
 abbrev pub KeepsNoMore : set.FinSet nat_cmp → set.FinSet nat_cmp → View → Type 0

@@ -151,23 +151,23 @@ StandsAt (at.SecondHalf place) aim splitters base pages split bucket =
     IsAtSecondHalf aim splitters base pages split place
 StandsAt at.Header aim splitters base pages split bucket = IsAtHeader aim splitters base pages split
 
--- the pages that are held, by how far the split is
-abbrev pub HoldsAmongAt : SplitPhase → View → List ℕ → SplitFields → Type 0
-HoldsAmongAt at.OldBucket view dirs split =
+-- the pages that are held, by how far the split is, and how many buckets were held before
+abbrev pub HoldsAmongAt : SplitPhase → ℕ → View → List ℕ → SplitFields → Type 0
+HoldsAmongAt at.OldBucket before view dirs split =
     HoldsAmong view dirs dirs 0 (2 ^ (split.directory_depth - 8)) 0
-    (most_held (split.depth + 1) split.directory_depth)
-HoldsAmongAt (at.InPlace place end) view dirs split =
+    (most_held before (split.depth + 1) split.directory_depth)
+HoldsAmongAt (at.InPlace place end) before view dirs split =
     HoldsAmong view dirs dirs 0 (2 ^ (split.directory_depth - 8)) 0
-    (most_held (split.depth + 1) split.directory_depth)
-HoldsAmongAt (at.Double place) view dirs split =
+    (most_held before (split.depth + 1) split.directory_depth)
+HoldsAmongAt (at.Double place) before view dirs split =
     HoldsAmong view dirs split.made.dirs place (2 ^ (split.directory_depth - 8)) (2 * place)
-    (most_held (split.depth + 1) split.directory_depth + place)
-HoldsAmongAt (at.SecondHalf place) view dirs split =
+    (most_held before (split.depth + 1) split.directory_depth + place)
+HoldsAmongAt (at.SecondHalf place) before view dirs split =
     HoldsAmong view dirs split.made.dirs (place + 1) (2 ^ (split.directory_depth - 8)) (2 * place + 1)
-    (most_held (split.depth + 1) split.directory_depth + place)
-HoldsAmongAt at.Header view dirs split =
+    (most_held before (split.depth + 1) split.directory_depth + place)
+HoldsAmongAt at.Header before view dirs split =
     HoldsAmong view dirs split.made.dirs 0 0 (2 ^ (split.made.depth - 8))
-    (most_held (split.depth + 1) split.made.depth)
+    (most_held before (split.depth + 1) split.made.depth)
 
 -- A split is under way. `rest` is what the walk had written before it, and `splitters` who was open when the two halves
 -- were made: who is open may change between two steps.
@@ -190,11 +190,12 @@ pub record IsUnderWay (aim : Aim) (view : View) (split : SplitFields) : Type 0 w
   pub no_ghost : (i : ℕ) → is_ghost_of aim.key aim.owner (slice_index_or bucket.slots i Free) ≡ false
   pub room : is_crowded aim.bits aim.opens aim.room_depth (seed_of aim) bucket.slots ≡ false
   pub small : aim.room_depth ≤ 16
+  pub few_before : aim.held_before ≤ 17
   pub begins : (clean : ℕ → Option Page) → Agrees view.seen clean → HasForm aim.bits clean aim.root
       → Begins aim (over clean rest) split bucket
   pub stands : (clean : ℕ → Option Page) → Agrees view.seen clean → HasForm aim.bits clean aim.root
       → StandsAt split.phase aim splitters (over clean rest) (over clean view.own) split bucket
-  pub among : HoldsAmongAt split.phase view header.dirs split
+  pub among : HoldsAmongAt split.phase aim.held_before view header.dirs split
 
 -- What a step of a split asks: the transaction may step, the clean pages are a hash file, and the split is under way.
 pub record MayAdvance (aim : Aim) (m : Moment) (split : SplitFields) : Type 0 where

@@ -69,7 +69,7 @@ begin-requires g c κs within =
     let begins : MayBegin aim (view_of old) c.args.number = may_begin basis walk old c.args.number c.args.room_depth c.args.unsplit c.requires.1.1.1.may c.requires.1.1.1.file adds shallow in
     let key : c.walk.inside.key ≡ walk.key = ap (λ (w : WalkFields). w.key) c.walk.view_is in
     let here : MayBegin (record aim { key = c.walk.inside.key; room_depth = g.needed }) (view_of old) c.args.number = rw (key, c.requires.1.0) begins in
-    (within, (c.requires.1.1.1.may, (c.requires.1.1.1.file, here)))
+    (within, (refl, (c.requires.1.1.1.may, (c.requires.1.1.1.file, here))))
 
 pub returns-in-Ok-clause-tells : goal.returns-in-Ok-clause-tells
 returns-in-Ok-clause-tells g c =

@@ -1,4 +1,5 @@
+use Rattle.mlt_split.specs.Rests.{aim_by}
 use Rattle.mlt_hash.proofs.adding.add_or_split.Given as goal
 
 abbrev pub ghost-begin : goal.ghost-begin
-ghost-begin g a = g.needed
+ghost-begin g a = aim_by g.P.Pseudo.bits_of a.setting.now a.key a.subtx.now.tx g.needed 0

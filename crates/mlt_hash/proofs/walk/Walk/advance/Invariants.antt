@@ -16,4 +16,4 @@ abbrev pub ghost-add_or_split : goal.ghost-add_or_split
 ghost-add_or_split g a = a.room_depth
 
 abbrev pub ghost-go_on_splitting : goal.ghost-go_on_splitting
-ghost-go_on_splitting g a = aim_by g.P.Pseudo.bits_of a.setting.now a.walk.now.key a.subtx.now.tx a.room_depth
+ghost-go_on_splitting g a = aim_by g.P.Pseudo.bits_of a.setting.now a.walk.now.key a.subtx.now.tx a.room_depth 0
