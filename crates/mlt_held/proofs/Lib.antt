@@ -1,6 +1,8 @@
 pub mod Leaving
 pub mod Moments
 pub mod OwnSteps
+pub mod Reading
 pub mod Rebased
 pub mod Results
+pub mod Unwritten
 pub mod Views
