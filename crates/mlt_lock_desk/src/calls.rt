@@ -15,11 +15,12 @@ use mlt_types::{Pseudo, Refusal, TxId};
 use mlt_waits_for::{Bell, Bells};
 use std::sync::Wait;
 use std::sync::ledger::{Ledger, Share};
+use std::time::Clock;
 
 // An operation that has waited so often is let pass.
 const PATIENCE: u64 = 8;
 
-impl<'a, P: Pseudo, L: Ledger, R: Wait, G: Gate> LockDesk<'a, P, L, R, G> {
+impl<'a, P: Pseudo, L: Ledger, R: Wait + Clock, G: Gate> LockDesk<'a, P, L, R, G> {
     /// A desk that has made no event yet.
     pub fn new(
         rt: &'a R,
@@ -31,7 +32,7 @@ impl<'a, P: Pseudo, L: Ledger, R: Wait, G: Gate> LockDesk<'a, P, L, R, G> {
         requires part { share.parts ≡ 1 }
         requires amount { share.amount ≡ 0 }
     {
-        let bell = shared.lock(rt).desks.enter();
+        let bell = shared.lock(rt, false).desks.enter();
         LockDesk {
             rt,
             shared,
@@ -71,7 +72,7 @@ impl<'a, P: Pseudo, L: Ledger, R: Wait, G: Gate> LockDesk<'a, P, L, R, G> {
             events,
         } = self;
         let mut bells = Bells::new();
-        shared.lock(rt).desks.leave(bell, &mut bells);
+        shared.lock(rt, false).desks.leave(bell, &mut bells);
         shared.ring(&bells);
         (share, events)
     }
@@ -92,7 +93,8 @@ impl<'a, P: Pseudo, L: Ledger, R: Wait, G: Gate> LockDesk<'a, P, L, R, G> {
             ..
         } = self;
         let mut bells = Bells::new();
-        let mut hall = shared.enter(*rt, *asleep, caller(&event, *bell));
+        let is_to_begin = matches!(event, Event::Begin);
+        let mut hall = shared.enter(*rt, is_to_begin, *asleep, caller(&event, *bell));
         let next = sleeper;
         let (told, turn) = hall.act(event, share, next, &mut bells);
         drop(hall);
@@ -184,7 +186,7 @@ impl<'a, P: Pseudo, L: Ledger, R: Wait, G: Gate> LockDesk<'a, P, L, R, G> {
     }
 }
 
-impl<'a, P: Pseudo, L: Ledger, R: Wait, G: Gate> Answering for LockDesk<'a, P, L, R, G> {
+impl<'a, P: Pseudo, L: Ledger, R: Wait + Clock, G: Gate> Answering for LockDesk<'a, P, L, R, G> {
     ghost use Rattle.mlt_lock_desk.specs.Holds.{MayAnswerOperation};
 
     ghost answers = { λ _ tx _ answer _. MayAnswerOperation P.bits_of tx answer };
@@ -203,7 +205,7 @@ impl<'a, P: Pseudo, L: Ledger, R: Wait, G: Gate> Answering for LockDesk<'a, P, L
     }
 }
 
-impl<'a, P: Pseudo, L: Ledger, R: Wait, G: Gate> Desk for LockDesk<'a, P, L, R, G> {
+impl<'a, P: Pseudo, L: Ledger, R: Wait + Clock, G: Gate> Desk for LockDesk<'a, P, L, R, G> {
     ghost use Rattle.mlt_lock_desk.specs.Holds.{MayAnswerBegin, MayAnswerCommit};
 
     ghost begins = { λ _ answer _. MayAnswerBegin P.bits_of answer };

@@ -13,4 +13,4 @@ mod turn;
 pub use gate::{Gate, NoGate};
 pub use hall::Hall;
 pub use lock_desk::{LockDesk, Tries};
-pub use shared::Shared;
+pub use shared::{Patience, Shared};

@@ -7,7 +7,7 @@ ghost use Rattle.mlt_serve.specs.Clients.{AreOfClients};
 use crate::crew::serve_connections;
 use crate::gathering::{gather, new_crew};
 use crate::reporting::receipts_of;
-use mlt_lock_desk::{Hall, Shared};
+use mlt_lock_desk::{Hall, Patience, Shared};
 use mlt_manager::Manager;
 use mlt_serial::Outcomes;
 use mlt_types::{Limits, Pseudo, Refusal};
@@ -46,7 +46,7 @@ fn serve_with<L: Ledger + Send + Sync, P: Pseudo + Drop + Send, R: Threads + Wai
     let (book, mut all) = blank.open::<L>();
     let mut crew = new_crew(alloc, &mut all, sessions)?;
     let manager = Manager::new(alloc, limits, pseudo)?;
-    let shared = Shared::new(Hall::new(manager, book));
+    let shared = Shared::new(Patience::Brief, Hall::new(manager, book));
     let accepting = serve_connections(rt, alloc, listener, &shared, &mut crew, limit, tries, idle);
     let gathered = gather(alloc, &mut all, crew);
     let events = gathered.events;

@@ -15,6 +15,7 @@ use std::sync::Wait;
 use std::sync::ledger::Ledger;
 use std::thread;
 use std::thread::Threads;
+use std::time::Clock;
 
 /// Does each job in a thread of its own, or in this one where a thread is refused, and joins them all.
 ///
@@ -23,7 +24,7 @@ use std::thread::Threads;
 pub(crate) fn work_all<
     P: Pseudo + Send,
     L: Ledger + Send + Sync,
-    R: Threads + Wait + Sync,
+    R: Threads + Wait + Clock + Sync,
     G: Gate + Sync,
 >(
     rt: &R,

@@ -119,7 +119,7 @@ fn run_steps<P: Pseudo + Drop>(rt: &HostRuntime, run: &Run, pseudo: P) -> Result
     written
 }
 
-fn run_work<P: Pseudo + Drop + Send, T: Threads + Wait + Sync>(
+fn run_work<P: Pseudo + Drop + Send, T: Threads + Wait + Clock + Sync>(
     rt: &HostRuntime,
     threads: &T,
     work: &Work,
