@@ -1,7 +1,6 @@
 -- What a change in place makes of the file
-use Rattle.std.proofs.Common.{◌≡◌, ℕ, ◌<◌, ◌≤◌, ◌^◌, Bool, true, List, Option, Some, None, is_some, refl, sym, ap, subst, ◌∙◌, arith}
+use Rattle.std.proofs.Common.{◌≡◌, ℕ, ◌<◌, ◌^◌, Bool, true, List, Option, Some, None, is_some, refl, sym, ap, subst, ◌∙◌, arith}
 use Rattle.std.specs.Prelude.{IsSome, position, slice_index_or, unwrap_or}
-use Rattle.std.specs.Ordering.{nat_cmp}
 use Rattle.std.specs.FinMap as map
 use Rattle.std.specs.Option.{option_map}
 use Rattle.std.proofs.lemmas.Bool.{false≢true}
@@ -14,26 +13,22 @@ use Rattle.mlt_page.specs.declared.page.Page.{Page}
 use Rattle.mlt_page.specs.declared.page.Page.TheVariants as page
 use Rattle.mlt_page.specs.Pages.{page_with_slot}
 use Rattle.mlt_page.specs.Values.{BucketFields}
-use Rattle.mlt_store.specs.Stores.{page_at}
-use Rattle.mlt_page_locks.specs.LockTables.{Modes, can_read, can_write}
-use Rattle.mlt_page_locks.proofs.LockLaws.{writer_reads}
-use Rattle.mlt_page_locks.proofs.Maps.{same_entries}
+use Rattle.mlt_page_locks.specs.LockTables.{Modes, can_write}
 use Rattle.mlt_page_locks.specs.Requests.{stronger, with_page}
-use Rattle.mlt_subtx.specs.Images.{Images, image_of}
 use Rattle.mlt_hash_form.specs.Changes.{ChangesRecord, IsHome, slot_change}
-use Rattle.mlt_hash_form.specs.File.{HasForm, IsPath, Writes}
+use Rattle.mlt_hash_form.specs.File.{HasForm, IsPath, Writes, dir_of}
 use Rattle.mlt_hash_form.specs.Form.{value_in, slot_value}
 use Rattle.mlt_hash_form.specs.Held.{Agrees, ChangesFile, over, own_or}
 use Rattle.mlt_hash_form.proofs.HeldPages.{keeps_none, writes_over}
 use Rattle.mlt_hash_form.proofs.Lookup.{live_from_value, live_passes, within_from_live}
 use Rattle.mlt_hash_form.proofs.Paths.{path_home}
 use Rattle.mlt_hash_form.proofs.SingleChanges.{put_changes, revive_changes, set_value_changes, to_ghost_changes}
-use Rattle.mlt_held.specs.Moments.{MayStep, Moment}
-use Rattle.mlt_held.specs.Views.{ReadsHeldBucket, View, WritesPage, WritesSlot, own_at, page_written, view_of}
-use Rattle.mlt_held.proofs.Views.{may_write, mode_of_page, own_held}
+use Rattle.mlt_held.specs.Moments.{Moment}
+use Rattle.mlt_held.specs.Views.{IsUnwritten, ReadsHeldBucket, View, WritesPage, WritesSlot, view_of}
+use Rattle.mlt_held.proofs.Views.{may_write, mode_of_page}
 use Rattle.mlt_record.specs.Plans.{IsNowhere, SetsFirst, WriteFields}
 use Rattle.mlt_hash.specs.Passes.{bucket_mode, directory_held, slot_after, value_after}
-use Rattle.mlt_hash.specs.Walks.{Basis, FoundBefore, IsAtBucket, IsChanged, IsUnwritten, Stands, StoodBefore, WalkFields, dir_of}
+use Rattle.mlt_hash.specs.Walks.{Basis, FoundBefore, IsAtBucket, IsChanged, Stands, StoodBefore, WalkFields}
 use Rattle.mlt_hash.specs.Changes.{IsAtAbsent, IsAtRecord, Makes, SeesBucket, TellsOfChange, WritesIfChanged, directory_depth_of, page_of, PlansSlot}
 use Rattle.mlt_hash.specs.declared.pass.Pass.{Pass}
 use Rattle.mlt_hash.specs.declared.pass.Pass.TheVariants as pass
@@ -43,31 +38,8 @@ use Rattle.mlt_hash.specs.declared.pass.Change.{Change}
 use Rattle.mlt_hash.specs.declared.pass.Change.TheVariants as change
 use Rattle.mlt_hash.specs.declared.answer.WalkAnswer.{WalkAnswer}
 use Rattle.mlt_hash.specs.declared.answer.WalkAnswer.TheVariants as answer
-use Rattle.mlt_hash.proofs.Passed.{passed_as, passed_at_bucket, passes_on, steps_by_write}
+use Rattle.mlt_hash.proofs.Passed.{StepsOn, holds_at_bucket, holds_on, read_at_bucket, reads_on, steps_by_write}
 use Rattle.mlt_hash.proofs.Readings.{three_held}
-
--- a page with a first image is there, and was written
-written_is_there : (image : Option (Option Page)) (page : Option Page) → (is_some image ≡ true → is_some page ≡ true) → page_written image page ≡ None → image ≡ None
-written_is_there None page there none = refl
-written_is_there (Some first) page there none = absurd (false≢true (sym (ap is_some none) ∙ there refl))
-
-unwritten_image : (m : Moment) (q : ℕ) (image : Option (Option Page)) → image_of m.running.images q ≡ image → MayStep m → own_at m q ≡ None → image ≡ None
-unwritten_image m q None is may none = refl
-unwritten_image m q (Some first) is may none =
-    let has : is_some (image_of m.running.images q) ≡ true = ap is_some is in
-    let held : can_read m.locks m.running.tx q ≡ true = writer_reads m.locks m.running.tx q (may.images_locked q has) in
-    let page : page_written (image_of m.running.images q) (page_at m.store.pages q) ≡ None = sym (own_held m q held) ∙ none in
-    sym is ∙ written_is_there (image_of m.running.images q) (page_at m.store.pages q) (may.images_there q) page
-
--- **A transaction whose view has no writes has kept no images.**
-pub unwritten_has_no_images : (m : Moment) → MayStep m → IsUnwritten (view_of m) → m.running.images ≡ map.empty
-unwritten_has_no_images m may none = same_entries m.running.images map.empty (λ q. unwritten_image m q (image_of m.running.images q) refl may (none q) ∙ sym (map.get-empty {X = Option Page} nat_cmp q))
-
--- So its next write is not its third.
-pub first_write_is_not_third : (m : Moment) → MayStep m → IsUnwritten (view_of m) → 2 ≤ map.len m.running.images → ⊥
-first_write_is_not_third m may none third =
-    let few : map.len m.running.images ≡ 0 = ap (λ (images : Images). map.len images) (unwritten_has_no_images m may none) ∙ map.len-empty nat_cmp (Option Page) in
-    omega (arith, few, third)
 
 -- a walk that found a record stands at its bucket,
 pub record_at : (basis : Basis) (walk : WalkFields) (view : View) (phase : Phase) → IsAtRecord phase → Stands phase basis walk view → (found : Option ℕ) × IsAtBucket basis walk view (page_of phase) (directory_depth_of phase) found × IsSome found
@@ -110,7 +82,7 @@ stronger_exclusive (Some Exclusive) = refl
 -- **A walk whose own mode is exclusive holds its bucket so.**
 pub bucket_is_exclusive : (basis : Basis) (walk : WalkFields) (view : View) (bucket depth : ℕ) (found : Option ℕ) → IsAtBucket basis walk view bucket depth found → walk.mode ≡ Exclusive → map.get view.modes bucket ≡ Some Exclusive
 bucket_is_exclusive basis walk view bucket depth found stands exclusive =
-    let dirs : Modes = directory_held walk.pass basis.root (dir_of basis stands.header walk.key) in
+    let dirs : Modes = directory_held walk.pass basis.root (dir_of stands.header (basis.bits walk.key)) in
     let mode : bucket_mode walk.pass walk.mode ≡ Exclusive = ap (bucket_mode walk.pass) exclusive ∙ bucket_mode_exclusive walk.pass in
     ap (λ (modes : Modes). map.get modes bucket) (stands.held ∙ ap (with_page dirs bucket) mode)
     ∙ mode_of_page dirs bucket Exclusive
@@ -133,7 +105,7 @@ module _ (basis : Basis) (walk : WalkFields) (view : View) (n depth : ℕ) (foun
   pub seen_path : (clean : ℕ → Option Page) → Agrees view.seen clean → IsPath clean basis.root (basis.bits walk.key) stands.header stands.dir n fields
   seen_path clean agree = record {
     head = agree basis.root (Some (page.Head stands.header)) stands.head;
-    listed = agree (dir_of basis stands.header walk.key) (Some (page.Dir stands.dir)) stands.listed;
+    listed = agree (dir_of stands.header (basis.bits walk.key)) (Some (page.Dir stands.dir)) stands.listed;
     at = sym stands.bucket_is;
     found = agree n (Some (page.Bucket fields)) sees;
   }
@@ -157,15 +129,19 @@ module _ (basis : Basis) (walk : WalkFields) (view : View) (n depth : ℕ) (foun
     not_header : basis.root ≡ n → ⊥
     not_header same = let both : Some (Some (page.Head stands.header)) ≡ Some (Some (page.Bucket fields)) = sym stands.head ∙ ap view.seen same ∙ sees in cc
 
+    step : StepsOn walk view new
+    step = steps_by_write walk view new n (page_with_slot fields i (slot_after done walk.key basis.tx)) writes
+
     pub is_changed : IsChanged basis (record walk { phase = at.Changed n done }) new n done
     is_changed = record {
       found = found;
       fits = fits;
-      passed = passed_as basis basis.opens walk (at.Changed n done) walk.split new found (passes_on basis walk view new (steps_by_write walk view new n (page_with_slot fields i (slot_after done walk.key basis.tx)) writes) found (passed_at_bucket basis walk view n depth found stands));
+      read = reads_on basis walk view new step found (read_at_bucket basis walk view n depth found stands);
+      holds = holds_on basis walk view new step found (read_at_bucket basis walk view n depth found stands) (holds_at_bucket basis walk view n depth found stands);
       header = stands.header;
       head = λ k. own_or ((writes.others basis.root not_header ∙ stands.unwritten basis.root) k) (unwrap_or ((writes.seen basis.root ∙ stands.head) k) None);
       shallow = stands.shallow;
-      few = let three = three_held view.modes walk.pass walk.mode basis.root (dir_of basis stands.header walk.key) n stands.held in let same : map.len new.modes ≡ map.len view.modes = ap map.len writes.modes in omega (arith, three, same);
+      few = let three = three_held view.modes walk.pass walk.mode basis.root (dir_of stands.header (basis.bits walk.key)) n stands.held in let same : map.len new.modes ≡ map.len view.modes = ap map.len writes.modes in omega (arith, three, same);
       rest = λ _. None;
       slot = i;
       within = within;

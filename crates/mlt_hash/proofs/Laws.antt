@@ -1,20 +1,18 @@
 -- What a walk knows by its view alone
-use Rattle.std.proofs.Common.{◌≡◌, ℕ, false, Option, Some, is_some, sym, ap, ◌∙◌}
+use Rattle.std.proofs.Common.{◌≡◌, ℕ, false, Option, is_some, sym, ap, ◌∙◌}
 use Rattle.std.specs.Ordering.{nat_cmp}
 use Rattle.std.specs.FinMap as map
 use Rattle.mlt_types.specs.declared.mode.Mode.{Mode}
 use Rattle.mlt_page.specs.declared.page.Page.{Page}
-use Rattle.mlt_page.specs.declared.page.Page.TheVariants as page
-use Rattle.mlt_page.specs.Values.{BucketFields}
 use Rattle.mlt_page_locks.specs.LockTables.{Modes, can_read, pages_of}
-use Rattle.mlt_hash_form.specs.File.{IsPath, buckets_of, look_up}
-use Rattle.mlt_hash_form.specs.Form.{value_in}
+use Rattle.mlt_hash_form.specs.File.{IsPath, look_up}
 use Rattle.mlt_hash_form.specs.Held.{Agrees}
-use Rattle.mlt_hash_form.proofs.InPages.{led_at}
 use Rattle.mlt_held.specs.Moments.{Moment}
 use Rattle.mlt_held.specs.Views.{View, view_of}
+use Rattle.mlt_held.proofs.Reading.{path_read, read_is_there}
 use Rattle.mlt_held.proofs.Views.{own_free, seen_free}
-use Rattle.mlt_hash.specs.Walks.{Basis, IsAtBucket, IsAtStart, WalkFields, dir_of}
+use Rattle.mlt_hash.specs.Walks.{Basis, IsAtBucket, IsAtStart, WalkFields}
+use Rattle.mlt_hash.proofs.Passed.{read_at_bucket}
 
 -- who holds no page reads none
 reads_none : (m : Moment) (q : ℕ) → pages_of m.locks m.running.tx ≡ map.empty → can_read m.locks m.running.tx q ≡ false
@@ -30,18 +28,15 @@ at_start m none = record {
 -- the path of a walk at its bucket
 pub path_taken : (basis : Basis) (walk : WalkFields) (view : View) (bucket depth : ℕ) (found : Option ℕ) (clean : ℕ → Option Page) (here : IsAtBucket basis walk view bucket depth found) → Agrees view.seen clean
     → IsPath clean basis.root (basis.bits walk.key) here.header here.dir bucket here.fields
-path_taken basis walk view bucket depth found clean here agree = record {
-  head = agree basis.root (Some (page.Head here.header)) here.head;
-  listed = agree (dir_of basis here.header walk.key) (Some (page.Dir here.dir)) here.listed;
-  at = sym here.bucket_is;
-  found = agree bucket (Some (page.Bucket here.fields)) here.at;
-}
+path_taken basis walk view bucket depth found clean here agree =
+    let read = read_at_bucket basis walk view bucket depth found here in
+    path_read basis.bits basis.root walk.key view read.dir bucket found clean read.way agree
 
 pub found_there : (basis : Basis) (walk : WalkFields) (view : View) (bucket depth : ℕ) (found : Option ℕ) (clean : ℕ → Option Page) → IsAtBucket basis walk view bucket depth found → Agrees view.seen clean
     → look_up basis.bits clean basis.root walk.key ≡ found
 found_there basis walk view bucket depth found clean here agree =
-    let led = led_at clean basis.root (basis.bits walk.key) here.header here.dir bucket here.fields (path_taken basis walk view bucket depth found clean here agree) in
-    ap (λ n. value_in walk.key (buckets_of clean n).slots) led.0 ∙ ap (λ (b : BucketFields). value_in walk.key b.slots) led.1 ∙ sym here.found_is
+    let read = read_at_bucket basis walk view bucket depth found here in
+    sym (read_is_there basis.bits basis.root walk.key view read.dir bucket found clean read.way agree)
 
 -- views that read alike are one
 pub same_view : (before after : View) → after.modes ≡ before.modes → ((q : ℕ) → after.seen q ≡ before.seen q) → ((q : ℕ) → after.own q ≡ before.own q) → before ≡ after

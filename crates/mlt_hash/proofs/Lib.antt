@@ -10,7 +10,6 @@ pub mod Paths
 pub mod Puts
 pub mod Readings
 pub mod Resting
-pub mod Slots
 pub mod Splittings
 pub mod Standing
 pub mod Standings

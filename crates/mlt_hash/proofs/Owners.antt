@@ -22,7 +22,7 @@ use Rattle.mlt_hash.specs.declared.pass.Change.{Change}
 use Rattle.mlt_hash.specs.declared.pass.Change.TheVariants as change
 use Rattle.mlt_hash.specs.declared.pass.Phase.{Phase}
 use Rattle.mlt_hash.specs.declared.pass.Phase.TheVariants as at
-use Rattle.mlt_hash.proofs.Passed.{passed_as}
+use Rattle.mlt_hash.proofs.Passed.{read_as}
 use Rattle.mlt_hash.proofs.Standing.{at_bucket_for, headed_for, placed_for}
 
 seen_as : (seen : Option (Option Page)) → is_some seen ≡ true → (p : Option Page) × (seen ≡ Some p)
@@ -60,7 +60,8 @@ module _ (basis : Basis) (fewer : set.FinSet nat_cmp) (walk : WalkFields) (view 
   still_adds n room_depth unsplit adds = record {
     header = adds.header;
     fields = adds.fields;
-    passed = passed_as basis fewer walk walk.phase walk.split view None adds.passed;
+    read = read_as basis fewer walk.key view None adds.read;
+    holds = adds.holds;
     shallow = adds.shallow;
     rest = still_rests room_depth n adds.header adds.fields adds.rest;
     most = adds.most;
@@ -74,7 +75,8 @@ module _ (basis : Basis) (fewer : set.FinSet nat_cmp) (walk : WalkFields) (view 
   still_splits room_depth splits = record {
     split = splits.split;
     split_is = splits.split_is;
-    passed = passed_as basis fewer walk walk.phase walk.split view None splits.passed;
+    read = read_as basis fewer walk.key view None splits.read;
+    holds = splits.holds;
     shallow = splits.shallow;
     under_way = under_way_with_fewer (aim_of basis walk room_depth) fewer view splits.split clean agree form splits.under_way no_more;
     most = splits.most;
@@ -93,7 +95,8 @@ module _ (basis : Basis) (fewer : set.FinSet nat_cmp) (walk : WalkFields) (view 
   still_changed n done changed = record {
     found = changed.found;
     fits = changed.fits;
-    passed = passed_as basis fewer walk walk.phase walk.split view changed.found changed.passed;
+    read = read_as basis fewer walk.key view changed.found changed.read;
+    holds = changed.holds;
     header = changed.header;
     head = changed.head;
     shallow = changed.shallow;

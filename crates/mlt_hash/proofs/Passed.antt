@@ -11,11 +11,12 @@ use Rattle.mlt_page.specs.declared.page.Page.TheVariants as page
 use Rattle.mlt_page.specs.Values.{BucketFields, HeadFields}
 use Rattle.mlt_page_locks.specs.LockTables.{Modes, mode_held}
 use Rattle.mlt_page_locks.specs.Requests.{stronger, with_page}
-use Rattle.mlt_hash_form.specs.File.{HasForm}
+use Rattle.mlt_hash_form.specs.File.{HasForm, dir_of}
 use Rattle.mlt_hash_form.specs.Held.{Agrees, own_or}
 use Rattle.mlt_held.specs.Moments.{MayStep, Moment}
 use Rattle.mlt_held.specs.PageSteps.{TouchesOnePage}
 use Rattle.mlt_held.specs.Views.{MakesPage, View, WritesPage, view_of}
+use Rattle.mlt_held.proofs.Reading.{bucket_still}
 use Rattle.mlt_held.proofs.OwnSteps.{own_step_sees_more, own_step_writes_more, step_keeps_tx}
 use Rattle.mlt_held.proofs.Views.{mode_of_others, mode_of_page}
 use Rattle.mlt_split.specs.Rests.{Aim}
@@ -26,26 +27,21 @@ use Rattle.mlt_split.proofs.HeldPages.{exclusive_after_make, grows_by_make}
 use Rattle.mlt_split.proofs.Locks.{done_writes_what_it_locks, locks_its_page_alone}
 use Rattle.mlt_split.proofs.Narrow.{narrow_leaves_header, narrow_makes_none, narrow_next_page}
 use Rattle.mlt_hash.specs.Passes.{MayHoldMore, bucket_held, bucket_mode, directory_held, directory_mode, header_held, header_mode}
-use Rattle.mlt_hash.specs.Walks.{Basis, HasPassed, HoldsByPass, IsAtBucket, IsSplitting, StaysNarrow, WalkFields, aim_of, dir_of}
+use Rattle.mlt_hash.specs.Walks.{Basis, HasRead, HoldsByPass, IsAtBucket, IsSplitting, StaysNarrow, WalkFields, aim_of}
 use Rattle.mlt_hash.specs.declared.pass.Pass.{Pass}
 use Rattle.mlt_hash.specs.declared.pass.Pass.TheVariants as pass
-use Rattle.mlt_hash.specs.declared.pass.Phase.{Phase}
 
--- whoever is open, and at whatever phase
-pub passed_as : (basis : Basis) (opens : set.FinSet nat_cmp) (walk : WalkFields) (phase : Phase) (split : Option SplitFields) (view : View) (found : Option ℕ) → HasPassed basis walk view found
-    → HasPassed (record basis { opens = opens }) (record walk { phase = phase; split = split }) view found
-passed_as basis opens walk phase split view found p = record {
-  header = p.header;
-  dir = p.dir;
-  bucket = p.bucket;
-  fields = p.fields;
-  head = p.head;
-  listed = p.listed;
-  bucket_is = p.bucket_is;
-  at = p.at;
-  found_is = p.found_is;
-  shallow = p.shallow;
-  holds = record { on_header = p.holds.on_header; on_dir = p.holds.on_dir; on_bucket = p.holds.on_bucket; others = p.holds.others };
+-- what was read is so whoever is open,
+abbrev pub read_as : (basis : Basis) (opens : set.FinSet nat_cmp) (key : ℕ) (view : View) (found : Option ℕ) → HasRead basis key view found → HasRead (record basis { opens = opens }) key view found
+read_as basis opens key view found read = record { dir = read.dir; bucket = read.bucket; way = read.way; shallow = read.shallow }
+
+-- and whatever it is called
+abbrev pub read_of : (basis : Basis) (key : ℕ) (view : View) (found other : Option ℕ) → found ≡ other → HasRead basis key view found → HasRead basis key view other
+read_of basis key view found other same read = record {
+  dir = read.dir;
+  bucket = read.bucket;
+  way = record { placed = read.way.placed; fields = read.way.fields; at = read.way.at; found_is = sym same ∙ read.way.found_is };
+  shallow = read.shallow;
 }
 
 -- pages of different kinds are different pages
@@ -75,7 +71,7 @@ module _ (walk : WalkFields) (root dir bucket : ℕ) (apart : root ≢ dir) (bes
   not_among : (q : ℕ) → q ≢ root → q ≢ dir → q ≢ bucket → map.get three q ≡ None
   not_among q away further last = mode_of_others two bucket (bucket_mode walk.pass walk.mode) q last ∙ mode_of_others one dir (directory_mode walk.pass) q further ∙ mode_of_others map.empty root (header_mode walk.pass) q away ∙ map.get-empty {X = Mode} nat_cmp q
 
-  held_on_way : (view : View) → view.modes ≡ three → HoldsByPass walk root dir bucket view
+  held_on_way : (view : View) → view.modes ≡ three → HoldsByPass walk.pass walk.mode root dir bucket view
   held_on_way view held = record {
     on_header = ap (λ (modes : Modes). map.get modes root) held ∙ mode_of_others two bucket (bucket_mode walk.pass walk.mode) root beside ∙ mode_of_others one dir (directory_mode walk.pass) root apart
         ∙ first_mode map.empty root (header_mode walk.pass) (map.get-empty {X = Mode} nat_cmp root);
@@ -86,23 +82,25 @@ module _ (walk : WalkFields) (root dir bucket : ℕ) (apart : root ≢ dir) (bes
     others = λ q away further last some. absurd (false≢true (sym (ap is_some (ap (λ (modes : Modes). map.get modes q) held ∙ not_among q away further last)) ∙ some));
   }
 
--- **A walk at its bucket has passed what it has read.**
-pub passed_at_bucket : (basis : Basis) (walk : WalkFields) (view : View) (bucket depth : ℕ) (found : Option ℕ) → IsAtBucket basis walk view bucket depth found → HasPassed basis walk view found
-passed_at_bucket basis walk view bucket depth found here =
-    let dir = dir_of basis here.header walk.key in
-    record {
-      header = here.header;
-      dir = here.dir;
-      bucket = bucket;
-      fields = here.fields;
-      head = here.head;
-      listed = here.listed;
-      bucket_is = here.bucket_is;
-      at = here.at;
-      found_is = here.found_is;
-      shallow = here.shallow;
-      holds = held_on_way walk basis.root dir bucket (head_is_no_dir view basis.root dir here.header here.dir here.head here.listed) (head_is_no_bucket view basis.root bucket here.header here.fields here.head here.at) (dir_is_no_bucket view dir bucket here.dir here.fields here.listed here.at) view here.held;
-    }
+-- **A walk at its bucket has read its way,**
+abbrev pub read_at_bucket : (basis : Basis) (walk : WalkFields) (view : View) (bucket depth : ℕ) (found : Option ℕ) → IsAtBucket basis walk view bucket depth found → HasRead basis walk.key view found
+read_at_bucket basis walk view bucket depth found here = record {
+  dir = dir_of here.header (basis.bits walk.key);
+  bucket = bucket;
+  way = record {
+    placed = record { header = here.header; head = here.head; dir_is = refl; entries = here.dir; listed = here.listed; bucket_is = here.bucket_is };
+    fields = here.fields;
+    at = here.at;
+    found_is = here.found_is;
+  };
+  shallow = here.shallow;
+}
+
+-- **and holds its pages by its pass.**
+pub holds_at_bucket : (basis : Basis) (walk : WalkFields) (view : View) (bucket depth : ℕ) (found : Option ℕ) → (here : IsAtBucket basis walk view bucket depth found) → HoldsByPass walk.pass walk.mode basis.root (dir_of here.header (basis.bits walk.key)) bucket view
+holds_at_bucket basis walk view bucket depth found here =
+    let dir = dir_of here.header (basis.bits walk.key) in
+    held_on_way walk basis.root dir bucket (head_is_no_dir view basis.root dir here.header here.dir here.head here.listed) (head_is_no_bucket view basis.root bucket here.header here.fields here.head here.at) (dir_is_no_bucket view dir bucket here.dir here.fields here.listed here.at) view here.held
 
 -- the page is one that the pass may hold beside its way
 abbrev IsMore : WalkFields → View → ℕ → Type 0
@@ -137,46 +135,38 @@ module _ (basis : Basis) (walk : WalkFields) (old new : View) (step : StepsOn wa
           ]
 
   -- what a pass held beside its way it may still hold
-  holds_on : (q : ℕ) (at : Pass) → MayHoldMore at (old.seen q) (is_some (old.own q)) → MayHoldMore at (new.seen q) (is_some (new.own q))
-  holds_on q pass.First none = none
-  holds_on q pass.Narrow made = (step.before q None made.0, step.written q made.1)
-  holds_on q pass.Wide written = step.written q written
+  holds_more : (q : ℕ) (at : Pass) → MayHoldMore at (old.seen q) (is_some (old.own q)) → MayHoldMore at (new.seen q) (is_some (new.own q))
+  holds_more q pass.First none = none
+  holds_more q pass.Narrow made = (step.before q None made.0, step.written q made.1)
+  holds_more q pass.Wide written = step.written q written
 
-  keeps_others : (root dir bucket : ℕ) → HoldsByPass walk root dir bucket old → (q : ℕ) → q ≢ root → q ≢ dir → q ≢ bucket → is_some (map.get new.modes q) ≡ true
+  keeps_others : (root dir bucket : ℕ) → HoldsByPass walk.pass walk.mode root dir bucket old → (q : ℕ) → q ≢ root → q ≢ dir → q ≢ bucket → is_some (map.get new.modes q) ≡ true
       → (map.get new.modes q ≡ Some Exclusive) × IsMore walk new q
   keeps_others root dir bucket holds q away further last some =
       elim (step.modes q) [
         | inl same ↦
             let was = holds.others q away further last (sym (ap is_some same) ∙ some) in
-            (same ∙ was.0, holds_on q walk.pass was.1)
+            (same ∙ was.0, holds_more q walk.pass was.1)
         | inr locked ↦ (
           locked.0,
           elim locked.1 [
-            | inl was ↦ holds_on q walk.pass (holds.others q away further last (ap is_some was)).1
+            | inl was ↦ holds_more q walk.pass (holds.others q away further last (ap is_some was)).1
             | inr more ↦ more
           ],
         )
       ]
 
-  -- **It stays so from step to step.**
-  pub passes_on : (found : Option ℕ) → HasPassed basis walk old found → HasPassed basis walk new found
-  passes_on found p = record {
-    header = p.header;
-    dir = p.dir;
-    bucket = p.bucket;
-    fields = p.fields;
-    head = step.before basis.root (Some (page.Head p.header)) p.head;
-    listed = step.before (dir_of basis p.header walk.key) (Some (page.Dir p.dir)) p.listed;
-    bucket_is = p.bucket_is;
-    at = step.before p.bucket (Some (page.Bucket p.fields)) p.at;
-    found_is = p.found_is;
-    shallow = p.shallow;
-    holds = record {
-      on_header = keeps_mode basis.root (header_mode walk.pass) (page.Head p.header) p.head (λ wide. ap header_mode wide) p.holds.on_header;
-      on_dir = keeps_mode (dir_of basis p.header walk.key) (directory_mode walk.pass) (page.Dir p.dir) p.listed (λ wide. ap directory_mode wide) p.holds.on_dir;
-      on_bucket = keeps_mode p.bucket (bucket_mode walk.pass walk.mode) (page.Bucket p.fields) p.at (λ wide. ap (λ pass. bucket_mode pass walk.mode) wide) p.holds.on_bucket;
-      others = keeps_others basis.root (dir_of basis p.header walk.key) p.bucket p.holds;
-    };
+  -- **What was read stays so from step to step,**
+  abbrev pub reads_on : (found : Option ℕ) → HasRead basis walk.key old found → HasRead basis walk.key new found
+  reads_on found read = record { dir = read.dir; bucket = read.bucket; way = bucket_still basis.bits basis.root walk.key old new read.dir read.bucket found step.before read.way; shallow = read.shallow }
+
+  -- **and so do the modes.**
+  pub holds_on : (found : Option ℕ) → (read : HasRead basis walk.key old found) → HoldsByPass walk.pass walk.mode basis.root read.dir read.bucket old → HoldsByPass walk.pass walk.mode basis.root read.dir read.bucket new
+  holds_on found read holds = record {
+    on_header = keeps_mode basis.root (header_mode walk.pass) (page.Head read.way.placed.header) read.way.placed.head (λ wide. ap header_mode wide) holds.on_header;
+    on_dir = keeps_mode read.dir (directory_mode walk.pass) (page.Dir read.way.placed.entries) read.way.placed.listed (λ wide. ap directory_mode wide) holds.on_dir;
+    on_bucket = keeps_mode read.bucket (bucket_mode walk.pass walk.mode) (page.Bucket read.way.fields) read.way.at (λ wide. ap (λ pass. bucket_mode pass walk.mode) wide) holds.on_bucket;
+    others = keeps_others basis.root read.dir read.bucket holds;
   }
 
 -- a write of a held page is such a step,
@@ -217,44 +207,45 @@ same_head a b same = cc
 
 -- where the splits of a narrow pass stand
 module _ (basis : Basis) (walk : WalkFields) (view : View) (room_depth : ℕ) (split : SplitFields) (clean : ℕ → Option Page) (agree : Agrees view.seen clean) (form : HasForm basis.bits clean basis.root)
-    (way : IsUnderWay (aim_of basis walk room_depth) view split) (found : Option ℕ) (passed : HasPassed basis walk view found) (narrow : StaysNarrow basis.root view room_depth split.depth split.directory_depth) where
+    (way : IsUnderWay (aim_of basis walk room_depth) view split) (found : Option ℕ) (read : HasRead basis walk.key view found) (narrow : StaysNarrow basis.root view room_depth split.depth split.directory_depth) where
   -- they are in place,
   pub in_place : split.depth < split.directory_depth
   in_place = let deep = (way.begins clean agree form).deep in let enough = narrow.enough in omega (arith, deep, enough)
 
   -- and their next page is the key's own, which the pass holds
-  pub next_is_dir : (n : ℕ) → IsNextPage split.phase (aim_of basis walk room_depth) view n → n ≡ dir_of basis passed.header walk.key
+  pub next_is_dir : (n : ℕ) → IsNextPage split.phase (aim_of basis walk room_depth) view n → n ≡ read.dir
   next_is_dir n next =
       let own : IsKeysPage (aim_of basis walk room_depth) view n = narrow_next_page (aim_of basis walk room_depth) view split n clean agree form way in_place narrow.one_page next in
-      let reads : Some (page.Head passed.header) ≡ Some (page.Head own.0) = sym (ap (λ o. own_or o (Some (page.Head passed.header))) narrow.unwritten) ∙ ap (λ (o : Option (Option Page)). own_or (view.own basis.root) (unwrap_or o None)) (sym passed.head) ∙ own.1 in
-      own.2 ∙ ap (λ (h : HeadFields). dir_of basis h walk.key) (sym (same_head passed.header own.0 reads))
+      let header = read.way.placed.header in
+      let reads : Some (page.Head header) ≡ Some (page.Head own.0) = sym (ap (λ o. own_or o (Some (page.Head header))) narrow.unwritten) ∙ ap (λ (o : Option (Option Page)). own_or (view.own basis.root) (unwrap_or o None)) (sym read.way.placed.head) ∙ own.1 in
+      own.2 ∙ ap (λ (h : HeadFields). dir_of h (basis.bits walk.key)) (sym (same_head header own.0 reads)) ∙ sym read.way.placed.dir_is
 
-  pub narrow_holds : walk.pass ≡ pass.Narrow → (n : ℕ) → IsNextPage split.phase (aim_of basis walk room_depth) view n → map.get view.modes n ≡ Some Exclusive
-  narrow_holds is n next = ap (map.get view.modes) (next_is_dir n next) ∙ passed.holds.on_dir ∙ ap (λ p. Some (directory_mode p)) is
+  pub narrow_holds : HoldsByPass walk.pass walk.mode basis.root read.dir read.bucket view → walk.pass ≡ pass.Narrow → (n : ℕ) → IsNextPage split.phase (aim_of basis walk room_depth) view n → map.get view.modes n ≡ Some Exclusive
+  narrow_holds holds is n next = ap (map.get view.modes) (next_is_dir n next) ∙ holds.on_dir ∙ ap (λ p. Some (directory_mode p)) is
 
 -- **The page that a narrow pass is to lock next it holds exclusively.**
 pub narrow_holds_next : (basis : Basis) (walk : WalkFields) (view : View) (room_depth n : ℕ) (clean : ℕ → Option Page) → (splits : IsSplitting basis walk view room_depth) → walk.pass ≡ pass.Narrow → Agrees view.seen clean → HasForm basis.bits clean basis.root
     → IsNextPage splits.split.phase (aim_of basis walk room_depth) view n → map.get view.modes n ≡ Some Exclusive
-narrow_holds_next basis walk view room_depth n clean splits is agree form next = narrow_holds basis walk view room_depth splits.split clean agree form splits.under_way None splits.passed (splits.narrow is) is n next
+narrow_holds_next basis walk view room_depth n clean splits is agree form next = narrow_holds basis walk view room_depth splits.split clean agree form splits.under_way None splits.read (splits.narrow is) splits.holds is n next
 
 -- what is needed of a step of the splits of a pass
 module _ (basis : Basis) (walk : WalkFields) (old new : Moment) (room_depth : ℕ) (split : SplitFields) (may : MayStep old) (clean : ℕ → Option Page) (agree : Agrees (view_of old).seen clean) (form : HasForm basis.bits clean basis.root)
-    (way : IsUnderWay (aim_of basis walk room_depth) (view_of old) split) (found : Option ℕ) (passed : HasPassed basis walk (view_of old) found) where
+    (way : IsUnderWay (aim_of basis walk room_depth) (view_of old) split) (found : Option ℕ) (read : HasRead basis walk.key (view_of old) found) where
   abbrev aim : Aim
   aim = aim_of basis walk room_depth
 
   -- a narrow pass leaves the header as it was
   pub narrow_keeps_header : StaysNarrow basis.root (view_of old) room_depth split.depth split.directory_depth → IsDone split.phase aim old new split → (view_of new).own basis.root ≡ None
   narrow_keeps_header narrow done =
-      narrow_leaves_header aim old new split may (in_place basis walk (view_of old) room_depth split clean agree form way found passed narrow) clean agree form way
-      (λ n next same. head_is_no_dir (view_of old) basis.root (dir_of basis passed.header walk.key) passed.header passed.dir passed.head passed.listed (same ∙ next_is_dir basis walk (view_of old) room_depth split clean agree form way found passed narrow n next)) done
+      narrow_leaves_header aim old new split may (in_place basis walk (view_of old) room_depth split clean agree form way found read narrow) clean agree form way
+      (λ n next same. head_is_no_dir (view_of old) basis.root read.dir read.way.placed.header read.way.placed.entries read.way.placed.head read.way.placed.listed (same ∙ next_is_dir basis walk (view_of old) room_depth split clean agree form way found read narrow n next)) done
       ∙ narrow.unwritten
 
-  module _ (later : walk.pass ≡ pass.First → ⊥) (narrow : walk.pass ≡ pass.Narrow → StaysNarrow basis.root (view_of old) room_depth split.depth split.directory_depth) (touches : TouchesOnePage old new) (done : IsDone split.phase aim old new split) where
+  module _ (holds : HoldsByPass walk.pass walk.mode basis.root read.dir read.bucket (view_of old)) (later : walk.pass ≡ pass.First → ⊥) (narrow : walk.pass ≡ pass.Narrow → StaysNarrow basis.root (view_of old) room_depth split.depth split.directory_depth) (touches : TouchesOnePage old new) (done : IsDone split.phase aim old new split) where
     why : (p : Pass) → walk.pass ≡ p → (q : ℕ) → mode_held new.locks old.running.tx q ≡ Some Exclusive → IsNextPage split.phase aim (view_of old) q ⊎ IsMaking split.phase → (map.get (view_of old).modes q ≡ Some Exclusive) ⊎ MayHoldMore p ((view_of new).seen q) (is_some ((view_of new).own q))
     why pass.First is q exclusive locked = absurd (later is)
-    why pass.Narrow is q exclusive (inl next) = inl (narrow_holds basis walk (view_of old) room_depth split clean agree form way found passed (narrow is) is q next)
-    why pass.Narrow is q exclusive (inr making) = absurd (narrow_makes_none aim (view_of old) split clean agree form way (in_place basis walk (view_of old) room_depth split clean agree form way found passed (narrow is)) making)
+    why pass.Narrow is q exclusive (inl next) = inl (narrow_holds basis walk (view_of old) room_depth split clean agree form way found read (narrow is) holds is q next)
+    why pass.Narrow is q exclusive (inr making) = absurd (narrow_makes_none aim (view_of old) split clean agree form way (in_place basis walk (view_of old) room_depth split clean agree form way found read (narrow is)) making)
     why pass.Wide is q exclusive locked =
         elim (done_writes_what_it_locks split.phase aim old new split q may done) [
           | inl same ↦ inl (sym same ∙ exclusive)

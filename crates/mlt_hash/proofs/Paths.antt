@@ -1,27 +1,23 @@
 -- The pages on the way of a key, as far as a part of it is known
-use Rattle.std.proofs.Common.{◌≡◌, ℕ, ◌<◌, ◌≤◌, ◌+◌, ◌/◌, ◌%◌, ◌^◌, true, List, slice_index, Option, Some, is_some, refl, sym, ap, subst, ◌∙◌}
+use Rattle.std.proofs.Common.{◌≡◌, ℕ, ◌<◌, ◌≤◌, ◌+◌, ◌^◌, true, List, Option, Some, is_some, sym, ap, subst, ◌∙◌}
 use Rattle.std.specs.Ordering.{nat_cmp}
 use Rattle.std.specs.FinSet as set
 use Rattle.mlt_types.specs.declared.mode.Mode.{Mode}
-use Rattle.mlt_page.specs.Bits.{first_bits}
 use Rattle.mlt_page.specs.Values.{BucketFields, HeadFields}
 use Rattle.mlt_page.specs.declared.page.Page.{Page}
 use Rattle.mlt_page.specs.declared.page.Page.TheVariants as page
-use Rattle.mlt_hash_form.specs.File.{HasForm, IsPath, depth_of, entries_of, header_of}
-use Rattle.mlt_hash_form.proofs.Paths.{path_of}
+use Rattle.mlt_hash_form.specs.File.{HasForm, depth_of, dir_of, header_of, row_of}
+use Rattle.mlt_hash_form.proofs.Paths.{path_from_dir, path_from_header}
 use Rattle.mlt_held.specs.Moments.{HasCleanFile, IsCleanFor, MayStep, Moment}
 use Rattle.mlt_held.specs.Views.{ReadsPage, view_of}
+use Rattle.mlt_held.proofs.Unwritten.{sees_page, unwritten_still}
 use Rattle.mlt_held.proofs.Views.{agrees}
 use Rattle.mlt_page_locks.specs.Requests.{with_page}
 use Rattle.mlt_hash.specs.Passes.{header_mode}
-use Rattle.mlt_hash.specs.Walks.{Basis, IsAtStart, IsHeaded, IsPlaced, Stands, WalkFields, dir_of, row_of}
+use Rattle.mlt_hash.specs.Walks.{Basis, IsAtStart, IsHeaded, IsPlaced, Stands, WalkFields}
 use Rattle.mlt_hash.specs.Steps.{GoesOn, steps_to_bucket}
 use Rattle.mlt_hash.specs.declared.pass.Phase.TheVariants as at
-use Rattle.mlt_hash.proofs.Readings.{reads_clean, sees_page, unwritten_still}
-
--- what two have of a page is one page
-pub one_page : (found : Option Page) (read page : Page) → found ≡ Some read → found ≡ Some page → read ≡ page
-one_page found read page is_read is = let same : Some read ≡ Some page = sym is_read ∙ is in cc
+use Rattle.mlt_hash.proofs.Readings.{reads_clean}
 
 -- the header is there,
 pub head_there : (bits : ℕ → ℕ) (clean : ℕ → Option Page) (root : ℕ) → HasForm bits clean root → (header : HeadFields) × (clean root ≡ Some (page.Head header))
@@ -36,7 +32,7 @@ header_small bits clean root header form head = subst (λ (header : HeadFields).
 
 -- the header that a walk reads is that of the clean pages, which is no deeper than it may be
 pub headed : (basis : Basis) (opens : set.FinSet nat_cmp) (walk after : WalkFields) (old new : Moment) (mode : Mode) (header : HeadFields) (dir row depth : ℕ) → (file : HasCleanFile basis.bits basis.root old) → depth_of file.clean basis.root ≤ basis.max_depth → MayStep new → ((clean : ℕ → Option Page) → IsCleanFor old clean → IsCleanFor new clean)
-    → IsAtStart (view_of old) → mode ≡ header_mode walk.pass → ReadsPage (view_of old) (view_of new) basis.root mode (Some (page.Head header)) → dir ≡ dir_of basis header walk.key → row ≡ row_of basis header walk.key → depth ≡ header.depth
+    → IsAtStart (view_of old) → mode ≡ header_mode walk.pass → ReadsPage (view_of old) (view_of new) basis.root mode (Some (page.Head header)) → dir ≡ dir_of header (basis.bits walk.key) → row ≡ row_of header (basis.bits walk.key) → depth ≡ header.depth
     → walk.phase ≡ at.Start → after ≡ record walk { phase = at.Headed dir row depth } → GoesOn (record basis { opens = opens }) new walk after
 headed basis opens walk after old new mode header dir row depth file shallow may clean start mode_is reads dir_is row_is depth_is at_start is =
     let here : file.clean basis.root ≡ Some (page.Head header) = reads_clean old new basis.root mode (Some (page.Head header)) file.clean may (clean file.clean file.is_clean) start.unwritten reads in
@@ -56,24 +52,7 @@ headed basis opens walk after old new mode header dir row depth file shallow may
       fewer = ap (λ (w : WalkFields). steps_to_bucket w.phase + 1) is ∙ ap steps_to_bucket (sym at_start);
     }
 
--- a path goes on from its header,
-pub path_from_header : (bits : ℕ → ℕ) (clean : ℕ → Option Page) (root x : ℕ) (header : HeadFields) → x < 2 ^ 64 → HasForm bits clean root → clean root ≡ Some (page.Head header)
-    → (dir : List ℕ) × (n : ℕ) × (bucket : BucketFields) × IsPath clean root x header dir n bucket
-path_from_header bits clean root x header below form head =
-    let path = path_of bits clean root x below form in
-    subst (λ (header : HeadFields). (dir : List ℕ) × (n : ℕ) × (bucket : BucketFields) × IsPath clean root x header dir n bucket) (ap header_of (sym path.4.head ∙ head)) (path.1, path.2, path.3, path.4)
-
--- and from its directory page
-pub path_from_dir : (bits : ℕ → ℕ) (clean : ℕ → Option Page) (root x : ℕ) (header : HeadFields) (dir : List ℕ) → x < 2 ^ 64 → HasForm bits clean root → clean root ≡ Some (page.Head header)
-    → clean (slice_index header.dirs (first_bits header.depth x / 256)) ≡ Some (page.Dir dir)
-    → (bucket : BucketFields) × IsPath clean root x header dir (slice_index dir (first_bits header.depth x % 256)) bucket
-path_from_dir bits clean root x header dir below form head listed =
-    let path = path_from_header bits clean root x header below form head in
-    let same : path.0 ≡ dir = ap entries_of (sym path.3.listed ∙ listed) in
-    let at : path.1 ≡ slice_index dir (first_bits header.depth x % 256) = sym path.3.at ∙ ap (λ dir. slice_index dir (first_bits header.depth x % 256)) same in
-    (path.2, record { head = head; listed = listed; at = refl; found = sym (ap clean at) ∙ path.3.found })
-
--- so the directory page that a walk has read of is there,
+-- the directory page that a walk has read of is there,
 pub dir_there : (basis : Basis) (walk : WalkFields) (m : Moment) (clean : ℕ → Option Page) (number row depth : ℕ) → basis.bits walk.key < 2 ^ 64 → MayStep m → IsCleanFor m clean → HasForm basis.bits clean basis.root
     → IsHeaded basis walk (view_of m) number row depth → (dir : List ℕ) × (clean number ≡ Some (page.Dir dir))
 dir_there basis walk m clean number row depth below may is form at =
@@ -85,5 +64,5 @@ pub bucket_there : (basis : Basis) (walk : WalkFields) (m : Moment) (clean : ℕ
     → IsPlaced basis walk (view_of m) number depth → (bucket : BucketFields) × (clean number ≡ Some (page.Bucket bucket))
 bucket_there basis walk m clean number depth below may is form at =
     let agree = agrees m clean may is in
-    let path = path_from_dir basis.bits clean basis.root (basis.bits walk.key) at.header at.dir below form (agree basis.root (Some (page.Head at.header)) at.head) (agree (dir_of basis at.header walk.key) (Some (page.Dir at.dir)) at.listed) in
+    let path = path_from_dir basis.bits clean basis.root (basis.bits walk.key) at.header at.dir below form (agree basis.root (Some (page.Head at.header)) at.head) (agree (dir_of at.header (basis.bits walk.key)) (Some (page.Dir at.dir)) at.listed) in
     (path.0, ap clean at.bucket_is ∙ path.1.found)

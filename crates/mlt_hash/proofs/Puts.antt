@@ -36,7 +36,7 @@ use Rattle.mlt_split.proofs.Beginning.{rest_bucket, rest_is_shallow, rest_is_sma
 use Rattle.mlt_split.proofs.Closing.{HasClean}
 use Rattle.mlt_split.proofs.Few.{rest_holds_few}
 use Rattle.mlt_split.proofs.HeldPages.{not_made}
-use Rattle.mlt_hash.specs.Walks.{Basis, HasPassed, IsAdding, IsChanged, IsSplitting, IsStanding, Stands, WalkFields, aim_of}
+use Rattle.mlt_hash.specs.Walks.{Basis, HasRead, HoldsByPass, IsAdding, IsChanged, IsSplitting, IsStanding, Stands, WalkFields, aim_of}
 use Rattle.mlt_hash.specs.Changes.{Makes, PlansSlot, PutsLowest, page_of}
 use Rattle.mlt_hash.specs.Splitting.{BeginsSplit, HasToSplit, TellsOfAdding, TellsOfPut, walk_step}
 use Rattle.mlt_hash.specs.declared.answer.WalkAnswer.{WalkAnswer}
@@ -48,7 +48,7 @@ use Rattle.mlt_hash.specs.declared.pass.Phase.TheVariants as at
 use Rattle.mlt_hash.specs.declared.pass.Change.TheVariants as change
 use Rattle.mlt_hash.proofs.Additions.{nowhere_found}
 use Rattle.mlt_hash.proofs.InPlace.{changes_by}
-use Rattle.mlt_hash.proofs.Passed.{passed_as, passes_on, steps_by_making, steps_by_write}
+use Rattle.mlt_hash.proofs.Passed.{StepsOn, holds_on, reads_on, steps_by_making, steps_by_write}
 use Rattle.mlt_hash.proofs.Splittings.{stays_exclusive_in_step}
 
 -- what no slot has stands nowhere
@@ -66,19 +66,21 @@ rest_home aim view n header bucket rest clean agree form = record {
 }
 
 -- **The record that is put into a bucket at rest changes the file at its key alone.**
-pub put_is_changed : (basis : Basis) (walk : WalkFields) (old new : View) (room_depth n : ℕ) (header : HeadFields) (fields : BucketFields) (value i : ℕ) → HasPassed basis walk old None → header.depth ≤ basis.max_depth → map.len old.modes < 300 → IsAtRest (aim_of basis walk room_depth) old n header fields → i < 8
+pub put_is_changed : (basis : Basis) (walk : WalkFields) (old new : View) (room_depth n : ℕ) (header : HeadFields) (fields : BucketFields) (value i : ℕ) → (read : HasRead basis walk.key old None) → HoldsByPass walk.pass walk.mode basis.root read.dir read.bucket old → header.depth ≤ basis.max_depth → map.len old.modes < 300 → IsAtRest (aim_of basis walk room_depth) old n header fields → i < 8
     → is_kept basis.opens (slice_index_or fields.slots i Free) ≡ false → WritesPage old new n (page_with_slot fields i (Live walk.key value)) → IsChanged basis (record walk { phase = at.Changed n (change.Put value) }) new n (change.Put value)
-put_is_changed basis walk old new room_depth n header fields value i passed shallow few rest within room writes =
+put_is_changed basis walk old new room_depth n header fields value i read holds shallow few rest within room writes =
     let aim = aim_of basis walk room_depth in
     let absent = nowhere (is_live_of walk.key) fields.slots rest.absent in
     let none : value_in walk.key fields.slots ≡ None = rw absent refl in
     let no_ghost = nowhere (is_ghost_of walk.key basis.tx) fields.slots rest.no_ghost in
     let before : (clean : ℕ → Option Page) → Agrees new.seen clean → Agrees old.seen clean = λ clean agree q first is. agree q first (writes.seen q ∙ is) in
     let not_header : basis.root ≡ n → ⊥ = λ same. (let both : Some (page.Head header) ≡ Some (page.Bucket fields) = sym rest.head ∙ ap (held_page old) same ∙ rest.found in cc) in
+    let step : StepsOn walk old new = steps_by_write walk old new n (page_with_slot fields i (Live walk.key value)) writes in
     record {
       found = None;
       fits = refl;
-      passed = passed_as basis basis.opens walk (at.Changed n (change.Put value)) walk.split new None (passes_on basis walk old new (steps_by_write walk old new n (page_with_slot fields i (Live walk.key value)) writes) None passed);
+      read = reads_on basis walk old new step None read;
+      holds = holds_on basis walk old new step None read holds;
       header = header;
       head = (λ k. own_or (writes.others basis.root not_header k) (unwrap_or (writes.seen basis.root k) None)) ∙ rest.head;
       shallow = shallow;
@@ -208,7 +210,7 @@ module _ (basis : Basis) (walk after : WalkFields) (old new : Moment) (value n r
       let here : WritesPage (view_of old) (view_of new) n (page_with_slot adds.fields plan.slot (Live walk.key value)) =
       subst (λ q. WritesPage (view_of old) (view_of new) q (page_with_slot adds.fields plan.slot (Live walk.key value))) on (subst (λ p. WritesPage (view_of old) (view_of new) write.number p) what (write_writes old new write.number page (writes adds.fields reads))) in
       let free : is_kept basis.opens (slice_index_or adds.fields.slots plan.slot Free) ≡ false = grind (arith, plan.was) in
-      let changed = put_is_changed basis walk (view_of old) (view_of new) room_depth n adds.header adds.fields value plan.slot adds.passed adds.shallow (rest_holds_few (aim_of basis walk room_depth) (view_of old) n adds.header adds.fields clean adds.rest) adds.rest plan.within free here in
+      let changed = put_is_changed basis walk (view_of old) (view_of new) room_depth n adds.header adds.fields value plan.slot adds.read adds.holds adds.shallow (rest_holds_few (aim_of basis walk room_depth) (view_of old) n adds.header adds.fields clean adds.rest) adds.rest plan.within free here in
       let now : after ≡ record walk { phase = at.Changed n (change.Put value) } = after_is ∙ ap (λ q. record walk { phase = at.Changed q (change.Put value) }) on in
       record {
         same = record { key = ap (λ (w : WalkFields). w.key) now; mode = ap (λ (w : WalkFields). w.mode) now; pass = ap (λ (w : WalkFields). w.pass) now };
@@ -280,10 +282,12 @@ pub begins_split : (basis : Basis) (walk after : WalkFields) (old new : Moment) 
     → after ≡ record walk { phase = at.Splitting value room_depth; split = Some split } → BeginsSplit basis (walk_step old new walk after) value n room_depth
 begins_split basis walk after old new value n room_depth unsplit split made may makes adds needed under_way steps bucket_depth depth halves after_is =
     let made_there : MakesPage (view_of old) (view_of new) split.new_page made = make_makes old new split.new_page made may makes in
+    let step : StepsOn walk (view_of old) (view_of new) = steps_by_making walk (view_of old) (view_of new) split.new_page made adds.later made_there in
     let here : IsSplitting basis (record walk { phase = at.Splitting value room_depth; split = Some split }) (view_of new) room_depth = record {
       split = split;
       split_is = refl;
-      passed = passed_as basis basis.opens walk (at.Splitting value room_depth) (Some split) (view_of new) None (passes_on basis walk (view_of old) (view_of new) (steps_by_making walk (view_of old) (view_of new) split.new_page made adds.later made_there) None adds.passed);
+      read = reads_on basis walk (view_of old) (view_of new) step None adds.read;
+      holds = holds_on basis walk (view_of old) (view_of new) step None adds.read adds.holds;
       shallow = let most = adds.shallow in omega (arith, most, depth);
       under_way = under_way;
       most = adds.most;
@@ -291,7 +295,7 @@ begins_split basis walk after old new value n room_depth unsplit split made may 
       narrow = λ narrow. let fits = adds.narrow narrow in record {
         enough = let enough = fits.enough in omega (arith, enough, depth);
         one_page = let one = fits.one_page in omega (arith, one, depth, bucket_depth);
-        unwritten = made_there.own_others basis.root (not_made (view_of old) (view_of new) split.new_page made made_there basis.root (ap is_some adds.passed.head)) ∙ fits.unwritten;
+        unwritten = made_there.own_others basis.root (not_made (view_of old) (view_of new) split.new_page made made_there basis.root (ap is_some adds.read.way.placed.head)) ∙ fits.unwritten;
       };
       wide = λ wide. stays_exclusive_in_step old new basis.root may (split.new_page, inr (made, makes)) (adds.wide wide);
     } in

@@ -1,5 +1,5 @@
 -- What a walk that has written nothing reads of the clean pages, and how many it holds
-use Rattle.std.proofs.Common.{◌≡◌, ℕ, ◌<◌, ◌≤◌, ◌+◌, true, Option, Some, is_some, refl, sym, ap, ◌∙◌, inl, arith}
+use Rattle.std.proofs.Common.{◌≡◌, ℕ, ◌<◌, ◌≤◌, ◌+◌, true, Option, is_some, refl, ap, ◌∙◌, inl, arith}
 use Rattle.std.specs.Cmp.{nat_cmp_total}
 use Rattle.std.specs.Ordering.{nat_cmp}
 use Rattle.std.specs.FinMap as map
@@ -8,24 +8,15 @@ use Rattle.mlt_page.specs.declared.page.Page.{Page}
 use Rattle.mlt_store.specs.Stores.{page_at}
 use Rattle.mlt_page_locks.specs.LockTables.{Modes, page_count}
 use Rattle.mlt_page_locks.specs.Requests.{stronger, with_page}
-use Rattle.mlt_hash_form.specs.Held.{own_or}
 use Rattle.mlt_held.specs.Moments.{IsCleanFor, MayStep, Moment}
 use Rattle.mlt_held.specs.PageSteps.{LocksAtMost, TouchesOnePage}
-use Rattle.mlt_held.specs.Views.{ReadsPage, View, view_of}
+use Rattle.mlt_held.specs.Views.{IsUnwritten, ReadsPage, view_of}
+use Rattle.mlt_held.proofs.Unwritten.{sees_page}
 use Rattle.mlt_held.proofs.Views.{agrees, page_count_of_view}
 use Rattle.mlt_hash.specs.Passes.{bucket_held, bucket_mode, directory_held, directory_mode, header_held, header_mode}
 use Rattle.mlt_hash.specs.declared.pass.Pass.{Pass}
-use Rattle.mlt_hash.specs.Walks.{IsUnwritten}
 
--- what is read is what the clean page has, where nothing is written,
-pub sees_page : (old new : View) (q : ℕ) (mode : Mode) (page : Option Page) → IsUnwritten old → ReadsPage old new q mode page → new.seen q ≡ Some page
-sees_page old new q mode page none reads = reads.here ∙ ap Some (sym (ap (λ own. own_or own reads.first) (none q)) ∙ reads.reads)
-
--- and nothing is written still
-pub unwritten_still : (old new : View) (q : ℕ) (mode : Mode) (page : Option Page) → IsUnwritten old → ReadsPage old new q mode page → IsUnwritten new
-unwritten_still old new q mode page none reads p = reads.own p ∙ none p
-
--- so the clean page is what was read
+-- the clean page is what was read
 pub reads_clean : (old new : Moment) (q : ℕ) (mode : Mode) (page : Option Page) (clean : ℕ → Option Page) → MayStep new → IsCleanFor new clean → IsUnwritten (view_of old) → ReadsPage (view_of old) (view_of new) q mode page → clean q ≡ page
 reads_clean old new q mode page clean may is none reads = agrees new clean may is q page (sees_page (view_of old) (view_of new) q mode page none reads)
 

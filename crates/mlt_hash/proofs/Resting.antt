@@ -21,7 +21,7 @@ use Rattle.mlt_page.specs.Values.{BucketFields}
 use Rattle.mlt_page_locks.specs.LockTables.{Modes}
 use Rattle.mlt_page_locks.specs.Requests.{stronger, with_page}
 use Rattle.mlt_hash_form.specs.Changes.{IsHome}
-use Rattle.mlt_hash_form.specs.File.{HasForm, bucket_of, buckets_of, header_of, lead_of}
+use Rattle.mlt_hash_form.specs.File.{HasForm, bucket_of, buckets_of, dir_of, header_of, lead_of}
 use Rattle.mlt_hash_form.specs.Held.{Agrees, KeepsFile, over, own_or}
 use Rattle.mlt_hash_form.specs.Room.{crowds, is_crowded}
 use Rattle.mlt_hash_form.proofs.Bits.{first_bits_below}
@@ -35,14 +35,14 @@ use Rattle.mlt_held.proofs.Views.{mode_of_others, mode_of_page}
 use Rattle.mlt_held.proofs.Views as views
 use Rattle.mlt_hash.specs.Passes.{HasRoomFrom, IsNextPass, NeverHasRoom, bucket_held, bucket_mode, directory_held, directory_mode, header_held, header_mode}
 use Rattle.mlt_split.specs.Rests.{HoldsAmong, IsAtRest, IsIn, held_page, most_held}
-use Rattle.mlt_hash.specs.Walks.{Basis, IsAdding, IsAtBucket, Stands, WalkFields, aim_of, dir_of}
+use Rattle.mlt_hash.specs.Walks.{Basis, IsAdding, IsAtBucket, Stands, WalkFields, aim_of}
 use Rattle.mlt_hash.specs.Steps.{IsSameWalk}
 use Rattle.mlt_hash.specs.Changes.{HasNoRoom, IsAtAbsent, IsFull, IsNext, MustWiden, NeedsSplit, SeesBucket, crowded_at, directory_depth_of, page_of}
 use Rattle.mlt_hash.specs.declared.pass.Pass.{Pass}
 use Rattle.mlt_hash.specs.declared.pass.Pass.TheVariants as pass
 use Rattle.mlt_hash.specs.declared.pass.Phase.{Phase}
 use Rattle.mlt_hash.specs.declared.pass.Phase.TheVariants as at
-use Rattle.mlt_hash.proofs.Passed.{passed_as, passed_at_bucket}
+use Rattle.mlt_hash.proofs.Passed.{holds_at_bucket, read_at_bucket}
 use Rattle.mlt_hash.proofs.Readings.{three_held}
 use Rattle.mlt_hash.proofs.InPlace.{absent_at, bucket_is_exclusive, found_there, no_live_slot, same_bucket, seen_home, seen_path}
 
@@ -164,7 +164,7 @@ module _ (basis : Basis) (walk : WalkFields) (m : Moment) (fields : BucketFields
             absurd (false≢true (sym room ∙ ap (crowded_at basis walk fields) (sym same) ∙ crowded_here))
       ]
 
-  listed : IsIn (dir_of basis bucket.header walk.key) (dirs_below bucket.header.dirs (2 ^ (bucket.header.depth - 8)))
+  listed : IsIn (dir_of bucket.header (basis.bits walk.key)) (dirs_below bucket.header.dirs (2 ^ (bucket.header.depth - 8)))
   listed =
       let low : bucket.header.depth ≤ 64 = omega (arith, depths.1) in
       let below = page_listed bucket.header.depth (first_bits bucket.header.depth seed) (first_bits_below bucket.header.depth seed low (bounded walk.key)) in
@@ -179,7 +179,7 @@ module _ (basis : Basis) (walk : WalkFields) (m : Moment) (fields : BucketFields
       record {
         pages = basis.root ∷ n ∷ dirs;
         few = omega (arith, size);
-        all = λ q held. held_among walk.pass walk.mode basis.root (dir_of basis bucket.header walk.key) n q dirs listed (ap (λ (modes : Modes). is_some (map.get modes q)) (sym bucket.held) ∙ held);
+        all = λ q held. held_among walk.pass walk.mode basis.root (dir_of bucket.header (basis.bits walk.key)) n q dirs listed (ap (λ (modes : Modes). is_some (map.get modes q)) (sym bucket.held) ∙ held);
         old_dirs = λ i from lt. in_tail (slice_index bucket.header.dirs i) basis.root (n ∷ dirs) (in_tail (slice_index bucket.header.dirs i) n dirs (dirs_below_have bucket.header.dirs count i lt));
         new_dirs = λ i lt. absurd (omega arith);
       }
@@ -218,21 +218,22 @@ module _ (basis : Basis) (walk : WalkFields) (m : Moment) (fields : BucketFields
   adding d phase exclusive small has later narrow = record {
     header = bucket.header;
     fields = fields;
-    passed = passed_as basis basis.opens walk phase walk.split (view_of m) None (passed_at_bucket basis walk (view_of m) n (directory_depth_of walk.phase) None bucket);
+    read = read_at_bucket basis walk (view_of m) n (directory_depth_of walk.phase) None bucket;
+    holds = holds_at_bucket basis walk (view_of m) n (directory_depth_of walk.phase) None bucket;
     shallow = bucket.shallow;
     rest = rests d exclusive (omega (arith, has.1, small)) has.2;
     most = has.1;
     unsplit_is = λ _. deeper d has.0 has.2;
     later = later;
     narrow = λ is. let fits = narrow is in let same = bucket.depth_is in record { enough = omega (arith, fits.0, same); one_page = omega (arith, fits.1, same); unwritten = bucket.unwritten basis.root };
-    wide = λ is. ap (λ (modes : Modes). map.get modes basis.root) (bucket.held ∙ ap (λ p. bucket_held p walk.mode basis.root (dir_of basis bucket.header walk.key) n) is) ∙ header_is_exclusive walk.mode basis.root (dir_of basis bucket.header walk.key) n;
+    wide = λ is. ap (λ (modes : Modes). map.get modes basis.root) (bucket.held ∙ ap (λ p. bucket_held p walk.mode basis.root (dir_of bucket.header (basis.bits walk.key)) n) is) ∙ header_is_exclusive walk.mode basis.root (dir_of bucket.header (basis.bits walk.key)) n;
   }
 
 -- three pages are held there
 pub few_at_bucket : (basis : Basis) (walk : WalkFields) (view : View) → IsAtAbsent walk.phase → Stands walk.phase basis walk view → map.len view.modes ≤ 3
 few_at_bucket basis walk view none stands =
     let here = absent_at basis walk view walk.phase none stands in
-    three_held view.modes walk.pass walk.mode basis.root (dir_of basis here.header walk.key) (page_of walk.phase) here.held
+    three_held view.modes walk.pass walk.mode basis.root (dir_of here.header (basis.bits walk.key)) (page_of walk.phase) here.held
 
 -- a bucket that is full is the one that is seen
 pub full_bucket : (basis : Basis) (walk : WalkFields) (view : View) (fields : BucketFields) → (seen : BucketFields) × IsFull basis walk view seen → SeesBucket walk view fields → IsFull basis walk view fields

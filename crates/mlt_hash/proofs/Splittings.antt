@@ -24,10 +24,10 @@ use Rattle.mlt_split.specs.declared.phase.SplitPhase.{SplitPhase}
 use Rattle.mlt_split.specs.declared.phase.SplitPhase.TheVariants as split_at
 use Rattle.mlt_split.specs.declared.split.SplitAnswer.{SplitAnswer}
 use Rattle.mlt_split.specs.declared.split.SplitAnswer.TheVariants as split_answer
-use Rattle.mlt_hash.specs.Walks.{Basis, HasPassed, IsAdding, IsSplitting, IsStanding, Stands, StaysNarrow, WalkFields, aim_of}
+use Rattle.mlt_hash.specs.Walks.{Basis, HasRead, HoldsByPass, IsAdding, IsSplitting, IsStanding, Stands, StaysNarrow, WalkFields, aim_of}
 use Rattle.mlt_hash.specs.Splitting.{OfSplit, SplitCloses, SplitGoesOn, TellsOfSplitting, walk_step}
 use Rattle.mlt_hash.specs.Steps.{TellsOfPath}
-use Rattle.mlt_hash.proofs.Passed.{narrow_keeps_header, passed_as, passes_on, steps_by_split}
+use Rattle.mlt_hash.proofs.Passed.{StepsOn, holds_on, narrow_keeps_header, reads_on, steps_by_split}
 use Rattle.mlt_hash.specs.declared.answer.WalkAnswer.{WalkAnswer}
 use Rattle.mlt_hash.specs.declared.answer.WalkAnswer.TheVariants as answer
 use Rattle.mlt_hash.specs.declared.pass.Pass.TheVariants as pass
@@ -85,11 +85,17 @@ module _ (basis : Basis) (walk after : WalkFields) (old new : Moment) (value roo
   deep_before : was.depth < room_depth
   deep_before = (way.begins file.clean agreed file.form).deep
 
-  passed_now : HasPassed basis walk (view_of new) None
-  passed_now = passes_on basis walk (view_of old) (view_of new) (steps_by_split basis walk old new room_depth was may file.clean agreed file.form way None splits.passed splits.later narrow_before touches done) None splits.passed
+  step : StepsOn walk (view_of old) (view_of new)
+  step = steps_by_split basis walk old new room_depth was may file.clean agreed file.form way None splits.read splits.holds splits.later narrow_before touches done
+
+  abbrev read_now : HasRead basis walk.key (view_of new) None
+  read_now = reads_on basis walk (view_of old) (view_of new) step None splits.read
+
+  holds_now : HoldsByPass walk.pass walk.mode basis.root read_now.dir read_now.bucket (view_of new)
+  holds_now = holds_on basis walk (view_of old) (view_of new) step None splits.read splits.holds
 
   header_kept : walk.pass ≡ pass.Narrow → (view_of new).own basis.root ≡ None
-  header_kept narrow = narrow_keeps_header basis walk old new room_depth was may file.clean agreed file.form way None splits.passed (narrow_before narrow) done
+  header_kept narrow = narrow_keeps_header basis walk old new room_depth was may file.clean agreed file.form way None splits.read (narrow_before narrow) done
 
   wide_now : walk.pass ≡ pass.Wide → map.get (view_of new).modes basis.root ≡ Some Exclusive
   wide_now wide = stays_exclusive_in_step old new basis.root may touches (splits.wide wide)
@@ -100,7 +106,8 @@ module _ (basis : Basis) (walk after : WalkFields) (old new : Moment) (value roo
       let here : IsSplitting basis (record walk { split = Some is }) (view_of new) room_depth = record {
         split = is;
         split_is = refl;
-        passed = passed_as basis basis.opens walk walk.phase (Some is) (view_of new) None passed_now;
+        read = read_now;
+        holds = holds_now;
         shallow = let same = goes.directory_depth in omega (arith, shallow_before, same);
         under_way = goes.under_way;
         most = splits.most;
@@ -141,7 +148,8 @@ module _ (basis : Basis) (walk after : WalkFields) (old new : Moment) (value roo
       let here : IsAdding basis (record walk { phase = at.Adding value n room_depth false; split = split }) (view_of new) n room_depth false = record {
         header = rests.header;
         fields = rests.bucket;
-        passed = passed_as basis basis.opens walk (at.Adding value n room_depth false) split (view_of new) None passed_now;
+        read = read_now;
+        holds = holds_now;
         shallow = within_limit n rests;
         rest = rests.rest;
         most = splits.most;

@@ -1,12 +1,11 @@
 -- Where a walk stands, by its phase: which pages it holds, and what it has read of them. Each fact is about these pages
 -- alone, so that what other transactions do can't touch it.
-use Rattle.std.specs.Prelude.{ℕ, ◌≡◌, ◌≢◌, ◌<◌, ◌≤◌, ◌+◌, ◌/◌, ◌%◌, ◌^◌, Bool, IsSome, true, false, List, slice_index, slice_index_or, Option, Some, None, is_some, position}
+use Rattle.std.specs.Prelude.{ℕ, ◌≡◌, ◌≢◌, ◌<◌, ◌≤◌, ◌+◌, ◌^◌, Bool, IsSome, true, false, List, slice_index, slice_index_or, Option, Some, None, is_some, position}
 use Rattle.std.specs.Ordering.{nat_cmp}
 use Rattle.std.specs.FinMap as map
 use Rattle.std.specs.FinSet as set
 use Rattle.mlt_types.specs.declared.mode.Mode.{Mode}
 use Rattle.mlt_types.specs.declared.mode.Mode.TheVariants.{Exclusive}
-use Rattle.mlt_page.specs.Bits.{first_bits}
 use Rattle.mlt_page.specs.Slots.{is_ghost_of, is_kept, is_live_of}
 use Rattle.mlt_page.specs.declared.slot.Slot.{Slot}
 use Rattle.mlt_page.specs.declared.slot.Slot.TheVariants.{Free}
@@ -14,12 +13,13 @@ use Rattle.mlt_page.specs.declared.page.Page.{Page}
 use Rattle.mlt_page.specs.declared.page.Page.TheVariants as page
 use Rattle.mlt_page.specs.Values.{BucketFields, HeadFields}
 use Rattle.mlt_hash_form.specs.Form.{value_in}
-use Rattle.mlt_hash_form.specs.File.{HasForm, depth_of}
+use Rattle.mlt_hash_form.specs.File.{HasForm, depth_of, dir_of, row_of}
 use Rattle.mlt_hash_form.specs.Changes.{IsHome, slot_change}
 use Rattle.mlt_hash_form.specs.Held.{Agrees, ChangesFile, over}
 use Rattle.mlt_hash_form.specs.declared.root.Root.{Root}
 use Rattle.mlt_held.specs.Moments.{HasCleanFile, MayStep, Moment}
-use Rattle.mlt_held.specs.Views.{View, view_of}
+use Rattle.mlt_held.specs.Reading.{HasReadBucket}
+use Rattle.mlt_held.specs.Views.{IsUnwritten, View, view_of}
 use Rattle.mlt_split.specs.Rests.{Aim, IsAtRest, held_page}
 use Rattle.mlt_split.specs.Splits.{IsUnderWay, SplitFields}
 use Rattle.mlt_split.specs.declared.setting.Setting.{Setting}
@@ -62,17 +62,6 @@ basis_by bits_of root opens tx = record {
 abbrev pub basis_in : {P : Type 0} → (P → ℕ → ℕ) → Setting P → ℕ → Basis
 basis_in bits_of setting tx = basis_by bits_of setting.root.now setting.opens.now tx
 
--- the key's directory page, by the header, and its entry there
-abbrev pub dir_of : Basis → HeadFields → ℕ → ℕ
-dir_of basis header key = slice_index header.dirs (first_bits header.depth (basis.bits key) / 256)
-
-abbrev pub row_of : Basis → HeadFields → ℕ → ℕ
-row_of basis header key = first_bits header.depth (basis.bits key) % 256
-
--- nothing is written
-abbrev pub IsUnwritten : View → Type 0
-IsUnwritten view = (q : ℕ) → view.own q ≡ None
-
 -- nothing is held or written
 pub record IsAtStart (view : View) : Type 0 where
   pub unwritten : IsUnwritten view
@@ -85,8 +74,8 @@ pub record IsHeaded (basis : Basis) (walk : WalkFields) (view : View) (dir row d
   pub header : HeadFields
   pub held : view.modes ≡ header_held walk.pass basis.root
   pub head : view.seen basis.root ≡ Some (Some (page.Head header))
-  pub dir_is : dir ≡ dir_of basis header walk.key
-  pub row_is : row ≡ row_of basis header walk.key
+  pub dir_is : dir ≡ dir_of header (basis.bits walk.key)
+  pub row_is : row ≡ row_of header (basis.bits walk.key)
   pub depth_is : depth ≡ header.depth
   pub shallow : header.depth ≤ basis.max_depth
 
@@ -94,11 +83,11 @@ pub record IsHeaded (basis : Basis) (walk : WalkFields) (view : View) (dir row d
 pub record IsPlaced (basis : Basis) (walk : WalkFields) (view : View) (bucket depth : ℕ) : Type 0 where
   pub unwritten : IsUnwritten view
   pub header : HeadFields
-  pub held : view.modes ≡ directory_held walk.pass basis.root (dir_of basis header walk.key)
+  pub held : view.modes ≡ directory_held walk.pass basis.root (dir_of header (basis.bits walk.key))
   pub head : view.seen basis.root ≡ Some (Some (page.Head header))
   pub dir : List ℕ
-  pub listed : view.seen (dir_of basis header walk.key) ≡ Some (Some (page.Dir dir))
-  pub bucket_is : bucket ≡ slice_index dir (row_of basis header walk.key)
+  pub listed : view.seen (dir_of header (basis.bits walk.key)) ≡ Some (Some (page.Dir dir))
+  pub bucket_is : bucket ≡ slice_index dir (row_of header (basis.bits walk.key))
   pub depth_is : depth ≡ header.depth
   pub shallow : header.depth ≤ basis.max_depth
 
@@ -107,40 +96,33 @@ pub record IsAtBucket (basis : Basis) (walk : WalkFields) (view : View) (bucket 
     (found : Option ℕ) : Type 0 where
   pub unwritten : IsUnwritten view
   pub header : HeadFields
-  pub held : view.modes ≡ bucket_held walk.pass walk.mode basis.root (dir_of basis header walk.key) bucket
+  pub held : view.modes ≡ bucket_held walk.pass walk.mode basis.root (dir_of header (basis.bits walk.key)) bucket
   pub head : view.seen basis.root ≡ Some (Some (page.Head header))
   pub dir : List ℕ
-  pub listed : view.seen (dir_of basis header walk.key) ≡ Some (Some (page.Dir dir))
-  pub bucket_is : bucket ≡ slice_index dir (row_of basis header walk.key)
+  pub listed : view.seen (dir_of header (basis.bits walk.key)) ≡ Some (Some (page.Dir dir))
+  pub bucket_is : bucket ≡ slice_index dir (row_of header (basis.bits walk.key))
   pub depth_is : depth ≡ header.depth
   pub shallow : header.depth ≤ basis.max_depth
   pub fields : BucketFields
   pub at : view.seen bucket ≡ Some (Some (page.Bucket fields))
   pub found_is : found ≡ value_in walk.key fields.slots
 
--- Which pages a walk holds from its bucket's step on, and in which modes: those that it locked on its way, in the modes of
--- its pass, and each other page exclusively that it has written or made, as its pass may.
-pub record HoldsByPass (walk : WalkFields) (root dir bucket : ℕ) (view : View) : Type 0 where
-  pub on_header : map.get view.modes root ≡ Some (header_mode walk.pass)
-  pub on_dir : map.get view.modes dir ≡ Some (directory_mode walk.pass)
-  pub on_bucket : map.get view.modes bucket ≡ Some (bucket_mode walk.pass walk.mode)
-  pub others : (q : ℕ) → q ≢ root → q ≢ dir → q ≢ bucket → is_some (map.get view.modes q) ≡ true
-      → (map.get view.modes q ≡ Some Exclusive) × MayHoldMore walk.pass (view.seen q) (is_some (view.own q))
-
--- What a walk has read on its way to its bucket, which stays on the clean pages up to the walk's end: the header, the
--- key's page of the directory, and the bucket, with what it has of the key. These pages are held.
-pub record HasPassed (basis : Basis) (walk : WalkFields) (view : View) (found : Option ℕ) : Type 0 where
-  pub header : HeadFields
-  pub dir : List ℕ
+-- What has been read on the way of a key to its bucket, which stays on the clean pages up to the walk's end: the header,
+-- the key's page of the directory, and the bucket, with what it has of the key. These pages are held.
+pub record HasRead (basis : Basis) (key : ℕ) (view : View) (found : Option ℕ) : Type 0 where
+  pub dir : ℕ
   pub bucket : ℕ
-  pub fields : BucketFields
-  pub head : view.seen basis.root ≡ Some (Some (page.Head header))
-  pub listed : view.seen (dir_of basis header walk.key) ≡ Some (Some (page.Dir dir))
-  pub bucket_is : bucket ≡ slice_index dir (row_of basis header walk.key)
-  pub at : view.seen bucket ≡ Some (Some (page.Bucket fields))
-  pub found_is : found ≡ value_in walk.key fields.slots
-  pub shallow : header.depth ≤ basis.max_depth
-  pub holds : HoldsByPass walk basis.root (dir_of basis header walk.key) bucket view
+  pub way : HasReadBucket basis.bits basis.root key view dir bucket found
+  pub shallow : way.placed.header.depth ≤ basis.max_depth
+
+-- Which pages a walk for one key holds from its bucket's step on, and in which modes: those that it locked on its way, in
+-- the modes of its pass, and each other page exclusively that it has written or made, as its pass may.
+pub record HoldsByPass (pass : Pass) (mode : Mode) (root dir bucket : ℕ) (view : View) : Type 0 where
+  pub on_header : map.get view.modes root ≡ Some (header_mode pass)
+  pub on_dir : map.get view.modes dir ≡ Some (directory_mode pass)
+  pub on_bucket : map.get view.modes bucket ≡ Some (bucket_mode pass mode)
+  pub others : (q : ℕ) → q ≢ root → q ≢ dir → q ≢ bucket → is_some (map.get view.modes q) ≡ true
+      → (map.get view.modes q ≡ Some Exclusive) × MayHoldMore pass (view.seen q) (is_some (view.own q))
 
 -- A narrow pass needs no deeper directory. One page of it has all entries of a bucket of depth l, where the directory is of
 -- depth g. And the header is not written.
@@ -165,7 +147,8 @@ pub record IsAdding (basis : Basis) (walk : WalkFields) (view : View) (bucket ro
     (unsplit : Bool) : Type 0 where
   pub header : HeadFields
   pub fields : BucketFields
-  pub passed : HasPassed basis walk view None
+  pub read : HasRead basis walk.key view None
+  pub holds : HoldsByPass walk.pass walk.mode basis.root read.dir read.bucket view
   pub shallow : header.depth ≤ basis.max_depth
   pub rest : IsAtRest (aim_of basis walk room_depth) view bucket header fields
   pub most : room_depth ≤ basis.max_depth
@@ -178,7 +161,8 @@ pub record IsAdding (basis : Basis) (walk : WalkFields) (view : View) (bucket ro
 pub record IsSplitting (basis : Basis) (walk : WalkFields) (view : View) (room_depth : ℕ) : Type 0 where
   pub split : SplitFields
   pub split_is : walk.split ≡ Some split
-  pub passed : HasPassed basis walk view None
+  pub read : HasRead basis walk.key view None
+  pub holds : HoldsByPass walk.pass walk.mode basis.root read.dir read.bucket view
   pub shallow : split.directory_depth ≤ basis.max_depth
   pub under_way : IsUnderWay (aim_of basis walk room_depth) view split
   pub most : room_depth ≤ basis.max_depth
@@ -210,7 +194,8 @@ FoundBefore change.Remove found = IsSome found
 pub record IsChanged (basis : Basis) (walk : WalkFields) (view : View) (bucket : ℕ) (done : Change) : Type 0 where
   pub found : Option ℕ
   pub fits : FoundBefore done found
-  pub passed : HasPassed basis walk view found
+  pub read : HasRead basis walk.key view found
+  pub holds : HoldsByPass walk.pass walk.mode basis.root read.dir read.bucket view
   pub header : HeadFields
   pub head : held_page view basis.root ≡ Some (page.Head header)
   pub shallow : header.depth ≤ basis.max_depth

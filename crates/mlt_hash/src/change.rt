@@ -5,8 +5,8 @@ ghost use Rattle.mlt_held.specs.Moments.{MayStep, moment};
 ghost use Rattle.mlt_page.specs.Values.{BucketFields};
 ghost use Rattle.mlt_page_locks.specs.LockTables.{can_write};
 ghost use Rattle.mlt_held.specs.PageSteps.{Leaves};
-ghost use Rattle.mlt_held.specs.Views.{WritesSlot, view_of};
-ghost use Rattle.mlt_hash.specs.Walks.{Basis, IsUnwritten, basis_in};
+ghost use Rattle.mlt_held.specs.Views.{IsUnwritten, WritesSlot, view_of};
+ghost use Rattle.mlt_hash.specs.Walks.{Basis, basis_in};
 ghost use Rattle.mlt_hash.specs.declared.pass.Change.TheVariants as change;
 ghost use Rattle.mlt_hash.specs.Changes.{HasOwnGhost, IsAtAbsent, IsAtBucketPhase, IsAtRecord, IsFull, MayChange, MayChangeBy, PlansSlot, RevivesFirst, SeesBucket, TakesSlot, TellsOfAddition, TellsOfChange, WritesIfChanged, page_of};
 

@@ -3,7 +3,6 @@
 ghost use Rattle.std.specs.Prelude.{◌≡◌, ℕ, Option};
 ghost use Rattle.std.specs.Ordering.{nat_cmp};
 ghost use Rattle.std.specs.FinSet as set;
-ghost use Rattle.mlt_hash_form.specs.Form.{value_in};
 ghost use Rattle.mlt_held.specs.Moments.{moment};
 ghost use Rattle.mlt_held.specs.PageSteps.{Leaves, LocksAtMost};
 ghost use Rattle.mlt_hash.specs.Walks.{Basis, MayWalk};
@@ -12,11 +11,11 @@ ghost use Rattle.mlt_hash.specs.Steps.{TellsOfPath, next_page};
 use crate::answer::WalkAnswer;
 use crate::pass::Phase;
 use crate::walk::Walk;
-use mlt_hash_form::{Place, Root};
+use mlt_hash_form::{Place, Root, value_in};
 use mlt_held::{LockedStore, lock, read_held};
-use mlt_page::{Bucket, Page, Slot};
+use mlt_page::Page;
 use mlt_subtx::Subtx;
-use mlt_types::{Key, PageNo, Pseudo, Value};
+use mlt_types::{PageNo, Pseudo};
 
 /// Locks the header and reads where the key's directory page is.
 pub(crate) fn read_header<P: Pseudo>(
@@ -111,15 +110,4 @@ pub(crate) fn read_bucket<P: Pseudo>(
     let found = value_in(bucket, walk.key);
     walk.phase = Phase::AtBucket(number, depth, found);
     WalkAnswer::Found(found)
-}
-
-/// The value of a key's record in its bucket, if it has one.
-fn value_in(bucket: &Bucket, key: Key) -> Option<Value>
-    ensures { result ≡ value_in key bucket.now.slots }
-{
-    let at = bucket.find_live(key)?;
-    match bucket.slots[at] {
-        Slot::Live(_, value) => Some(value),
-        _ => unreachable!(),
-    }
 }

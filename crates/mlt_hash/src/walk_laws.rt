@@ -13,7 +13,7 @@ ghost use Rattle.mlt_held.specs.Moments.{MayStep, Moment};
 ghost use Rattle.mlt_held.specs.Views.{View, view_of};
 ghost use Rattle.mlt_split.specs.Rests.{KeepsNoMore};
 ghost use Rattle.mlt_split.specs.Steps.{IsNextPage};
-ghost use Rattle.mlt_hash.specs.Walks.{Basis, HasPassed, IsAtBucket, IsAtStart, IsSplitting, IsStanding, WalkFields, aim_of};
+ghost use Rattle.mlt_hash.specs.Walks.{Basis, HasRead, HoldsByPass, IsAtBucket, IsAtStart, IsSplitting, IsStanding, WalkFields, aim_of};
 ghost use Rattle.mlt_hash.specs.Splitting.{TellsAt, TellsOfSplitting, WalkStep};
 ghost use Rattle.mlt_hash.specs.StepsLeft.{IsPutting, steps_to_put};
 ghost use Rattle.mlt_hash.specs.declared.answer.WalkAnswer.TheVariants as answer;
@@ -53,18 +53,19 @@ pub fn same_view_keeps_the_walk()
         → IsStanding basis walk after }
 {}
 
-/// A walk at its bucket has passed what it read on its way, and holds these pages in the modes of its pass.
+/// A walk at its bucket has read its way, and holds these pages in the modes of its pass.
 pub fn walk_at_its_bucket_has_passed()
     ensures { (basis : Basis) (walk : WalkFields) (view : View) (bucket depth : ℕ)
         (found : Option ℕ) → IsAtBucket basis walk view bucket depth found
-        → HasPassed basis walk view found }
+        → (read : HasRead basis walk.key view found)
+        × HoldsByPass walk.pass walk.mode basis.root read.dir read.bucket view }
 {}
 
-/// What a walk found of its key is on the clean pages up to the walk's end.
+/// What was found of a key is on the clean pages as long as what was read on its way is held.
 pub fn what_was_found_stays_there()
-    ensures { (basis : Basis) (walk : WalkFields) (view : View) (found : Option ℕ)
-        (clean : ℕ → Option Page) → HasPassed basis walk view found
-        → Agrees view.seen clean → found ≡ look_up basis.bits clean basis.root walk.key }
+    ensures { (basis : Basis) (key : ℕ) (view : View) (found : Option ℕ)
+        (clean : ℕ → Option Page) → HasRead basis key view found
+        → Agrees view.seen clean → found ≡ look_up basis.bits clean basis.root key }
 {}
 
 /// Once a narrow pass splits, it holds the page that it is to lock next, and exclusively.

@@ -13,12 +13,12 @@ use Rattle.mlt_hash_form.specs.Held.{over, own_or}
 use Rattle.mlt_hash_form.proofs.HeldPages.{changed_values}
 use Rattle.mlt_held.specs.Moments.{IsCleanFor, MayStep, Moment}
 use Rattle.mlt_held.specs.PageSteps.{WritesAtMost}
-use Rattle.mlt_held.specs.Views.{View, view_of}
+use Rattle.mlt_held.specs.Views.{IsUnwritten, View, view_of}
 use Rattle.mlt_hash_file.specs.Alone.{IsAlone, basis_of, pages_before}
 use Rattle.mlt_hash_file.specs.AloneWalks.{HasChanged, IsHashFile}
 use Rattle.mlt_hash.specs.Changes.{IsAtRecord, Makes, TellsOfChange, WritesIfChanged, page_of}
 use Rattle.mlt_hash.specs.Passes.{value_after}
-use Rattle.mlt_hash.specs.Walks.{Basis, IsAtBucket, IsChanged, IsStanding, IsUnwritten, MayWalk, Stands, WalkFields}
+use Rattle.mlt_hash.specs.Walks.{Basis, IsAtBucket, IsChanged, IsStanding, MayWalk, Stands, WalkFields}
 use Rattle.mlt_hash.specs.declared.answer.WalkAnswer.{WalkAnswer}
 use Rattle.mlt_hash.specs.declared.answer.WalkAnswer.TheVariants as answer
 use Rattle.mlt_hash.specs.declared.pass.Change.{Change}

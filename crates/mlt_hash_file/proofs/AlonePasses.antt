@@ -19,7 +19,7 @@ use Rattle.mlt_hash_form.proofs.Crowd.{crowded_in_fewer, crowded_test}
 use Rattle.mlt_hash_form.proofs.InPages.{led_at}
 use Rattle.mlt_held.specs.Moments.{IsCleanFor, MayStep, Moment}
 use Rattle.mlt_held.specs.PageSteps.{WritesAtMost}
-use Rattle.mlt_held.specs.Views.{View, view_of}
+use Rattle.mlt_held.specs.Views.{IsUnwritten, View, view_of}
 use Rattle.mlt_hash_file.specs.Alone.{IsAlone, KeepsBefore, basis_of, pages_before}
 use Rattle.mlt_hash.specs.StepsLeft.{IsPutting}
 use Rattle.mlt_hash_file.specs.AloneWalks.{HasArrived, HasChanged, IsFullFor, IsHashFile, NeedsRoom, NeedsSplits, NeverHasRoomFor, TellsOfPass, added_value}
@@ -27,7 +27,7 @@ use Rattle.mlt_hash.specs.Changes.{HasNoRoom, IsAtAbsent, IsAtRecord, IsFull, Ma
 use Rattle.mlt_hash.specs.Passes.{HasRoomFrom, IsNextPass, next_of, value_after}
 use Rattle.mlt_hash_file.specs.SplitPages.{HasRoomAt, pages_for, pages_in_the_end, pages_left_at, pages_to_make}
 use Rattle.mlt_hash.specs.Steps.{HasFound, IsSameWalk}
-use Rattle.mlt_hash.specs.Walks.{Basis, IsAtBucket, IsStanding, IsUnwritten, Stands, WalkFields}
+use Rattle.mlt_hash.specs.Walks.{Basis, IsAtBucket, IsStanding, Stands, WalkFields}
 use Rattle.mlt_hash.specs.declared.answer.WalkAnswer.{WalkAnswer}
 use Rattle.mlt_hash.specs.declared.answer.WalkAnswer.TheVariants as answer
 use Rattle.mlt_hash.specs.declared.pass.Change.{Change}

@@ -18,6 +18,7 @@ mod PrefixForm
 mod RecordMap
 mod Same
 pub mod SingleChanges
+mod Slots
 mod SplitDone
 pub mod SplitSteps
 pub mod Splitting

@@ -83,13 +83,22 @@ IsOnceLive pages = (n m i j key v w : ℕ)
 abbrev pub look_up : (ℕ → ℕ) → FilePages → ℕ → ℕ → Option ℕ
 look_up bits pages root key = value_by_lead bits (lead_of pages root) (buckets_of pages) key
 
+-- by a header: the place of a pseudokey's directory page, that page, and the pseudokey's entry there
+abbrev pub place_of : HeadFields → ℕ → ℕ
+place_of header x = first_bits header.depth x / 256
+
+abbrev pub dir_of : HeadFields → ℕ → ℕ
+dir_of header x = slice_index header.dirs (place_of header x)
+
+abbrev pub row_of : HeadFields → ℕ → ℕ
+row_of header x = first_bits header.depth x % 256
+
 -- what three steps by a pseudokey read: the header, the directory page of its place, and the bucket named there
 pub record IsPath (pages : FilePages) (root x : ℕ) (header : HeadFields) (dir : List ℕ) (n : ℕ)
     (bucket : BucketFields) : Type 0 where
   pub head : pages root ≡ Some (page.Head header)
-  pub listed : pages (slice_index header.dirs (first_bits header.depth x / 256))
-      ≡ Some (page.Dir dir)
-  pub at : slice_index dir (first_bits header.depth x % 256) ≡ n
+  pub listed : pages (dir_of header x) ≡ Some (page.Dir dir)
+  pub at : slice_index dir (row_of header x) ≡ n
   pub found : pages n ≡ Some (page.Bucket bucket)
 
 -- page n becomes p, and no other page changes

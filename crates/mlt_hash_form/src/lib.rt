@@ -6,6 +6,7 @@ mod change_laws;
 mod directory_page;
 mod form_laws;
 mod held_laws;
+mod look_up;
 mod place;
 mod record_laws;
 mod room;
@@ -31,6 +32,7 @@ pub use held_laws::{
     insertion_is_a_write, kept_file_has_its_values, own_write_is_a_write, split_keeps_the_file,
     walk_without_writes_keeps_the_file,
 };
+pub use look_up::value_in;
 pub use place::{NewPlaces, Place, first_bits};
 pub use record_laws::{
     change_to_a_value_inserts, change_to_no_value_removes, changed_file_changes_the_map,

@@ -1,3 +1,4 @@
 pub mod Moments
 pub mod PageSteps
+pub mod Reading
 pub mod Views

@@ -39,6 +39,10 @@ own_at m q = cond (can_read m.locks m.running.tx q) (page_written (image_of m.ru
 abbrev pub view_of : Moment → View
 view_of m = record { modes = pages_of m.locks m.running.tx; seen = seen_at m; own = own_at m }
 
+-- nothing is written
+abbrev pub IsUnwritten : View → Type 0
+IsUnwritten view = (q : ℕ) → view.own q ≡ None
+
 -- page q, which is held, reads as this, on whatever clean pages agree with the view
 abbrev pub ReadsHeldPage : View → ℕ → Page → Type 0
 ReadsHeldPage view q page = (first : Option Page) × (view.seen q ≡ Some first) × (own_or (view.own q) first ≡ Some page)

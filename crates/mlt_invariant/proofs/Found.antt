@@ -12,10 +12,10 @@ use Rattle.mlt_base.specs.declared.record.RecChange.{RecChange}
 use Rattle.mlt_base.specs.Effects.{reply_of, changes_on}
 use Rattle.mlt_hash_form.specs.Held.{Agrees, own_or, over}
 use Rattle.mlt_held.specs.Views.{View}
-use Rattle.mlt_hash.specs.Walks.{HasPassed, Stands}
+use Rattle.mlt_hash.specs.Walks.{HasRead, Stands}
 use Rattle.mlt_hash.specs.declared.pass.Phase.{Phase}
 use Rattle.mlt_hash.specs.declared.pass.Phase.TheVariants as at
-use Rattle.mlt_hash.proofs.Passed.{passed_at_bucket}
+use Rattle.mlt_hash.proofs.Passed.{read_at_bucket}
 use Rattle.mlt_operation.specs.declared.request.Request.{Request}
 use Rattle.mlt_operation.specs.declared.request.Request.TheVariants.{Do}
 use Rattle.mlt_operation.specs.Operating.{FitsPhase, IsOperating, OperationFields}
@@ -45,31 +45,31 @@ module _ (world : World) (i : ℕ) (o : OperationFields) (view : View) (op : Obj
   key_is : o.walk.key ≡ op_key op
   key_is = ap (λ (t : ℕ × Mode). t.0) (operates.target ∙ ap target_of asked)
 
-  found_here : (found : Option ℕ) → HasPassed (basis_of world i) o.walk view found → found ≡ record_of world op
-  found_here found passed = found_is_record world i (cell_of op) o.walk view found match passed key_is agree
+  found_here : (found : Option ℕ) → HasRead (basis_of world i) o.walk.key view found → found ≡ record_of world op
+  found_here found read = found_is_record world i (cell_of op) o.walk.key view found match read key_is agree
 
-  decided_here : (found : Option ℕ) (r : ObjReply) (change : Option RecChange) → HasPassed (basis_of world i) o.walk view found → o.reply ≡ Some r → decision o.request found ≡ (r, change)
+  decided_here : (found : Option ℕ) (r : ObjReply) (change : Option RecChange) → HasRead (basis_of world i) o.walk.key view found → o.reply ≡ Some r → decision o.request found ≡ (r, change)
       → reply_of op (record_of world op) ≡ (reply, change)
-  decided_here found r change passed is decided =
+  decided_here found r change read is decided =
       let same : Some r ≡ Some reply = sym is ∙ told in
       let one : r ≡ reply = cc in
-      ap (λ f. reply_of op f) (sym (found_here found passed)) ∙ ap (λ (q : Request). decision q found) (sym asked) ∙ decided ∙ ap (λ x. (x, change)) one
+      ap (λ f. reply_of op f) (sym (found_here found read)) ∙ ap (λ (q : Request). decision q found) (sym asked) ∙ decided ∙ ap (λ x. (x, change)) one
 
   by_phase : (p : Phase) → o.walk.phase ≡ p → FitsPhase p (basis_of world i) o view → Stands p (basis_of world i) o.walk view → IsAnswered world i op reply pages
   by_phase at.Start is fits stands = absurd (none-some reply (sym fits ∙ told))
   by_phase (at.Headed dir row depth) is fits stands = absurd (none-some reply (sym fits ∙ told))
   by_phase (at.Placed bucket depth) is fits stands = absurd (none-some reply (sym fits ∙ told))
   by_phase (at.AtBucket bucket depth found) is fits stands =
-      let passed = passed_at_bucket (basis_of world i) o.walk view bucket depth found stands in
-      answered_by world i op reply pages None (decided_here found fits.0 None passed fits.1 fits.2)
+      let read = read_at_bucket (basis_of world i) o.walk view bucket depth found stands in
+      answered_by world i op reply pages None (decided_here found fits.0 None read fits.1 fits.2)
       (λ q. ends q ∙ ap (λ own. own_or own (map.get world.pages q)) (stands.unwritten q))
   by_phase (at.Full next) is fits stands = absurd fits
   by_phase (at.Adding value bucket depth unsplit) is fits stands = absurd (none-some reply (sym fits.0 ∙ told))
   by_phase (at.Splitting value depth) is fits stands = absurd (none-some reply (sym fits.0 ∙ told))
   by_phase (at.Changed bucket done) is fits stands =
-      answered_by world i op reply pages (Some fits.decided) (decided_here fits.found fits.reply (Some fits.decided) fits.passed fits.told fits.asked)
+      answered_by world i op reply pages (Some fits.decided) (decided_here fits.found fits.reply (Some fits.decided) fits.read fits.told fits.asked)
       (walk_leaves_change world i pages o.walk view bucket done stands agree ends match.file.form (cell_of op) fits.decided key_is
-      (subst (λ (f : Option ℕ). Performs fits.decided f done) (found_here fits.found fits.passed) fits.performs))
+      (subst (λ (f : Option ℕ). Performs fits.decided f done) (found_here fits.found fits.read) fits.performs))
 
   -- **An operation that is told its reply was told what the base has, and its end makes the change.**
   pub is_answered : IsAnswered world i op reply pages

@@ -11,7 +11,7 @@ use Rattle.mlt_page_locks.proofs.Maps.{same_entries}
 use Rattle.mlt_page_locks.specs.Requests.{released}
 use Rattle.mlt_subtx.specs.Images.{Running}
 use Rattle.mlt_held.specs.Views.{View, view_of}
-use Rattle.mlt_hash.specs.Walks.{Basis, HasPassed, IsChanged, Stands}
+use Rattle.mlt_hash.specs.Walks.{Basis, HasRead, IsChanged, Stands}
 use Rattle.mlt_hash.specs.declared.pass.Change.{Change}
 use Rattle.mlt_hash.specs.declared.pass.Phase.{Phase}
 use Rattle.mlt_hash.specs.declared.pass.Phase.TheVariants as phase
@@ -44,7 +44,7 @@ record HasChanged (basis : Basis) (o : OperationFields) (view : View) (item : Ob
   pub found : Option ℕ
   pub is : inverse_of item ≡ Some change
   pub changed : IsChanged basis o.walk view bucket done
-  pub passed : HasPassed basis o.walk view found
+  pub read : HasRead basis o.walk.key view found
   pub performs : Performs change found done
 
 no_reply : (o : OperationFields) → IsSome o.reply → o.reply ≡ None → ⊥
@@ -68,7 +68,7 @@ has_changed (phase.Changed bucket done) basis o view item some has asked stands 
   found = fits.found;
   is = ap (λ (d : ObjReply × Option RecChange). d.1) (ap (λ (r : Request). decision r fits.found) (sym asked) ∙ fits.asked);
   changed = stands;
-  passed = fits.passed;
+  read = fits.read;
   performs = fits.performs;
 }
 
@@ -110,7 +110,7 @@ module _ (s : State) (i : ℕ) (before : Transaction) (between commons : Commons
         let key_is = ap (λ (t : ℕ × Mode). t.0) (fits.operates.target ∙ ap target_of fits.inverts.asked) in
         walk_leaves_change (world_of s) i (clean_pages (map.insert s.images i map.empty) commons.pages.store.pages) o.walk view has.bucket has.done has.changed agrees
         (λ q. clean_at_end q ∙ ap (λ f. f q) (end_clean (all_of s) i sound.running)) sound.match.file.form (cell_of fits.last.0) has.change key_is
-        (subst (λ (f : Option ℕ). Performs has.change f has.done) (found_is_record (world_of s) i (cell_of fits.last.0) o.walk view has.found sound.match has.passed key_is agrees) has.performs)
+        (subst (λ (f : Option ℕ). Performs has.change f has.done) (found_is_record (world_of s) i (cell_of fits.last.0) o.walk.key view has.found sound.match has.read key_is agrees) has.performs)
 
     pub cleared_by_inverse : IsCleared s i commons fits.last
     cleared_by_inverse = record {

@@ -6,7 +6,7 @@ use Rattle.std.specs.FinSet as set
 use Rattle.mlt_hash.specs.Walks.{Basis, IsStanding, WalkFields}
 use Rattle.mlt_hash.specs.declared.pass.Phase.{Phase}
 use Rattle.mlt_hash.specs.declared.pass.Phase.TheVariants as phase
-use Rattle.mlt_hash.proofs.Passed.{passed_as}
+use Rattle.mlt_hash.proofs.Passed.{read_as}
 use Rattle.mlt_hash_form.specs.Held.{Agrees}
 use Rattle.mlt_held.specs.Views.{View, view_of}
 use Rattle.mlt_object_locks.specs.Locks.{SameReservations}
@@ -34,7 +34,7 @@ fits_for (phase.Changed bucket done) basis opens o view fits = record {
   found = fits.found;
   reply = fits.reply;
   decided = fits.decided;
-  passed = passed_as basis opens o.walk o.walk.phase o.walk.split view fits.found fits.passed;
+  read = read_as basis opens o.walk.key view fits.found fits.read;
   told = fits.told;
   asked = fits.asked;
   performs = fits.performs;

@@ -1,25 +1,26 @@
 -- Each transaction holds the page locks of its pass
-use Rattle.std.proofs.Common.{◌≡◌, ℕ, Bool, true, List, slice_index, Option, None, Some, is_some, unwrap_or, refl, sym, ap, subst, ◌∙◌}
+use Rattle.std.proofs.Common.{◌≡◌, ℕ, Bool, true, Option, None, Some, is_some, unwrap_or, refl, sym, ap, subst, ◌∙◌}
 use Rattle.std.specs.FinMap as map
 use Rattle.std.proofs.lemmas.Bool.{false≢true}
 use Rattle.mlt_types.specs.declared.mode.Mode.TheVariants.{Exclusive}
 use Rattle.mlt_page.specs.declared.page.Page.{Page}
 use Rattle.mlt_page.specs.declared.page.Page.TheVariants as page
-use Rattle.mlt_page.specs.Values.{HeadFields}
 use Rattle.mlt_page_locks.specs.LockTables.{is_holder, mode_held}
 use Rattle.mlt_subtx.specs.Images.{Images, image_of}
 use Rattle.mlt_subtx.proofs.ImageLaws.{not_true}
-use Rattle.mlt_hash_form.specs.File.{FilePages}
+use Rattle.mlt_hash_form.specs.File.{FilePages, dir_of}
 use Rattle.mlt_hash_form.specs.Held.{Agrees}
 use Rattle.mlt_held.specs.Moments.{Moment, page_before}
+use Rattle.mlt_held.specs.Reading.{HasReadPlace}
 use Rattle.mlt_held.specs.Views.{view_of}
 use Rattle.mlt_held.proofs.Views.{holds_exclusively, own_has_image, seen_held}
 use Rattle.mlt_hash.specs.Passes.{MayHoldMore}
-use Rattle.mlt_hash.specs.Walks.{Basis, HasPassed, IsAtBucket, IsPlaced, Stands, WalkFields, dir_of, row_of}
+use Rattle.mlt_hash.specs.Walks.{Basis, HasRead, HoldsByPass, IsAtBucket, IsPlaced, Stands, WalkFields}
 use Rattle.mlt_hash.specs.declared.pass.Pass.{Pass}
 use Rattle.mlt_hash.specs.declared.pass.Pass.TheVariants as pass
 use Rattle.mlt_hash.specs.declared.pass.Phase.{Phase}
 use Rattle.mlt_hash.specs.declared.pass.Phase.TheVariants as phase
+use Rattle.mlt_hash.proofs.Passed.{read_at_bucket}
 use Rattle.mlt_operation.specs.Operating.{FitsPhase, OperationFields}
 use Rattle.mlt_subtx_laws.specs.Running.{clean_of, images_by, moment_of}
 use Rattle.mlt_meeting.specs.Worlds.{basis_of}
@@ -45,36 +46,39 @@ more_as pass.Wide seen clean own image same kept more = kept more
 
 -- the locks of a walk on this moment, whose view the clean pages agree with
 module _ (basis : Basis) (walk : WalkFields) (m : Moment) (clean : FilePages) (agree : Agrees (view_of m).seen clean) where
-  -- what is read of these three pages is the way to the key
-  abbrev way_on : (header : HeadFields) (entries : List ℕ) (bucket : ℕ) → (view_of m).seen basis.root ≡ Some (Some (page.Head header)) → (view_of m).seen (dir_of basis header walk.key) ≡ Some (Some (page.Dir entries)) → bucket ≡ slice_index entries (row_of basis header walk.key)
-      → KeysWay basis clean walk.key
-  way_on header entries bucket head listed bucket_is = record {
-    header = header;
-    head = agree basis.root (Some (page.Head header)) head;
-    dir = dir_of basis header walk.key;
-    dir_is = refl;
-    entries = entries;
-    listed = agree (dir_of basis header walk.key) (Some (page.Dir entries)) listed;
+  -- what is read of its way is the way to the key
+  abbrev way_on : (dir bucket : ℕ) → HasReadPlace basis.bits basis.root walk.key (view_of m) dir bucket → KeysWay basis clean walk.key
+  way_on dir bucket read = record {
+    header = read.header;
+    head = agree basis.root (Some (page.Head read.header)) read.head;
+    dir = dir;
+    dir_is = read.dir_is;
+    entries = read.entries;
+    listed = agree dir (Some (page.Dir read.entries)) read.listed;
     bucket = bucket;
-    bucket_is = bucket_is;
+    bucket_is = read.bucket_is;
   }
 
   placed_way : (bucket depth : ℕ) → IsPlaced basis walk (view_of m) bucket depth → LocksAt (phase.Placed bucket depth) basis clean walk m.running.images (view_of m).modes
-  placed_way bucket depth placed = (way_on placed.header placed.dir bucket placed.head placed.listed placed.bucket_is, placed.held)
+  placed_way bucket depth placed = (
+    way_on (dir_of placed.header (basis.bits walk.key)) bucket (record { header = placed.header; head = placed.head; dir_is = refl; entries = placed.dir; listed = placed.listed; bucket_is = placed.bucket_is }),
+    placed.held,
+  )
 
   bucket_way : (bucket depth : ℕ) (found : Option ℕ) → IsAtBucket basis walk (view_of m) bucket depth found → LocksAt (phase.AtBucket bucket depth found) basis clean walk m.running.images (view_of m).modes
-  bucket_way bucket depth found here = (way_on here.header here.dir bucket here.head here.listed here.bucket_is, here.held)
+  bucket_way bucket depth found here = let read = read_at_bucket basis walk (view_of m) bucket depth found here in (way_on read.dir bucket read.way.placed, here.held)
 
-  -- what a walk has passed is its way
-  passed_way : (found : Option ℕ) → HasPassed basis walk (view_of m) found → (way : KeysWay basis clean walk.key) × HoldsWay walk clean m.running.images basis.root way.dir way.bucket (view_of m).modes
-  passed_way found passed = (
-    way_on passed.header passed.dir passed.bucket passed.head passed.listed passed.bucket_is,
+  -- a walk that has read its way holds it by its pass
+  read_way : (found : Option ℕ) → (read : HasRead basis walk.key (view_of m) found) → HoldsByPass walk.pass walk.mode basis.root read.dir read.bucket (view_of m)
+      → (way : KeysWay basis clean walk.key) × HoldsWay walk clean m.running.images basis.root way.dir way.bucket (view_of m).modes
+  read_way found read holds = (
+    way_on read.dir read.bucket read.way.placed,
     record {
-      on_header = passed.holds.on_header;
-      on_dir = passed.holds.on_dir;
-      on_bucket = passed.holds.on_bucket;
+      on_header = holds.on_header;
+      on_dir = holds.on_dir;
+      on_bucket = holds.on_bucket;
       others = λ q away further last held.
-          let more = passed.holds.others q away further last held in
+          let more = holds.others q away further last held in
           (more.0, more_as walk.pass ((view_of m).seen q) (Some (clean q)) (is_some ((view_of m).own q)) (is_some (image_of m.running.images q)) (clean_is_seen m clean agree q held) (own_has_image m q) more.1);
     },
   )
@@ -86,9 +90,9 @@ locks_at (phase.Headed dir row depth) basis o m clean agree stands fits = stands
 locks_at (phase.Placed bucket depth) basis o m clean agree stands fits = placed_way basis o.walk m clean agree bucket depth stands
 locks_at (phase.AtBucket bucket depth found) basis o m clean agree stands fits = bucket_way basis o.walk m clean agree bucket depth found stands
 locks_at (phase.Full next) basis o m clean agree stands fits = absurd fits
-locks_at (phase.Adding value bucket room_depth unsplit) basis o m clean agree stands fits = passed_way basis o.walk m clean agree None stands.passed
-locks_at (phase.Splitting value room_depth) basis o m clean agree stands fits = passed_way basis o.walk m clean agree None stands.passed
-locks_at (phase.Changed bucket done) basis o m clean agree stands fits = passed_way basis o.walk m clean agree stands.found stands.passed
+locks_at (phase.Adding value bucket room_depth unsplit) basis o m clean agree stands fits = read_way basis o.walk m clean agree None stands.read stands.holds
+locks_at (phase.Splitting value room_depth) basis o m clean agree stands fits = read_way basis o.walk m clean agree None stands.read stands.holds
+locks_at (phase.Changed bucket done) basis o m clean agree stands fits = read_way basis o.walk m clean agree stands.found stands.read stands.holds
 
 module _ (s : State) (i : ℕ) where
   -- the locks of an open transaction, by where it is

@@ -7,10 +7,10 @@ use Rattle.mlt_page.specs.declared.page.Page.TheVariants as page
 use Rattle.mlt_page.specs.Values.{HeadFields}
 use Rattle.mlt_page_locks.specs.LockTables.{LockTable, Modes, is_holder, mode_held, pages_of}
 use Rattle.mlt_subtx.specs.Images.{Images, image_of}
-use Rattle.mlt_hash_form.specs.File.{FilePages}
+use Rattle.mlt_hash_form.specs.File.{FilePages, dir_of, row_of}
 use Rattle.mlt_hash.specs.Passes.{MayHoldMore, bucket_held, bucket_mode, directory_held}
 use Rattle.mlt_hash.specs.Passes.{directory_mode, header_held, header_mode}
-use Rattle.mlt_hash.specs.Walks.{Basis, WalkFields, basis_by, dir_of, row_of}
+use Rattle.mlt_hash.specs.Walks.{Basis, WalkFields, basis_by}
 use Rattle.mlt_hash.specs.declared.pass.Phase.{Phase}
 use Rattle.mlt_hash.specs.declared.pass.Phase.TheVariants as phase
 use Rattle.mlt_operation.specs.Operating.{OperationFields}
@@ -43,12 +43,12 @@ pub record KeysWay (basis : Basis) (clean : FilePages) (key : ℕ) : Type 0 wher
   pub head : clean basis.root ≡ Some (page.Head header)
   -- the directory page that the header names for the key, and its entries
   pub dir : ℕ
-  pub dir_is : dir ≡ dir_of basis header key
+  pub dir_is : dir ≡ dir_of header (basis.bits key)
   pub entries : List ℕ
   pub listed : clean dir ≡ Some (page.Dir entries)
   -- the bucket that the key's entry there names
   pub bucket : ℕ
-  pub bucket_is : bucket ≡ slice_index entries (row_of basis header key)
+  pub bucket_is : bucket ≡ slice_index entries (row_of header (basis.bits key))
 
 -- The page locks of a pass that has looked into its bucket: the pages of its way, in the modes of
 -- the pass, and each other page exclusively that the pass has written or made. A first pass has

@@ -31,9 +31,9 @@ module _ (world : World) (tx : ℕ) (pages : map.FinMap nat_cmp Page) (walk : Wa
 
   header_now : map.get pages world.root ≡ Some (page.Head changed.header)
   header_now =
-      let passed = changed.passed in
-      ends world.root ∙ ap (own_or (view.own world.root)) (agrees world.root (Some (page.Head passed.header)) passed.head)
-      ∙ sym (ap (λ (o : Option (Option Page)). own_or (view.own world.root) (unwrap_or o None)) passed.head) ∙ changed.head
+      let placed = changed.read.way.placed in
+      ends world.root ∙ ap (own_or (view.own world.root)) (agrees world.root (Some (page.Head placed.header)) placed.head)
+      ∙ sym (ap (λ (o : Option (Option Page)). own_or (view.own world.root) (unwrap_or o None)) placed.head) ∙ changed.head
 
   -- what is said of the key, where these are the pages
   abbrev SaysOfKey : FilePages → ℕ → Type 0

@@ -26,12 +26,12 @@ use Rattle.mlt_hash_form.proofs.MapChanges.{map_is_look_up}
 use Rattle.mlt_held.specs.Views.{View}
 use Rattle.mlt_split.specs.Rests.{KeepsNoMore}
 use Rattle.mlt_hash.specs.Changes.{HasOwnGhost, page_of}
-use Rattle.mlt_hash.specs.Walks.{HasPassed, IsAtBucket, IsStanding, Stands, WalkFields}
+use Rattle.mlt_hash.specs.Walks.{HasRead, IsAtBucket, IsStanding, Stands, WalkFields}
 use Rattle.mlt_hash.specs.declared.pass.Phase.{Phase}
 use Rattle.mlt_hash.specs.declared.pass.Phase.TheVariants as at
 use Rattle.mlt_hash.proofs.Laws.{path_taken}
 use Rattle.mlt_hash.proofs.Owners.{stands_still}
-use Rattle.mlt_hash.proofs.Passed.{passed_at_bucket}
+use Rattle.mlt_hash.proofs.Passed.{read_at_bucket}
 use Rattle.mlt_hash.proofs.Standings.{found_still}
 use Rattle.mlt_ghosts.specs.Ledgers.{last_by}
 use Rattle.mlt_ghosts.specs.Operations.{Presence, Removed, last_of}
@@ -49,10 +49,10 @@ use Rattle.mlt_meeting.proofs.Undoing.{inverse_can}
 pub record_looked_up : (world : World) (cell : Cell) → PagesMeanHistory world → record_at world cell ≡ look_up world.bits (map.get world.pages) world.root (key_number cell)
 record_looked_up world cell h = map_is_look_up world.bits world.pages world.root h.file.bounded h.file.form (key_number cell)
 
-pub found_is_record : (world : World) (tx : ℕ) (cell : Cell) (walk : WalkFields) (view : View) (found : Option ℕ) → PagesMeanHistory world → HasPassed (basis_of world tx) walk view found → walk.key ≡ key_number cell → Agrees view.seen (map.get world.pages)
+pub found_is_record : (world : World) (tx : ℕ) (cell : Cell) (key : ℕ) (view : View) (found : Option ℕ) → PagesMeanHistory world → HasRead (basis_of world tx) key view found → key ≡ key_number cell → Agrees view.seen (map.get world.pages)
     → found ≡ record_at world cell
-found_is_record world tx cell walk view found h passed key_is agree =
-    found_still (basis_of world tx) walk view found (map.get world.pages) passed agree
+found_is_record world tx cell key view found h read key_is agree =
+    found_still (basis_of world tx) key view found (map.get world.pages) read agree
     ∙ ap (look_up world.bits (map.get world.pages) world.root) key_is ∙ sym (record_looked_up world cell h)
 
 -- ---- what is taken back
@@ -76,7 +76,7 @@ module _ (world : World) (tx : ℕ) (item : ObjOp × ObjReply) (walk : WalkField
 
   undo_can : CanChange (inverse_of item) found
   undo_can =
-      let is = found_is_record world tx (cell_of item.0) walk view found h (passed_at_bucket (basis_of world tx) walk view bucket depth found here) key_is agree in
+      let is = found_is_record world tx (cell_of item.0) walk.key view found h (read_at_bucket (basis_of world tx) walk view bucket depth found here) key_is agree in
       subst (CanChange (inverse_of item)) (sym is) (inverse_can world tx item h may)
 
   own_ghost : inverse_of item ≡ Some rec.Revive → HasOwnGhost tx walk view

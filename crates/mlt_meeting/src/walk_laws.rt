@@ -12,21 +12,21 @@ ghost use Rattle.mlt_hash_form.specs.File.{look_up};
 ghost use Rattle.mlt_hash_form.specs.Held.{Agrees};
 ghost use Rattle.mlt_held.specs.Views.{View};
 ghost use Rattle.mlt_hash.specs.Changes.{HasOwnGhost};
-ghost use Rattle.mlt_hash.specs.Walks.{HasPassed, IsStanding, WalkFields};
+ghost use Rattle.mlt_hash.specs.Walks.{HasRead, IsStanding, WalkFields};
 ghost use Rattle.mlt_hash.specs.declared.pass.Phase.TheVariants.{AtBucket};
 ghost use Rattle.mlt_meeting.specs.Presences.{op_key};
 ghost use Rattle.mlt_meeting.specs.Events.{MayUndo, with_begun};
 ghost use Rattle.mlt_meeting.specs.Worlds.{PagesMeanHistory, World, basis_of, record_of};
 
-/// The record of an operation's cell is what is looked up of its key, and what a walk to the key has found, up to the
-/// walk's end.
+/// The record of an operation's cell is what is looked up of its key, and what was found of the key, as long as what was
+/// read on its way is held.
 pub fn walks_find_the_record()
     ensures look_up { (world : World) (op : ObjOp) → PagesMeanHistory world
         → record_of world op ≡ look_up world.bits (map.get world.pages) world.root (op_key op) }
-    ensures found { (world : World) (tx : ℕ) (op : ObjOp) (walk : WalkFields) (view : View)
+    ensures found { (world : World) (tx : ℕ) (op : ObjOp) (key : ℕ) (view : View)
         (found : Option ℕ)
-        → PagesMeanHistory world → HasPassed (basis_of world tx) walk view found
-        → walk.key ≡ op_key op → Agrees view.seen (map.get world.pages)
+        → PagesMeanHistory world → HasRead (basis_of world tx) key view found
+        → key ≡ op_key op → Agrees view.seen (map.get world.pages)
         → found ≡ record_of world op }
 {}
 

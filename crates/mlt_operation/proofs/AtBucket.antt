@@ -20,7 +20,7 @@ use Rattle.mlt_page_locks.proofs.LockLaws.{pages_of-released}
 use Rattle.mlt_subtx.specs.Images.{Running, put_back, started}
 use Rattle.mlt_held.proofs.Leaving.{leaves_it}
 use Rattle.mlt_held.proofs.Views.{agrees}
-use Rattle.mlt_hash.specs.Walks.{Basis, HasPassed, IsChanged, Stands, WalkFields}
+use Rattle.mlt_hash.specs.Walks.{Basis, HasRead, IsChanged, Stands, WalkFields}
 use Rattle.mlt_hash.specs.Changes.{HasNoRoom, HasOwnGhost, MayChange, MustWiden, NeedsSplit, WritesIfChanged, page_of}
 use Rattle.mlt_hash.specs.Passes.{next_of}
 use Rattle.mlt_hash.specs.Steps.{HasFound, IsSameWalk, steps_to_bucket}
@@ -31,6 +31,7 @@ use Rattle.mlt_hash.specs.declared.pass.Phase.TheVariants as at
 use Rattle.mlt_hash.specs.declared.answer.WalkAnswer.TheVariants as answer
 use Rattle.mlt_hash.specs.declared.pass.Pass.TheVariants as pass
 use Rattle.mlt_hash.proofs.Laws.{at_start, found_there}
+use Rattle.mlt_hash.proofs.Passed.{read_of}
 use Rattle.mlt_hash.proofs.Standings.{found_still}
 use Rattle.mlt_types.specs.declared.refusal.Refusal.{Refusal}
 use Rattle.mlt_types.specs.declared.refusal.Refusal.TheVariants as refusal
@@ -103,11 +104,11 @@ found_clean : (phase : Phase) (basis : Basis) (walk : WalkFields) (view : View) 
 found_clean (at.AtBucket bucket depth f) basis walk view found clean is stands agree = found_there basis walk view bucket depth f clean stands agree ∙ is
 found_clean other basis walk view found clean is stands agree = absurd is
 
--- a changed walk has passed what it found
-changed_passed : (basis : Basis) (walk : WalkFields) (view : View) (bucket : ℕ) (done : Change) (found : Option ℕ) (clean : ℕ → Option Page)
-    → IsChanged basis walk view bucket done → Agrees view.seen clean → look_up basis.bits clean basis.root walk.key ≡ found → HasPassed basis walk view found
-changed_passed basis walk view bucket done found clean changed agree is =
-    subst (HasPassed basis walk view) (found_still basis walk view changed.found clean changed.passed agree ∙ is) changed.passed
+-- a changed walk has read what it found
+changed_read : (basis : Basis) (walk : WalkFields) (view : View) (bucket : ℕ) (done : Change) (found : Option ℕ) (clean : ℕ → Option Page)
+    → IsChanged basis walk view bucket done → Agrees view.seen clean → look_up basis.bits clean basis.root walk.key ≡ found → HasRead basis walk.key view found
+changed_read basis walk view bucket done found clean changed agree is =
+    read_of basis walk.key view changed.found found (found_still basis walk.key view changed.found clean changed.read agree ∙ is) changed.read
 
 -- **What asks for a change is told its reply, with the change written.**
 pub change_finishes : (basis : Basis) (old new : Moment) (before after : OperationFields) (found : Option ℕ) (reply : ObjReply) (change : RecChange)
@@ -127,7 +128,7 @@ change_finishes basis old new before after found reply change may is leaves writ
       found = found;
       reply = reply;
       decided = change;
-      passed = changed_passed basis after.walk (view_of new) (page_of before.walk.phase) made.done found clean changed agree_new stays;
+      read = changed_read basis after.walk (view_of new) (page_of before.walk.phase) made.done found clean changed agree_new stays;
       told = told;
       asked = ap (λ (r : Request). decision r found) request ∙ is;
       performs = made.performs;

@@ -7,7 +7,7 @@ use Rattle.mlt_held.specs.Moments.{Moment}
 use Rattle.mlt_held.specs.PageSteps.{Leaves}
 use Rattle.mlt_held.specs.Views.{View, view_of}
 use Rattle.mlt_held.proofs.Views.{agrees}
-use Rattle.mlt_hash.specs.Walks.{Basis, HasPassed, IsChanged, IsStanding, Stands, WalkFields}
+use Rattle.mlt_hash.specs.Walks.{Basis, HasRead, IsChanged, IsStanding, Stands, WalkFields}
 use Rattle.mlt_hash.specs.Changes.{page_of}
 use Rattle.mlt_hash.specs.Splitting.{TellsAt}
 use Rattle.mlt_hash.specs.Steps.{GoesOn, IsSameWalk, steps_to_bucket}
@@ -16,6 +16,7 @@ use Rattle.mlt_hash.specs.declared.answer.WalkAnswer.TheVariants as answer
 use Rattle.mlt_hash.specs.declared.pass.Change.TheVariants as change
 use Rattle.mlt_hash.specs.declared.pass.Phase.{Phase}
 use Rattle.mlt_hash.specs.declared.pass.Phase.TheVariants as at
+use Rattle.mlt_hash.proofs.Passed.{read_of}
 use Rattle.mlt_hash.proofs.StepsLeft.{one_fewer}
 use Rattle.mlt_operation.specs.declared.request.Request.{Request}
 use Rattle.mlt_operation.specs.Answers.{StepsOn}
@@ -163,12 +164,12 @@ puts basis old new before after may leaves tells request told = by before.walk.p
         let adds : IsToAdd before value = subst (λ (p : Phase). FitsPhase p basis before (view_of old)) is may.operates.fits in
         let phase : after.walk.phase ≡ at.Changed bucket (change.Put value) = makes.phase ∙ ap (λ (p : Phase). at.Changed (page_of p) (change.Put value)) is in
         let changed : IsChanged basis after.walk (view_of new) bucket (change.Put value) = subst (λ (p : Phase). Stands p basis after.walk (view_of new)) phase makes.stands in
-        let passed : HasPassed basis after.walk (view_of new) None = subst (HasPassed basis after.walk (view_of new)) changed.fits changed.passed in
+        let read : HasRead basis after.walk.key (view_of new) None = read_of basis after.walk.key (view_of new) changed.found None changed.fits changed.read in
         let performed : HasPerformed basis after (view_of new) (change.Put value) = record {
           found = None;
           reply = adds.1.0;
           decided = Add value;
-          passed = passed;
+          read = read;
           told = told ∙ ap (λ (d : ObjReply × Option RecChange). Some d.0) adds.1.1;
           asked = ap (λ (r : Request). decision r None) request ∙ adds.1.1;
           performs = inl refl;

@@ -8,9 +8,9 @@ use Rattle.mlt_page.specs.declared.page.Page.{Page}
 use Rattle.mlt_hash_form.specs.Held.{Agrees}
 use Rattle.mlt_held.specs.Moments.{Moment}
 use Rattle.mlt_held.specs.PageSteps.{HasNoPageLeft, Leaves}
-use Rattle.mlt_held.specs.Views.{View, view_of}
+use Rattle.mlt_held.specs.Views.{IsUnwritten, View, view_of}
 use Rattle.mlt_held.proofs.Views.{agrees}
-use Rattle.mlt_hash.specs.Walks.{Basis, IsAtBucket, IsUnwritten, MayWalk, Stands, WalkFields}
+use Rattle.mlt_hash.specs.Walks.{Basis, IsAtBucket, MayWalk, Stands, WalkFields}
 use Rattle.mlt_hash.specs.Splitting.{HasToMake, TellsAt}
 use Rattle.mlt_hash.specs.Steps.{GoesOn, HasFound, next_mode, next_page, steps_to_bucket}
 use Rattle.mlt_hash.specs.declared.answer.WalkAnswer.TheVariants as answer

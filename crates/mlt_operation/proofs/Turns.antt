@@ -9,11 +9,11 @@ use Rattle.mlt_page_locks.specs.LockTables.{page_count}
 use Rattle.mlt_page_locks.proofs.Maps.{get_inserted}
 use Rattle.mlt_held.specs.Moments.{MayStep, Moment}
 use Rattle.mlt_held.specs.PageSteps.{Leaves, LocksAtMost, TouchesOnePage, WritesAtMost}
-use Rattle.mlt_held.specs.Views.{view_of}
+use Rattle.mlt_held.specs.Views.{IsUnwritten, view_of}
 use Rattle.mlt_subtx_laws.proofs.AllEvents.{step_adds_one_page}
 use Rattle.mlt_held.proofs.OwnSteps.{step_keeps_tx}
 use Rattle.mlt_held.proofs.Views.{agrees, make_makes, write_writes}
-use Rattle.mlt_hash.specs.Walks.{Basis, IsUnwritten, MayWalk, WalkFields}
+use Rattle.mlt_hash.specs.Walks.{Basis, MayWalk, WalkFields}
 use Rattle.mlt_hash.proofs.Standings.{standing_holds_few}
 use Rattle.mlt_operation.specs.PageTurns.{DiffersOnOnePage, TakesTurn}
 

@@ -9,7 +9,7 @@ use Rattle.mlt_base.specs.Records.{CanChange}
 use Rattle.mlt_hash_form.specs.Held.{Agrees}
 use Rattle.mlt_held.specs.Moments.{Moment}
 use Rattle.mlt_held.specs.Views.{View, view_of}
-use Rattle.mlt_hash.specs.Walks.{Basis, HasPassed, IsAtBucket, IsStanding, MayWalk, WalkFields}
+use Rattle.mlt_hash.specs.Walks.{Basis, HasRead, IsAtBucket, IsStanding, MayWalk, WalkFields}
 use Rattle.mlt_hash.specs.Changes.{HasOwnGhost}
 use Rattle.mlt_hash.specs.Steps.{steps_to_bucket}
 use Rattle.mlt_hash.specs.StepsLeft.{steps_to_put}
@@ -61,7 +61,7 @@ pub record HasPerformed (basis : Basis) (o : OperationFields) (view : View) (don
   pub found : Option ℕ
   pub reply : ObjReply
   pub decided : RecChange
-  pub passed : HasPassed basis o.walk view found
+  pub read : HasRead basis o.walk.key view found
   pub told : o.reply ≡ Some reply
   pub asked : decision o.request found ≡ (reply, Some decided)
   pub performs : Performs decided found done

@@ -10,11 +10,11 @@ use Rattle.mlt_page_locks.specs.LockTables.{Modes, can_write}
 use Rattle.mlt_hash_form.specs.Held.{own_or}
 use Rattle.mlt_held.specs.Moments.{MayStep, Moment}
 use Rattle.mlt_held.specs.PageSteps.{WritesAtMost}
-use Rattle.mlt_held.specs.Views.{ReadsHeldBucket, View, WritesSlot, view_of}
+use Rattle.mlt_held.specs.Views.{IsUnwritten, ReadsHeldBucket, View, WritesSlot, view_of}
 use Rattle.mlt_held.proofs.Views.{may_write, write_writes}
 use Rattle.mlt_record.specs.Plans.{WriteFields}
 use Rattle.mlt_pair.specs.Changes.{FitsBoth, HasChanged, HoldsOn, IsHolding, IsSide, MakesOwed, MayWriteEarlier, Owes, OwesChange, OwesIf, StandsBehind, TellsOfTwo, task_in, task_of}
-use Rattle.mlt_pair.specs.Pairs.{HoldsWays, IsFinding, IsFound, IsUnwritten, PairFields, later_of, later_page}
+use Rattle.mlt_pair.specs.Pairs.{HoldsWays, IsFinding, IsFound, PairFields, later_of, later_page}
 use Rattle.mlt_pair.specs.Plans.{FitsFound, IsPlan}
 use Rattle.mlt_pair.specs.Ways.{HasRead, IsLocked, IsThere, found_of, page_of}
 use Rattle.mlt_pair.specs.Writing.{MayPlan, TellsOfOne}

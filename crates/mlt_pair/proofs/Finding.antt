@@ -7,12 +7,13 @@ use Rattle.mlt_page.specs.Values.{HeadFields}
 use Rattle.mlt_store.specs.Stores.{page_at}
 use Rattle.mlt_page_locks.specs.LockTables.{page_count}
 use Rattle.mlt_hash_form.specs.File.{HasForm, header_of}
-use Rattle.mlt_hash_form.specs.Held.{Agrees, own_or}
+use Rattle.mlt_hash_form.specs.Held.{Agrees}
 use Rattle.mlt_held.specs.Moments.{Moment}
 use Rattle.mlt_held.specs.PageSteps.{Leaves, LocksPage}
-use Rattle.mlt_held.specs.Views.{ReadsHeldPage, ReadsPage, SeesPage, View, view_of}
+use Rattle.mlt_held.specs.Views.{ReadsHeldPage, ReadsPage, SeesPage, view_of}
+use Rattle.mlt_held.proofs.Unwritten.{sees_page, unwritten_still}
 use Rattle.mlt_held.proofs.Views.{agrees, count_after_read, page_count_of_view, reads_seen}
-use Rattle.mlt_pair.specs.Pairs.{GoTogether, IsFinding, IsUnderWay, IsUnwritten, MayFind, PairFields, later_of, mode_next, most_steps, page_next}
+use Rattle.mlt_pair.specs.Pairs.{GoTogether, IsFinding, IsUnderWay, MayFind, PairFields, later_of, mode_next, most_steps, page_next}
 use Rattle.mlt_pair.specs.Reading.{next_page, next_way, way_after}
 use Rattle.mlt_pair.specs.Steps.{GoesOn, HasFound, TellsOfStep, told_by}
 use Rattle.mlt_pair.specs.Ways.{IsThere, page_of, pages_to_read}
@@ -23,14 +24,6 @@ use Rattle.mlt_pair.proofs.Locks.{holds_after}
 use Rattle.mlt_pair.proofs.Nexts.{KindIs, NextIs, has_next, kind_of_next, next_is, next_there, reads_on}
 use Rattle.mlt_pair.proofs.Readings.{read_after}
 use Rattle.mlt_pair.proofs.Together.{IsFurther, either_way, goes_further, lead_goes_on, more_to_come}
-
--- what is read of a page is what the clean page has, where nothing is written,
-sees_page : (old new : View) (q : ℕ) (mode : Mode) (page : Option Page) → IsUnwritten old → ReadsPage old new q mode page → new.seen q ≡ Some page
-sees_page old new q mode page none reads = reads.here ∙ ap Some (sym (ap (λ own. own_or own reads.first) (none q)) ∙ reads.reads)
-
--- and nothing is written still
-unwritten_still : (old new : View) (q : ℕ) (mode : Mode) (page : Option Page) → IsUnwritten old → ReadsPage old new q mode page → IsUnwritten new
-unwritten_still old new q mode page none reads p = reads.own p ∙ none p
 
 -- a header that a way reads is no deeper than 16 bits
 small_header : (bits : ℕ → ℕ) (clean : ℕ → Option Page) (root : ℕ) (lead : Way) (read : Page) (header : HeadFields) → HasForm bits clean root → clean (next_page root lead) ≡ Some read → KindIs lead read → read ≡ page.Head header → header.depth ≤ 16

@@ -6,15 +6,12 @@ use Rattle.std.specs.FinSet as set
 use Rattle.std.proofs.lemmas.Option.{none-some}
 use Rattle.mlt_types.specs.declared.mode.Mode.{Mode}
 use Rattle.mlt_page.specs.declared.page.Page.{Page}
-use Rattle.mlt_page.specs.declared.page.Page.TheVariants as page
-use Rattle.mlt_page.specs.Values.{BucketFields}
 use Rattle.mlt_page_locks.specs.LockTables.{Modes, can_read, pages_of}
-use Rattle.mlt_hash_form.specs.File.{IsPath, buckets_of, look_up}
-use Rattle.mlt_hash_form.specs.Form.{value_in}
+use Rattle.mlt_hash_form.specs.File.{look_up}
 use Rattle.mlt_hash_form.specs.Held.{Agrees}
-use Rattle.mlt_hash_form.proofs.InPages.{led_at}
 use Rattle.mlt_held.specs.Moments.{Moment}
 use Rattle.mlt_held.specs.Views.{View, view_of}
+use Rattle.mlt_held.proofs.Reading.{read_is_there}
 use Rattle.mlt_held.proofs.Views.{own_free}
 use Rattle.mlt_record.specs.Plans.{WriteFields}
 use Rattle.mlt_pair.specs.Changes.{HasChanged, IsHolding, IsSameView, KeepsNoMore, OwesIf}
@@ -52,16 +49,7 @@ holds_read bits root pair view finding = record { left = finding.left; right = f
 
 -- what was found of a key is on the clean pages
 found_there : (bits : ℕ → ℕ) (root key : ℕ) (view : View) (clean : ℕ → Option Page) (way : Way) → IsThere way → HasRead bits root key view way → Agrees view.seen clean → found_of way ≡ look_up bits clean root key
-found_there bits root key view clean (at.AtBucket dir bucket found) there read agree =
-    let placed = read.placed in
-    let path : IsPath clean root (bits key) placed.header placed.entries bucket read.fields = record {
-      head = agree root (Some (page.Head placed.header)) placed.head;
-      listed = sym (ap clean placed.dir_is) ∙ agree dir (Some (page.Dir placed.entries)) placed.listed;
-      at = sym placed.bucket_is;
-      found = agree bucket (Some (page.Bucket read.fields)) read.at;
-    } in
-    let led = led_at clean root (bits key) placed.header placed.entries bucket read.fields path in
-    sym (ap (λ n. value_in key (buckets_of clean n).slots) led.0 ∙ ap (λ (b : BucketFields). value_in key b.slots) led.1 ∙ sym read.found_is)
+found_there bits root key view clean (at.AtBucket dir bucket found) there read agree = read_is_there bits root key view dir bucket found clean read agree
 found_there bits root key view clean way there read agree = absurd there
 
 -- **What was found of both keys is on the clean pages.**

@@ -4,7 +4,6 @@ pub mod Laws
 pub mod Locks
 pub mod Makes
 pub mod Nexts
-pub mod Paths
 pub mod Readings
 pub mod Records
 pub mod Slots

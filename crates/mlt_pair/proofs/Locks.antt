@@ -8,15 +8,17 @@ use Rattle.mlt_types.specs.declared.mode.Mode.TheVariants.{Exclusive, Shared}
 use Rattle.mlt_page.specs.declared.page.Page.{Page}
 use Rattle.mlt_page.specs.declared.page.Page.TheVariants as page
 use Rattle.mlt_page_locks.specs.Requests.{stronger, with_page}
+use Rattle.mlt_held.specs.Reading.{HasReadPlace}
 use Rattle.mlt_held.specs.Views.{View}
 use Rattle.mlt_held.proofs.Views.{mode_of_others, mode_of_page}
+use Rattle.mlt_held.proofs.Reading.{SeesMore}
 use Rattle.mlt_pair.specs.Pairs.{HoldsWays}
 use Rattle.mlt_pair.specs.Reading.{next_mode, next_page, way_after, way_by}
-use Rattle.mlt_pair.specs.Ways.{HasRead, IsLocked, IsNext, IsPlaced}
+use Rattle.mlt_pair.specs.Ways.{HasRead, IsLocked, IsNext}
 use Rattle.mlt_pair.specs.declared.way.Way.{Way}
 use Rattle.mlt_pair.specs.declared.way.Way.TheVariants as at
 use Rattle.mlt_pair.proofs.Nexts.{KindIs, after_next}
-use Rattle.mlt_pair.proofs.Readings.{SeesMore, read_after}
+use Rattle.mlt_pair.proofs.Readings.{read_after}
 
 -- the mode in which pages of a kind are locked
 abbrev mode_for : Page → Mode
@@ -29,7 +31,7 @@ abbrev SeenIn : View → ℕ → Mode → Type 0
 SeenIn view q mode = (read : Page) × (view.seen q ≡ Some (Some read)) × (mode ≡ mode_for read)
 
 -- each page of a way is
-placed_kind : (bits : ℕ → ℕ) (root key : ℕ) (view : View) (dir bucket q : ℕ) (mode : Mode) → IsPlaced bits root key view dir bucket → IsLocked root (at.Placed dir bucket) q mode → SeenIn view q mode
+placed_kind : (bits : ℕ → ℕ) (root key : ℕ) (view : View) (dir bucket q : ℕ) (mode : Mode) → HasReadPlace bits root key view dir bucket → IsLocked root (at.Placed dir bucket) q mode → SeenIn view q mode
 placed_kind bits root key view dir bucket q mode read locked =
     elim locked.0 [
       | inl here ↦ (page.Head read.header, ap view.seen here ∙ read.head, locked.1)

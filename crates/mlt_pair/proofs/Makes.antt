@@ -1,5 +1,5 @@
 -- What is planned, and what its write makes of a view
-use Rattle.std.proofs.Common.{◌≡◌, ◌≢◌, ◌⊎◌, ℕ, ◌<◌, ◌≤◌, true, Option, None, Some, is_some, cond, refl, sym, ap, subst, ◌∙◌, inl, inr, arith}
+use Rattle.std.proofs.Common.{◌≡◌, ◌≢◌, ◌⊎◌, ℕ, ◌<◌, ◌≤◌, true, Option, None, Some, cond, refl, sym, ap, subst, ◌∙◌, inl, inr, arith}
 use Rattle.std.specs.Prelude.{IsSome, ◌==◌}
 use Rattle.std.specs.Cmp.{nat_cmp_total}
 use Rattle.std.specs.Ordering.{nat_cmp}
@@ -15,10 +15,10 @@ use Rattle.mlt_hash_form.specs.Held.{own_or}
 use Rattle.mlt_held.specs.Moments.{MayStep, Moment}
 use Rattle.mlt_held.specs.PageSteps.{WritesAtMost}
 use Rattle.mlt_held.specs.Views.{ReadsHeldBucket, View, WritesPage, view_of}
-use Rattle.mlt_held.proofs.Views.{image_is_own}
+use Rattle.mlt_held.proofs.Unwritten.{unwritten_image}
 use Rattle.mlt_record.specs.Plans.{WriteFields, planned_page}
 use Rattle.mlt_pair.specs.Changes.{IsFull, IsSameView, MakesAsked, OwesChange, TellsOfTwo, task_in, task_of}
-use Rattle.mlt_pair.specs.Pairs.{IsUnwritten, PairFields, later_of}
+use Rattle.mlt_pair.specs.Pairs.{PairFields, later_of}
 use Rattle.mlt_pair.specs.Plans.{FitsSlots, IsPlanned, bucket_after}
 use Rattle.mlt_page_locks.specs.LockTables.{can_write}
 use Rattle.mlt_pair.specs.Writing.{HasPlan, MayWrite, OwesPlan, TellsOfOne, WritesPlan}
@@ -32,24 +32,12 @@ use Rattle.mlt_pair.specs.declared.plan.Plan.TheVariants as plan
 use Rattle.mlt_pair.proofs.Together.{later_left, later_right}
 use Rattle.mlt_pair.proofs.Slots.{fits_after, plan_number}
 
--- a page that is not written has no first image
-no_image : (m : Moment) (q : ℕ) (image : Option (Option Page)) → image_of m.running.images q ≡ image → MayStep m → (view_of m).own q ≡ None → image ≡ None
-no_image m q None is may none = refl
-no_image m q (Some first) is may none = absurd (false≢true (sym (ap is_some none) ∙ image_is_own m q may (ap is_some is)))
-
--- **The first write of a transaction is not its third,**
-pub first_is_not_third : (m : Moment) → MayStep m → IsUnwritten (view_of m) → 2 ≤ map.len m.running.images → ⊥
-first_is_not_third m may none third =
-    let empty : m.running.images ≡ map.empty = same_entries m.running.images map.empty (λ q. no_image m q (image_of m.running.images q) refl may (none q) ∙ sym (map.get-empty {X = Option Page} nat_cmp q)) in
-    let few : map.len m.running.images ≡ 0 = ap (λ (images : Images). map.len images) empty ∙ map.len-empty nat_cmp (Option Page) in
-    omega (arith, few, third)
-
--- nor is one of which only one page was written before
+-- **The write of a transaction that has written one page alone is not its third.**
 pub second_is_not_third : (m : Moment) (n : ℕ) → MayStep m → ((q : ℕ) → q ≢ n → (view_of m).own q ≡ None) → 2 ≤ map.len m.running.images → ⊥
 second_is_not_third m n may none third =
     let others : (q : ℕ) → map.get (map.remove m.running.images n) q ≡ None = λ q. elim (cases_eq q n) [
       | inl here ↦ get_removed m.running.images n q ∙ cond-true (q == n) None (image_of m.running.images q) (eq-eqb q n here)
-      | inr elsewhere ↦ get_removed m.running.images n q ∙ cond-false (q == n) None (image_of m.running.images q) (ne_eqb q n elsewhere) ∙ no_image m q (image_of m.running.images q) refl may (none q elsewhere)
+      | inr elsewhere ↦ get_removed m.running.images n q ∙ cond-false (q == n) None (image_of m.running.images q) (ne_eqb q n elsewhere) ∙ unwritten_image m q (image_of m.running.images q) refl may (none q elsewhere)
     ] in
     let empty : map.remove m.running.images n ≡ map.empty = same_entries (map.remove m.running.images n) map.empty (λ q. others q ∙ sym (map.get-empty {X = Option Page} nat_cmp q)) in
     let few : map.len (map.remove m.running.images n) ≡ 0 = ap (λ (images : Images). map.len images) empty ∙ map.len-empty nat_cmp (Option Page) in

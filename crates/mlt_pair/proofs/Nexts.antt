@@ -7,13 +7,13 @@ use Rattle.mlt_page.specs.declared.page.Page.{Page}
 use Rattle.mlt_page.specs.declared.page.Page.TheVariants as page
 use Rattle.mlt_hash_form.specs.File.{HasForm, header_of}
 use Rattle.mlt_hash_form.specs.Held.{Agrees}
+use Rattle.mlt_hash_form.proofs.Paths.{one_page, path_from_dir, path_from_header}
 use Rattle.mlt_held.specs.Views.{View}
 use Rattle.mlt_pair.specs.Reading.{next_page, way_after, way_by}
 use Rattle.mlt_pair.specs.Steps.{ReadsOn}
 use Rattle.mlt_pair.specs.Ways.{HasRead, IsNext, pages_to_read}
 use Rattle.mlt_pair.specs.declared.way.Way.{Way}
 use Rattle.mlt_pair.specs.declared.way.Way.TheVariants as at
-use Rattle.mlt_pair.proofs.Paths.{path_from_dir, path_from_header}
 
 -- the clean pages have the next page of the way, and it is of the kind that the way reads
 abbrev pub NextIs : (ℕ → Option Page) → ℕ → Way → Type 0
@@ -52,10 +52,6 @@ next_there clean root at.Start more next = ap is_some next.1
 next_there clean root (at.Headed place dir row) more next = ap is_some next.1
 next_there clean root (at.Placed dir bucket) more next = ap is_some next.1
 next_there clean root (at.AtBucket dir bucket found) more next = let none : ⊥ = omega (arith, more) in absurd none
-
--- what two have of a page is one page
-pub one_page : (found : Option Page) (read page : Page) → found ≡ Some read → found ≡ Some page → read ≡ page
-one_page found read page is_read is = let same : Some read ≡ Some page = sym is_read ∙ is in cc
 
 -- a way reads its next page, and no other
 pub after_next : (bits : ℕ → ℕ) (root key : ℕ) (way : Way) (q : ℕ) (read : Page) → IsNext root way q → way_after bits root key way q read ≡ way_by bits key way read

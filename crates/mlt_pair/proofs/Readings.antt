@@ -1,31 +1,26 @@
 -- What a way has read, as more pages are read
-use Rattle.std.proofs.Common.{◌≡◌, ℕ, Option, Some, slice_index, refl, sym, ap, ◌∙◌}
+use Rattle.std.proofs.Common.{◌≡◌, ℕ, Some, slice_index, refl, sym, ap, ◌∙◌}
 use Rattle.std.specs.Prelude.{◌==◌}
 use Rattle.std.proofs.lemmas.Bool.{cond_both, eqb-true}
 use Rattle.mlt_page.specs.declared.page.Page.{Page}
 use Rattle.mlt_page.specs.declared.page.Page.TheVariants as page
 use Rattle.mlt_held.specs.Views.{View}
+use Rattle.mlt_held.proofs.Reading.{SeesMore, bucket_still, place_still}
 use Rattle.mlt_pair.specs.Reading.{next_page, way_after, way_by}
-use Rattle.mlt_pair.specs.Ways.{HasRead, IsHeaded, IsPlaced}
+use Rattle.mlt_pair.specs.Ways.{HasRead, IsHeaded}
 use Rattle.mlt_pair.specs.declared.way.Way.{Way}
 use Rattle.mlt_pair.specs.declared.way.Way.TheVariants as at
 
--- what a view sees the later one sees
-abbrev pub SeesMore : View → View → Type 0
-SeesMore old new = (q : ℕ) (first : Option Page) → old.seen q ≡ Some first → new.seen q ≡ Some first
-
+-- what the header says stays read as more is seen
 headed_still : (bits : ℕ → ℕ) (root key : ℕ) (old new : View) (place dir row : ℕ) → SeesMore old new → IsHeaded bits root key old place dir row → IsHeaded bits root key new place dir row
 headed_still bits root key old new place dir row more read = record { header = read.header; head = more root (Some (page.Head read.header)) read.head; place_is = read.place_is; dir_is = read.dir_is; row_is = read.row_is }
-
-placed_still : (bits : ℕ → ℕ) (root key : ℕ) (old new : View) (dir bucket : ℕ) → SeesMore old new → IsPlaced bits root key old dir bucket → IsPlaced bits root key new dir bucket
-placed_still bits root key old new dir bucket more read = record { header = read.header; head = more root (Some (page.Head read.header)) read.head; dir_is = read.dir_is; entries = read.entries; listed = more dir (Some (page.Dir read.entries)) read.listed; bucket_is = read.bucket_is }
 
 -- **What a way has read stays so as more is seen.**
 pub read_still : (bits : ℕ → ℕ) (root key : ℕ) (old new : View) (way : Way) → SeesMore old new → HasRead bits root key old way → HasRead bits root key new way
 read_still bits root key old new at.Start more read = tt
 read_still bits root key old new (at.Headed place dir row) more read = headed_still bits root key old new place dir row more read
-read_still bits root key old new (at.Placed dir bucket) more read = placed_still bits root key old new dir bucket more read
-read_still bits root key old new (at.AtBucket dir bucket found) more read = record { placed = placed_still bits root key old new dir bucket more read.placed; fields = read.fields; at = more bucket (Some (page.Bucket read.fields)) read.at; found_is = read.found_is }
+read_still bits root key old new (at.Placed dir bucket) more read = place_still bits root key old new dir bucket more read
+read_still bits root key old new (at.AtBucket dir bucket found) more read = bucket_still bits root key old new dir bucket found more read
 
 module _ (bits : ℕ → ℕ) (root key : ℕ) (old new : View) (more : SeesMore old new) where
   -- a way that reads its next page has read it
@@ -36,9 +31,9 @@ module _ (bits : ℕ → ℕ) (root key : ℕ) (old new : View) (more : SeesMore
   read_by (at.Headed place dir row) (page.Dir entries) sees was = record { header = was.header; head = more root (Some (page.Head was.header)) was.head; dir_is = was.dir_is; entries = entries; listed = sees; bucket_is = ap (slice_index entries) was.row_is }
   read_by (at.Headed place dir row) (page.Head header) sees was = headed_still bits root key old new place dir row more was
   read_by (at.Headed place dir row) (page.Bucket fields) sees was = headed_still bits root key old new place dir row more was
-  read_by (at.Placed dir bucket) (page.Bucket fields) sees was = record { placed = placed_still bits root key old new dir bucket more was; fields = fields; at = sees; found_is = refl }
-  read_by (at.Placed dir bucket) (page.Head header) sees was = placed_still bits root key old new dir bucket more was
-  read_by (at.Placed dir bucket) (page.Dir entries) sees was = placed_still bits root key old new dir bucket more was
+  read_by (at.Placed dir bucket) (page.Bucket fields) sees was = record { placed = place_still bits root key old new dir bucket more was; fields = fields; at = sees; found_is = refl }
+  read_by (at.Placed dir bucket) (page.Head header) sees was = place_still bits root key old new dir bucket more was
+  read_by (at.Placed dir bucket) (page.Dir entries) sees was = place_still bits root key old new dir bucket more was
   read_by (at.AtBucket dir bucket found) read sees was = done read
     where
       done : (read : Page) → HasRead bits root key new (way_by bits key (at.AtBucket dir bucket found) read)

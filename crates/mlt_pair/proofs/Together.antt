@@ -6,8 +6,9 @@ use Rattle.mlt_page.specs.Values.{BucketFields, HeadFields}
 use Rattle.mlt_page.specs.declared.page.Page.{Page}
 use Rattle.mlt_page.specs.declared.page.Page.TheVariants as page
 use Rattle.mlt_pair.specs.Pairs.{GoTogether, later_of, least_steps, most_steps, steps_for}
+use Rattle.mlt_hash_form.specs.File.{dir_of}
 use Rattle.mlt_hash_form.specs.Form.{value_in}
-use Rattle.mlt_pair.specs.Reading.{dir_of, is_before, next_page, next_way, way_after, way_by_header}
+use Rattle.mlt_pair.specs.Reading.{is_before, next_page, next_way, way_after, way_by_header}
 use Rattle.mlt_pair.specs.Steps.{told_by}
 use Rattle.mlt_pair.specs.Ways.{IsThere, page_of, pages_to_read}
 use Rattle.mlt_pair.specs.declared.answer.PairAnswer.TheVariants as answer
@@ -105,7 +106,7 @@ module _ (bits : ℕ → ℕ) (root left_key right_key : ℕ) where
 
   from_start : (header : HeadFields) → Goes at.Start at.Start root (page.Head header)
   from_start header =
-      let few = one_or_two (dir_of bits header left_key) (dir_of bits header right_key) in
+      let few = one_or_two (dir_of header (bits left_key)) (dir_of header (bits right_key)) in
       goes_as at.Start at.Start (way_by_header bits left_key header) (way_by_header bits right_key header) root (page.Head header)
       (after_next bits root left_key at.Start root (page.Head header) refl) (after_next bits root right_key at.Start root (page.Head header) refl)
       (record { together = tt; least = omega (arith, few); most = omega (arith, few); last = λ there other_there. absurd there })

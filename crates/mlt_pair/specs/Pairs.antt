@@ -4,7 +4,7 @@ use Rattle.std.specs.FinMap as map
 use Rattle.mlt_types.specs.declared.mode.Mode.{Mode}
 use Rattle.mlt_hash_form.specs.File.{GivesPseudokeys}
 use Rattle.mlt_held.specs.Moments.{HasCleanFile, MayStep, Moment}
-use Rattle.mlt_held.specs.Views.{View, view_of}
+use Rattle.mlt_held.specs.Views.{IsUnwritten, View, view_of}
 use Rattle.mlt_record.specs.Plans.{WriteFields}
 use Rattle.mlt_pair.specs.Reading.{next_mode, next_page, next_way}
 use Rattle.mlt_pair.specs.Ways.{HasRead, IsLocked, IsThere, page_of}
@@ -91,10 +91,6 @@ mode_next pair = next_mode (next_way pair.left_way pair.right_way)
 -- Which pages are held: exactly those of the two ways, each in its mode.
 abbrev pub HoldsWays : ℕ → Way → Way → View → Type 0
 HoldsWays root left right view = (q : ℕ) (mode : Mode) → (map.get view.modes q ≡ Some mode) ↔ (IsLocked root left q mode ⊎ IsLocked root right q mode)
-
--- nothing is written
-abbrev pub IsUnwritten : View → Type 0
-IsUnwritten view = (q : ℕ) → view.own q ≡ None
 
 -- A pair is on its way, or has found its keys, and has written nothing.
 pub record IsFinding (bits : ℕ → ℕ) (root : ℕ) (pair : PairFields) (view : View) : Type 0 where

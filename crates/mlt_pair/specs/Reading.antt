@@ -1,24 +1,14 @@
 -- What a way reads: its next page, the mode of that page, and where it is once the page is read
-use Rattle.std.specs.Prelude.{ℕ, ◌/◌, ◌%◌, ◌==◌, nat_le, Bool, true, false, if◌then◌else◌, slice_index}
+use Rattle.std.specs.Prelude.{ℕ, ◌==◌, nat_le, Bool, true, false, if◌then◌else◌, slice_index}
 use Rattle.mlt_types.specs.declared.mode.Mode.{Mode}
 use Rattle.mlt_types.specs.declared.mode.Mode.TheVariants.{Exclusive, Shared}
-use Rattle.mlt_page.specs.Bits.{first_bits}
 use Rattle.mlt_page.specs.declared.page.Page.{Page}
 use Rattle.mlt_page.specs.declared.page.Page.TheVariants as page
 use Rattle.mlt_page.specs.Values.{HeadFields}
+use Rattle.mlt_hash_form.specs.File.{dir_of, place_of, row_of}
 use Rattle.mlt_hash_form.specs.Form.{value_in}
 use Rattle.mlt_pair.specs.declared.way.Way.{Way}
 use Rattle.mlt_pair.specs.declared.way.Way.TheVariants as at
-
--- by a header: the place of a key's directory page, that page, and the key's entry there
-abbrev pub place_of : (ℕ → ℕ) → HeadFields → ℕ → ℕ
-place_of bits header key = first_bits header.depth (bits key) / 256
-
-abbrev pub dir_of : (ℕ → ℕ) → HeadFields → ℕ → ℕ
-dir_of bits header key = slice_index header.dirs (place_of bits header key)
-
-abbrev pub row_of : (ℕ → ℕ) → HeadFields → ℕ → ℕ
-row_of bits header key = first_bits header.depth (bits key) % 256
 
 -- the page that a way reads next, and its mode; at its bucket it is done
 abbrev pub next_page : ℕ → Way → ℕ
@@ -49,7 +39,7 @@ is_before (at.AtBucket dir bucket found) other = false
 
 -- where the way of a key is once it has read its next page
 abbrev pub way_by_header : (ℕ → ℕ) → ℕ → HeadFields → Way
-way_by_header bits key header = at.Headed (place_of bits header key) (dir_of bits header key) (row_of bits header key)
+way_by_header bits key header = at.Headed (place_of header (bits key)) (dir_of header (bits key)) (row_of header (bits key))
 
 abbrev pub way_by : (ℕ → ℕ) → ℕ → Way → Page → Way
 way_by bits key at.Start (page.Head header) = way_by_header bits key header

@@ -1,13 +1,13 @@
 -- Where the way of one key stands: what it has read, and which pages it holds. Each fact is about these pages alone, so that
 -- what other transactions do can't touch it.
-use Rattle.std.specs.Prelude.{ℕ, ◌≡◌, ◌⊎◌, List, slice_index, Option, None, Some}
+use Rattle.std.specs.Prelude.{ℕ, ◌≡◌, ◌⊎◌, Option, None, Some}
 use Rattle.mlt_types.specs.declared.mode.Mode.{Mode}
 use Rattle.mlt_types.specs.declared.mode.Mode.TheVariants.{Exclusive, Shared}
 use Rattle.mlt_page.specs.declared.page.Page.TheVariants as page
-use Rattle.mlt_page.specs.Values.{BucketFields, HeadFields}
-use Rattle.mlt_hash_form.specs.Form.{value_in}
+use Rattle.mlt_page.specs.Values.{HeadFields}
+use Rattle.mlt_hash_form.specs.File.{dir_of, place_of, row_of}
+use Rattle.mlt_held.specs.Reading.{HasReadBucket, HasReadPlace}
 use Rattle.mlt_held.specs.Views.{View}
-use Rattle.mlt_pair.specs.Reading.{dir_of, place_of, row_of}
 use Rattle.mlt_pair.specs.declared.way.Way.{Way}
 use Rattle.mlt_pair.specs.declared.way.Way.TheVariants as at
 
@@ -15,32 +15,16 @@ use Rattle.mlt_pair.specs.declared.way.Way.TheVariants as at
 pub record IsHeaded (bits : ℕ → ℕ) (root key : ℕ) (view : View) (place dir row : ℕ) : Type 0 where
   pub header : HeadFields
   pub head : view.seen root ≡ Some (Some (page.Head header))
-  pub place_is : place ≡ place_of bits header key
-  pub dir_is : dir ≡ dir_of bits header key
-  pub row_is : row ≡ row_of bits header key
-
--- so is the directory page of the key's place
-pub record IsPlaced (bits : ℕ → ℕ) (root key : ℕ) (view : View) (dir bucket : ℕ) : Type 0 where
-  pub header : HeadFields
-  pub head : view.seen root ≡ Some (Some (page.Head header))
-  pub dir_is : dir ≡ dir_of bits header key
-  pub entries : List ℕ
-  pub listed : view.seen dir ≡ Some (Some (page.Dir entries))
-  pub bucket_is : bucket ≡ slice_index entries (row_of bits header key)
-
--- so is the bucket that the key leads to, and what it has of the key is known
-pub record IsAtBucket (bits : ℕ → ℕ) (root key : ℕ) (view : View) (dir bucket : ℕ) (found : Option ℕ) : Type 0 where
-  pub placed : IsPlaced bits root key view dir bucket
-  pub fields : BucketFields
-  pub at : view.seen bucket ≡ Some (Some (page.Bucket fields))
-  pub found_is : found ≡ value_in key fields.slots
+  pub place_is : place ≡ place_of header (bits key)
+  pub dir_is : dir ≡ dir_of header (bits key)
+  pub row_is : row ≡ row_of header (bits key)
 
 -- what the way of a key has read, which the clean pages have
 abbrev pub HasRead : (ℕ → ℕ) → ℕ → ℕ → View → Way → Type 0
 HasRead bits root key view at.Start = Unit {0}
 HasRead bits root key view (at.Headed place dir row) = IsHeaded bits root key view place dir row
-HasRead bits root key view (at.Placed dir bucket) = IsPlaced bits root key view dir bucket
-HasRead bits root key view (at.AtBucket dir bucket found) = IsAtBucket bits root key view dir bucket found
+HasRead bits root key view (at.Placed dir bucket) = HasReadPlace bits root key view dir bucket
+HasRead bits root key view (at.AtBucket dir bucket found) = HasReadBucket bits root key view dir bucket found
 
 -- Page q is locked for this way, in this mode: the header and the directory page shared, and the bucket exclusively.
 abbrev pub IsLocked : ℕ → Way → ℕ → Mode → Type 0

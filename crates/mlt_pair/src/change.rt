@@ -4,11 +4,11 @@ ghost use Rattle.std.specs.Prelude.{◌≡◌, ◌≢◌, ◌<◌, ◌⊎◌, �
 ghost use Rattle.mlt_page_locks.specs.LockTables.{can_read, can_write};
 ghost use Rattle.mlt_held.specs.Moments.{MayStep, moment};
 ghost use Rattle.mlt_held.specs.PageSteps.{Leaves, WritesAtMost, WritesHeldSlot};
-ghost use Rattle.mlt_held.specs.Views.{view_of};
+ghost use Rattle.mlt_held.specs.Views.{IsUnwritten, view_of};
 ghost use Rattle.mlt_record.specs.Plans.{WriteFields};
 ghost use Rattle.mlt_pair.specs.Ways.{IsThere, page_of};
 ghost use Rattle.mlt_pair.specs.Changes.{FitsBoth, HoldsOn, MakesOwed, MayWriteEarlier, StandsBehind, TellsOfChanges, TellsOfTwo, task_in, task_of};
-ghost use Rattle.mlt_pair.specs.Pairs.{FileRoot, IsFinding, IsFound, IsUnwritten, later_of, later_page};
+ghost use Rattle.mlt_pair.specs.Pairs.{FileRoot, IsFinding, IsFound, later_of, later_page};
 ghost use Rattle.mlt_pair.specs.Plans.{IsWithin};
 ghost use Rattle.mlt_pair.specs.Writing.{HasPlan, MayPlan, MayWrite, OwesPlan, TellsOfOne, WritesPlan};
 

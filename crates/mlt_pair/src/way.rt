@@ -3,11 +3,10 @@
 ghost use Rattle.std.specs.Prelude.{◌≡◌, ◌<◌, ◌≤◌, ℕ};
 ghost use Rattle.mlt_page.specs.Values.{HeadFields};
 ghost use Rattle.mlt_page.specs.declared.page.Page.TheVariants as page;
-ghost use Rattle.mlt_hash_form.specs.Form.{value_in};
 ghost use Rattle.mlt_pair.specs.Reading.{is_before, next_mode, next_page, way_after, way_by_header};
 
-use mlt_hash_form::{Place, Root};
-use mlt_page::{Bucket, HeadPage, Page, Slot};
+use mlt_hash_form::{Place, Root, value_in};
+use mlt_page::{HeadPage, Page};
 use mlt_types::{Key, Mode, PageNo, Pseudo, Value};
 
 /// How far a key is on its way.
@@ -92,7 +91,7 @@ impl Way {
                 _ => *self,
             },
             Way::Placed(dir, bucket) => match read {
-                Page::Bucket(slots) => Way::AtBucket(dir, bucket, value_in(slots, key)),
+                Page::Bucket(slots) => Way::AtBucket(dir, bucket, value_in(slots, *key)),
                 _ => *self,
             },
             Way::AtBucket(_, _, _) => *self,
@@ -107,15 +106,4 @@ fn way_by_header<P: Pseudo>(header: &HeadPage, key: &Key, root: &Root<P>) -> Way
 {
     let place = Place::of(root.pseudo.bits(key), header.depth);
     Way::Headed(place.dir, header.dir(place.dir), place.entry)
-}
-
-// The value of a key's record in its bucket, if it has one.
-fn value_in(bucket: &Bucket, key: &Key) -> Option<Value>
-    ensures { result ≡ value_in key.now bucket.now.slots }
-{
-    let at = bucket.find_live(*key)?;
-    match bucket.slots[at] {
-        Slot::Live(_, value) => Some(value),
-        _ => unreachable!(),
-    }
 }

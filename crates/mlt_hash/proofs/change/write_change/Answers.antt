@@ -3,7 +3,7 @@ use Rattle.mlt_page.specs.Pages.{page_with_slot}
 use Rattle.mlt_held.specs.Moments.{Moment, moment}
 use Rattle.mlt_held.specs.PageSteps.{WritesHeldSlot}
 use Rattle.mlt_record.specs.Plans.{WriteFields}
-use Rattle.mlt_hash.proofs.InPlace.{first_write_is_not_third}
+use Rattle.mlt_held.proofs.Unwritten.{first_write_is_not_third}
 use Rattle.mlt_hash.proofs.change.write_change.Goals as goal
 
 pub unreachable-requires : goal.unreachable-requires

@@ -4,9 +4,11 @@ use Rattle.mlt_page.specs.declared.page.Page.TheVariants as page
 use Rattle.mlt_held.specs.Moments.{HasCleanFile, Moment, moment}
 use Rattle.mlt_held.specs.Views.{view_of}
 use Rattle.mlt_held.proofs.Views.{reads_after_lock, reads_seen}
-use Rattle.mlt_hash.specs.Walks.{IsPlaced, dir_of}
+use Rattle.mlt_hash_form.specs.File.{dir_of}
+use Rattle.mlt_hash.specs.Walks.{IsPlaced}
 use Rattle.mlt_hash.specs.declared.pass.Phase.TheVariants as at
-use Rattle.mlt_hash.proofs.Paths.{bucket_there, one_page}
+use Rattle.mlt_hash_form.proofs.Paths.{one_page}
+use Rattle.mlt_hash.proofs.Paths.{bucket_there}
 use Rattle.mlt_hash.proofs.Readings.{few_held, two_held, reads_clean}
 use Rattle.mlt_hash.proofs.Standing.{stands_at}
 use Rattle.mlt_hash.proofs.path.read_bucket.Given.{Over}
@@ -26,7 +28,7 @@ bounded : (g : Over) (c : Start g) (key : ℕ) → g.basis.bits key < 2 ^ 64
 bounded g c key = c.requires.1.1.1.1.1.bounded key
 
 pub lock-requires-clause-few : goal.lock-requires-clause-few
-lock-requires-clause-few g c = let s = (goal.at.lock-requires-clause-few g c).Start in few_held (before g s) 2 (two_held _ c.args.walk.now.pass g.basis.root (dir_of g.basis (stands g s).header c.args.walk.now.key) (stands g s).held) (omega arith)
+lock-requires-clause-few g c = let s = (goal.at.lock-requires-clause-few g c).Start in few_held (before g s) 2 (two_held _ c.args.walk.now.pass g.basis.root (dir_of (stands g s).header (g.basis.bits c.args.walk.now.key)) (stands g s).held) (omega arith)
 
 -- the bucket is there
 bucket : (g : Over) (s : Start g) → (bucket : BucketFields) × ((file g s).clean s.args.number ≡ Some (page.Bucket bucket))

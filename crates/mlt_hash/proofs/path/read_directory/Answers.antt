@@ -5,7 +5,8 @@ use Rattle.mlt_held.specs.Views.{view_of}
 use Rattle.mlt_held.proofs.Views.{reads_after_lock, reads_seen}
 use Rattle.mlt_hash.specs.Walks.{IsHeaded}
 use Rattle.mlt_hash.specs.declared.pass.Phase.TheVariants as at
-use Rattle.mlt_hash.proofs.Paths.{dir_there, one_page}
+use Rattle.mlt_hash_form.proofs.Paths.{one_page}
+use Rattle.mlt_hash.proofs.Paths.{dir_there}
 use Rattle.mlt_hash.proofs.Readings.{few_held, one_held, reads_clean}
 use Rattle.mlt_hash.proofs.Standing.{stands_at}
 use Rattle.mlt_hash.proofs.path.read_directory.Given.{Over}

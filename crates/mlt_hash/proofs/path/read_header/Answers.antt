@@ -9,7 +9,8 @@ use Rattle.mlt_held.proofs.Views.{reads_after_lock, reads_seen}
 use Rattle.mlt_hash.specs.Passes.{header_mode}
 use Rattle.mlt_hash.specs.Walks.{IsAtStart, WalkFields}
 use Rattle.mlt_hash.specs.declared.pass.Phase.TheVariants as at
-use Rattle.mlt_hash.proofs.Paths.{head_there, headed, header_there, one_page}
+use Rattle.mlt_hash_form.proofs.Paths.{one_page}
+use Rattle.mlt_hash.proofs.Paths.{head_there, headed, header_there}
 use Rattle.mlt_hash.proofs.Readings.{few_held, is_there, none_held, reads_clean}
 use Rattle.mlt_hash.proofs.Standing.{stands_at}
 use Rattle.mlt_hash.proofs.path.read_header.Given.{Over}

@@ -6,7 +6,8 @@ use Rattle.mlt_held.specs.Views.{ReadsHeldBucket, ReadsHeldPage, WritesPage, vie
 use Rattle.mlt_held.proofs.Leaving.{leaves_it}
 use Rattle.mlt_pair.specs.Plans.{FitsSlots, IsPlanned, bucket_after}
 use Rattle.mlt_pair.specs.declared.plan.Plan.TheVariants as plan
-use Rattle.mlt_pair.proofs.Makes.{first_is_not_third, fits_between, one_changed, one_full, one_reading}
+use Rattle.mlt_held.proofs.Unwritten.{first_write_is_not_third}
+use Rattle.mlt_pair.proofs.Makes.{fits_between, one_changed, one_full, one_reading}
 use Rattle.mlt_pair.proofs.change.change_one_bucket.Goals.{In_default-left_plan, In-Full-right_plan}
 use Rattle.mlt_pair.proofs.change.change_one_bucket.Goals as goal
 
@@ -46,7 +47,7 @@ returns-in-Full-right_plan c =
     }
 
 pub unreachable-requires-in-Err : goal.unreachable-requires-in-Err
-unreachable-requires-in-Err c = first_is_not_third (moment c.args.subtx.now c.args.pages.now) c.requires.may c.requires.unwritten c.in-Err.ensures.third.0
+unreachable-requires-in-Err c = first_write_is_not_third (moment c.args.subtx.now c.args.pages.now) c.requires.may c.requires.unwritten c.in-Err.ensures.third.0
 
 pub returns : goal.returns
 returns c =

@@ -8,7 +8,7 @@ use Rattle.mlt_held.proofs.Leaving.{leaves_it}
 use Rattle.mlt_record.specs.Plans.{WriteFields}
 use Rattle.mlt_pair.specs.Writing.{MayWrite, WritesPlan}
 use Rattle.mlt_pair.specs.declared.plan.Plan.TheVariants as plan
-use Rattle.mlt_pair.proofs.Makes.{first_is_not_third}
+use Rattle.mlt_held.proofs.Unwritten.{first_write_is_not_third}
 use Rattle.mlt_pair.proofs.change.write_plan.Goals as goal
 
 pub write_slot-requires-clause-held : goal.write_slot-requires-clause-held
@@ -22,7 +22,7 @@ write_slot-requires-clause-bucket c =
     subst (λ (w : WriteFields). (bucket : BucketFields) × ReadsHeldBucket (view_of (moment c.args.subtx.now c.args.pages.now)) w.number bucket) (sym c.write.view_is) may.1
 
 pub unreachable-requires : goal.unreachable-requires
-unreachable-requires c = first_is_not_third (moment c.args.subtx.now c.args.pages.now) c.requires.may c.requires.unwritten c.in-Err.ensures.third.0
+unreachable-requires c = first_write_is_not_third (moment c.args.subtx.now c.args.pages.now) c.requires.may c.requires.unwritten c.in-Err.ensures.third.0
 
 pub returns-in-Ok-clause-writes : goal.returns-in-Ok-clause-writes
 returns-in-Ok-clause-writes c =

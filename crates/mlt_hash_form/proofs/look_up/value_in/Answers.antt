@@ -2,8 +2,8 @@ use Rattle.std.proofs.Common.{sym, ap, ◌∙◌}
 use Rattle.std.specs.List.{position}
 use Rattle.mlt_page.specs.Slots.{is_live_of}
 use Rattle.mlt_page.specs.Values.{BucketFields}
-use Rattle.mlt_hash.proofs.Slots.{finds_record}
-use Rattle.mlt_hash.proofs.path.value_in.Goals as goal
+use Rattle.mlt_hash_form.proofs.Slots.{finds_record}
+use Rattle.mlt_hash_form.proofs.look_up.value_in.Goals as goal
 
 pub unreachable-requires : goal.unreachable-requires
 unreachable-requires c =
