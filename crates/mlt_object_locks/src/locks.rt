@@ -2,10 +2,10 @@
 
 ghost use Rattle.std.specs.Prelude.{◌≡◌, ◌<◌, ◌^◌, ℕ, [], ◌∷◌, ◌++◌, Some, None, OnOk, OnErr, IfErr};
 ghost use Rattle.std.specs.List.{filter};
+ghost use Rattle.std.specs.Option.{option_map};
 ghost use Rattle.mlt_kinds.specs.Operations.{cell_of};
 ghost use Rattle.mlt_types.specs.Cells.{IsInRange, key_number};
 ghost use Rattle.mlt_types.specs.declared.cell.Cell.{Cell};
-ghost use Rattle.mlt_object_locks.specs.Cells.{reserved_key};
 ghost use Rattle.mlt_object_locks.specs.Locks.{no_locks, HoldsClash, IsLowestClash, is_of_other, reservation_of, SameReservations};
 
 use crate::cells::{
@@ -68,14 +68,13 @@ impl ObjectLocks {
         ensures refusal { IfErr result (λ refusal. refusal ≡ Refusal.OutOfMemory) }
     {
         let key = number_of(cell);
-        let earlier = reserved_key(&self.reserved, tx);
         self.reserved.reserve(1)?;
         make_room(&mut self.noted, tx)?;
         join(&mut self.cells, key, tx)?;
-        give_up_earlier(&mut self.cells, earlier, key, tx);
-        let Ok(_) = self.reserved.insert(tx, *cell) else {
+        let Ok(earlier) = self.reserved.insert(tx, *cell) else {
             unreachable!();
         };
+        give_up_earlier(&mut self.cells, key_if_any(earlier), key, tx);
         Ok(())
     }
 
@@ -111,20 +110,21 @@ impl ObjectLocks {
         ensures released { reservation_of self.new.reserved tx ≡ None }
         ensures others { SameReservations self.old.reserved self.new.reserved tx }
     {
-        let key = reserved_key(&self.reserved, tx);
-        self.reserved.swap_remove(&tx);
-        release_reserved(&mut self.cells, key, tx);
+        let cell = self.reserved.swap_remove(&tx);
+        release_reserved(&mut self.cells, key_if_any(cell), tx);
         release_noted(&mut self.cells, &mut self.noted, tx);
         self.held = self.held.without(&tx);
     }
 }
 
-// The number of the key of the cell that the transaction reserved.
-fn reserved_key(reserved: &IndexMap<TxId, Cell>, tx: TxId) -> Option<u64>
-    ensures { result ≡ reserved_key reserved.now.entries tx }
+// The number of the key of a cell, if there is one.
+fn key_if_any(cell: Option<Cell>) -> Option<u64>
+    ensures { result ≡ option_map key_number cell }
 {
-    let cell = reserved.get(&tx)?;
-    Some(number_of(cell))
+    match cell {
+        Some(cell) => Some(number_of(&cell)),
+        None => None,
+    }
 }
 
 // The number of a cell's key, which no other cell has.

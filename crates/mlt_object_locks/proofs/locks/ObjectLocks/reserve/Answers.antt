@@ -1,4 +1,5 @@
 use Rattle.std.proofs.Common.{◌≡◌, ◌<◌, refl, sym, ap, subst, ◌∙◌}
+use Rattle.std.specs.Option.{option_map}
 use Rattle.mlt_types.specs.Cells.{key_number}
 use Rattle.mlt_object_locks.specs.Locks.{Locks, reservation_of, SameReservations}
 use Rattle.mlt_object_locks.specs.Holders.{Joins}
@@ -38,8 +39,11 @@ invariant_of-self-2 c =
     let kept = keeps_noted s.noted more c.args.tx c.make_room.ensures.others c.make_room.ensures.keys (λ had. c.in_ok-make_room.ensures.room) in
     let changes = subst (ChangesAt s.cells mid) key c.join.ensures.others in
     let joins = subst (λ k. Joins (list_at s.cells k) (list_at mid k) c.args.tx) key c.in_ok-join.ensures.joins in
+    let kept_at = ap (λ entries. reservation_of entries c.args.tx) c.reserve.ensures.entries in
+    let earlier = c.key_if_any.ensures ∙ ap (option_map key_number) (c.in-Ok.ensures.old
+    ∙ sym (reservation_found c.reserve.new.self.entries c.args.tx) ∙ kept_at) in
     let gives = subst (λ k. GivesUp mid now (reserved_key s.reserved.entries c.args.tx) k c.args.tx) key
-    (subst (λ earlier. GivesUp mid now earlier c.number_of-key.result c.args.tx) c.reserved_key-earlier.ensures c.give_up_earlier.ensures) in
+    (subst (λ earlier. GivesUp mid now earlier c.number_of-key.result c.args.tx) earlier c.give_up_earlier.ensures) in
     let own = reservation_found after c.args.tx ∙ c.in-Ok.ensures.updates.1 in
     let others : SameReservations s.reserved.entries after c.args.tx = λ other ne.
     reservation_found after other ∙ c.in-Ok.ensures.updates.2 other (differ c.args.tx other ne)
