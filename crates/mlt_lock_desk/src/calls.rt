@@ -5,7 +5,7 @@ ghost use Rattle.mlt_lock_desk.specs.Holds.{IsToldTo, MayAnswerOperation};
 
 use crate::gate::Gate;
 use crate::lock_desk::{LockDesk, Tries};
-use crate::shared::Shared;
+use crate::shared::{Errand, Shared};
 use crate::turn::{Sleeper, Turn, is_to_wait};
 use mlt_cursor::Answering;
 use mlt_desk::Desk;
@@ -32,7 +32,7 @@ impl<'a, P: Pseudo, L: Ledger, R: Wait + Clock, G: Gate> LockDesk<'a, P, L, R, G
         requires part { share.parts ≡ 1 }
         requires amount { share.amount ≡ 0 }
     {
-        let bell = shared.lock(rt, false).desks.enter();
+        let bell = shared.lock(rt, Errand::Other).desks.enter();
         LockDesk {
             rt,
             shared,
@@ -72,7 +72,7 @@ impl<'a, P: Pseudo, L: Ledger, R: Wait + Clock, G: Gate> LockDesk<'a, P, L, R, G
             events,
         } = self;
         let mut bells = Bells::new();
-        shared.lock(rt, false).desks.leave(bell, &mut bells);
+        shared.lock(rt, Errand::Other).desks.leave(bell, &mut bells);
         shared.ring(&bells);
         (share, events)
     }
@@ -93,8 +93,7 @@ impl<'a, P: Pseudo, L: Ledger, R: Wait + Clock, G: Gate> LockDesk<'a, P, L, R, G
             ..
         } = self;
         let mut bells = Bells::new();
-        let is_to_begin = matches!(event, Event::Begin);
-        let mut hall = shared.enter(*rt, is_to_begin, *asleep, caller(&event, *bell));
+        let mut hall = shared.enter(*rt, errand_of(&event), *asleep, caller(&event, *bell));
         let next = sleeper;
         let (told, turn) = hall.act(event, share, next, &mut bells);
         drop(hall);
@@ -241,6 +240,14 @@ impl<'a, P: Pseudo, L: Ledger, R: Wait + Clock, G: Gate> Desk for LockDesk<'a, P
             self.waited = 0;
             self.undo(tx);
         }
+    }
+}
+
+// What a desk wants the hall for that is to make this event.
+fn errand_of(event: &Event) -> Errand {
+    match event {
+        Event::Begin => Errand::Begin,
+        _ => Errand::Other,
     }
 }
 

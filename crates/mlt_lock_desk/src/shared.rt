@@ -40,6 +40,15 @@ pub enum Patience {
     Long,
 }
 
+/// What a thread wants the hall for.
+#[derive(Clone, Copy, Debug, PartialEq, Eq)]
+pub(crate) enum Errand {
+    /// To begin a transaction, for which nobody waits yet.
+    Begin,
+    /// Anything else.
+    Other,
+}
+
 /// A lock over the manager, and the bells that wake desks.
 pub struct Shared<P: Pseudo, L: Ledger> {
     patience: Patience,
@@ -68,9 +77,9 @@ impl<P: Pseudo, L: Ledger> Shared<P, L> {
     pub(crate) fn lock<R: Wait + Clock>(
         &self,
         rt: &R,
-        is_to_begin: bool,
+        errand: Errand,
     ) -> MutexGuard<'_, Hall<P, L>> {
-        let looks = looks_before_queue(self.patience, is_to_begin);
+        let looks = looks_before_queue(self.patience, errand);
         if let Some(hall) = self.look(rt, looks, Patience::Brief) {
             return hall;
         }
@@ -102,11 +111,11 @@ impl<P: Pseudo, L: Ledger> Shared<P, L> {
     pub(crate) fn enter<R: Wait + Clock>(
         &self,
         rt: &R,
-        is_to_begin: bool,
+        errand: Errand,
         asleep: Option<Sleeper>,
         caller: Option<Sleeper>,
     ) -> MutexGuard<'_, Hall<P, L>> {
-        let mut hall = self.lock(rt, is_to_begin);
+        let mut hall = self.lock(rt, errand);
         if let Some(sleeper) = asleep {
             hall = self.sleep(rt, hall, sleeper);
         }
@@ -172,11 +181,11 @@ impl<P: Pseudo, L: Ledger> Shared<P, L> {
     }
 }
 
-fn looks_before_queue(patience: Patience, is_to_begin: bool) -> u32 {
-    match (patience, is_to_begin) {
+fn looks_before_queue(patience: Patience, errand: Errand) -> u32 {
+    match (patience, errand) {
         (Patience::Brief, _) => LOOKS_OF_BRIEF,
-        (Patience::Long, true) => LOOKS_TO_BEGIN,
-        (Patience::Long, false) => LOOKS_OF_BEGUN,
+        (Patience::Long, Errand::Begin) => LOOKS_TO_BEGIN,
+        (Patience::Long, Errand::Other) => LOOKS_OF_BEGUN,
     }
 }
 
