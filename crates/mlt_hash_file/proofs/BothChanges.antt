@@ -1,5 +1,5 @@
 -- The changes of a pair that runs alone: what is in the store then, and why there is no room
-use Rattle.std.proofs.Common.{◌≡◌, ◌≢◌, ◌⊎◌, ℕ, ◌<◌, ◌≤◌, ◌^◌, true, false, Bool, Option, None, Some, IsSome, refl, sym, ap, subst, ◌∙◌, inl, inr, arith, slice_index_or}
+use Rattle.std.proofs.Common.{◌≡◌, ◌≢◌, ◌⊎◌, ℕ, ◌<◌, ◌≤◌, ◌^◌, true, false, Bool, Option, None, Some, refl, sym, ap, subst, ◌∙◌, inl, inr, arith, slice_index_or}
 use Rattle.std.specs.List.{list_all}
 use Rattle.std.specs.FinSet as set
 use Rattle.std.specs.FinMap as map
@@ -31,7 +31,7 @@ use Rattle.mlt_pair.proofs.Slots.{plan_number}
 use Rattle.mlt_pair.proofs.Together.{later_left, later_right}
 use Rattle.mlt_hash_file.specs.AloneWalks.{IsFullFor, IsHashFile}
 use Rattle.mlt_hash_file.specs.SplitPages.{bucket_for}
-use Rattle.mlt_hash_file.specs.TwoKeys.{ChangesTwo, DoesAsked, FitsValues, HasNoRoomFor, two_keys, value_then}
+use Rattle.mlt_hash_file.specs.TwoKeys.{AsksToAdd, ChangesTwo, DoesAsked, FitsValues, HasNoRoomFor, two_keys, value_then}
 use Rattle.mlt_hash_file.proofs.AloneChanges.{not_the_header}
 use Rattle.mlt_hash_file.proofs.BothRecords.{DoesOne, IsBetween, does_one, side_leads}
 
@@ -49,8 +49,11 @@ no_plan_is_full (change.Insert value) opens tx key bucket none =
 no_plan_is_full (change.Update value) opens tx key bucket none = absurd none
 no_plan_is_full change.Remove opens tx key bucket none = absurd none
 
-asked_some : (asked : Option RecordChange) (one : RecordChange) → asked ≡ Some one → IsSome asked
-asked_some asked one is = subst IsSome (sym is) refl
+-- only an insertion finds no plan
+asks_to_add : (asked : Option RecordChange) (one : RecordChange) (opens : set.FinSet nat_cmp) (tx key : ℕ) (bucket : BucketFields) → asked ≡ Some one → HasNoPlan one opens tx key bucket → AsksToAdd asked
+asks_to_add asked (change.Insert value) opens tx key bucket is none = (value, is)
+asks_to_add asked (change.Update value) opens tx key bucket is none = absurd none
+asks_to_add asked change.Remove opens tx key bucket is none = absurd none
 
 fits_by : (asked : Option RecordChange) (value value' : Option ℕ) → value ≡ value' → FitsFound asked value → FitsFound asked value'
 fits_by asked value value' same fits = subst (FitsFound asked) same fits
@@ -126,13 +129,13 @@ module _ (bits : ℕ → ℕ) (root max_depth tx : ℕ) (pair : PairFields) (cha
 
   -- **Why there is no room for the left key's record,**
   pub full_left : (opens : set.FinSet nat_cmp) → opens ≡ set.empty → IsFull changes.left opens tx pair.left (page_of pair.left_way) old → HasNoRoomFor side.Left bits clean root (two_keys pair.left pair.right changes)
-  full_left opens none full = (asked_some changes.left full.change full.asked_is, subst (λ (pages : FilePages). IsFullFor bits pages root pair.left) unwritten (full_for changes.left opens pair.left (page_of pair.left_way) old none left_is before full))
+  full_left opens none full = (asks_to_add changes.left full.change opens tx pair.left full.bucket full.asked_is full.none, subst (λ (pages : FilePages). IsFullFor bits pages root pair.left) unwritten (full_for changes.left opens pair.left (page_of pair.left_way) old none left_is before full))
 
   -- **and for the right one's.**
   pub full_right : (opens : set.FinSet nat_cmp) → opens ≡ set.empty → IsFullBehind (task_of opens pair (page_of pair.left_way) (page_of pair.right_way) changes) tx old → HasNoRoomFor side.Right bits clean root (two_keys pair.left pair.right changes)
   full_right opens none behind =
       let one = does_one bits root opens tx pair clean file.bounded found changes.left pair.left (page_of pair.left_way) old behind.mid left_is before (fits_by changes.left _ _ (sym (value_before pair.left)) fits.0) behind.left in (
-        asked_some changes.right behind.right.change behind.right.asked_is,
+        asks_to_add changes.right behind.right.change opens tx pair.right behind.right.bucket behind.right.asked_is behind.right.none,
         over clean behind.mid.own,
         subst (λ (pages : FilePages). DoesAsked changes.left bits pages (over clean behind.mid.own) root pair.left) unwritten one.1.does,
         full_for changes.right opens pair.right (page_of pair.right_way) behind.mid none right_is one.0 behind.right,

@@ -20,6 +20,7 @@ use Rattle.mlt_pair.specs.declared.answer.Side.{Side}
 use Rattle.mlt_pair.specs.declared.answer.Side.TheVariants as side
 use Rattle.mlt_pair.specs.declared.asked.Changes.{Changes}
 use Rattle.mlt_pair.specs.declared.asked.RecordChange.{RecordChange}
+use Rattle.mlt_pair.specs.declared.asked.RecordChange.TheVariants as change
 use Rattle.mlt_hash.specs.Walks.{Basis}
 use Rattle.mlt_hash_file.specs.Alone.{pages_before}
 use Rattle.mlt_hash_file.specs.AloneWalks.{IsFullFor, IsHashFile}
@@ -71,11 +72,15 @@ DoesAsked None bits pages pages' root key = pages' ≡ pages
 DoesAsked (Some change) bits pages pages' root key = (n i : ℕ) × (slot : Slot)
     × ChangesRecord bits pages pages' root (slot_change key (value_after change) n i slot)
 
--- Why there is no room for a key's record. The left key's bucket is full; or the right one's is, with what is asked of the left
--- one done.
+-- a record is to be added
+abbrev pub AsksToAdd : Option RecordChange → Type 0
+AsksToAdd asked = (value : ℕ) × (asked ≡ Some (change.Insert value))
+
+-- Why there is no room for a record that is to be added. The left key's bucket is full; or the right one's is, with what is asked
+-- of the left one done.
 abbrev pub HasNoRoomFor : Side → (ℕ → ℕ) → FilePages → ℕ → TwoKeys → Type 0
-HasNoRoomFor side.Left bits pages root two = IsSome two.changes.left × IsFullFor bits pages root two.left
-HasNoRoomFor side.Right bits pages root two = IsSome two.changes.right
+HasNoRoomFor side.Left bits pages root two = AsksToAdd two.changes.left × IsFullFor bits pages root two.left
+HasNoRoomFor side.Right bits pages root two = AsksToAdd two.changes.right
     × (between : FilePages) × DoesAsked two.changes.left bits pages between root two.left
     × IsFullFor bits between root two.right
 
