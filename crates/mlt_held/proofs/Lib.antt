@@ -4,5 +4,6 @@ pub mod OwnSteps
 pub mod Reading
 pub mod Rebased
 pub mod Results
+pub mod Since
 pub mod Unwritten
 pub mod Views

@@ -40,7 +40,7 @@ seen_more : (w : Option Page) (old new : Option (Option Page)) (first : Option P
 seen_more None old new first more sees = more sees
 seen_more (Some page) old new first more sees = sees
 
-written_over : (w own first : Option Page) → (is_some w ≡ true → is_some own ≡ true) → own_or own (own_or w first) ≡ own_or own first
+pub written_over : (w own first : Option Page) → (is_some w ≡ true → is_some own ≡ true) → own_or own (own_or w first) ≡ own_or own first
 written_over None own first written = refl
 written_over (Some page) None first written = absurd (false≢true (written refl))
 written_over (Some page) (Some own) first written = refl

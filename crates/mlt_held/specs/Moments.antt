@@ -1,5 +1,5 @@
 -- What one step of a walk works on, and what a transaction may rely on between its steps
-use Rattle.std.specs.Prelude.{ℕ, ◌≡◌, ◌≢◌, ◌<◌, true, false, is_some, Option}
+use Rattle.std.specs.Prelude.{ℕ, ◌≡◌, ◌≢◌, ◌<◌, true, false, is_some, Option, None}
 use Rattle.mlt_types.specs.declared.mode.Mode.{Mode}
 use Rattle.mlt_page.specs.declared.page.Page.{Page}
 use Rattle.mlt_store.specs.Stores.{Pages, PageStore, page_at}
@@ -7,7 +7,8 @@ use Rattle.mlt_page_locks.specs.LockTables.{AreCompatible, HasRoom, LockTable, c
 use Rattle.mlt_page_locks.specs.Requests.{granted}
 use Rattle.mlt_subtx.specs.Images.{AreThere, Images, Running, image_of, or_image}
 use Rattle.mlt_subtx.specs.Locking.{LocksPagesThere}
-use Rattle.mlt_hash_form.specs.File.{HasForm}
+use Rattle.mlt_hash_form.specs.File.{FilePages, HasForm}
+use Rattle.mlt_hash_form.specs.Held.{over}
 use Rattle.mlt_held.specs.declared.locked_store.LockedStore.{LockedStore}
 
 -- a running subtransaction, the page locks of all transactions, and the store
@@ -30,11 +31,19 @@ pub record IsCleanFor (m : Moment) (clean : ℕ → Option Page) : Type 0 where
   pub seen : (q : ℕ) → ((u : ℕ) → u ≢ m.running.tx → can_write m.locks u q ≡ false) → clean q ≡ page_before m.running.images m.store.pages q
   pub there : (q : ℕ) → is_some (clean q) ≡ true → is_some (page_at m.store.pages q) ≡ true
 
--- there are clean pages, and they are a hash file
-pub record HasCleanFile (bits : ℕ → ℕ) (root : ℕ) (m : Moment) : Type 0 where
+-- no page is written
+abbrev pub no_writes : FilePages
+no_writes q = None
+
+-- there are clean pages, and with these writes over them they are a hash file
+pub record HasFileOver (bits : ℕ → ℕ) (root : ℕ) (before : FilePages) (m : Moment) : Type 0 where
   pub clean : ℕ → Option Page
   pub is_clean : IsCleanFor m clean
-  pub form : HasForm bits clean root
+  pub form : HasForm bits (over clean before) root
+
+-- the clean pages themselves are one
+abbrev pub HasCleanFile : (ℕ → ℕ) → ℕ → Moment → Type 0
+HasCleanFile bits root m = HasFileOver bits root no_writes m
 
 -- What a step of a transaction may rely on, and what each step leaves so: locks go with each other and are of pages
 -- that are there; what the transaction wrote it holds exclusively; and there is room for a lock more, as long as it

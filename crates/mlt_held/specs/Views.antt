@@ -96,6 +96,14 @@ seen_with (Some page) seen = Some (Some page)
 abbrev pub rebased : FilePages → View → View
 rebased before view = record view { seen = λ q. seen_with (before q) (view.seen q) }
 
+-- the view of the transaction that runs, with these writes taken as seen
+abbrev pub view_over : FilePages → Moment → View
+view_over before m = rebased before (view_of m)
+
+-- nothing is written but these writes
+abbrev pub IsUnwrittenSince : FilePages → View → Type 0
+IsUnwrittenSince before view = (q : ℕ) → view.own q ≡ before q
+
 -- each page that was written before is held, and written
 abbrev pub HasWritten : FilePages → View → Type 0
 HasWritten before view =

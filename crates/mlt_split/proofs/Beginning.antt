@@ -10,7 +10,7 @@ use Rattle.mlt_hash_form.specs.File.{HasForm, Writes, bucket_of, buckets_of, dep
 use Rattle.mlt_hash_form.specs.Form.{half_of}
 use Rattle.mlt_hash_form.specs.Held.{Agrees, over, own_or}
 use Rattle.mlt_hash_form.proofs.HeldPages.{keeps_more}
-use Rattle.mlt_held.specs.Views.{MakesPage, View, view_of}
+use Rattle.mlt_held.specs.Views.{MakesPage, View, view_over}
 use Rattle.mlt_held.specs.Moments.{Moment}
 use Rattle.mlt_held.specs.PageSteps.{MakesLockedPage}
 use Rattle.mlt_split.specs.Rests.{Aim, HoldsAmong, IsAtRest, held_page, most_held, seed_of}
@@ -42,11 +42,11 @@ module _ (aim : Aim) (view : View) (n : ℕ) (header : HeadFields) (bucket : Buc
       subst (λ (p : Option Page). bucket.depth ≤ (header_of p).depth) (rest_head w.clean w.agrees) (subst (λ (p : Option Page). (bucket_of p).depth ≤ depth_of (over w.clean view.own) aim.root) (rest_bucket w.clean w.agrees) at)
 
 -- a walk at rest holds fewer than 300 pages
-pub few_at_rest : (aim : Aim) (m : Moment) (n : ℕ) (header : HeadFields) (bucket : BucketFields) → HasClean aim (view_of m) → IsAtRest aim (view_of m) n header bucket → page_count m.locks m.running.tx < 300
+pub few_at_rest : (aim : Aim) (m : Moment) (n : ℕ) (header : HeadFields) (bucket : BucketFields) → HasClean aim (view_over aim.before m) → IsAtRest aim (view_over aim.before m) n header bucket → page_count m.locks m.running.tx < 300
 few_at_rest aim m n header bucket w rest =
-    let small = rest_is_small aim (view_of m) n header bucket rest w in
-    let shallow = rest_is_shallow aim (view_of m) n header bucket rest w in
-    count_is_few m header.dirs header.dirs 0 (2 ^ (header.depth - 8)) 0 (most_held aim.held_before bucket.depth header.depth) rest.among (most_is_small aim.held_before bucket.depth header.depth rest.few_before (omega arith) small)
+    let small = rest_is_small aim (view_over aim.before m) n header bucket rest w in
+    let shallow = rest_is_shallow aim (view_over aim.before m) n header bucket rest w in
+    count_is_few aim.before m header.dirs header.dirs 0 (2 ^ (header.depth - 8)) 0 (most_held aim.held_before bucket.depth header.depth) rest.among (most_is_small aim.held_before bucket.depth header.depth rest.few_before (omega arith) small)
 
 one_more_held : (before l g : ℕ) → most_held before l g + 1 ≡ most_held before (l + 1) g
 one_more_held before l g = omega arith
@@ -130,11 +130,11 @@ begun aim old new n q seed header bucket zeros ones second begin head found seed
 
 -- the halves that are made are those of the bucket that was found
 pub halves_made : (aim : Aim) (old new : Moment) (n : ℕ) (read seen ones : BucketFields) (split : SplitFields)
-    → held_page (view_of old) n ≡ Some (page.Bucket read) → held_page (view_of old) n ≡ Some (page.Bucket seen)
+    → held_page (view_over aim.before old) n ≡ Some (page.Bucket read) → held_page (view_over aim.before old) n ≡ Some (page.Bucket seen)
     → split.zeros ≡ half_of aim.bits aim.opens read 0 → ones ≡ half_of aim.bits aim.opens read 1
     → MakesLockedPage old new split.new_page (page.Bucket ones) → HasHalves aim new.store.pages seen split
 halves_made aim old new n read seen ones split found at zeros_is ones_is makes =
-    let same : read ≡ seen = same_bucket (view_of old) n read seen found at in
+    let same : read ≡ seen = same_bucket (view_over aim.before old) n read seen found at in
     let pages : new.store.pages ≡ map.insert old.store.pages split.new_page (page.Bucket ones) = ap (λ (s : PageStore). s.pages) makes.store in
     record {
       zeros = zeros_is ∙ ap (λ b. half_of aim.bits aim.opens b 0) same;

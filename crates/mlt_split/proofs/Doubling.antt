@@ -15,17 +15,18 @@ use Rattle.mlt_hash_form.specs.Splits.{IsMidway, prefix_of, target_of, bucket_sp
 use Rattle.mlt_hash_form.proofs.HeldPages.{writes_over}
 use Rattle.mlt_hash_form.proofs.PageContents.{doubled_right}
 use Rattle.mlt_hash_form.proofs.SplitSteps.{page_as_it_was, pages_when_doubled, rewrites_a_page, set_is_longer}
-use Rattle.mlt_held.specs.Moments.{HasCleanFile, IsCleanFor, MayStep, Moment}
-use Rattle.mlt_held.specs.Views.{ReadsPage, View, WritesPage, view_of}
+use Rattle.mlt_held.specs.Moments.{IsCleanFor, MayStep, Moment}
+use Rattle.mlt_held.specs.Views.{ReadsPage, View, WritesPage, view_over, view_of}
+use Rattle.mlt_split.proofs.Closing.{HasClean}
 use Rattle.mlt_split.specs.Rests.{Aim, HoldsAmong, IsIn, held_page, most_held, seed_of}
 use Rattle.mlt_split.specs.Splits.{Begins, HoldsAmongAt, IsAtDouble, IsUnderWay, SplitFields, StandsAt, steps_left_at}
 use Rattle.mlt_split.specs.Tells.{GoesOn}
 use Rattle.mlt_split.specs.declared.phase.SplitPhase.{SplitPhase}
 use Rattle.mlt_split.specs.declared.phase.SplitPhase.TheVariants as at
 use Rattle.mlt_split.proofs.Among.{few_are_held, locked_is_among}
-use Rattle.mlt_split.proofs.Later.{IsLater, Rewrites, rewrites, agreed_before, agrees_now, begins_now, half_pages, held_over, later_by_rewrite, stands_now, stays_under_way}
+use Rattle.mlt_split.proofs.Later.{IsLater, Rewrites, rewrites, agreed_before, begins_now, half_pages, held_over, later_by_rewrite, stands_now, stays_under_way}
 use Rattle.mlt_split.proofs.SecondHalf.{among_all_made, named_among}
-use Rattle.mlt_held.proofs.Views.{agrees, agrees_through_write, over_is_there, reads_over}
+use Rattle.mlt_held.proofs.Views.{agrees_through_write, reads_over}
 
 -- the pages that are held once the next page of the old directory is locked, and named as the next one of the new
 pub among_by_rewrite : (view view' : View) (dirs made : List ℕ) (k count j most q : ℕ) (page : Page) → j < length made → k < count → slice_index dirs k ≡ q → HoldsAmong view dirs made k count j most → Rewrites view view' q page → HoldsAmong view' dirs (slice_set made j q) (k + 1) count (j + 1) most
@@ -100,23 +101,23 @@ module _ (aim : Aim) (view : View) (split : SplitFields) (place : ℕ) (under : 
         ∙ ap (λ g. target_of base aim.root split.old_page split.new_page (seed_of aim) g (256 * j + r)) deeper
 
 -- how deep the directory is, and how many pages it has, at most
-pub depth_of_double : (aim : Aim) (m : Moment) (split : SplitFields) (place : ℕ) → split.phase ≡ at.Double place → MayStep m → HasCleanFile aim.bits aim.root m → IsUnderWay aim (view_of m) split
+pub depth_of_double : (aim : Aim) (m : Moment) (split : SplitFields) (place : ℕ) → split.phase ≡ at.Double place → MayStep m → HasClean aim (view_over aim.before m) → IsUnderWay aim (view_over aim.before m) split
     → (split.directory_depth < 16) × (place < 2 ^ (split.directory_depth - 8)) × (split.depth ≡ split.directory_depth)
 depth_of_double aim m split place phase may file under =
     let begins = begins_now aim m split may file under in
     let stands = stands_now aim m split (at.Double place) phase may file under in
     (omega (arith, begins.deep, under.small, stands.deep), stands.more, stands.deep)
 
-pub place_of_double : (aim : Aim) (m : Moment) (split : SplitFields) (place : ℕ) → split.phase ≡ at.Double place → MayStep m → HasCleanFile aim.bits aim.root m → IsUnderWay aim (view_of m) split → place < 128
+pub place_of_double : (aim : Aim) (m : Moment) (split : SplitFields) (place : ℕ) → split.phase ≡ at.Double place → MayStep m → HasClean aim (view_over aim.before m) → IsUnderWay aim (view_over aim.before m) split → place < 128
 place_of_double aim m split place phase may file under =
     let depth = depth_of_double aim m split place phase may file under in
     omega (arith, depth.1, half_pages split.directory_depth depth.0)
 
-pub few_at_double : (aim : Aim) (m : Moment) (split : SplitFields) (place : ℕ) → split.phase ≡ at.Double place → MayStep m → HasCleanFile aim.bits aim.root m → IsUnderWay aim (view_of m) split → map.len (view_of m).modes < 300
+pub few_at_double : (aim : Aim) (m : Moment) (split : SplitFields) (place : ℕ) → split.phase ≡ at.Double place → MayStep m → HasClean aim (view_over aim.before m) → IsUnderWay aim (view_over aim.before m) split → map.len (view_over aim.before m).modes < 300
 few_at_double aim m split place phase may file under =
     let depth = depth_of_double aim m split place phase may file under in
-    let among = subst (λ (p : SplitPhase). HoldsAmongAt p aim.held_before (view_of m) under.header.dirs split) phase under.among in
-    let few = few_are_held (view_of m) _ _ _ _ _ _ among in
+    let among = subst (λ (p : SplitPhase). HoldsAmongAt p aim.held_before (view_over aim.before m) under.header.dirs split) phase under.among in
+    let few = few_are_held (view_over aim.before m) _ _ _ _ _ _ among in
     omega (arith, few, under.few_before, depth.0, depth.1, depth.2, half_pages split.directory_depth depth.0)
 
 -- the header is held as it was read
@@ -127,29 +128,29 @@ header_as_read view at root result header is head reads =
 same_header : (p : Option Page) (header other : HeadFields) → p ≡ Some (page.Head header) → p ≡ Some (page.Head other) → header ≡ other
 same_header p header other e f = let same : Some (page.Head header) ≡ Some (page.Head other) = sym e ∙ f in cc
 
-module _ (aim : Aim) (m : Moment) (split : SplitFields) (place number : ℕ) (header : HeadFields) (phase : split.phase ≡ at.Double place) (may : MayStep m) (file : HasCleanFile aim.bits aim.root m) (under : IsUnderWay aim (view_of m) split) (read : held_page (view_of m) aim.root ≡ Some (page.Head header)) (is : number ≡ slice_index header.dirs place) where
+module _ (aim : Aim) (m : Moment) (split : SplitFields) (place number : ℕ) (header : HeadFields) (phase : split.phase ≡ at.Double place) (may : MayStep m) (file : HasClean aim (view_over aim.before m)) (under : IsUnderWay aim (view_over aim.before m) split) (read : held_page (view_over aim.before m) aim.root ≡ Some (page.Head header)) (is : number ≡ slice_index header.dirs place) where
   listed : number ≡ slice_index under.header.dirs place
-  listed = is ∙ ap (λ (h : HeadFields). slice_index h.dirs place) (same_header (held_page (view_of m) aim.root) header under.header read under.head)
+  listed = is ∙ ap (λ (h : HeadFields). slice_index h.dirs place) (same_header (held_page (view_over aim.before m) aim.root) header under.header read under.head)
 
-  now : IsAtDouble aim under.splitters (over file.clean under.rest) (over file.clean (view_of m).own) split place
+  now : IsAtDouble aim under.splitters (over file.clean under.rest) (over file.clean (view_over aim.before m).own) split place
   now = stands_now aim m split (at.Double place) phase may file under
 
-  pub next_now : (dir : List ℕ) × (over file.clean (view_of m).own number ≡ Some (page.Dir dir))
+  pub next_now : (dir : List ℕ) × (over file.clean (view_over aim.before m).own number ≡ Some (page.Dir dir))
   next_now =
-      let next = next_is_a_directory_page aim (view_of m) split place under file.clean (agrees_now aim.bits aim.root m may file) file.form now in
-      (next.0, ap (over file.clean (view_of m).own) listed ∙ next.1)
+      let next = next_is_a_directory_page aim (view_over aim.before m) split place under file.clean file.agrees file.form now in
+      (next.0, ap (over file.clean (view_over aim.before m).own) listed ∙ next.1)
 
   -- the next page of the old directory is there,
-  pub next_is_there : is_some (page_at m.store.pages number) ≡ true
-  next_is_there = over_is_there m file.clean number may file.is_clean (ap is_some next_now.1)
+  pub next_is_there : ((q : ℕ) → is_some (over file.clean (view_of m).own q) ≡ true → is_some (page_at m.store.pages q) ≡ true) → is_some (page_at m.store.pages number) ≡ true
+  next_is_there there = there number (ap is_some next_now.1)
 
   pub not_the_root : aim.root ≡ number → ⊥
-  not_the_root = next_is_not_the_root aim (view_of m) split place under file.clean (agrees_now aim.bits aim.root m may file) file.form now number listed
+  not_the_root = next_is_not_the_root aim (view_over aim.before m) split place under file.clean file.agrees file.form now number listed
 
   -- and a page of the directory is read
-  pub next_is_read : (mid : Moment) (result : Page) → MayStep mid → IsCleanFor mid file.clean → ReadsPage (view_of m) (view_of mid) number Exclusive (Some result) → (dir : List ℕ) × (result ≡ page.Dir dir)
-  next_is_read mid result may_mid is_clean reads =
-      let e : Some result ≡ Some (page.Dir next_now.0) = sym (reads_over (view_of m) (view_of mid) number Exclusive (Some result) file.clean reads (agrees mid file.clean may_mid is_clean)) ∙ next_now.1 in
+  pub next_is_read : (mid : Moment) (result : Page) → Agrees (view_over aim.before mid).seen file.clean → ReadsPage (view_over aim.before m) (view_over aim.before mid) number Exclusive (Some result) → (dir : List ℕ) × (result ≡ page.Dir dir)
+  next_is_read mid result agrees_mid reads =
+      let e : Some result ≡ Some (page.Dir next_now.0) = sym (reads_over (view_over aim.before m) (view_over aim.before mid) number Exclusive (Some result) file.clean reads agrees_mid) ∙ next_now.1 in
       (next_now.0, cc)
 
 -- what the two pages hold that are made of a page of the old directory
@@ -236,48 +237,48 @@ module _ (aim : Aim) (view mid view' : View) (split : SplitFields) (place number
       (among_all_made view' under.header.dirs (slice_set split.made.dirs (2 * place) number) (place + 1) (2 ^ (split.directory_depth - 8)) (2 * place + 1) (most_held aim.held_before (split.depth + 1) split.directory_depth + place) (2 ^ (split.made.depth - 8)) (most_held aim.held_before (split.depth + 1) split.made.depth) all (omega (arith, all, one_page)) (among_rewritten more))
 
 -- what is known where a page of the old directory was read and written
-pub record IsRewrite (old mid new : Moment) (root : ℕ) (split : SplitFields) (place number : ℕ) (header : HeadFields) (dir first second : List ℕ) : Type 0 where
-  pub read : held_page (view_of old) root ≡ Some (page.Head header)
+pub record IsRewrite (aim : Aim) (old mid new : Moment) (split : SplitFields) (place number : ℕ) (header : HeadFields) (dir first second : List ℕ) : Type 0 where
+  pub read : held_page (view_over aim.before old) aim.root ≡ Some (page.Head header)
   pub listed : number ≡ slice_index header.dirs place
-  pub reads : ReadsPage (view_of old) (view_of mid) number Exclusive (Some (page.Dir dir))
-  pub writes : WritesPage (view_of mid) (view_of new) number (page.Dir first)
+  pub reads : ReadsPage (view_over aim.before old) (view_over aim.before mid) number Exclusive (Some (page.Dir dir))
+  pub writes : WritesPage (view_over aim.before mid) (view_over aim.before new) number (page.Dir first)
   pub one : IsDoubled split dir first (2 * place)
   pub two : IsDoubled split dir second (2 * place + 1)
   pub sized : length split.made.dirs ≡ 256
 
 -- **The split goes on once a page of the old directory is rewritten.**
-pub goes_on_to_the_second_half : (aim : Aim) (old mid new : Moment) (split now : SplitFields) (place number : ℕ) (header made : HeadFields) (dir first second : List ℕ) (next : SplitPhase) → split ≡ now → now.phase ≡ at.Double place → MayStep old → HasCleanFile aim.bits aim.root old → IsUnderWay aim (view_of old) now
-    → IsRewrite old mid new aim.root split place number header dir first second → 8 ≤ split.directory_depth
+pub goes_on_to_the_second_half : (aim : Aim) (old mid new : Moment) (split now : SplitFields) (place number : ℕ) (header made : HeadFields) (dir first second : List ℕ) (next : SplitPhase) → split ≡ now → now.phase ≡ at.Double place → MayStep old → HasClean aim (view_over aim.before old) → IsUnderWay aim (view_over aim.before old) now
+    → IsRewrite aim old mid new split place number header dir first second → 8 ≤ split.directory_depth
     → made ≡ record split.made { dirs = slice_set split.made.dirs (2 * place) number } → next ≡ at.SecondHalf place → GoesOn aim new now (record split { made = made; second = second; phase = next })
 goes_on_to_the_second_half aim old mid new split now place number header made dir first second next is phase may file under step long named phased =
     subst (λ (s : SplitFields). GoesOn aim new now s) (λ i. record split { made = sym named i; second = second; phase = sym phased i })
-    (subst (λ (now : SplitFields). now.phase ≡ at.Double place → IsUnderWay aim (view_of old) now → GoesOn aim new now (record split { made = record split.made { dirs = slice_set split.made.dirs (2 * place) number }; second = second; phase = at.SecondHalf place })) is
-    (λ (phase : split.phase ≡ at.Double place) (under : IsUnderWay aim (view_of old) split).
+    (subst (λ (now : SplitFields). now.phase ≡ at.Double place → IsUnderWay aim (view_over aim.before old) now → GoesOn aim new now (record split { made = record split.made { dirs = slice_set split.made.dirs (2 * place) number }; second = second; phase = at.SecondHalf place })) is
+    (λ (phase : split.phase ≡ at.Double place) (under : IsUnderWay aim (view_over aim.before old) split).
     let depth = depth_of_double aim old split place phase may file under in
     let g = split.directory_depth in
     let inside : 2 * place < length split.made.dirs = omega (arith, place_of_double aim old split place phase may file under, step.sized) in
     let ne = not_the_root aim old split place number header phase may file under step.read step.listed in
     record {
-      under_way = second_half_stands aim (view_of old) (view_of mid) (view_of new) split place number header dir first second phase under step.read step.listed ne step.reads step.writes inside step.one step.two long depth.1;
+      under_way = second_half_stands aim (view_over aim.before old) (view_over aim.before mid) (view_over aim.before new) split place number header dir first second phase under step.read step.listed ne step.reads step.writes inside step.one step.two long depth.1;
       fewer = sym (ap (λ b. cond b 2 (2 * (2 ^ (g - 8) - place) + 1)) (le-ltb g 8 long)) ∙ sym (ap (steps_left_at split.depth g) phase);
       depth = refl;
       directory_depth = refl;
     }) phase under)
 
-pub goes_on_to_the_only_header : (aim : Aim) (old mid new : Moment) (split now : SplitFields) (place number : ℕ) (header made : HeadFields) (dir first second : List ℕ) (next : SplitPhase) → split ≡ now → now.phase ≡ at.Double place → MayStep old → HasCleanFile aim.bits aim.root old → IsUnderWay aim (view_of old) now
-    → IsRewrite old mid new aim.root split place number header dir first second → split.directory_depth < 8
+pub goes_on_to_the_only_header : (aim : Aim) (old mid new : Moment) (split now : SplitFields) (place number : ℕ) (header made : HeadFields) (dir first second : List ℕ) (next : SplitPhase) → split ≡ now → now.phase ≡ at.Double place → MayStep old → HasClean aim (view_over aim.before old) → IsUnderWay aim (view_over aim.before old) now
+    → IsRewrite aim old mid new split place number header dir first second → split.directory_depth < 8
     → made ≡ record split.made { dirs = slice_set split.made.dirs (2 * place) number } → next ≡ at.Header → GoesOn aim new now (record split { made = made; second = second; phase = next })
 goes_on_to_the_only_header aim old mid new split now place number header made dir first second next is phase may file under step short named phased =
     subst (λ (s : SplitFields). GoesOn aim new now s) (λ i. record split { made = sym named i; second = second; phase = sym phased i })
-    (subst (λ (now : SplitFields). now.phase ≡ at.Double place → IsUnderWay aim (view_of old) now → GoesOn aim new now (record split { made = record split.made { dirs = slice_set split.made.dirs (2 * place) number }; second = second; phase = at.Header })) is
-    (λ (phase : split.phase ≡ at.Double place) (under : IsUnderWay aim (view_of old) split).
+    (subst (λ (now : SplitFields). now.phase ≡ at.Double place → IsUnderWay aim (view_over aim.before old) now → GoesOn aim new now (record split { made = record split.made { dirs = slice_set split.made.dirs (2 * place) number }; second = second; phase = at.Header })) is
+    (λ (phase : split.phase ≡ at.Double place) (under : IsUnderWay aim (view_over aim.before old) split).
     let depth = depth_of_double aim old split place phase may file under in
     let stands = stands_now aim old split (at.Double place) phase may file under in
     let g = split.directory_depth in
     let inside : 2 * place < length split.made.dirs = omega (arith, place_of_double aim old split place phase may file under, step.sized) in
     let ne = not_the_root aim old split place number header phase may file under step.read step.listed in
     record {
-      under_way = single_page_stands aim (view_of old) (view_of mid) (view_of new) split place number header dir first second phase under step.read step.listed ne step.reads step.writes inside step.one step.two short depth.1 stands.deeper;
+      under_way = single_page_stands aim (view_over aim.before old) (view_over aim.before mid) (view_over aim.before new) split place number header dir first second phase under step.read step.listed ne step.reads step.writes inside step.one step.two short depth.1 stands.deeper;
       fewer = sym (ap (λ b. cond b 2 (2 * (2 ^ (g - 8) - place) + 1)) (lt-ltb g 8 short)) ∙ sym (ap (steps_left_at split.depth g) phase);
       depth = refl;
       directory_depth = refl;

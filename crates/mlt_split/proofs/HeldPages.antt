@@ -7,21 +7,33 @@ use Rattle.mlt_types.specs.declared.mode.Mode.TheVariants.{Exclusive}
 use Rattle.mlt_page.specs.Values.{BucketFields, HeadFields}
 use Rattle.mlt_page.specs.declared.page.Page.{Page}
 use Rattle.mlt_page.specs.declared.page.Page.TheVariants as page
-use Rattle.mlt_hash_form.specs.Held.{own_or}
-use Rattle.mlt_held.specs.Moments.{HasCleanFile, MayStep, Moment}
-use Rattle.mlt_held.specs.Views.{MakesPage, View, view_of}
+use Rattle.mlt_store.specs.Stores.{page_at}
+use Rattle.mlt_hash_form.specs.Held.{Agrees, over, own_or}
+use Rattle.mlt_held.specs.Moments.{HasFileOver, IsCleanFor, MayStep, Moment}
+use Rattle.mlt_held.specs.Views.{HasWritten, MakesPage, View, view_of, view_over}
+use Rattle.mlt_held.proofs.Since.{agrees_over, there_since}
 use Rattle.mlt_split.specs.Rests.{Aim, held_page}
-use Rattle.mlt_held.proofs.Views.{agrees, may_read, mode_of_others, seen_held}
+use Rattle.mlt_held.proofs.Views.{mode_of_others}
 use Rattle.mlt_split.proofs.Closing.{HasClean}
 use Rattle.mlt_split.proofs.Later.{exclusive_here}
 
 -- a hash file as it is clean now
-pub clean_now : (aim : Aim) (m : Moment) → MayStep m → HasCleanFile aim.bits aim.root m → HasClean aim (view_of m)
-clean_now aim m may file = record { clean = file.clean; agrees = agrees m file.clean may file.is_clean; form = file.form }
+pub clean_now : (aim : Aim) (m : Moment) → MayStep m → HasFileOver aim.bits aim.root aim.before m → HasClean aim (view_over aim.before m)
+clean_now aim m may file = record { clean = over file.clean aim.before; agrees = agrees_over aim.before m file.clean may file.is_clean; form = file.form }
 
--- a page that is held in some mode was seen
-pub seen_where_held : (m : Moment) (q : ℕ) (mode : Mode) → map.get (view_of m).modes q ≡ Some mode → is_some ((view_of m).seen q) ≡ true
-seen_where_held m q mode held = ap is_some (seen_held m q (may_read m q mode held))
+-- and as it is after a step, if it is clean still
+pub agrees_later : (aim : Aim) (old new : Moment) (was : MayStep old) → MayStep new → (file : HasFileOver aim.bits aim.root aim.before old) → IsCleanFor new file.clean → Agrees (view_over aim.before new).seen (clean_now aim old was file).clean
+unfolding clean_now
+agrees_later aim old new was may file is_clean = agrees_over aim.before new file.clean may is_clean
+
+pub clean_later : (aim : Aim) (old new : Moment) → MayStep new → (file : HasFileOver aim.bits aim.root aim.before old) → IsCleanFor new file.clean → HasClean aim (view_over aim.before new)
+clean_later aim old new may file is_clean = record { clean = over file.clean aim.before; agrees = agrees_over aim.before new file.clean may is_clean; form = file.form }
+
+-- the pages of the walk's file are in the store
+pub file_is_there : (aim : Aim) (m : Moment) (may : MayStep m) → HasWritten aim.before (view_of m) → (file : HasFileOver aim.bits aim.root aim.before m)
+    → (q : ℕ) → is_some (over (clean_now aim m may file).clean (view_of m).own q) ≡ true → is_some (page_at m.store.pages q) ≡ true
+unfolding clean_now
+file_is_there aim m may written file q some = there_since aim.before m written file.clean q may file.is_clean some
 
 -- what is read of a held page is what the view has
 pub reads_as : (view : View) (q : ℕ) (p : Option Page) → (first : Option Page) × (view.seen q ≡ Some first) × (own_or (view.own q) first ≡ p) → held_page view q ≡ p

@@ -18,8 +18,9 @@ use Rattle.mlt_hash_form.specs.Splits.{IsMidway, run_length, run_start, target_o
 use Rattle.mlt_hash_form.proofs.HeldPages.{keeps_more}
 use Rattle.mlt_hash_form.proofs.PageContents.{placed_right}
 use Rattle.mlt_hash_form.proofs.SplitSteps.{page_as_it_was, rewrites_a_page}
-use Rattle.mlt_held.specs.Moments.{HasCleanFile, MayStep, Moment}
-use Rattle.mlt_held.specs.Views.{ReadsPage, View, WritesPage, view_of}
+use Rattle.mlt_held.specs.Moments.{MayStep, Moment}
+use Rattle.mlt_held.specs.Views.{ReadsPage, View, WritesPage, view_over, view_of}
+use Rattle.mlt_held.proofs.Since.{seen_over_held}
 use Rattle.mlt_split.specs.Rests.{Aim, HoldsAmong, IsAtRest, IsIn, held_page, most_held, seed_of}
 use Rattle.mlt_split.specs.Splits.{Begins, HoldsAmongAt, IsInPlace, IsUnderWay, SplitFields, StandsAt, steps_left, steps_left_at}
 use Rattle.mlt_split.specs.Tells.{GoesOn, Rests}
@@ -27,8 +28,7 @@ use Rattle.mlt_split.specs.declared.phase.SplitPhase.{SplitPhase}
 use Rattle.mlt_split.specs.declared.phase.SplitPhase.TheVariants as at
 use Rattle.mlt_split.proofs.Among.{among_after_lock, count_is_few, few_pages, most_is_small}
 use Rattle.mlt_split.proofs.Closing.{HasClean, HasClosed, IsClosed, closed_in_place, closes, half_page, held_page_over}
-use Rattle.mlt_split.proofs.HeldPages.{seen_where_held}
-use Rattle.mlt_split.proofs.Later.{IsLater, Rewrites, agreed_before, agrees_now, begins_now, held_still, later_by_rewrite, rewrites, same_head, stands_now, stays_under_way}
+use Rattle.mlt_split.proofs.Later.{IsLater, Rewrites, agreed_before, begins_now, held_still, later_by_rewrite, rewrites, same_head, stands_now, stays_under_way}
 use Rattle.mlt_split.proofs.OldBucket.{depths_are_small}
 use Rattle.mlt_held.proofs.Views.{over_is_there, reads_over}
 
@@ -116,18 +116,18 @@ module _ (aim : Aim) (splitters : set.FinSet nat_cmp) (base pages : ℕ → Opti
         (subst (λ e. run_start base aim.root split.old_page (seed_of aim) + run_length base aim.root split.old_page ≤ 256 * e) (sym at_end) s.last)
         (subst (λ (p : ℕ × ℕ). p.0 < p.1) (λ i. (depth_is i, sym b.directory_depth i)) s.shallow)
 
-module _ (aim : Aim) (m : Moment) (split : SplitFields) (place end : ℕ) (may : MayStep m) (file : HasCleanFile aim.bits aim.root m) (way : IsUnderWay aim (view_of m) split) (at_place : split.phase ≡ at.InPlace place end) where
+module _ (aim : Aim) (m : Moment) (split : SplitFields) (place end : ℕ) (may : MayStep m) (file : HasClean aim (view_over aim.before m)) (way : IsUnderWay aim (view_over aim.before m) split) (at_place : split.phase ≡ at.InPlace place end) where
   begins_here : Begins aim (over file.clean way.rest) split way.bucket
   begins_here = begins_now aim m split may file way
 
-  stands_here : IsInPlace aim way.splitters (over file.clean way.rest) (over file.clean (view_of m).own) split place end
+  stands_here : IsInPlace aim way.splitters (over file.clean way.rest) (over file.clean (view_over aim.before m).own) split place end
   stands_here = stands_now aim m split (at.InPlace place end) at_place may file way
 
-  among_here : HoldsAmong (view_of m) way.header.dirs way.header.dirs 0 (2 ^ (split.directory_depth - 8)) 0 (most_held aim.held_before (split.depth + 1) split.directory_depth)
-  among_here = subst (λ (p : SplitPhase). HoldsAmongAt p aim.held_before (view_of m) way.header.dirs split) at_place way.among
+  among_here : HoldsAmong (view_over aim.before m) way.header.dirs way.header.dirs 0 (2 ^ (split.directory_depth - 8)) 0 (most_held aim.held_before (split.depth + 1) split.directory_depth)
+  among_here = subst (λ (p : SplitPhase). HoldsAmongAt p aim.held_before (view_over aim.before m) way.header.dirs split) at_place way.among
 
-  head_over : (clean : ℕ → Option Page) → Agrees (view_of m).seen clean → over clean (view_of m).own aim.root ≡ Some (page.Head way.header)
-  head_over clean agrees = sym (held_page_over (view_of m) clean aim.root agrees way.head_held) ∙ way.head
+  head_over : (clean : ℕ → Option Page) → Agrees (view_over aim.before m).seen clean → over clean (view_over aim.before m).own aim.root ≡ Some (page.Head way.header)
+  head_over clean agrees = sym (held_page_over (view_over aim.before m) clean aim.root agrees way.head_held) ∙ way.head
 
   pub depths_here : (split.depth < split.directory_depth) × (split.directory_depth ≤ 16)
   depths_here = (stands_here.shallow, (depths_are_small aim (over file.clean way.rest) split way.bucket begins_here).1)
@@ -151,79 +151,79 @@ module _ (aim : Aim) (m : Moment) (split : SplitFields) (place end : ℕ) (may :
   pub few_are_held_here : page_count m.locks m.running.tx < 300
   few_are_held_here =
       let d = depths_here in
-      count_is_few m way.header.dirs way.header.dirs 0 (2 ^ (split.directory_depth - 8)) 0 (most_held aim.held_before (split.depth + 1) split.directory_depth) among_here (most_is_small aim.held_before (split.depth + 1) split.directory_depth way.few_before (omega (arith, d.0, d.1)) d.1)
+      count_is_few aim.before m way.header.dirs way.header.dirs 0 (2 ^ (split.directory_depth - 8)) 0 (most_held aim.held_before (split.depth + 1) split.directory_depth) among_here (most_is_small aim.held_before (split.depth + 1) split.directory_depth way.few_before (omega (arith, d.0, d.1)) d.1)
 
-  module _ (header : HeadFields) (head : held_page (view_of m) aim.root ≡ Some (page.Head header)) (q : ℕ) (number : q ≡ slice_index header.dirs place) where
+  module _ (header : HeadFields) (head : held_page (view_over aim.before m) aim.root ≡ Some (page.Head header)) (q : ℕ) (number : q ≡ slice_index header.dirs place) where
     number_is : q ≡ slice_index way.header.dirs place
     number_is = let e : Some (page.Head header) ≡ Some (page.Head way.header) = sym head ∙ way.head in let same : header ≡ way.header = cc in number ∙ ap (λ (h : HeadFields). slice_index h.dirs place) same
 
     -- the next page of the directory is there,
-    next_over : (dir : List ℕ) × (over file.clean (view_of m).own q ≡ Some (page.Dir dir))
+    next_over : (dir : List ℕ) × (over file.clean (view_over aim.before m).own q ≡ Some (page.Dir dir))
     next_over =
-        let p = next_page aim way.splitters (over file.clean way.rest) (over file.clean (view_of m).own) split way.bucket place end way.header begins_here stands_here (head_over file.clean (agrees_now aim.bits aim.root m may file)) in
-        (p.0, ap (over file.clean (view_of m).own) number_is ∙ p.1)
+        let p = next_page aim way.splitters (over file.clean way.rest) (over file.clean (view_over aim.before m).own) split way.bucket place end way.header begins_here stands_here (head_over file.clean file.agrees) in
+        (p.0, ap (over file.clean (view_over aim.before m).own) number_is ∙ p.1)
 
-    pub next_is_there : is_some (page_at m.store.pages q) ≡ true
-    next_is_there = let p = next_over in over_is_there m file.clean q may file.is_clean (ap is_some p.1)
+    pub next_is_there : ((p : ℕ) → is_some (over file.clean (view_of m).own p) ≡ true → is_some (page_at m.store.pages p) ≡ true) → is_some (page_at m.store.pages q) ≡ true
+    next_is_there there = there q (ap is_some next_over.1)
 
     -- and one of the directory's
-    pub next_is_dir : (mid : View) (read : Option Page) → ReadsPage (view_of m) mid q Exclusive read → Agrees mid.seen file.clean → (dir : List ℕ) × (read ≡ Some (page.Dir dir))
-    next_is_dir mid read reads agrees = let p = next_over in (p.0, sym (reads_over (view_of m) mid q Exclusive read file.clean reads agrees) ∙ p.1)
+    pub next_is_dir : (mid : View) (read : Option Page) → ReadsPage (view_over aim.before m) mid q Exclusive read → Agrees mid.seen file.clean → (dir : List ℕ) × (read ≡ Some (page.Dir dir))
+    next_is_dir mid read reads agrees = let p = next_over in (p.0, sym (reads_over (view_over aim.before m) mid q Exclusive read file.clean reads agrees) ∙ p.1)
 
-    module _ (new : Moment) (mid : View) (dir made : List ℕ) (first count : ℕ) (places : AreNewPlaces split first count) (has : HasNewPlaces dir made place first count split.new_page) (reads : ReadsPage (view_of m) mid q Exclusive (Some (page.Dir dir))) (writes : WritesPage mid (view_of new) q (page.Dir made)) where
-      rewritten : Rewrites (view_of m) (view_of new) q (page.Dir made)
-      rewritten = rewrites (view_of m) mid (view_of new) q (Some (page.Dir dir)) (page.Dir made) reads writes
+    module _ (new : Moment) (mid : View) (dir made : List ℕ) (first count : ℕ) (places : AreNewPlaces split first count) (has : HasNewPlaces dir made place first count split.new_page) (reads : ReadsPage (view_over aim.before m) mid q Exclusive (Some (page.Dir dir))) (writes : WritesPage mid (view_over aim.before new) q (page.Dir made)) where
+      rewritten : Rewrites (view_over aim.before m) (view_over aim.before new) q (page.Dir made)
+      rewritten = rewrites (view_over aim.before m) mid (view_over aim.before new) q (Some (page.Dir dir)) (page.Dir made) reads writes
 
       elsewhere : aim.root ≡ q → ⊥
-      elsewhere e = next_is_elsewhere aim way.splitters (over file.clean way.rest) (over file.clean (view_of m).own) split way.bucket place end way.header begins_here stands_here (head_over file.clean (agrees_now aim.bits aim.root m may file)) (e ∙ number_is)
+      elsewhere e = next_is_elsewhere aim way.splitters (over file.clean way.rest) (over file.clean (view_over aim.before m).own) split way.bucket place end way.header begins_here stands_here (head_over file.clean file.agrees) (e ∙ number_is)
 
-      later : IsLater aim.root (view_of m) (view_of new)
-      later = later_by_rewrite aim.root (view_of m) (view_of new) q (page.Dir made) elsewhere rewritten
+      later : IsLater aim.root (view_over aim.before m) (view_over aim.before new)
+      later = later_by_rewrite aim.root (view_over aim.before m) (view_over aim.before new) q (page.Dir made) elsewhere rewritten
 
-      agrees_mid : (clean : ℕ → Option Page) → Agrees (view_of new).seen clean → Agrees mid.seen clean
+      agrees_mid : (clean : ℕ → Option Page) → Agrees (view_over aim.before new).seen clean → Agrees mid.seen clean
       agrees_mid clean agrees p first sees = agrees p first (writes.seen p ∙ sees)
 
-      read_over : (clean : ℕ → Option Page) → Agrees (view_of new).seen clean → over clean (view_of m).own (slice_index way.header.dirs place) ≡ Some (page.Dir dir)
-      read_over clean agrees = ap (over clean (view_of m).own) (sym number_is) ∙ reads_over (view_of m) mid q Exclusive (Some (page.Dir dir)) clean reads (agrees_mid clean agrees)
+      read_over : (clean : ℕ → Option Page) → Agrees (view_over aim.before new).seen clean → over clean (view_over aim.before m).own (slice_index way.header.dirs place) ≡ Some (page.Dir dir)
+      read_over clean agrees = ap (over clean (view_over aim.before m).own) (sym number_is) ∙ reads_over (view_over aim.before m) mid q Exclusive (Some (page.Dir dir)) clean reads (agrees_mid clean agrees)
 
-      written_over : (clean : ℕ → Option Page) → Writes (over clean (view_of m).own) (over clean (view_of new).own) (slice_index way.header.dirs place) (page.Dir made)
-      written_over clean = subst (λ n. Writes (over clean (view_of m).own) (over clean (view_of new).own) n (page.Dir made)) number_is (record {
+      written_over : (clean : ℕ → Option Page) → Writes (over clean (view_over aim.before m).own) (over clean (view_over aim.before new).own) (slice_index way.header.dirs place) (page.Dir made)
+      written_over clean = subst (λ n. Writes (over clean (view_over aim.before m).own) (over clean (view_over aim.before new).own) n (page.Dir made)) number_is (record {
         here = ap (λ o. own_or o (clean q)) rewritten.here;
         others = λ p ne. ap (λ o. own_or o (clean p)) (rewritten.others p ne);
       })
 
-      stood : (clean : ℕ → Option Page) → Agrees (view_of m).seen clean → HasForm aim.bits clean aim.root → IsInPlace aim way.splitters (over clean way.rest) (over clean (view_of m).own) split place end
-      stood clean agrees form = subst (λ (p : SplitPhase). StandsAt p aim way.splitters (over clean way.rest) (over clean (view_of m).own) split way.bucket) at_place (way.stands clean agrees form)
+      stood : (clean : ℕ → Option Page) → Agrees (view_over aim.before m).seen clean → HasForm aim.bits clean aim.root → IsInPlace aim way.splitters (over clean way.rest) (over clean (view_over aim.before m).own) split place end
+      stood clean agrees form = subst (λ (p : SplitPhase). StandsAt p aim way.splitters (over clean way.rest) (over clean (view_over aim.before m).own) split way.bucket) at_place (way.stands clean agrees form)
 
-      among_after : HoldsAmong (view_of new) way.header.dirs way.header.dirs 0 (2 ^ (split.directory_depth - 8)) 0 (most_held aim.held_before (split.depth + 1) split.directory_depth)
+      among_after : HoldsAmong (view_over aim.before new) way.header.dirs way.header.dirs 0 (2 ^ (split.directory_depth - 8)) 0 (most_held aim.held_before (split.depth + 1) split.directory_depth)
       among_after =
           let more = stands_here.more in
           let within = stands_here.places.within in
           let a = among_here in
           let listed : IsIn (slice_index way.header.dirs place) a.pages = a.old_dirs place (omega arith) (omega (arith, more, within)) in
-          among_after_lock (view_of m) (view_of new) way.header.dirs way.header.dirs 0 (2 ^ (split.directory_depth - 8)) 0 (most_held aim.held_before (split.depth + 1) split.directory_depth) a q Exclusive (subst (λ n. IsIn n a.pages) (sym number_is) listed) rewritten.modes
+          among_after_lock (view_over aim.before m) (view_over aim.before new) way.header.dirs way.header.dirs 0 (2 ^ (split.directory_depth - 8)) 0 (most_held aim.held_before (split.depth + 1) split.directory_depth) a q Exclusive (subst (λ n. IsIn n a.pages) (sym number_is) listed) rewritten.modes
 
       -- **A page that is written in place is a step further,**
       pub in_place_goes_on : place + 1 < end → GoesOn aim new split (record split { phase = at.InPlace (place + 1) end })
       in_place_goes_on more = record {
-        under_way = stays_under_way aim (view_of m) (view_of new) split split.made split.second (at.InPlace (place + 1) end) way later
+        under_way = stays_under_way aim (view_over aim.before m) (view_over aim.before new) split split.made split.second (at.InPlace (place + 1) end) way later
             (λ clean agrees form.
-            let before = agreed_before aim.root (view_of m) (view_of new) clean later agrees in
-            in_place_further aim way.splitters (over clean way.rest) (over clean (view_of m).own) split way.bucket place end way.header (way.begins clean before form) (stood clean before form) (head_over clean before) (over clean (view_of new).own) dir made first count places has (read_over clean agrees) (written_over clean) more)
+            let before = agreed_before aim.root (view_over aim.before m) (view_over aim.before new) clean later agrees in
+            in_place_further aim way.splitters (over clean way.rest) (over clean (view_over aim.before m).own) split way.bucket place end way.header (way.begins clean before form) (stood clean before form) (head_over clean before) (over clean (view_over aim.before new).own) dir made first count places has (read_over clean agrees) (written_over clean) more)
             among_after;
         fewer = let steps : steps_left split ≡ end - place = ap (steps_left_at split.depth split.directory_depth) at_place in omega (arith, steps, more);
         depth = refl;
         directory_depth = refl;
       }
 
-      done : place + 1 ≡ end → HasClosed aim (view_of new) way.rest way.splitters split way.header way.bucket
+      done : place + 1 ≡ end → HasClosed aim (view_over aim.before new) way.rest way.splitters split way.header way.bucket
       done at_end = record {
         bounded = way.bounded;
-        keeps = keeps_more aim.bits aim.opens aim.root (view_of m).seen (view_of new).seen way.rest later.before way.keeps;
-        head_held = held_still aim.root (view_of m) (view_of new) aim.root later way.head_held;
-        head = same_head aim.root (view_of m) (view_of new) later way.head_held ∙ way.head;
-        old_held = held_still aim.root (view_of m) (view_of new) split.old_page later way.old_held;
-        new_held = seen_where_held new split.new_page Exclusive (later.exclusive split.new_page way.new_exclusive);
+        keeps = keeps_more aim.bits aim.opens aim.root (view_over aim.before m).seen (view_over aim.before new).seen way.rest later.before way.keeps;
+        head_held = held_still aim.root (view_over aim.before m) (view_over aim.before new) aim.root later way.head_held;
+        head = same_head aim.root (view_over aim.before m) (view_over aim.before new) later way.head_held ∙ way.head;
+        old_held = held_still aim.root (view_over aim.before m) (view_over aim.before new) split.old_page later way.old_held;
+        new_held = seen_over_held aim.before new split.new_page Exclusive (later.exclusive split.new_page way.new_exclusive);
         old_exclusive = later.exclusive split.old_page way.exclusive;
         new_exclusive = later.exclusive split.new_page way.new_exclusive;
         fewer = way.fewer;
@@ -232,24 +232,24 @@ module _ (aim : Aim) (m : Moment) (split : SplitFields) (place end : ℕ) (may :
         room = way.room;
         small = way.small;
         few_before = way.few_before;
-        begins = λ clean agrees form. way.begins clean (agreed_before aim.root (view_of m) (view_of new) clean later agrees) form;
+        begins = λ clean agrees form. way.begins clean (agreed_before aim.root (view_over aim.before m) (view_over aim.before new) clean later agrees) form;
         closed = λ clean agrees form.
-            let before = agreed_before aim.root (view_of m) (view_of new) clean later agrees in
-            in_place_closed aim way.splitters (over clean way.rest) (over clean (view_of m).own) split way.bucket place end way.header (way.begins clean before form) (stood clean before form) (head_over clean before) (over clean (view_of new).own) dir made first count places has (read_over clean agrees) (written_over clean) at_end;
-        among = subst (λ g. HoldsAmong (view_of new) way.header.dirs way.header.dirs 0 (2 ^ (g - 8)) 0 (most_held aim.held_before (split.depth + 1) g)) (sym (same_depth aim way.splitters (over file.clean way.rest) (over file.clean (view_of m).own) split way.bucket place end way.header begins_here stands_here (head_over file.clean (agrees_now aim.bits aim.root m may file)))) among_after;
+            let before = agreed_before aim.root (view_over aim.before m) (view_over aim.before new) clean later agrees in
+            in_place_closed aim way.splitters (over clean way.rest) (over clean (view_over aim.before m).own) split way.bucket place end way.header (way.begins clean before form) (stood clean before form) (head_over clean before) (over clean (view_over aim.before new).own) dir made first count places has (read_over clean agrees) (written_over clean) at_end;
+        among = subst (λ g. HoldsAmong (view_over aim.before new) way.header.dirs way.header.dirs 0 (2 ^ (g - 8)) 0 (most_held aim.held_before (split.depth + 1) g)) (sym (same_depth aim way.splitters (over file.clean way.rest) (over file.clean (view_over aim.before m).own) split way.bucket place end way.header begins_here stands_here (head_over file.clean file.agrees))) among_after;
       }
 
       -- **or closes the split.**
-      pub in_place_rests : (n : ℕ) → place + 1 ≡ end → HasClean aim (view_of new) → n ≡ half_page split.depth split.seed split.old_page split.new_page → Rests aim new split n × (steps_left split ≡ 1)
+      pub in_place_rests : (n : ℕ) → place + 1 ≡ end → HasClean aim (view_over aim.before new) → n ≡ half_page split.depth split.seed split.old_page split.new_page → Rests aim new split n × (steps_left split ≡ 1)
       in_place_rests n at_end clean here =
-          let depth = same_depth aim way.splitters (over file.clean way.rest) (over file.clean (view_of m).own) split way.bucket place end way.header begins_here stands_here (head_over file.clean (agrees_now aim.bits aim.root m may file)) in
-          let rest = closes aim (view_of new) way.rest way.splitters split way.header way.bucket clean (done at_end) in
+          let depth = same_depth aim way.splitters (over file.clean way.rest) (over file.clean (view_over aim.before m).own) split way.bucket place end way.header begins_here stands_here (head_over file.clean file.agrees) in
+          let rest = closes aim (view_over aim.before new) way.rest way.splitters split way.header way.bucket clean (done at_end) in
           let shallow = stands_here.shallow in
           let steps : steps_left split ≡ end - place = ap (steps_left_at split.depth split.directory_depth) at_place in (
             record {
               header = way.header;
               bucket = half_of aim.bits way.splitters way.bucket (bit_at split.depth split.seed);
-              rest = subst (λ o. IsAtRest aim (view_of new) o way.header (half_of aim.bits way.splitters way.bucket (bit_at split.depth split.seed))) (sym here) rest;
+              rest = subst (λ o. IsAtRest aim (view_over aim.before new) o way.header (half_of aim.bits way.splitters way.bucket (bit_at split.depth split.seed))) (sym here) rest;
               deeper = ap (λ l. l + 1) begins_here.depth;
               in_place = λ _. depth;
               doubled = λ (e : split.depth ≡ split.directory_depth). absurd (omega (arith, e, shallow));

@@ -8,11 +8,13 @@ use Rattle.mlt_page.specs.declared.page.Page.{Page}
 use Rattle.mlt_page.specs.Values.{HeadFields}
 use Rattle.mlt_page_locks.specs.LockTables.{Modes, can_read, can_write}
 use Rattle.mlt_page_locks.specs.Requests.{stronger, with_page}
-use Rattle.mlt_hash_form.specs.File.{HasForm}
+use Rattle.mlt_hash_form.specs.File.{FilePages, HasForm}
 use Rattle.mlt_hash_form.specs.Held.{Agrees, over, own_or}
 use Rattle.mlt_hash_form.proofs.HeldPages.{keeps_more}
-use Rattle.mlt_held.specs.Moments.{HasCleanFile, MayStep, Moment}
-use Rattle.mlt_held.specs.Views.{MakesPage, ReadsPage, View, WritesPage, view_of}
+use Rattle.mlt_held.specs.Moments.{MayStep, Moment}
+use Rattle.mlt_held.specs.Views.{MakesPage, ReadsPage, View, WritesPage, view_of, view_over, HasWritten}
+use Rattle.mlt_held.proofs.Since.{held_over_seen}
+use Rattle.mlt_split.proofs.Closing.{HasClean}
 use Rattle.mlt_split.specs.Rests.{Aim, held_page}
 use Rattle.mlt_split.specs.Splits.{Begins, HoldsAmongAt, IsUnderWay, SplitFields, StandsAt}
 use Rattle.mlt_split.specs.Steps.{IsMaking}
@@ -153,20 +155,16 @@ seen_some : {X : Type 0} (b : Bool) (x : X) → is_some (cond b (Some x) None) �
 seen_some true x h = refl
 seen_some false x h = h
 
-pub held_may_be_read : (m : Moment) (q : ℕ) → is_some ((view_of m).seen q) ≡ true → can_read m.locks m.running.tx q ≡ true
-held_may_be_read m q held = seen_some (can_read m.locks m.running.tx q) _ held
+pub held_may_be_read : (before : FilePages) (m : Moment) (q : ℕ) → HasWritten before (view_of m) → is_some ((view_over before m).seen q) ≡ true → can_read m.locks m.running.tx q ≡ true
+held_may_be_read before m q written held = seen_some (can_read m.locks m.running.tx q) _ (held_over_seen before m written q held)
 
--- the clean file of this moment agrees with what the walk saw
-pub agrees_now : (bits : ℕ → ℕ) (root : ℕ) (m : Moment) → MayStep m → (file : HasCleanFile bits root m) → Agrees (view_of m).seen file.clean
-agrees_now bits root m may file = agrees m file.clean may file.is_clean
+pub begins_now : (aim : Aim) (m : Moment) (split : SplitFields) → MayStep m → (file : HasClean aim (view_over aim.before m)) (under : IsUnderWay aim (view_over aim.before m) split) → Begins aim (over file.clean under.rest) split under.bucket
+begins_now aim m split may file under = under.begins file.clean file.agrees file.form
 
-pub begins_now : (aim : Aim) (m : Moment) (split : SplitFields) → MayStep m → (file : HasCleanFile aim.bits aim.root m) (under : IsUnderWay aim (view_of m) split) → Begins aim (over file.clean under.rest) split under.bucket
-begins_now aim m split may file under = under.begins file.clean (agrees_now aim.bits aim.root m may file) file.form
-
-pub stands_now : (aim : Aim) (m : Moment) (split : SplitFields) (phase : SplitPhase) → split.phase ≡ phase → MayStep m → (file : HasCleanFile aim.bits aim.root m) (under : IsUnderWay aim (view_of m) split)
-    → StandsAt phase aim under.splitters (over file.clean under.rest) (over file.clean (view_of m).own) split under.bucket
+pub stands_now : (aim : Aim) (m : Moment) (split : SplitFields) (phase : SplitPhase) → split.phase ≡ phase → MayStep m → (file : HasClean aim (view_over aim.before m)) (under : IsUnderWay aim (view_over aim.before m) split)
+    → StandsAt phase aim under.splitters (over file.clean under.rest) (over file.clean (view_over aim.before m).own) split under.bucket
 stands_now aim m split phase is may file under =
-    subst (λ (p : SplitPhase). StandsAt p aim under.splitters (over file.clean under.rest) (over file.clean (view_of m).own) split under.bucket) is (under.stands file.clean (agrees_now aim.bits aim.root m may file) file.form)
+    subst (λ (p : SplitPhase). StandsAt p aim under.splitters (over file.clean under.rest) (over file.clean (view_over aim.before m).own) split under.bucket) is (under.stands file.clean file.agrees file.form)
 
 -- a directory that doubles has at most half of the header's pages
 pub half_pages : (g : ℕ) → g < 16 → 2 ^ (g - 8) ≤ 128

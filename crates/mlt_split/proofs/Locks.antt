@@ -8,7 +8,7 @@ use Rattle.mlt_page_locks.proofs.LockLaws.{mode_held-granted}
 use Rattle.mlt_page_locks.specs.LockTables.{LockTable, mode_held}
 use Rattle.mlt_page_locks.specs.Requests.{granted, stronger}
 use Rattle.mlt_held.specs.Moments.{MayStep, Moment}
-use Rattle.mlt_held.specs.Views.{view_of}
+use Rattle.mlt_held.specs.Views.{view_of, view_over}
 use Rattle.mlt_held.proofs.Views.{make_makes, write_writes}
 use Rattle.mlt_split.specs.Rests.{Aim}
 use Rattle.mlt_split.specs.Splits.{SplitFields}
@@ -46,7 +46,7 @@ module _ (old new : Moment) (Is : ℕ → Type 0) (p : ℕ) where
 
 -- the pages that a step may lock
 abbrev MayLock : SplitPhase → Aim → Moment → ℕ → Type 0
-MayLock phase aim old p = IsNextPage phase aim (view_of old) p ⊎ (IsMaking phase × (page_at old.store.pages p ≡ None))
+MayLock phase aim old p = IsNextPage phase aim (view_over aim.before old) p ⊎ (IsMaking phase × (page_at old.store.pages p ≡ None))
 
 -- a step that was done,
 done_locks : (phase : SplitPhase) (aim : Aim) (old new : Moment) (split : SplitFields) (p : ℕ) → IsDone phase aim old new split → IsHeldAs old new (MayLock phase aim old) p

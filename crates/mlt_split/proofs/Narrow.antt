@@ -12,7 +12,7 @@ use Rattle.mlt_hash_form.specs.Held.{Agrees, over}
 use Rattle.mlt_hash_form.proofs.Bits.{first_bits-first_bits}
 use Rattle.mlt_held.specs.Moments.{MayStep, Moment}
 use Rattle.mlt_held.specs.PageSteps.{LocksPage, WritesHeldPage}
-use Rattle.mlt_held.specs.Views.{View, view_of}
+use Rattle.mlt_held.specs.Views.{View, view_over}
 use Rattle.mlt_held.proofs.OwnSteps.{lock_reads_some}
 use Rattle.mlt_held.proofs.Views.{write_writes}
 use Rattle.mlt_split.specs.Rests.{Aim, held_page}
@@ -92,17 +92,17 @@ pub narrow_makes_none : (aim : Aim) (view : View) (split : SplitFields) (clean :
 narrow_makes_none aim view split clean agree form way deep = makes_none split.phase aim way.splitters (over clean way.rest) (over clean view.own) split way.bucket deep (way.stands clean agree form)
 
 -- nor writes the header
-module _ (aim : Aim) (old new : Moment) (split : SplitFields) (may : MayStep old) (deep : split.depth < split.directory_depth) (clean : ℕ → Option Page) (agree : Agrees (view_of old).seen clean) (form : HasForm aim.bits clean aim.root) (way : IsUnderWay aim (view_of old) split) where
-  rewritten : (n : ℕ) → (aim.root ≡ n → ⊥) → ((mid : Moment) × LocksPage old mid n Exclusive × ((p : Page) × WritesHeldPage mid new n p)) → (view_of new).own aim.root ≡ (view_of old).own aim.root
+module _ (aim : Aim) (old new : Moment) (split : SplitFields) (may : MayStep old) (deep : split.depth < split.directory_depth) (clean : ℕ → Option Page) (agree : Agrees (view_over aim.before old).seen clean) (form : HasForm aim.bits clean aim.root) (way : IsUnderWay aim (view_over aim.before old) split) where
+  rewritten : (n : ℕ) → (aim.root ≡ n → ⊥) → ((mid : Moment) × LocksPage old mid n Exclusive × ((p : Page) × WritesHeldPage mid new n p)) → (view_over aim.before new).own aim.root ≡ (view_over aim.before old).own aim.root
   rewritten n elsewhere step = (write_writes step.0 new n step.2.0 step.2.1).others aim.root elsewhere ∙ (lock_reads_some old step.0 n Exclusive may step.1).1.own aim.root
 
-  leaves_header : (phase : SplitPhase) → StandsAt phase aim way.splitters (over clean way.rest) (over clean (view_of old).own) split way.bucket → ((n : ℕ) → IsNextPage phase aim (view_of old) n → aim.root ≡ n → ⊥)
-      → IsDone phase aim old new split → (view_of new).own aim.root ≡ (view_of old).own aim.root
+  leaves_header : (phase : SplitPhase) → StandsAt phase aim way.splitters (over clean way.rest) (over clean (view_over aim.before old).own) split way.bucket → ((n : ℕ) → IsNextPage phase aim (view_over aim.before old) n → aim.root ≡ n → ⊥)
+      → IsDone phase aim old new split → (view_over aim.before new).own aim.root ≡ (view_over aim.before old).own aim.root
   leaves_header at.OldBucket stands elsewhere done = (write_writes old new split.old_page done.0 done.1).others aim.root (header_is_elsewhere aim (over clean way.rest) split way.bucket (way.begins clean agree form))
   leaves_header (at.InPlace place end) stands elsewhere done = rewritten done.0 (elsewhere done.0 done.1) done.2
   leaves_header (at.Double place) stands elsewhere done = absurd (let same = stands.deep in omega (arith, deep, same))
   leaves_header (at.SecondHalf place) stands elsewhere done = absurd (let same = stands.deep in omega (arith, deep, same))
   leaves_header at.Header stands elsewhere done = absurd (let same = stands.deep in omega (arith, deep, same))
 
-  pub narrow_leaves_header : ((n : ℕ) → IsNextPage split.phase aim (view_of old) n → aim.root ≡ n → ⊥) → IsDone split.phase aim old new split → (view_of new).own aim.root ≡ (view_of old).own aim.root
+  pub narrow_leaves_header : ((n : ℕ) → IsNextPage split.phase aim (view_over aim.before old) n → aim.root ≡ n → ⊥) → IsDone split.phase aim old new split → (view_over aim.before new).own aim.root ≡ (view_over aim.before old).own aim.root
   narrow_leaves_header = leaves_header split.phase (way.stands clean agree form)

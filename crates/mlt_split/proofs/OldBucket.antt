@@ -18,9 +18,10 @@ use Rattle.mlt_hash_form.specs.Splits.{IsMidway, bucket_split}
 use Rattle.mlt_hash_form.proofs.FillEnds.{page_listed}
 use Rattle.mlt_hash_form.proofs.InPlace.{one_page, whole_pages}
 use Rattle.mlt_hash_form.proofs.SplitSteps.{begins_in_place, begins_to_double}
+use Rattle.mlt_split.proofs.Closing.{HasClean}
 use Rattle.mlt_split.specs.FirstPhases.{IsFirstPhase}
-use Rattle.mlt_held.specs.Moments.{HasCleanFile, MayStep, Moment}
-use Rattle.mlt_held.specs.Views.{View, WritesPage, view_of}
+use Rattle.mlt_held.specs.Moments.{MayStep, Moment}
+use Rattle.mlt_held.specs.Views.{View, WritesPage, view_over}
 use Rattle.mlt_split.specs.Rests.{Aim, HoldsAmong, most_held, seed_of}
 use Rattle.mlt_split.specs.Splits.{Begins, HaveNewPlaces, HoldsAmongAt, IsAtOldBucket, IsUnderWay, SplitFields, StandsAt, steps_left_at}
 use Rattle.mlt_split.specs.Tells.{GoesOn}
@@ -164,11 +165,11 @@ steps_of_first_phase split (at.SecondHalf place) first = absurd first
 steps_of_first_phase split at.Header first = absurd first
 
 -- **Once the old bucket is written, the split goes on with the directory.**
-pub old_bucket_step : (aim : Aim) (m : Moment) (new : Moment) (split : SplitFields) (phase : SplitPhase) → MayStep m → HasCleanFile aim.bits aim.root m → IsUnderWay aim (view_of m) split → split.phase ≡ at.OldBucket
-    → WritesPage (view_of m) (view_of new) split.old_page (page.Bucket split.zeros) → IsFirstPhase split phase → GoesOn aim new split (record split { phase = phase })
+pub old_bucket_step : (aim : Aim) (m : Moment) (new : Moment) (split : SplitFields) (phase : SplitPhase) → MayStep m → HasClean aim (view_over aim.before m) → IsUnderWay aim (view_over aim.before m) split → split.phase ≡ at.OldBucket
+    → WritesPage (view_over aim.before m) (view_over aim.before new) split.old_page (page.Bucket split.zeros) → IsFirstPhase split phase → GoesOn aim new split (record split { phase = phase })
 old_bucket_step aim m new split phase may file way at_old writes first =
-    let view = view_of m in
-    let view' = view_of new in
+    let view = view_over aim.before m in
+    let view' = view_over aim.before new in
     let elsewhere = header_is_elsewhere aim _ split way.bucket (begins_now aim m split may file way) in
     let later : IsLater aim.root view view' = record {
       before = λ p first sees. writes.seen p ∙ sees;

@@ -11,8 +11,9 @@ use Rattle.mlt_hash_form.specs.File.{HasForm}
 use Rattle.mlt_hash_form.specs.Held.{Agrees, over, own_or}
 use Rattle.mlt_hash_form.specs.Splits.{IsMidway, bucket_split}
 use Rattle.mlt_hash_form.proofs.SplitSteps.{makes_a_page, pages_when_doubled, set_is_longer}
-use Rattle.mlt_held.specs.Moments.{HasCleanFile, MayStep, Moment}
-use Rattle.mlt_held.specs.Views.{MakesPage, View, view_of}
+use Rattle.mlt_held.specs.Moments.{MayStep, Moment}
+use Rattle.mlt_held.specs.Views.{MakesPage, View, view_over}
+use Rattle.mlt_split.proofs.Closing.{HasClean}
 use Rattle.mlt_split.specs.Rests.{Aim, HoldsAmong, IsIn, most_held, seed_of}
 use Rattle.mlt_split.specs.Splits.{HoldsAmongAt, IsAtSecondHalf, IsUnderWay, SplitFields, StandsAt, steps_left_at}
 use Rattle.mlt_split.specs.Tells.{GoesOn}
@@ -54,23 +55,23 @@ among_all_made view dirs made k count j most j' most' e le among = record {
 }
 
 -- how deep the directory is, and how many pages it has, at most
-pub depth_of_second_half : (aim : Aim) (m : Moment) (split : SplitFields) (place : ℕ) → split.phase ≡ at.SecondHalf place → MayStep m → HasCleanFile aim.bits aim.root m → IsUnderWay aim (view_of m) split
+pub depth_of_second_half : (aim : Aim) (m : Moment) (split : SplitFields) (place : ℕ) → split.phase ≡ at.SecondHalf place → MayStep m → HasClean aim (view_over aim.before m) → IsUnderWay aim (view_over aim.before m) split
     → (8 ≤ split.directory_depth) × (split.directory_depth < 16) × (place < 2 ^ (split.directory_depth - 8)) × (split.depth ≡ split.directory_depth)
 depth_of_second_half aim m split place phase may file under =
     let begins = begins_now aim m split may file under in
     let stands = stands_now aim m split (at.SecondHalf place) phase may file under in
     (stands.long, omega (arith, begins.deep, under.small, stands.deep), stands.more, stands.deep)
 
-pub place_of_second_half : (aim : Aim) (m : Moment) (split : SplitFields) (place : ℕ) → split.phase ≡ at.SecondHalf place → MayStep m → HasCleanFile aim.bits aim.root m → IsUnderWay aim (view_of m) split → place < 128
+pub place_of_second_half : (aim : Aim) (m : Moment) (split : SplitFields) (place : ℕ) → split.phase ≡ at.SecondHalf place → MayStep m → HasClean aim (view_over aim.before m) → IsUnderWay aim (view_over aim.before m) split → place < 128
 place_of_second_half aim m split place phase may file under =
     let depth = depth_of_second_half aim m split place phase may file under in
     omega (arith, depth.2, half_pages split.directory_depth depth.1)
 
-pub few_at_second_half : (aim : Aim) (m : Moment) (split : SplitFields) (place : ℕ) → split.phase ≡ at.SecondHalf place → MayStep m → HasCleanFile aim.bits aim.root m → IsUnderWay aim (view_of m) split → map.len (view_of m).modes < 300
+pub few_at_second_half : (aim : Aim) (m : Moment) (split : SplitFields) (place : ℕ) → split.phase ≡ at.SecondHalf place → MayStep m → HasClean aim (view_over aim.before m) → IsUnderWay aim (view_over aim.before m) split → map.len (view_over aim.before m).modes < 300
 few_at_second_half aim m split place phase may file under =
     let depth = depth_of_second_half aim m split place phase may file under in
-    let among = subst (λ (p : SplitPhase). HoldsAmongAt p aim.held_before (view_of m) under.header.dirs split) phase under.among in
-    let few = few_are_held (view_of m) _ _ _ _ _ _ among in
+    let among = subst (λ (p : SplitPhase). HoldsAmongAt p aim.held_before (view_over aim.before m) under.header.dirs split) phase under.among in
+    let few = few_are_held (view_over aim.before m) _ _ _ _ _ _ among in
     omega (arith, few, under.few_before, depth.1, depth.2, depth.3, half_pages split.directory_depth depth.1)
 
 module _ (aim : Aim) (view view' : View) (split : SplitFields) (place n : ℕ) (phase : split.phase ≡ at.SecondHalf place) (under : IsUnderWay aim view split) (makes : MakesPage view view' n (page.Dir split.second)) (sized : 2 * place + 1 < length split.made.dirs) where
@@ -133,18 +134,18 @@ module _ (aim : Aim) (view view' : View) (split : SplitFields) (place n : ℕ) (
       (among_all_made view' under.header.dirs (slice_set split.made.dirs (2 * place + 1) n) (place + 1) (2 ^ (split.directory_depth - 8)) (2 * place + 1 + 1) (most_held aim.held_before (split.depth + 1) split.directory_depth + place + 1) (2 ^ (split.made.depth - 8)) (most_held aim.held_before (split.depth + 1) split.made.depth) all (omega (arith, all, last)) among)
 
 -- **The split goes on once the page of a second half is made.**
-pub goes_on_to_another_page : (aim : Aim) (old new : Moment) (split now : SplitFields) (place n : ℕ) (made : HeadFields) (next : SplitPhase) → split ≡ now → now.phase ≡ at.SecondHalf place → MayStep old → HasCleanFile aim.bits aim.root old → IsUnderWay aim (view_of old) now
-    → MakesPage (view_of old) (view_of new) n (page.Dir split.second) → length split.made.dirs ≡ 256 → place + 1 < 2 ^ (split.directory_depth - 8)
+pub goes_on_to_another_page : (aim : Aim) (old new : Moment) (split now : SplitFields) (place n : ℕ) (made : HeadFields) (next : SplitPhase) → split ≡ now → now.phase ≡ at.SecondHalf place → MayStep old → HasClean aim (view_over aim.before old) → IsUnderWay aim (view_over aim.before old) now
+    → MakesPage (view_over aim.before old) (view_over aim.before new) n (page.Dir split.second) → length split.made.dirs ≡ 256 → place + 1 < 2 ^ (split.directory_depth - 8)
     → made ≡ record split.made { dirs = slice_set split.made.dirs (2 * place + 1) n } → next ≡ at.Double (place + 1) → GoesOn aim new now (record split { made = made; phase = next })
 goes_on_to_another_page aim old new split now place n made next is phase may file under makes sized more named phased =
     subst (λ (s : SplitFields). GoesOn aim new now s) (λ i. record split { made = sym named i; phase = sym phased i })
-    (subst (λ (now : SplitFields). now.phase ≡ at.SecondHalf place → IsUnderWay aim (view_of old) now → GoesOn aim new now (record split { made = record split.made { dirs = slice_set split.made.dirs (2 * place + 1) n }; phase = at.Double (place + 1) })) is
-    (λ (phase : split.phase ≡ at.SecondHalf place) (under : IsUnderWay aim (view_of old) split).
+    (subst (λ (now : SplitFields). now.phase ≡ at.SecondHalf place → IsUnderWay aim (view_over aim.before old) now → GoesOn aim new now (record split { made = record split.made { dirs = slice_set split.made.dirs (2 * place + 1) n }; phase = at.Double (place + 1) })) is
+    (λ (phase : split.phase ≡ at.SecondHalf place) (under : IsUnderWay aim (view_over aim.before old) split).
     let depth = depth_of_second_half aim old split place phase may file under in
     let g = split.directory_depth in
     let inside : 2 * place + 1 < length split.made.dirs = omega (arith, place_of_second_half aim old split place phase may file under) in
     record {
-      under_way = another_page_stands aim (view_of old) (view_of new) split place n phase under makes inside more;
+      under_way = another_page_stands aim (view_over aim.before old) (view_over aim.before new) split place n phase under makes inside more;
       fewer =
           ap (λ b. cond b 2 (2 * (2 ^ (g - 8) - (place + 1)) + 1) + 1) (le-ltb g 8 depth.0)
           ∙ let steps : 2 * (2 ^ (g - 8) - (place + 1)) + 1 + 1 ≡ 2 * (2 ^ (g - 8) - place) = omega arith in steps
@@ -153,20 +154,20 @@ goes_on_to_another_page aim old new split now place n made next is phase may fil
       directory_depth = refl;
     }) phase under)
 
-pub goes_on_to_the_header : (aim : Aim) (old new : Moment) (split now : SplitFields) (place n : ℕ) (made : HeadFields) (next : SplitPhase) → split ≡ now → now.phase ≡ at.SecondHalf place → MayStep old → HasCleanFile aim.bits aim.root old → IsUnderWay aim (view_of old) now
-    → MakesPage (view_of old) (view_of new) n (page.Dir split.second) → length split.made.dirs ≡ 256 → 2 ^ (split.directory_depth - 8) ≤ place + 1
+pub goes_on_to_the_header : (aim : Aim) (old new : Moment) (split now : SplitFields) (place n : ℕ) (made : HeadFields) (next : SplitPhase) → split ≡ now → now.phase ≡ at.SecondHalf place → MayStep old → HasClean aim (view_over aim.before old) → IsUnderWay aim (view_over aim.before old) now
+    → MakesPage (view_over aim.before old) (view_over aim.before new) n (page.Dir split.second) → length split.made.dirs ≡ 256 → 2 ^ (split.directory_depth - 8) ≤ place + 1
     → made ≡ record split.made { dirs = slice_set split.made.dirs (2 * place + 1) n } → next ≡ at.Header → GoesOn aim new now (record split { made = made; phase = next })
 goes_on_to_the_header aim old new split now place n made next is phase may file under makes sized less named phased =
     subst (λ (s : SplitFields). GoesOn aim new now s) (λ i. record split { made = sym named i; phase = sym phased i })
-    (subst (λ (now : SplitFields). now.phase ≡ at.SecondHalf place → IsUnderWay aim (view_of old) now → GoesOn aim new now (record split { made = record split.made { dirs = slice_set split.made.dirs (2 * place + 1) n }; phase = at.Header })) is
-    (λ (phase : split.phase ≡ at.SecondHalf place) (under : IsUnderWay aim (view_of old) split).
+    (subst (λ (now : SplitFields). now.phase ≡ at.SecondHalf place → IsUnderWay aim (view_over aim.before old) now → GoesOn aim new now (record split { made = record split.made { dirs = slice_set split.made.dirs (2 * place + 1) n }; phase = at.Header })) is
+    (λ (phase : split.phase ≡ at.SecondHalf place) (under : IsUnderWay aim (view_over aim.before old) split).
     let depth = depth_of_second_half aim old split place phase may file under in
     let stands = stands_now aim old split (at.SecondHalf place) phase may file under in
     let g = split.directory_depth in
     let inside : 2 * place + 1 < length split.made.dirs = omega (arith, place_of_second_half aim old split place phase may file under) in
     let last : 2 ^ (g - 8) ≡ place + 1 = omega (arith, depth.2) in
     record {
-      under_way = last_page_stands aim (view_of old) (view_of new) split place n phase under makes inside depth.0 stands.deeper last;
+      under_way = last_page_stands aim (view_over aim.before old) (view_over aim.before new) split place n phase under makes inside depth.0 stands.deeper last;
       fewer = (let steps : 1 + 1 ≡ 2 * (2 ^ (g - 8) - place) = omega arith in steps) ∙ sym (ap (steps_left_at split.depth g) phase);
       depth = refl;
       directory_depth = refl;

@@ -3,7 +3,7 @@ use Rattle.std.proofs.Common.{◌≡◌, ℕ, sym, subst}
 use Rattle.mlt_page.specs.declared.page.Page.{Page}
 use Rattle.mlt_held.specs.Moments.{Moment}
 use Rattle.mlt_held.specs.PageSteps.{WritesHeldPage}
-use Rattle.mlt_held.specs.Views.{view_of}
+use Rattle.mlt_held.specs.Views.{view_over}
 use Rattle.mlt_split.specs.Rests.{Aim}
 use Rattle.mlt_split.specs.Splits.{SplitFields}
 use Rattle.mlt_split.specs.Steps.{IsDone, IsLeft, IsMaking, IsNextPage}
@@ -17,8 +17,8 @@ module _ (aim : Aim) (old new : Moment) (split : SplitFields) (phase : SplitPhas
   pub left_at : IsLeft phase aim old new → IsLeft split.phase aim old new
   left_at left = subst (λ (p : SplitPhase). IsLeft p aim old new) (sym is) left
 
-  pub next_page_at : (n : ℕ) → IsNextPage phase aim (view_of old) n → IsNextPage split.phase aim (view_of old) n
-  next_page_at n next = subst (λ (p : SplitPhase). IsNextPage p aim (view_of old) n) (sym is) next
+  pub next_page_at : (n : ℕ) → IsNextPage phase aim (view_over aim.before old) n → IsNextPage split.phase aim (view_over aim.before old) n
+  next_page_at n next = subst (λ (p : SplitPhase). IsNextPage p aim (view_over aim.before old) n) (sym is) next
 
 -- only a second half is made
 pub makes_second_half : (phase : SplitPhase) (place : ℕ) → phase ≡ at.SecondHalf place → IsMaking phase

@@ -10,15 +10,15 @@ use Rattle.mlt_page.specs.declared.slot.Slot.TheVariants.{Free}
 use Rattle.mlt_page.specs.Values.{BucketFields, HeadFields}
 use Rattle.mlt_page.specs.declared.page.Page.{Page}
 use Rattle.mlt_page.specs.declared.page.Page.TheVariants as page
-use Rattle.mlt_hash_form.specs.File.{HasForm, bucket_of, lead_of}
+use Rattle.mlt_hash_form.specs.File.{FilePages, HasForm, bucket_of, lead_of}
 use Rattle.mlt_hash_form.specs.Held.{Agrees, KeepsFile, over, own_or}
 use Rattle.mlt_hash_form.specs.Room.{is_crowded}
 use Rattle.mlt_held.specs.Views.{View}
 use Rattle.mlt_split.specs.declared.setting.Setting.{Setting}
 
 -- What a walk's splits are for: the function of keys, who is open, the header's page, the key that asks for room, the
--- transaction that adds it, and a depth at which its bucket has room for it. And how many buckets of another key it holds
--- at most, to which it went before: none, where it goes to one key.
+-- transaction that adds it, and a depth at which its bucket has room for it. And what it did for another key to which it
+-- went before: the pages that it wrote, and how many buckets it holds at most. Where it goes to one key there are none.
 pub record Aim : Type 0 where
   pub bits : ℕ → ℕ
   pub opens : set.FinSet nat_cmp
@@ -26,17 +26,19 @@ pub record Aim : Type 0 where
   pub key : ℕ
   pub owner : ℕ
   pub room_depth : ℕ
+  pub before : FilePages
   pub held_before : ℕ
 
 -- the aim of a transaction that adds a record of this key in this setting
-abbrev pub aim_by : {P : Type 0} → (P → ℕ → ℕ) → Setting P → ℕ → ℕ → ℕ → ℕ → Aim
-aim_by bits_of setting key owner room_depth held_before = record {
+abbrev pub aim_by : {P : Type 0} → (P → ℕ → ℕ) → Setting P → ℕ → ℕ → ℕ → FilePages → ℕ → Aim
+aim_by bits_of setting key owner room_depth before held_before = record {
   bits = bits_of setting.root.now.pseudo;
   opens = setting.opens.now;
   root = setting.root.now.page;
   key = key;
   owner = owner;
   room_depth = room_depth;
+  before = before;
   held_before = held_before;
 }
 

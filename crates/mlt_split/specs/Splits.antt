@@ -17,8 +17,8 @@ use Rattle.mlt_hash_form.specs.Changes.{MaySplit}
 use Rattle.mlt_hash_form.specs.Held.{Agrees, KeepsFile, over}
 use Rattle.mlt_hash_form.specs.Room.{is_crowded}
 use Rattle.mlt_hash_form.specs.Splits.{BucketSplit, IsMidway, bucket_split, run_length, run_start, target_in}
-use Rattle.mlt_held.specs.Moments.{HasCleanFile, MayStep, Moment}
-use Rattle.mlt_held.specs.Views.{View, view_of}
+use Rattle.mlt_held.specs.Moments.{HasFileOver, MayStep, Moment}
+use Rattle.mlt_held.specs.Views.{HasWritten, View, view_of, view_over}
 use Rattle.mlt_split.specs.Rests.{Aim, IsAtRest, HoldsAmong, held_page, most_held, seed_of}
 use Rattle.mlt_split.specs.declared.phase.SplitPhase.{SplitPhase}
 use Rattle.mlt_split.specs.declared.phase.SplitPhase.TheVariants as at
@@ -197,8 +197,10 @@ pub record IsUnderWay (aim : Aim) (view : View) (split : SplitFields) : Type 0 w
       → StandsAt split.phase aim splitters (over clean rest) (over clean view.own) split bucket
   pub among : HoldsAmongAt split.phase aim.held_before view header.dirs split
 
--- What a step of a split asks: the transaction may step, the clean pages are a hash file, and the split is under way.
+-- What a step of a split asks: the transaction may step, it has written what it wrote before, with which the clean pages
+-- are a hash file, and over this the split is under way.
 pub record MayAdvance (aim : Aim) (m : Moment) (split : SplitFields) : Type 0 where
   pub may : MayStep m
-  pub file : HasCleanFile aim.bits aim.root m
-  pub under_way : IsUnderWay aim (view_of m) split
+  pub written : HasWritten aim.before (view_of m)
+  pub file : HasFileOver aim.bits aim.root aim.before m
+  pub under_way : IsUnderWay aim (view_over aim.before m) split

@@ -7,7 +7,7 @@ use Rattle.mlt_page.specs.declared.page.Page.{Page}
 use Rattle.mlt_page.specs.declared.page.Page.TheVariants as page
 use Rattle.mlt_held.specs.Moments.{Moment}
 use Rattle.mlt_held.specs.PageSteps.{LocksPage, MakesLockedPage, WritesHeldPage}
-use Rattle.mlt_held.specs.Views.{View, view_of}
+use Rattle.mlt_held.specs.Views.{View, view_over}
 use Rattle.mlt_split.specs.Rests.{Aim, held_page, seed_of}
 use Rattle.mlt_split.specs.Splits.{SplitFields}
 use Rattle.mlt_split.specs.declared.phase.SplitPhase.{SplitPhase}
@@ -46,7 +46,7 @@ IsMaking at.Header = ⊥
 -- the next page was locked exclusively, and then written
 abbrev pub LocksAndWrites : Aim → Moment → Moment → ℕ → Type 0
 LocksAndWrites aim old new place = (n : ℕ)
-    × IsDirectoryPage aim (view_of old) place n
+    × IsDirectoryPage aim (view_over aim.before old) place n
     × ((mid : Moment) × LocksPage old mid n Exclusive × ((page : Page) × WritesHeldPage mid new n page))
 
 -- a step was done: one page was written, and locked before where it is of the directory, or made; and that is all
@@ -61,9 +61,9 @@ IsDone at.Header aim old new split = (page : Page) × WritesHeldPage old new aim
 abbrev pub IsLeft : SplitPhase → Aim → Moment → Moment → Type 0
 IsLeft at.OldBucket aim old new = new ≡ old
 IsLeft (at.InPlace place end) aim old new =
-    (n : ℕ) × IsDirectoryPage aim (view_of old) place n × LocksPage old new n Exclusive
+    (n : ℕ) × IsDirectoryPage aim (view_over aim.before old) place n × LocksPage old new n Exclusive
 IsLeft (at.Double place) aim old new =
-    (n : ℕ) × IsDirectoryPage aim (view_of old) place n × LocksPage old new n Exclusive
+    (n : ℕ) × IsDirectoryPage aim (view_over aim.before old) place n × LocksPage old new n Exclusive
 IsLeft (at.SecondHalf place) aim old new = new ≡ old
 IsLeft at.Header aim old new = new ≡ old
 

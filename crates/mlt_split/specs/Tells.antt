@@ -6,7 +6,7 @@ use Rattle.mlt_types.specs.declared.refusal.Refusal.TheVariants as refusal
 use Rattle.mlt_page.specs.Values.{BucketFields, HeadFields}
 use Rattle.mlt_page_locks.specs.Requests.{IsLowest, conflicts}
 use Rattle.mlt_held.specs.Moments.{Moment}
-use Rattle.mlt_held.specs.Views.{view_of}
+use Rattle.mlt_held.specs.Views.{view_over}
 use Rattle.mlt_split.specs.declared.split.SplitAnswer.{SplitAnswer}
 use Rattle.mlt_split.specs.declared.split.SplitAnswer.TheVariants as answer
 use Rattle.mlt_split.specs.Rests.{Aim, IsAtRest}
@@ -17,14 +17,14 @@ use Rattle.mlt_split.specs.Steps.{IsMaking, IsNextPage}
 pub record Rests (aim : Aim) (new : Moment) (split : SplitFields) (n : ℕ) : Type 0 where
   pub header : HeadFields
   pub bucket : BucketFields
-  pub rest : IsAtRest aim (view_of new) n header bucket
+  pub rest : IsAtRest aim (view_over aim.before new) n header bucket
   pub deeper : bucket.depth ≡ split.depth + 1
   pub in_place : (split.depth ≡ split.directory_depth → ⊥) → header.depth ≡ split.directory_depth
   pub doubled : split.depth ≡ split.directory_depth → header.depth ≡ split.directory_depth + 1
 
 -- One step fewer is left, by exactly one; the split keeps its pages and depths.
 pub record GoesOn (aim : Aim) (new : Moment) (before after : SplitFields) : Type 0 where
-  pub under_way : IsUnderWay aim (view_of new) after
+  pub under_way : IsUnderWay aim (view_over aim.before new) after
   pub fewer : steps_left after + 1 ≡ steps_left before
   pub depth : after.depth ≡ before.depth
   pub directory_depth : after.directory_depth ≡ before.directory_depth
@@ -35,7 +35,7 @@ abbrev pub Tells : Aim → Moment → Moment → SplitFields → SplitFields →
 Tells aim old new before after answer.Going = GoesOn aim new before after
 Tells aim old new before after (answer.Closed n) = Rests aim new before n × (steps_left before ≡ 1)
 Tells aim old new before after (answer.Waiting page by) =
-    IsNextPage before.phase aim (view_of old) page
+    IsNextPage before.phase aim (view_over aim.before old) page
     × IsLowest (conflicts old.locks old.running.tx page Exclusive) by
     × (new ≡ old)
     × (after ≡ before)

@@ -5,9 +5,9 @@ ghost use Rattle.std.specs.FinMap as map;
 ghost use Rattle.mlt_types.specs.declared.mode.Mode.TheVariants.{Exclusive};
 ghost use Rattle.mlt_page.specs.Values.{BucketFields, HeadFields};
 ghost use Rattle.mlt_page.specs.declared.page.Page.{Page};
-ghost use Rattle.mlt_held.specs.Moments.{HasCleanFile, MayStep, moment};
+ghost use Rattle.mlt_held.specs.Moments.{HasFileOver, MayStep, moment};
 ghost use Rattle.mlt_held.specs.PageSteps.{HasNoPageLeft, Leaves, MakesLockedPage};
-ghost use Rattle.mlt_held.specs.Views.{view_of};
+ghost use Rattle.mlt_held.specs.Views.{HasWritten, view_of, view_over};
 ghost use Rattle.mlt_page.specs.declared.page.Page.TheVariants as page;
 ghost use Rattle.mlt_split.specs.Rests.{Aim, IsAtRest, aim_by, held_page};
 ghost use Rattle.mlt_split.specs.Splits.{HasHalves, IsUnderWay, MayBegin, directory_steps, steps_left};
@@ -36,22 +36,23 @@ impl Split {
     ) -> Result<Split, Refusal>
         ghost aim: { Aim }
         requires aim { aim ≡ aim_by P.bits_of setting.now key subtx.old.tx aim.room_depth
-            aim.held_before }
+            aim.before aim.held_before }
         requires may { MayStep (moment subtx.old pages.old) }
-        requires file { HasCleanFile aim.bits aim.root (moment subtx.old pages.old) }
-        requires begins { MayBegin aim (view_of (moment subtx.old pages.old)) old }
+        requires written { HasWritten aim.before (view_of (moment subtx.old pages.old)) }
+        requires file { HasFileOver aim.bits aim.root aim.before (moment subtx.old pages.old) }
+        requires begins { MayBegin aim (view_over aim.before (moment subtx.old pages.old)) old }
         ensures makes { IfOk result (λ split. (page : Page)
             × MakesLockedPage (moment subtx.old pages.old) (moment subtx.new pages.new)
             split.new_page page) }
         ensures halves { IfOk result (λ split. (bucket : BucketFields)
-            → held_page (view_of (moment subtx.old pages.old)) old ≡ Some (page.Bucket bucket)
+            → held_page (view_over aim.before (moment subtx.old pages.old)) old ≡ Some (page.Bucket bucket)
             → HasHalves aim pages.new.store.pages bucket split) }
         ensures under_way { IfOk result (λ split.
-            IsUnderWay aim (view_of (moment subtx.new pages.new)) split) }
+            IsUnderWay aim (view_over aim.before (moment subtx.new pages.new)) split) }
         ensures steps { IfOk result (λ split.
             steps_left split ≡ 1 + directory_steps split.depth split.directory_depth) }
         ensures depths { IfOk result (λ split. (header : HeadFields) (bucket : BucketFields)
-            → IsAtRest aim (view_of (moment subtx.old pages.old)) old header bucket
+            → IsAtRest aim (view_over aim.before (moment subtx.old pages.old)) old header bucket
             → (split.depth ≡ bucket.depth) × (split.directory_depth ≡ header.depth)) }
         ensures leaves { Leaves (moment subtx.old pages.old) (moment subtx.new pages.new) }
         ensures err { OnErr result ((subtx.new ≡ subtx.old) × (pages.new ≡ pages.old)) }

@@ -13,7 +13,7 @@ ghost use Rattle.mlt_page_locks.specs.LockTables.{mode_held};
 ghost use Rattle.mlt_hash_form.specs.File.{HasForm, bucket_of};
 ghost use Rattle.mlt_hash_form.specs.Held.{Agrees};
 ghost use Rattle.mlt_held.specs.Moments.{Moment};
-ghost use Rattle.mlt_held.specs.Views.{View, view_of};
+ghost use Rattle.mlt_held.specs.Views.{View, view_over};
 ghost use Rattle.mlt_split.specs.Rests.{Aim, IsAtRest, KeepsNoMore};
 ghost use Rattle.mlt_split.specs.Splits.{IsUnderWay, SplitFields};
 ghost use Rattle.mlt_split.specs.Steps.{IsKeysPage, IsMaking, IsNextPage, Touches};
@@ -45,7 +45,7 @@ pub fn steps_lock_their_page_alone()
         → Touches told aim old new split
         → (mode_held new.locks old.running.tx p ≡ mode_held old.locks old.running.tx p)
         ⊎ ((mode_held new.locks old.running.tx p ≡ Some Exclusive)
-        × (IsNextPage split.phase aim (view_of old) p
+        × (IsNextPage split.phase aim (view_over aim.before old) p
         ⊎ (IsMaking split.phase × (page_at old.store.pages p ≡ None)))) }
 {}
 

@@ -1,9 +1,11 @@
 use Rattle.std.proofs.Common.{◌≡◌, sym, ◌∙◌, ap, subst}
 use Rattle.mlt_page.specs.declared.page.Page.TheVariants as page
+use Rattle.mlt_held.proofs.Rebased.{rebased_writes_page}
+use Rattle.mlt_split.proofs.HeldPages.{clean_now}
 use Rattle.mlt_split.specs.FirstPhases.{IsFirstPhase}
 use Rattle.mlt_held.specs.Moments.{moment}
 use Rattle.mlt_held.specs.PageSteps.{WritesHeldPage}
-use Rattle.mlt_held.specs.Views.{view_of}
+use Rattle.mlt_held.specs.Views.{view_over, view_of}
 use Rattle.mlt_split.specs.Splits.{IsUnderWay, SplitFields}
 use Rattle.mlt_split.specs.Tells.{GoesOn}
 use Rattle.mlt_split.specs.declared.phase.SplitPhase.TheVariants as at
@@ -16,7 +18,7 @@ use Rattle.mlt_split.proofs.old_bucket.write_old_bucket.Goals as goal
 pub first_directory_step-split-inside-requires : goal.first_directory_step-split-inside-requires
 first_directory_step-split-inside-requires g c =
     let m = moment c.args.subtx.now c.args.pages.now in
-    depths_are_small g.aim _ c.args.split.now _ (begins_now g.aim m c.args.split.now c.requires.1.may c.requires.1.file c.requires.1.under_way)
+    depths_are_small g.aim _ c.args.split.now _ (begins_now g.aim m c.args.split.now c.requires.1.may (clean_now g.aim m c.requires.1.may c.requires.1.file) c.requires.1.under_way)
 
 pub returns-in-Err-clause-leaves : goal.returns-in-Err-clause-leaves
 returns-in-Err-clause-leaves g c =
@@ -45,8 +47,8 @@ returns-clause-tells g c =
     let phase = c.first_directory_step-split-inside.result in
     let split : SplitFields = record { seed = c.split.inside.seed; old_page = c.split.inside.old_page; new_page = c.split.inside.new_page; depth = c.split.inside.depth; directory_depth = c.split.inside.directory_depth; zeros = c.split.inside.zeros; made = record { depth = c.split.inside.made.depth; dirs = c.split.inside.made.dirs }; second = c.split.inside.second; phase = c.split.inside.phase } in
     let is : split ≡ c.args.split.now = c.split.view_is in
-    let way : IsUnderWay g.aim (view_of m) split = subst (λ (s : SplitFields). IsUnderWay g.aim (view_of m) s) (sym is) c.requires.1.under_way in
+    let way : IsUnderWay g.aim (view_over g.aim.before m) split = subst (λ (s : SplitFields). IsUnderWay g.aim (view_over g.aim.before m) s) (sym is) c.requires.1.under_way in
     let first : IsFirstPhase split phase = subst (λ (s : SplitFields). IsFirstPhase s phase) (sym is) c.first_directory_step-split-inside.ensures in
     let at_old : split.phase ≡ at.OldBucket = ap (λ (s : SplitFields). s.phase) is ∙ c.requires.0 in
     subst (λ (s : SplitFields). GoesOn g.aim new s (record split { phase = phase })) is
-    (old_bucket_step g.aim m new split phase c.requires.1.may c.requires.1.file way at_old c.in_default.ensures.view first)
+    (old_bucket_step g.aim m new split phase c.requires.1.may (clean_now g.aim m c.requires.1.may c.requires.1.file) way at_old (rebased_writes_page g.aim.before (view_of m) (view_of new) split.old_page (page.Bucket split.zeros) c.in_default.ensures.view) first)
