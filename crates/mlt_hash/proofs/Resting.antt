@@ -29,7 +29,7 @@ use Rattle.mlt_hash_form.proofs.Crowd.{crowded_at_own_depth}
 use Rattle.mlt_hash_form.proofs.FillEnds.{page_listed}
 use Rattle.mlt_hash_form.proofs.HeldPages.{keeps_none}
 use Rattle.mlt_hash_form.proofs.Paths.{path_depths}
-use Rattle.mlt_held.specs.Moments.{HasCleanFile, MayStep, Moment}
+use Rattle.mlt_held.specs.Moments.{HasCleanFile, MayStep, Moment, no_writes}
 use Rattle.mlt_held.specs.Views.{View, view_of}
 use Rattle.mlt_held.proofs.Views.{mode_of_others, mode_of_page}
 use Rattle.mlt_held.proofs.Views as views
@@ -116,9 +116,6 @@ pub header_is_exclusive : (mode : Mode) (root dir n : ℕ) → map.get (bucket_h
 header_is_exclusive mode root dir n =
     let alone : map.get (header_held pass.Wide root) root ≡ Some Exclusive = mode_of_page map.empty root Exclusive ∙ ap (λ o. Some (stronger o Exclusive)) (map.get-empty {X = Mode} nat_cmp root) in
     stays_exclusive (directory_held pass.Wide root dir) n (bucket_mode pass.Wide mode) root (stays_exclusive (header_held pass.Wide root) dir (directory_mode pass.Wide) root alone)
-
-abbrev no_writes : ℕ → Option Page
-no_writes q = None
 
 -- what is known where a bucket has no room, up to what the next pass is
 module _ (basis : Basis) (walk : WalkFields) (m : Moment) (fields : BucketFields) (bounded : (k : ℕ) → basis.bits k < 2 ^ 64) (may : MayStep m) (file : HasCleanFile basis.bits basis.root m)

@@ -15,8 +15,9 @@ use Rattle.mlt_held.specs.Moments.{HasCleanFile, MayStep, Moment}
 use Rattle.mlt_held.specs.PageSteps.{LocksAtMost, TouchesOnePage, WritesAtMost}
 use Rattle.mlt_held.specs.Views.{view_of}
 use Rattle.mlt_held.proofs.OwnSteps.{step_keeps_tx}
+use Rattle.mlt_held.proofs.Since.{nothing_written}
 use Rattle.mlt_held.proofs.Views.{agrees, holds_exclusively, may_write}
-use Rattle.mlt_split.specs.Splits.{IsUnderWay, SplitFields, steps_left}
+use Rattle.mlt_split.specs.Splits.{IsUnderWay, MayAdvance, SplitFields, steps_left}
 use Rattle.mlt_split.specs.Rests.{Aim}
 use Rattle.mlt_split.specs.Steps.{IsDone, IsLeft, IsMaking, Touches}
 use Rattle.mlt_split.specs.Tells.{GoesOn, Rests, Tells}
@@ -24,7 +25,7 @@ use Rattle.mlt_split.specs.declared.phase.SplitPhase.{SplitPhase}
 use Rattle.mlt_split.specs.declared.phase.SplitPhase.TheVariants as split_at
 use Rattle.mlt_split.specs.declared.split.SplitAnswer.{SplitAnswer}
 use Rattle.mlt_split.specs.declared.split.SplitAnswer.TheVariants as split_answer
-use Rattle.mlt_hash.specs.Walks.{Basis, HasRead, HoldsByPass, IsAdding, IsSplitting, IsStanding, Stands, StaysNarrow, WalkFields, aim_of}
+use Rattle.mlt_hash.specs.Walks.{Basis, HasRead, HoldsByPass, IsAdding, IsSplitting, IsStanding, MayWalk, Stands, StaysNarrow, WalkFields, aim_of}
 use Rattle.mlt_hash.specs.Splitting.{OfSplit, SplitCloses, SplitGoesOn, TellsOfSplitting, walk_step}
 use Rattle.mlt_hash.specs.Steps.{TellsOfPath}
 use Rattle.mlt_hash.proofs.Passed.{StepsOn, holds_on, narrow_keeps_header, reads_on, steps_by_split}
@@ -62,6 +63,17 @@ splitting_at basis walk old value room_depth phase stands = subst (λ p. Stands 
 
 some_is_one : {X : Type 0} (x y : X) (o : Option X) → o ≡ Some x → o ≡ Some y → x ≡ y
 some_is_one x y o is_x is_y = let e : Some x ≡ Some y = sym is_x ∙ is_y in cc
+
+-- a walk that splits may go on with its split
+pub may_advance : (basis : Basis) (walk : WalkFields) (old : Moment) (value room_depth : ℕ) (was : SplitFields) → walk.phase ≡ at.Splitting value room_depth → walk.split ≡ Some was → MayWalk basis old walk → MayAdvance (aim_of basis walk room_depth) old was
+may_advance basis walk old value room_depth was phase was_is ready =
+    let splits = splitting_at basis walk old value room_depth phase ready.stands in
+    record {
+      may = ready.may;
+      written = nothing_written (view_of old);
+      file = ready.file;
+      under_way = subst (λ (s : SplitFields). IsUnderWay (aim_of basis walk room_depth) (view_of old) s) (some_is_one splits.split was walk.split splits.split_is was_is) splits.under_way;
+    }
 
 module _ (basis : Basis) (walk after : WalkFields) (old new : Moment) (value room_depth : ℕ) (was : SplitFields) (phase : walk.phase ≡ at.Splitting value room_depth) (stands : IsStanding basis walk (view_of old)) (was_is : walk.split ≡ Some was) (may : MayStep old) (file : HasCleanFile basis.bits basis.root old) (touches : TouchesOnePage old new) (done : IsDone was.phase (aim_of basis walk room_depth) old new was) where
   splits : IsSplitting basis walk (view_of old) room_depth

@@ -17,7 +17,7 @@ use Rattle.mlt_hash_form.specs.File.{HasForm, depth_of, dir_of, row_of}
 use Rattle.mlt_hash_form.specs.Changes.{IsHome, slot_change}
 use Rattle.mlt_hash_form.specs.Held.{Agrees, ChangesFile, over}
 use Rattle.mlt_hash_form.specs.declared.root.Root.{Root}
-use Rattle.mlt_held.specs.Moments.{HasCleanFile, MayStep, Moment}
+use Rattle.mlt_held.specs.Moments.{HasCleanFile, MayStep, Moment, no_writes}
 use Rattle.mlt_held.specs.Reading.{HasReadBucket}
 use Rattle.mlt_held.specs.Views.{IsUnwritten, View, view_of}
 use Rattle.mlt_split.specs.Rests.{Aim, IsAtRest, held_page}
@@ -131,7 +131,7 @@ pub record StaysNarrow (root : ℕ) (view : View) (room_depth l g : ℕ) : Type 
   pub one_page : g ≤ l + 8
   pub unwritten : view.own root ≡ None
 
--- what a walk's splits are for: it goes to one key, and holds no bucket of another
+-- what a walk's splits are for: it goes to one key, has written nothing before, and holds no bucket of another
 abbrev pub aim_of : Basis → WalkFields → ℕ → Aim
 aim_of basis walk room_depth = record {
   bits = basis.bits;
@@ -140,6 +140,7 @@ aim_of basis walk room_depth = record {
   key = walk.key;
   owner = basis.tx;
   room_depth = room_depth;
+  before = no_writes;
   held_before = 0;
 }
 

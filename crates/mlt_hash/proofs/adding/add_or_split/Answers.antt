@@ -5,6 +5,7 @@ use Rattle.mlt_page.specs.Slots.{is_live_of}
 use Rattle.mlt_page.specs.declared.slot.Slot.TheVariants.{Live}
 use Rattle.mlt_held.specs.Moments.{Moment, moment}
 use Rattle.mlt_held.specs.Views.{view_of}
+use Rattle.mlt_held.proofs.Since.{nothing_written}
 use Rattle.mlt_record.specs.Plans.{has_room}
 use Rattle.mlt_split.specs.Splits.{HasHalves, IsUnderWay, MayBegin}
 use Rattle.mlt_split.specs.Rests.{Aim, IsAtRest}
@@ -69,7 +70,7 @@ begin-requires g c κs within =
     let begins : MayBegin aim (view_of old) c.args.number = may_begin basis walk old c.args.number c.args.room_depth c.args.unsplit c.requires.1.1.1.may c.requires.1.1.1.file adds shallow in
     let key : c.walk.inside.key ≡ walk.key = ap (λ (w : WalkFields). w.key) c.walk.view_is in
     let here : MayBegin (record aim { key = c.walk.inside.key; room_depth = g.needed }) (view_of old) c.args.number = rw (key, c.requires.1.0) begins in
-    (within, (refl, (c.requires.1.1.1.may, (c.requires.1.1.1.file, here))))
+    (within, (refl, (c.requires.1.1.1.may, (nothing_written (view_of old), (c.requires.1.1.1.file, here)))))
 
 pub returns-in-Ok-clause-tells : goal.returns-in-Ok-clause-tells
 returns-in-Ok-clause-tells g c =

@@ -1,14 +1,23 @@
 use Rattle.std.proofs.Common.{◌≡◌, false, Option, Some, ap, sym, subst, ◌∙◌, inl, inr}
 use Rattle.mlt_held.specs.Moments.{moment}
-use Rattle.mlt_held.specs.Views.{view_of}
+use Rattle.mlt_held.specs.Views.{view_over}
 use Rattle.mlt_split.specs.Rests.{Aim}
-use Rattle.mlt_split.specs.Splits.{SplitFields, steps_left}
+use Rattle.mlt_split.specs.Splits.{MayAdvance, SplitFields, steps_left}
 use Rattle.mlt_split.specs.Steps.{IsDone, IsNextPage}
 use Rattle.mlt_split.specs.Tells.{GoesOn, Rests}
 use Rattle.mlt_hash.specs.Walks.{Basis, WalkFields, basis_in}
 use Rattle.mlt_hash.specs.declared.pass.Phase.TheVariants as at
-use Rattle.mlt_hash.proofs.Splittings.{no_room_in_split, refused_alike, split_closes_walk, split_goes_on, split_is_refused}
+use Rattle.mlt_hash.proofs.Splittings.{may_advance, no_room_in_split, refused_alike, split_closes_walk, split_goes_on, split_is_refused}
 use Rattle.mlt_hash.proofs.adding.go_on_splitting.Goals as goal
+
+pub advance-requires : goal.advance-requires
+advance-requires g c =
+    let basis : Basis = basis_in g.P.Pseudo.bits_of c.args.setting.now c.args.subtx.now.tx in
+    let walk : WalkFields = c.args.walk.now in
+    let old = moment c.args.subtx.now c.args.pages.now in
+    let was : walk.split ≡ Some c.deref_mut.result.now = sym (ap (λ (w : WalkFields). w.split) c.walk.view_is) ∙ ap (Rattle.std.specs.Option.option_map (λ b. b.value)) c.in-Some.is ∙ ap Some (sym c.deref_mut.ensures.value) in
+    let ready = may_advance basis walk old c.args.value c.args.room_depth c.deref_mut.result.now c.requires.1.1.0 was c.requires.1.1.1 in
+    (sym (ap (λ (a : Aim). a.root) c.requires.1.0), subst (λ (a : Aim). MayAdvance a old c.deref_mut.result.now) (sym c.requires.1.0) ready)
 
 pub returns-in-Going-clause-tells : goal.returns-in-Going-clause-tells
 returns-in-Going-clause-tells g c =
@@ -42,7 +51,7 @@ returns-in-Waiting-clause-tells g c =
     let was : walk.split ≡ Some c.deref_mut.result.now = sym (ap (λ (w : WalkFields). w.split) c.walk.view_is) ∙ ap (Rattle.std.specs.Option.option_map (λ b. b.value)) c.in-Some.is ∙ ap Some (sym c.deref_mut.ensures.value) in
     let tells = c.in-Waiting.ensures.tells in
     let same : record walk { split = Some c.advance.new.self } ≡ walk = ap (λ (s : SplitFields). record walk { split = Some s }) tells.3 ∙ ap (λ (o : Option SplitFields). record walk { split = o }) (sym was) in
-    ((c.deref_mut.result.now, was, subst (λ (aim : Aim). IsNextPage c.deref_mut.result.now.phase aim (view_of old) c.in-Waiting.page) c.requires.1.0 tells.0), tells.1, tells.2, ap (λ (w : WalkFields). record w { split = Some c.advance.new.self }) c.walk.view_is ∙ same)
+    ((c.deref_mut.result.now, was, subst (λ (aim : Aim). IsNextPage c.deref_mut.result.now.phase aim (view_over aim.before old) c.in-Waiting.page) c.requires.1.0 tells.0), tells.1, tells.2, ap (λ (w : WalkFields). record w { split = Some c.advance.new.self }) c.walk.view_is ∙ same)
 
 pub returns-in-Refused-clause-tells : goal.returns-in-Refused-clause-tells
 returns-in-Refused-clause-tells g c =
