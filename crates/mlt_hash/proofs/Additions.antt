@@ -16,13 +16,13 @@ use Rattle.mlt_held.specs.Moments.{Moment}
 use Rattle.mlt_held.specs.Views.{ReadsHeldBucket, View, WritesPage, view_of}
 use Rattle.mlt_record.specs.Plans.{IsNowhere, SetsFirst, WriteFields, has_room, planned_page}
 use Rattle.mlt_hash.specs.Passes.{slot_after}
-use Rattle.mlt_hash.specs.Walks.{Basis, FoundBefore, Stands, StoodBefore, WalkFields}
-use Rattle.mlt_hash.specs.Changes.{FillsFirst, HasOwnGhost, IsAtAbsent, IsFull, Makes, PlansSlot, RevivesFirst, SeesBucket, TakesSlot, TellsOfAddition, TellsOfChange, directory_depth_of, page_of}
+use Rattle.mlt_hash.specs.Walks.{Basis, FoundBefore, Stands, StoodBefore, WalkFields, nothing_before, view_for}
+use Rattle.mlt_hash.specs.Changes.{FillsFirst, HasOwnGhost, IsAtAbsent, IsAtBucketPhase, IsFull, Makes, PlansSlot, RevivesFirst, SeesBucket, TakesSlot, TellsOfAddition, TellsOfChange, TellsOfWrite, directory_depth_of, page_of}
 use Rattle.mlt_hash.specs.declared.pass.Change.{Change}
 use Rattle.mlt_hash.specs.declared.pass.Change.TheVariants as change
 use Rattle.mlt_hash.specs.declared.answer.WalkAnswer.{WalkAnswer}
 use Rattle.mlt_hash.specs.declared.answer.WalkAnswer.TheVariants as answer
-use Rattle.mlt_hash.proofs.InPlace.{ReadsBucket, WritesPlan, absent_at, found_there, makes_change, may_write_bucket, no_live_slot, plan_reads, plans_slot, same_bucket, tells_change}
+use Rattle.mlt_hash.proofs.InPlace.{ReadsBucket, WritesPlan, absent_at, at_bucket_without, found_there, makes_change, may_write_bucket, no_live_slot, plan_reads, plans_slot, same_bucket, write_cases}
 
 -- where a search ends that finds nothing
 pub nowhere_found : (has : Slot → Bool) (slots : List Slot) (place : Option ℕ) → position has slots ≡ place → IsNowhere has slots → place ≡ None
@@ -65,80 +65,93 @@ ghost_has_plan basis walk view key owner fields ghost sees key_is own nowhere =
     false≢true (sym (nowhere ghost.1 at.0) ∙ at.1)
 
 -- and may write it.
-pub absent_may_write : (basis : Basis) (walk : WalkFields) (old : Moment) (number : ℕ) (fields : BucketFields) (has : Slot → Bool) (s : Slot) (write : WriteFields) → IsAtAbsent walk.phase → Stands walk.phase basis walk (view_of old) → walk.mode ≡ Exclusive
+pub absent_may_write : (basis : Basis) (walk : WalkFields) (old : Moment) (number : ℕ) (fields : BucketFields) (has : Slot → Bool) (s : Slot) (write : WriteFields) → IsAtAbsent walk.phase → Stands walk.phase basis walk (view_for basis old) → walk.mode ≡ Exclusive
     → number ≡ page_of walk.phase → SetsFirst number fields has s write → can_write old.locks old.running.tx write.number ≡ true
-absent_may_write basis walk old number fields has s write none stands = may_write_bucket basis walk old number (directory_depth_of walk.phase) None fields has s write (absent_at basis walk (view_of old) walk.phase none stands)
+absent_may_write basis walk old number fields has s write none stands = may_write_bucket basis walk old number (directory_depth_of walk.phase) None fields has s write (absent_at basis walk (view_for basis old) walk.phase none stands)
 
 -- Its plan is one of what it reads.
-pub absent_plans : (basis : Basis) (walk : WalkFields) (old : Moment) (number : ℕ) (fields : BucketFields) (has : Slot → Bool) (s : Slot) (write : WriteFields) → IsAtAbsent walk.phase → Stands walk.phase basis walk (view_of old) → SeesBucket walk (view_of old) fields
-    → number ≡ page_of walk.phase → SetsFirst number fields has s write → PlansSlot (view_of old) write
-absent_plans basis walk old number fields has s write none stands = plans_slot walk (view_of old) number fields has s write (absent_at basis walk (view_of old) walk.phase none stands).unwritten
+pub absent_plans : (basis : Basis) (walk : WalkFields) (old : Moment) (number key : ℕ) (fields : BucketFields) (has : Slot → Bool) (s : Slot) (write : WriteFields) → IsAtAbsent walk.phase → (reads : ReadsBucket basis walk old number key fields)
+    → SetsFirst number fields has s write → PlansSlot (view_of old) write
+absent_plans basis walk old number key fields has s write none reads =
+    plans_slot basis walk old number (directory_depth_of walk.phase) None fields has s write reads.ready.written (absent_at basis walk (view_for basis old) walk.phase none reads.ready.stands) reads.sees reads.here
 
 module _ (basis : Basis) (walk after : WalkFields) (old new : Moment) (number key : ℕ) (fields : BucketFields) (write : WriteFields) (result : WalkAnswer) (reads : ReadsBucket basis walk old number key fields) (none : IsAtAbsent walk.phase) where
   -- the plan of a walk whose key had no record is the change of it
   absent_makes : (done : Change) (has : Slot → Bool) → FoundBefore done None → (plan : SetsFirst number fields has (slot_after done walk.key basis.tx) write) → StoodBefore done basis walk.key fields.slots (slice_index_or fields.slots plan.slot Free)
-      → WritesPlan walk after old new write done result → Makes basis new walk after done
-  absent_makes done has fits plan was told =
-      makes_change basis walk after old new number (directory_depth_of walk.phase) None fields done has write reads.bounded (absent_at basis walk (view_of old) walk.phase none reads.stands) reads.sees reads.here plan fits was told.writes told.walk_is
+      → WritesPlan basis walk after old new write done → Makes basis new walk after done
+  absent_makes done has fits plan was wrote =
+      makes_change basis walk after old new number (directory_depth_of walk.phase) None fields done has write reads.ready.bounded reads.ready.small (absent_at basis walk (view_for basis old) walk.phase none reads.ready.stands) reads.sees reads.here plan fits was wrote.writes wrote.walk_is
 
   no_value : value_in walk.key fields.slots ≡ None
-  no_value = absent_value basis walk (view_of old) fields none reads.stands reads.sees
+  no_value = absent_value basis walk (view_for basis old) fields none reads.ready.stands reads.sees
 
-  revive_makes : (value owner : ℕ) → owner ≡ basis.tx → SetsFirst number fields (is_ghost_of key owner) (Live key value) write → WritesPlan walk after old new write (change.Revive value) result → Makes basis new walk after (change.Revive value)
-  revive_makes value owner own plan told =
+  at_bucket : IsAtBucketPhase walk.phase
+  at_bucket = at_bucket_without walk.phase none
+
+  -- the plan of a revival is one of the walk's own key and transaction
+  own_plan : (value owner : ℕ) → owner ≡ basis.tx → SetsFirst number fields (is_ghost_of key owner) (Live key value) write → SetsFirst number fields (is_ghost_of walk.key basis.tx) (Live walk.key value) write
+  own_plan value owner own plan =
       let of_walk : SetsFirst number fields (is_ghost_of walk.key owner) (Live walk.key value) write = subst (λ k. SetsFirst number fields (is_ghost_of k owner) (Live k value) write) reads.key_is plan in
-      let own_plan : SetsFirst number fields (is_ghost_of walk.key basis.tx) (Live walk.key value) write = subst (λ tx. SetsFirst number fields (is_ghost_of walk.key tx) (Live walk.key value) write) own of_walk in
-      absent_makes (change.Revive value) (is_ghost_of walk.key basis.tx) refl own_plan (no_value, own_plan.was) told
+      subst (λ tx. SetsFirst number fields (is_ghost_of walk.key tx) (Live walk.key value) write) own of_walk
+
+  revive_makes : (value owner : ℕ) → owner ≡ basis.tx → SetsFirst number fields (is_ghost_of key owner) (Live key value) write → WritesPlan basis walk after old new write (change.Revive value) → Makes basis new walk after (change.Revive value)
+  revive_makes value owner own plan wrote =
+      let mine = own_plan value owner own plan in
+      absent_makes (change.Revive value) (is_ghost_of walk.key basis.tx) refl mine (no_value, mine.was) wrote
 
   -- **A revival,**
-  pub revive_tells : (value owner : ℕ) → owner ≡ basis.tx → SetsFirst number fields (is_ghost_of key owner) (Live key value) write → WritesPlan walk after old new write (change.Revive value) result → TellsOfChange basis new walk after (change.Revive value) result
-  revive_tells value owner own plan told = tells_change basis new walk after (change.Revive value) result told.answer_is (revive_makes value owner own plan told)
+  pub revive_tells : (value owner : ℕ) → owner ≡ basis.tx → SetsFirst number fields (is_ghost_of key owner) (Live key value) write → TellsOfWrite old new walk after write (change.Revive value) result → TellsOfChange basis new walk after (change.Revive value) result
+  revive_tells value owner own plan told =
+      write_cases basis walk after old new write (change.Revive value) reads.ready at_bucket (λ r. TellsOfChange basis new walk after (change.Revive value) r) result told (λ wrote. revive_makes value owner own plan wrote) (λ lacks. lacks)
 
   -- **an addition in the place of the transaction's own ghost,**
-  pub revival_tells : (value owner : ℕ) → owner ≡ basis.tx → SetsFirst number fields (is_ghost_of key owner) (Live key value) write → WritesPlan walk after old new write (change.Revive value) result → TellsOfAddition basis new walk after value result
-  revival_tells value owner own plan told = subst (λ r. TellsOfAddition basis new walk after value r) (sym told.answer_is) (inl (revive_makes value owner own plan told))
+  pub revival_tells : (value owner : ℕ) → owner ≡ basis.tx → SetsFirst number fields (is_ghost_of key owner) (Live key value) write → TellsOfWrite old new walk after write (change.Revive value) result → TellsOfAddition basis new walk after value result
+  revival_tells value owner own plan told =
+      write_cases basis walk after old new write (change.Revive value) reads.ready at_bucket (λ r. TellsOfAddition basis new walk after value r) result told (λ wrote. inl (revive_makes value owner own plan wrote)) (λ lacks. lacks)
 
   -- **and one in a slot with room.**
-  pub put_tells : (value owner : ℕ) → owner ≡ basis.tx → IsNowhere (is_ghost_of key owner) fields.slots → SetsFirst number fields (has_room basis.opens) (Live key value) write → WritesPlan walk after old new write (change.Put value) result → TellsOfAddition basis new walk after value result
+  pub put_tells : (value owner : ℕ) → owner ≡ basis.tx → IsNowhere (is_ghost_of key owner) fields.slots → SetsFirst number fields (has_room basis.opens) (Live key value) write → TellsOfWrite old new walk after write (change.Put value) result → TellsOfAddition basis new walk after value result
   put_tells value owner own nowhere plan told =
       let of_walk : SetsFirst number fields (has_room basis.opens) (Live walk.key value) write = subst (λ k. SetsFirst number fields (has_room basis.opens) (Live k value) write) reads.key_is plan in
       let no_ghost : position (is_ghost_of walk.key basis.tx) fields.slots ≡ None = own_ghost_nowhere basis walk key owner fields reads.key_is own nowhere in
       let free : is_kept basis.opens (slice_index_or fields.slots of_walk.slot Free) ≡ false = not-true (is_kept basis.opens (slice_index_or fields.slots of_walk.slot Free)) of_walk.was in
-      let makes : Makes basis new walk after (change.Put value) = absent_makes (change.Put value) (has_room basis.opens) refl of_walk (no_value, no_ghost, free) told in
-      subst (λ r. TellsOfAddition basis new walk after value r) (sym told.answer_is) (inr makes)
+      write_cases basis walk after old new write (change.Put value) reads.ready at_bucket (λ r. TellsOfAddition basis new walk after value r) result told
+      (λ wrote. inr (absent_makes (change.Put value) (has_room basis.opens) refl of_walk (no_value, no_ghost, free) wrote)) (λ lacks. lacks)
 
   -- The slot that its plan names is the first one with the property.
-  fills : (has : Slot → Bool) (s : Slot) (done : Change) → (plan : SetsFirst number fields has s write) → WritesPlan walk after old new write done result → FillsFirst (view_of old) (view_of new) (page_of walk.phase) has s
-  fills has s done plan told =
-      let unwritten = (absent_at basis walk (view_of old) walk.phase none reads.stands).unwritten in
+  fills : (has : Slot → Bool) (s : Slot) (done : Change) → (plan : SetsFirst number fields has s write) → WritesPlan basis walk after old new write done → FillsFirst (view_for basis old) (view_for basis new) (page_of walk.phase) has s
+  fills has s done plan wrote =
       let on : write.number ≡ page_of walk.phase = ap (λ (w : WriteFields). w.number) plan.written ∙ reads.here in
-      let here : ReadsHeldBucket (view_of old) write.number fields = plan_reads walk (view_of old) number fields has s write unwritten reads.sees reads.here plan in
+      let here : ReadsHeldBucket (view_for basis old) write.number fields = plan_reads basis walk (view_for basis old) number (directory_depth_of walk.phase) None fields has s write (absent_at basis walk (view_for basis old) walk.phase none reads.ready.stands) reads.sees reads.here plan in
       record {
         bucket = fields;
-        reads = subst (λ q. ReadsHeldBucket (view_of old) q fields) on here;
+        reads = subst (λ q. ReadsHeldBucket (view_for basis old) q fields) on here;
         write = write;
         first = subst (λ q. SetsFirst q fields has s write) reads.here plan;
-        writes = subst (λ q. WritesPage (view_of old) (view_of new) q (planned_page fields write)) on (told.writes fields here);
+        writes = subst (λ q. WritesPage (view_for basis old) (view_for basis new) q (planned_page fields write)) on (wrote.writes fields here);
       }
 
   -- **A revival takes the first ghost,**
-  pub revival_takes_first : (value owner : ℕ) → owner ≡ basis.tx → SetsFirst number fields (is_ghost_of key owner) (Live key value) write → WritesPlan walk after old new write (change.Revive value) result → RevivesFirst basis.tx (view_of old) (view_of new) walk (page_of walk.phase) value
-  revival_takes_first value owner own plan told =
-      let of_walk : SetsFirst number fields (is_ghost_of walk.key owner) (Live walk.key value) write = subst (λ k. SetsFirst number fields (is_ghost_of k owner) (Live k value) write) reads.key_is plan in
-      let own_plan : SetsFirst number fields (is_ghost_of walk.key basis.tx) (Live walk.key value) write = subst (λ tx. SetsFirst number fields (is_ghost_of walk.key tx) (Live walk.key value) write) own of_walk in
-      fills (is_ghost_of walk.key basis.tx) (Live walk.key value) (change.Revive value) own_plan told
+  revival_takes_first : (value owner : ℕ) → owner ≡ basis.tx → SetsFirst number fields (is_ghost_of key owner) (Live key value) write → WritesPlan basis walk after old new write (change.Revive value) → RevivesFirst basis.tx (view_for basis old) (view_for basis new) walk (page_of walk.phase) value
+  revival_takes_first value owner own plan wrote = fills (is_ghost_of walk.key basis.tx) (Live walk.key value) (change.Revive value) (own_plan value owner own plan) wrote
+
+  -- **as it does where the key is the walk's first,**
+  pub first_revival : (value owner : ℕ) → owner ≡ basis.tx → SetsFirst number fields (is_ghost_of key owner) (Live key value) write → basis.before ≡ nothing_before → TellsOfWrite old new walk after write (change.Revive value) result → RevivesFirst basis.tx (view_for basis old) (view_for basis new) walk (page_of walk.phase) value
+  first_revival value owner own plan anew told =
+      write_cases basis walk after old new write (change.Revive value) reads.ready at_bucket (λ r. RevivesFirst basis.tx (view_for basis old) (view_for basis new) walk (page_of walk.phase) value) result told (λ wrote. revival_takes_first value owner own plan wrote) (λ lacks. absurd (lacks.1 anew))
 
   -- **an addition too,**
-  pub revival_takes : (value owner : ℕ) → owner ≡ basis.tx → SetsFirst number fields (is_ghost_of key owner) (Live key value) write → WritesPlan walk after old new write (change.Revive value) result → TakesSlot result basis (view_of old) (view_of new) walk value
-  revival_takes value owner own plan told = subst (λ r. TakesSlot r basis (view_of old) (view_of new) walk value) (sym told.answer_is) (inl (revival_takes_first value owner own plan told))
+  pub revival_takes : (value owner : ℕ) → owner ≡ basis.tx → SetsFirst number fields (is_ghost_of key owner) (Live key value) write → TellsOfWrite old new walk after write (change.Revive value) result → TakesSlot result basis (view_for basis old) (view_for basis new) walk value
+  revival_takes value owner own plan told =
+      write_cases basis walk after old new write (change.Revive value) reads.ready at_bucket (λ r. TakesSlot r basis (view_for basis old) (view_for basis new) walk value) result told (λ wrote. inl (revival_takes_first value owner own plan wrote)) (λ lacks. tt)
 
   -- **and where there is none, the lowest slot with room.**
-  pub put_takes : (value owner : ℕ) → owner ≡ basis.tx → IsNowhere (is_ghost_of key owner) fields.slots → SetsFirst number fields (has_room basis.opens) (Live key value) write → WritesPlan walk after old new write (change.Put value) result → TakesSlot result basis (view_of old) (view_of new) walk value
+  pub put_takes : (value owner : ℕ) → owner ≡ basis.tx → IsNowhere (is_ghost_of key owner) fields.slots → SetsFirst number fields (has_room basis.opens) (Live key value) write → TellsOfWrite old new walk after write (change.Put value) result → TakesSlot result basis (view_for basis old) (view_for basis new) walk value
   put_takes value owner own nowhere plan told =
       let of_walk : SetsFirst number fields (has_room basis.opens) (Live walk.key value) write = subst (λ k. SetsFirst number fields (has_room basis.opens) (Live k value) write) reads.key_is plan in
-      let no_ghost : HasOwnGhost basis.tx walk (view_of old) → ⊥ = λ ghost. ghost_has_plan basis walk (view_of old) key owner fields ghost reads.sees reads.key_is own nowhere in
-      let lowest = fills (has_room basis.opens) (Live walk.key value) (change.Put value) of_walk told in
-      subst (λ r. TakesSlot r basis (view_of old) (view_of new) walk value) (sym told.answer_is) (inr (no_ghost, lowest))
+      let no_ghost : HasOwnGhost basis.tx walk (view_for basis old) → ⊥ = λ ghost. ghost_has_plan basis walk (view_for basis old) key owner fields ghost reads.sees reads.key_is own nowhere in
+      write_cases basis walk after old new write (change.Put value) reads.ready at_bucket (λ r. TakesSlot r basis (view_for basis old) (view_for basis new) walk value) result told
+      (λ wrote. inr (no_ghost, fills (has_room basis.opens) (Live walk.key value) (change.Put value) of_walk wrote)) (λ lacks. tt)
 
 -- what is not made takes no slot
 pub unmade_takes : (told : WalkAnswer) (basis : Basis) (old new : View) (walk : WalkFields) (value : ℕ) → (told ≡ answer.Changed → ⊥) → TakesSlot told basis old new walk value

@@ -1,8 +1,8 @@
 pub mod Additions
+pub mod Beside
 pub mod InPlace
 pub mod Laws
 pub mod NoWaiting
-pub mod OnWay
 pub mod OpenedFiles
 pub mod Owners
 pub mod Passed

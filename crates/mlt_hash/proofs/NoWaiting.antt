@@ -16,7 +16,7 @@ use Rattle.mlt_held.proofs.Views.{may_write}
 use Rattle.mlt_split.specs.Splits.{SplitFields}
 use Rattle.mlt_split.specs.Steps.{IsNextPage}
 use Rattle.mlt_hash.specs.Splitting.{TellsOfSplitting, WalkStep}
-use Rattle.mlt_hash.specs.Walks.{Basis, IsSplitting, WalkFields, aim_of}
+use Rattle.mlt_hash.specs.Walks.{Basis, IsSplitting, aim_of, view_for}
 use Rattle.mlt_hash.specs.declared.answer.WalkAnswer.TheVariants as answer
 use Rattle.mlt_hash.specs.declared.pass.Pass.TheVariants as pass
 use Rattle.mlt_hash.proofs.Passed.{narrow_holds_next}
@@ -39,9 +39,9 @@ some_is_one : (x y : SplitFields) (o : Option SplitFields) → o ≡ Some x → 
 some_is_one x y o is_x is_y = let e : Some x ≡ Some y = sym is_x ∙ is_y in cc
 
 -- **A narrow pass that splits never waits.**
-pub narrow_never_waits : (basis : Basis) (step : WalkStep) (value room_depth page by : ℕ) (clean : ℕ → Option Page) → MayStep step.old → IsSplitting basis step.before (view_of step.old) room_depth → step.before.pass ≡ pass.Narrow
-    → Agrees (view_of step.old).seen clean → HasForm basis.bits clean basis.root → TellsOfSplitting basis step value room_depth (answer.Waiting page by) → ⊥
+pub narrow_never_waits : (basis : Basis) (step : WalkStep) (value room_depth page by : ℕ) (clean : ℕ → Option Page) → MayStep step.old → IsSplitting basis step.before (view_for basis step.old) room_depth → step.before.pass ≡ pass.Narrow
+    → Agrees (view_for basis step.old).seen clean → HasForm basis.bits clean basis.root → TellsOfSplitting basis step value room_depth (answer.Waiting page by) → ⊥
 narrow_never_waits basis step value room_depth page by clean may splits narrow agree form tells =
     let same : tells.0.0 ≡ splits.split = some_is_one tells.0.0 splits.split step.before.split tells.0.1 splits.split_is in
-    let next : IsNextPage splits.split.phase (aim_of basis step.before room_depth) (view_of step.old) page = subst (λ (s : SplitFields). IsNextPage s.phase (aim_of basis step.before room_depth) (view_of step.old) page) same tells.0.2 in
-    nobody_against step.old page by may (narrow_holds_next basis step.before (view_of step.old) room_depth page clean splits narrow agree form next) tells.1.has_it
+    let next : IsNextPage splits.split.phase (aim_of basis step.before room_depth) (view_for basis step.old) page = subst (λ (s : SplitFields). IsNextPage s.phase (aim_of basis step.before room_depth) (view_for basis step.old) page) same tells.0.2 in
+    nobody_against step.old page by may (narrow_holds_next basis step.before (view_for basis step.old) room_depth page clean splits narrow agree form next) tells.1.has_it

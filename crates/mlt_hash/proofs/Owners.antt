@@ -101,6 +101,7 @@ module _ (basis : Basis) (fewer : set.FinSet nat_cmp) (walk : WalkFields) (view 
     head = changed.head;
     shallow = changed.shallow;
     few = changed.few;
+    among = changed.among;
     rest = changed.rest;
     slot = changed.slot;
     within = changed.within;

@@ -1,5 +1,5 @@
 -- What a walk has read on its way to its bucket, and the modes of its pages, up to its end
-use Rattle.std.proofs.Common.{◌≡◌, ◌≢◌, ℕ, ◌<◌, ◌⊎◌, true, List, Option, None, Some, is_some, unwrap_or, refl, sym, ap, subst, ◌∙◌, inl, inr, arith}
+use Rattle.std.proofs.Common.{◌≡◌, ◌≢◌, ℕ, ◌<◌, ◌⊎◌, true, false, List, Option, None, Some, is_some, unwrap_or, refl, sym, ap, subst, ◌∙◌, inl, inr, arith}
 use Rattle.std.specs.Ordering.{nat_cmp}
 use Rattle.std.specs.FinMap as map
 use Rattle.std.specs.FinSet as set
@@ -15,19 +15,21 @@ use Rattle.mlt_hash_form.specs.File.{HasForm, dir_of}
 use Rattle.mlt_hash_form.specs.Held.{Agrees, own_or}
 use Rattle.mlt_held.specs.Moments.{MayStep, Moment}
 use Rattle.mlt_held.specs.PageSteps.{TouchesOnePage}
-use Rattle.mlt_held.specs.Views.{MakesPage, View, WritesPage, view_of}
+use Rattle.mlt_held.specs.Views.{MakesPage, View, WritesPage}
 use Rattle.mlt_held.proofs.Reading.{bucket_still}
-use Rattle.mlt_held.proofs.OwnSteps.{own_step_sees_more, own_step_writes_more, step_keeps_tx}
+use Rattle.mlt_held.proofs.OwnSteps.{own_step_writes_more, step_keeps_tx}
+use Rattle.mlt_held.proofs.Since.{over_sees_more}
 use Rattle.mlt_held.proofs.Views.{mode_of_others, mode_of_page}
 use Rattle.mlt_split.specs.Rests.{Aim}
 use Rattle.mlt_split.specs.Splits.{IsUnderWay, SplitFields}
 use Rattle.mlt_split.specs.Steps.{IsDone, IsKeysPage, IsMaking, IsNextPage}
 use Rattle.mlt_split.specs.declared.split.SplitAnswer.TheVariants as split_answer
 use Rattle.mlt_split.proofs.HeldPages.{exclusive_after_make, grows_by_make}
+use Rattle.mlt_split.proofs.Later.{stronger_exclusive}
 use Rattle.mlt_split.proofs.Locks.{done_writes_what_it_locks, locks_its_page_alone}
 use Rattle.mlt_split.proofs.Narrow.{narrow_leaves_header, narrow_makes_none, narrow_next_page}
 use Rattle.mlt_hash.specs.Passes.{MayHoldMore, bucket_held, bucket_mode, directory_held, directory_mode, header_held, header_mode}
-use Rattle.mlt_hash.specs.Walks.{Basis, HasRead, HoldsByPass, IsAtBucket, IsSplitting, StaysNarrow, WalkFields, aim_of}
+use Rattle.mlt_hash.specs.Walks.{Basis, Before, Follows, HasRead, HoldsByPass, IsAtBucket, IsSplitting, StaysNarrow, WalkFields, aim_of, view_for}
 use Rattle.mlt_hash.specs.declared.pass.Pass.{Pass}
 use Rattle.mlt_hash.specs.declared.pass.Pass.TheVariants as pass
 
@@ -54,32 +56,45 @@ head_is_no_bucket view p q header fields head at same = let both : Some (Some (p
 dir_is_no_bucket : (view : View) (p q : ℕ) (dir : List ℕ) (fields : BucketFields) → view.seen p ≡ Some (Some (page.Dir dir)) → view.seen q ≡ Some (Some (page.Bucket fields)) → p ≡ q → ⊥
 dir_is_no_bucket view p q dir fields listed at same = let both : Some (Some (page.Dir dir)) ≡ Some (Some (page.Bucket fields)) = sym listed ∙ ap view.seen same ∙ at in cc
 
--- a page that is locked first has this mode
-first_mode : (modes : Modes) (q : ℕ) (mode : Mode) → map.get modes q ≡ None → map.get (with_page modes q mode) q ≡ Some mode
-first_mode modes q mode free = mode_of_page modes q mode ∙ ap (λ o. Some (stronger o mode)) free
+-- a page that is locked on the way has the mode of the pass
+takes_mode : (on : Pass) (before : Before) → Follows on before → (q : ℕ) (mode : Mode) → (on ≡ pass.Wide → mode ≡ Exclusive) → stronger (map.get before.held q) mode ≡ mode
+takes_mode pass.First before anew q mode wide = ap (λ (b : Before). stronger (map.get b.held q) mode) anew ∙ ap (λ o. stronger o mode) (map.get-empty {X = Mode} nat_cmp q)
+takes_mode pass.Narrow before anew q mode wide = ap (λ (b : Before). stronger (map.get b.held q) mode) anew ∙ ap (λ o. stronger o mode) (map.get-empty {X = Mode} nat_cmp q)
+takes_mode pass.Wide before few q mode wide = ap (stronger (map.get before.held q)) (wide refl) ∙ stronger_exclusive (map.get before.held q) ∙ sym (wide refl)
 
-module _ (walk : WalkFields) (root dir bucket : ℕ) (apart : root ≢ dir) (beside : root ≢ bucket) (below : dir ≢ bucket) where
+-- a page that is held stays so
+held_still : (modes : Modes) (q : ℕ) (mode : Mode) (p : ℕ) → is_some (map.get modes p) ≡ true → is_some (map.get (with_page modes q mode) p) ≡ true
+held_still modes q mode p held =
+    elim (cases_eq p q) [
+      | inl here ↦ ap (λ p. is_some (map.get (with_page modes q mode) p)) here ∙ ap is_some (mode_of_page modes q mode)
+      | inr elsewhere ↦ ap is_some (mode_of_others modes q mode p elsewhere) ∙ held
+    ]
+
+module _ (before : Before) (walk : WalkFields) (follows : Follows walk.pass before) (root dir bucket : ℕ) (apart : root ≢ dir) (beside : root ≢ bucket) (below : dir ≢ bucket) where
   abbrev one : Modes
-  one = header_held walk.pass root
+  one = header_held before.held walk.pass root
 
   abbrev two : Modes
-  two = directory_held walk.pass root dir
+  two = directory_held before.held walk.pass root dir
 
   abbrev three : Modes
-  three = bucket_held walk.pass walk.mode root dir bucket
+  three = bucket_held before.held walk.pass walk.mode root dir bucket
 
-  not_among : (q : ℕ) → q ≢ root → q ≢ dir → q ≢ bucket → map.get three q ≡ None
-  not_among q away further last = mode_of_others two bucket (bucket_mode walk.pass walk.mode) q last ∙ mode_of_others one dir (directory_mode walk.pass) q further ∙ mode_of_others map.empty root (header_mode walk.pass) q away ∙ map.get-empty {X = Mode} nat_cmp q
+  not_among : (q : ℕ) → q ≢ root → q ≢ dir → q ≢ bucket → map.get three q ≡ map.get before.held q
+  not_among q away further last = mode_of_others two bucket (bucket_mode walk.pass walk.mode) q last ∙ mode_of_others one dir (directory_mode walk.pass) q further ∙ mode_of_others before.held root (header_mode walk.pass) q away
 
-  held_on_way : (view : View) → view.modes ≡ three → HoldsByPass walk.pass walk.mode root dir bucket view
+  held_on_way : (view : View) → view.modes ≡ three → HoldsByPass before.held walk.pass walk.mode root dir bucket view
   held_on_way view held = record {
     on_header = ap (λ (modes : Modes). map.get modes root) held ∙ mode_of_others two bucket (bucket_mode walk.pass walk.mode) root beside ∙ mode_of_others one dir (directory_mode walk.pass) root apart
-        ∙ first_mode map.empty root (header_mode walk.pass) (map.get-empty {X = Mode} nat_cmp root);
-    on_dir = ap (λ (modes : Modes). map.get modes dir) held ∙ mode_of_others two bucket (bucket_mode walk.pass walk.mode) dir below
-        ∙ first_mode one dir (directory_mode walk.pass) (mode_of_others map.empty root (header_mode walk.pass) dir (λ e. apart (sym e)) ∙ map.get-empty {X = Mode} nat_cmp dir);
-    on_bucket = ap (λ (modes : Modes). map.get modes bucket) held
-        ∙ first_mode two bucket (bucket_mode walk.pass walk.mode) (mode_of_others one dir (directory_mode walk.pass) bucket (λ e. below (sym e)) ∙ mode_of_others map.empty root (header_mode walk.pass) bucket (λ e. beside (sym e)) ∙ map.get-empty {X = Mode} nat_cmp bucket);
-    others = λ q away further last some. absurd (false≢true (sym (ap is_some (ap (λ (modes : Modes). map.get modes q) held ∙ not_among q away further last)) ∙ some));
+        ∙ mode_of_page before.held root (header_mode walk.pass) ∙ ap Some (takes_mode walk.pass before follows root (header_mode walk.pass) (λ wide. ap header_mode wide));
+    on_dir = ap (λ (modes : Modes). map.get modes dir) held ∙ mode_of_others two bucket (bucket_mode walk.pass walk.mode) dir below ∙ mode_of_page one dir (directory_mode walk.pass)
+        ∙ ap (λ o. Some (stronger o (directory_mode walk.pass))) (mode_of_others before.held root (header_mode walk.pass) dir (λ e. apart (sym e)))
+        ∙ ap Some (takes_mode walk.pass before follows dir (directory_mode walk.pass) (λ wide. ap directory_mode wide));
+    on_bucket = ap (λ (modes : Modes). map.get modes bucket) held ∙ mode_of_page two bucket (bucket_mode walk.pass walk.mode)
+        ∙ ap (λ o. Some (stronger o (bucket_mode walk.pass walk.mode))) (mode_of_others one dir (directory_mode walk.pass) bucket (λ e. below (sym e)) ∙ mode_of_others before.held root (header_mode walk.pass) bucket (λ e. beside (sym e)))
+        ∙ ap Some (takes_mode walk.pass before follows bucket (bucket_mode walk.pass walk.mode) (λ wide. ap (λ pass. bucket_mode pass walk.mode) wide));
+    kept = λ q some. ap (λ (modes : Modes). is_some (map.get modes q)) held ∙ held_still two bucket (bucket_mode walk.pass walk.mode) q (held_still one dir (directory_mode walk.pass) q (held_still before.held root (header_mode walk.pass) q some));
+    others = λ q away further last none some. absurd (false≢true (sym none ∙ sym (ap is_some (ap (λ (modes : Modes). map.get modes q) held ∙ not_among q away further last)) ∙ some));
   }
 
 -- **A walk at its bucket has read its way,**
@@ -97,10 +112,10 @@ read_at_bucket basis walk view bucket depth found here = record {
 }
 
 -- **and holds its pages by its pass.**
-pub holds_at_bucket : (basis : Basis) (walk : WalkFields) (view : View) (bucket depth : ℕ) (found : Option ℕ) → (here : IsAtBucket basis walk view bucket depth found) → HoldsByPass walk.pass walk.mode basis.root (dir_of here.header (basis.bits walk.key)) bucket view
+pub holds_at_bucket : (basis : Basis) (walk : WalkFields) (view : View) (bucket depth : ℕ) (found : Option ℕ) → (here : IsAtBucket basis walk view bucket depth found) → HoldsByPass basis.before.held walk.pass walk.mode basis.root (dir_of here.header (basis.bits walk.key)) bucket view
 holds_at_bucket basis walk view bucket depth found here =
     let dir = dir_of here.header (basis.bits walk.key) in
-    held_on_way walk basis.root dir bucket (head_is_no_dir view basis.root dir here.header here.dir here.head here.listed) (head_is_no_bucket view basis.root bucket here.header here.fields here.head here.at) (dir_is_no_bucket view dir bucket here.dir here.fields here.listed here.at) view here.held
+    held_on_way basis.before walk here.follows basis.root dir bucket (head_is_no_dir view basis.root dir here.header here.dir here.head here.listed) (head_is_no_bucket view basis.root bucket here.header here.fields here.head here.at) (dir_is_no_bucket view dir bucket here.dir here.fields here.listed here.at) view here.held
 
 -- the page is one that the pass may hold beside its way
 abbrev IsMore : WalkFields → View → ℕ → Type 0
@@ -134,23 +149,27 @@ module _ (basis : Basis) (walk : WalkFields) (old new : View) (step : StepsOn wa
             | inr locked ↦ locked.0 ∙ ap Some (sym (wide is))
           ]
 
+  -- a page that is held stays so
+  keeps_held : (q : ℕ) → is_some (map.get old.modes q) ≡ true → is_some (map.get new.modes q) ≡ true
+  keeps_held q held = elim (step.modes q) [ inl same ↦ ap is_some same ∙ held | inr locked ↦ ap is_some locked.0 ]
+
   -- what a pass held beside its way it may still hold
   holds_more : (q : ℕ) (at : Pass) → MayHoldMore at (old.seen q) (is_some (old.own q)) → MayHoldMore at (new.seen q) (is_some (new.own q))
   holds_more q pass.First none = none
   holds_more q pass.Narrow made = (step.before q None made.0, step.written q made.1)
   holds_more q pass.Wide written = step.written q written
 
-  keeps_others : (root dir bucket : ℕ) → HoldsByPass walk.pass walk.mode root dir bucket old → (q : ℕ) → q ≢ root → q ≢ dir → q ≢ bucket → is_some (map.get new.modes q) ≡ true
+  keeps_others : (root dir bucket : ℕ) → HoldsByPass basis.before.held walk.pass walk.mode root dir bucket old → (q : ℕ) → q ≢ root → q ≢ dir → q ≢ bucket → is_some (map.get basis.before.held q) ≡ false → is_some (map.get new.modes q) ≡ true
       → (map.get new.modes q ≡ Some Exclusive) × IsMore walk new q
-  keeps_others root dir bucket holds q away further last some =
+  keeps_others root dir bucket holds q away further last none some =
       elim (step.modes q) [
         | inl same ↦
-            let was = holds.others q away further last (sym (ap is_some same) ∙ some) in
+            let was = holds.others q away further last none (sym (ap is_some same) ∙ some) in
             (same ∙ was.0, holds_more q walk.pass was.1)
         | inr locked ↦ (
           locked.0,
           elim locked.1 [
-            | inl was ↦ holds_more q walk.pass (holds.others q away further last (ap is_some was)).1
+            | inl was ↦ holds_more q walk.pass (holds.others q away further last none (ap is_some was)).1
             | inr more ↦ more
           ],
         )
@@ -161,11 +180,12 @@ module _ (basis : Basis) (walk : WalkFields) (old new : View) (step : StepsOn wa
   reads_on found read = record { dir = read.dir; bucket = read.bucket; way = bucket_still basis.bits basis.root walk.key old new read.dir read.bucket found step.before read.way; shallow = read.shallow }
 
   -- **and so do the modes.**
-  pub holds_on : (found : Option ℕ) → (read : HasRead basis walk.key old found) → HoldsByPass walk.pass walk.mode basis.root read.dir read.bucket old → HoldsByPass walk.pass walk.mode basis.root read.dir read.bucket new
+  pub holds_on : (found : Option ℕ) → (read : HasRead basis walk.key old found) → HoldsByPass basis.before.held walk.pass walk.mode basis.root read.dir read.bucket old → HoldsByPass basis.before.held walk.pass walk.mode basis.root read.dir read.bucket new
   holds_on found read holds = record {
     on_header = keeps_mode basis.root (header_mode walk.pass) (page.Head read.way.placed.header) read.way.placed.head (λ wide. ap header_mode wide) holds.on_header;
     on_dir = keeps_mode read.dir (directory_mode walk.pass) (page.Dir read.way.placed.entries) read.way.placed.listed (λ wide. ap directory_mode wide) holds.on_dir;
     on_bucket = keeps_mode read.bucket (bucket_mode walk.pass walk.mode) (page.Bucket read.way.fields) read.way.at (λ wide. ap (λ pass. bucket_mode pass walk.mode) wide) holds.on_bucket;
+    kept = λ q some. keeps_held q (holds.kept q some);
     others = keeps_others basis.root read.dir read.bucket holds;
   }
 
@@ -220,7 +240,7 @@ module _ (basis : Basis) (walk : WalkFields) (view : View) (room_depth : ℕ) (s
       let reads : Some (page.Head header) ≡ Some (page.Head own.0) = sym (ap (λ o. own_or o (Some (page.Head header))) narrow.unwritten) ∙ ap (λ (o : Option (Option Page)). own_or (view.own basis.root) (unwrap_or o None)) (sym read.way.placed.head) ∙ own.1 in
       own.2 ∙ ap (λ (h : HeadFields). dir_of h (basis.bits walk.key)) (sym (same_head header own.0 reads)) ∙ sym read.way.placed.dir_is
 
-  pub narrow_holds : HoldsByPass walk.pass walk.mode basis.root read.dir read.bucket view → walk.pass ≡ pass.Narrow → (n : ℕ) → IsNextPage split.phase (aim_of basis walk room_depth) view n → map.get view.modes n ≡ Some Exclusive
+  pub narrow_holds : HoldsByPass basis.before.held walk.pass walk.mode basis.root read.dir read.bucket view → walk.pass ≡ pass.Narrow → (n : ℕ) → IsNextPage split.phase (aim_of basis walk room_depth) view n → map.get view.modes n ≡ Some Exclusive
   narrow_holds holds is n next = ap (map.get view.modes) (next_is_dir n next) ∙ holds.on_dir ∙ ap (λ p. Some (directory_mode p)) is
 
 -- **The page that a narrow pass is to lock next it holds exclusively.**
@@ -229,23 +249,23 @@ pub narrow_holds_next : (basis : Basis) (walk : WalkFields) (view : View) (room_
 narrow_holds_next basis walk view room_depth n clean splits is agree form next = narrow_holds basis walk view room_depth splits.split clean agree form splits.under_way None splits.read (splits.narrow is) splits.holds is n next
 
 -- what is needed of a step of the splits of a pass
-module _ (basis : Basis) (walk : WalkFields) (old new : Moment) (room_depth : ℕ) (split : SplitFields) (may : MayStep old) (clean : ℕ → Option Page) (agree : Agrees (view_of old).seen clean) (form : HasForm basis.bits clean basis.root)
-    (way : IsUnderWay (aim_of basis walk room_depth) (view_of old) split) (found : Option ℕ) (read : HasRead basis walk.key (view_of old) found) where
+module _ (basis : Basis) (walk : WalkFields) (old new : Moment) (room_depth : ℕ) (split : SplitFields) (may : MayStep old) (clean : ℕ → Option Page) (agree : Agrees (view_for basis old).seen clean) (form : HasForm basis.bits clean basis.root)
+    (way : IsUnderWay (aim_of basis walk room_depth) (view_for basis old) split) (found : Option ℕ) (read : HasRead basis walk.key (view_for basis old) found) where
   abbrev aim : Aim
   aim = aim_of basis walk room_depth
 
   -- a narrow pass leaves the header as it was
-  pub narrow_keeps_header : StaysNarrow basis.root (view_of old) room_depth split.depth split.directory_depth → IsDone split.phase aim old new split → (view_of new).own basis.root ≡ None
+  pub narrow_keeps_header : StaysNarrow basis.root (view_for basis old) room_depth split.depth split.directory_depth → IsDone split.phase aim old new split → (view_for basis new).own basis.root ≡ None
   narrow_keeps_header narrow done =
-      narrow_leaves_header aim old new split may (in_place basis walk (view_of old) room_depth split clean agree form way found read narrow) clean agree form way
-      (λ n next same. head_is_no_dir (view_of old) basis.root read.dir read.way.placed.header read.way.placed.entries read.way.placed.head read.way.placed.listed (same ∙ next_is_dir basis walk (view_of old) room_depth split clean agree form way found read narrow n next)) done
+      narrow_leaves_header aim old new split may (in_place basis walk (view_for basis old) room_depth split clean agree form way found read narrow) clean agree form way
+      (λ n next same. head_is_no_dir (view_for basis old) basis.root read.dir read.way.placed.header read.way.placed.entries read.way.placed.head read.way.placed.listed (same ∙ next_is_dir basis walk (view_for basis old) room_depth split clean agree form way found read narrow n next)) done
       ∙ narrow.unwritten
 
-  module _ (holds : HoldsByPass walk.pass walk.mode basis.root read.dir read.bucket (view_of old)) (later : walk.pass ≡ pass.First → ⊥) (narrow : walk.pass ≡ pass.Narrow → StaysNarrow basis.root (view_of old) room_depth split.depth split.directory_depth) (touches : TouchesOnePage old new) (done : IsDone split.phase aim old new split) where
-    why : (p : Pass) → walk.pass ≡ p → (q : ℕ) → mode_held new.locks old.running.tx q ≡ Some Exclusive → IsNextPage split.phase aim (view_of old) q ⊎ IsMaking split.phase → (map.get (view_of old).modes q ≡ Some Exclusive) ⊎ MayHoldMore p ((view_of new).seen q) (is_some ((view_of new).own q))
+  module _ (holds : HoldsByPass basis.before.held walk.pass walk.mode basis.root read.dir read.bucket (view_for basis old)) (later : walk.pass ≡ pass.First → ⊥) (narrow : walk.pass ≡ pass.Narrow → StaysNarrow basis.root (view_for basis old) room_depth split.depth split.directory_depth) (touches : TouchesOnePage old new) (done : IsDone split.phase aim old new split) where
+    why : (p : Pass) → walk.pass ≡ p → (q : ℕ) → mode_held new.locks old.running.tx q ≡ Some Exclusive → IsNextPage split.phase aim (view_for basis old) q ⊎ IsMaking split.phase → (map.get (view_for basis old).modes q ≡ Some Exclusive) ⊎ MayHoldMore p ((view_for basis new).seen q) (is_some ((view_for basis new).own q))
     why pass.First is q exclusive locked = absurd (later is)
-    why pass.Narrow is q exclusive (inl next) = inl (narrow_holds basis walk (view_of old) room_depth split clean agree form way found read (narrow is) holds is q next)
-    why pass.Narrow is q exclusive (inr making) = absurd (narrow_makes_none aim (view_of old) split clean agree form way (in_place basis walk (view_of old) room_depth split clean agree form way found read (narrow is)) making)
+    why pass.Narrow is q exclusive (inl next) = inl (narrow_holds basis walk (view_for basis old) room_depth split clean agree form way found read (narrow is) holds is q next)
+    why pass.Narrow is q exclusive (inr making) = absurd (narrow_makes_none aim (view_for basis old) split clean agree form way (in_place basis walk (view_for basis old) room_depth split clean agree form way found read (narrow is)) making)
     why pass.Wide is q exclusive locked =
         elim (done_writes_what_it_locks split.phase aim old new split q may done) [
           | inl same ↦ inl (sym same ∙ exclusive)
@@ -253,13 +273,13 @@ module _ (basis : Basis) (walk : WalkFields) (old new : Moment) (room_depth : �
         ]
 
     -- **A step of the splits of a pass.**
-    pub steps_by_split : StepsOn walk (view_of old) (view_of new)
+    pub steps_by_split : StepsOn walk (view_for basis old) (view_for basis new)
     steps_by_split = record {
-      before = λ q first sees. own_step_sees_more old new q first may touches sees;
+      before = λ q first sees. over_sees_more basis.before.written old new q first may touches sees;
       written = own_step_writes_more old new may touches;
       modes = λ q.
           let tx = step_keeps_tx old new touches in
-          let now : map.get (view_of new).modes q ≡ mode_held new.locks old.running.tx q = ap (λ t. mode_held new.locks t q) tx in
+          let now : map.get (view_for basis new).modes q ≡ mode_held new.locks old.running.tx q = ap (λ t. mode_held new.locks t q) tx in
           elim (locks_its_page_alone split_answer.Going aim old new split q done) [
             | inl same ↦ inl (now ∙ same)
             | inr locked ↦ inr (now ∙ locked.0, elim locked.1 [ inl next ↦ why walk.pass refl q locked.0 (inl next) | inr making ↦ why walk.pass refl q locked.0 (inr making.0) ])

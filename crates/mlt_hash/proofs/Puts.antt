@@ -24,9 +24,11 @@ use Rattle.mlt_hash_form.specs.Held.{Agrees, over, own_or}
 use Rattle.mlt_hash_form.specs.Room.{crowds, is_crowded}
 use Rattle.mlt_hash_form.proofs.Crowd.{crowded_at_own_depth, crowded_in_fewer}
 use Rattle.mlt_hash_form.proofs.HeldPages.{keeps_more}
-use Rattle.mlt_held.specs.Moments.{HasCleanFile, MayStep, Moment, page_before}
+use Rattle.mlt_held.specs.Moments.{HasFileOver, MayStep, Moment, page_before}
 use Rattle.mlt_held.specs.PageSteps.{MakesLockedPage, TouchesOnePage, WritesHeldPage, WritesHeldSlot}
-use Rattle.mlt_held.specs.Views.{MakesPage, View, WritesPage, view_of, ReadsHeldBucket, ReadsHeldPage, own_at}
+use Rattle.mlt_held.specs.Views.{HasWritten, MakesPage, ReadsHeldBucket, ReadsHeldPage, View, WritesPage, own_at, view_of}
+use Rattle.mlt_held.proofs.Rebased.{rebased_makes_page, rebased_writes_page}
+use Rattle.mlt_held.proofs.Since.{read_over_writes, reads_over_writes}
 use Rattle.mlt_page_locks.specs.LockTables.{can_write, can_read}
 use Rattle.mlt_held.proofs.Views.{make_makes, may_write, write_writes, writes_over_clean, may_read, seen_held}
 use Rattle.mlt_record.specs.Plans.{IsNowhere, SetsFirst, WriteFields, has_room, planned_page}
@@ -36,9 +38,9 @@ use Rattle.mlt_split.proofs.Beginning.{rest_bucket, rest_is_shallow, rest_is_sma
 use Rattle.mlt_split.proofs.Closing.{HasClean}
 use Rattle.mlt_split.proofs.Few.{rest_holds_few}
 use Rattle.mlt_split.proofs.HeldPages.{not_made}
-use Rattle.mlt_hash.specs.Walks.{Basis, HasRead, HoldsByPass, IsAdding, IsChanged, IsSplitting, IsStanding, Stands, WalkFields, aim_of}
-use Rattle.mlt_hash.specs.Changes.{Makes, PlansSlot, PutsLowest, page_of}
-use Rattle.mlt_hash.specs.Splitting.{BeginsSplit, HasToSplit, TellsOfAdding, TellsOfPut, walk_step}
+use Rattle.mlt_hash.specs.Walks.{Basis, HasRead, HoldsByPass, IsAdding, IsChanged, IsSplitting, IsStanding, Stands, WalkFields, aim_of, one_key, view_for}
+use Rattle.mlt_hash.specs.Changes.{Makes, PlansSlot, PutsLowest, TellsOfWrite, page_of}
+use Rattle.mlt_hash.specs.Splitting.{BeginsSplit, HasToSplit, TellsOfAdding, walk_step}
 use Rattle.mlt_hash.specs.declared.answer.WalkAnswer.{WalkAnswer}
 use Rattle.mlt_hash.specs.declared.answer.WalkAnswer.TheVariants as answer
 use Rattle.mlt_hash.specs.declared.pass.Pass.{Pass}
@@ -47,6 +49,7 @@ use Rattle.mlt_hash.specs.declared.pass.Phase.{Phase}
 use Rattle.mlt_hash.specs.declared.pass.Phase.TheVariants as at
 use Rattle.mlt_hash.specs.declared.pass.Change.TheVariants as change
 use Rattle.mlt_hash.proofs.Additions.{nowhere_found}
+use Rattle.mlt_hash.proofs.Beside.{more_beside, still_beside}
 use Rattle.mlt_hash.proofs.InPlace.{changes_by}
 use Rattle.mlt_hash.proofs.Passed.{StepsOn, holds_on, reads_on, steps_by_making, steps_by_write}
 use Rattle.mlt_hash.proofs.Splittings.{stays_exclusive_in_step}
@@ -66,9 +69,9 @@ rest_home aim view n header bucket rest clean agree form = record {
 }
 
 -- **The record that is put into a bucket at rest changes the file at its key alone.**
-pub put_is_changed : (basis : Basis) (walk : WalkFields) (old new : View) (room_depth n : ℕ) (header : HeadFields) (fields : BucketFields) (value i : ℕ) → (read : HasRead basis walk.key old None) → HoldsByPass walk.pass walk.mode basis.root read.dir read.bucket old → header.depth ≤ basis.max_depth → map.len old.modes < 300 → IsAtRest (aim_of basis walk room_depth) old n header fields → i < 8
+pub put_is_changed : (basis : Basis) (walk : WalkFields) (old new : View) (room_depth n : ℕ) (header : HeadFields) (fields : BucketFields) (value i : ℕ) → (read : HasRead basis walk.key old None) → HoldsByPass basis.before.held walk.pass walk.mode basis.root read.dir read.bucket old → header.depth ≤ basis.max_depth → map.len old.modes < 300 → fields.depth ≤ 16 → IsAtRest (aim_of basis walk room_depth) old n header fields → i < 8
     → is_kept basis.opens (slice_index_or fields.slots i Free) ≡ false → WritesPage old new n (page_with_slot fields i (Live walk.key value)) → IsChanged basis (record walk { phase = at.Changed n (change.Put value) }) new n (change.Put value)
-put_is_changed basis walk old new room_depth n header fields value i read holds shallow few rest within room writes =
+put_is_changed basis walk old new room_depth n header fields value i read holds shallow few low rest within room writes =
     let aim = aim_of basis walk room_depth in
     let absent = nowhere (is_live_of walk.key) fields.slots rest.absent in
     let none : value_in walk.key fields.slots ≡ None = rw absent refl in
@@ -85,6 +88,7 @@ put_is_changed basis walk old new room_depth n header fields value i read holds 
       head = (λ k. own_or (writes.others basis.root not_header k) (unwrap_or (writes.seen basis.root k) None)) ∙ rest.head;
       shallow = shallow;
       few = let same : map.len new.modes ≡ map.len old.modes = ap map.len writes.modes in omega (arith, few, same);
+      among = more_beside new header (basis.before.buckets + 2 + fields.depth) (basis.before.buckets + 18) (omega (arith, low)) (still_beside old new header (basis.before.buckets + 2 + fields.depth) writes.modes rest.among);
       rest = old.own;
       slot = i;
       within = within;
@@ -98,9 +102,15 @@ put_is_changed basis walk old new room_depth n header fields value i read holds 
       };
     }
 
+-- what the splits of a walk are for, by what it goes by, whatever it did before
+pub aim_is : (own basis : Basis) → own ≡ one_key basis → (walk : WalkFields) (key depth room_depth : ℕ) → key ≡ walk.key → depth ≡ room_depth
+    → record { bits = own.bits; opens = own.opens; root = own.root; key = key; owner = own.tx; room_depth = depth; before = basis.before.written; held_before = basis.before.buckets } ≡ aim_of basis walk room_depth
+aim_is own basis same walk key depth room_depth key_is depth_is =
+    λ i. record { bits = (same i).bits; opens = (same i).opens; root = (same i).root; key = key_is i; owner = (same i).tx; room_depth = depth_is i; before = basis.before.written; held_before = basis.before.buckets }
+
 -- where a walk that adds stands
-pub adding_at : (basis : Basis) (walk : WalkFields) (old : Moment) (value n room_depth : ℕ) (unsplit : Bool) → walk.phase ≡ at.Adding value n room_depth unsplit → IsStanding basis walk (view_of old) → IsAdding basis walk (view_of old) n room_depth unsplit
-adding_at basis walk old value n room_depth unsplit phase stands = subst (λ p. Stands p basis walk (view_of old)) phase stands
+pub adding_at : (basis : Basis) (walk : WalkFields) (old : Moment) (value n room_depth : ℕ) (unsplit : Bool) → walk.phase ≡ at.Adding value n room_depth unsplit → IsStanding basis walk (view_for basis old) → IsAdding basis walk (view_for basis old) n room_depth unsplit
+adding_at basis walk old value n room_depth unsplit phase stands = subst (λ p. Stands p basis walk (view_for basis old)) phase stands
 
 -- a bucket at rest without room is less deep than is needed
 kept_everywhere : (opens : set.FinSet nat_cmp) (slots : List Slot) → ((i : ℕ) → i < length slots → not (is_kept opens (slice_index_or slots i Free)) ≡ false) → list_all (is_kept opens) slots ≡ true
@@ -152,22 +162,22 @@ same_bucket p one other is_one is_other = ap bucket_of (sym is_one ∙ is_other)
 true_unless : (p : Phase) (value n room_depth : ℕ) → p ≡ at.Adding value n room_depth true → p ≡ at.Adding value n room_depth false → ⊥
 true_unless p value n room_depth one other = let both : at.Adding value n room_depth true ≡ at.Adding value n room_depth false = sym one ∙ other in cc
 
-module _ (basis : Basis) (walk : WalkFields) (old : Moment) (value n room_depth : ℕ) (unsplit : Bool) (phase : walk.phase ≡ at.Adding value n room_depth unsplit) (adds : IsAdding basis walk (view_of old) n room_depth unsplit) where
+module _ (basis : Basis) (walk : WalkFields) (old : Moment) (value n room_depth : ℕ) (unsplit : Bool) (phase : walk.phase ≡ at.Adding value n room_depth unsplit) (adds : IsAdding basis walk (view_for basis old) n room_depth unsplit) where
   -- a walk that finds no room has to split,
   pub has_to_split : (unsplit ≡ true) ⊎ IsNowhere (has_room basis.opens) adds.fields.slots → HasToSplit basis old walk value n room_depth
   has_to_split (inl first) = inl (phase ∙ ap (at.Adding value n room_depth) first)
   has_to_split (inr full) = inr (adds.fields, adds.rest.found, kept_everywhere basis.opens adds.fields.slots full)
 
   -- and one that finds room has not
-  pub need_not_split : (s : Slot) (write : WriteFields) → HasClean (aim_of basis walk room_depth) (view_of old) → unsplit ≡ false → SetsFirst n adds.fields (has_room basis.opens) s write → HasToSplit basis old walk value n room_depth → ⊥
+  pub need_not_split : (s : Slot) (write : WriteFields) → HasClean (aim_of basis walk room_depth) (view_for basis old) → unsplit ≡ false → SetsFirst n adds.fields (has_room basis.opens) s write → HasToSplit basis old walk value n room_depth → ⊥
   need_not_split s write clean split plan (inl first) = true_unless walk.phase value n room_depth first (phase ∙ ap (at.Adding value n room_depth) split)
   need_not_split s write clean split plan (inr (bucket, found, full)) =
-      let same : bucket ≡ adds.fields = same_bucket (held_page (view_of old) n) bucket adds.fields found adds.rest.found in
-      room_is_seen (aim_of basis walk room_depth) (view_of old) n adds.header adds.fields adds.rest clean plan.slot plan.within plan.was (subst (λ (b : BucketFields). list_all (is_kept basis.opens) b.slots ≡ true) same full)
+      let same : bucket ≡ adds.fields = same_bucket (held_page (view_for basis old) n) bucket adds.fields found adds.rest.found in
+      room_is_seen (aim_of basis walk room_depth) (view_for basis old) n adds.header adds.fields adds.rest clean plan.slot plan.within plan.was (subst (λ (b : BucketFields). list_all (is_kept basis.opens) b.slots ≡ true) same full)
 
 -- **A walk that adds may begin to split.**
-pub may_begin : (basis : Basis) (walk : WalkFields) (old : Moment) (n room_depth : ℕ) (unsplit : Bool) → MayStep old → HasCleanFile basis.bits basis.root old → (adds : IsAdding basis walk (view_of old) n room_depth unsplit)
-    → adds.fields.depth < room_depth → MayBegin (aim_of basis walk room_depth) (view_of old) n
+pub may_begin : (basis : Basis) (walk : WalkFields) (old : Moment) (n room_depth : ℕ) (unsplit : Bool) → MayStep old → HasFileOver basis.bits basis.root basis.before.written old → (adds : IsAdding basis walk (view_for basis old) n room_depth unsplit)
+    → adds.fields.depth < room_depth → MayBegin (aim_of basis walk room_depth) (view_for basis old) n
 may_begin basis walk old n room_depth unsplit may file adds shallow = record {
   header = adds.header;
   bucket = adds.fields;
@@ -176,7 +186,7 @@ may_begin basis walk old n room_depth unsplit may file adds shallow = record {
   doubles = λ deep. exclusive_header walk.pass refl deep;
 }
   where
-    exclusive_header : (p : Pass) → walk.pass ≡ p → adds.fields.depth ≡ adds.header.depth → map.get (view_of old).modes basis.root ≡ Some Exclusive
+    exclusive_header : (p : Pass) → walk.pass ≡ p → adds.fields.depth ≡ adds.header.depth → map.get (view_for basis old).modes basis.root ≡ Some Exclusive
     exclusive_header pass.First is deep = absurd (adds.later is)
     exclusive_header pass.Narrow is deep = (let fits = (adds.narrow is).enough in absurd (omega (arith, fits, shallow, deep)))
     exclusive_header pass.Wide is deep = adds.wide is
@@ -185,53 +195,64 @@ may_begin basis walk old n room_depth unsplit may file adds shallow = record {
 held_reads : (m : Moment) (q : ℕ) (p : Page) → can_read m.locks m.running.tx q ≡ true → held_page (view_of m) q ≡ Some p → ReadsHeldPage (view_of m) q p
 held_reads m q p held is = (page_before m.running.images m.store.pages q, seen_held m q held, ap (λ o. own_or (own_at m q) (unwrap_or o None)) (sym (seen_held m q held)) ∙ is)
 
--- the plan of a walk that adds is one of the bucket that it has split
-adding_reads : (basis : Basis) (walk : WalkFields) (old : Moment) (n room_depth : ℕ) (unsplit : Bool) (adds : IsAdding basis walk (view_of old) n room_depth unsplit) (has : Slot → Bool) (s : Slot) (write : WriteFields) → SetsFirst n adds.fields has s write → ReadsHeldBucket (view_of old) write.number adds.fields
-adding_reads basis walk old n room_depth unsplit adds has s write plan =
-    let held = may_read old n Exclusive adds.rest.exclusive in
-    subst (λ q. ReadsHeldBucket (view_of old) q adds.fields) (sym (ap (λ (w : WriteFields). w.number) plan.written)) (held_reads old n (page.Bucket adds.fields) held adds.rest.found)
+-- what a page that is held has, over what was written before, is what it has
+pub found_below : (basis : Basis) (m : Moment) (q : ℕ) (p : Option Page) → HasWritten basis.before.written (view_of m) → held_page (view_for basis m) q ≡ p → held_page (view_of m) q ≡ p
+found_below basis m q p written is = sym (read_over_writes (basis.before.written q) ((view_of m).own q) ((view_of m).seen q) (λ some. (written q some).1)) ∙ is
 
-pub adding_plans : (basis : Basis) (walk : WalkFields) (old : Moment) (n room_depth : ℕ) (unsplit : Bool) (adds : IsAdding basis walk (view_of old) n room_depth unsplit) (has : Slot → Bool) (s : Slot) (write : WriteFields) → SetsFirst n adds.fields has s write → PlansSlot (view_of old) write
-adding_plans basis walk old n room_depth unsplit adds has s write plan = record {
+pub found_above : (basis : Basis) (m : Moment) (q : ℕ) (p : Option Page) → HasWritten basis.before.written (view_of m) → held_page (view_of m) q ≡ p → held_page (view_for basis m) q ≡ p
+found_above basis m q p written is = read_over_writes (basis.before.written q) ((view_of m).own q) ((view_of m).seen q) (λ some. (written q some).1) ∙ is
+
+-- the plan of a walk that adds is one of the bucket that it has split
+adding_reads : (basis : Basis) (walk : WalkFields) (old : Moment) (n room_depth : ℕ) (unsplit : Bool) → HasWritten basis.before.written (view_of old) → (adds : IsAdding basis walk (view_for basis old) n room_depth unsplit) (has : Slot → Bool) (s : Slot) (write : WriteFields) → SetsFirst n adds.fields has s write → ReadsHeldBucket (view_of old) write.number adds.fields
+adding_reads basis walk old n room_depth unsplit written adds has s write plan =
+    let held = may_read old n Exclusive adds.rest.exclusive in
+    subst (λ q. ReadsHeldBucket (view_of old) q adds.fields) (sym (ap (λ (w : WriteFields). w.number) plan.written)) (held_reads old n (page.Bucket adds.fields) held (found_below basis old n (Some (page.Bucket adds.fields)) written adds.rest.found))
+
+pub adding_plans : (basis : Basis) (walk : WalkFields) (old : Moment) (n room_depth : ℕ) (unsplit : Bool) → HasWritten basis.before.written (view_of old) → (adds : IsAdding basis walk (view_for basis old) n room_depth unsplit) (has : Slot → Bool) (s : Slot) (write : WriteFields) → SetsFirst n adds.fields has s write → PlansSlot (view_of old) write
+adding_plans basis walk old n room_depth unsplit written adds has s write plan = record {
   bucket = adds.fields;
-  reads = adding_reads basis walk old n room_depth unsplit adds has s write plan;
+  reads = adding_reads basis walk old n room_depth unsplit written adds has s write plan;
   within = subst (λ i. i < 8) (sym (ap (λ (w : WriteFields). w.at) plan.written)) plan.within;
 }
 
-module _ (basis : Basis) (walk after : WalkFields) (old new : Moment) (value n room_depth : ℕ) (phase : walk.phase ≡ at.Adding value n room_depth false) (adds : IsAdding basis walk (view_of old) n room_depth false) (write : WriteFields) (plan : SetsFirst n adds.fields (has_room basis.opens) (Live walk.key value) write) (clean : HasClean (aim_of basis walk room_depth) (view_of old)) where
+module _ (basis : Basis) (walk after : WalkFields) (old new : Moment) (value n room_depth : ℕ) (phase : walk.phase ≡ at.Adding value n room_depth false) (adds : IsAdding basis walk (view_for basis old) n room_depth false) (write : WriteFields) (plan : SetsFirst n adds.fields (has_room basis.opens) (Live walk.key value) write) (clean : HasClean (aim_of basis walk room_depth) (view_for basis old)) (written : HasWritten basis.before.written (view_of old)) where
   reads : ReadsHeldBucket (view_of old) write.number adds.fields
-  reads = adding_reads basis walk old n room_depth false adds (has_room basis.opens) (Live walk.key value) write plan
+  reads = adding_reads basis walk old n room_depth false written adds (has_room basis.opens) (Live walk.key value) write plan
+
+  writes_planned : WritesHeldSlot old new write.number write.at write.slot → WritesPage (view_for basis old) (view_for basis new) write.number (page_with_slot adds.fields write.at write.slot)
+  writes_planned writes = rebased_writes_page basis.before.written (view_of old) (view_of new) write.number (page_with_slot adds.fields write.at write.slot) (write_writes old new write.number (page_with_slot adds.fields write.at write.slot) (writes adds.fields reads))
 
   put_makes : WritesHeldSlot old new write.number write.at write.slot → after ≡ record walk { phase = at.Changed write.number (change.Put value) } → Makes basis new walk after (change.Put value)
   put_makes writes after_is =
       let on : write.number ≡ n = ap (λ (w : WriteFields). w.number) plan.written in
       let page = page_with_slot adds.fields write.at write.slot in
       let what : page ≡ page_with_slot adds.fields plan.slot (Live walk.key value) = ap (λ (w : WriteFields). page_with_slot adds.fields w.at w.slot) plan.written in
-      let here : WritesPage (view_of old) (view_of new) n (page_with_slot adds.fields plan.slot (Live walk.key value)) =
-      subst (λ q. WritesPage (view_of old) (view_of new) q (page_with_slot adds.fields plan.slot (Live walk.key value))) on (subst (λ p. WritesPage (view_of old) (view_of new) write.number p) what (write_writes old new write.number page (writes adds.fields reads))) in
+      let here : WritesPage (view_for basis old) (view_for basis new) n (page_with_slot adds.fields plan.slot (Live walk.key value)) =
+      subst (λ q. WritesPage (view_for basis old) (view_for basis new) q (page_with_slot adds.fields plan.slot (Live walk.key value))) on (subst (λ p. WritesPage (view_for basis old) (view_for basis new) write.number p) what (writes_planned writes)) in
       let free : is_kept basis.opens (slice_index_or adds.fields.slots plan.slot Free) ≡ false = grind (arith, plan.was) in
-      let changed = put_is_changed basis walk (view_of old) (view_of new) room_depth n adds.header adds.fields value plan.slot adds.read adds.holds adds.shallow (rest_holds_few (aim_of basis walk room_depth) (view_of old) n adds.header adds.fields clean adds.rest) adds.rest plan.within free here in
+      let low : adds.fields.depth ≤ 16 = (let shallow = rest_is_shallow (aim_of basis walk room_depth) (view_for basis old) n adds.header adds.fields adds.rest clean in let small = rest_is_small (aim_of basis walk room_depth) (view_for basis old) n adds.header adds.fields adds.rest clean in omega (arith, shallow, small)) in
+      let changed = put_is_changed basis walk (view_for basis old) (view_for basis new) room_depth n adds.header adds.fields value plan.slot adds.read adds.holds adds.shallow (rest_holds_few (aim_of basis walk room_depth) (view_for basis old) n adds.header adds.fields clean adds.rest) low adds.rest plan.within free here in
       let now : after ≡ record walk { phase = at.Changed n (change.Put value) } = after_is ∙ ap (λ q. record walk { phase = at.Changed q (change.Put value) }) on in
       record {
         same = record { key = ap (λ (w : WalkFields). w.key) now; mode = ap (λ (w : WalkFields). w.mode) now; pass = ap (λ (w : WalkFields). w.pass) now };
         phase = ap (λ (w : WalkFields). w.phase) now ∙ ap (λ p. at.Changed (page_of p) (change.Put value)) (sym phase);
-        stands = subst (λ (w : WalkFields). Stands w.phase basis w (view_of new)) (sym now) changed;
+        stands = subst (λ (w : WalkFields). Stands w.phase basis w (view_for basis new)) (sym now) changed;
       }
 
-  puts_lowest : WritesHeldSlot old new write.number write.at write.slot → PutsLowest basis (view_of old) (view_of new) walk n value
+  puts_lowest : WritesHeldSlot old new write.number write.at write.slot → PutsLowest basis (view_for basis old) (view_for basis new) walk n value
   puts_lowest writes =
       let on : write.number ≡ n = ap (λ (w : WriteFields). w.number) plan.written in
-      let page = planned_page adds.fields write in
+      let planned = planned_page adds.fields write in
       record {
         bucket = adds.fields;
-        reads = subst (λ q. ReadsHeldBucket (view_of old) q adds.fields) on reads;
+        reads = subst (λ q. ReadsHeldBucket (view_for basis old) q adds.fields) on (reads_over_writes basis.before.written old written write.number (page.Bucket adds.fields) reads);
         write = write;
         first = plan;
-        writes = subst (λ q. WritesPage (view_of old) (view_of new) q page) on (write_writes old new write.number page (writes adds.fields reads));
+        writes = subst (λ q. WritesPage (view_for basis old) (view_for basis new) q planned) on (writes_planned writes);
       }
 
   -- **What the record that is put tells.**
-  pub put_tells : (told : WalkAnswer) → TellsOfPut old new walk after write value told → TellsOfAdding basis (walk_step old new walk after) value n room_depth told
+  pub put_tells : (told : WalkAnswer) → TellsOfWrite old new walk after write (change.Put value) told → TellsOfAdding basis (walk_step old new walk after) value n room_depth told
   put_tells answer.Changed tells = (
     phase,
     put_makes tells.0 tells.1,
@@ -246,9 +267,9 @@ module _ (basis : Basis) (walk after : WalkFields) (old new : Moment) (value n r
   put_tells answer.Widen tells = absurd tells
 
 -- a put is never refused for want of room
-pub put_has_room : (old new : Moment) (before after : WalkFields) (write : WriteFields) (value : ℕ) (told : WalkAnswer) → TellsOfPut old new before after write value told → told ≡ answer.Refused refusal.NoRoom → ⊥
+pub put_has_room : (old new : Moment) (before after : WalkFields) (write : WriteFields) (value : ℕ) (told : WalkAnswer) → TellsOfWrite old new before after write (change.Put value) told → told ≡ answer.Refused refusal.NoRoom → ⊥
 put_has_room old new before after write value told tells is =
-    let memory : refusal.NoRoom ≡ refusal.OutOfMemory = (subst (λ (r : WalkAnswer). TellsOfPut old new before after write value r) is tells).0 in
+    let memory : refusal.NoRoom ≡ refusal.OutOfMemory = (subst (λ (r : WalkAnswer). TellsOfWrite old new before after write (change.Put value) r) is tells).0 in
     cc
 
 -- **A split that could not begin.**
@@ -277,17 +298,17 @@ begun_alike {A} result why is = (
     told_reason one other same = cc
 
 -- **A split that has begun.**
-pub begins_split : (basis : Basis) (walk after : WalkFields) (old new : Moment) (value n room_depth : ℕ) (unsplit : Bool) (split : SplitFields) (made : Page) → MayStep old → MakesLockedPage old new split.new_page made → (adds : IsAdding basis walk (view_of old) n room_depth unsplit) → HasToSplit basis old walk value n room_depth
-    → IsUnderWay (aim_of basis walk room_depth) (view_of new) split → steps_left split ≡ 1 + directory_steps split.depth split.directory_depth → split.depth ≡ adds.fields.depth → split.directory_depth ≡ adds.header.depth → HasHalves (aim_of basis walk room_depth) new.store.pages adds.fields split
+pub begins_split : (basis : Basis) (walk after : WalkFields) (old new : Moment) (value n room_depth : ℕ) (unsplit : Bool) (split : SplitFields) (made : Page) → MayStep old → HasWritten basis.before.written (view_of old) → MakesLockedPage old new split.new_page made → (adds : IsAdding basis walk (view_for basis old) n room_depth unsplit) → HasToSplit basis old walk value n room_depth
+    → IsUnderWay (aim_of basis walk room_depth) (view_for basis new) split → steps_left split ≡ 1 + directory_steps split.depth split.directory_depth → split.depth ≡ adds.fields.depth → split.directory_depth ≡ adds.header.depth → HasHalves (aim_of basis walk room_depth) new.store.pages adds.fields split
     → after ≡ record walk { phase = at.Splitting value room_depth; split = Some split } → BeginsSplit basis (walk_step old new walk after) value n room_depth
-begins_split basis walk after old new value n room_depth unsplit split made may makes adds needed under_way steps bucket_depth depth halves after_is =
-    let made_there : MakesPage (view_of old) (view_of new) split.new_page made = make_makes old new split.new_page made may makes in
-    let step : StepsOn walk (view_of old) (view_of new) = steps_by_making walk (view_of old) (view_of new) split.new_page made adds.later made_there in
-    let here : IsSplitting basis (record walk { phase = at.Splitting value room_depth; split = Some split }) (view_of new) room_depth = record {
+begins_split basis walk after old new value n room_depth unsplit split made may written makes adds needed under_way steps bucket_depth depth halves after_is =
+    let made_there : MakesPage (view_for basis old) (view_for basis new) split.new_page made = rebased_makes_page basis.before.written (view_of old) (view_of new) written split.new_page made (make_makes old new split.new_page made may makes) in
+    let step : StepsOn walk (view_for basis old) (view_for basis new) = steps_by_making walk (view_for basis old) (view_for basis new) split.new_page made adds.later made_there in
+    let here : IsSplitting basis (record walk { phase = at.Splitting value room_depth; split = Some split }) (view_for basis new) room_depth = record {
       split = split;
       split_is = refl;
-      read = reads_on basis walk (view_of old) (view_of new) step None adds.read;
-      holds = holds_on basis walk (view_of old) (view_of new) step None adds.read adds.holds;
+      read = reads_on basis walk (view_for basis old) (view_for basis new) step None adds.read;
+      holds = holds_on basis walk (view_for basis old) (view_for basis new) step None adds.read adds.holds;
       shallow = let most = adds.shallow in omega (arith, most, depth);
       under_way = under_way;
       most = adds.most;
@@ -295,7 +316,7 @@ begins_split basis walk after old new value n room_depth unsplit split made may 
       narrow = λ narrow. let fits = adds.narrow narrow in record {
         enough = let enough = fits.enough in omega (arith, enough, depth);
         one_page = let one = fits.one_page in omega (arith, one, depth, bucket_depth);
-        unwritten = made_there.own_others basis.root (not_made (view_of old) (view_of new) split.new_page made made_there basis.root (ap is_some adds.read.way.placed.head)) ∙ fits.unwritten;
+        unwritten = made_there.own_others basis.root (not_made (view_for basis old) (view_for basis new) split.new_page made made_there basis.root (ap is_some adds.read.way.placed.head)) ∙ fits.unwritten;
       };
       wide = λ wide. stays_exclusive_in_step old new basis.root may (split.new_page, inr (made, makes)) (adds.wide wide);
     } in
@@ -303,7 +324,7 @@ begins_split basis walk after old new value n room_depth unsplit split made may 
       needed = needed;
       on = record {
         same = record { key = ap (λ (w : WalkFields). w.key) after_is; mode = ap (λ (w : WalkFields). w.mode) after_is; pass = ap (λ (w : WalkFields). w.pass) after_is };
-        stands = subst (λ (w : WalkFields). Stands w.phase basis w (view_of new)) (sym after_is) here;
+        stands = subst (λ (w : WalkFields). Stands w.phase basis w (view_for basis new)) (sym after_is) here;
       };
       phase = ap (λ (w : WalkFields). w.phase) after_is;
       split = split;
@@ -320,7 +341,7 @@ begins_split basis walk after old new value n room_depth unsplit split made may 
     }
 
 -- a bucket at rest may be written
-pub may_put : (basis : Basis) (walk : WalkFields) (old : Moment) (n room_depth : ℕ) (unsplit : Bool) (adds : IsAdding basis walk (view_of old) n room_depth unsplit) (has : Slot → Bool) (s : Slot) (write : WriteFields) → SetsFirst n adds.fields has s write → can_write old.locks old.running.tx write.number ≡ true
+pub may_put : (basis : Basis) (walk : WalkFields) (old : Moment) (n room_depth : ℕ) (unsplit : Bool) (adds : IsAdding basis walk (view_for basis old) n room_depth unsplit) (has : Slot → Bool) (s : Slot) (write : WriteFields) → SetsFirst n adds.fields has s write → can_write old.locks old.running.tx write.number ≡ true
 may_put basis walk old n room_depth unsplit adds has s write plan =
     let on : write.number ≡ n = ap (λ (w : WriteFields). w.number) plan.written in
     ap (λ q. can_write old.locks old.running.tx q) on ∙ may_write old n adds.rest.exclusive

@@ -1,5 +1,5 @@
 -- What a walk that has written nothing reads of the clean pages, and how many it holds
-use Rattle.std.proofs.Common.{◌≡◌, ℕ, ◌<◌, ◌≤◌, ◌+◌, true, Option, is_some, refl, ap, ◌∙◌, inl, arith}
+use Rattle.std.proofs.Common.{◌≡◌, ℕ, ◌<◌, ◌≤◌, ◌+◌, true, Option, None, Some, is_some, refl, ap, ◌∙◌, inl, arith}
 use Rattle.std.specs.Cmp.{nat_cmp_total}
 use Rattle.std.specs.Ordering.{nat_cmp}
 use Rattle.std.specs.FinMap as map
@@ -10,15 +10,17 @@ use Rattle.mlt_page_locks.specs.LockTables.{Modes, page_count}
 use Rattle.mlt_page_locks.specs.Requests.{stronger, with_page}
 use Rattle.mlt_held.specs.Moments.{IsCleanFor, MayStep, Moment}
 use Rattle.mlt_held.specs.PageSteps.{LocksAtMost, TouchesOnePage}
-use Rattle.mlt_held.specs.Views.{IsUnwritten, ReadsPage, view_of}
-use Rattle.mlt_held.proofs.Unwritten.{sees_page}
-use Rattle.mlt_held.proofs.Views.{agrees, page_count_of_view}
+use Rattle.mlt_hash_form.specs.File.{FilePages}
+use Rattle.mlt_hash_form.specs.Held.{over, own_or}
+use Rattle.mlt_held.specs.Views.{HasWritten, IsUnwrittenSince, ReadsPage, view_of, view_over}
+use Rattle.mlt_held.proofs.Since.{agrees_over, sees_page_since, there_since}
+use Rattle.mlt_held.proofs.Views.{page_count_of_view}
 use Rattle.mlt_hash.specs.Passes.{bucket_held, bucket_mode, directory_held, directory_mode, header_held, header_mode}
 use Rattle.mlt_hash.specs.declared.pass.Pass.{Pass}
 
--- the clean page is what was read
-pub reads_clean : (old new : Moment) (q : ℕ) (mode : Mode) (page : Option Page) (clean : ℕ → Option Page) → MayStep new → IsCleanFor new clean → IsUnwritten (view_of old) → ReadsPage (view_of old) (view_of new) q mode page → clean q ≡ page
-reads_clean old new q mode page clean may is none reads = agrees new clean may is q page (sees_page (view_of old) (view_of new) q mode page none reads)
+-- what was read is what the clean page is, with what was written before over it
+pub reads_clean : (before : FilePages) (old new : Moment) (q : ℕ) (mode : Mode) (page : Option Page) (clean : ℕ → Option Page) → MayStep new → IsCleanFor new clean → IsUnwrittenSince before (view_over before old) → ReadsPage (view_over before old) (view_over before new) q mode page → over clean before q ≡ page
+reads_clean before old new q mode page clean may is none reads = agrees_over before new clean may is q page (sees_page_since before (view_over before old) (view_over before new) q mode page none reads)
 
 -- one page more, at most, is held with it
 pub one_page_more : (n : ℕ) (old new : Modes) (q : ℕ) (mode : Mode) → map.len old ≤ n → new ≡ with_page old q mode → map.len new ≤ n + 1
@@ -29,23 +31,27 @@ pub none_held : (modes : Modes) → modes ≡ map.empty → map.len modes ≤ 0
 none_held modes is = omega (arith, ap map.len is, map.len-empty nat_cmp Mode)
 
 -- then one, then two
-pub one_held : (modes : Modes) (pass : Pass) (root : ℕ) → modes ≡ header_held pass root → map.len modes ≤ 1
+one_held : (modes : Modes) (pass : Pass) (root : ℕ) → modes ≡ header_held map.empty pass root → map.len modes ≤ 1
 one_held modes pass root is = one_page_more 0 map.empty modes root (header_mode pass) (none_held map.empty refl) is
 
-pub two_held : (modes : Modes) (pass : Pass) (root dir : ℕ) → modes ≡ directory_held pass root dir → map.len modes ≤ 2
-two_held modes pass root dir is = one_page_more 1 (header_held pass root) modes dir (directory_mode pass) (one_held (header_held pass root) pass root refl) is
+two_held : (modes : Modes) (pass : Pass) (root dir : ℕ) → modes ≡ directory_held map.empty pass root dir → map.len modes ≤ 2
+two_held modes pass root dir is = one_page_more 1 (header_held map.empty pass root) modes dir (directory_mode pass) (one_held (header_held map.empty pass root) pass root refl) is
 
 -- and three at its bucket
-pub three_held : (modes : Modes) (pass : Pass) (mode : Mode) (root dir bucket : ℕ) → modes ≡ bucket_held pass mode root dir bucket → map.len modes ≤ 3
-three_held modes pass mode root dir bucket is = one_page_more 2 (directory_held pass root dir) modes bucket (bucket_mode pass mode) (two_held (directory_held pass root dir) pass root dir refl) is
+pub three_held : (modes : Modes) (pass : Pass) (mode : Mode) (root dir bucket : ℕ) → modes ≡ bucket_held map.empty pass mode root dir bucket → map.len modes ≤ 3
+three_held modes pass mode root dir bucket is = one_page_more 2 (directory_held map.empty pass root dir) modes bucket (bucket_mode pass mode) (two_held (directory_held map.empty pass root dir) pass root dir refl) is
 
 -- so it may lock one more
 pub few_held : (m : Moment) (n : ℕ) → map.len (view_of m).modes ≤ n → n < 300 → page_count m.locks m.running.tx < 300
 few_held m n few small = omega (arith, page_count_of_view m, few, small)
 
--- a clean page is in the store
-pub is_there : (m : Moment) (clean : ℕ → Option Page) (q p : ℕ) → IsCleanFor m clean → q ≡ p → is_some (clean p) ≡ true → is_some (page_at m.store.pages q) ≡ true
-is_there m clean q p is same some = is.there q (ap (λ p. is_some (clean p)) same ∙ some)
+own_is_there : (own clean : Option Page) → is_some clean ≡ true → is_some (own_or own clean) ≡ true
+own_is_there None clean some = some
+own_is_there (Some page) clean some = refl
+
+-- a page of the walk's file is in the store
+pub is_there : (before : FilePages) (m : Moment) (clean : ℕ → Option Page) (q p : ℕ) → MayStep m → HasWritten before (view_of m) → IsCleanFor m clean → q ≡ p → is_some (over clean before p) ≡ true → is_some (page_at m.store.pages q) ≡ true
+is_there before m clean q p may written is same some = there_since before m written clean q may is (own_is_there ((view_of m).own q) (over clean before q) (ap (λ p. is_some (over clean before p)) same ∙ some))
 
 -- a step that locks one page at most touches no other
 pub touches_it : (old new : Moment) (q : ℕ) → LocksAtMost old new q → TouchesOnePage old new

@@ -1,41 +1,32 @@
 -- Where a bucket has no room: what a walk tells of it, and that its file rests before the first split
-use Rattle.std.proofs.Common.{◌≡◌, ℕ, zero, suc, ◌<◌, ◌≤◌, ◌+◌, ◌-◌, ◌/◌, ◌^◌, Bool, true, false, eqb, ◌||◌, List, [], ◌∷◌, length, Option, Some, None, is_some, refl, sym, ap, subst, ◌∙◌, inl, inr, arith}
-use Rattle.std.specs.Prelude.{◌≢◌, MatchOption, position, slice_index, slice_index_or, unwrap_or}
-use Rattle.std.specs.List.{list_all, list_any, position_or_len}
-use Rattle.std.specs.Ordering.{nat_cmp}
+use Rattle.std.proofs.Common.{◌≡◌, ℕ, ◌<◌, ◌≤◌, ◌+◌, ◌^◌, Bool, true, false, List, length, Option, Some, None, is_some, refl, sym, ap, subst, ◌∙◌, inl, inr, arith}
+use Rattle.std.specs.Prelude.{MatchOption, position, slice_index_or, unwrap_or}
+use Rattle.std.specs.List.{list_all, position_or_len}
 use Rattle.std.specs.FinMap as map
-use Rattle.std.proofs.lemmas.Bool.{cases_eq, cases_lt, cond-true, eq-eqb, false≢true, lt-ltb}
+use Rattle.std.proofs.lemmas.Bool.{cases_lt, cond-true, false≢true, lt-ltb}
 use Rattle.std.proofs.lemmas.List.{get_or_past}
 use Rattle.std.proofs.lemmas.List.Sums.{fails_before_first}
 use Rattle.std.proofs.lemmas.Option.{none-some}
-use Rattle.std.proofs.Math.Bool.{or-true}
-use Rattle.mlt_types.specs.declared.mode.Mode.{Mode}
 use Rattle.mlt_types.specs.declared.mode.Mode.TheVariants.{Exclusive}
-use Rattle.mlt_page.specs.Bits.{first_bits}
 use Rattle.mlt_page.specs.Slots.{is_ghost_of, is_kept, is_live_of}
 use Rattle.mlt_page.specs.declared.slot.Slot.{Slot}
 use Rattle.mlt_page.specs.declared.slot.Slot.TheVariants.{Free}
 use Rattle.mlt_page.specs.declared.page.Page.{Page}
 use Rattle.mlt_page.specs.declared.page.Page.TheVariants as page
 use Rattle.mlt_page.specs.Values.{BucketFields}
-use Rattle.mlt_page_locks.specs.LockTables.{Modes}
-use Rattle.mlt_page_locks.specs.Requests.{stronger, with_page}
 use Rattle.mlt_hash_form.specs.Changes.{IsHome}
 use Rattle.mlt_hash_form.specs.File.{HasForm, bucket_of, buckets_of, dir_of, header_of, lead_of}
-use Rattle.mlt_hash_form.specs.Held.{Agrees, KeepsFile, over, own_or}
+use Rattle.mlt_hash_form.specs.Held.{Agrees, KeepsFile, RearrangesSlots, over, own_or}
 use Rattle.mlt_hash_form.specs.Room.{crowds, is_crowded}
-use Rattle.mlt_hash_form.proofs.Bits.{first_bits_below}
 use Rattle.mlt_hash_form.proofs.Crowd.{crowded_at_own_depth}
-use Rattle.mlt_hash_form.proofs.FillEnds.{page_listed}
 use Rattle.mlt_hash_form.proofs.HeldPages.{keeps_none}
 use Rattle.mlt_hash_form.proofs.Paths.{path_depths}
-use Rattle.mlt_held.specs.Moments.{HasCleanFile, MayStep, Moment, no_writes}
-use Rattle.mlt_held.specs.Views.{View, view_of}
-use Rattle.mlt_held.proofs.Views.{mode_of_others, mode_of_page}
-use Rattle.mlt_held.proofs.Views as views
-use Rattle.mlt_hash.specs.Passes.{HasRoomFrom, IsNextPass, NeverHasRoom, bucket_held, bucket_mode, directory_held, directory_mode, header_held, header_mode}
-use Rattle.mlt_split.specs.Rests.{HoldsAmong, IsAtRest, IsIn, held_page, most_held}
-use Rattle.mlt_hash.specs.Walks.{Basis, IsAdding, IsAtBucket, Stands, WalkFields, aim_of}
+use Rattle.mlt_held.specs.Moments.{HasFileOver, MayStep, Moment}
+use Rattle.mlt_held.specs.Views.{View}
+use Rattle.mlt_held.proofs.Since.{agrees_over, over_since, reads_since}
+use Rattle.mlt_hash.specs.Passes.{HasRoomFrom, IsNextPass, NeverHasRoom, bucket_held, header_mode}
+use Rattle.mlt_split.specs.Rests.{IsAtRest, held_page}
+use Rattle.mlt_hash.specs.Walks.{Basis, Before, IsAdding, IsAtBucket, Stands, WalkFields, aim_of, one_key, view_for}
 use Rattle.mlt_hash.specs.Steps.{IsSameWalk}
 use Rattle.mlt_hash.specs.Changes.{HasNoRoom, IsAtAbsent, IsFull, IsNext, MustWiden, NeedsSplit, SeesBucket, crowded_at, directory_depth_of, page_of}
 use Rattle.mlt_hash.specs.declared.pass.Pass.{Pass}
@@ -43,6 +34,7 @@ use Rattle.mlt_hash.specs.declared.pass.Pass.TheVariants as pass
 use Rattle.mlt_hash.specs.declared.pass.Phase.{Phase}
 use Rattle.mlt_hash.specs.declared.pass.Phase.TheVariants as at
 use Rattle.mlt_hash.proofs.Passed.{holds_at_bucket, read_at_bucket}
+use Rattle.mlt_hash.proofs.Beside.{anew_unless_wide, few_before, more_beside}
 use Rattle.mlt_hash.proofs.Readings.{three_held}
 use Rattle.mlt_hash.proofs.InPlace.{absent_at, bucket_is_exclusive, found_there, no_live_slot, same_bucket, seen_home, seen_path}
 
@@ -57,81 +49,30 @@ nowhere_at has slots free none i =
       | inr past ↦ ap has (get_or_past slots i Free past) ∙ free
     ]
 
--- the first n pages of a directory
-dirs_below : List ℕ → ℕ → List ℕ
-dirs_below dirs zero = []
-dirs_below dirs (suc n) = slice_index dirs n ∷ dirs_below dirs n
+pub narrow_is_not_wide : pass.Narrow ≡ pass.Wide → ⊥
+narrow_is_not_wide same = cc
 
-dirs_below_count : (dirs : List ℕ) (n : ℕ) → length (dirs_below dirs n) ≡ n
-unfolding dirs_below
-dirs_below_count dirs zero = refl
-dirs_below_count dirs (suc n) = ap suc (dirs_below_count dirs n)
-
-in_head : (q p : ℕ) (pages : List ℕ) → p ≡ q → IsIn q (p ∷ pages)
-in_head q p pages e = ap (λ b. b || list_any (λ r. eqb r q) pages) (eq-eqb p q e)
-
-in_tail : (q p : ℕ) (pages : List ℕ) → IsIn q pages → IsIn q (p ∷ pages)
-in_tail q p pages h = ap (λ b. eqb p q || b) h ∙ or-true (eqb p q)
-
-dirs_below_have : (dirs : List ℕ) (n i : ℕ) → i < n → IsIn (slice_index dirs i) (dirs_below dirs n)
-unfolding dirs_below
-dirs_below_have dirs zero i lt = absurd (omega arith)
-dirs_below_have dirs (suc n) i lt =
-    elim (cases_lt i n) [
-      | inl below ↦ in_tail (slice_index dirs i) (slice_index dirs n) (dirs_below dirs n) (dirs_below_have dirs n i below)
-      | inr le ↦ let same : n ≡ i = omega arith in in_head (slice_index dirs i) (slice_index dirs n) (dirs_below dirs n) (ap (slice_index dirs) same)
-    ]
-
--- a page that is held is the one that was locked last, or was held before
-held_before : (modes : Modes) (n : ℕ) (mode : Mode) (q : ℕ) → q ≢ n → is_some (map.get (with_page modes n mode) q) ≡ true → is_some (map.get modes q) ≡ true
-held_before modes n mode q ne held = ap is_some (sym (mode_of_others modes n mode q ne)) ∙ held
-
--- the pages of a walk at its bucket stand in a list with its directory
-held_among : (pass : Pass) (mode : Mode) (root dir n q : ℕ) (pages : List ℕ) → IsIn dir pages → is_some (map.get (bucket_held pass mode root dir n) q) ≡ true → IsIn q (root ∷ n ∷ pages)
-held_among pass mode root dir n q pages listed held =
-    elim (cases_eq q n) [
-      | inl here ↦ in_tail q root (n ∷ pages) (in_head q n pages (sym here))
-      | inr ne ↦
-          let first = held_before (directory_held pass root dir) n (bucket_mode pass mode) q ne held in
-          elim (cases_eq q dir) [
-            | inl here ↦ in_tail q root (n ∷ pages) (in_tail q n pages (subst (λ p. IsIn p pages) (sym here) listed))
-            | inr other ↦
-                let second = held_before (header_held pass root) dir (directory_mode pass) q other first in
-                elim (cases_eq q root) [
-                  | inl here ↦ in_head q root (n ∷ pages) (sym here)
-                  | inr away ↦ absurd (false≢true (sym (ap is_some (map.get-empty {X = Mode} nat_cmp q)) ∙ held_before map.empty root (header_mode pass) q away second))
-                ]
-          ]
-    ]
-
-stays_exclusive : (modes : Modes) (n : ℕ) (mode : Mode) (q : ℕ) → map.get modes q ≡ Some Exclusive → map.get (with_page modes n mode) q ≡ Some Exclusive
-stays_exclusive modes n mode q held =
-    elim (cases_eq q n) [
-      | inl here ↦ ap (map.get (with_page modes n mode)) here ∙ mode_of_page modes n mode ∙ ap (λ o. Some (stronger o mode)) (ap (map.get modes) (sym here) ∙ held)
-      | inr ne ↦ mode_of_others modes n mode q ne ∙ held
-    ]
-
--- a wide pass holds the header exclusively
-pub header_is_exclusive : (mode : Mode) (root dir n : ℕ) → map.get (bucket_held pass.Wide mode root dir n) root ≡ Some Exclusive
-header_is_exclusive mode root dir n =
-    let alone : map.get (header_held pass.Wide root) root ≡ Some Exclusive = mode_of_page map.empty root Exclusive ∙ ap (λ o. Some (stronger o Exclusive)) (map.get-empty {X = Mode} nat_cmp root) in
-    stays_exclusive (directory_held pass.Wide root dir) n (bucket_mode pass.Wide mode) root (stays_exclusive (header_held pass.Wide root) dir (directory_mode pass.Wide) root alone)
+pub first_is_not_wide : pass.First ≡ pass.Wide → ⊥
+first_is_not_wide same = cc
 
 -- what is known where a bucket has no room, up to what the next pass is
-module _ (basis : Basis) (walk : WalkFields) (m : Moment) (fields : BucketFields) (bounded : (k : ℕ) → basis.bits k < 2 ^ 64) (may : MayStep m) (file : HasCleanFile basis.bits basis.root m)
-    (bucket : IsAtBucket basis walk (view_of m) (page_of walk.phase) (directory_depth_of walk.phase) None) (full : IsFull basis walk (view_of m) fields) where
+module _ (basis : Basis) (walk : WalkFields) (m : Moment) (fields : BucketFields) (bounded : (k : ℕ) → basis.bits k < 2 ^ 64) (may : MayStep m) (file : HasFileOver basis.bits basis.root basis.before.written m)
+    (bucket : IsAtBucket basis walk (view_for basis m) (page_of walk.phase) (directory_depth_of walk.phase) None) (full : IsFull basis walk (view_for basis m) fields) where
   abbrev n : ℕ
   n = page_of walk.phase
 
   abbrev seed : ℕ
   seed = basis.bits walk.key
 
-  agreed : Agrees (view_of m).seen file.clean
-  agreed = views.agrees m file.clean may file.is_clean
+  abbrev pages : ℕ → Option Page
+  pages = over file.clean basis.before.written
+
+  agreed : Agrees (view_for basis m).seen pages
+  agreed = agrees_over basis.before.written m file.clean may file.is_clean
 
   -- the bucket is no deeper than the directory
   depths : (fields.depth ≤ bucket.header.depth) × (bucket.header.depth ≤ 16)
-  depths = path_depths basis.bits file.clean basis.root walk.key bucket.header bucket.dir n fields bounded file.form (seen_path basis walk (view_of m) n (directory_depth_of walk.phase) None fields bounded bucket full.sees.at file.clean agreed)
+  depths = path_depths basis.bits pages basis.root walk.key bucket.header bucket.dir n fields bounded file.form (seen_path basis walk (view_for basis m) n (directory_depth_of walk.phase) None fields bounded bucket full.sees.at pages agreed)
 
   pub shallow : fields.depth ≤ 16
   shallow = omega (arith, depths.0, depths.1)
@@ -139,16 +80,16 @@ module _ (basis : Basis) (walk : WalkFields) (m : Moment) (fields : BucketFields
   pub within_limit : fields.depth ≤ basis.max_depth
   within_limit = let most = bucket.shallow in omega (arith, depths.0, most)
 
-  home : (clean : ℕ → Option Page) → Agrees (view_of m).seen clean → HasForm basis.bits clean basis.root → IsHome basis.bits clean basis.root walk.key n fields
-  home = seen_home basis walk (view_of m) n (directory_depth_of walk.phase) None fields bounded bucket full.sees.at
+  home : (clean : ℕ → Option Page) → Agrees (view_for basis m).seen clean → HasForm basis.bits clean basis.root → IsHome basis.bits clean basis.root walk.key n fields
+  home = seen_home basis walk (view_for basis m) n (directory_depth_of walk.phase) None fields bounded bucket full.sees.at
 
   -- the bucket is crowded at its own depth
   crowded_here : crowded_at basis walk fields fields.depth ≡ true
   crowded_here =
-      let at_home = home file.clean agreed file.form in
-      let same : buckets_of file.clean (lead_of file.clean basis.root seed) ≡ fields = ap (buckets_of file.clean) at_home.leads ∙ ap bucket_of at_home.found in
-      let kept : list_all (is_kept basis.opens) (buckets_of file.clean (lead_of file.clean basis.root seed)).slots ≡ true = subst (λ (b : BucketFields). list_all (is_kept basis.opens) b.slots ≡ true) (sym same) full.no_room in
-      let law = crowded_at_own_depth basis.bits basis.opens (header_of (file.clean basis.root)).depth (lead_of file.clean basis.root) (buckets_of file.clean) seed (bounded walk.key) bounded file.form.form in
+      let at_home = home pages agreed file.form in
+      let same : buckets_of pages (lead_of pages basis.root seed) ≡ fields = ap (buckets_of pages) at_home.leads ∙ ap bucket_of at_home.found in
+      let kept : list_all (is_kept basis.opens) (buckets_of pages (lead_of pages basis.root seed)).slots ≡ true = subst (λ (b : BucketFields). list_all (is_kept basis.opens) b.slots ≡ true) (sym same) full.no_room in
+      let law = crowded_at_own_depth basis.bits basis.opens (header_of (pages basis.root)).depth (lead_of pages basis.root) (buckets_of pages) seed (bounded walk.key) bounded file.form.form in
       subst (λ (b : BucketFields). list_all (crowds basis.bits basis.opens b.depth seed) b.slots ≡ true) same (law.1 kept)
 
   -- so it has room only deeper down
@@ -161,77 +102,59 @@ module _ (basis : Basis) (walk : WalkFields) (m : Moment) (fields : BucketFields
             absurd (false≢true (sym room ∙ ap (crowded_at basis walk fields) (sym same) ∙ crowded_here))
       ]
 
-  listed : IsIn (dir_of bucket.header (basis.bits walk.key)) (dirs_below bucket.header.dirs (2 ^ (bucket.header.depth - 8)))
-  listed =
-      let low : bucket.header.depth ≤ 64 = omega (arith, depths.1) in
-      let below = page_listed bucket.header.depth (first_bits bucket.header.depth seed) (first_bits_below bucket.header.depth seed low (bounded walk.key)) in
-      dirs_below_have bucket.header.dirs (2 ^ (bucket.header.depth - 8)) (first_bits bucket.header.depth seed / 256) below
+  -- nothing is written for this key yet
+  clean_over : (clean : ℕ → Option Page) → Agrees (view_for basis m).seen clean → over clean (view_for basis m).own ≡ clean
+  clean_over = over_since basis.before.written (view_for basis m) bucket.unwritten
 
-  -- few pages are held
-  among : HoldsAmong (view_of m) bucket.header.dirs bucket.header.dirs 0 (2 ^ (bucket.header.depth - 8)) 0 (most_held 0 fields.depth bucket.header.depth)
-  among =
-      let count = 2 ^ (bucket.header.depth - 8) in
-      let dirs : List ℕ = dirs_below bucket.header.dirs count in
-      let size : length dirs ≡ count = dirs_below_count bucket.header.dirs count in
-      record {
-        pages = basis.root ∷ n ∷ dirs;
-        few = omega (arith, size);
-        all = λ q held. held_among walk.pass walk.mode basis.root (dir_of bucket.header (basis.bits walk.key)) n q dirs listed (ap (λ (modes : Modes). is_some (map.get modes q)) (sym bucket.held) ∙ held);
-        old_dirs = λ i from lt. in_tail (slice_index bucket.header.dirs i) basis.root (n ∷ dirs) (in_tail (slice_index bucket.header.dirs i) n dirs (dirs_below_have bucket.header.dirs count i lt));
-        new_dirs = λ i lt. absurd (omega arith);
-      }
+  held_is : (q : ℕ) (p : Page) → (view_for basis m).seen q ≡ Some (Some p) → held_page (view_for basis m) q ≡ Some p
+  held_is q p sees = ap (λ (o : Option (Option Page)). own_or ((view_for basis m).own q) (unwrap_or o None)) sees ∙ reads_since basis.before.written (view_for basis m) bucket.unwritten q (Some p) sees
 
-  -- nothing is written yet
-  unwritten : no_writes ≡ (view_of m).own
-  unwritten i q = sym (bucket.unwritten q) i
-
-  clean_over : (clean : ℕ → Option Page) → over clean (view_of m).own ≡ clean
-  clean_over clean i q = own_or (bucket.unwritten q i) (clean q)
-
-  held_is : (q : ℕ) (p : Page) → (view_of m).seen q ≡ Some (Some p) → held_page (view_of m) q ≡ Some p
-  held_is q p sees i = own_or (bucket.unwritten q i) (unwrap_or (sees i) None)
+  keeps : KeepsFile basis.bits basis.opens basis.root (view_for basis m).seen (view_for basis m).own
+  keeps clean agree form = subst (λ (pages : ℕ → Option Page). RearrangesSlots basis.bits basis.opens (view_for basis m).seen clean pages basis.root) (sym (clean_over clean agree)) (keeps_none basis.bits basis.opens basis.root (view_for basis m).seen clean agree form)
 
   -- **The file rests before the first split.**
-  rests : (d : ℕ) → walk.mode ≡ Exclusive → d ≤ 16 → crowded_at basis walk fields d ≡ false → IsAtRest (aim_of basis walk d) (view_of m) n bucket.header fields
+  rests : (d : ℕ) → walk.mode ≡ Exclusive → d ≤ 16 → crowded_at basis walk fields d ≡ false → IsAtRest (aim_of basis walk d) (view_for basis m) n bucket.header fields
   rests d exclusive small room = record {
     bounded = bounded;
-    keeps = subst (λ (own : ℕ → Option Page). KeepsFile basis.bits basis.opens basis.root (view_of m).seen own) unwritten (keeps_none basis.bits basis.opens basis.root (view_of m).seen);
-    leads = λ clean agree form. ap (λ (pages : ℕ → Option Page). lead_of pages basis.root seed) (clean_over clean) ∙ (home clean agree form).leads;
+    keeps = keeps;
+    leads = λ clean agree form. ap (λ (pages : ℕ → Option Page). lead_of pages basis.root seed) (clean_over clean agree) ∙ (home clean agree form).leads;
     head_held = ap is_some bucket.head;
     head = held_is basis.root (page.Head bucket.header) bucket.head;
     bucket_held = ap is_some full.sees.at;
     found = held_is n (page.Bucket fields) full.sees.at;
-    exclusive = bucket_is_exclusive basis walk (view_of m) n (directory_depth_of walk.phase) None bucket exclusive;
-    absent = nowhere_at (is_live_of walk.key) fields.slots refl (no_live_slot walk.key fields.slots (found_there basis walk (view_of m) n (directory_depth_of walk.phase) None fields bucket full.sees.at));
+    exclusive = bucket_is_exclusive basis walk (view_for basis m) n (directory_depth_of walk.phase) None bucket exclusive;
+    absent = nowhere_at (is_live_of walk.key) fields.slots refl (no_live_slot walk.key fields.slots (found_there basis walk (view_for basis m) n (directory_depth_of walk.phase) None fields bucket full.sees.at));
     no_ghost = nowhere_at (is_ghost_of walk.key basis.tx) fields.slots refl full.no_ghost;
     room = room;
     small = small;
-    few_before = omega arith;
-    among = among;
+    few_before = few_before walk.pass basis.before bucket.follows;
+    among = more_beside (view_for basis m) bucket.header (basis.before.buckets + 2) (basis.before.buckets + 2 + fields.depth) (omega arith) bucket.among;
   }
 
   -- and the walk may add once the bucket has room
   adding : (d : ℕ) (phase : Phase) → walk.mode ≡ Exclusive → basis.max_depth ≤ 16 → HasRoomFrom (crowded_at basis walk fields) fields.depth basis.max_depth d → (walk.pass ≡ pass.First → ⊥) → (walk.pass ≡ pass.Narrow → (d ≤ directory_depth_of walk.phase) × (directory_depth_of walk.phase ≤ fields.depth + 8))
-      → IsAdding basis (record walk { phase = phase }) (view_of m) n d true
+      → IsAdding basis (record walk { phase = phase }) (view_for basis m) n d true
   adding d phase exclusive small has later narrow = record {
     header = bucket.header;
     fields = fields;
-    read = read_at_bucket basis walk (view_of m) n (directory_depth_of walk.phase) None bucket;
-    holds = holds_at_bucket basis walk (view_of m) n (directory_depth_of walk.phase) None bucket;
+    read = read_at_bucket basis walk (view_for basis m) n (directory_depth_of walk.phase) None bucket;
+    holds = holds_at_bucket basis walk (view_for basis m) n (directory_depth_of walk.phase) None bucket;
     shallow = bucket.shallow;
     rest = rests d exclusive (omega (arith, has.1, small)) has.2;
     most = has.1;
     unsplit_is = λ _. deeper d has.0 has.2;
     later = later;
-    narrow = λ is. let fits = narrow is in let same = bucket.depth_is in record { enough = omega (arith, fits.0, same); one_page = omega (arith, fits.1, same); unwritten = bucket.unwritten basis.root };
-    wide = λ is. ap (λ (modes : Modes). map.get modes basis.root) (bucket.held ∙ ap (λ p. bucket_held p walk.mode basis.root (dir_of bucket.header (basis.bits walk.key)) n) is) ∙ header_is_exclusive walk.mode basis.root (dir_of bucket.header (basis.bits walk.key)) n;
+    narrow = λ is. let fits = narrow is in let same = bucket.depth_is in record { enough = omega (arith, fits.0, same); one_page = omega (arith, fits.1, same); unwritten = bucket.unwritten.own basis.root ∙ ap (λ (b : Before). b.written basis.root) (anew_unless_wide walk.pass basis.before bucket.follows (λ wide. narrow_is_not_wide (sym is ∙ wide))) };
+    wide = λ is. (holds_at_bucket basis walk (view_for basis m) n (directory_depth_of walk.phase) None bucket).on_header ∙ ap (λ p. Some (header_mode p)) is;
   }
 
--- three pages are held there
-pub few_at_bucket : (basis : Basis) (walk : WalkFields) (view : View) → IsAtAbsent walk.phase → Stands walk.phase basis walk view → map.len view.modes ≤ 3
-few_at_bucket basis walk view none stands =
+-- three pages are held there in a pass that is not wide
+pub few_at_bucket : (basis : Basis) (walk : WalkFields) (view : View) → IsAtAbsent walk.phase → Stands walk.phase basis walk view → (walk.pass ≡ pass.Wide → ⊥) → map.len view.modes ≤ 3
+few_at_bucket basis walk view none stands narrow =
     let here = absent_at basis walk view walk.phase none stands in
-    three_held view.modes walk.pass walk.mode basis.root (dir_of here.header (basis.bits walk.key)) (page_of walk.phase) here.held
+    let dir = dir_of here.header (basis.bits walk.key) in
+    let anew = anew_unless_wide walk.pass basis.before here.follows narrow in
+    three_held view.modes walk.pass walk.mode basis.root dir (page_of walk.phase) (here.held ∙ ap (λ (b : Before). bucket_held b.held walk.pass walk.mode basis.root dir (page_of walk.phase)) anew)
 
 -- a bucket that is full is the one that is seen
 pub full_bucket : (basis : Basis) (walk : WalkFields) (view : View) (fields : BucketFields) → (seen : BucketFields) × IsFull basis walk view seen → SeesBucket walk view fields → IsFull basis walk view fields
@@ -246,6 +169,12 @@ pub record TellsNext (basis : Basis) (fields : BucketFields) (key depth : ℕ) (
 -- the same of the walk's own key and depth
 pub tells_next : (basis : Basis) (fields : BucketFields) (key key' depth depth' : ℕ) (next : Pass) (least : Option ℕ) → key ≡ key' → depth ≡ depth' → TellsNext basis fields key depth next least → TellsNext basis fields key' depth' next least
 tells_next basis fields key key' depth depth' next least same_key same_depth told = subst (λ k. TellsNext basis fields k depth' next least) same_key (subst (λ g. TellsNext basis fields key g next least) same_depth told)
+
+-- and the same where the walk goes by this, whatever it did before
+pub tells_next_by : (own basis : Basis) → own ≡ one_key basis → (fields : BucketFields) (key depth : ℕ) (next : Pass) (least : Option ℕ) → TellsNext own fields key depth next least → TellsNext basis fields key depth next least
+tells_next_by own basis same fields key depth next least told =
+    let here : TellsNext (one_key basis) fields key depth next least = subst (λ (b : Basis). TellsNext b fields key depth next least) same told in
+    record { follows = here.follows; room = here.room; narrow = here.narrow }
 
 none_is : {X : Type 0} (o : Option X) → is_some o ≡ false → o ≡ None
 none_is None h = refl
@@ -267,26 +196,26 @@ stays_narrow crowded l most g pass.Wide follows narrow = absurd (narrow refl)
 same_walk : (walk after : WalkFields) (phase : Phase) → after ≡ record walk { phase = phase } → IsSameWalk walk after
 same_walk walk after phase is = record { key = ap (λ (w : WalkFields). w.key) is; mode = ap (λ (w : WalkFields). w.mode) is; pass = ap (λ (w : WalkFields). w.pass) is }
 
-module _ (basis : Basis) (walk after : WalkFields) (m : Moment) (fields : BucketFields) (next : Pass) (least : Option ℕ) (value : ℕ) (full : IsFull basis walk (view_of m) fields) (told : TellsNext basis fields walk.key (directory_depth_of walk.phase) next least) where
+module _ (basis : Basis) (walk after : WalkFields) (m : Moment) (fields : BucketFields) (next : Pass) (least : Option ℕ) (value : ℕ) (full : IsFull basis walk (view_for basis m) fields) (told : TellsNext basis fields walk.key (directory_depth_of walk.phase) next least) where
   -- **A first pass tells which one follows,**
-  pub first_tells : map.len (view_of m).modes ≤ 3 → walk.pass ≡ pass.First → after ≡ record walk { phase = at.Full next } → NeedsSplit basis m walk after value
+  pub first_tells : map.len (view_for basis m).modes ≤ 3 → walk.pass ≡ pass.First → after ≡ record walk { phase = at.Full next } → NeedsSplit basis m walk after value
   first_tells few first is = record {
     fields = fields;
     full = full;
     same = same_walk walk after (at.Full next) is;
-    stands = subst (λ (w : WalkFields). Stands w.phase basis w (view_of m)) (sym is) few;
+    stands = subst (λ (w : WalkFields). Stands w.phase basis w (view_for basis m)) (sym is) few;
     first = λ _. (next, ap (λ (w : WalkFields). w.phase) is, told.follows);
     later = λ ne. absurd (ne first);
     narrow = λ is. absurd (first_is_not_narrow (sym first ∙ is));
   }
 
   -- **a narrow one that it has to be wide,**
-  pub widen_tells : map.len (view_of m).modes ≤ 3 → walk.pass ≡ pass.Narrow → next ≡ pass.Wide → after ≡ record walk { phase = at.Full pass.Wide } → MustWiden basis m walk after
+  pub widen_tells : map.len (view_for basis m).modes ≤ 3 → walk.pass ≡ pass.Narrow → next ≡ pass.Wide → after ≡ record walk { phase = at.Full pass.Wide } → MustWiden basis m walk after
   widen_tells few narrow wide is = record {
     fields = fields;
     full = full;
     same = same_walk walk after (at.Full pass.Wide) is;
-    stands = subst (λ (w : WalkFields). Stands w.phase basis w (view_of m)) (sym is) few;
+    stands = subst (λ (w : WalkFields). Stands w.phase basis w (view_for basis m)) (sym is) few;
     narrow = narrow;
     wide = subst (λ p. IsNext basis walk fields p) wide told.follows;
     phase = ap (λ (w : WalkFields). w.phase) is;
@@ -309,7 +238,7 @@ module _ (basis : Basis) (walk after : WalkFields) (m : Moment) (fields : Bucket
     }
 
     -- **or that the bucket is to be split.**
-    pub adding_tells : (number : ℕ) → ((k : ℕ) → basis.bits k < 2 ^ 64) → MayStep m → HasCleanFile basis.bits basis.root m → IsAtAbsent walk.phase → Stands walk.phase basis walk (view_of m) → walk.mode ≡ Exclusive → basis.max_depth ≤ 16
+    pub adding_tells : (number : ℕ) → ((k : ℕ) → basis.bits k < 2 ^ 64) → MayStep m → HasFileOver basis.bits basis.root basis.before.written m → IsAtAbsent walk.phase → Stands walk.phase basis walk (view_for basis m) → walk.mode ≡ Exclusive → basis.max_depth ≤ 16
         → number ≡ page_of walk.phase → (d : ℕ) → least ≡ Some d → after ≡ record walk { phase = at.Adding value number d true } → NeedsSplit basis m walk after value
     adding_tells number bounded may file none stands exclusive small here d some is =
         let has : HasRoomFrom (crowded_at basis walk fields) fields.depth basis.max_depth d = subst (λ o. MatchOption o (NeverHasRoom (crowded_at basis walk fields) fields.depth basis.max_depth) (λ d. HasRoomFrom (crowded_at basis walk fields) fields.depth basis.max_depth d)) some told.room in
@@ -318,12 +247,12 @@ module _ (basis : Basis) (walk after : WalkFields) (m : Moment) (fields : Bucket
           (subst (λ p. IsNext basis walk fields p) (next_is_narrow narrow) told.follows).3,
         ) in
         let now : after ≡ record walk { phase = at.Adding value (page_of walk.phase) d true } = is ∙ ap (λ q. record walk { phase = at.Adding value q d true }) here in
-        let adds = adding basis walk m fields bounded may file (absent_at basis walk (view_of m) walk.phase none stands) full d (at.Adding value (page_of walk.phase) d true) exclusive small has later narrow in
+        let adds = adding basis walk m fields bounded may file (absent_at basis walk (view_for basis m) walk.phase none stands) full d (at.Adding value (page_of walk.phase) d true) exclusive small has later narrow in
         record {
           fields = fields;
           full = full;
           same = same_walk walk after (at.Adding value (page_of walk.phase) d true) now;
-          stands = subst (λ (w : WalkFields). Stands w.phase basis w (view_of m)) (sym now) adds;
+          stands = subst (λ (w : WalkFields). Stands w.phase basis w (view_for basis m)) (sym now) adds;
           first = λ first. absurd (later first);
           later = λ _. (d, ap (λ (w : WalkFields). w.phase) now, has);
           narrow = λ narrow. subst (λ p. IsNext basis walk fields p) (next_is_narrow narrow) told.follows;

@@ -7,16 +7,16 @@ use Rattle.mlt_types.specs.declared.mode.Mode.{Mode}
 use Rattle.mlt_types.specs.declared.mode.Mode.TheVariants.{Exclusive}
 use Rattle.mlt_types.specs.declared.refusal.Refusal.{Refusal}
 use Rattle.mlt_types.specs.declared.refusal.Refusal.TheVariants as refusal
-use Rattle.mlt_hash_form.specs.Held.{Agrees}
+use Rattle.mlt_hash_form.specs.Held.{Agrees, over}
 use Rattle.mlt_page_locks.specs.LockTables.{LockTable, can_write}
 use Rattle.mlt_page_locks.proofs.LockLaws.{can_write-granted}
 use Rattle.mlt_page_locks.specs.Requests.{granted}
-use Rattle.mlt_held.specs.Moments.{HasCleanFile, MayStep, Moment}
+use Rattle.mlt_held.specs.Moments.{HasFileOver, MayStep, Moment}
 use Rattle.mlt_held.specs.PageSteps.{LocksAtMost, TouchesOnePage, WritesAtMost}
 use Rattle.mlt_held.specs.Views.{view_of}
 use Rattle.mlt_held.proofs.OwnSteps.{step_keeps_tx}
-use Rattle.mlt_held.proofs.Since.{nothing_written}
-use Rattle.mlt_held.proofs.Views.{agrees, holds_exclusively, may_write}
+use Rattle.mlt_held.proofs.Since.{agrees_over}
+use Rattle.mlt_held.proofs.Views.{holds_exclusively, may_write}
 use Rattle.mlt_split.specs.Splits.{IsUnderWay, MayAdvance, SplitFields, steps_left}
 use Rattle.mlt_split.specs.Rests.{Aim}
 use Rattle.mlt_split.specs.Steps.{IsDone, IsLeft, IsMaking, Touches}
@@ -25,7 +25,7 @@ use Rattle.mlt_split.specs.declared.phase.SplitPhase.{SplitPhase}
 use Rattle.mlt_split.specs.declared.phase.SplitPhase.TheVariants as split_at
 use Rattle.mlt_split.specs.declared.split.SplitAnswer.{SplitAnswer}
 use Rattle.mlt_split.specs.declared.split.SplitAnswer.TheVariants as split_answer
-use Rattle.mlt_hash.specs.Walks.{Basis, HasRead, HoldsByPass, IsAdding, IsSplitting, IsStanding, MayWalk, Stands, StaysNarrow, WalkFields, aim_of}
+use Rattle.mlt_hash.specs.Walks.{Basis, HasRead, HoldsByPass, IsAdding, IsSplitting, IsStanding, MayWalk, Stands, StaysNarrow, WalkFields, aim_of, view_for}
 use Rattle.mlt_hash.specs.Splitting.{OfSplit, SplitCloses, SplitGoesOn, TellsOfSplitting, walk_step}
 use Rattle.mlt_hash.specs.Steps.{TellsOfPath}
 use Rattle.mlt_hash.proofs.Passed.{StepsOn, holds_on, narrow_keeps_header, reads_on, steps_by_split}
@@ -58,8 +58,8 @@ stays_exclusive_in_step old new root may touches held =
     holds_exclusively new root (ap (λ tx. can_write new.locks tx root) (step_keeps_tx old new touches) ∙ right)
 
 -- where a walk that splits stands
-splitting_at : (basis : Basis) (walk : WalkFields) (old : Moment) (value room_depth : ℕ) → walk.phase ≡ at.Splitting value room_depth → IsStanding basis walk (view_of old) → IsSplitting basis walk (view_of old) room_depth
-splitting_at basis walk old value room_depth phase stands = subst (λ p. Stands p basis walk (view_of old)) phase stands
+splitting_at : (basis : Basis) (walk : WalkFields) (old : Moment) (value room_depth : ℕ) → walk.phase ≡ at.Splitting value room_depth → IsStanding basis walk (view_for basis old) → IsSplitting basis walk (view_for basis old) room_depth
+splitting_at basis walk old value room_depth phase stands = subst (λ p. Stands p basis walk (view_for basis old)) phase stands
 
 some_is_one : {X : Type 0} (x y : X) (o : Option X) → o ≡ Some x → o ≡ Some y → x ≡ y
 some_is_one x y o is_x is_y = let e : Some x ≡ Some y = sym is_x ∙ is_y in cc
@@ -70,52 +70,52 @@ may_advance basis walk old value room_depth was phase was_is ready =
     let splits = splitting_at basis walk old value room_depth phase ready.stands in
     record {
       may = ready.may;
-      written = nothing_written (view_of old);
+      written = ready.written;
       file = ready.file;
-      under_way = subst (λ (s : SplitFields). IsUnderWay (aim_of basis walk room_depth) (view_of old) s) (some_is_one splits.split was walk.split splits.split_is was_is) splits.under_way;
+      under_way = subst (λ (s : SplitFields). IsUnderWay (aim_of basis walk room_depth) (view_for basis old) s) (some_is_one splits.split was walk.split splits.split_is was_is) splits.under_way;
     }
 
-module _ (basis : Basis) (walk after : WalkFields) (old new : Moment) (value room_depth : ℕ) (was : SplitFields) (phase : walk.phase ≡ at.Splitting value room_depth) (stands : IsStanding basis walk (view_of old)) (was_is : walk.split ≡ Some was) (may : MayStep old) (file : HasCleanFile basis.bits basis.root old) (touches : TouchesOnePage old new) (done : IsDone was.phase (aim_of basis walk room_depth) old new was) where
-  splits : IsSplitting basis walk (view_of old) room_depth
+module _ (basis : Basis) (walk after : WalkFields) (old new : Moment) (value room_depth : ℕ) (was : SplitFields) (phase : walk.phase ≡ at.Splitting value room_depth) (stands : IsStanding basis walk (view_for basis old)) (was_is : walk.split ≡ Some was) (may : MayStep old) (file : HasFileOver basis.bits basis.root basis.before.written old) (touches : TouchesOnePage old new) (done : IsDone was.phase (aim_of basis walk room_depth) old new was) where
+  splits : IsSplitting basis walk (view_for basis old) room_depth
   splits = splitting_at basis walk old value room_depth phase stands
 
   same_split : splits.split ≡ was
   same_split = some_is_one splits.split was walk.split splits.split_is was_is
 
-  narrow_before : walk.pass ≡ pass.Narrow → StaysNarrow basis.root (view_of old) room_depth was.depth was.directory_depth
-  narrow_before narrow = subst (λ (s : SplitFields). StaysNarrow basis.root (view_of old) room_depth s.depth s.directory_depth) same_split (splits.narrow narrow)
+  narrow_before : walk.pass ≡ pass.Narrow → StaysNarrow basis.root (view_for basis old) room_depth was.depth was.directory_depth
+  narrow_before narrow = subst (λ (s : SplitFields). StaysNarrow basis.root (view_for basis old) room_depth s.depth s.directory_depth) same_split (splits.narrow narrow)
 
-  way : IsUnderWay (aim_of basis walk room_depth) (view_of old) was
-  way = subst (λ (s : SplitFields). IsUnderWay (aim_of basis walk room_depth) (view_of old) s) same_split splits.under_way
+  way : IsUnderWay (aim_of basis walk room_depth) (view_for basis old) was
+  way = subst (λ (s : SplitFields). IsUnderWay (aim_of basis walk room_depth) (view_for basis old) s) same_split splits.under_way
 
   shallow_before : was.directory_depth ≤ basis.max_depth
   shallow_before = subst (λ (s : SplitFields). s.directory_depth ≤ basis.max_depth) same_split splits.shallow
 
-  agreed : Agrees (view_of old).seen file.clean
-  agreed = agrees old file.clean may file.is_clean
+  agreed : Agrees (view_for basis old).seen (over file.clean basis.before.written)
+  agreed = agrees_over basis.before.written old file.clean may file.is_clean
 
   deep_before : was.depth < room_depth
-  deep_before = (way.begins file.clean agreed file.form).deep
+  deep_before = (way.begins (over file.clean basis.before.written) agreed file.form).deep
 
-  step : StepsOn walk (view_of old) (view_of new)
-  step = steps_by_split basis walk old new room_depth was may file.clean agreed file.form way None splits.read splits.holds splits.later narrow_before touches done
+  step : StepsOn walk (view_for basis old) (view_for basis new)
+  step = steps_by_split basis walk old new room_depth was may (over file.clean basis.before.written) agreed file.form way None splits.read splits.holds splits.later narrow_before touches done
 
-  abbrev read_now : HasRead basis walk.key (view_of new) None
-  read_now = reads_on basis walk (view_of old) (view_of new) step None splits.read
+  abbrev read_now : HasRead basis walk.key (view_for basis new) None
+  read_now = reads_on basis walk (view_for basis old) (view_for basis new) step None splits.read
 
-  holds_now : HoldsByPass walk.pass walk.mode basis.root read_now.dir read_now.bucket (view_of new)
-  holds_now = holds_on basis walk (view_of old) (view_of new) step None splits.read splits.holds
+  holds_now : HoldsByPass basis.before.held walk.pass walk.mode basis.root read_now.dir read_now.bucket (view_for basis new)
+  holds_now = holds_on basis walk (view_for basis old) (view_for basis new) step None splits.read splits.holds
 
-  header_kept : walk.pass ≡ pass.Narrow → (view_of new).own basis.root ≡ None
-  header_kept narrow = narrow_keeps_header basis walk old new room_depth was may file.clean agreed file.form way None splits.read (narrow_before narrow) done
+  header_kept : walk.pass ≡ pass.Narrow → (view_for basis new).own basis.root ≡ None
+  header_kept narrow = narrow_keeps_header basis walk old new room_depth was may (over file.clean basis.before.written) agreed file.form way None splits.read (narrow_before narrow) done
 
-  wide_now : walk.pass ≡ pass.Wide → map.get (view_of new).modes basis.root ≡ Some Exclusive
+  wide_now : walk.pass ≡ pass.Wide → map.get (view_for basis new).modes basis.root ≡ Some Exclusive
   wide_now wide = stays_exclusive_in_step old new basis.root may touches (splits.wide wide)
 
   -- **The split goes on.**
   pub split_goes_on : (is : SplitFields) → after ≡ record walk { split = Some is } → GoesOn (aim_of basis walk room_depth) new was is → SplitGoesOn basis new walk after value room_depth
   split_goes_on is after_is goes =
-      let here : IsSplitting basis (record walk { split = Some is }) (view_of new) room_depth = record {
+      let here : IsSplitting basis (record walk { split = Some is }) (view_for basis new) room_depth = record {
         split = is;
         split_is = refl;
         read = read_now;
@@ -134,7 +134,7 @@ module _ (basis : Basis) (walk after : WalkFields) (old new : Moment) (value roo
       record {
         on = record {
           same = record { key = ap (λ (w : WalkFields). w.key) after_is; mode = ap (λ (w : WalkFields). w.mode) after_is; pass = ap (λ (w : WalkFields). w.pass) after_is };
-          stands = subst (λ (w : WalkFields). Stands w.phase basis w (view_of new)) (sym after_is) (subst (λ p. Stands p basis (record walk { split = Some is }) (view_of new)) (sym phase) here);
+          stands = subst (λ (w : WalkFields). Stands w.phase basis w (view_for basis new)) (sym after_is) (subst (λ p. Stands p basis (record walk { split = Some is }) (view_for basis new)) (sym phase) here);
         };
         phase = ap (λ (w : WalkFields). w.phase) after_is ∙ phase;
         was = was;
@@ -157,7 +157,7 @@ module _ (basis : Basis) (walk after : WalkFields) (old new : Moment) (value roo
   -- **The split closes.**
   pub split_closes_walk : (n : ℕ) (split : Option SplitFields) → after ≡ record walk { phase = at.Adding value n room_depth false; split = split } → Rests (aim_of basis walk room_depth) new was n → steps_left was ≡ 1 → SplitCloses basis new walk after value room_depth
   split_closes_walk n split after_is rests last =
-      let here : IsAdding basis (record walk { phase = at.Adding value n room_depth false; split = split }) (view_of new) n room_depth false = record {
+      let here : IsAdding basis (record walk { phase = at.Adding value n room_depth false; split = split }) (view_for basis new) n room_depth false = record {
         header = rests.header;
         fields = rests.bucket;
         read = read_now;
@@ -179,7 +179,7 @@ module _ (basis : Basis) (walk after : WalkFields) (old new : Moment) (value roo
       record {
         on = record {
           same = record { key = ap (λ (w : WalkFields). w.key) after_is; mode = ap (λ (w : WalkFields). w.mode) after_is; pass = ap (λ (w : WalkFields). w.pass) after_is };
-          stands = subst (λ (w : WalkFields). Stands w.phase basis w (view_of new)) (sym after_is) here;
+          stands = subst (λ (w : WalkFields). Stands w.phase basis w (view_for basis new)) (sym after_is) here;
         };
         bucket = n;
         phase = ap (λ (w : WalkFields). w.phase) after_is;

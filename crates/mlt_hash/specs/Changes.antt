@@ -1,7 +1,9 @@
 -- What the changes of a walk tell
 use Rattle.std.specs.Prelude.{ℕ, ◌≡◌, ◌≤◌, ◌⊎◌, true, IsSome, Bool, List, Some, None, position, ◌<◌}
 use Rattle.std.specs.List.{list_all}
+use Rattle.std.specs.FinMap as map
 use Rattle.mlt_types.specs.declared.mode.Mode.TheVariants.{Exclusive}
+use Rattle.mlt_types.specs.declared.refusal.Refusal.{Refusal}
 use Rattle.mlt_types.specs.declared.refusal.Refusal.TheVariants as refusal
 use Rattle.mlt_page.specs.Slots.{is_ghost_of, is_kept}
 use Rattle.mlt_page.specs.declared.slot.Slot.{Slot}
@@ -11,12 +13,12 @@ use Rattle.mlt_page.specs.declared.page.Page.TheVariants as page
 use Rattle.mlt_page.specs.Values.{BucketFields}
 use Rattle.mlt_hash_form.specs.Room.{is_crowded}
 use Rattle.mlt_held.specs.Moments.{Moment}
-use Rattle.mlt_held.specs.PageSteps.{WritesHeldPage}
-use Rattle.mlt_held.specs.Views.{ReadsHeldBucket, View, WritesPage, view_of}
+use Rattle.mlt_held.specs.PageSteps.{WritesHeldPage, WritesHeldSlot}
+use Rattle.mlt_held.specs.Views.{ReadsHeldBucket, View, WritesPage}
 use Rattle.mlt_split.specs.declared.setting.Setting.{Setting}
 use Rattle.mlt_record.specs.Plans.{SetsFirst, WriteFields, has_room, planned_page}
 use Rattle.mlt_hash.specs.Passes.{HasRoomFrom, IsNextPass, NeverHasRoom}
-use Rattle.mlt_hash.specs.Walks.{Basis, IsStanding, MayWalk, WalkFields}
+use Rattle.mlt_hash.specs.Walks.{Basis, IsStanding, MayWalk, WalkFields, nothing_before, view_for}
 use Rattle.mlt_hash.specs.Steps.{IsSameWalk}
 use Rattle.mlt_hash.specs.declared.pass.Pass.{Pass}
 use Rattle.mlt_hash.specs.declared.pass.Pass.TheVariants as pass
@@ -72,11 +74,27 @@ pub record MayChange (basis : Basis) (m : Moment) (walk : WalkFields) : Type 0 w
 abbrev pub MayChangeBy : ℕ → Moment → WalkFields → Type 0
 MayChangeBy tx m walk = (basis : Basis) × (basis.tx ≡ tx) × MayChange basis m walk
 
+-- and of one that went to no key before
+abbrev pub MayChangeFirst : ℕ → Moment → WalkFields → Type 0
+MayChangeFirst tx m walk =
+    (basis : Basis) × (basis.tx ≡ tx) × MayChange basis m walk × (basis.before ≡ nothing_before)
+
 -- a plan sets a slot of the bucket that its page reads as
 pub record PlansSlot (view : View) (write : WriteFields) : Type 0 where
   pub bucket : BucketFields
   pub reads : ReadsHeldBucket view write.number bucket
   pub within : write.at < 8
+
+-- A change of a slot is written as planned, or memory was refused for its page, at least the third one that is written, and
+-- nothing has changed.
+abbrev pub TellsOfWrite : Moment → Moment → WalkFields → WalkFields → WriteFields → Change → WalkAnswer
+    → Type 0
+TellsOfWrite old new before after write done answer.Changed =
+    WritesHeldSlot old new write.number write.at write.slot
+    × (after ≡ record before { phase = at.Changed write.number done })
+TellsOfWrite old new before after write done (answer.Refused reason) =
+    (reason ≡ refusal.OutOfMemory) × (2 ≤ map.len old.running.images) × (new ≡ old) × (after ≡ before)
+TellsOfWrite old new before after write done other = ⊥
 
 -- page q was written if the answer is that the change is made, and else nothing has changed
 abbrev pub WritesIfChanged : Moment → Moment → ℕ → WalkAnswer → Type 0
@@ -110,10 +128,16 @@ TakesSlot other basis old new walk value = Unit {0}
 pub record Makes (basis : Basis) (new : Moment) (before after : WalkFields) (done : Change) : Type 0 where
   pub same : IsSameWalk before after
   pub phase : after.phase ≡ at.Changed (page_of before.phase) done
-  pub stands : IsStanding basis after (view_of new)
+  pub stands : IsStanding basis after (view_for basis new)
+
+-- Memory was refused, and the walk is as it was. The first change of a walk takes none.
+abbrev pub LacksMemory : Basis → WalkFields → WalkFields → Refusal → Type 0
+LacksMemory basis before after reason =
+    (reason ≡ refusal.OutOfMemory) × (basis.before ≡ nothing_before → ⊥) × (after ≡ before)
 
 abbrev pub TellsOfChange : Basis → Moment → WalkFields → WalkFields → Change → WalkAnswer → Type 0
 TellsOfChange basis new before after done answer.Changed = Makes basis new before after done
+TellsOfChange basis new before after done (answer.Refused reason) = LacksMemory basis before after reason
 TellsOfChange basis new before after done other = ⊥
 
 -- The bucket has neither a ghost of the transaction to revive nor a slot with room.
@@ -146,9 +170,9 @@ IsNext basis walk fields next =
 -- A split is needed: in a first pass this says which one follows, and a later pass is to go on, and may.
 pub record NeedsSplit (basis : Basis) (new : Moment) (before after : WalkFields) (value : ℕ) : Type 0 where
   pub fields : BucketFields
-  pub full : IsFull basis before (view_of new) fields
+  pub full : IsFull basis before (view_for basis new) fields
   pub same : IsSameWalk before after
-  pub stands : IsStanding basis after (view_of new)
+  pub stands : IsStanding basis after (view_for basis new)
   pub first : before.pass ≡ pass.First → (next : Pass) × (after.phase ≡ at.Full next) × IsNext basis before fields next
   pub later : (before.pass ≡ pass.First → ⊥) → (d : ℕ)
       × (after.phase ≡ at.Adding value (page_of before.phase) d true)
@@ -158,9 +182,9 @@ pub record NeedsSplit (basis : Basis) (new : Moment) (before after : WalkFields)
 -- A narrow pass has to be wide.
 pub record MustWiden (basis : Basis) (new : Moment) (before after : WalkFields) : Type 0 where
   pub fields : BucketFields
-  pub full : IsFull basis before (view_of new) fields
+  pub full : IsFull basis before (view_for basis new) fields
   pub same : IsSameWalk before after
-  pub stands : IsStanding basis after (view_of new)
+  pub stands : IsStanding basis after (view_for basis new)
   pub narrow : before.pass ≡ pass.Narrow
   pub wide : IsNext basis before fields pass.Wide
   pub phase : after.phase ≡ at.Full pass.Wide
@@ -168,7 +192,7 @@ pub record MustWiden (basis : Basis) (new : Moment) (before after : WalkFields) 
 -- There is no room at any depth that the directory may get, and the pass is the one that would split. The walk is as it was.
 pub record HasNoRoom (basis : Basis) (new : Moment) (before after : WalkFields) : Type 0 where
   pub fields : BucketFields
-  pub full : IsFull basis before (view_of new) fields
+  pub full : IsFull basis before (view_for basis new) fields
   pub shallow : fields.depth ≤ basis.max_depth
   pub never : NeverHasRoom (crowded_at basis before fields) fields.depth basis.max_depth
   pub later : before.pass ≡ pass.First → ⊥
@@ -183,4 +207,5 @@ TellsOfAddition basis new before after value answer.Changed =
 TellsOfAddition basis new before after value answer.NeedSplit = NeedsSplit basis new before after value
 TellsOfAddition basis new before after value answer.Widen = MustWiden basis new before after
 TellsOfAddition basis new before after value (answer.Refused refusal.NoRoom) = HasNoRoom basis new before after
+TellsOfAddition basis new before after value (answer.Refused reason) = LacksMemory basis before after reason
 TellsOfAddition basis new before after value other = ⊥

@@ -1,6 +1,5 @@
 -- Passes: in which modes they lock, and which one follows where a bucket has no room
 use Rattle.std.specs.Prelude.{ℕ, ◌≡◌, ◌<◌, ◌≤◌, ◌+◌, ◌⊎◌, true, false, Bool, Option, Some, None}
-use Rattle.std.specs.FinMap as map
 use Rattle.mlt_types.specs.declared.mode.Mode.{Mode}
 use Rattle.mlt_types.specs.declared.mode.Mode.TheVariants.{Shared, Exclusive}
 use Rattle.mlt_page.specs.declared.page.Page.{Page}
@@ -31,15 +30,16 @@ bucket_mode First mode = mode
 bucket_mode Narrow mode = Exclusive
 bucket_mode Wide mode = Exclusive
 
--- the pages that a pass holds up to its bucket, one more at a time, and nothing else
-abbrev pub header_held : Pass → ℕ → Modes
-header_held pass root = with_page map.empty root (header_mode pass)
+-- the pages that a pass holds up to its bucket, one more at a time, beside those that it held before, and nothing else
+abbrev pub header_held : Modes → Pass → ℕ → Modes
+header_held before pass root = with_page before root (header_mode pass)
 
-abbrev pub directory_held : Pass → ℕ → ℕ → Modes
-directory_held pass root dir = with_page (header_held pass root) dir (directory_mode pass)
+abbrev pub directory_held : Modes → Pass → ℕ → ℕ → Modes
+directory_held before pass root dir = with_page (header_held before pass root) dir (directory_mode pass)
 
-abbrev pub bucket_held : Pass → Mode → ℕ → ℕ → ℕ → Modes
-bucket_held pass mode root dir bucket = with_page (directory_held pass root dir) bucket (bucket_mode pass mode)
+abbrev pub bucket_held : Modes → Pass → Mode → ℕ → ℕ → ℕ → Modes
+bucket_held before pass mode root dir bucket =
+    with_page (directory_held before pass root dir) bucket (bucket_mode pass mode)
 
 -- which other pages a pass may hold, by what the clean pages have of each and whether the pass has written or made it: a first
 -- pass none, a narrow pass those that it made, and a wide one those that it wrote or made

@@ -10,14 +10,12 @@ use Rattle.mlt_page.specs.declared.page.Page.{Page}
 use Rattle.mlt_page.specs.declared.page.Page.TheVariants as page
 use Rattle.mlt_page_locks.specs.Requests.{IsLowest, conflicts}
 use Rattle.mlt_held.specs.Moments.{Moment}
-use Rattle.mlt_held.specs.PageSteps.{MakesLockedPage, WritesAtMost, WritesHeldSlot}
-use Rattle.mlt_held.specs.Views.{view_of}
-use Rattle.mlt_record.specs.Plans.{WriteFields}
+use Rattle.mlt_held.specs.PageSteps.{MakesLockedPage, WritesAtMost}
 use Rattle.mlt_split.specs.Rests.{held_page}
 use Rattle.mlt_split.specs.Splits.{HasHalves, SplitFields, directory_steps, steps_left}
 use Rattle.mlt_split.specs.Steps.{IsDone, IsLeft, IsMaking, IsNextPage}
 use Rattle.mlt_split.specs.Tells.{Rests}
-use Rattle.mlt_hash.specs.Walks.{Basis, IsStanding, WalkFields, aim_of}
+use Rattle.mlt_hash.specs.Walks.{Basis, IsStanding, WalkFields, aim_of, view_for}
 use Rattle.mlt_hash.specs.Steps.{IsSameWalk, TellsOfPath}
 use Rattle.mlt_hash.specs.Changes.{Makes, PutsLowest}
 use Rattle.mlt_hash.specs.declared.pass.Phase.{Phase}
@@ -39,13 +37,13 @@ walk_step old new before after = record { old = old; new = new; before = before;
 -- the walk is the same and stands somewhere
 pub record StandsOn (basis : Basis) (new : Moment) (before after : WalkFields) : Type 0 where
   pub same : IsSameWalk before after
-  pub stands : IsStanding basis after (view_of new)
+  pub stands : IsStanding basis after (view_for basis new)
 
 -- the walk has to split its bucket: it has not yet, or there is still no room
 abbrev pub HasToSplit : Basis → Moment → WalkFields → ℕ → ℕ → ℕ → Type 0
 HasToSplit basis old before value n room_depth =
     (before.phase ≡ at.Adding value n room_depth true)
-    ⊎ ((bucket : BucketFields) × (held_page (view_of old) n ≡ Some (page.Bucket bucket))
+    ⊎ ((bucket : BucketFields) × (held_page (view_for basis old) n ≡ Some (page.Bucket bucket))
     × (list_all (is_kept basis.opens) bucket.slots ≡ true))
 
 -- this is so of the walk's split
@@ -61,9 +59,9 @@ pub record BeginsSplit (basis : Basis) (step : WalkStep) (value n room_depth : �
   pub split : SplitFields
   pub split_is : step.after.split ≡ Some split
   pub header : HeadFields
-  pub head : held_page (view_of step.old) basis.root ≡ Some (page.Head header)
+  pub head : held_page (view_for basis step.old) basis.root ≡ Some (page.Head header)
   pub bucket : BucketFields
-  pub found : held_page (view_of step.old) n ≡ Some (page.Bucket bucket)
+  pub found : held_page (view_for basis step.old) n ≡ Some (page.Bucket bucket)
   pub depth : split.depth ≡ bucket.depth
   pub directory_depth : split.directory_depth ≡ header.depth
   pub steps : steps_left split ≡ 1 + directory_steps split.depth split.directory_depth
@@ -92,15 +90,6 @@ pub record SplitCloses (basis : Basis) (new : Moment) (before after : WalkFields
   pub last : steps_left was ≡ 1
   pub rests : Rests (aim_of basis before room_depth) new was bucket
 
--- the bucket is written with the record put, or memory was refused and nothing has changed
-abbrev pub TellsOfPut : Moment → Moment → WalkFields → WalkFields → WriteFields → ℕ → WalkAnswer → Type 0
-TellsOfPut old new before after write value answer.Changed =
-    WritesHeldSlot old new write.number write.at write.slot
-    × (after ≡ record before { phase = at.Changed write.number (change.Put value) })
-TellsOfPut old new before after write value (answer.Refused reason) =
-    (reason ≡ refusal.OutOfMemory) × (new ≡ old) × (after ≡ before)
-TellsOfPut old new before after write value other = ⊥
-
 -- a step of a walk whose bucket had no room: it puts the record where there is room now, into the lowest slot, but splits once
 -- at least
 abbrev pub TellsOfAdding : Basis → WalkStep → ℕ → ℕ → ℕ → WalkAnswer → Type 0
@@ -110,7 +99,7 @@ TellsOfAdding basis step value bucket room_depth answer.Changed =
     (step.before.phase ≡ at.Adding value bucket room_depth false)
     × Makes basis step.new step.before step.after (change.Put value)
     × WritesAtMost step.old step.new bucket
-    × PutsLowest basis (view_of step.old) (view_of step.new) step.before bucket value
+    × PutsLowest basis (view_for basis step.old) (view_for basis step.new) step.before bucket value
 TellsOfAdding basis step value bucket room_depth (answer.Refused refusal.NoRoom) =
     HasToSplit basis step.old step.before value bucket room_depth
     × (map.len step.old.store.pages ≡ step.old.store.max_pages)
@@ -127,7 +116,7 @@ TellsOfSplitting basis step value room_depth answer.Going =
     ⊎ SplitCloses basis step.new step.before step.after value room_depth)
 TellsOfSplitting basis step value room_depth (answer.Waiting page by) =
     OfSplit step.before (λ split.
-    IsNextPage split.phase (aim_of basis step.before room_depth) (view_of step.old) page)
+    IsNextPage split.phase (aim_of basis step.before room_depth) (view_for basis step.old) page)
     × IsLowest (conflicts step.old.locks step.old.running.tx page Exclusive) by
     × (step.new ≡ step.old)
     × (step.after ≡ step.before)

@@ -4,9 +4,8 @@ use Rattle.mlt_types.specs.declared.mode.Mode.{Mode}
 use Rattle.mlt_types.specs.declared.mode.Mode.TheVariants.{Exclusive}
 use Rattle.mlt_page_locks.specs.Requests.{IsLowest, conflicts}
 use Rattle.mlt_held.specs.Moments.{Moment}
-use Rattle.mlt_held.specs.Views.{view_of}
 use Rattle.mlt_hash.specs.Passes.{bucket_mode, directory_mode, header_mode}
-use Rattle.mlt_hash.specs.Walks.{Basis, IsStanding, WalkFields}
+use Rattle.mlt_hash.specs.Walks.{Basis, IsStanding, WalkFields, view_for}
 use Rattle.mlt_hash.specs.declared.pass.Phase.{Phase}
 use Rattle.mlt_hash.specs.declared.pass.Phase.TheVariants as at
 use Rattle.mlt_hash.specs.declared.answer.WalkAnswer.{WalkAnswer}
@@ -58,7 +57,7 @@ HasFound other value = ⊥
 -- one step fewer is left to the bucket
 pub record GoesOn (basis : Basis) (new : Moment) (before after : WalkFields) : Type 0 where
   pub same : IsSameWalk before after
-  pub stands : IsStanding basis after (view_of new)
+  pub stands : IsStanding basis after (view_for basis new)
   pub fewer : steps_to_bucket after.phase + 1 ≡ steps_to_bucket before.phase
 
 -- A step to the bucket: it goes on, with more to come, or has found the key's value, or waits for the next page, told the

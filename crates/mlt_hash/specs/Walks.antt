@@ -1,6 +1,6 @@
 -- Where a walk stands, by its phase: which pages it holds, and what it has read of them. Each fact is about these pages
 -- alone, so that what other transactions do can't touch it.
-use Rattle.std.specs.Prelude.{ℕ, ◌≡◌, ◌≢◌, ◌<◌, ◌≤◌, ◌+◌, ◌^◌, Bool, IsSome, true, false, List, slice_index, slice_index_or, Option, Some, None, is_some, position}
+use Rattle.std.specs.Prelude.{ℕ, ◌≡◌, ◌≢◌, ◌<◌, ◌≤◌, ◌+◌, ◌-◌, ◌^◌, Bool, IsSome, true, false, List, slice_index, slice_index_or, Option, Some, None, is_some, position}
 use Rattle.std.specs.Ordering.{nat_cmp}
 use Rattle.std.specs.FinMap as map
 use Rattle.std.specs.FinSet as set
@@ -13,14 +13,15 @@ use Rattle.mlt_page.specs.declared.page.Page.{Page}
 use Rattle.mlt_page.specs.declared.page.Page.TheVariants as page
 use Rattle.mlt_page.specs.Values.{BucketFields, HeadFields}
 use Rattle.mlt_hash_form.specs.Form.{value_in}
-use Rattle.mlt_hash_form.specs.File.{HasForm, depth_of, dir_of, row_of}
+use Rattle.mlt_hash_form.specs.File.{FilePages, HasForm, depth_of, dir_of, row_of}
 use Rattle.mlt_hash_form.specs.Changes.{IsHome, slot_change}
 use Rattle.mlt_hash_form.specs.Held.{Agrees, ChangesFile, over}
 use Rattle.mlt_hash_form.specs.declared.root.Root.{Root}
-use Rattle.mlt_held.specs.Moments.{HasCleanFile, MayStep, Moment, no_writes}
+use Rattle.mlt_held.specs.Moments.{HasFileOver, MayStep, Moment, no_writes}
 use Rattle.mlt_held.specs.Reading.{HasReadBucket}
-use Rattle.mlt_held.specs.Views.{IsUnwritten, View, view_of}
-use Rattle.mlt_split.specs.Rests.{Aim, IsAtRest, held_page}
+use Rattle.mlt_held.specs.Views.{HasWritten, IsUnwritten, IsUnwrittenSince, View, view_of, view_over}
+use Rattle.mlt_page_locks.specs.LockTables.{Modes}
+use Rattle.mlt_split.specs.Rests.{Aim, HoldsAmong, IsAtRest, held_page}
 use Rattle.mlt_split.specs.Splits.{IsUnderWay, SplitFields}
 use Rattle.mlt_split.specs.declared.setting.Setting.{Setting}
 use Rattle.mlt_hash.specs.Passes.{MayHoldMore, bucket_held, bucket_mode, directory_held, directory_mode, header_held, header_mode, slot_after, value_after}
@@ -39,16 +40,39 @@ pub record WalkFields : Type 0 where
   pub phase : Phase
   pub split : Option SplitFields
 
--- what a walk goes by: the function of keys, who is open, the header's page, how deep the directory may get, and whose
--- walk it is
+-- what a walk did before it went on to its key: the pages that it wrote, those that it holds, and how many of these are
+-- buckets, at most
+pub record Before : Type 0 where
+  pub written : FilePages
+  pub held : Modes
+  pub buckets : ℕ
+
+-- it did nothing: this is its first key
+abbrev pub nothing_before : Before
+nothing_before = record { written = no_writes; held = map.empty; buckets = 0 }
+
+-- All that it has done for its first key. One key has 17 buckets at most: the first one, and one of each split.
+abbrev pub before_of : View → Before
+before_of view = record { written = view.own; held = view.modes; buckets = 17 }
+
+-- what a walk goes by: the function of keys, who is open, the header's page, how deep the directory may get, whose
+-- walk it is, and what it did before
 pub record Basis : Type 0 where
   pub bits : ℕ → ℕ
   pub opens : set.FinSet nat_cmp
   pub root : ℕ
   pub max_depth : ℕ
   pub tx : ℕ
+  pub before : Before
 
--- what a walk of transaction tx goes by that has this root, with these transactions open
+-- the same after this, and of a walk to its first key
+abbrev pub basis_after : Before → Basis → Basis
+basis_after before basis = record basis { before = before }
+
+abbrev pub one_key : Basis → Basis
+one_key basis = basis_after nothing_before basis
+
+-- what a walk of transaction tx to its first key goes by that has this root, with these transactions open
 abbrev pub basis_by : {P : Type 0} → (P → ℕ → ℕ) → Root P → set.FinSet nat_cmp → ℕ → Basis
 basis_by bits_of root opens tx = record {
   bits = bits_of root.pseudo;
@@ -56,11 +80,26 @@ basis_by bits_of root opens tx = record {
   root = root.page;
   max_depth = root.max_depth;
   tx = tx;
+  before = nothing_before;
 }
 
 -- what it goes by in this setting
 abbrev pub basis_in : {P : Type 0} → (P → ℕ → ℕ) → Setting P → ℕ → Basis
 basis_in bits_of setting tx = basis_by bits_of setting.root.now setting.opens.now tx
+
+-- what a walk holds and sees, where what it wrote before is taken as seen
+abbrev pub view_for : Basis → Moment → View
+view_for basis m = view_over basis.before.written m
+
+-- only a wide pass goes on to another key
+abbrev pub Follows : Pass → Before → Type 0
+Follows pass.Wide before = before.buckets ≤ 17
+Follows other before = before ≡ nothing_before
+
+-- all pages that are held stand in a list of at most so many and the pages of the directory, and so do these
+abbrev pub HoldsBeside : View → HeadFields → ℕ → Type 0
+HoldsBeside view header others =
+    HoldsAmong view header.dirs header.dirs 0 (2 ^ (header.depth - 8)) 0 (others + 2 ^ (header.depth - 8))
 
 -- nothing is held or written
 pub record IsAtStart (view : View) : Type 0 where
@@ -68,11 +107,17 @@ pub record IsAtStart (view : View) : Type 0 where
   pub unheld : view.modes ≡ map.empty
   pub unseen : (q : ℕ) → view.seen q ≡ None
 
+-- nothing was held or written before either
+abbrev pub StartsAnew : Basis → View → Type 0
+StartsAnew basis view = IsAtStart view × (basis.before ≡ nothing_before)
+
 -- the header is held and read
 pub record IsHeaded (basis : Basis) (walk : WalkFields) (view : View) (dir row depth : ℕ) : Type 0 where
-  pub unwritten : IsUnwritten view
+  pub follows : Follows walk.pass basis.before
+  pub unwritten : IsUnwrittenSince basis.before.written view
   pub header : HeadFields
-  pub held : view.modes ≡ header_held walk.pass basis.root
+  pub held : view.modes ≡ header_held basis.before.held walk.pass basis.root
+  pub among : HoldsBeside view header (basis.before.buckets + 1)
   pub head : view.seen basis.root ≡ Some (Some (page.Head header))
   pub dir_is : dir ≡ dir_of header (basis.bits walk.key)
   pub row_is : row ≡ row_of header (basis.bits walk.key)
@@ -81,9 +126,12 @@ pub record IsHeaded (basis : Basis) (walk : WalkFields) (view : View) (dir row d
 
 -- so is the directory page of the key's place
 pub record IsPlaced (basis : Basis) (walk : WalkFields) (view : View) (bucket depth : ℕ) : Type 0 where
-  pub unwritten : IsUnwritten view
+  pub follows : Follows walk.pass basis.before
+  pub unwritten : IsUnwrittenSince basis.before.written view
   pub header : HeadFields
-  pub held : view.modes ≡ directory_held walk.pass basis.root (dir_of header (basis.bits walk.key))
+  pub held : view.modes
+      ≡ directory_held basis.before.held walk.pass basis.root (dir_of header (basis.bits walk.key))
+  pub among : HoldsBeside view header (basis.before.buckets + 1)
   pub head : view.seen basis.root ≡ Some (Some (page.Head header))
   pub dir : List ℕ
   pub listed : view.seen (dir_of header (basis.bits walk.key)) ≡ Some (Some (page.Dir dir))
@@ -94,9 +142,12 @@ pub record IsPlaced (basis : Basis) (walk : WalkFields) (view : View) (bucket de
 -- so is the bucket that the key leads to, and what it has of the key is known
 pub record IsAtBucket (basis : Basis) (walk : WalkFields) (view : View) (bucket depth : ℕ)
     (found : Option ℕ) : Type 0 where
-  pub unwritten : IsUnwritten view
+  pub follows : Follows walk.pass basis.before
+  pub unwritten : IsUnwrittenSince basis.before.written view
   pub header : HeadFields
-  pub held : view.modes ≡ bucket_held walk.pass walk.mode basis.root (dir_of header (basis.bits walk.key)) bucket
+  pub held : view.modes
+      ≡ bucket_held basis.before.held walk.pass walk.mode basis.root (dir_of header (basis.bits walk.key)) bucket
+  pub among : HoldsBeside view header (basis.before.buckets + 2)
   pub head : view.seen basis.root ≡ Some (Some (page.Head header))
   pub dir : List ℕ
   pub listed : view.seen (dir_of header (basis.bits walk.key)) ≡ Some (Some (page.Dir dir))
@@ -115,13 +166,15 @@ pub record HasRead (basis : Basis) (key : ℕ) (view : View) (found : Option ℕ
   pub way : HasReadBucket basis.bits basis.root key view dir bucket found
   pub shallow : way.placed.header.depth ≤ basis.max_depth
 
--- Which pages a walk for one key holds from its bucket's step on, and in which modes: those that it locked on its way, in
--- the modes of its pass, and each other page exclusively that it has written or made, as its pass may.
-pub record HoldsByPass (pass : Pass) (mode : Mode) (root dir bucket : ℕ) (view : View) : Type 0 where
+-- Which pages a walk holds from its bucket's step on, and in which modes: those that it held before; those that it locked on
+-- its way, in the modes of its pass; and each other page exclusively that it has written or made, as its pass may.
+pub record HoldsByPass (before : Modes) (pass : Pass) (mode : Mode) (root dir bucket : ℕ) (view : View) : Type 0 where
   pub on_header : map.get view.modes root ≡ Some (header_mode pass)
   pub on_dir : map.get view.modes dir ≡ Some (directory_mode pass)
   pub on_bucket : map.get view.modes bucket ≡ Some (bucket_mode pass mode)
-  pub others : (q : ℕ) → q ≢ root → q ≢ dir → q ≢ bucket → is_some (map.get view.modes q) ≡ true
+  pub kept : (q : ℕ) → is_some (map.get before q) ≡ true → is_some (map.get view.modes q) ≡ true
+  pub others : (q : ℕ) → q ≢ root → q ≢ dir → q ≢ bucket → is_some (map.get before q) ≡ false
+      → is_some (map.get view.modes q) ≡ true
       → (map.get view.modes q ≡ Some Exclusive) × MayHoldMore pass (view.seen q) (is_some (view.own q))
 
 -- A narrow pass needs no deeper directory. One page of it has all entries of a bucket of depth l, where the directory is of
@@ -131,7 +184,7 @@ pub record StaysNarrow (root : ℕ) (view : View) (room_depth l g : ℕ) : Type 
   pub one_page : g ≤ l + 8
   pub unwritten : view.own root ≡ None
 
--- what a walk's splits are for: it goes to one key, has written nothing before, and holds no bucket of another
+-- what a walk's splits are for
 abbrev pub aim_of : Basis → WalkFields → ℕ → Aim
 aim_of basis walk room_depth = record {
   bits = basis.bits;
@@ -140,8 +193,8 @@ aim_of basis walk room_depth = record {
   key = walk.key;
   owner = basis.tx;
   room_depth = room_depth;
-  before = no_writes;
-  held_before = 0;
+  before = basis.before.written;
+  held_before = basis.before.buckets;
 }
 
 -- The bucket has no room yet, but has it once it is split down to this depth. Nothing was found of the key.
@@ -150,7 +203,7 @@ pub record IsAdding (basis : Basis) (walk : WalkFields) (view : View) (bucket ro
   pub header : HeadFields
   pub fields : BucketFields
   pub read : HasRead basis walk.key view None
-  pub holds : HoldsByPass walk.pass walk.mode basis.root read.dir read.bucket view
+  pub holds : HoldsByPass basis.before.held walk.pass walk.mode basis.root read.dir read.bucket view
   pub shallow : header.depth ≤ basis.max_depth
   pub rest : IsAtRest (aim_of basis walk room_depth) view bucket header fields
   pub most : room_depth ≤ basis.max_depth
@@ -164,7 +217,7 @@ pub record IsSplitting (basis : Basis) (walk : WalkFields) (view : View) (room_d
   pub split : SplitFields
   pub split_is : walk.split ≡ Some split
   pub read : HasRead basis walk.key view None
-  pub holds : HoldsByPass walk.pass walk.mode basis.root read.dir read.bucket view
+  pub holds : HoldsByPass basis.before.held walk.pass walk.mode basis.root read.dir read.bucket view
   pub shallow : split.directory_depth ≤ basis.max_depth
   pub under_way : IsUnderWay (aim_of basis walk room_depth) view split
   pub most : room_depth ≤ basis.max_depth
@@ -190,18 +243,19 @@ FoundBefore (change.Revive value) found = found ≡ None
 FoundBefore (change.Set value) found = IsSome found
 FoundBefore change.Remove found = IsSome found
 
--- A change is written in the bucket: whatever the clean pages are elsewhere, what the walk has written are the same
--- slots, rearranged up to `rest`, and then one slot changed, where the walk's key leads. The header is held, as deep as the
--- walk leaves it.
+-- A change is written in the bucket: whatever the clean pages are elsewhere, what the walk has written since it went to its
+-- key are the same slots, rearranged up to `rest`, and then one slot changed, where the walk's key leads. The header is held,
+-- as deep as the walk leaves it.
 pub record IsChanged (basis : Basis) (walk : WalkFields) (view : View) (bucket : ℕ) (done : Change) : Type 0 where
   pub found : Option ℕ
   pub fits : FoundBefore done found
   pub read : HasRead basis walk.key view found
-  pub holds : HoldsByPass walk.pass walk.mode basis.root read.dir read.bucket view
+  pub holds : HoldsByPass basis.before.held walk.pass walk.mode basis.root read.dir read.bucket view
   pub header : HeadFields
   pub head : held_page view basis.root ≡ Some (page.Head header)
   pub shallow : header.depth ≤ basis.max_depth
   pub few : map.len view.modes < 300
+  pub among : HoldsBeside view header (basis.before.buckets + 18)
   pub rest : ℕ → Option Page
   pub slot : ℕ
   pub within : slot < 8
@@ -215,7 +269,7 @@ pub record IsChanged (basis : Basis) (walk : WalkFields) (view : View) (bucket :
       (slot_change walk.key (value_after done) bucket slot (slot_after done walk.key basis.tx))
 
 abbrev pub Stands : Phase → Basis → WalkFields → View → Type 0
-Stands at.Start basis walk view = IsAtStart view
+Stands at.Start basis walk view = StartsAnew basis view
 Stands (at.Headed dir row depth) basis walk view = IsHeaded basis walk view dir row depth
 Stands (at.Placed bucket depth) basis walk view = IsPlaced basis walk view bucket depth
 Stands (at.AtBucket bucket depth found) basis walk view = IsAtBucket basis walk view bucket depth found
@@ -228,11 +282,13 @@ Stands (at.Changed bucket done) basis walk view = IsChanged basis walk view buck
 abbrev pub IsStanding : Basis → WalkFields → View → Type 0
 IsStanding basis walk view = Stands walk.phase basis walk view
 
--- What a step of a walk asks: the transaction may step, the clean pages are a hash file, and the walk stands.
+-- What a step of a walk asks: the transaction may step, it has written what it wrote before, with which the clean pages are
+-- a hash file, and over this the walk stands.
 pub record MayWalk (basis : Basis) (m : Moment) (walk : WalkFields) : Type 0 where
   pub bounded : (k : ℕ) → basis.bits k < 2 ^ 64
   pub small : basis.max_depth ≤ 16
   pub may : MayStep m
-  pub file : HasCleanFile basis.bits basis.root m
-  pub shallow : depth_of file.clean basis.root ≤ basis.max_depth
-  pub stands : IsStanding basis walk (view_of m)
+  pub written : HasWritten basis.before.written (view_of m)
+  pub file : HasFileOver basis.bits basis.root basis.before.written m
+  pub shallow : depth_of (over file.clean basis.before.written) basis.root ≤ basis.max_depth
+  pub stands : IsStanding basis walk (view_for basis m)

@@ -7,20 +7,20 @@ ghost use Rattle.mlt_page.specs.Values.{BucketFields};
 ghost use Rattle.mlt_page.specs.declared.page.Page.TheVariants as page;
 ghost use Rattle.mlt_page.specs.declared.slot.Slot.TheVariants.{Live};
 ghost use Rattle.mlt_record.specs.Plans.{IsNowhere, SetsFirst, has_room};
-ghost use Rattle.mlt_page_locks.specs.LockTables.{can_read, can_write};
+ghost use Rattle.mlt_page_locks.specs.LockTables.{can_read};
 ghost use Rattle.mlt_held.specs.Moments.{MayStep, moment};
 ghost use Rattle.mlt_held.specs.PageSteps.{HasNoPageLeft, Leaves};
 ghost use Rattle.mlt_held.specs.Views.{view_of};
-ghost use Rattle.mlt_hash.specs.Walks.{MayWalk, aim_of, basis_in};
+ghost use Rattle.mlt_hash.specs.Walks.{Basis, MayWalk, aim_of, basis_in, one_key};
 ghost use Rattle.mlt_split.specs.Rests.{Aim, held_page};
 ghost use Rattle.mlt_split.specs.Steps.{IsMaking};
-ghost use Rattle.mlt_hash.specs.Changes.{PlansSlot};
-ghost use Rattle.mlt_hash.specs.Splitting.{HasToSplit, OfSplit, TellsOfAdding, TellsOfPut, TellsOfSplitting, walk_step};
+ghost use Rattle.mlt_hash.specs.Splitting.{HasToSplit, OfSplit, TellsOfAdding, TellsOfSplitting, walk_step};
 
 use crate::answer::WalkAnswer;
+use crate::change::write_change;
 use crate::pass::{Change, Phase};
 use crate::walk::Walk;
-use mlt_held::{LockedStore, read_held, write_slot};
+use mlt_held::{LockedStore, read_held};
 use mlt_page::Page;
 use mlt_record::SlotWrite;
 use mlt_split::{Setting, Split, SplitAnswer};
@@ -38,22 +38,21 @@ pub(crate) fn add_or_split<P: Pseudo>(
     subtx: &mut Subtx,
     pages: &mut LockedStore,
 ) -> WalkAnswer
-    ghost needed: { ℕ }
-    requires needed { needed ≡ room_depth }
+    ghost given: { Basis × ℕ }
+    requires depth { given.1 ≡ room_depth }
+    requires basis { basis_in P.bits_of setting.now subtx.old.tx ≡ one_key given.0 }
     requires phase { walk.old.phase ≡ Phase.Adding value number room_depth unsplit }
-    requires ready { MayWalk (basis_in P.bits_of setting.now subtx.old.tx)
-        (moment subtx.old pages.old) walk.old }
+    requires ready { MayWalk given.0 (moment subtx.old pages.old) walk.old }
     ensures leaves { Leaves (moment subtx.old pages.old) (moment subtx.new pages.new) }
     ensures no_room { (result ≡ WalkAnswer.Refused Refusal.NoRoom)
-        ↔ (HasToSplit (basis_in P.bits_of setting.now subtx.old.tx)
-        (moment subtx.old pages.old) walk.old value number room_depth
+        ↔ (HasToSplit given.0 (moment subtx.old pages.old) walk.old value number room_depth
         × HasNoPageLeft pages.old.store) }
-    ensures tells { TellsOfAdding (basis_in P.bits_of setting.now subtx.old.tx)
+    ensures tells { TellsOfAdding given.0
         (walk_step (moment subtx.old pages.old) (moment subtx.new pages.new) walk.old walk.new)
         value number room_depth result }
 {
     if let Some(write) = plan_to_put(walk, value, number, unsplit, subtx, pages, setting.opens) {
-        return put(walk, write, value, subtx, pages);
+        return write_change(walk, write, Change::Put(value), subtx, pages);
     }
     match Split::begin(setting, walk.key, number, subtx, pages) {
         Ok(split) => keep_split(walk, value, room_depth, split),
@@ -92,30 +91,6 @@ fn plan_to_put(
     mlt_record::insert(number, bucket, walk.key, value, opens)
 }
 
-// Writes the bucket with the record put.
-fn put(
-    walk: &mut Walk,
-    write: SlotWrite,
-    value: Value,
-    subtx: &mut Subtx,
-    pages: &mut LockedStore,
-) -> WalkAnswer
-    requires may { MayStep (moment subtx.old pages.old) }
-    requires held { can_write pages.old.locks subtx.old.tx write.number ≡ true }
-    requires planned { PlansSlot (view_of (moment subtx.old pages.old)) write }
-    ensures leaves { Leaves (moment subtx.old pages.old) (moment subtx.new pages.new) }
-    ensures tells { TellsOfPut (moment subtx.old pages.old) (moment subtx.new pages.new)
-        walk.old walk.new write value result }
-{
-    match write_slot(subtx, pages, write.number, write.at, write.slot) {
-        Ok(()) => {
-            walk.phase = Phase::Changed(write.number, Change::Put(value));
-            WalkAnswer::Changed
-        }
-        Err(refusal) => WalkAnswer::Refused(refusal),
-    }
-}
-
 // Notes the split that began.
 fn keep_split(walk: &mut Walk, value: Value, room_depth: u8, split: Split) -> WalkAnswer
     ensures kept { result ≡ WalkAnswer.Going
@@ -142,16 +117,15 @@ pub(crate) fn go_on_splitting<P: Pseudo>(
     subtx: &mut Subtx,
     pages: &mut LockedStore,
 ) -> WalkAnswer
-    ghost aim: { Aim }
-    requires aim { aim
-        ≡ aim_of (basis_in P.bits_of setting.now subtx.old.tx) walk.old room_depth }
+    ghost given: { Basis × Aim }
+    requires aim { given.1 ≡ aim_of given.0 walk.old room_depth }
+    requires root { setting.now.root.now.page ≡ given.0.root }
     requires phase { walk.old.phase ≡ Phase.Splitting value room_depth }
-    requires ready { MayWalk (basis_in P.bits_of setting.now subtx.old.tx)
-        (moment subtx.old pages.old) walk.old }
+    requires ready { MayWalk given.0 (moment subtx.old pages.old) walk.old }
     ensures leaves { Leaves (moment subtx.old pages.old) (moment subtx.new pages.new) }
     ensures no_room { (result ≡ WalkAnswer.Refused Refusal.NoRoom)
         ↔ (OfSplit walk.old (λ split. IsMaking split.phase) × HasNoPageLeft pages.old.store) }
-    ensures tells { TellsOfSplitting (basis_in P.bits_of setting.now subtx.old.tx)
+    ensures tells { TellsOfSplitting given.0
         (walk_step (moment subtx.old pages.old) (moment subtx.new pages.new) walk.old walk.new)
         value room_depth result }
 {

@@ -5,10 +5,10 @@ ghost use Rattle.mlt_held.specs.Moments.{MayStep, moment};
 ghost use Rattle.mlt_page.specs.Values.{BucketFields};
 ghost use Rattle.mlt_page_locks.specs.LockTables.{can_write};
 ghost use Rattle.mlt_held.specs.PageSteps.{Leaves};
-ghost use Rattle.mlt_held.specs.Views.{IsUnwritten, WritesSlot, view_of};
-ghost use Rattle.mlt_hash.specs.Walks.{Basis, basis_in};
+ghost use Rattle.mlt_held.specs.Views.{ReadsHeldBucket, view_of};
+ghost use Rattle.mlt_hash.specs.Walks.{Basis, basis_in, one_key, view_for};
 ghost use Rattle.mlt_hash.specs.declared.pass.Change.TheVariants as change;
-ghost use Rattle.mlt_hash.specs.Changes.{HasOwnGhost, IsAtAbsent, IsAtBucketPhase, IsAtRecord, IsFull, MayChange, MayChangeBy, PlansSlot, RevivesFirst, SeesBucket, TakesSlot, TellsOfAddition, TellsOfChange, WritesIfChanged, page_of};
+ghost use Rattle.mlt_hash.specs.Changes.{HasOwnGhost, IsAtAbsent, IsAtBucketPhase, IsAtRecord, IsFull, MayChange, MayChangeBy, MayChangeFirst, PlansSlot, RevivesFirst, TakesSlot, TellsOfAddition, TellsOfChange, TellsOfWrite, WritesIfChanged, page_of};
 
 use crate::answer::WalkAnswer;
 use crate::pass::{Change, Pass, Phase};
@@ -24,7 +24,7 @@ use mlt_types::{PageNo, Pseudo, Refusal, Value};
 impl Walk {
     /// Adds a record of the walk's key, which has none: revives the transaction's own ghost of the key, else puts the
     /// record into the lowest slot with room, else says that a split is needed, or which pass, and has written nothing.
-    /// In a first pass it takes no memory.
+    /// In a first pass it takes no memory. The ghost is what the walk goes by.
     pub fn insert<P: Pseudo>(
         &mut self,
         value: Value,
@@ -32,17 +32,17 @@ impl Walk {
         subtx: &mut Subtx,
         pages: &mut LockedStore,
     ) -> WalkAnswer
-        requires ready { MayChange (basis_in P.bits_of setting.now subtx.old.tx)
-            (moment subtx.old pages.old) self.old }
+        ghost basis: { Basis }
+        requires basis { basis_in P.bits_of setting.now subtx.old.tx ≡ one_key basis }
+        requires ready { MayChange basis (moment subtx.old pages.old) self.old }
         requires found { IsAtAbsent self.old.phase }
         ensures writes { WritesIfChanged (moment subtx.old pages.old) (moment subtx.new pages.new)
             (page_of self.old.phase) result }
         ensures leaves { Leaves (moment subtx.old pages.old) (moment subtx.new pages.new) }
-        ensures tells { TellsOfAddition (basis_in P.bits_of setting.now subtx.old.tx)
+        ensures tells { TellsOfAddition basis
             (moment subtx.new pages.new) self.old self.new value result }
-        ensures slot { TakesSlot result (basis_in P.bits_of setting.now subtx.old.tx)
-            (view_of (moment subtx.old pages.old)) (view_of (moment subtx.new pages.new))
-            self.old value }
+        ensures slot { TakesSlot result basis (view_for basis (moment subtx.old pages.old))
+            (view_for basis (moment subtx.new pages.new)) self.old value }
     {
         let (number, bucket) = held_bucket(self, subtx, pages);
         if let Some(write) = mlt_record::revive(number, bucket, self.key, subtx.tx(), value) {
@@ -54,7 +54,7 @@ impl Walk {
         without_room(self, value, setting, subtx, pages)
     }
 
-    /// Gives the record of the walk's key another value. It takes no memory.
+    /// Gives the record of the walk's key another value. It takes no memory where the key is the walk's first.
     pub fn update(&mut self, value: Value, subtx: &mut Subtx, pages: &mut LockedStore) -> WalkAnswer
         requires ready { MayChangeBy subtx.old.tx (moment subtx.old pages.old) self.old }
         requires found { IsAtRecord self.old.phase }
@@ -73,7 +73,8 @@ impl Walk {
         write_change(self, write, Change::Set(value), subtx, pages)
     }
 
-    /// Removes the record of the walk's key, and leaves a ghost of the transaction. It takes no memory.
+    /// Removes the record of the walk's key, and leaves a ghost of the transaction. It takes no memory where the key is the
+    /// walk's first.
     pub fn remove(&mut self, subtx: &mut Subtx, pages: &mut LockedStore) -> WalkAnswer
         requires ready { MayChangeBy subtx.old.tx (moment subtx.old pages.old) self.old }
         requires found { IsAtRecord self.old.phase }
@@ -92,9 +93,10 @@ impl Walk {
         write_change(self, write, Change::Remove, subtx, pages)
     }
 
-    /// Makes the ghost that the transaction left of the walk's key a record again, the first one. It takes no memory.
+    /// Makes the ghost that the transaction left of the walk's key a record again, the first one. The key is the walk's
+    /// first. It takes no memory.
     pub fn revive(&mut self, value: Value, subtx: &mut Subtx, pages: &mut LockedStore) -> WalkAnswer
-        requires ready { MayChangeBy subtx.old.tx (moment subtx.old pages.old) self.old }
+        requires ready { MayChangeFirst subtx.old.tx (moment subtx.old pages.old) self.old }
         requires found { IsAtAbsent self.old.phase }
         requires ghost_found { HasOwnGhost subtx.old.tx self.old
             (view_of (moment subtx.old pages.old)) }
@@ -124,12 +126,12 @@ pub(crate) fn held_bucket<'a>(
     pages: &'a LockedStore,
 ) -> (PageNo, &'a Bucket)
     requires may { MayStep (moment subtx.now pages.now) }
-    requires unwritten { IsUnwritten (view_of (moment subtx.now pages.now)) }
     requires at { IsAtBucketPhase walk.now.phase }
-    requires sees { (fields : BucketFields)
-        × SeesBucket walk.now (view_of (moment subtx.now pages.now)) fields }
+    requires held { (bucket : BucketFields)
+        × ReadsHeldBucket (view_of (moment subtx.now pages.now)) (page_of walk.now.phase) bucket }
     ensures number { result.0 ≡ page_of walk.now.phase }
-    ensures bucket { SeesBucket walk.now (view_of (moment subtx.now pages.now)) result.1.now }
+    ensures bucket { ReadsHeldBucket
+        (view_of (moment subtx.now pages.now)) (page_of walk.now.phase) result.1.now }
 {
     let phase = walk.phase;
     let Phase::AtBucket(number, _, _) = phase else {
@@ -141,8 +143,8 @@ pub(crate) fn held_bucket<'a>(
     (number, bucket)
 }
 
-/// Writes the bucket as the plan has it, as the first write of the walk. It takes no memory.
-fn write_change(
+/// Writes the bucket as the plan has it. The first two pages that a walk writes take no memory.
+pub(crate) fn write_change(
     walk: &mut Walk,
     write: SlotWrite,
     done: Change,
@@ -150,24 +152,20 @@ fn write_change(
     pages: &mut LockedStore,
 ) -> WalkAnswer
     requires may { MayStep (moment subtx.old pages.old) }
-    requires unwritten { IsUnwritten (view_of (moment subtx.old pages.old)) }
     requires held { can_write pages.old.locks subtx.old.tx write.number ≡ true }
     requires planned { PlansSlot (view_of (moment subtx.old pages.old)) write }
     ensures writes { WritesIfChanged (moment subtx.old pages.old) (moment subtx.new pages.new)
         write.number result }
-    ensures view { WritesSlot
-        (view_of (moment subtx.old pages.old)) (view_of (moment subtx.new pages.new))
-        write.number write.at write.slot }
     ensures leaves { Leaves (moment subtx.old pages.old) (moment subtx.new pages.new) }
-    ensures walk { walk.new ≡ record walk.old { phase = Phase.Changed write.number done } }
-    ensures answer { result ≡ WalkAnswer.Changed }
+    ensures tells { TellsOfWrite (moment subtx.old pages.old) (moment subtx.new pages.new)
+        walk.old walk.new write done result }
 {
     match write_slot(subtx, pages, write.number, write.at, write.slot) {
         Ok(()) => {
             walk.phase = Phase::Changed(write.number, done);
             WalkAnswer::Changed
         }
-        Err(_) => unreachable!(),
+        Err(refusal) => WalkAnswer::Refused(refusal),
     }
 }
 
@@ -179,13 +177,13 @@ fn without_room<P: Pseudo>(
     subtx: &Subtx,
     pages: &LockedStore,
 ) -> WalkAnswer
-    requires ready { MayChange (basis_in P.bits_of setting.now subtx.now.tx)
-        (moment subtx.now pages.now) walk.old }
+    ghost basis: { Basis }
+    requires basis { basis_in P.bits_of setting.now subtx.now.tx ≡ one_key basis }
+    requires ready { MayChange basis (moment subtx.now pages.now) walk.old }
     requires found { IsAtAbsent walk.old.phase }
     requires full { (fields : BucketFields)
-        × IsFull (basis_in P.bits_of setting.now subtx.now.tx)
-        walk.old (view_of (moment subtx.now pages.now)) fields }
-    ensures tells { TellsOfAddition (basis_in P.bits_of setting.now subtx.now.tx)
+        × IsFull basis walk.old (view_for basis (moment subtx.now pages.now)) fields }
+    ensures tells { TellsOfAddition basis
         (moment subtx.now pages.now) walk.old walk.new value result }
     ensures unchanged { result ≢ WalkAnswer.Changed }
 {

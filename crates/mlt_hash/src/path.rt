@@ -1,8 +1,6 @@
-//! The way of a walk to its bucket: each step locks one page and reads it. It is the same whoever is open.
+//! The way of a walk to its bucket: each step locks one page and reads it.
 
 ghost use Rattle.std.specs.Prelude.{◌≡◌, ℕ, Option};
-ghost use Rattle.std.specs.Ordering.{nat_cmp};
-ghost use Rattle.std.specs.FinSet as set;
 ghost use Rattle.mlt_held.specs.Moments.{moment};
 ghost use Rattle.mlt_held.specs.PageSteps.{Leaves, LocksAtMost};
 ghost use Rattle.mlt_hash.specs.Walks.{Basis, MayWalk};
@@ -33,7 +31,7 @@ pub(crate) fn read_header<P: Pseudo>(
     ensures leaves { Leaves (moment subtx.now pages.old) (moment subtx.now pages.new) }
     ensures locks { LocksAtMost (moment subtx.now pages.old) (moment subtx.now pages.new)
         (next_page basis.root walk.old.phase) }
-    ensures tells { (opens : set.FinSet nat_cmp) → TellsOfPath (record basis { opens = opens })
+    ensures tells { TellsOfPath basis
         (moment subtx.now pages.old) (moment subtx.now pages.new) walk.old walk.new result }
 {
     if let Err(by) = lock(subtx, pages, root.page, walk.pass.header_mode()) {
@@ -66,7 +64,7 @@ pub(crate) fn read_directory<P: Pseudo>(
     ensures leaves { Leaves (moment subtx.now pages.old) (moment subtx.now pages.new) }
     ensures locks { LocksAtMost (moment subtx.now pages.old) (moment subtx.now pages.new)
         (next_page basis.root walk.old.phase) }
-    ensures tells { (opens : set.FinSet nat_cmp) → TellsOfPath (record basis { opens = opens })
+    ensures tells { TellsOfPath basis
         (moment subtx.now pages.old) (moment subtx.now pages.new) walk.old walk.new result }
 {
     if let Err(by) = lock(subtx, pages, number, walk.pass.directory_mode()) {
@@ -97,7 +95,7 @@ pub(crate) fn read_bucket<P: Pseudo>(
     ensures leaves { Leaves (moment subtx.now pages.old) (moment subtx.now pages.new) }
     ensures locks { LocksAtMost (moment subtx.now pages.old) (moment subtx.now pages.new)
         (next_page basis.root walk.old.phase) }
-    ensures tells { (opens : set.FinSet nat_cmp) → TellsOfPath (record basis { opens = opens })
+    ensures tells { TellsOfPath basis
         (moment subtx.now pages.old) (moment subtx.now pages.new) walk.old walk.new result }
 {
     let mode = walk.pass.bucket_mode(walk.mode);

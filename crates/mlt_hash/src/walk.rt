@@ -5,7 +5,7 @@ ghost use Rattle.std.specs.FinMap as map;
 ghost use Rattle.mlt_held.specs.Moments.{moment};
 ghost use Rattle.mlt_held.specs.PageSteps.{HasNoPageLeft, Leaves};
 ghost use Rattle.mlt_hash.specs.Passes.{next_of};
-ghost use Rattle.mlt_hash.specs.Walks.{MayWalk, basis_in};
+ghost use Rattle.mlt_hash.specs.Walks.{Basis, MayWalk, basis_in, one_key};
 ghost use Rattle.mlt_hash.specs.Splitting.{HasToMake, IsUnderWay, TellsAt};
 
 use crate::adding::{add_or_split, go_on_splitting};
@@ -67,6 +67,27 @@ impl Walk {
         }
     }
 
+    /// A wide pass to a key, which may go on to another key once it has changed the record of the first. Only a split takes
+    /// memory, and a third page that is written.
+    pub fn wide(alloc: Global, key: Key) -> Walk
+        ensures { result ≡ record {
+          key = key;
+          mode = Mode.Exclusive;
+          pass = Pass.Wide;
+          phase = Phase.Start;
+          split = None;
+        } }
+    {
+        Walk {
+            alloc,
+            key,
+            mode: Mode::Exclusive,
+            pass: Pass::Wide,
+            phase: Phase::Start,
+            split: None,
+        }
+    }
+
     /// Whether it is in its first pass, which splits nothing.
     pub fn is_first(&self) -> bool
         ensures { IsTrue result ↔ (self.now.pass ≡ Pass.First) }
@@ -94,23 +115,22 @@ impl Walk {
     }
 
     /// One step: on the way to the bucket it locks a page and reads it; where the bucket had no room it splits the bucket,
-    /// one page written or made, until there is room, and puts the record.
+    /// one page written or made, until there is room, and puts the record. The ghost is what the walk goes by.
     pub fn advance<P: Pseudo>(
         &mut self,
         setting: &Setting<P>,
         subtx: &mut Subtx,
         pages: &mut LockedStore,
     ) -> WalkAnswer
+        ghost basis: { Basis }
+        requires basis { basis_in P.bits_of setting.now subtx.old.tx ≡ one_key basis }
         requires under_way { IsUnderWay self.old.phase }
-        requires ready { MayWalk (basis_in P.bits_of setting.now subtx.old.tx)
-            (moment subtx.old pages.old) self.old }
+        requires ready { MayWalk basis (moment subtx.old pages.old) self.old }
         ensures leaves { Leaves (moment subtx.old pages.old) (moment subtx.new pages.new) }
         ensures no_room { (result ≡ WalkAnswer.Refused Refusal.NoRoom)
-            ↔ (HasToMake self.old.phase (basis_in P.bits_of setting.now subtx.old.tx)
-            (moment subtx.old pages.old) self.old
+            ↔ (HasToMake self.old.phase basis (moment subtx.old pages.old) self.old
             × HasNoPageLeft pages.old.store) }
-        ensures tells { TellsAt self.old.phase (basis_in P.bits_of setting.now subtx.old.tx)
-            (moment subtx.old pages.old) (moment subtx.new pages.new) self.old self.new result }
+        ensures tells { TellsAt self.old.phase basis (moment subtx.old pages.old) (moment subtx.new pages.new) self.old self.new result }
     {
         let phase = self.phase;
         match phase {

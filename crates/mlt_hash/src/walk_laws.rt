@@ -13,7 +13,7 @@ ghost use Rattle.mlt_held.specs.Moments.{MayStep, Moment};
 ghost use Rattle.mlt_held.specs.Views.{View, view_of};
 ghost use Rattle.mlt_split.specs.Rests.{KeepsNoMore};
 ghost use Rattle.mlt_split.specs.Steps.{IsNextPage};
-ghost use Rattle.mlt_hash.specs.Walks.{Basis, HasRead, HoldsByPass, IsAtBucket, IsAtStart, IsSplitting, IsStanding, WalkFields, aim_of};
+ghost use Rattle.mlt_hash.specs.Walks.{Basis, HasRead, HoldsByPass, IsAtBucket, IsAtStart, IsSplitting, IsStanding, WalkFields, aim_of, view_for};
 ghost use Rattle.mlt_hash.specs.Splitting.{TellsAt, TellsOfSplitting, WalkStep};
 ghost use Rattle.mlt_hash.specs.StepsLeft.{IsPutting, steps_to_put};
 ghost use Rattle.mlt_hash.specs.declared.answer.WalkAnswer.TheVariants as answer;
@@ -58,7 +58,7 @@ pub fn walk_at_its_bucket_has_passed()
     ensures { (basis : Basis) (walk : WalkFields) (view : View) (bucket depth : ℕ)
         (found : Option ℕ) → IsAtBucket basis walk view bucket depth found
         → (read : HasRead basis walk.key view found)
-        × HoldsByPass walk.pass walk.mode basis.root read.dir read.bucket view }
+        × HoldsByPass basis.before.held walk.pass walk.mode basis.root read.dir read.bucket view }
 {}
 
 /// What was found of a key is on the clean pages as long as what was read on its way is held.
@@ -82,9 +82,9 @@ pub fn narrow_passes_hold_their_next_page()
 pub fn narrow_passes_never_wait()
     ensures { (basis : Basis) (step : WalkStep) (value room_depth page by : ℕ)
         (clean : ℕ → Option Page)
-        → MayStep step.old → IsSplitting basis step.before (view_of step.old) room_depth
+        → MayStep step.old → IsSplitting basis step.before (view_for basis step.old) room_depth
         → step.before.pass ≡ pass.Narrow
-        → Agrees (view_of step.old).seen clean → HasForm basis.bits clean basis.root
+        → Agrees (view_for basis step.old).seen clean → HasForm basis.bits clean basis.root
         → TellsOfSplitting basis step value room_depth (answer.Waiting page by)
         → ⊥ }
 {}
@@ -100,9 +100,9 @@ pub fn walks_hold_fewer_than_300_pages()
 /// Each step of a pass that splits, or is to, is one of those that are left.
 pub fn each_step_leaves_one_fewer()
     ensures { (basis : Basis) (old new : Moment) (before after : WalkFields)
-        (clean : ℕ → Option Page) → Agrees (view_of new).seen clean
+        (clean : ℕ → Option Page) → Agrees (view_for basis new).seen clean
         → HasForm basis.bits clean basis.root → IsPutting before.phase
         → TellsAt before.phase basis old new before after answer.Going
-        → steps_to_put basis.root after (view_of new) + 1
-        ≡ steps_to_put basis.root before (view_of old) }
+        → steps_to_put basis.root after (view_for basis new) + 1
+        ≡ steps_to_put basis.root before (view_for basis old) }
 {}

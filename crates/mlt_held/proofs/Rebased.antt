@@ -36,7 +36,7 @@ seen_first : (w : Option Page) (seen : Option (Option Page)) (first : Option Pag
 seen_first None seen first sees = sees
 seen_first (Some page) seen first sees = refl
 
-seen_more : (w : Option Page) (old new : Option (Option Page)) (first : Option Page) → (old ≡ Some first → new ≡ Some first) → seen_with w old ≡ Some first → seen_with w new ≡ Some first
+pub seen_more : (w : Option Page) (old new : Option (Option Page)) (first : Option Page) → (old ≡ Some first → new ≡ Some first) → seen_with w old ≡ Some first → seen_with w new ≡ Some first
 seen_more None old new first more sees = more sees
 seen_more (Some page) old new first more sees = sees
 

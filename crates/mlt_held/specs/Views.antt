@@ -100,9 +100,10 @@ rebased before view = record view { seen = λ q. seen_with (before q) (view.seen
 abbrev pub view_over : FilePages → Moment → View
 view_over before m = rebased before (view_of m)
 
--- nothing is written but these writes
-abbrev pub IsUnwrittenSince : FilePages → View → Type 0
-IsUnwrittenSince before view = (q : ℕ) → view.own q ≡ before q
+-- nothing is written but these writes, which are taken as seen
+pub record IsUnwrittenSince (before : FilePages) (view : View) : Type 0 where
+  pub own : (q : ℕ) → view.own q ≡ before q
+  pub seen : (q : ℕ) (page : Page) → before q ≡ Some page → view.seen q ≡ Some (Some page)
 
 -- each page that was written before is held, and written
 abbrev pub HasWritten : FilePages → View → Type 0

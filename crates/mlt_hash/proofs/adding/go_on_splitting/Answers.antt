@@ -5,34 +5,34 @@ use Rattle.mlt_split.specs.Rests.{Aim}
 use Rattle.mlt_split.specs.Splits.{MayAdvance, SplitFields, steps_left}
 use Rattle.mlt_split.specs.Steps.{IsDone, IsNextPage}
 use Rattle.mlt_split.specs.Tells.{GoesOn, Rests}
-use Rattle.mlt_hash.specs.Walks.{Basis, WalkFields, basis_in}
+use Rattle.mlt_hash.specs.Walks.{Basis, WalkFields}
 use Rattle.mlt_hash.specs.declared.pass.Phase.TheVariants as at
 use Rattle.mlt_hash.proofs.Splittings.{may_advance, no_room_in_split, refused_alike, split_closes_walk, split_goes_on, split_is_refused}
 use Rattle.mlt_hash.proofs.adding.go_on_splitting.Goals as goal
 
 pub advance-requires : goal.advance-requires
 advance-requires g c =
-    let basis : Basis = basis_in g.P.Pseudo.bits_of c.args.setting.now c.args.subtx.now.tx in
+    let basis : Basis = g.given.0 in
     let walk : WalkFields = c.args.walk.now in
     let old = moment c.args.subtx.now c.args.pages.now in
     let was : walk.split ≡ Some c.deref_mut.result.now = sym (ap (λ (w : WalkFields). w.split) c.walk.view_is) ∙ ap (Rattle.std.specs.Option.option_map (λ b. b.value)) c.in-Some.is ∙ ap Some (sym c.deref_mut.ensures.value) in
-    let ready = may_advance basis walk old c.args.value c.args.room_depth c.deref_mut.result.now c.requires.1.1.0 was c.requires.1.1.1 in
-    (sym (ap (λ (a : Aim). a.root) c.requires.1.0), subst (λ (a : Aim). MayAdvance a old c.deref_mut.result.now) (sym c.requires.1.0) ready)
+    let ready = may_advance basis walk old c.args.value c.args.room_depth c.deref_mut.result.now c.requires.1.1.1.0 was c.requires.1.1.1.1 in
+    (c.requires.1.1.0 ∙ sym (ap (λ (a : Aim). a.root) c.requires.1.0), subst (λ (a : Aim). MayAdvance a old c.deref_mut.result.now) (sym c.requires.1.0) ready)
 
 pub returns-in-Going-clause-tells : goal.returns-in-Going-clause-tells
 returns-in-Going-clause-tells g c =
-    let basis : Basis = basis_in g.P.Pseudo.bits_of c.args.setting.now c.args.subtx.now.tx in
+    let basis : Basis = g.given.0 in
     let walk : WalkFields = c.args.walk.now in
     let old = moment c.args.subtx.now c.args.pages.now in
     let new = moment c.advance.new.subtx c.advance.new.pages in
     let was : walk.split ≡ Some c.deref_mut.result.now = sym (ap (λ (w : WalkFields). w.split) c.walk.view_is) ∙ ap (Rattle.std.specs.Option.option_map (λ b. b.value)) c.in-Some.is ∙ ap Some (sym c.deref_mut.ensures.value) in
     let tells = subst (λ (aim : Aim). GoesOn aim new c.deref_mut.result.now c.advance.new.self) c.requires.1.0 c.in-Going.ensures.tells in
     let done = subst (λ (aim : Aim). IsDone c.deref_mut.result.now.phase aim old new c.deref_mut.result.now) c.requires.1.0 c.in-Going.ensures.steps in
-    ((c.deref_mut.result.now, was, done), inl (split_goes_on basis walk _ old new c.args.value c.args.room_depth c.deref_mut.result.now c.requires.1.1.0 c.requires.1.1.1.stands was c.requires.1.1.1.may c.requires.1.1.1.file c.in-Going.ensures.leaves.touches done c.advance.new.self (ap (λ (w : WalkFields). record w { split = Some c.advance.new.self }) c.walk.view_is) tells))
+    ((c.deref_mut.result.now, was, done), inl (split_goes_on basis walk _ old new c.args.value c.args.room_depth c.deref_mut.result.now c.requires.1.1.1.0 c.requires.1.1.1.1.stands was c.requires.1.1.1.1.may c.requires.1.1.1.1.file c.in-Going.ensures.leaves.touches done c.advance.new.self (ap (λ (w : WalkFields). record w { split = Some c.advance.new.self }) c.walk.view_is) tells))
 
 pub returns-in-Closed-clause-tells : goal.returns-in-Closed-clause-tells
 returns-in-Closed-clause-tells g c =
-    let basis : Basis = basis_in g.P.Pseudo.bits_of c.args.setting.now c.args.subtx.now.tx in
+    let basis : Basis = g.given.0 in
     let walk : WalkFields = c.args.walk.now in
     let old = moment c.args.subtx.now c.args.pages.now in
     let new = moment c.advance.new.subtx c.advance.new.pages in
@@ -40,7 +40,7 @@ returns-in-Closed-clause-tells g c =
     let tells = subst (λ (aim : Aim). Rests aim new c.deref_mut.result.now c.in-Closed.bucket × (steps_left c.deref_mut.result.now ≡ 1)) c.requires.1.0 c.in-Closed.ensures.tells in
     let done = subst (λ (aim : Aim). IsDone c.deref_mut.result.now.phase aim old new c.deref_mut.result.now) c.requires.1.0 c.in-Closed.ensures.steps in (
       (c.deref_mut.result.now, was, done),
-      inr (split_closes_walk basis walk _ old new c.args.value c.args.room_depth c.deref_mut.result.now c.requires.1.1.0 c.requires.1.1.1.stands was c.requires.1.1.1.may c.requires.1.1.1.file c.in-Closed.ensures.leaves.touches done c.in-Closed.bucket (Some c.advance.new.self)
+      inr (split_closes_walk basis walk _ old new c.args.value c.args.room_depth c.deref_mut.result.now c.requires.1.1.1.0 c.requires.1.1.1.1.stands was c.requires.1.1.1.1.may c.requires.1.1.1.1.file c.in-Closed.ensures.leaves.touches done c.in-Closed.bucket (Some c.advance.new.self)
           (ap (λ (w : WalkFields). record w { phase = at.Adding c.args.value c.in-Closed.bucket c.args.room_depth false; split = Some c.advance.new.self }) c.walk.view_is) tells.0 tells.1),
     )
 
@@ -55,12 +55,12 @@ returns-in-Waiting-clause-tells g c =
 
 pub returns-in-Refused-clause-tells : goal.returns-in-Refused-clause-tells
 returns-in-Refused-clause-tells g c =
-    let basis : Basis = basis_in g.P.Pseudo.bits_of c.args.setting.now c.args.subtx.now.tx in
+    let basis : Basis = g.given.0 in
     let walk : WalkFields = c.args.walk.now in
     let old = moment c.args.subtx.now c.args.pages.now in
     let new = moment c.advance.new.subtx c.advance.new.pages in
     let was : walk.split ≡ Some c.deref_mut.result.now = sym (ap (λ (w : WalkFields). w.split) c.walk.view_is) ∙ ap (Rattle.std.specs.Option.option_map (λ b. b.value)) c.in-Some.is ∙ ap Some (sym c.deref_mut.ensures.value) in
-    split_is_refused basis walk _ old new c.args.value c.args.room_depth c.deref_mut.result.now was g.aim c.advance.new.self c.in-Refused.refusal c.requires.1.0 (ap (λ (w : WalkFields). record w { split = Some c.advance.new.self }) c.walk.view_is) c.in-Refused.ensures.tells c.in-Refused.ensures.steps
+    split_is_refused basis walk _ old new c.args.value c.args.room_depth c.deref_mut.result.now was g.given.1 c.advance.new.self c.in-Refused.refusal c.requires.1.0 (ap (λ (w : WalkFields). record w { split = Some c.advance.new.self }) c.walk.view_is) c.in-Refused.ensures.tells c.in-Refused.ensures.steps
 
 pub returns-in-Refused-clause-no_room : goal.returns-in-Refused-clause-no_room
 returns-in-Refused-clause-no_room g c =

@@ -1,15 +1,20 @@
-use Rattle.std.proofs.Common.{◌≡◌, ℕ, ◌<◌, ◌^◌, Some, is_some, ap, arith}
+use Rattle.std.proofs.Common.{◌≡◌, ◌+◌, Some, is_some, ap, subst, ◌∙◌, arith}
 use Rattle.mlt_page.specs.Values.{BucketFields}
+use Rattle.mlt_page.specs.declared.page.Page.{Page}
 use Rattle.mlt_page.specs.declared.page.Page.TheVariants as page
-use Rattle.mlt_held.specs.Moments.{HasCleanFile, Moment, moment}
-use Rattle.mlt_held.specs.Views.{view_of}
+use Rattle.mlt_held.specs.Moments.{Moment, moment}
+use Rattle.mlt_held.specs.Views.{ReadsPage, view_of}
+use Rattle.mlt_held.proofs.Rebased.{rebased_reads_page}
 use Rattle.mlt_held.proofs.Views.{reads_after_lock, reads_seen}
-use Rattle.mlt_hash_form.specs.File.{dir_of}
-use Rattle.mlt_hash.specs.Walks.{IsPlaced}
+use Rattle.mlt_hash_form.specs.Form.{value_in}
+use Rattle.mlt_hash_form.specs.Held.{over}
+use Rattle.mlt_hash.specs.Passes.{bucket_mode}
+use Rattle.mlt_hash.specs.Walks.{IsPlaced, MayWalk, WalkFields, view_for}
 use Rattle.mlt_hash.specs.declared.pass.Phase.TheVariants as at
 use Rattle.mlt_hash_form.proofs.Paths.{one_page}
-use Rattle.mlt_hash.proofs.Paths.{bucket_there}
-use Rattle.mlt_hash.proofs.Readings.{few_held, two_held, reads_clean}
+use Rattle.mlt_hash.proofs.Beside.{few_before, few_beside}
+use Rattle.mlt_hash.proofs.Paths.{arrived, bucket_there}
+use Rattle.mlt_hash.proofs.Readings.{is_there, reads_clean}
 use Rattle.mlt_hash.proofs.Standing.{stands_at}
 use Rattle.mlt_hash.proofs.path.read_bucket.Given.{Over}
 use Rattle.mlt_hash.proofs.path.read_bucket.Goals.{Start}
@@ -18,24 +23,28 @@ use Rattle.mlt_hash.proofs.path.read_bucket.Goals as goal
 abbrev before : (g : Over) → Start g → Moment
 before g c = moment c.args.subtx.now c.args.pages.now
 
-file : (g : Over) (c : Start g) → HasCleanFile g.basis.bits g.basis.root (before g c)
-file g c = c.requires.1.1.1.1.1.file
+abbrev ready : (g : Over) (c : Start g) → MayWalk g.basis (before g c) c.args.walk.now
+ready g c = c.requires.1.1.1.1.1
 
-stands : (g : Over) (c : Start g) → IsPlaced g.basis c.args.walk.now (view_of (before g c)) c.args.number c.args.depth
-stands g c = stands_at g.basis c.args.walk.now (view_of (before g c)) (at.Placed c.args.number c.args.depth) c.requires.1.1.1.1.0 c.requires.1.1.1.1.1.stands
-
-bounded : (g : Over) (c : Start g) (key : ℕ) → g.basis.bits key < 2 ^ 64
-bounded g c key = c.requires.1.1.1.1.1.bounded key
+stands : (g : Over) (c : Start g) → IsPlaced g.basis c.args.walk.now (view_for g.basis (before g c)) c.args.number c.args.depth
+stands g c = stands_at g.basis c.args.walk.now (view_for g.basis (before g c)) (at.Placed c.args.number c.args.depth) c.requires.1.1.1.1.0 (ready g c).stands
 
 pub lock-requires-clause-few : goal.lock-requires-clause-few
-lock-requires-clause-few g c = let s = (goal.at.lock-requires-clause-few g c).Start in few_held (before g s) 2 (two_held _ c.args.walk.now.pass g.basis.root (dir_of (stands g s).header (g.basis.bits c.args.walk.now.key)) (stands g s).held) (omega arith)
+lock-requires-clause-few g c =
+    let s = (goal.at.lock-requires-clause-few g c).Start in
+    let at = stands g s in
+    let small = (ready g s).small in
+    let shallow = at.shallow in
+    few_beside (view_for g.basis (before g s)) at.header (g.basis.before.buckets + 1) (omega (arith, few_before s.args.walk.now.pass g.basis.before at.follows)) (omega (arith, shallow, small)) at.among
 
 -- the bucket is there
-bucket : (g : Over) (s : Start g) → (bucket : BucketFields) × ((file g s).clean s.args.number ≡ Some (page.Bucket bucket))
-bucket g s = bucket_there g.basis s.args.walk.now (before g s) (file g s).clean s.args.number s.args.depth (bounded g s s.args.walk.now.key) s.requires.1.1.1.1.1.may (file g s).is_clean (file g s).form (stands g s)
+bucket : (g : Over) (s : Start g) → (bucket : BucketFields) × (over (ready g s).file.clean g.basis.before.written s.args.number ≡ Some (page.Bucket bucket))
+bucket g s = bucket_there g.basis s.args.walk.now (before g s) (ready g s).file.clean ((ready g s).bounded s.args.walk.now.key) (ready g s).may (ready g s).file.is_clean (ready g s).file.form s.args.number s.args.depth (stands g s)
 
 pub lock-requires-clause-there : goal.lock-requires-clause-there
-lock-requires-clause-there g c = let s = (goal.at.lock-requires-clause-there g c).Start in (file g s).is_clean.there c.args.number (ap is_some (bucket g s).1)
+lock-requires-clause-there g c =
+    let s = (goal.at.lock-requires-clause-there g c).Start in
+    is_there g.basis.before.written (before g s) (ready g s).file.clean s.args.number s.args.number (ready g s).may (ready g s).written (ready g s).file.is_clean (λ _. s.args.number) (ap is_some (bucket g s).1)
 
 pub read_held-requires-clause-held : goal.read_held-requires-clause-held
 read_held-requires-clause-held g c =
@@ -46,5 +55,19 @@ pub unreachable-requires : goal.unreachable-requires
 unreachable-requires g c =
     let s = (goal.at.unreachable-requires g c).Start in
     let after = moment c.args.subtx.now c.lock.new.pages in
-    let read = reads_clean (before g s) after c.args.number c.bucket_mode-mode.result (Some c.read_held.result.now) (file g s).clean c.lock.ensures.leaves.may (c.lock.ensures.leaves.clean (file g s).clean (file g s).is_clean) (stands g s).unwritten (reads_seen (view_of (before g s)) (view_of after) c.args.number c.bucket_mode-mode.result c.read_held.result.now c.in_default.ensures.view c.read_held.ensures.reads) in
-    c.in_default-read_held.not-Bucket (bucket g s).0 (one_page ((file g s).clean c.args.number) c.read_held.result.now (page.Bucket (bucket g s).0) read (bucket g s).1)
+    let reads = rebased_reads_page g.basis.before.written (view_of (before g s)) (view_of after) (ready g s).written c.args.number c.bucket_mode-mode.result (Some c.read_held.result.now) (reads_seen (view_of (before g s)) (view_of after) c.args.number c.bucket_mode-mode.result c.read_held.result.now c.in_default.ensures.view c.read_held.ensures.reads) in
+    let read = reads_clean g.basis.before.written (before g s) after c.args.number c.bucket_mode-mode.result (Some c.read_held.result.now) (ready g s).file.clean c.lock.ensures.leaves.may (c.lock.ensures.leaves.clean (ready g s).file.clean (ready g s).file.is_clean) (stands g s).unwritten reads in
+    c.in_default-read_held.not-Bucket (bucket g s).0 (one_page (over (ready g s).file.clean g.basis.before.written c.args.number) c.read_held.result.now (page.Bucket (bucket g s).0) read (bucket g s).1)
+
+pub returns-clause-tells : goal.returns-clause-tells
+returns-clause-tells g c =
+    let s = (goal.at.returns-clause-tells g c).Start in
+    let after = moment c.args.subtx.now c.lock.new.pages in
+    let walk : WalkFields = c.args.walk.now in
+    let key : c.walk.inside.key ≡ walk.key = ap (λ (w : WalkFields). w.key) c.walk.view_is in
+    let mode : c.bucket_mode-mode.result ≡ bucket_mode walk.pass walk.mode = c.bucket_mode-mode.ensures ∙ (λ i. bucket_mode (c.walk.view_is i).pass (c.walk.view_is i).mode) in
+    let bucket : BucketFields = c.in-Bucket.bucket in
+    let reads : ReadsPage (view_for g.basis (before g s)) (view_for g.basis after) c.args.number c.bucket_mode-mode.result (Some (page.Bucket bucket)) =
+    rebased_reads_page g.basis.before.written (view_of (before g s)) (view_of after) (ready g s).written c.args.number c.bucket_mode-mode.result (Some (page.Bucket bucket))
+    (subst (λ (p : Page). ReadsPage (view_of (before g s)) (view_of after) c.args.number c.bucket_mode-mode.result (Some p)) c.in-Bucket.is (reads_seen (view_of (before g s)) (view_of after) c.args.number c.bucket_mode-mode.result c.read_held.result.now c.in_default.ensures.view c.read_held.ensures.reads)) in
+    arrived g.basis walk _ (before g s) after c.bucket_mode-mode.result c.args.number c.args.depth bucket c.value_in-found.result (stands g s) mode reads (c.value_in-found.ensures ∙ ap (λ k. value_in k bucket.slots) key) c.requires.1.1.1.1.0 (ap (λ (w : WalkFields). record w { phase = at.AtBucket c.args.number c.args.depth c.value_in-found.result }) c.walk.view_is)

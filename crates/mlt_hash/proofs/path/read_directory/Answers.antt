@@ -1,13 +1,18 @@
-use Rattle.std.proofs.Common.{◌≡◌, ℕ, ◌<◌, ◌^◌, List, Some, is_some, ap, arith}
+use Rattle.std.proofs.Common.{◌≡◌, ℕ, List, ◌+◌, Some, is_some, ap, subst, ◌∙◌, arith}
+use Rattle.mlt_page.specs.declared.page.Page.{Page}
 use Rattle.mlt_page.specs.declared.page.Page.TheVariants as page
-use Rattle.mlt_held.specs.Moments.{HasCleanFile, Moment, moment}
-use Rattle.mlt_held.specs.Views.{view_of}
+use Rattle.mlt_held.specs.Moments.{Moment, moment}
+use Rattle.mlt_held.specs.Views.{ReadsPage, view_of}
+use Rattle.mlt_held.proofs.Rebased.{rebased_reads_page}
 use Rattle.mlt_held.proofs.Views.{reads_after_lock, reads_seen}
-use Rattle.mlt_hash.specs.Walks.{IsHeaded}
+use Rattle.mlt_hash_form.specs.Held.{over}
+use Rattle.mlt_hash.specs.Passes.{directory_mode}
+use Rattle.mlt_hash.specs.Walks.{IsHeaded, MayWalk, WalkFields, view_for}
 use Rattle.mlt_hash.specs.declared.pass.Phase.TheVariants as at
 use Rattle.mlt_hash_form.proofs.Paths.{one_page}
-use Rattle.mlt_hash.proofs.Paths.{dir_there}
-use Rattle.mlt_hash.proofs.Readings.{few_held, one_held, reads_clean}
+use Rattle.mlt_hash.proofs.Beside.{few_before, few_beside}
+use Rattle.mlt_hash.proofs.Paths.{dir_there, placed}
+use Rattle.mlt_hash.proofs.Readings.{is_there, reads_clean}
 use Rattle.mlt_hash.proofs.Standing.{stands_at}
 use Rattle.mlt_hash.proofs.path.read_directory.Given.{Over}
 use Rattle.mlt_hash.proofs.path.read_directory.Goals.{Start}
@@ -16,24 +21,28 @@ use Rattle.mlt_hash.proofs.path.read_directory.Goals as goal
 abbrev before : (g : Over) → Start g → Moment
 before g c = moment c.args.subtx.now c.args.pages.now
 
-file : (g : Over) (c : Start g) → HasCleanFile g.basis.bits g.basis.root (before g c)
-file g c = c.requires.1.1.1.1.1.file
+abbrev ready : (g : Over) (c : Start g) → MayWalk g.basis (before g c) c.args.walk.now
+ready g c = c.requires.1.1.1.1.1
 
-stands : (g : Over) (c : Start g) → IsHeaded g.basis c.args.walk.now (view_of (before g c)) c.args.number c.args.row c.args.depth
-stands g c = stands_at g.basis c.args.walk.now (view_of (before g c)) (at.Headed c.args.number c.args.row c.args.depth) c.requires.1.1.1.1.0 c.requires.1.1.1.1.1.stands
-
-bounded : (g : Over) (c : Start g) (key : ℕ) → g.basis.bits key < 2 ^ 64
-bounded g c key = c.requires.1.1.1.1.1.bounded key
+stands : (g : Over) (c : Start g) → IsHeaded g.basis c.args.walk.now (view_for g.basis (before g c)) c.args.number c.args.row c.args.depth
+stands g c = stands_at g.basis c.args.walk.now (view_for g.basis (before g c)) (at.Headed c.args.number c.args.row c.args.depth) c.requires.1.1.1.1.0 (ready g c).stands
 
 pub lock-requires-clause-few : goal.lock-requires-clause-few
-lock-requires-clause-few g c = let s = (goal.at.lock-requires-clause-few g c).Start in few_held (before g s) 1 (one_held _ c.args.walk.now.pass g.basis.root (stands g s).held) (omega arith)
+lock-requires-clause-few g c =
+    let s = (goal.at.lock-requires-clause-few g c).Start in
+    let at = stands g s in
+    let small = (ready g s).small in
+    let shallow = at.shallow in
+    few_beside (view_for g.basis (before g s)) at.header (g.basis.before.buckets + 1) (omega (arith, few_before s.args.walk.now.pass g.basis.before at.follows)) (omega (arith, shallow, small)) at.among
 
 -- the directory page is there
-dir : (g : Over) (s : Start g) → (dir : List ℕ) × ((file g s).clean s.args.number ≡ Some (page.Dir dir))
-dir g s = dir_there g.basis s.args.walk.now (before g s) (file g s).clean s.args.number s.args.row s.args.depth (bounded g s s.args.walk.now.key) s.requires.1.1.1.1.1.may (file g s).is_clean (file g s).form (stands g s)
+dir : (g : Over) (s : Start g) → (dir : List ℕ) × (over (ready g s).file.clean g.basis.before.written s.args.number ≡ Some (page.Dir dir))
+dir g s = dir_there g.basis s.args.walk.now (before g s) (ready g s).file.clean ((ready g s).bounded s.args.walk.now.key) (ready g s).may (ready g s).file.is_clean (ready g s).file.form s.args.number s.args.row s.args.depth (stands g s)
 
 pub lock-requires-clause-there : goal.lock-requires-clause-there
-lock-requires-clause-there g c = let s = (goal.at.lock-requires-clause-there g c).Start in (file g s).is_clean.there c.args.number (ap is_some (dir g s).1)
+lock-requires-clause-there g c =
+    let s = (goal.at.lock-requires-clause-there g c).Start in
+    is_there g.basis.before.written (before g s) (ready g s).file.clean s.args.number s.args.number (ready g s).may (ready g s).written (ready g s).file.is_clean (λ _. s.args.number) (ap is_some (dir g s).1)
 
 pub read_held-requires-clause-held : goal.read_held-requires-clause-held
 read_held-requires-clause-held g c =
@@ -44,5 +53,19 @@ pub unreachable-requires : goal.unreachable-requires
 unreachable-requires g c =
     let s = (goal.at.unreachable-requires g c).Start in
     let after = moment c.args.subtx.now c.lock.new.pages in
-    let read = reads_clean (before g s) after c.args.number c.directory_mode.result (Some c.read_held.result.now) (file g s).clean c.lock.ensures.leaves.may (c.lock.ensures.leaves.clean (file g s).clean (file g s).is_clean) (stands g s).unwritten (reads_seen (view_of (before g s)) (view_of after) c.args.number c.directory_mode.result c.read_held.result.now c.in_default.ensures.view c.read_held.ensures.reads) in
-    c.in_default-read_held.not-Dir (dir g s).0 (one_page ((file g s).clean c.args.number) c.read_held.result.now (page.Dir (dir g s).0) read (dir g s).1)
+    let reads = rebased_reads_page g.basis.before.written (view_of (before g s)) (view_of after) (ready g s).written c.args.number c.directory_mode.result (Some c.read_held.result.now) (reads_seen (view_of (before g s)) (view_of after) c.args.number c.directory_mode.result c.read_held.result.now c.in_default.ensures.view c.read_held.ensures.reads) in
+    let read = reads_clean g.basis.before.written (before g s) after c.args.number c.directory_mode.result (Some c.read_held.result.now) (ready g s).file.clean c.lock.ensures.leaves.may (c.lock.ensures.leaves.clean (ready g s).file.clean (ready g s).file.is_clean) (stands g s).unwritten reads in
+    c.in_default-read_held.not-Dir (dir g s).0 (one_page (over (ready g s).file.clean g.basis.before.written c.args.number) c.read_held.result.now (page.Dir (dir g s).0) read (dir g s).1)
+
+pub returns-clause-tells : goal.returns-clause-tells
+returns-clause-tells g c =
+    let s = (goal.at.returns-clause-tells g c).Start in
+    let after = moment c.args.subtx.now c.lock.new.pages in
+    let walk : WalkFields = c.args.walk.now in
+    let mode : c.directory_mode.result ≡ directory_mode walk.pass = c.directory_mode.ensures ∙ (λ i. directory_mode (c.walk.view_is i).pass) in
+    let reads : ReadsPage (view_for g.basis (before g s)) (view_for g.basis after) c.args.number c.directory_mode.result (Some (page.Dir c.in-Dir.dir)) =
+    rebased_reads_page g.basis.before.written (view_of (before g s)) (view_of after) (ready g s).written c.args.number c.directory_mode.result (Some (page.Dir c.in-Dir.dir))
+    (subst (λ (p : Page). ReadsPage (view_of (before g s)) (view_of after) c.args.number c.directory_mode.result (Some p)) c.in-Dir.is (reads_seen (view_of (before g s)) (view_of after) c.args.number c.directory_mode.result c.read_held.result.now c.in_default.ensures.view c.read_held.ensures.reads)) in (
+      placed g.basis walk _ (before g s) after c.directory_mode.result c.args.number c.args.depth c.args.row c.entry.result c.in-Dir.dir ((ready g s).bounded walk.key) (ready g s).small (stands g s) mode reads c.entry.ensures c.requires.1.1.1.1.0 (ap (λ (w : WalkFields). record w { phase = at.Placed c.entry.result c.args.depth }) c.walk.view_is),
+      omega arith,
+    )

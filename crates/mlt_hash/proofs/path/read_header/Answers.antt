@@ -3,11 +3,12 @@ use Rattle.mlt_page.specs.Bits.{first_bits}
 use Rattle.mlt_page.specs.Values.{HeadFields}
 use Rattle.mlt_page.specs.declared.page.Page.{Page}
 use Rattle.mlt_page.specs.declared.page.Page.TheVariants as page
-use Rattle.mlt_held.specs.Moments.{HasCleanFile, Moment, moment}
+use Rattle.mlt_held.specs.Moments.{HasCleanFile, Moment, moment, no_writes}
 use Rattle.mlt_held.specs.Views.{ReadsPage, view_of}
+use Rattle.mlt_held.proofs.Since.{unwritten_anew}
 use Rattle.mlt_held.proofs.Views.{reads_after_lock, reads_seen}
 use Rattle.mlt_hash.specs.Passes.{header_mode}
-use Rattle.mlt_hash.specs.Walks.{IsAtStart, WalkFields}
+use Rattle.mlt_hash.specs.Walks.{Before, IsAtStart, MayWalk, WalkFields, basis_after, nothing_before, one_key, view_for}
 use Rattle.mlt_hash.specs.declared.pass.Phase.TheVariants as at
 use Rattle.mlt_hash_form.proofs.Paths.{one_page}
 use Rattle.mlt_hash.proofs.Paths.{head_there, headed, header_there}
@@ -20,11 +21,18 @@ use Rattle.mlt_hash.proofs.path.read_header.Goals as goal
 abbrev before : (g : Over) → Start g → Moment
 before g c = moment c.args.subtx.now c.args.pages.now
 
+-- the key is the walk's first, so nothing was done before
+anew : (g : Over) (c : Start g) → g.basis.before ≡ nothing_before
+anew g c = (stands_at g.basis c.args.walk.now (view_for g.basis (before g c)) at.Start c.requires.1.1.1.1.0 c.requires.1.1.1.1.1.stands).1
+
+ready : (g : Over) (c : Start g) → MayWalk (one_key g.basis) (before g c) c.args.walk.now
+ready g c = subst (λ (b : Before). MayWalk (basis_after b g.basis) (before g c) c.args.walk.now) (anew g c) c.requires.1.1.1.1.1
+
 file : (g : Over) (c : Start g) → HasCleanFile g.basis.bits g.basis.root (before g c)
-file g c = c.requires.1.1.1.1.1.file
+file g c = (ready g c).file
 
 start : (g : Over) (c : Start g) → IsAtStart (view_of (before g c))
-start g c = stands_at g.basis c.args.walk.now (view_of (before g c)) at.Start c.requires.1.1.1.1.0 c.requires.1.1.1.1.1.stands
+start g c = (stands_at (one_key g.basis) c.args.walk.now (view_of (before g c)) at.Start c.requires.1.1.1.1.0 (ready g c).stands).0
 
 pub lock-requires-clause-few : goal.lock-requires-clause-few
 lock-requires-clause-few g c = let s = (goal.at.lock-requires-clause-few g c).Start in few_held (before g s) 0 (none_held _ (start g s).unheld) (omega arith)
@@ -32,7 +40,7 @@ lock-requires-clause-few g c = let s = (goal.at.lock-requires-clause-few g c).St
 pub lock-requires-clause-there : goal.lock-requires-clause-there
 lock-requires-clause-there g c =
     let s = (goal.at.lock-requires-clause-there g c).Start in
-    is_there (before g s) (file g s).clean c.args.root.now.page g.basis.root (file g s).is_clean c.requires.1.1.0 (header_there g.basis.bits (file g s).clean g.basis.root (file g s).form)
+    is_there no_writes (before g s) (file g s).clean c.args.root.now.page g.basis.root (ready g s).may (ready g s).written (file g s).is_clean c.requires.1.1.0 (header_there g.basis.bits (file g s).clean g.basis.root (file g s).form)
 
 pub read_held-requires-clause-held : goal.read_held-requires-clause-held
 read_held-requires-clause-held g c =
@@ -43,13 +51,13 @@ pub unreachable-requires : goal.unreachable-requires
 unreachable-requires g c =
     let s = (goal.at.unreachable-requires g c).Start in
     let after = moment c.args.subtx.now c.lock.new.pages in
-    let read = reads_clean (before g s) after c.args.root.now.page c.header_mode.result (Some c.read_held.result.now) (file g s).clean c.lock.ensures.leaves.may (c.lock.ensures.leaves.clean (file g s).clean (file g s).is_clean) (start g s).unwritten (reads_seen (view_of (before g s)) (view_of after) c.args.root.now.page c.header_mode.result c.read_held.result.now c.in_default.ensures.view c.read_held.ensures.reads) in
+    let read = reads_clean no_writes (before g s) after c.args.root.now.page c.header_mode.result (Some c.read_held.result.now) (file g s).clean c.lock.ensures.leaves.may (c.lock.ensures.leaves.clean (file g s).clean (file g s).is_clean) (unwritten_anew (view_of (before g s)) (start g s).unwritten) (reads_seen (view_of (before g s)) (view_of after) c.args.root.now.page c.header_mode.result c.read_held.result.now c.in_default.ensures.view c.read_held.ensures.reads) in
     let head = head_there g.basis.bits (file g s).clean g.basis.root (file g s).form in
     c.in_default-read_held.not-Head head.0 (one_page ((file g s).clean c.args.root.now.page) c.read_held.result.now (page.Head head.0) read (ap (file g s).clean s.requires.1.1.0 ∙ head.1))
 
 pub returns-clause-tells : goal.returns-clause-tells
-unfolding file
-returns-clause-tells g c = λ opens.
+unfolding file ready
+returns-clause-tells g c =
     let s = (goal.at.returns-clause-tells g c).Start in
     let after = moment c.args.subtx.now c.lock.new.pages in
     let header : HeadFields = record { depth = c.header.inside.depth; dirs = c.header.inside.dirs } in
@@ -60,7 +68,7 @@ returns-clause-tells g c = λ opens.
     let reads : ReadsPage (view_of (before g s)) (view_of after) g.basis.root c.header_mode.result (Some (page.Head header)) =
     subst (λ (p : Page). ReadsPage (view_of (before g s)) (view_of after) g.basis.root c.header_mode.result (Some p)) (c.in-Head.is ∙ ap page.Head (sym c.header.view_is))
     (subst (λ (q : ℕ). ReadsPage (view_of (before g s)) (view_of after) q c.header_mode.result (Some c.read_held.result.now)) c.requires.1.1.0 read) in (
-      headed g.basis opens c.args.walk.now _ (before g s) after c.header_mode.result header c.dir.result c.of-place.result.entry c.header.inside.depth (file g s) c.requires.1.1.1.1.1.shallow c.lock.ensures.leaves.may c.lock.ensures.leaves.clean (start g s) (c.header_mode.ensures ∙ ap header_mode pass) reads
+      headed g.basis c.args.walk.now _ (before g s) after c.header_mode.result header c.dir.result c.of-place.result.entry c.header.inside.depth (anew g s) (file g s) (ready g s).shallow c.lock.ensures.leaves.may c.lock.ensures.leaves.clean (start g s) (c.header_mode.ensures ∙ ap header_mode pass) reads
           (c.dir.ensures ∙ ap (λ (h : HeadFields). slice_index h.dirs c.of-place.result.dir) (sym c.header.view_is) ∙ ap (slice_index c.header.inside.dirs) c.of-place.ensures.dir ∙ ap (λ x. slice_index c.header.inside.dirs (first_bits c.header.inside.depth x / 256)) bits)
           (c.of-place.ensures.entry ∙ ap (λ x. first_bits c.header.inside.depth x % 256) bits) refl c.requires.1.1.1.1.0 (ap (λ (w : WalkFields). record w { phase = at.Headed c.dir.result c.of-place.result.entry c.header.inside.depth }) c.walk.view_is),
       omega arith,

@@ -1,107 +1,114 @@
 use Rattle.std.proofs.Common.{◌≡◌, refl, ap, sym, subst, ◌∙◌}
 use Rattle.std.specs.Prelude.{◌↔◌}
-use Rattle.std.specs.FinSet as set
 use Rattle.mlt_types.specs.declared.refusal.Refusal.TheVariants as refusal
 use Rattle.mlt_held.specs.PageSteps.{HasNoPageLeft}
 use Rattle.mlt_held.specs.Moments.{Moment, moment}
-use Rattle.mlt_hash.specs.Walks.{Basis, WalkFields, basis_in}
+use Rattle.mlt_hash.specs.Walks.{Basis, WalkFields}
 use Rattle.mlt_hash.specs.Splitting.{HasToMake, TellsAt}
 use Rattle.mlt_hash.specs.declared.answer.WalkAnswer.TheVariants as answer
-use Rattle.mlt_hash.specs.declared.pass.Phase.TheVariants as at
-use Rattle.mlt_hash.proofs.OnWay.{walks_for}
 use Rattle.mlt_hash.proofs.Splittings.{path_has_room}
 use Rattle.mlt_hash.proofs.walk.Walk.advance.Goals as goal
 
 pub read_header-requires : goal.read_header-requires
 read_header-requires g c κs within =
-    let basis : Basis = basis_in g.P.Pseudo.bits_of c.args.setting.now c.args.subtx.now.tx in
+    let basis : Basis = g.basis in
     let phase = sym (ap (λ (w : WalkFields). w.phase) c.self.view_is) ∙ c.in-Start.is in
-    (within, (refl, (refl, (refl, (phase, walks_for basis set.empty (moment c.args.subtx.now c.args.pages.now) c.args.self.now at.Start phase tt c.requires.ready)))))
+    (within, (ap (λ (b : Basis). b.tx) c.requires.1.0, (ap (λ (b : Basis). b.root) c.requires.1.0, (ap (λ (b : Basis). b.bits) c.requires.1.0, (phase, c.requires.1.1.1)))))
 
 pub read_directory-requires : goal.read_directory-requires
 read_directory-requires g c κs within =
-    let basis : Basis = basis_in g.P.Pseudo.bits_of c.args.setting.now c.args.subtx.now.tx in
+    let basis : Basis = g.basis in
     let phase = sym (ap (λ (w : WalkFields). w.phase) c.self.view_is) ∙ c.in-Headed.is in
-    (within, (refl, (refl, (refl, (phase, walks_for basis set.empty (moment c.args.subtx.now c.args.pages.now) c.args.self.now (at.Headed c.in-Headed.dir c.in-Headed.row c.in-Headed.depth) phase tt c.requires.ready)))))
+    (within, (ap (λ (b : Basis). b.tx) c.requires.1.0, (ap (λ (b : Basis). b.root) c.requires.1.0, (ap (λ (b : Basis). b.bits) c.requires.1.0, (phase, c.requires.1.1.1)))))
 
 pub read_bucket-requires : goal.read_bucket-requires
 read_bucket-requires g c κs within =
-    let basis : Basis = basis_in g.P.Pseudo.bits_of c.args.setting.now c.args.subtx.now.tx in
+    let basis : Basis = g.basis in
     let phase = sym (ap (λ (w : WalkFields). w.phase) c.self.view_is) ∙ c.in-Placed.is in
-    (within, (refl, (refl, (refl, (phase, walks_for basis set.empty (moment c.args.subtx.now c.args.pages.now) c.args.self.now (at.Placed c.in-Placed.bucket c.in-Placed.depth) phase tt c.requires.ready)))))
+    (within, (ap (λ (b : Basis). b.tx) c.requires.1.0, (ap (λ (b : Basis). b.root) c.requires.1.0, (ap (λ (b : Basis). b.bits) c.requires.1.0, (phase, c.requires.1.1.1)))))
+
+pub add_or_split-requires : goal.add_or_split-requires
+add_or_split-requires g c κs within =
+    let phase = sym (ap (λ (w : WalkFields). w.phase) c.self.view_is) ∙ c.in-Adding.is in
+    (within, (refl, (c.requires.1.0, (phase, c.requires.1.1.1))))
+
+pub go_on_splitting-requires : goal.go_on_splitting-requires
+go_on_splitting-requires g c κs within =
+    let phase = sym (ap (λ (w : WalkFields). w.phase) c.self.view_is) ∙ c.in-Splitting.is in
+    (within, (refl, (ap (λ (b : Basis). b.root) c.requires.1.0, (phase, c.requires.1.1.1))))
 
 pub returns-in-Start-clause-tells : goal.returns-in-Start-clause-tells
 returns-in-Start-clause-tells g c =
-    let basis : Basis = basis_in g.P.Pseudo.bits_of c.args.setting.now c.args.subtx.now.tx in
+    let basis : Basis = g.basis in
     let old : Moment = moment c.args.subtx.now c.args.pages.now in
     let phase = sym (ap (λ (w : WalkFields). w.phase) c.self.view_is) ∙ c.in-Start.is in
-    subst (λ p. TellsAt p basis old (moment c.args.subtx.now c.read_header.new.pages) c.args.self.now c.read_header.new.walk c.read_header.result) (sym phase) (c.read_header.ensures.tells c.args.setting.now.opens.now)
+    subst (λ p. TellsAt p basis old (moment c.args.subtx.now c.read_header.new.pages) c.args.self.now c.read_header.new.walk c.read_header.result) (sym phase) c.read_header.ensures.tells
 
 pub returns-in-Headed-clause-tells : goal.returns-in-Headed-clause-tells
 returns-in-Headed-clause-tells g c =
-    let basis : Basis = basis_in g.P.Pseudo.bits_of c.args.setting.now c.args.subtx.now.tx in
+    let basis : Basis = g.basis in
     let old : Moment = moment c.args.subtx.now c.args.pages.now in
     let phase = sym (ap (λ (w : WalkFields). w.phase) c.self.view_is) ∙ c.in-Headed.is in
-    subst (λ p. TellsAt p basis old (moment c.args.subtx.now c.read_directory.new.pages) c.args.self.now c.read_directory.new.walk c.read_directory.result) (sym phase) (c.read_directory.ensures.tells c.args.setting.now.opens.now)
+    subst (λ p. TellsAt p basis old (moment c.args.subtx.now c.read_directory.new.pages) c.args.self.now c.read_directory.new.walk c.read_directory.result) (sym phase) c.read_directory.ensures.tells
 
 pub returns-in-Placed-clause-tells : goal.returns-in-Placed-clause-tells
 returns-in-Placed-clause-tells g c =
-    let basis : Basis = basis_in g.P.Pseudo.bits_of c.args.setting.now c.args.subtx.now.tx in
+    let basis : Basis = g.basis in
     let old : Moment = moment c.args.subtx.now c.args.pages.now in
     let phase = sym (ap (λ (w : WalkFields). w.phase) c.self.view_is) ∙ c.in-Placed.is in
-    subst (λ p. TellsAt p basis old (moment c.args.subtx.now c.read_bucket.new.pages) c.args.self.now c.read_bucket.new.walk c.read_bucket.result) (sym phase) (c.read_bucket.ensures.tells c.args.setting.now.opens.now)
+    subst (λ p. TellsAt p basis old (moment c.args.subtx.now c.read_bucket.new.pages) c.args.self.now c.read_bucket.new.walk c.read_bucket.result) (sym phase) c.read_bucket.ensures.tells
 
 pub returns-in-Adding-clause-tells : goal.returns-in-Adding-clause-tells
 returns-in-Adding-clause-tells g c =
-    let basis : Basis = basis_in g.P.Pseudo.bits_of c.args.setting.now c.args.subtx.now.tx in
+    let basis : Basis = g.basis in
     let old : Moment = moment c.args.subtx.now c.args.pages.now in
     let phase = sym (ap (λ (w : WalkFields). w.phase) c.self.view_is) ∙ c.in-Adding.is in
     subst (λ p. TellsAt p basis old (moment c.add_or_split.new.subtx c.add_or_split.new.pages) c.args.self.now c.add_or_split.new.walk c.add_or_split.result) (sym phase) c.add_or_split.ensures.tells
 
 pub returns-in-Splitting-clause-tells : goal.returns-in-Splitting-clause-tells
 returns-in-Splitting-clause-tells g c =
-    let basis : Basis = basis_in g.P.Pseudo.bits_of c.args.setting.now c.args.subtx.now.tx in
+    let basis : Basis = g.basis in
     let old : Moment = moment c.args.subtx.now c.args.pages.now in
     let phase = sym (ap (λ (w : WalkFields). w.phase) c.self.view_is) ∙ c.in-Splitting.is in
     subst (λ p. TellsAt p basis old (moment c.go_on_splitting.new.subtx c.go_on_splitting.new.pages) c.args.self.now c.go_on_splitting.new.walk c.go_on_splitting.result) (sym phase) c.go_on_splitting.ensures.tells
 
 pub returns-in-Start-clause-no_room : goal.returns-in-Start-clause-no_room
 returns-in-Start-clause-no_room g c =
-    let basis : Basis = basis_in g.P.Pseudo.bits_of c.args.setting.now c.args.subtx.now.tx in
+    let basis : Basis = g.basis in
     let old : Moment = moment c.args.subtx.now c.args.pages.now in
     let phase = sym (ap (λ (w : WalkFields). w.phase) c.self.view_is) ∙ c.in-Start.is in (
-      λ is. absurd (path_has_room basis old (moment c.args.subtx.now c.read_header.new.pages) c.args.self.now c.read_header.new.walk c.read_header.result (c.read_header.ensures.tells c.args.setting.now.opens.now) is),
+      λ is. absurd (path_has_room basis old (moment c.args.subtx.now c.read_header.new.pages) c.args.self.now c.read_header.new.walk c.read_header.result c.read_header.ensures.tells is),
       λ both. absurd (subst (λ p. HasToMake p basis old c.args.self.now) phase both.0),
     )
 
 pub returns-in-Headed-clause-no_room : goal.returns-in-Headed-clause-no_room
 returns-in-Headed-clause-no_room g c =
-    let basis : Basis = basis_in g.P.Pseudo.bits_of c.args.setting.now c.args.subtx.now.tx in
+    let basis : Basis = g.basis in
     let old : Moment = moment c.args.subtx.now c.args.pages.now in
     let phase = sym (ap (λ (w : WalkFields). w.phase) c.self.view_is) ∙ c.in-Headed.is in (
-      λ is. absurd (path_has_room basis old (moment c.args.subtx.now c.read_directory.new.pages) c.args.self.now c.read_directory.new.walk c.read_directory.result (c.read_directory.ensures.tells c.args.setting.now.opens.now) is),
+      λ is. absurd (path_has_room basis old (moment c.args.subtx.now c.read_directory.new.pages) c.args.self.now c.read_directory.new.walk c.read_directory.result c.read_directory.ensures.tells is),
       λ both. absurd (subst (λ p. HasToMake p basis old c.args.self.now) phase both.0),
     )
 
 pub returns-in-Placed-clause-no_room : goal.returns-in-Placed-clause-no_room
 returns-in-Placed-clause-no_room g c =
-    let basis : Basis = basis_in g.P.Pseudo.bits_of c.args.setting.now c.args.subtx.now.tx in
+    let basis : Basis = g.basis in
     let old : Moment = moment c.args.subtx.now c.args.pages.now in
     let phase = sym (ap (λ (w : WalkFields). w.phase) c.self.view_is) ∙ c.in-Placed.is in (
-      λ is. absurd (path_has_room basis old (moment c.args.subtx.now c.read_bucket.new.pages) c.args.self.now c.read_bucket.new.walk c.read_bucket.result (c.read_bucket.ensures.tells c.args.setting.now.opens.now) is),
+      λ is. absurd (path_has_room basis old (moment c.args.subtx.now c.read_bucket.new.pages) c.args.self.now c.read_bucket.new.walk c.read_bucket.result c.read_bucket.ensures.tells is),
       λ both. absurd (subst (λ p. HasToMake p basis old c.args.self.now) phase both.0),
     )
 
 pub returns-in-Adding-clause-no_room : goal.returns-in-Adding-clause-no_room
 returns-in-Adding-clause-no_room g c =
-    let basis : Basis = basis_in g.P.Pseudo.bits_of c.args.setting.now c.args.subtx.now.tx in
+    let basis : Basis = g.basis in
     let old : Moment = moment c.args.subtx.now c.args.pages.now in
     let phase = sym (ap (λ (w : WalkFields). w.phase) c.self.view_is) ∙ c.in-Adding.is in
     subst (λ p. (c.add_or_split.result ≡ answer.Refused refusal.NoRoom) ↔ (HasToMake p basis old c.args.self.now × HasNoPageLeft c.args.pages.now.store)) (sym phase) c.add_or_split.ensures.no_room
 
 pub returns-in-Splitting-clause-no_room : goal.returns-in-Splitting-clause-no_room
 returns-in-Splitting-clause-no_room g c =
-    let basis : Basis = basis_in g.P.Pseudo.bits_of c.args.setting.now c.args.subtx.now.tx in
+    let basis : Basis = g.basis in
     let old : Moment = moment c.args.subtx.now c.args.pages.now in
     let phase = sym (ap (λ (w : WalkFields). w.phase) c.self.view_is) ∙ c.in-Splitting.is in
     subst (λ p. (c.go_on_splitting.result ≡ answer.Refused refusal.NoRoom) ↔ (HasToMake p basis old c.args.self.now × HasNoPageLeft c.args.pages.now.store)) (sym phase) c.go_on_splitting.ensures.no_room

@@ -2,18 +2,26 @@ use Rattle.std.proofs.Common.{ap}
 use Rattle.mlt_page.specs.Slots.{is_live_of}
 use Rattle.mlt_page.specs.declared.slot.Slot.TheVariants.{Live}
 use Rattle.mlt_held.specs.Moments.{Moment, moment}
-use Rattle.mlt_held.specs.Views.{view_of}
-use Rattle.mlt_hash.specs.Walks.{Basis, WalkFields}
+use Rattle.mlt_hash.specs.Walks.{Basis, WalkFields, view_for}
 use Rattle.mlt_hash.specs.Changes.{MayChange, page_of}
-use Rattle.mlt_hash.proofs.InPlace.{ReadsBucket, plan_is_written, record_has_plan, record_may_write, record_plans, update_tells}
+use Rattle.mlt_hash.proofs.InPlace.{at_bucket_with, holds_bucket, reads_bucket, ReadsBucket, plan_is_written, record_has_plan, record_may_write, record_plans, update_tells}
 use Rattle.mlt_hash.proofs.walk.Walk.update.Goals as goal
 
 abbrev before : goal.After-write_change-arg-3-1 → Moment
 before c = moment c.args.subtx.now c.args.pages.now
 
+pub held_bucket-number-requires-clause-at : goal.held_bucket-number-requires-clause-at
+held_bucket-number-requires-clause-at c = at_bucket_with c.args.self.now.phase c.requires.found
+
+pub held_bucket-number-requires-clause-held : goal.held_bucket-number-requires-clause-held
+held_bucket-number-requires-clause-held c = holds_bucket c.requires.ready.0 c.args.self.now (moment c.args.subtx.now c.args.pages.now) c.requires.ready.2.walks (at_bucket_with c.args.self.now.phase c.requires.found)
+
 pub unreachable-requires : goal.unreachable-requires
 unreachable-requires c =
-    record_has_plan c.requires.ready.0 c.args.self.now (view_of (moment c.args.subtx.now c.args.pages.now)) c.self.inside.key c.held_bucket-number.result.1.now c.requires.found c.requires.ready.2.walks.stands c.held_bucket-number.ensures.bucket (ap (λ (w : WalkFields). w.key) c.self.view_is) c.in_default.ensures.plan
+    record_has_plan c.requires.ready.0 c.args.self.now (view_for c.requires.ready.0 (moment c.args.subtx.now c.args.pages.now)) c.self.inside.key c.held_bucket-number.result.1.now c.requires.found c.requires.ready.2.walks.stands (reads_bucket c.requires.ready.0 c.args.self.now (moment c.args.subtx.now c.args.pages.now) c.held_bucket-number.result.0 c.self.inside.key c.held_bucket-number.result.1.now c.requires.ready.2.walks (at_bucket_with c.args.self.now.phase c.requires.found) c.held_bucket-number.ensures.bucket c.held_bucket-number.ensures.number (ap (λ (w : WalkFields). w.key) c.self.view_is)).sees (ap (λ (w : WalkFields). w.key) c.self.view_is) c.in_default.ensures.plan
+
+reads : (c : goal.After-write_change-arg-3-1) (basis : Basis) → MayChange basis (before c) c.args.self.now → ReadsBucket basis c.args.self.now (before c) c.held_bucket-number.result.0 c.self.inside.key c.held_bucket-number.result.1.now
+reads c basis may = reads_bucket basis c.args.self.now (before c) c.held_bucket-number.result.0 c.self.inside.key c.held_bucket-number.result.1.now may.walks (at_bucket_with c.args.self.now.phase c.requires.found) c.held_bucket-number.ensures.bucket c.held_bucket-number.ensures.number (ap (λ (w : WalkFields). w.key) c.self.view_is)
 
 pub write_change-requires-clause-held : goal.write_change-requires-clause-held
 write_change-requires-clause-held c =
@@ -21,16 +29,7 @@ write_change-requires-clause-held c =
 
 pub write_change-requires-clause-planned : goal.write_change-requires-clause-planned
 write_change-requires-clause-planned c =
-    record_plans c.requires.ready.0 c.args.self.now (before c) c.held_bucket-number.result.0 c.held_bucket-number.result.1.now (is_live_of c.self.inside.key) (Live c.self.inside.key c.args.value) c.in-Some.write c.requires.found c.requires.ready.2.walks.stands c.held_bucket-number.ensures.bucket c.held_bucket-number.ensures.number c.in-Some.ensures.plan
-
-reads : (c : goal.After-write_change-arg-3-1) (basis : Basis) → MayChange basis (before c) c.args.self.now → ReadsBucket basis c.args.self.now (before c) c.held_bucket-number.result.0 c.self.inside.key c.held_bucket-number.result.1.now
-reads c basis may = record {
-  bounded = may.walks.bounded;
-  stands = may.walks.stands;
-  sees = c.held_bucket-number.ensures.bucket;
-  here = c.held_bucket-number.ensures.number;
-  key_is = ap (λ (w : WalkFields). w.key) c.self.view_is;
-}
+    record_plans c.requires.ready.0 c.args.self.now (before c) c.held_bucket-number.result.0 c.self.inside.key c.held_bucket-number.result.1.now (is_live_of c.self.inside.key) (Live c.self.inside.key c.args.value) c.in-Some.write c.requires.found (reads c c.requires.ready.0 c.requires.ready.2) c.in-Some.ensures.plan
 
 pub returns-clause-writes : goal.returns-clause-writes
 returns-clause-writes c =
@@ -40,5 +39,4 @@ returns-clause-writes c =
 pub returns-clause-tells : goal.returns-clause-tells
 returns-clause-tells c = λ basis own may.
     let after : Moment = moment c.write_change.new.subtx c.write_change.new.pages in
-    update_tells basis c.args.self.now c.write_change.new.walk (before c.before) after c.held_bucket-number.result.0 c.self.inside.key c.held_bucket-number.result.1.now c.in-Some.write c.write_change.result (reads c.before basis may) c.args.value c.requires.found c.in-Some.ensures.plan
-    (record { writes = c.write_change.ensures.view; walk_is = c.write_change.ensures.walk; answer_is = c.write_change.ensures.answer })
+    update_tells basis c.args.self.now c.write_change.new.walk (before c.before) after c.held_bucket-number.result.0 c.self.inside.key c.held_bucket-number.result.1.now c.in-Some.write c.write_change.result (reads c.before basis may) c.args.value c.requires.found c.in-Some.ensures.plan c.write_change.ensures.tells
