@@ -9,7 +9,7 @@ use Rattle.mlt_held.specs.Views.{view_of}
 use Rattle.mlt_split.specs.Splits.{SplitFields}
 use Rattle.mlt_hash.specs.Splitting.{BeginsSplit, SplitCloses, SplitGoesOn, TellsAt, walk_step}
 use Rattle.mlt_hash.specs.StepsLeft.{IsPutting, bucket_depth, depth_after, directory_depth}
-use Rattle.mlt_hash.specs.Walks.{Basis, IsSplitting, Stands, WalkFields}
+use Rattle.mlt_hash.specs.Walks.{Basis, IsSplitting, Stands, WalkFields, one_key}
 use Rattle.mlt_hash.specs.declared.answer.WalkAnswer.TheVariants as answer
 use Rattle.mlt_hash.specs.declared.pass.Phase.{Phase}
 use Rattle.mlt_hash.specs.declared.pass.Phase.TheVariants as at
@@ -20,7 +20,7 @@ some_is_one x y o is_x is_y = let e : Some x ≡ Some y = sym is_x ∙ is_y in c
 
 module _ (basis : Basis) (old new : Moment) (before after : WalkFields) where
   -- a split has begun
-  begins : (value n room_depth : ℕ) (unsplit : Bool) → before.phase ≡ at.Adding value n room_depth unsplit → BeginsSplit basis (walk_step old new before after) value n room_depth
+  begins : (value n room_depth : ℕ) (unsplit : Bool) → before.phase ≡ at.Adding value n room_depth unsplit → BeginsSplit (one_key basis) (walk_step old new before after) value n room_depth
       → GoesDown basis.root before after (view_of old) (view_of new)
   begins value n room_depth unsplit phase b =
       let l : bucket_depth (view_of old) n ≡ b.split.depth = ap (λ p. (bucket_of p).depth) b.found ∙ sym b.depth in
@@ -34,7 +34,7 @@ module _ (basis : Basis) (old new : Moment) (before after : WalkFields) where
       }
 
   -- it has gone on
-  goes_on : (value room_depth : ℕ) → before.phase ≡ at.Splitting value room_depth → SplitGoesOn basis new before after value room_depth
+  goes_on : (value room_depth : ℕ) → before.phase ≡ at.Splitting value room_depth → SplitGoesOn (one_key basis) new before after value room_depth
       → GoesDown basis.root before after (view_of old) (view_of new)
   goes_on value room_depth phase s = record {
     was = record { room = room_depth; bucket = s.was.depth; directory = s.was.directory_depth };
@@ -46,7 +46,7 @@ module _ (basis : Basis) (old new : Moment) (before after : WalkFields) where
 
   -- and has closed
   closes : (clean : ℕ → Option Page) → Agrees (view_of old).seen clean → HasForm basis.bits clean basis.root
-      → (value room_depth : ℕ) → before.phase ≡ at.Splitting value room_depth → IsSplitting basis before (view_of old) room_depth → SplitCloses basis new before after value room_depth
+      → (value room_depth : ℕ) → before.phase ≡ at.Splitting value room_depth → IsSplitting (one_key basis) before (view_of old) room_depth → SplitCloses (one_key basis) new before after value room_depth
       → GoesDown basis.root before after (view_of old) (view_of new)
   closes clean agree form value room_depth phase stands s =
       let same : stands.split ≡ s.was = some_is_one stands.split s.was before.split stands.split_is s.was_is in
@@ -66,15 +66,15 @@ module _ (basis : Basis) (old new : Moment) (before after : WalkFields) where
 
 -- **A step of the splits of a pass leaves the depths, or closes a split.**
 pub goes_down : (basis : Basis) (old new : Moment) (before after : WalkFields) (clean : ℕ → Option Page) → Agrees (view_of old).seen clean → HasForm basis.bits clean basis.root
-    → Stands before.phase basis before (view_of old) → IsPutting before.phase → TellsAt before.phase basis old new before after answer.Going
+    → Stands before.phase (one_key basis) before (view_of old) → IsPutting before.phase → TellsAt before.phase (one_key basis) old new before after answer.Going
     → GoesDown basis.root before after (view_of old) (view_of new)
 goes_down basis old new before after clean agree form stands putting tells = by before.phase refl stands putting tells
   where
-    by : (phase : Phase) → before.phase ≡ phase → Stands phase basis before (view_of old) → IsPutting phase → TellsAt phase basis old new before after answer.Going → GoesDown basis.root before after (view_of old) (view_of new)
-    by (at.Adding value bucket room_depth unsplit) is here is_putting told = begins basis old new before after value bucket room_depth unsplit is told
+    by : (phase : Phase) → before.phase ≡ phase → Stands phase (one_key basis) before (view_of old) → IsPutting phase → TellsAt phase (one_key basis) old new before after answer.Going → GoesDown basis.root before after (view_of old) (view_of new)
+    by (at.Adding value bucket room_depth unsplit) is here is_putting told = begins (one_key basis) old new before after value bucket room_depth unsplit is told
     by (at.Splitting value room_depth) is here is_putting told = elim told.1 [
-      | inl goes ↦ goes_on basis old new before after value room_depth is goes
-      | inr close ↦ closes basis old new before after clean agree form value room_depth is here close
+      | inl goes ↦ goes_on (one_key basis) old new before after value room_depth is goes
+      | inr close ↦ closes (one_key basis) old new before after clean agree form value room_depth is here close
     ]
     by at.Start is here is_putting told = absurd is_putting
     by (at.Headed dir row depth) is here is_putting told = absurd is_putting

@@ -7,7 +7,7 @@ use Rattle.mlt_held.specs.Moments.{Moment}
 use Rattle.mlt_held.specs.PageSteps.{Leaves}
 use Rattle.mlt_held.specs.Views.{View, view_of}
 use Rattle.mlt_held.proofs.Views.{agrees}
-use Rattle.mlt_hash.specs.Walks.{Basis, HasRead, IsChanged, IsStanding, Stands, WalkFields}
+use Rattle.mlt_hash.specs.Walks.{Basis, HasRead, IsChanged, IsStanding, Stands, WalkFields, one_key}
 use Rattle.mlt_hash.specs.Changes.{page_of}
 use Rattle.mlt_hash.specs.Splitting.{TellsAt}
 use Rattle.mlt_hash.specs.Steps.{GoesOn, IsSameWalk, steps_to_bucket}
@@ -26,13 +26,13 @@ use Rattle.mlt_operation.proofs.Depths.{goes_down}
 use Rattle.mlt_operation.proofs.Turns.{one_step_turns}
 
 -- on the way nothing is told yet, and nothing is to be put
-fits_on_way : (p : Phase) (basis : Basis) (o : OperationFields) (view : View) → 0 < steps_to_bucket p → o.reply ≡ None → FitsPhase p basis o view
+fits_on_way : (p : Phase) (basis : Basis) (o : OperationFields) (view : View) → 0 < steps_to_bucket p → o.reply ≡ None → FitsPhase p (one_key basis) o view
 fits_on_way at.Start basis o view more untold = untold
 fits_on_way (at.Headed dir row depth) basis o view more untold = untold
 fits_on_way (at.Placed bucket depth) basis o view more untold = untold
 fits_on_way other basis o view more untold = absurd (omega (arith, more))
 
-pub untold_on_way : (p : Phase) (basis : Basis) (o : OperationFields) (view : View) → 0 < steps_to_bucket p → FitsPhase p basis o view → o.reply ≡ None
+pub untold_on_way : (p : Phase) (basis : Basis) (o : OperationFields) (view : View) → 0 < steps_to_bucket p → FitsPhase p (one_key basis) o view → o.reply ≡ None
 untold_on_way at.Start basis o view more fits = fits
 untold_on_way (at.Headed dir row depth) basis o view more fits = fits
 untold_on_way (at.Placed bucket depth) basis o view more fits = fits
@@ -50,23 +50,23 @@ pub same_target : (before after : OperationFields) → (before.walk.key, before.
 same_target before after target same request = (λ i. (same.key i, same.mode i)) ∙ target ∙ ap target_of (sym request)
 
 -- a step on the way
-on_way : (basis : Basis) (old new : Moment) (before after : OperationFields) → MayOperate basis old before → Leaves old new
-    → GoesOn basis new before.walk after.walk → 0 < steps_to_bucket after.walk.phase → after.request ≡ before.request → after.reply ≡ before.reply
-    → StepsOn basis old new before after
+on_way : (basis : Basis) (old new : Moment) (before after : OperationFields) → MayOperate (one_key basis) old before → Leaves old new
+    → GoesOn (one_key basis) new before.walk after.walk → 0 < steps_to_bucket after.walk.phase → after.request ≡ before.request → after.reply ≡ before.reply
+    → StepsOn (one_key basis) old new before after
 on_way basis old new before after may leaves goes more request same =
     let was : 0 < steps_to_bucket before.walk.phase = omega (arith, goes.fewer, more) in
-    let untold = untold_on_way before.walk.phase basis before (view_of old) was may.operates.fits in
+    let untold = untold_on_way before.walk.phase (one_key basis) before (view_of old) was may.operates.fits in
     let put_before = put_on_way before.walk.phase basis.root before.walk (view_of old) was in
     let put_after = put_on_way after.walk.phase basis.root after.walk (view_of new) more in
     let by_one : steps_left basis.root after (view_of new) + 1 ≡ steps_left basis.root before (view_of old) = omega (arith, goes.fewer, put_before, put_after) in
     record {
-      turn = one_step_turns basis old new before.walk may.walks leaves;
+      turn = one_step_turns (one_key basis) old new before.walk may.walks leaves;
       request = request;
       in_pass = goes.same.pass;
       operates = record {
         target = same_target before after may.operates.target goes.same request;
         stands = goes.stands;
-        fits = fits_on_way after.walk.phase basis after (view_of new) more (same ∙ untold);
+        fits = fits_on_way after.walk.phase (one_key basis) after (view_of new) more (same ∙ untold);
       };
       nearer = omega (arith, goes.fewer);
       fewer = omega (arith, by_one);
@@ -80,7 +80,7 @@ IsAddingPhase (at.Adding v bucket depth unsplit) value = v ≡ value
 IsAddingPhase (at.Splitting v depth) value = v ≡ value
 IsAddingPhase other value = ⊥
 
-fits_adding : (p : Phase) (basis : Basis) (o : OperationFields) (view : View) (value : ℕ) → IsAddingPhase p value → IsToAdd o value → FitsPhase p basis o view
+fits_adding : (p : Phase) (basis : Basis) (o : OperationFields) (view : View) (value : ℕ) → IsAddingPhase p value → IsToAdd o value → FitsPhase p (one_key basis) o view
 fits_adding (at.Adding v bucket depth unsplit) basis o view value is adds = subst (IsToAdd o) (sym is) adds
 fits_adding (at.Splitting v depth) basis o view value is adds = subst (IsToAdd o) (sym is) adds
 fits_adding other basis o view value is adds = absurd is
@@ -100,52 +100,52 @@ still_adds : (before after : OperationFields) (value : ℕ) → IsToAdd before v
 still_adds before after value adds request same = (same ∙ adds.0, (adds.1.0, ap (λ (r : Request). decision r None) request ∙ adds.1.1))
 
 -- a step of a split, or one that begins it
-splits_on : (basis : Basis) (old new : Moment) (before after : OperationFields) (value : ℕ) → MayOperate basis old before → Leaves old new
-    → TellsAt before.walk.phase basis old new before.walk after.walk answer.Going
-    → IsSameWalk before.walk after.walk → IsStanding basis after.walk (view_of new)
+splits_on : (basis : Basis) (old new : Moment) (before after : OperationFields) (value : ℕ) → MayOperate (one_key basis) old before → Leaves old new
+    → TellsAt before.walk.phase (one_key basis) old new before.walk after.walk answer.Going
+    → IsSameWalk before.walk after.walk → IsStanding (one_key basis) after.walk (view_of new)
     → IsAddingPhase before.walk.phase value → IsAddingPhase after.walk.phase value → IsToAdd before value
-    → after.request ≡ before.request → after.reply ≡ before.reply → StepsOn basis old new before after
+    → after.request ≡ before.request → after.reply ≡ before.reply → StepsOn (one_key basis) old new before after
 splits_on basis old new before after value may leaves tells alike stands was is adds request same =
     let clean = may.walks.file.clean in
     let agree = agrees new clean leaves.may (leaves.clean clean may.walks.file.is_clean) in
-    let less = one_fewer basis old new before.walk after.walk clean agree may.walks.file.form (is_putting before.walk.phase value was) tells in
+    let less = one_fewer (one_key basis) old new before.walk after.walk clean agree may.walks.file.form (is_putting before.walk.phase value was) tells in
     let by_one : steps_left basis.root after (view_of new) + 1 ≡ steps_left basis.root before (view_of old) =
     omega (arith, less, none_to_bucket before.walk.phase value was, none_to_bucket after.walk.phase value is) in
     record {
-      turn = one_step_turns basis old new before.walk may.walks leaves;
+      turn = one_step_turns (one_key basis) old new before.walk may.walks leaves;
       request = request;
       in_pass = alike.pass;
       operates = record {
         target = same_target before after may.operates.target alike request;
         stands = stands;
-        fits = fits_adding after.walk.phase basis after (view_of new) value is (still_adds before after value adds request same);
+        fits = fits_adding after.walk.phase (one_key basis) after (view_of new) value is (still_adds before after value adds request same);
       };
       nearer = omega (arith, none_to_bucket after.walk.phase value is);
       fewer = omega (arith, by_one);
       by_one = inl by_one;
-      down = inr (inl (goes_down basis old new before.walk after.walk clean (agrees old clean may.walks.may may.walks.file.is_clean) may.walks.file.form may.walks.stands (is_putting before.walk.phase value was) tells));
+      down = inr (inl (goes_down (one_key basis) old new before.walk after.walk clean (agrees old clean may.walks.may may.walks.file.is_clean) may.walks.file.form may.walks.stands (is_putting before.walk.phase value was) tells));
     }
 
 -- **Where its walk goes on, so does the operation.**
-pub goes_on : (basis : Basis) (old new : Moment) (before after : OperationFields) → MayOperate basis old before → Leaves old new
-    → TellsAt before.walk.phase basis old new before.walk after.walk answer.Going → after.request ≡ before.request → after.reply ≡ before.reply
-    → StepsOn basis old new before after
+pub goes_on : (basis : Basis) (old new : Moment) (before after : OperationFields) → MayOperate (one_key basis) old before → Leaves old new
+    → TellsAt before.walk.phase (one_key basis) old new before.walk after.walk answer.Going → after.request ≡ before.request → after.reply ≡ before.reply
+    → StepsOn (one_key basis) old new before after
 goes_on basis old new before after may leaves tells request same = by before.walk.phase refl tells
   where
-    by : (p : Phase) → before.walk.phase ≡ p → TellsAt p basis old new before.walk after.walk answer.Going → StepsOn basis old new before after
+    by : (p : Phase) → before.walk.phase ≡ p → TellsAt p (one_key basis) old new before.walk after.walk answer.Going → StepsOn (one_key basis) old new before after
     by (at.Adding value bucket depth unsplit) is told =
-        let adds : IsToAdd before value = subst (λ (p : Phase). FitsPhase p basis before (view_of old)) is may.operates.fits in
-        splits_on basis old new before after value may leaves tells told.on.same told.on.stands
+        let adds : IsToAdd before value = subst (λ (p : Phase). FitsPhase p (one_key basis) before (view_of old)) is may.operates.fits in
+        splits_on (one_key basis) old new before after value may leaves tells told.on.same told.on.stands
         (subst (λ (p : Phase). IsAddingPhase p value) (sym is) refl) (subst (λ (p : Phase). IsAddingPhase p value) (sym told.phase) refl) adds request same
     by (at.Splitting value depth) is (told, inl goes) =
-        let adds : IsToAdd before value = subst (λ (p : Phase). FitsPhase p basis before (view_of old)) is may.operates.fits in
-        splits_on basis old new before after value may leaves tells goes.on.same goes.on.stands
+        let adds : IsToAdd before value = subst (λ (p : Phase). FitsPhase p (one_key basis) before (view_of old)) is may.operates.fits in
+        splits_on (one_key basis) old new before after value may leaves tells goes.on.same goes.on.stands
         (subst (λ (p : Phase). IsAddingPhase p value) (sym is) refl) (subst (λ (p : Phase). IsAddingPhase p value) (sym goes.phase) refl) adds request same
     by (at.Splitting value depth) is (told, inr closes) =
-        let adds : IsToAdd before value = subst (λ (p : Phase). FitsPhase p basis before (view_of old)) is may.operates.fits in
-        splits_on basis old new before after value may leaves tells closes.on.same closes.on.stands
+        let adds : IsToAdd before value = subst (λ (p : Phase). FitsPhase p (one_key basis) before (view_of old)) is may.operates.fits in
+        splits_on (one_key basis) old new before after value may leaves tells closes.on.same closes.on.stands
         (subst (λ (p : Phase). IsAddingPhase p value) (sym is) refl) (subst (λ (p : Phase). IsAddingPhase p value) (sym closes.phase) refl) adds request same
-    by other is told = on_way basis old new before after may leaves told.0 told.1 request same
+    by other is told = on_way (one_key basis) old new before after may leaves told.0 told.1 request same
 
 -- a pass puts its record at its last step
 put_is_left : (n l g : ℕ) → 0 < steps_of_splits n l g
@@ -154,18 +154,18 @@ put_is_left zero l g = omega arith
 put_is_left (suc n) l g = omega (arith)
 
 -- **Where its walk has put the record behind splits, the operation is told its reply.**
-pub puts : (basis : Basis) (old new : Moment) (before after : OperationFields) → MayOperate basis old before → Leaves old new
-    → TellsAt before.walk.phase basis old new before.walk after.walk answer.Changed → after.request ≡ before.request
-    → after.reply ≡ Some (decision before.request None).0 → StepsOn basis old new before after
+pub puts : (basis : Basis) (old new : Moment) (before after : OperationFields) → MayOperate (one_key basis) old before → Leaves old new
+    → TellsAt before.walk.phase (one_key basis) old new before.walk after.walk answer.Changed → after.request ≡ before.request
+    → after.reply ≡ Some (decision before.request None).0 → StepsOn (one_key basis) old new before after
 puts basis old new before after may leaves tells request told = by before.walk.phase refl tells
   where
-    by : (p : Phase) → before.walk.phase ≡ p → TellsAt p basis old new before.walk after.walk answer.Changed → StepsOn basis old new before after
+    by : (p : Phase) → before.walk.phase ≡ p → TellsAt p (one_key basis) old new before.walk after.walk answer.Changed → StepsOn (one_key basis) old new before after
     by (at.Adding value bucket depth unsplit) is (behind, makes, writes, lowest) =
-        let adds : IsToAdd before value = subst (λ (p : Phase). FitsPhase p basis before (view_of old)) is may.operates.fits in
+        let adds : IsToAdd before value = subst (λ (p : Phase). FitsPhase p (one_key basis) before (view_of old)) is may.operates.fits in
         let phase : after.walk.phase ≡ at.Changed bucket (change.Put value) = makes.phase ∙ ap (λ (p : Phase). at.Changed (page_of p) (change.Put value)) is in
-        let changed : IsChanged basis after.walk (view_of new) bucket (change.Put value) = subst (λ (p : Phase). Stands p basis after.walk (view_of new)) phase makes.stands in
-        let read : HasRead basis after.walk.key (view_of new) None = read_of basis after.walk.key (view_of new) changed.found None changed.fits changed.read in
-        let performed : HasPerformed basis after (view_of new) (change.Put value) = record {
+        let changed : IsChanged (one_key basis) after.walk (view_of new) bucket (change.Put value) = subst (λ (p : Phase). Stands p (one_key basis) after.walk (view_of new)) phase makes.stands in
+        let read : HasRead (one_key basis) after.walk.key (view_of new) None = read_of (one_key basis) after.walk.key (view_of new) changed.found None changed.fits changed.read in
+        let performed : HasPerformed (one_key basis) after (view_of new) (change.Put value) = record {
           found = None;
           reply = adds.1.0;
           decided = Add value;
@@ -178,13 +178,13 @@ puts basis old new before after may leaves tells request told = by before.walk.p
         let left : steps_left basis.root before (view_of old) ≡ 0 + steps_to_put_at (at.Adding value bucket depth unsplit) basis.root before.walk (view_of old) + 1 =
         ap (λ (p : Phase). steps_to_bucket p + steps_to_put_at p basis.root before.walk (view_of old) + 1) is in
         record {
-          turn = one_step_turns basis old new before.walk may.walks leaves;
+          turn = one_step_turns (one_key basis) old new before.walk may.walks leaves;
           request = request;
           in_pass = makes.same.pass;
           operates = record {
             target = same_target before after may.operates.target makes.same request;
             stands = makes.stands;
-            fits = subst (λ (p : Phase). FitsPhase p basis after (view_of new)) (sym phase) performed;
+            fits = subst (λ (p : Phase). FitsPhase p (one_key basis) after (view_of new)) (sym phase) performed;
           };
           nearer = omega (arith, ap steps_to_bucket phase);
           fewer = omega (arith, last, left, put_is_left (depth - bucket_depth (view_of old) bucket) (bucket_depth (view_of old) bucket) (directory_depth (view_of old) basis.root));

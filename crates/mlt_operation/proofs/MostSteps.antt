@@ -8,7 +8,7 @@ use Rattle.mlt_hash.specs.Changes.{page_of}
 use Rattle.mlt_hash.specs.Passes.{IsNextPass, next_of}
 use Rattle.mlt_hash.specs.Steps.{steps_to_bucket}
 use Rattle.mlt_hash.specs.StepsLeft.{bucket_depth, directory_depth, steps_of_splits, steps_to_put_at}
-use Rattle.mlt_hash.specs.Walks.{Basis, IsAdding, Stands, WalkFields}
+use Rattle.mlt_hash.specs.Walks.{Basis, IsAdding, Stands, WalkFields, one_key}
 use Rattle.mlt_hash.specs.declared.pass.Pass.{Pass}
 use Rattle.mlt_hash.specs.declared.pass.Pass.TheVariants as pass
 use Rattle.mlt_hash.specs.declared.pass.Phase.{Phase}
@@ -27,7 +27,7 @@ on_way : (root : ℕ) (o : OperationFields) (view : View) → 0 < steps_to_bucke
 on_way root o view more = cond-false (nat_eq (steps_to_bucket o.walk.phase) 0) _ _ (ne_eqb _ _ (λ (there : steps_to_bucket o.walk.phase ≡ 0). omega (arith, more, there)))
 
 -- within its pass
-steps_on : (basis : Basis) (old new : Moment) (before after : OperationFields) → StepsOn basis old new before after
+steps_on : (basis : Basis) (old new : Moment) (before after : OperationFields) → StepsOn (one_key basis) old new before after
     → most_steps basis.root after (view_of new) < most_steps basis.root before (view_of old)
 steps_on basis old new before after s =
     let fewer = s.fewer in
@@ -53,12 +53,12 @@ steps_on basis old new before after s =
     ]
 
 -- at a full bucket that it is to split
-splits : (basis : Basis) (old new : Moment) (before after : OperationFields) → basis.max_depth ≤ 16 → BeginsToSplit basis old new before after
+splits : (basis : Basis) (old new : Moment) (before after : OperationFields) → basis.max_depth ≤ 16 → BeginsToSplit (one_key basis) old new before after
     → most_steps basis.root after (view_of new) < most_steps basis.root before (view_of old)
 splits basis old new before after small s =
     let adding = s.needs.later (λ (first : s.walk.pass ≡ pass.First). s.later (sym s.reaches.same.pass ∙ first)) in
     let phase : Phase = at.Adding s.value (page_of s.walk.phase) adding.0 true in
-    let stands : IsAdding basis after.walk (view_of new) (page_of s.walk.phase) adding.0 true = subst (λ (p : Phase). Stands p basis after.walk (view_of new)) adding.1 s.operates.stands in
+    let stands : IsAdding (one_key basis) after.walk (view_of new) (page_of s.walk.phase) adding.0 true = subst (λ (p : Phase). Stands p (one_key basis) after.walk (view_of new)) adding.1 s.operates.stands in
     let l = bucket_depth (view_of new) (page_of s.walk.phase) in
     let g = directory_depth (view_of new) basis.root in
     let header : g ≡ stands.header.depth = ap (λ p. (header_of p).depth) stands.rest.head in
@@ -77,7 +77,7 @@ after_first pass.First crowded l most g never = absurd never
 after_first pass.Narrow crowded l most g may = omega arith
 after_first pass.Wide crowded l most g not = omega arith
 
-fewer_passes : (basis : Basis) (m : Moment) (walk full : WalkFields) → HasToRestart basis m walk full → passes_after (next_of full.phase) < passes_after walk.pass
+fewer_passes : (basis : Basis) (m : Moment) (walk full : WalkFields) → HasToRestart (one_key basis) m walk full → passes_after (next_of full.phase) < passes_after walk.pass
 fewer_passes basis m walk full (inl (first, (value, needs))) =
     let next = needs.first first in
     let was : passes_after walk.pass ≡ 2 = ap passes_after first in
@@ -90,10 +90,10 @@ fewer_passes basis m walk full (inr widen) =
     omega (arith, was, is)
 
 -- in another pass
-restarts : (basis : Basis) (old new : Moment) (before after : OperationFields) → Restarts basis old new before after
+restarts : (basis : Basis) (old new : Moment) (before after : OperationFields) → Restarts (one_key basis) old new before after
     → most_steps basis.root after (view_of new) < most_steps basis.root before (view_of old)
 restarts basis old new before after s =
-    let less = fewer_passes basis s.back.mid s.walk s.full s.restarts in
+    let less = fewer_passes (one_key basis) s.back.mid s.walk s.full s.restarts in
     let same : passes_after s.walk.pass ≡ passes_after before.walk.pass = ap passes_after s.reaches.same.pass in
     let last = s.reaches.last in
     let was = on_way basis.root before (view_of old) (omega (arith, last)) in
@@ -103,8 +103,8 @@ restarts basis old new before after s =
     omega (arith, less, same, last, was, start, next, is)
 
 -- **Each step that goes on leaves fewer.**
-pub one_fewer_at_least : (basis : Basis) (old new : Moment) (before after : OperationFields) → basis.max_depth ≤ 16 → TellsOfStep basis old new before after step.Going
+pub one_fewer_at_least : (basis : Basis) (old new : Moment) (before after : OperationFields) → basis.max_depth ≤ 16 → TellsOfStep (one_key basis) old new before after step.Going
     → most_steps basis.root after (view_of new) < most_steps basis.root before (view_of old)
-one_fewer_at_least basis old new before after small (inl on) = steps_on basis old new before after on
-one_fewer_at_least basis old new before after small (inr (inl split)) = splits basis old new before after small split
-one_fewer_at_least basis old new before after small (inr (inr again)) = restarts basis old new before after again
+one_fewer_at_least basis old new before after small (inl on) = steps_on (one_key basis) old new before after on
+one_fewer_at_least basis old new before after small (inr (inl split)) = splits (one_key basis) old new before after small split
+one_fewer_at_least basis old new before after small (inr (inr again)) = restarts (one_key basis) old new before after again

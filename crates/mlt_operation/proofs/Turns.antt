@@ -13,16 +13,16 @@ use Rattle.mlt_held.specs.Views.{IsUnwritten, view_of}
 use Rattle.mlt_subtx_laws.proofs.AllEvents.{step_adds_one_page}
 use Rattle.mlt_held.proofs.OwnSteps.{step_keeps_tx}
 use Rattle.mlt_held.proofs.Views.{agrees, make_makes, write_writes}
-use Rattle.mlt_hash.specs.Walks.{Basis, MayWalk, WalkFields}
+use Rattle.mlt_hash.specs.Walks.{Basis, MayWalk, WalkFields, one_key}
 use Rattle.mlt_hash.proofs.Standings.{standing_holds_few}
 use Rattle.mlt_operation.specs.PageTurns.{DiffersOnOnePage, TakesTurn}
 
 -- a walk that may go on holds fewer than 300 pages
-few_held : (basis : Basis) (m : Moment) (walk : WalkFields) → MayWalk basis m walk → page_count m.locks m.running.tx < 300
-few_held basis m walk may = standing_holds_few basis walk (view_of m) may.file.clean may.stands (agrees m may.file.clean may.may may.file.is_clean) may.file.form
+few_held : (basis : Basis) (m : Moment) (walk : WalkFields) → MayWalk (one_key basis) m walk → page_count m.locks m.running.tx < 300
+few_held basis m walk may = standing_holds_few (one_key basis) walk (view_of m) may.file.clean may.stands (agrees m may.file.clean may.may may.file.is_clean) may.file.form
 
-few_after : (basis : Basis) (old new : Moment) (walk : WalkFields) → MayWalk basis old walk → Leaves old new → page_count new.locks old.running.tx ≤ 300
-few_after basis old new walk may leaves = omega (arith, few_held basis old walk may, step_adds_one_page old new leaves.touches)
+few_after : (basis : Basis) (old new : Moment) (walk : WalkFields) → MayWalk (one_key basis) old walk → Leaves old new → page_count new.locks old.running.tx ≤ 300
+few_after basis old new walk may leaves = omega (arith, few_held (one_key basis) old walk may, step_adds_one_page old new leaves.touches)
 
 -- the other pages stay where one is inserted
 others_stay : (pages : Pages) (q : ℕ) (page : Page) (p : ℕ) → p ≢ q → page_at (map.insert pages q page) p ≡ page_at pages p
@@ -46,9 +46,9 @@ nothing_touched : (m : Moment) → TouchesOnePage m m
 nothing_touched m = (0, inl (m, inl refl, inl refl))
 
 -- **A step on one page is a turn.**
-pub one_step_turns : (basis : Basis) (old new : Moment) (walk : WalkFields) → MayWalk basis old walk → Leaves old new → TakesTurn old new
+pub one_step_turns : (basis : Basis) (old new : Moment) (walk : WalkFields) → MayWalk (one_key basis) old walk → Leaves old new → TakesTurn old new
 one_step_turns basis old new walk may leaves =
-    let few = few_after basis old new walk may leaves in
+    let few = few_after (one_key basis) old new walk may leaves in
     record { mid = new; first = leaves.touches; second = nothing_touched new; few_first = few; few = few; one_page = touch_differs old new leaves.touches }
 
 -- what has written nothing has left the store
@@ -64,7 +64,7 @@ touch_keeps_store old new may (q, inl steps) none = write_keeps_store steps.0 ne
 touch_keeps_store old new may (q, inr makes) none = absurd (some_is_none makes.0 ((view_of new).own q) (make_makes old new q makes.0 may makes.1).own_here (none q))
 
 -- **So are a lock and a write of one page.**
-pub two_steps_turn : (basis : Basis) (old mid new : Moment) (walk at : WalkFields) → MayWalk basis old walk → Leaves old mid → MayWalk basis mid at → IsUnwritten (view_of mid)
+pub two_steps_turn : (basis : Basis) (old mid new : Moment) (walk at : WalkFields) → MayWalk (one_key basis) old walk → Leaves old mid → MayWalk (one_key basis) mid at → IsUnwritten (view_of mid)
     → Leaves mid new → (q : ℕ) × WritesAtMost mid new q → TakesTurn old new
 two_steps_turn basis old mid new walk at may leaves may_mid none more writes =
     let stored : mid.store ≡ old.store = touch_keeps_store old mid may.may leaves.touches none in
@@ -73,7 +73,7 @@ two_steps_turn basis old mid new walk at may leaves may_mid none more writes =
       mid = mid;
       first = leaves.touches;
       second = more.touches;
-      few_first = few_after basis old mid walk may leaves;
-      few = subst (λ (t : ℕ). page_count new.locks t ≤ 300) tx (few_after basis mid new at may_mid more);
+      few_first = few_after (one_key basis) old mid walk may leaves;
+      few = subst (λ (t : ℕ). page_count new.locks t ≤ 300) tx (few_after (one_key basis) mid new at may_mid more);
       one_page = (writes.0, λ p ne. write_differs mid new writes.0 writes.1 p ne ∙ ap (λ (s : PageStore). page_at s.pages p) stored);
     }

@@ -3,7 +3,7 @@
 ghost use Rattle.std.specs.Prelude.{ℕ, ◌≡◌, ◌<◌, ◌≤◌};
 ghost use Rattle.mlt_held.specs.Moments.{Moment};
 ghost use Rattle.mlt_held.specs.Views.{View, view_of};
-ghost use Rattle.mlt_hash.specs.Walks.{Basis};
+ghost use Rattle.mlt_hash.specs.Walks.{Basis, one_key};
 ghost use Rattle.mlt_operation.specs.Answers.{TellsOfStep};
 ghost use Rattle.mlt_operation.specs.MostSteps.{most_steps};
 ghost use Rattle.mlt_operation.specs.Operating.{OperationFields, started_for};
@@ -14,7 +14,7 @@ ghost use Rattle.mlt_operation.specs.declared.request.Request.{Request};
 /// among them, and those aside that wait.
 pub fn operations_come_to_an_end()
     ensures fewer { (basis : Basis) (old new : Moment) (before after : OperationFields)
-        → basis.max_depth ≤ 16 → TellsOfStep basis old new before after answer.Going
+        → basis.max_depth ≤ 16 → TellsOfStep (one_key basis) old new before after answer.Going
         → most_steps basis.root after (view_of new)
         < most_steps basis.root before (view_of old) }
     ensures in_all { (root : ℕ) (request : Request) (view : View)
