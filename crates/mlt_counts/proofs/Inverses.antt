@@ -6,7 +6,7 @@ use Rattle.mlt_base.specs.Effects.{inverse_of}
 use Rattle.mlt_undo.specs.Undo.{Undo}
 use Rattle.mlt_held.specs.Moments.{moment}
 use Rattle.mlt_held.specs.Views.{View, view_of}
-use Rattle.mlt_hash.specs.Walks.{Basis}
+use Rattle.mlt_hash.specs.Walks.{Basis, one_key}
 use Rattle.mlt_operation.specs.Answers.{StepsOn, Waits}
 use Rattle.mlt_operation.specs.Operating.{OperationFields, steps_left}
 use Rattle.mlt_event.specs.declared.answer.Answer.{Answer}
@@ -61,7 +61,7 @@ record Goes (basis : Basis) (n : ℕ) (last : ObjOp × ObjReply) (own : OwnStep)
   next : Option OperationFields
   m : ℕ
   one_fewer : suc m ≡ n
-  stage : Stage basis m next last own.after (view_in own.after own.new)
+  stage : Stage (one_key basis) m next last own.after (view_in own.after own.new)
 
 -- it waits, and stands where it stood
 record Stays (basis : Basis) (n : ℕ) (last : ObjOp × ObjReply) (own : OwnStep) : Type 0 where
@@ -69,7 +69,7 @@ record Stays (basis : Basis) (n : ℕ) (last : ObjOp × ObjReply) (own : OwnStep
   by : ℕ
   waiting : own.told ≡ answer.Waiting page by
   next : Option OperationFields
-  stage : Stage basis n next last own.after (view_in own.after own.new)
+  stage : Stage (one_key basis) n next last own.after (view_in own.after own.new)
 
 -- it is at its end
 record Ended (n : ℕ) (own : OwnStep) : Type 0 where
@@ -79,19 +79,19 @@ record Ended (n : ℕ) (own : OwnStep) : Type 0 where
 no_some : {A : Type 0} (o : OperationFields) → Some o ≡ None → A
 no_some o is = cc
 
-module _ (basis : Basis) (n : ℕ) (inverting : Option OperationFields) (last : ObjOp × ObjReply) (t : Transaction) (seen : View) (own : OwnStep) (more : List OwnStep) (stage : Stage basis n inverting last t seen) (sees : view_in t own.old ≡ seen) where
-  back_step : TellsOfTransaction (basis_at basis own) t own.after own.old own.new own.told → StepsBack (basis_at basis own) inverting t own.after own.old own.new own.told
-  back_step tells = subst (λ (a : At). TellsAt a (basis_at basis own) t own.after own.old own.new own.told) stage.undoing tells
+module _ (basis : Basis) (n : ℕ) (inverting : Option OperationFields) (last : ObjOp × ObjReply) (t : Transaction) (seen : View) (own : OwnStep) (more : List OwnStep) (stage : Stage (one_key basis) n inverting last t seen) (sees : view_in t own.old ≡ seen) where
+  back_step : TellsOfTransaction (basis_at (one_key basis) own) t own.after own.old own.new own.told → StepsBack (basis_at (one_key basis) own) inverting t own.after own.old own.new own.told
+  back_step tells = subst (λ (a : At). TellsAt a (basis_at (one_key basis) own) t own.after own.old own.new own.told) stage.undoing tells
 
-  by_answer : (told : Answer) → own.told ≡ told → n ≤ 4 → 1 ≤ n → StepsBack (basis_at basis own) inverting t own.after own.old own.new told
-      → Stays basis n last own ⊎ Goes basis n last own ⊎ Ended n own
+  by_answer : (told : Answer) → own.told ≡ told → n ≤ 4 → 1 ≤ n → StepsBack (basis_at (one_key basis) own) inverting t own.after own.old own.new told
+      → Stays (one_key basis) n last own ⊎ Goes (one_key basis) n last own ⊎ Ended n own
   by_answer answer.Going is few some s =
       let w = s.tells in
       let same : w.last ≡ last = one_last t.undo.entries w.front stage.front w.last last w.entries stage.entries in
-      let on : StepsOn (basis_at basis own) (moment t.subtx own.old.pages) (moment own.after.subtx own.new.pages) (inverse_from inverting last) w.after =
-      subst (λ (item : ObjOp × ObjReply). StepsOn (basis_at basis own) (moment t.subtx own.old.pages) (moment own.after.subtx own.new.pages) (inverse_from inverting item) w.after) same w.tells in
+      let on : StepsOn (basis_at (one_key basis) own) (moment t.subtx own.old.pages) (moment own.after.subtx own.new.pages) (inverse_from inverting last) w.after =
+      subst (λ (item : ObjOp × ObjReply). StepsOn (basis_at (one_key basis) own) (moment t.subtx own.old.pages) (moment own.after.subtx own.new.pages) (inverse_from inverting item) w.after) same w.tells in
       let seen' = view_in own.after own.new in
-      let one = one_fewer_after basis n (inverse_from inverting last) w.after t seen own sees stage.left few on in
+      let one = one_fewer_after (one_key basis) n (inverse_from inverting last) w.after t seen own sees stage.left few on in
       inr (inl (record {
         going = is;
         next = Some w.after;
@@ -103,15 +103,15 @@ module _ (basis : Basis) (n : ℕ) (inverting : Option OperationFields) (last : 
           entries = ap (λ (u : Undo). u.entries) w.rest.undo_kept ∙ stage.entries;
           begins = no_some w.after;
           left = refl;
-          told = told_at_last w.after.walk.phase (basis_at basis own) w.after seen' on.operates.stands on.operates.fits;
-          untold = untold_before w.after.walk.phase (basis_at basis own) w.after seen' on.operates.fits;
+          told = told_at_last w.after.walk.phase (basis_at (one_key basis) own) w.after seen' on.operates.stands on.operates.fits;
+          untold = untold_before w.after.walk.phase (basis_at (one_key basis) own) w.after seen' on.operates.fits;
         };
       }))
   by_answer (answer.Waiting page by) is few some s =
       let w = s.tells in
       let same : w.last ≡ last = one_last t.undo.entries w.front stage.front w.last last w.entries stage.entries in
-      let waits : Waits (basis_at basis own) (moment t.subtx own.old.pages) (moment own.after.subtx own.new.pages) (inverse_from inverting last) w.after page by =
-      subst (λ (item : ObjOp × ObjReply). Waits (basis_at basis own) (moment t.subtx own.old.pages) (moment own.after.subtx own.new.pages) (inverse_from inverting item) w.after page by) same w.tells in
+      let waits : Waits (basis_at (one_key basis) own) (moment t.subtx own.old.pages) (moment own.after.subtx own.new.pages) (inverse_from inverting last) w.after page by =
+      subst (λ (item : ObjOp × ObjReply). Waits (basis_at (one_key basis) own) (moment t.subtx own.old.pages) (moment own.after.subtx own.new.pages) (inverse_from inverting item) w.after page by) same w.tells in
       let view : view_in own.after own.new ≡ seen = ap view_of waits.pages ∙ sees in
       inl (record {
         page = page;
@@ -141,7 +141,7 @@ module _ (basis : Basis) (n : ℕ) (inverting : Option OperationFields) (last : 
   by_answer (answer.Refused reason) is few some s = absurd s.tells
 
   -- **A step of an inverse.**
-  inverse_step : n ≤ 4 → 1 ≤ n → TellsOfTransaction (basis_at basis own) t own.after own.old own.new own.told → Stays basis n last own ⊎ Goes basis n last own ⊎ Ended n own
+  inverse_step : n ≤ 4 → 1 ≤ n → TellsOfTransaction (basis_at (one_key basis) own) t own.after own.old own.new own.told → Stays (one_key basis) n last own ⊎ Goes (one_key basis) n last own ⊎ Ended n own
   inverse_step few some tells = by_answer own.told refl few some (back_step tells)
 
 taken_then : (told : Answer) (rest : List Answer) → IsTakenBack told → GoesThen 0 IsTakenBack (with_answer told rest)
@@ -150,31 +150,31 @@ taken_then answer.Aborted rest is = tt
 taken_then other rest is = absurd is
 
 -- at the last step of an inverse it can't go on
-none_behind : {A : Type 0} (basis : Basis) (m : ℕ) (next : Option OperationFields) (last : ObjOp × ObjReply) (t : Transaction) (seen : View) → suc m ≡ 1 → Stage basis m next last t seen → A
+none_behind : {A : Type 0} (basis : Basis) (m : ℕ) (next : Option OperationFields) (last : ObjOp × ObjReply) (t : Transaction) (seen : View) → suc m ≡ 1 → Stage (one_key basis) m next last t seen → A
 none_behind basis m next last t seen one stage = let left = stage.left in absurd (omega (arith, one, left))
 
 to_end : (basis : Basis) (steps : List OwnStep) (n : ℕ) (inverting : Option OperationFields) (last : ObjOp × ObjReply) (t : Transaction) (seen : View)
-    → Stage basis (suc n) inverting last t seen → n ≤ 3 → AreOwnSteps basis t seen steps → GoesThen n IsTakenBack (answers_of steps)
+    → Stage (one_key basis) (suc n) inverting last t seen → n ≤ 3 → AreOwnSteps (one_key basis) t seen steps → GoesThen n IsTakenBack (answers_of steps)
 to_end basis [] zero inverting last t seen stage few own = tt
 to_end basis [] (suc m) inverting last t seen stage few own = tt
-to_end basis (step ∷ more) zero inverting last t seen stage few own = elim (inverse_step basis 1 inverting last t seen step more stage own.0 (omega arith) (omega arith) own.1) [
-  | inl waits ↦ then_after_wait step more 0 waits.page waits.by IsTakenBack waits.waiting (to_end basis more 0 waits.next last step.after (view_in step.after step.new) waits.stage few own.2)
-  | inr (inl goes) ↦ none_behind basis goes.m goes.next last step.after (view_in step.after step.new) goes.one_fewer goes.stage
+to_end basis (step ∷ more) zero inverting last t seen stage few own = elim (inverse_step (one_key basis) 1 inverting last t seen step more stage own.0 (omega arith) (omega arith) own.1) [
+  | inl waits ↦ then_after_wait step more 0 waits.page waits.by IsTakenBack waits.waiting (to_end (one_key basis) more 0 waits.next last step.after (view_in step.after step.new) waits.stage few own.2)
+  | inr (inl goes) ↦ none_behind (one_key basis) goes.m goes.next last step.after (view_in step.after step.new) goes.one_fewer goes.stage
   | inr (inr ended) ↦ taken_then step.told (answers_of more) ended.taken
 ]
-to_end basis (step ∷ more) (suc m) inverting last t seen stage few own = elim (inverse_step basis (suc (suc m)) inverting last t seen step more stage own.0 (omega (arith, few)) (omega arith) own.1) [
-  | inl waits ↦ then_after_wait step more (suc m) waits.page waits.by IsTakenBack waits.waiting (to_end basis more (suc m) waits.next last step.after (view_in step.after step.new) waits.stage few own.2)
+to_end basis (step ∷ more) (suc m) inverting last t seen stage few own = elim (inverse_step (one_key basis) (suc (suc m)) inverting last t seen step more stage own.0 (omega (arith, few)) (omega arith) own.1) [
+  | inl waits ↦ then_after_wait step more (suc m) waits.page waits.by IsTakenBack waits.waiting (to_end (one_key basis) more (suc m) waits.next last step.after (view_in step.after step.new) waits.stage few own.2)
   | inr (inl goes) ↦
       let one = goes.one_fewer in
       let is : goes.m ≡ suc m = omega (arith, one) in
       then_after_going step more m IsTakenBack goes.going
-      (to_end basis more m goes.next last step.after (view_in step.after step.new) (subst (λ (k : ℕ). Stage basis k goes.next last step.after (view_in step.after step.new)) is goes.stage) (omega (arith, few)) own.2)
+      (to_end (one_key basis) more m goes.next last step.after (view_in step.after step.new) (subst (λ (k : ℕ). Stage (one_key basis) k goes.next last step.after (view_in step.after step.new)) is goes.stage) (omega (arith, few)) own.2)
   | inr (inr ended) ↦ absurd (ended.last_one (omega arith))
 ]
 
 -- one without an inverse
 at_once : (basis : Basis) (t : Transaction) (last : ObjOp × ObjReply) (seen : View) (step : OwnStep) (more : List OwnStep) → IsToTakeBack t last → inverse_of last ≡ None
-    → (told : Answer) → step.told ≡ told → StepsBack (basis_at basis step) None t step.after step.old step.new told → IsTakenBack step.told
+    → (told : Answer) → step.told ≡ told → StepsBack (basis_at (one_key basis) step) None t step.after step.old step.new told → IsTakenBack step.told
 at_once basis t last seen step more to none answer.Going is s =
     let same : s.tells.last ≡ last = one_last t.undo.entries s.tells.front to.front s.tells.last last s.tells.entries to.entries in
     not_both (inverse_of s.tells.last) (s.tells.begins refl) (ap inverse_of same ∙ none)
@@ -187,17 +187,17 @@ at_once basis t last seen step more to none (answer.Blocked by) is s = absurd s.
 at_once basis t last seen step more to none (answer.Done reply) is s = absurd s.tells
 at_once basis t last seen step more to none (answer.Refused reason) is s = absurd s.tells
 
-without_inverse : (basis : Basis) (t : Transaction) (last : ObjOp × ObjReply) (seen : View) (steps : List OwnStep) → IsToTakeBack t last → AreOwnSteps basis t seen steps → inverse_of last ≡ None → GoesThen 0 IsTakenBack (answers_of steps)
+without_inverse : (basis : Basis) (t : Transaction) (last : ObjOp × ObjReply) (seen : View) (steps : List OwnStep) → IsToTakeBack t last → AreOwnSteps (one_key basis) t seen steps → inverse_of last ≡ None → GoesThen 0 IsTakenBack (answers_of steps)
 without_inverse basis t last seen [] to own none = tt
 without_inverse basis t last seen (step ∷ more) to own none =
     taken_then step.told (answers_of more)
-    (at_once basis t last seen step more to none step.told refl
-    (subst (λ (a : At). TellsAt a (basis_at basis step) t step.after step.old step.new step.told) to.undoing own.1))
+    (at_once (one_key basis) t last seen step more to none step.told refl
+    (subst (λ (a : At). TellsAt a (basis_at (one_key basis) step) t step.after step.old step.new step.told) to.undoing own.1))
 
 -- **An inverse.**
-pub taken_back : (basis : Basis) (t : Transaction) (last : ObjOp × ObjReply) (seen : View) (steps : List OwnStep) → IsToTakeBack t last → AreOwnSteps basis t seen steps → TakesBackInFour last steps
+pub taken_back : (basis : Basis) (t : Transaction) (last : ObjOp × ObjReply) (seen : View) (steps : List OwnStep) → IsToTakeBack t last → AreOwnSteps (one_key basis) t seen steps → TakesBackInFour last steps
 taken_back basis t last seen steps to own = record {
-  inverse = λ some. to_end basis steps 3 None last t seen (record {
+  inverse = λ some. to_end (one_key basis) steps 3 None last t seen (record {
     undoing = to.undoing;
     front = to.front;
     entries = to.entries;
@@ -206,5 +206,5 @@ taken_back basis t last seen steps to own = record {
     told = λ (last : 4 ≡ 1). absurd (omega (arith, last));
     untold = λ two. refl;
   }) (omega arith) own;
-  none = without_inverse basis t last seen steps to own;
+  none = without_inverse (one_key basis) t last seen steps to own;
 }

@@ -9,7 +9,7 @@ use Rattle.mlt_hash.specs.Changes.{page_of}
 use Rattle.mlt_hash.specs.Passes.{IsNextPass, next_of}
 use Rattle.mlt_hash.specs.Steps.{steps_to_bucket}
 use Rattle.mlt_hash.specs.StepsLeft.{bucket_depth, directory_depth, steps_to_put_at}
-use Rattle.mlt_hash.specs.Walks.{Basis, IsAdding, Stands, WalkFields}
+use Rattle.mlt_hash.specs.Walks.{Basis, IsAdding, Stands, WalkFields, one_key}
 use Rattle.mlt_hash.specs.declared.pass.Pass.{Pass}
 use Rattle.mlt_hash.specs.declared.pass.Pass.TheVariants as pass
 use Rattle.mlt_hash.specs.declared.pass.Phase.{Phase}
@@ -45,7 +45,7 @@ after_first pass.First crowded l most g never = absurd never
 after_first pass.Narrow crowded l most g may = inl refl
 after_first pass.Wide crowded l most g not = inr refl
 
-follows : (basis : Basis) (m : Moment) (walk full : WalkFields) (p : Pass) → walk.pass ≡ p → HasToRestart basis m walk full → MayFollow p (next_of full.phase)
+follows : (basis : Basis) (m : Moment) (walk full : WalkFields) (p : Pass) → walk.pass ≡ p → HasToRestart (one_key basis) m walk full → MayFollow p (next_of full.phase)
 follows basis m walk full p is (inl (first, (value, needs))) =
     let next = needs.first first in
     subst (λ (q : Pass). MayFollow q (next_of full.phase)) (sym first ∙ is)
@@ -55,45 +55,45 @@ follows basis m walk full p is (inr widen) =
     (subst (λ (q : Phase). MayFollow pass.Narrow (next_of q)) (sym widen.phase) refl)
 
 -- what is begun again is the same operation, started in the next pass
-begun_anew : (basis : Basis) (old new : Moment) (op : ObjOp) (before next : OperationFields) → before.request ≡ Do op → (r : Restarts basis old new before next)
+begun_anew : (basis : Basis) (old new : Moment) (op : ObjOp) (before next : OperationFields) → before.request ≡ Do op → (r : Restarts (one_key basis) old new before next)
     → next ≡ started_in (Do op) (next_of r.full.phase)
 begun_anew basis old new op before next asked r =
     let request : next.request ≡ Do op = r.request ∙ asked in
     let key : r.full.key ≡ (target_of (Do op)).0 = sym (ap (λ (w : WalkFields). w.key) r.again) ∙ ap (λ (k : ℕ × Mode). k.0) r.operates.target ∙ ap (λ (q : Request). (target_of q).0) request in
     let mode : r.full.mode ≡ (target_of (Do op)).1 = sym (ap (λ (w : WalkFields). w.mode) r.again) ∙ ap (λ (k : ℕ × Mode). k.1) r.operates.target ∙ ap (λ (q : Request). (target_of q).1) request in
     let walk : next.walk ≡ (started_in (Do op) (next_of r.full.phase)).walk = r.again ∙ (λ i. record { key = key i; mode = mode i; pass = next_of r.full.phase; phase = phase.Start; split = None }) in
-    let untold : next.reply ≡ None = subst (λ (q : Phase). FitsPhase q basis next (view_of new)) (ap (λ (w : WalkFields). w.phase) r.again) r.operates.fits in
+    let untold : next.reply ≡ None = subst (λ (q : Phase). FitsPhase q (one_key basis) next (view_of new)) (ap (λ (w : WalkFields). w.phase) r.again) r.operates.fits in
     λ i. record { request = request i; reply = untold i; walk = walk i }
 
-module _ (basis : Basis) (op : ObjOp) (n : ℕ) (p : Pass) (o : OperationFields) (t : Transaction) (seen : View) (step : OwnStep) (more : List OwnStep) (stage : Stage basis op n p o t seen) (goes : Goes basis o t step) where
+module _ (basis : Basis) (op : ObjOp) (n : ℕ) (p : Pass) (o : OperationFields) (t : Transaction) (seen : View) (step : OwnStep) (more : List OwnStep) (stage : Stage (one_key basis) op n p o t seen) (goes : Goes (one_key basis) o t step) where
   -- a pass that is given up
-  pub no_room : (Then : Pass → List OwnStep → Type 0) → ((next : Pass) (t : Transaction) (seen : View) (steps : List OwnStep) → MayFollow p next → t.at ≡ at.Pending (started_in (Do op) next) → AreOwnSteps basis t seen steps → Then next steps)
-      → Restarts (basis_at basis step) (moment t.subtx step.old.pages) (moment step.after.subtx step.new.pages) o goes.next
-      → AreOwnSteps basis step.after (view_in step.after step.new) more → FindsNoRoom basis op p Then t step more
+  pub no_room : (Then : Pass → List OwnStep → Type 0) → ((next : Pass) (t : Transaction) (seen : View) (steps : List OwnStep) → MayFollow p next → t.at ≡ at.Pending (started_in (Do op) next) → AreOwnSteps (one_key basis) t seen steps → Then next steps)
+      → Restarts (basis_at (one_key basis) step) (moment t.subtx step.old.pages) (moment step.after.subtx step.new.pages) o goes.next
+      → AreOwnSteps (one_key basis) step.after (view_in step.after step.new) more → FindsNoRoom (one_key basis) op p Then t step more
   no_room Then then r own =
       let next = next_of r.full.phase in
-      let may = follows (basis_at basis step) r.back.mid r.walk r.full p (r.reaches.same.pass ∙ stage.in_pass) r.restarts in
-      let anew = begun_anew (basis_at basis step) (moment t.subtx step.old.pages) (moment step.after.subtx step.new.pages) op o goes.next stage.asked r in
+      let may = follows (basis_at (one_key basis) step) r.back.mid r.walk r.full p (r.reaches.same.pass ∙ stage.in_pass) r.restarts in
+      let anew = begun_anew (basis_at (one_key basis) step) (moment t.subtx step.old.pages) (moment step.after.subtx step.new.pages) op o goes.next stage.asked r in
       record {
         o = o;
         pending = stage.pending;
         next = next;
         follows = may;
         begins = goes.now_at ∙ ap at.Pending anew;
-        restarts = subst (Restarts (basis_at basis step) (moment t.subtx step.old.pages) (moment step.after.subtx step.new.pages) o) anew r;
+        restarts = subst (Restarts (basis_at (one_key basis) step) (moment t.subtx step.old.pages) (moment step.after.subtx step.new.pages) o) anew r;
         later = then next step.after (view_in step.after step.new) more may (goes.now_at ∙ ap at.Pending anew) own;
       }
 
   -- a pass that splits
-  pub splitting : (s : BeginsToSplit (basis_at basis step) (moment t.subtx step.old.pages) (moment step.after.subtx step.new.pages) o goes.next)
-      → AreOwnSteps basis step.after (view_in step.after step.new) more → BeginsSplits basis t step more
+  pub splitting : (s : BeginsToSplit (basis_at (one_key basis) step) (moment t.subtx step.old.pages) (moment step.after.subtx step.new.pages) o goes.next)
+      → AreOwnSteps (one_key basis) step.after (view_in step.after step.new) more → BeginsSplits (one_key basis) t step more
   splitting s own =
       let seen' = view_in step.after step.new in
       let q = page_of s.walk.phase in
       let adding = s.needs.later (λ (first : s.walk.pass ≡ pass.First). s.later (sym s.reaches.same.pass ∙ first)) in
       let is : goes.next.walk.phase ≡ phase.Adding s.value q adding.0 true = adding.1 in
-      let stands : IsAdding (basis_at basis step) goes.next.walk seen' q adding.0 true = subst (λ (x : Phase). Stands x (basis_at basis step) goes.next.walk seen') is s.operates.stands in
-      let adds : IsToAdd goes.next s.value = subst (λ (x : Phase). FitsPhase x (basis_at basis step) goes.next seen') is s.operates.fits in
+      let stands : IsAdding (basis_at (one_key basis) step) goes.next.walk seen' q adding.0 true = subst (λ (x : Phase). Stands x (basis_at (one_key basis) step) goes.next.walk seen') is s.operates.stands in
+      let adds : IsToAdd goes.next s.value = subst (λ (x : Phase). FitsPhase x (basis_at (one_key basis) step) goes.next seen') is s.operates.fits in
       let l = bucket_depth seen' q in
       let g = directory_depth seen' basis.root in
       let deep : l ≡ stands.fields.depth = ap (λ x. (bucket_of x).depth) stands.rest.found in
@@ -116,7 +116,7 @@ module _ (basis : Basis) (op : ObjOp) (n : ℕ) (p : Pass) (o : OperationFields)
           deeper = omega (arith, deep, deeper);
           most = stands.most;
         };
-        ends = splits_and_puts basis op more p goes.next step.after seen' s.value q l g adding.0 goes.now_at (s.request ∙ stage.asked) (s.in_pass ∙ stage.in_pass) is refl refl (omega (arith, deep, deeper)) adds.0 own;
+        ends = splits_and_puts (one_key basis) op more p goes.next step.after seen' s.value q l g adding.0 goes.now_at (s.request ∙ stage.asked) (s.in_pass ∙ stage.in_pass) is refl refl (omega (arith, deep, deeper)) adds.0 own;
       }
 
 -- how a pass comes to its third step, or what becomes of it there
@@ -124,64 +124,64 @@ abbrev Third : Basis → ObjOp → (Pass → List OwnStep → Type 0) → Pass �
 Third basis op Then p n steps =
     GoesThen n IsDoneOrBlocked (answers_of steps)
     ⊎ (GoesUpTo n IsRefusal (answers_of steps) × (p ≡ pass.First → ⊥))
-    ⊎ (GoesToTurn basis n (BeginsSplits basis) steps × (p ≡ pass.First → ⊥))
-    ⊎ GoesToTurn basis n (FindsNoRoom basis op p Then) steps
+    ⊎ (GoesToTurn (one_key basis) n (BeginsSplits (one_key basis)) steps × (p ≡ pass.First → ⊥))
+    ⊎ GoesToTurn (one_key basis) n (FindsNoRoom (one_key basis) op p Then) steps
 
-third_after_wait : (basis : Basis) (op : ObjOp) (Then : Pass → List OwnStep → Type 0) (p : Pass) (n page by : ℕ) (step : OwnStep) (more : List OwnStep) → step.told ≡ answer.Waiting page by → Third basis op Then p n more → Third basis op Then p n (step ∷ more)
+third_after_wait : (basis : Basis) (op : ObjOp) (Then : Pass → List OwnStep → Type 0) (p : Pass) (n page by : ℕ) (step : OwnStep) (more : List OwnStep) → step.told ≡ answer.Waiting page by → Third (one_key basis) op Then p n more → Third (one_key basis) op Then p n (step ∷ more)
 third_after_wait basis op Then p n page by step more waits (inl then) = inl (then_after_wait step more n page by IsDoneOrBlocked waits then)
 third_after_wait basis op Then p n page by step more waits (inr (inl (away, later))) = inr (inl (up_to_after_wait step more n page by IsRefusal waits away, later))
-third_after_wait basis op Then p n page by step more waits (inr (inr (inl (splits, later)))) = inr (inr (inl (turn_after_wait step more basis n page by (BeginsSplits basis) waits splits, later)))
-third_after_wait basis op Then p n page by step more waits (inr (inr (inr none))) = inr (inr (inr (turn_after_wait step more basis n page by (FindsNoRoom basis op p Then) waits none)))
+third_after_wait basis op Then p n page by step more waits (inr (inr (inl (splits, later)))) = inr (inr (inl (turn_after_wait step more (one_key basis) n page by (BeginsSplits (one_key basis)) waits splits, later)))
+third_after_wait basis op Then p n page by step more waits (inr (inr (inr none))) = inr (inr (inr (turn_after_wait step more (one_key basis) n page by (FindsNoRoom (one_key basis) op p Then) waits none)))
 
-third_after_going : (basis : Basis) (op : ObjOp) (Then : Pass → List OwnStep → Type 0) (p : Pass) (n : ℕ) (step : OwnStep) (more : List OwnStep) → step.told ≡ answer.Going → Third basis op Then p n more → Third basis op Then p (suc n) (step ∷ more)
+third_after_going : (basis : Basis) (op : ObjOp) (Then : Pass → List OwnStep → Type 0) (p : Pass) (n : ℕ) (step : OwnStep) (more : List OwnStep) → step.told ≡ answer.Going → Third (one_key basis) op Then p n more → Third (one_key basis) op Then p (suc n) (step ∷ more)
 third_after_going basis op Then p n step more goes (inl then) = inl (then_after_going step more n IsDoneOrBlocked goes then)
 third_after_going basis op Then p n step more goes (inr (inl (away, later))) = inr (inl (up_to_after_going step more n IsRefusal goes away, later))
-third_after_going basis op Then p n step more goes (inr (inr (inl (splits, later)))) = inr (inr (inl (turn_after_going step more basis n (BeginsSplits basis) goes splits, later)))
-third_after_going basis op Then p n step more goes (inr (inr (inr none))) = inr (inr (inr (turn_after_going step more basis n (FindsNoRoom basis op p Then) goes none)))
+third_after_going basis op Then p n step more goes (inr (inr (inl (splits, later)))) = inr (inr (inl (turn_after_going step more (one_key basis) n (BeginsSplits (one_key basis)) goes splits, later)))
+third_after_going basis op Then p n step more goes (inr (inr (inr none))) = inr (inr (inr (turn_after_going step more (one_key basis) n (FindsNoRoom (one_key basis) op p Then) goes none)))
 
 -- at the step to the bucket one more answer says that it goes on
 last_of_way : (m root : ℕ) (o : OperationFields) (view : View) → steps_left root o view ≡ suc (suc m) → steps_to_bucket o.walk.phase ≡ 1 → m ≡ 0
 last_of_way m root o view left last = let two = two_left root o view last in omega (arith, left, two)
 
-to_third : (basis : Basis) (op : ObjOp) (Then : Pass → List OwnStep → Type 0) (p : Pass) (then : (next : Pass) (t : Transaction) (seen : View) (steps : List OwnStep) → MayFollow p next → t.at ≡ at.Pending (started_in (Do op) next) → AreOwnSteps basis t seen steps → Then next steps)
+to_third : (basis : Basis) (op : ObjOp) (Then : Pass → List OwnStep → Type 0) (p : Pass) (then : (next : Pass) (t : Transaction) (seen : View) (steps : List OwnStep) → MayFollow p next → t.at ≡ at.Pending (started_in (Do op) next) → AreOwnSteps (one_key basis) t seen steps → Then next steps)
     (steps : List OwnStep) (n : ℕ) (o : OperationFields) (t : Transaction) (seen : View)
-    → Stage basis op (suc n) p o t seen → n ≤ 3 → AreOwnSteps basis t seen steps → Third basis op Then p n steps
+    → Stage (one_key basis) op (suc n) p o t seen → n ≤ 3 → AreOwnSteps (one_key basis) t seen steps → Third (one_key basis) op Then p n steps
 to_third basis op Then p then [] zero o t seen stage few own = inl tt
 to_third basis op Then p then [] (suc m) o t seen stage few own = inl tt
 to_third basis op Then p then (step ∷ more) zero o t seen stage few own =
-    inl (ended_then step.told (answers_of more) (last_step basis op 1 p o t seen step stage own.0 refl own.1))
+    inl (ended_then step.told (answers_of more) (last_step (one_key basis) op 1 p o t seen step stage own.0 refl own.1))
 to_third basis op Then p then (step ∷ more) (suc m) o t seen stage few own =
-    elim (one_step basis op (suc (suc m)) p o t seen step stage own.0 (omega arith) own.1) [
-      | inl waits ↦ third_after_wait basis op Then p (suc m) waits.page waits.by step more waits.waiting
-          (to_third basis op Then p then more (suc m) o step.after (view_in step.after step.new) waits.stage few own.2)
+    elim (one_step (one_key basis) op (suc (suc m)) p o t seen step stage own.0 (omega arith) own.1) [
+      | inl waits ↦ third_after_wait (one_key basis) op Then p (suc m) waits.page waits.by step more waits.waiting
+          (to_third (one_key basis) op Then p then more (suc m) o step.after (view_in step.after step.new) waits.stage few own.2)
       | inr (inr away) ↦ inr (inl (refused_in m IsRefusal (λ told is. is) step.told (answers_of more) away.refused, away.later))
       | inr (inl goes) ↦ elim goes.tells [
         | inl on ↦
-            let one = one_fewer_after basis (suc (suc m)) o goes.next t seen step own.0 stage.left (omega (arith, few)) on in
+            let one = one_fewer_after (one_key basis) (suc (suc m)) o goes.next t seen step own.0 stage.left (omega (arith, few)) on in
             let left : steps_left basis.root goes.next (view_in step.after step.new) ≡ suc m = omega (arith, one) in
-            third_after_going basis op Then p m step more goes.going
-            (to_third basis op Then p then more m goes.next step.after (view_in step.after step.new)
-            (subst (λ (n : ℕ). Stage basis op n p goes.next step.after (view_in step.after step.new)) left (on_stage basis op (suc (suc m)) p o t seen step stage own.0 goes on)) (omega (arith, few)) own.2)
+            third_after_going (one_key basis) op Then p m step more goes.going
+            (to_third (one_key basis) op Then p then more m goes.next step.after (view_in step.after step.new)
+            (subst (λ (n : ℕ). Stage (one_key basis) op n p goes.next step.after (view_in step.after step.new)) left (on_stage (one_key basis) op (suc (suc m)) p o t seen step stage own.0 goes on)) (omega (arith, few)) own.2)
         | inr (inl splits) ↦
             let first : m ≡ 0 = last_of_way m basis.root o seen stage.left splits.reaches.last in
-            subst (λ (n : ℕ). Third basis op Then p (suc n) (step ∷ more)) (sym first)
-            (inr (inr (inl (turn_here step more basis (BeginsSplits basis) t goes.going (splitting basis op (suc (suc m)) p o t seen step more stage goes splits own.2) own.2, λ is. splits.later (stage.in_pass ∙ is)))))
+            subst (λ (n : ℕ). Third (one_key basis) op Then p (suc n) (step ∷ more)) (sym first)
+            (inr (inr (inl (turn_here step more (one_key basis) (BeginsSplits (one_key basis)) t goes.going (splitting (one_key basis) op (suc (suc m)) p o t seen step more stage goes splits own.2) own.2, λ is. splits.later (stage.in_pass ∙ is)))))
         | inr (inr again) ↦
             let first : m ≡ 0 = last_of_way m basis.root o seen stage.left again.reaches.last in
-            subst (λ (n : ℕ). Third basis op Then p (suc n) (step ∷ more)) (sym first)
-            (inr (inr (inr (turn_here step more basis (FindsNoRoom basis op p Then) t goes.going (no_room basis op (suc (suc m)) p o t seen step more stage goes Then then again own.2) own.2))))
+            subst (λ (n : ℕ). Third (one_key basis) op Then p (suc n) (step ∷ more)) (sym first)
+            (inr (inr (inr (turn_here step more (one_key basis) (FindsNoRoom (one_key basis) op p Then) t goes.going (no_room (one_key basis) op (suc (suc m)) p o t seen step more stage goes Then then again own.2) own.2))))
       ]
     ]
 
-from_start : (basis : Basis) (op : ObjOp) (Then : Pass → List OwnStep → Type 0) (p : Pass) (then : (next : Pass) (t : Transaction) (seen : View) (steps : List OwnStep) → MayFollow p next → t.at ≡ at.Pending (started_in (Do op) next) → AreOwnSteps basis t seen steps → Then next steps)
-    (t : Transaction) (seen : View) (steps : List OwnStep) → t.at ≡ at.Pending (started_in (Do op) p) → AreOwnSteps basis t seen steps → Third basis op Then p 3 steps
+from_start : (basis : Basis) (op : ObjOp) (Then : Pass → List OwnStep → Type 0) (p : Pass) (then : (next : Pass) (t : Transaction) (seen : View) (steps : List OwnStep) → MayFollow p next → t.at ≡ at.Pending (started_in (Do op) next) → AreOwnSteps (one_key basis) t seen steps → Then next steps)
+    (t : Transaction) (seen : View) (steps : List OwnStep) → t.at ≡ at.Pending (started_in (Do op) p) → AreOwnSteps (one_key basis) t seen steps → Third (one_key basis) op Then p 3 steps
 from_start basis op Then p then t seen steps pending own =
-    to_third basis op Then p then steps 3 (started_in (Do op) p) t seen
+    to_third (one_key basis) op Then p then steps 3 (started_in (Do op) p) t seen
     (record { pending = pending; asked = refl; in_pass = refl; left = refl; told = λ (last : 4 ≡ 1). absurd (omega (arith, last)); untold = λ some. refl }) (omega arith) own
 
 -- **A wide pass.**
-pub wide_pass : (basis : Basis) (op : ObjOp) (t : Transaction) (seen : View) (steps : List OwnStep) → t.at ≡ at.Pending (started_in (Do op) pass.Wide) → AreOwnSteps basis t seen steps → TakesLaterPass basis steps
-wide_pass basis op t seen steps pending own = elim (from_start basis op (λ next back. TakesLaterPass basis back) pass.Wide (λ next t' seen' back never is own'. absurd never) t seen steps pending own) [
+pub wide_pass : (basis : Basis) (op : ObjOp) (t : Transaction) (seen : View) (steps : List OwnStep) → t.at ≡ at.Pending (started_in (Do op) pass.Wide) → AreOwnSteps (one_key basis) t seen steps → TakesLaterPass (one_key basis) steps
+wide_pass basis op t seen steps pending own = elim (from_start (one_key basis) op (λ next back. TakesLaterPass (one_key basis) back) pass.Wide (λ next t' seen' back never is own'. absurd never) t seen steps pending own) [
   | inl then ↦ inl then
   | inr (inl away) ↦ inr (inl away.0)
   | inr (inr (inl splits)) ↦ inr (inr splits.0)
@@ -189,12 +189,12 @@ wide_pass basis op t seen steps pending own = elim (from_start basis op (λ next
 ]
 
 -- what follows a narrow pass
-after_narrow : (basis : Basis) (op : ObjOp) (next : Pass) (t : Transaction) (seen : View) (steps : List OwnStep) → MayFollow pass.Narrow next → t.at ≡ at.Pending (started_in (Do op) next) → AreOwnSteps basis t seen steps → TakesLaterPass basis steps
-after_narrow basis op next t seen steps is pending own = wide_pass basis op t seen steps (pending ∙ ap (λ (p : Pass). at.Pending (started_in (Do op) p)) is) own
+after_narrow : (basis : Basis) (op : ObjOp) (next : Pass) (t : Transaction) (seen : View) (steps : List OwnStep) → MayFollow pass.Narrow next → t.at ≡ at.Pending (started_in (Do op) next) → AreOwnSteps (one_key basis) t seen steps → TakesLaterPass (one_key basis) steps
+after_narrow basis op next t seen steps is pending own = wide_pass (one_key basis) op t seen steps (pending ∙ ap (λ (p : Pass). at.Pending (started_in (Do op) p)) is) own
 
 -- **A narrow pass.**
-pub narrow_pass : (basis : Basis) (op : ObjOp) (t : Transaction) (seen : View) (steps : List OwnStep) → t.at ≡ at.Pending (started_in (Do op) pass.Narrow) → AreOwnSteps basis t seen steps → TakesNarrowPass basis op steps
-narrow_pass basis op t seen steps pending own = elim (from_start basis op (λ next back. TakesLaterPass basis back) pass.Narrow (after_narrow basis op) t seen steps pending own) [
+pub narrow_pass : (basis : Basis) (op : ObjOp) (t : Transaction) (seen : View) (steps : List OwnStep) → t.at ≡ at.Pending (started_in (Do op) pass.Narrow) → AreOwnSteps (one_key basis) t seen steps → TakesNarrowPass (one_key basis) op steps
+narrow_pass basis op t seen steps pending own = elim (from_start (one_key basis) op (λ next back. TakesLaterPass (one_key basis) back) pass.Narrow (after_narrow (one_key basis) op) t seen steps pending own) [
   | inl then ↦ inl (inl then)
   | inr (inl away) ↦ inl (inr (inl away.0))
   | inr (inr (inl splits)) ↦ inl (inr (inr splits.0))
@@ -202,15 +202,15 @@ narrow_pass basis op t seen steps pending own = elim (from_start basis op (λ ne
 ]
 
 -- what follows a first pass
-after_a_first : (basis : Basis) (op : ObjOp) (next : Pass) (t : Transaction) (seen : View) (steps : List OwnStep) → MayFollow pass.First next → t.at ≡ at.Pending (started_in (Do op) next) → AreOwnSteps basis t seen steps → TakesNextPass basis op next steps
+after_a_first : (basis : Basis) (op : ObjOp) (next : Pass) (t : Transaction) (seen : View) (steps : List OwnStep) → MayFollow pass.First next → t.at ≡ at.Pending (started_in (Do op) next) → AreOwnSteps (one_key basis) t seen steps → TakesNextPass (one_key basis) op next steps
 after_a_first basis op pass.First t seen steps (inl is) pending own = cc
 after_a_first basis op pass.First t seen steps (inr is) pending own = cc
-after_a_first basis op pass.Narrow t seen steps may pending own = narrow_pass basis op t seen steps pending own
-after_a_first basis op pass.Wide t seen steps may pending own = wide_pass basis op t seen steps pending own
+after_a_first basis op pass.Narrow t seen steps may pending own = narrow_pass (one_key basis) op t seen steps pending own
+after_a_first basis op pass.Wide t seen steps may pending own = wide_pass (one_key basis) op t seen steps pending own
 
 -- **A first pass.**
-pub first_pass : (basis : Basis) (op : ObjOp) (t : Transaction) (seen : View) (steps : List OwnStep) → t.at ≡ at.Pending (started_in (Do op) pass.First) → AreOwnSteps basis t seen steps → TakesFirstPass basis op steps
-first_pass basis op t seen steps pending own = elim (from_start basis op (TakesNextPass basis op) pass.First (after_a_first basis op) t seen steps pending own) [
+pub first_pass : (basis : Basis) (op : ObjOp) (t : Transaction) (seen : View) (steps : List OwnStep) → t.at ≡ at.Pending (started_in (Do op) pass.First) → AreOwnSteps (one_key basis) t seen steps → TakesFirstPass (one_key basis) op steps
+first_pass basis op t seen steps pending own = elim (from_start (one_key basis) op (TakesNextPass (one_key basis) op) pass.First (after_a_first (one_key basis) op) t seen steps pending own) [
   | inl then ↦ inl then
   | inr (inl away) ↦ absurd (away.1 refl)
   | inr (inr (inl splits)) ↦ absurd (splits.1 refl)

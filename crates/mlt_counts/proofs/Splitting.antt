@@ -6,7 +6,7 @@ use Rattle.mlt_held.specs.Views.{View}
 use Rattle.mlt_split.specs.Splits.{SplitFields, directory_steps}
 use Rattle.mlt_hash.specs.Steps.{steps_to_bucket}
 use Rattle.mlt_hash.specs.StepsLeft.{bucket_depth, depth_after, directory_depth, steps_of_splits}
-use Rattle.mlt_hash.specs.Walks.{Basis, WalkFields}
+use Rattle.mlt_hash.specs.Walks.{Basis, WalkFields, one_key}
 use Rattle.mlt_hash.specs.declared.pass.Pass.{Pass}
 use Rattle.mlt_hash.specs.declared.pass.Phase.{Phase}
 use Rattle.mlt_hash.specs.declared.pass.Phase.TheVariants as phase
@@ -95,7 +95,7 @@ IsUnsplit other = ⊥
 
 -- A pass has split its bucket j times. It was told Going so many times since it was to be split.
 pub record HasSplit (basis : Basis) (op : ObjOp) (depths : Depths) (gone j m : ℕ) (p : Pass) (o : OperationFields) (t : Transaction) (seen : View) : Type 0 where
-  pub stage : Stage basis op (suc (suc m)) p o t seen
+  pub stage : Stage (one_key basis) op (suc (suc m)) p o t seen
   pub there : steps_to_bucket o.walk.phase ≡ 0
   pub depths_is : depths_at o.walk.phase basis.root o.walk seen ≡ Some (down j depths)
   pub few : depths.bucket + j ≤ depths.room
@@ -109,18 +109,18 @@ pub record PutsLater (basis : Basis) (depths : Depths) (gone : ℕ) (steps : Lis
   pub few : depths.bucket + k ≤ depths.room
   pub m : ℕ
   pub count : gone + m ≡ 1 + taken k depths
-  pub puts : GoesToTurn basis m (PutsRecord (depths.bucket + k)) steps
+  pub puts : GoesToTurn (one_key basis) m (PutsRecord (depths.bucket + k)) steps
 
 abbrev PutsOrNot : Basis → Depths → ℕ → ℕ → List OwnStep → Type 0
-PutsOrNot basis depths gone m steps = GoesUpTo (suc m) IsRefusal (answers_of steps) ⊎ PutsLater basis depths gone steps
+PutsOrNot basis depths gone m steps = GoesUpTo (suc m) IsRefusal (answers_of steps) ⊎ PutsLater (one_key basis) depths gone steps
 
 -- at the last step the end comes
-end_comes : (basis : Basis) (op : ObjOp) (p : Pass) (o : OperationFields) (t : Transaction) (seen : View) (steps : List OwnStep) → Stage basis op 1 p o t seen → AreOwnSteps basis t seen steps
+end_comes : (basis : Basis) (op : ObjOp) (p : Pass) (o : OperationFields) (t : Transaction) (seen : View) (steps : List OwnStep) → Stage (one_key basis) op 1 p o t seen → AreOwnSteps (one_key basis) t seen steps
     → GoesThen 0 IsDoneOrBlocked (answers_of steps)
 end_comes basis op p o t seen [] stage own = tt
-end_comes basis op p o t seen (step ∷ more) stage own = ended_then step.told (answers_of more) (last_step basis op 1 p o t seen step stage own.0 refl own.1)
+end_comes basis op p o t seen (step ∷ more) stage own = ended_then step.told (answers_of more) (last_step (one_key basis) op 1 p o t seen step stage own.0 refl own.1)
 
-after_wait : (basis : Basis) (depths : Depths) (gone m page by : ℕ) (step : OwnStep) (more : List OwnStep) → step.told ≡ answer.Waiting page by → PutsOrNot basis depths gone m more → PutsOrNot basis depths gone m (step ∷ more)
+after_wait : (basis : Basis) (depths : Depths) (gone m page by : ℕ) (step : OwnStep) (more : List OwnStep) → step.told ≡ answer.Waiting page by → PutsOrNot (one_key basis) depths gone m more → PutsOrNot (one_key basis) depths gone m (step ∷ more)
 after_wait basis depths gone m page by step more waits (inl not) = inl (up_to_after_wait step more (suc m) page by IsRefusal waits not)
 after_wait basis depths gone m page by step more waits (inr later) = inr (record {
   k = later.k;
@@ -128,10 +128,10 @@ after_wait basis depths gone m page by step more waits (inr later) = inr (record
   few = later.few;
   m = later.m;
   count = later.count;
-  puts = turn_after_wait step more basis later.m page by (PutsRecord (depths.bucket + later.k)) waits later.puts;
+  puts = turn_after_wait step more (one_key basis) later.m page by (PutsRecord (depths.bucket + later.k)) waits later.puts;
 })
 
-after_going : (basis : Basis) (depths : Depths) (gone m : ℕ) (step : OwnStep) (more : List OwnStep) → step.told ≡ answer.Going → PutsOrNot basis depths (gone + 1) m more → PutsOrNot basis depths gone (suc m) (step ∷ more)
+after_going : (basis : Basis) (depths : Depths) (gone m : ℕ) (step : OwnStep) (more : List OwnStep) → step.told ≡ answer.Going → PutsOrNot (one_key basis) depths (gone + 1) m more → PutsOrNot (one_key basis) depths gone (suc m) (step ∷ more)
 after_going basis depths gone m step more goes (inl not) = inl (up_to_after_going step more (suc m) IsRefusal goes not)
 after_going basis depths gone m step more goes (inr later) = inr (record {
   k = later.k;
@@ -139,14 +139,14 @@ after_going basis depths gone m step more goes (inr later) = inr (record {
   few = later.few;
   m = suc later.m;
   count = (let count = later.count in omega (arith, count));
-  puts = turn_after_going step more basis later.m (PutsRecord (depths.bucket + later.k)) goes later.puts;
+  puts = turn_after_going step more (one_key basis) later.m (PutsRecord (depths.bucket + later.k)) goes later.puts;
 })
 
-module _ (basis : Basis) (op : ObjOp) (depths : Depths) (gone j m : ℕ) (p : Pass) (o : OperationFields) (t : Transaction) (seen : View) (s : HasSplit basis op depths gone j m p o t seen)
-    (step : OwnStep) (more : List OwnStep) (own : AreOwnSteps basis t seen (step ∷ more)) (goes : Goes basis o t step)
-    (on : StepsOn (basis_at basis step) (moment t.subtx step.old.pages) (moment step.after.subtx step.new.pages) o goes.next) where
+module _ (basis : Basis) (op : ObjOp) (depths : Depths) (gone j m : ℕ) (p : Pass) (o : OperationFields) (t : Transaction) (seen : View) (s : HasSplit (one_key basis) op depths gone j m p o t seen)
+    (step : OwnStep) (more : List OwnStep) (own : AreOwnSteps (one_key basis) t seen (step ∷ more)) (goes : Goes (one_key basis) o t step)
+    (on : StepsOn (basis_at (one_key basis) step) (moment t.subtx step.old.pages) (moment step.after.subtx step.new.pages) o goes.next) where
   -- the record is put at this step
-  puts_here : PutsBehindSplits o goes.next → PutsLater basis depths gone (step ∷ more)
+  puts_here : PutsBehindSplits o goes.next → PutsLater (one_key basis) depths gone (step ∷ more)
   puts_here behind =
       let at_put : Some (record { room = behind.room_depth; bucket = bucket_depth seen behind.bucket; directory = directory_depth seen basis.root }) ≡ Some (down j depths) =
       sym (ap (λ (x : Phase). depths_at x basis.root o.walk seen) behind.was) ∙ s.depths_is in
@@ -166,15 +166,15 @@ module _ (basis : Basis) (op : ObjOp) (depths : Depths) (gone j m : ℕ) (p : Pa
         few = s.few;
         m = 1;
         count = omega (arith, gone_is);
-        puts = turn_here step more basis (PutsRecord (depths.bucket + j)) t goes.going (record {
+        puts = turn_here step more (one_key basis) (PutsRecord (depths.bucket + j)) t goes.going (record {
           o = o;
           o' = goes.next;
           pending = s.stage.pending;
           still = goes.now_at;
           puts = behind;
           depth = ap (λ (view : View). bucket_depth view behind.bucket) own.0 ∙ depth;
-          ends = end_comes basis op p goes.next step.after (view_in step.after step.new) more
-              (subst (λ (n : ℕ). Stage basis op n p goes.next step.after (view_in step.after step.new)) last (on_stage basis op (suc (suc m)) p o t seen step s.stage own.0 goes on)) own.2;
+          ends = end_comes (one_key basis) op p goes.next step.after (view_in step.after step.new) more
+              (subst (λ (n : ℕ). Stage (one_key basis) op n p goes.next step.after (view_in step.after step.new)) last (on_stage (one_key basis) op (suc (suc m)) p o t seen step s.stage own.0 goes on)) own.2;
         }) own.2;
       }
 
@@ -184,15 +184,15 @@ module _ (basis : Basis) (op : ObjOp) (depths : Depths) (gone j m : ℕ) (p : Pa
 
   -- the splits go on, by one at most
   goes_down : (m' : ℕ) → m ≡ suc m' → steps_left basis.root goes.next (view_in step.after step.new) ≡ suc m → GoesDown basis.root o.walk goes.next.walk (view_in t step.old) (view_in step.after step.new)
-      → (j' : ℕ) × HasSplit basis op depths (gone + 1) j' m' p goes.next step.after (view_in step.after step.new)
+      → (j' : ℕ) × HasSplit (one_key basis) op depths (gone + 1) j' m' p goes.next step.after (view_in step.after step.new)
   goes_down m' more_left left down_by =
       let was_is : Some down_by.was ≡ Some (down j depths) = sym down_by.was_is ∙ ap (λ (view : View). depths_at o.walk.phase basis.root o.walk view) own.0 ∙ s.depths_is in
       let was = some_is_one _ _ was_is in
       let there = s.there in
       let nearer = on.nearer in
       let all = s.gone_is in
-      let made : (j' : ℕ) → down_by.is ≡ down j' depths → depths.bucket + j' ≤ depths.room → HasSplit basis op depths (gone + 1) j' m' p goes.next step.after (view_in step.after step.new) = λ j' is few. record {
-        stage = subst (λ (n : ℕ). Stage basis op n p goes.next step.after (view_in step.after step.new)) (left ∙ ap suc more_left) (on_stage basis op (suc (suc m)) p o t seen step s.stage own.0 goes on);
+      let made : (j' : ℕ) → down_by.is ≡ down j' depths → depths.bucket + j' ≤ depths.room → HasSplit (one_key basis) op depths (gone + 1) j' m' p goes.next step.after (view_in step.after step.new) = λ j' is few. record {
+        stage = subst (λ (n : ℕ). Stage (one_key basis) op n p goes.next step.after (view_in step.after step.new)) (left ∙ ap suc more_left) (on_stage (one_key basis) op (suc (suc m)) p o t seen step s.stage own.0 goes on);
         there = omega (arith, there, nearer);
         depths_is = down_by.is_is ∙ ap Some is;
         few = few;
@@ -213,12 +213,12 @@ module _ (basis : Basis) (op : ObjOp) (depths : Depths) (gone j m : ℕ) (p : Pa
 
 -- **Once a bucket is to be split, the record is put behind as many steps as the splits take that are made.**
 puts_or_not : (basis : Basis) (op : ObjOp) (depths : Depths) (steps : List OwnStep) (gone j m : ℕ) (p : Pass) (o : OperationFields) (t : Transaction) (seen : View)
-    → HasSplit basis op depths gone j m p o t seen → AreOwnSteps basis t seen steps → PutsOrNot basis depths gone m steps
+    → HasSplit (one_key basis) op depths gone j m p o t seen → AreOwnSteps (one_key basis) t seen steps → PutsOrNot (one_key basis) depths gone m steps
 puts_or_not basis op depths [] gone j m p o t seen s own = inl tt
 puts_or_not basis op depths (step ∷ more) gone j m p o t seen s own =
-    elim (one_step basis op (suc (suc m)) p o t seen step s.stage own.0 (omega arith) own.1) [
-      | inl waits ↦ after_wait basis depths gone m waits.page waits.by step more waits.waiting
-          (puts_or_not basis op depths more gone j m p o step.after (view_in step.after step.new) (record {
+    elim (one_step (one_key basis) op (suc (suc m)) p o t seen step s.stage own.0 (omega arith) own.1) [
+      | inl waits ↦ after_wait (one_key basis) depths gone m waits.page waits.by step more waits.waiting
+          (puts_or_not (one_key basis) op depths more gone j m p o step.after (view_in step.after step.new) (record {
             stage = waits.stage;
             there = s.there;
             depths_is = ap (λ (view : View). depths_at o.walk.phase basis.root o.walk view) (waits.same ∙ own.0) ∙ s.depths_is;
@@ -229,17 +229,17 @@ puts_or_not basis op depths (step ∷ more) gone j m p o t seen s own =
       | inr (inr away) ↦ inl (refused_in m IsRefusal (λ told is. is) step.told (answers_of more) away.refused)
       | inr (inl goes) ↦ elim goes.tells [
         | inl on ↦ elim on.by_one [
-          | inr behind ↦ inr (puts_here basis op depths gone j m p o t seen s step more own goes on behind)
+          | inr behind ↦ inr (puts_here (one_key basis) op depths gone j m p o t seen s step more own goes on behind)
           | inl one ↦ elim on.down [
             | inl way ↦ let there = s.there in absurd (omega (arith, there, way))
-            | inr (inr behind) ↦ inr (puts_here basis op depths gone j m p o t seen s step more own goes on behind)
+            | inr (inr behind) ↦ inr (puts_here (one_key basis) op depths gone j m p o t seen s step more own goes on behind)
             | inr (inl down_by) ↦
-                let left = one_less basis op depths gone j m p o t seen s step more own goes on one in
-                let some = more_left basis op depths gone j m p o t seen s step more own goes on left down_by in
-                let next = goes_down basis op depths gone j m p o t seen s step more own goes on (m - 1) some left down_by in
-                subst (λ (n : ℕ). PutsOrNot basis depths gone n (step ∷ more)) (sym some)
-                (after_going basis depths gone (m - 1) step more goes.going
-                (puts_or_not basis op depths more (gone + 1) next.0 (m - 1) p goes.next step.after (view_in step.after step.new) next.1 own.2))
+                let left = one_less (one_key basis) op depths gone j m p o t seen s step more own goes on one in
+                let some = more_left (one_key basis) op depths gone j m p o t seen s step more own goes on left down_by in
+                let next = goes_down (one_key basis) op depths gone j m p o t seen s step more own goes on (m - 1) some left down_by in
+                subst (λ (n : ℕ). PutsOrNot (one_key basis) depths gone n (step ∷ more)) (sym some)
+                (after_going (one_key basis) depths gone (m - 1) step more goes.going
+                (puts_or_not (one_key basis) op depths more (gone + 1) next.0 (m - 1) p goes.next step.after (view_in step.after step.new) next.1 own.2))
           ]
         ]
         | inr (inl splits) ↦ let there = s.there in let last = splits.reaches.last in absurd (omega (arith, there, last))
@@ -250,14 +250,14 @@ puts_or_not basis op depths (step ∷ more) gone j m p o t seen s own =
 -- **From where a bucket is to be split.**
 pub splits_and_puts : (basis : Basis) (op : ObjOp) (steps : List OwnStep) (p : Pass) (o : OperationFields) (t : Transaction) (seen : View) (value bucket l g d : ℕ)
     → t.at ≡ at.Pending o → o.request ≡ Do op → o.walk.pass ≡ p → o.walk.phase ≡ phase.Adding value bucket d true → bucket_depth seen bucket ≡ l → directory_depth seen basis.root ≡ g → l < d → o.reply ≡ None
-    → AreOwnSteps basis t seen steps
-    → SplitsAndPuts basis l g d steps ⊎ GoesUpTo (1 + 3 * (d - l) + extra_of_splits (d - l) l g) IsRefusal (answers_of steps)
+    → AreOwnSteps (one_key basis) t seen steps
+    → SplitsAndPuts (one_key basis) l g d steps ⊎ GoesUpTo (1 + 3 * (d - l) + extra_of_splits (d - l) l g) IsRefusal (answers_of steps)
 splits_and_puts basis op steps p o t seen value bucket l g d pending asked in_pass is bucket_is directory_is deep untold own =
     let depths : Depths = record { room = d; bucket = l; directory = g } in
     let m : ℕ = 3 * (d - l) + extra_of_splits (d - l) l g in
     let all = of_splits (d - l) l g in
     let left : steps_left basis.root o seen ≡ 0 + steps_of_splits (d - l) l g + 1 = ap (λ (x : Phase). left_at x basis.root o.walk seen) is ∙ (λ i. 0 + steps_of_splits (d - bucket_is i) (bucket_is i) (directory_is i) + 1) in
-    elim (puts_or_not basis op depths steps 0 0 m p o t seen (record {
+    elim (puts_or_not (one_key basis) op depths steps 0 0 m p o t seen (record {
       stage = record {
         pending = pending;
         asked = asked;
@@ -277,6 +277,6 @@ splits_and_puts basis op steps p o t seen value bucket l g d pending asked in_pa
         k = later.k;
         some = later.some;
         few = later.few;
-        puts = subst (λ (n : ℕ). GoesToTurn basis n (PutsRecord (l + later.k)) steps) (let count = later.count in omega (arith, count)) later.puts;
+        puts = subst (λ (n : ℕ). GoesToTurn (one_key basis) n (PutsRecord (l + later.k)) steps) (let count = later.count in omega (arith, count)) later.puts;
       })
     ]

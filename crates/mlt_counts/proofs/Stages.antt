@@ -7,7 +7,7 @@ use Rattle.mlt_held.specs.Views.{View, view_of}
 use Rattle.mlt_split.specs.Splits.{SplitFields}
 use Rattle.mlt_hash.specs.Steps.{steps_to_bucket}
 use Rattle.mlt_hash.specs.StepsLeft.{bucket_depth, depth_after, directory_depth, steps_of_splits, steps_to_put_at, steps_with_split}
-use Rattle.mlt_hash.specs.Walks.{Basis, Stands, WalkFields}
+use Rattle.mlt_hash.specs.Walks.{Basis, Stands, WalkFields, one_key}
 use Rattle.mlt_hash.specs.declared.pass.Pass.{Pass}
 use Rattle.mlt_hash.specs.declared.pass.Pass.TheVariants as pass
 use Rattle.mlt_hash.specs.declared.pass.Phase.{Phase}
@@ -39,7 +39,7 @@ some_behind o split d is =
     subst (λ (x : Option SplitFields). 1 ≤ steps_with_split x d) (sym is) one
 
 -- at the last step the reply is told
-pub told_at_last : (p : Phase) (basis : Basis) (o : OperationFields) (view : View) → Stands p basis o.walk view → FitsPhase p basis o view
+pub told_at_last : (p : Phase) (basis : Basis) (o : OperationFields) (view : View) → Stands p (one_key basis) o.walk view → FitsPhase p (one_key basis) o view
     → left_at p basis.root o.walk view ≡ 1 → IsSome o.reply
 told_at_last phase.Start basis o view stands fits left = absurd (omega (arith, left))
 told_at_last (phase.Headed dir row depth) basis o view stands fits left = absurd (omega (arith, left))
@@ -55,7 +55,7 @@ told_at_last (phase.Splitting value d) basis o view stands fits left =
 told_at_last (phase.Changed bucket done) basis o view stands fits left = ap is_some fits.told
 
 -- and before it is not
-pub untold_before : (p : Phase) (basis : Basis) (o : OperationFields) (view : View) → FitsPhase p basis o view
+pub untold_before : (p : Phase) (basis : Basis) (o : OperationFields) (view : View) → FitsPhase p (one_key basis) o view
     → 2 ≤ left_at p basis.root o.walk view → o.reply ≡ None
 untold_before phase.Start basis o view fits left = fits
 untold_before (phase.Headed dir row depth) basis o view fits left = fits
@@ -80,7 +80,7 @@ pub record Goes (basis : Basis) (o : OperationFields) (t : Transaction) (own : O
   pub going : own.told ≡ answer.Going
   pub next : OperationFields
   pub now_at : own.after.at ≡ at.Pending next
-  pub tells : TellsOfStep (basis_at basis own) (moment t.subtx own.old.pages) (moment own.after.subtx own.new.pages) o next step.Going
+  pub tells : TellsOfStep (basis_at (one_key basis) own) (moment t.subtx own.old.pages) (moment own.after.subtx own.new.pages) o next step.Going
 
 -- it is told to wait, and stands where it stood
 pub record Stays (basis : Basis) (op : ObjOp) (n : ℕ) (p : Pass) (o : OperationFields) (t : Transaction) (own : OwnStep) : Type 0 where
@@ -88,7 +88,7 @@ pub record Stays (basis : Basis) (op : ObjOp) (n : ℕ) (p : Pass) (o : Operatio
   pub by : ℕ
   pub waiting : own.told ≡ answer.Waiting page by
   pub same : view_in own.after own.new ≡ view_in t own.old
-  pub stage : Stage basis op n p o own.after (view_in own.after own.new)
+  pub stage : Stage (one_key basis) op n p o own.after (view_in own.after own.new)
 
 -- it is refused, in a later pass than the first
 pub record IsTurnedAway (p : Pass) (own : OwnStep) : Type 0 where
@@ -96,7 +96,7 @@ pub record IsTurnedAway (p : Pass) (own : OwnStep) : Type 0 where
   pub later : p ≡ pass.First → ⊥
 
 abbrev pub Outcome : Basis → ObjOp → ℕ → Pass → OperationFields → Transaction → OwnStep → Type 0
-Outcome basis op n p o t own = Stays basis op n p o t own ⊎ Goes basis o t own ⊎ IsTurnedAway p own
+Outcome basis op n p o t own = Stays (one_key basis) op n p o t own ⊎ Goes (one_key basis) o t own ⊎ IsTurnedAway p own
 
 unready_or : {A : Type 0} (reply : Option ObjReply) (one : ObjReply) → reply ≡ None → reply ≡ Some one → A
 unready_or reply one none some = cc
@@ -111,7 +111,7 @@ module _ (basis : Basis) (n : ℕ) (o next : OperationFields) (t : Transaction) 
   was_left = ap (steps_left basis.root o) sees ∙ left
 
   -- just one fewer, where there are four at most
-  pub one_fewer_after : n ≤ 4 → StepsOn (basis_at basis own) (moment t.subtx own.old.pages) (moment own.after.subtx own.new.pages) o next
+  pub one_fewer_after : n ≤ 4 → StepsOn (basis_at (one_key basis) own) (moment t.subtx own.old.pages) (moment own.after.subtx own.new.pages) o next
       → steps_left basis.root next (view_in own.after own.new) + 1 ≡ n
   one_fewer_after few s = elim s.by_one [
     | inl one ↦ one ∙ was_left
@@ -126,16 +126,16 @@ module _ (basis : Basis) (n : ℕ) (o next : OperationFields) (t : Transaction) 
         omega (arith, was, before, last, one)
   ]
 
-module _ (basis : Basis) (op : ObjOp) (n : ℕ) (p : Pass) (o : OperationFields) (t : Transaction) (seen : View) (own : OwnStep) (stage : Stage basis op n p o t seen) (sees : view_in t own.old ≡ seen) where
-  pending_step : TellsOfTransaction (basis_at basis own) t own.after own.old own.new own.told → StepsPending (basis_at basis own) o t own.after own.old own.new own.told
-  pending_step tells = subst (λ (a : At). TellsAt a (basis_at basis own) t own.after own.old own.new own.told) stage.pending tells
+module _ (basis : Basis) (op : ObjOp) (n : ℕ) (p : Pass) (o : OperationFields) (t : Transaction) (seen : View) (own : OwnStep) (stage : Stage (one_key basis) op n p o t seen) (sees : view_in t own.old ≡ seen) where
+  pending_step : TellsOfTransaction (basis_at (one_key basis) own) t own.after own.old own.new own.told → StepsPending (basis_at (one_key basis) own) o t own.after own.old own.new own.told
+  pending_step tells = subst (λ (a : At). TellsAt a (basis_at (one_key basis) own) t own.after own.old own.new own.told) stage.pending tells
 
-  by_answer : (told : Answer) → own.told ≡ told → 2 ≤ n → StepsPending (basis_at basis own) o t own.after own.old own.new told → Outcome basis op n p o t own
+  by_answer : (told : Answer) → own.told ≡ told → 2 ≤ n → StepsPending (basis_at (one_key basis) own) o t own.after own.old own.new told → Outcome (one_key basis) op n p o t own
   by_answer answer.Going is more s = inr (inl (record {
     going = is;
     next = s.next;
     now_at = s.now_at;
-    tells = subst (λ (c : Commons). TellsOfStep (basis_at basis own) (moment t.subtx own.old.pages) (moment own.after.subtx c.pages) o s.next step.Going) (sym s.leaves) s.tells.tells;
+    tells = subst (λ (c : Commons). TellsOfStep (basis_at (one_key basis) own) (moment t.subtx own.old.pages) (moment own.after.subtx c.pages) o s.next step.Going) (sym s.leaves) s.tells.tells;
   }))
   by_answer (answer.Waiting page by) is more s =
       let unmoved : view_in own.after own.new ≡ view_in t own.old = ap (λ (c : Commons). view_in own.after c) s.leaves ∙ ap view_of s.tells.tells.pages in
@@ -164,10 +164,10 @@ module _ (basis : Basis) (op : ObjOp) (n : ℕ) (p : Pass) (o : OperationFields)
   by_answer answer.Aborted is more s = absurd s.tells
 
   -- **A step that is not the last.**
-  pub one_step : 2 ≤ n → TellsOfTransaction (basis_at basis own) t own.after own.old own.new own.told → Outcome basis op n p o t own
+  pub one_step : 2 ≤ n → TellsOfTransaction (basis_at (one_key basis) own) t own.after own.old own.new own.told → Outcome (one_key basis) op n p o t own
   one_step more tells = by_answer own.told refl more (pending_step tells)
 
-  last_answer : (told : Answer) → own.told ≡ told → IsSome o.reply → StepsPending (basis_at basis own) o t own.after own.old own.new told → IsDoneOrBlocked own.told
+  last_answer : (told : Answer) → own.told ≡ told → IsSome o.reply → StepsPending (basis_at (one_key basis) own) o t own.after own.old own.new told → IsDoneOrBlocked own.told
   last_answer answer.Going is ready s = some_or o.reply ready s.tells.unready
   last_answer (answer.Waiting page by) is ready s = some_or o.reply ready s.tells.unready
   last_answer (answer.Refused reason) is ready s = some_or o.reply ready s.tells.unready
@@ -177,17 +177,17 @@ module _ (basis : Basis) (op : ObjOp) (n : ℕ) (p : Pass) (o : OperationFields)
   last_answer answer.Aborted is ready s = absurd s.tells
 
   -- **The last step.**
-  pub last_step : n ≡ 1 → TellsOfTransaction (basis_at basis own) t own.after own.old own.new own.told → IsDoneOrBlocked own.told
+  pub last_step : n ≡ 1 → TellsOfTransaction (basis_at (one_key basis) own) t own.after own.old own.new own.told → IsDoneOrBlocked own.told
   last_step last tells = last_answer own.told refl (stage.told last) (pending_step tells)
 
   -- **Where it goes on within its pass, fewer steps are left.**
-  pub on_stage : (goes : Goes basis o t own) → StepsOn (basis_at basis own) (moment t.subtx own.old.pages) (moment own.after.subtx own.new.pages) o goes.next
-      → Stage basis op (steps_left basis.root goes.next (view_in own.after own.new)) p goes.next own.after (view_in own.after own.new)
+  pub on_stage : (goes : Goes (one_key basis) o t own) → StepsOn (basis_at (one_key basis) own) (moment t.subtx own.old.pages) (moment own.after.subtx own.new.pages) o goes.next
+      → Stage (one_key basis) op (steps_left basis.root goes.next (view_in own.after own.new)) p goes.next own.after (view_in own.after own.new)
   on_stage goes s = record {
     pending = goes.now_at;
     asked = s.request ∙ stage.asked;
     in_pass = s.in_pass ∙ stage.in_pass;
     left = refl;
-    told = told_at_last goes.next.walk.phase (basis_at basis own) goes.next (view_in own.after own.new) s.operates.stands s.operates.fits;
-    untold = untold_before goes.next.walk.phase (basis_at basis own) goes.next (view_in own.after own.new) s.operates.fits;
+    told = told_at_last goes.next.walk.phase (basis_at (one_key basis) own) goes.next (view_in own.after own.new) s.operates.stands s.operates.fits;
+    untold = untold_before goes.next.walk.phase (basis_at (one_key basis) own) goes.next (view_in own.after own.new) s.operates.fits;
   }

@@ -37,7 +37,7 @@ called_sound s i before after commons sound was c =
     let two : pending_room after.at ≡ 2 = ap pending_room c.pending in
     let none : pending_room before.at ≡ 0 = ap pending_room c.idle in
     let lengths : length after.undo.entries ≡ length before.undo.entries = ap length c.entries in
-    let operates : IsOperating (basis_of (world_of s) i) (started_for (Do c.op)) (view_of (moment_of (all_of s) i)) = record { target = refl; stands = at_start (moment_of (all_of s) i) (unheld (all_of s) i nothing); fits = refl } in
+    let operates : IsOperating (basis_of (world_of s) i) (started_for (Do c.op)) (view_of (moment_of (all_of s) i)) = record { target = refl; stands = (at_start (moment_of (all_of s) i) (unheld (all_of s) i nothing), refl); fits = refl } in
     let pending : HasPending (with_transaction s i after commons s.images) i after (started_for (Do c.op)) = record {
       op = c.op;
       asked = refl;

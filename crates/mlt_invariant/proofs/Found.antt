@@ -62,7 +62,7 @@ module _ (world : World) (i : ℕ) (o : OperationFields) (view : View) (op : Obj
   by_phase (at.AtBucket bucket depth found) is fits stands =
       let read = read_at_bucket (basis_of world i) o.walk view bucket depth found stands in
       answered_by world i op reply pages None (decided_here found fits.0 None read fits.1 fits.2)
-      (λ q. ends q ∙ ap (λ own. own_or own (map.get world.pages q)) (stands.unwritten q))
+      (λ q. ends q ∙ ap (λ own. own_or own (map.get world.pages q)) (stands.unwritten.own q))
   by_phase (at.Full next) is fits stands = absurd fits
   by_phase (at.Adding value bucket depth unsplit) is fits stands = absurd (none-some reply (sym fits.0 ∙ told))
   by_phase (at.Splitting value depth) is fits stands = absurd (none-some reply (sym fits.0 ∙ told))

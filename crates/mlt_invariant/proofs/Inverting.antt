@@ -46,7 +46,7 @@ module _ (s : State) (i : ℕ) (inverting next : Option OperationFields) (before
   now_operates last = subst (λ (m : Moment). IsOperating (basis_of (world_of s) i) (inverse_from inverting last) (view_of m)) (same_moment s i before sound was) (by inverting here)
     where
       by : (o : Option OperationFields) → FitsAt (at.Undoing o) s i before → IsOperating (basis_of (world_of s) i) (inverse_from o last) (view_of (moment_of (all_of s) i))
-      by None fits = record { target = refl; stands = at_start (moment_of (all_of s) i) (unheld (all_of s) i fits.0); fits = refl }
+      by None fits = record { target = refl; stands = (at_start (moment_of (all_of s) i) (unheld (all_of s) i fits.0), refl); fits = refl }
       by (Some o) fits = fits.operates
 
   -- the inverse stands after its step

@@ -4,6 +4,7 @@ use Rattle.std.specs.FinMap as map
 use Rattle.std.proofs.lemmas.Bool.{false≢true}
 use Rattle.std.proofs.lemmas.List.{length-append}
 use Rattle.std.proofs.lemmas.Option.{none-some}
+use Rattle.mlt_held.proofs.Since.{nothing_written}
 use Rattle.mlt_kinds.specs.declared.operation.ObjOp.{ObjOp}
 use Rattle.mlt_kinds.specs.declared.operation.ObjReply.{ObjReply}
 use Rattle.mlt_history.proofs.RoomLaws.{room_within_total}
@@ -65,6 +66,7 @@ module _ (s : State) (i : ℕ) (t : Transaction) (sound : IsSound s) (is : map.g
     bounded = sound.match.file.bounded;
     small = sound.match.file.small;
     may = each_may_step (all_of s) i sound.running is_open_now;
+    written = nothing_written (view_of (moment_of (all_of s) i));
     file = record { clean = clean_of (all_of s); is_clean = clean_for_each (all_of s) i sound.running; form = sound.match.file.form };
     shallow = sound.match.file.shallow;
     stands = stands;
@@ -119,7 +121,7 @@ module _ (s : State) (i : ℕ) (t : Transaction) (sound : IsSound s) (is : map.g
   starts_inverse : (front : List (ObjOp × ObjReply)) (last : ObjOp × ObjReply) → is_undoing t.at ≡ true → t.undo.entries ≡ front ++ last ∷ [] → HoldsNothing (all_of s) i
       → MayOperate (basis_of (world_of s) i) (moment t.subtx s.commons.pages) (started_for (TakeBack last))
   starts_inverse front last undoing entries none =
-      may_operate (started_for (TakeBack last)) (record { target = refl; stands = at_start (moment_of (all_of s) i) (unheld (all_of s) i none); fits = refl }) (can_take_back front last undoing entries)
+      may_operate (started_for (TakeBack last)) (record { target = refl; stands = (at_start (moment_of (all_of s) i) (unheld (all_of s) i none), refl); fits = refl }) (can_take_back front last undoing entries)
 
   may_step_back : (inverting : Option OperationFields) → t.at ≡ at.Undoing inverting → FitsAt (at.Undoing inverting) s i t → MayStepBack (basis_of (world_of s) i) inverting t.subtx t.undo s.commons
   may_step_back None back_at fits =

@@ -172,7 +172,7 @@ module _ (s : State) (i : ℕ) (o : OperationFields) (before after : Transaction
       let starts : IsAtStart (view_of (moment after.subtx commons.pages)) =
       subst (λ (m : Moment). IsAtStart (view_of m)) (moment_now s i after commons images both.1 tx) (at_start (moment_of (all_of (with_transaction s i after commons images)) i) (unheld (all_of (with_transaction s i after commons images)) i nothing)) in
       let operates : IsOperating (basis_of (world_of s) i) next (view_of (moment after.subtx commons.pages)) =
-      subst (λ (p : OperationFields). IsOperating (basis_of (world_of s) i) p (view_of (moment after.subtx commons.pages))) (sym anew) (record { target = refl; stands = starts; fits = refl }) in
+      subst (λ (p : OperationFields). IsOperating (basis_of (world_of s) i) p (view_of (moment after.subtx commons.pages))) (sym anew) (record { target = refl; stands = (starts, refl); fits = refl }) in
       sound_after s i before after commons sound was (after_roll_back all i) leaves both.0 both.1 tx b.kept b.objects (ap (λ (h : ItemsWithRoom). h.items) b.history) (same_room next is b.kept b.history) (still_forward (at.Pending next) is refl)
       (subst (λ (a : At). FitsAt a (with_transaction s i after commons images) i after) (sym is) (still images next both.1 tx (ap (λ (p : OperationFields). p.request) anew) operates b.kept b.objects))
 

@@ -15,7 +15,7 @@ use Rattle.mlt_held.specs.Reading.{HasReadPlace}
 use Rattle.mlt_held.specs.Views.{view_of}
 use Rattle.mlt_held.proofs.Views.{holds_exclusively, own_has_image, seen_held}
 use Rattle.mlt_hash.specs.Passes.{MayHoldMore}
-use Rattle.mlt_hash.specs.Walks.{Basis, HasRead, HoldsByPass, IsAtBucket, IsPlaced, Stands, WalkFields}
+use Rattle.mlt_hash.specs.Walks.{Basis, HasRead, HoldsByPass, IsAtBucket, IsPlaced, Stands, WalkFields, one_key}
 use Rattle.mlt_hash.specs.declared.pass.Pass.{Pass}
 use Rattle.mlt_hash.specs.declared.pass.Pass.TheVariants as pass
 use Rattle.mlt_hash.specs.declared.pass.Phase.{Phase}
@@ -47,7 +47,7 @@ more_as pass.Wide seen clean own image same kept more = kept more
 -- the locks of a walk on this moment, whose view the clean pages agree with
 module _ (basis : Basis) (walk : WalkFields) (m : Moment) (clean : FilePages) (agree : Agrees (view_of m).seen clean) where
   -- what is read of its way is the way to the key
-  abbrev way_on : (dir bucket : ℕ) → HasReadPlace basis.bits basis.root walk.key (view_of m) dir bucket → KeysWay basis clean walk.key
+  abbrev way_on : (dir bucket : ℕ) → HasReadPlace basis.bits basis.root walk.key (view_of m) dir bucket → KeysWay (one_key basis) clean walk.key
   way_on dir bucket read = record {
     header = read.header;
     head = agree basis.root (Some (page.Head read.header)) read.head;
@@ -59,18 +59,18 @@ module _ (basis : Basis) (walk : WalkFields) (m : Moment) (clean : FilePages) (a
     bucket_is = read.bucket_is;
   }
 
-  placed_way : (bucket depth : ℕ) → IsPlaced basis walk (view_of m) bucket depth → LocksAt (phase.Placed bucket depth) basis clean walk m.running.images (view_of m).modes
+  placed_way : (bucket depth : ℕ) → IsPlaced (one_key basis) walk (view_of m) bucket depth → LocksAt (phase.Placed bucket depth) (one_key basis) clean walk m.running.images (view_of m).modes
   placed_way bucket depth placed = (
     way_on (dir_of placed.header (basis.bits walk.key)) bucket (record { header = placed.header; head = placed.head; dir_is = refl; entries = placed.dir; listed = placed.listed; bucket_is = placed.bucket_is }),
     placed.held,
   )
 
-  bucket_way : (bucket depth : ℕ) (found : Option ℕ) → IsAtBucket basis walk (view_of m) bucket depth found → LocksAt (phase.AtBucket bucket depth found) basis clean walk m.running.images (view_of m).modes
-  bucket_way bucket depth found here = let read = read_at_bucket basis walk (view_of m) bucket depth found here in (way_on read.dir bucket read.way.placed, here.held)
+  bucket_way : (bucket depth : ℕ) (found : Option ℕ) → IsAtBucket (one_key basis) walk (view_of m) bucket depth found → LocksAt (phase.AtBucket bucket depth found) (one_key basis) clean walk m.running.images (view_of m).modes
+  bucket_way bucket depth found here = let read = read_at_bucket (one_key basis) walk (view_of m) bucket depth found here in (way_on read.dir bucket read.way.placed, here.held)
 
   -- a walk that has read its way holds it by its pass
-  read_way : (found : Option ℕ) → (read : HasRead basis walk.key (view_of m) found) → HoldsByPass walk.pass walk.mode basis.root read.dir read.bucket (view_of m)
-      → (way : KeysWay basis clean walk.key) × HoldsWay walk clean m.running.images basis.root way.dir way.bucket (view_of m).modes
+  read_way : (found : Option ℕ) → (read : HasRead (one_key basis) walk.key (view_of m) found) → HoldsByPass map.empty walk.pass walk.mode basis.root read.dir read.bucket (view_of m)
+      → (way : KeysWay (one_key basis) clean walk.key) × HoldsWay walk clean m.running.images basis.root way.dir way.bucket (view_of m).modes
   read_way found read holds = (
     way_on read.dir read.bucket read.way.placed,
     record {
@@ -78,21 +78,21 @@ module _ (basis : Basis) (walk : WalkFields) (m : Moment) (clean : FilePages) (a
       on_dir = holds.on_dir;
       on_bucket = holds.on_bucket;
       others = λ q away further last held.
-          let more = holds.others q away further last held in
+          let more = holds.others q away further last (ap is_some (map.get-empty {X = Mode} nat_cmp q)) held in
           (more.0, more_as walk.pass ((view_of m).seen q) (Some (clean q)) (is_some ((view_of m).own q)) (is_some (image_of m.running.images q)) (clean_is_seen m clean agree q held) (own_has_image m q) more.1);
     },
   )
 
 -- **A walk that stands holds the locks of its pass.**
-locks_at : (p : Phase) (basis : Basis) (o : OperationFields) (m : Moment) (clean : FilePages) → Agrees (view_of m).seen clean → Stands p basis o.walk (view_of m) → FitsPhase p basis o (view_of m) → LocksAt p basis clean o.walk m.running.images (view_of m).modes
-locks_at phase.Start basis o m clean agree stands fits = stands.unheld
+locks_at : (p : Phase) (basis : Basis) (o : OperationFields) (m : Moment) (clean : FilePages) → Agrees (view_of m).seen clean → Stands p (one_key basis) o.walk (view_of m) → FitsPhase p (one_key basis) o (view_of m) → LocksAt p (one_key basis) clean o.walk m.running.images (view_of m).modes
+locks_at phase.Start basis o m clean agree stands fits = stands.0.unheld
 locks_at (phase.Headed dir row depth) basis o m clean agree stands fits = stands.held
-locks_at (phase.Placed bucket depth) basis o m clean agree stands fits = placed_way basis o.walk m clean agree bucket depth stands
-locks_at (phase.AtBucket bucket depth found) basis o m clean agree stands fits = bucket_way basis o.walk m clean agree bucket depth found stands
+locks_at (phase.Placed bucket depth) basis o m clean agree stands fits = placed_way (one_key basis) o.walk m clean agree bucket depth stands
+locks_at (phase.AtBucket bucket depth found) basis o m clean agree stands fits = bucket_way (one_key basis) o.walk m clean agree bucket depth found stands
 locks_at (phase.Full next) basis o m clean agree stands fits = absurd fits
-locks_at (phase.Adding value bucket room_depth unsplit) basis o m clean agree stands fits = read_way basis o.walk m clean agree None stands.read stands.holds
-locks_at (phase.Splitting value room_depth) basis o m clean agree stands fits = read_way basis o.walk m clean agree None stands.read stands.holds
-locks_at (phase.Changed bucket done) basis o m clean agree stands fits = read_way basis o.walk m clean agree stands.found stands.read stands.holds
+locks_at (phase.Adding value bucket room_depth unsplit) basis o m clean agree stands fits = read_way (one_key basis) o.walk m clean agree None stands.read stands.holds
+locks_at (phase.Splitting value room_depth) basis o m clean agree stands fits = read_way (one_key basis) o.walk m clean agree None stands.read stands.holds
+locks_at (phase.Changed bucket done) basis o m clean agree stands fits = read_way (one_key basis) o.walk m clean agree stands.found stands.read stands.holds
 
 module _ (s : State) (i : ℕ) where
   -- the locks of an open transaction, by where it is

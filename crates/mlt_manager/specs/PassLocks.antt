@@ -68,12 +68,12 @@ pub record HoldsWay (walk : WalkFields) (clean : FilePages) (images : Images)
 abbrev pub LocksAt : Phase → Basis → FilePages → WalkFields → Images → Modes → Type 0
 LocksAt phase.Start basis clean walk images modes = modes ≡ map.empty
 LocksAt (phase.Headed dir row depth) basis clean walk images modes =
-    modes ≡ header_held walk.pass basis.root
+    modes ≡ header_held map.empty walk.pass basis.root
 LocksAt (phase.Placed bucket depth) basis clean walk images modes =
-    (way : KeysWay basis clean walk.key) × (modes ≡ directory_held walk.pass basis.root way.dir)
+    (way : KeysWay basis clean walk.key) × (modes ≡ directory_held map.empty walk.pass basis.root way.dir)
 LocksAt (phase.AtBucket bucket depth found) basis clean walk images modes =
     (way : KeysWay basis clean walk.key)
-    × (modes ≡ bucket_held walk.pass walk.mode basis.root way.dir way.bucket)
+    × (modes ≡ bucket_held map.empty walk.pass walk.mode basis.root way.dir way.bucket)
 LocksAt later basis clean walk images modes =
     (way : KeysWay basis clean walk.key)
     × HoldsWay walk clean images basis.root way.dir way.bucket modes

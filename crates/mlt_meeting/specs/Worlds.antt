@@ -16,7 +16,7 @@ use Rattle.mlt_base.specs.Meaning.{Means}
 use Rattle.mlt_base.specs.Records.{HasWhatIsUndone}
 use Rattle.mlt_hash_form.specs.File.{GivesPseudokeys, HasForm, depth_of}
 use Rattle.mlt_hash_form.specs.Records.{live_records}
-use Rattle.mlt_hash.specs.Walks.{Basis}
+use Rattle.mlt_hash.specs.Walks.{Basis, nothing_before}
 use Rattle.mlt_ghosts.specs.Ghosts.{PagesMatchOperations}
 use Rattle.mlt_ghosts.specs.Ledgers.{Ledger}
 use Rattle.mlt_ghosts.specs.Operations.{Standing}
@@ -61,7 +61,7 @@ ledger_with world standing = record {
 abbrev pub ledger_of : World → Ledger
 ledger_of world = ledger_with world (stood_in world)
 
--- what a walk of transaction tx goes by
+-- what a walk of transaction tx to its first key goes by
 abbrev pub basis_of : World → ℕ → Basis
 basis_of world tx = record {
   bits = world.bits;
@@ -69,6 +69,7 @@ basis_of world tx = record {
   root = world.root;
   max_depth = world.max_depth;
   tx = tx;
+  before = nothing_before;
 }
 
 -- the record of a cell, on the clean pages
