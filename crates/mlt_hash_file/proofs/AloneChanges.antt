@@ -14,11 +14,12 @@ use Rattle.mlt_hash_form.proofs.HeldPages.{changed_values}
 use Rattle.mlt_held.specs.Moments.{IsCleanFor, MayStep, Moment}
 use Rattle.mlt_held.specs.PageSteps.{WritesAtMost}
 use Rattle.mlt_held.specs.Views.{IsUnwritten, View, view_of}
+use Rattle.mlt_held.proofs.Since.{nothing_written}
 use Rattle.mlt_hash_file.specs.Alone.{IsAlone, basis_of, pages_before}
 use Rattle.mlt_hash_file.specs.AloneWalks.{HasChanged, IsHashFile}
 use Rattle.mlt_hash.specs.Changes.{IsAtRecord, Makes, TellsOfChange, WritesIfChanged, page_of}
 use Rattle.mlt_hash.specs.Passes.{value_after}
-use Rattle.mlt_hash.specs.Walks.{Basis, IsAtBucket, IsChanged, IsStanding, MayWalk, Stands, WalkFields}
+use Rattle.mlt_hash.specs.Walks.{Basis, IsAtBucket, IsChanged, IsStanding, MayWalk, Stands, WalkFields, nothing_before, one_key}
 use Rattle.mlt_hash.specs.declared.answer.WalkAnswer.{WalkAnswer}
 use Rattle.mlt_hash.specs.declared.answer.WalkAnswer.TheVariants as answer
 use Rattle.mlt_hash.specs.declared.pass.Change.{Change}
@@ -79,36 +80,37 @@ stands_at_bucket basis walk view (at.Changed bucket done) record_there stands = 
 
 -- so a write of the bucket leaves the directory as deep as it was
 pub shallow_after_write : (basis : Basis) (old new : Moment) (walk : WalkFields) (bucket depth : ℕ) (found : Option ℕ) → MayStep old → IsHashFile basis.bits (pages_before old) basis.root basis.max_depth
-    → IsAtBucket basis walk (view_of old) bucket depth found → WritesAtMost old new bucket → depth_of (page_at new.store.pages) basis.root ≤ basis.max_depth
+    → IsAtBucket (one_key basis) walk (view_of old) bucket depth found → WritesAtMost old new bucket → depth_of (page_at new.store.pages) basis.root ≤ basis.max_depth
 shallow_after_write basis old new walk bucket depth found may file at step =
-    let stays : page_at new.store.pages basis.root ≡ pages_before old basis.root = other_page_stays old new bucket basis.root step (not_the_header (view_of old) basis.root bucket at.header at.fields at.head at.at) ∙ unwritten_store old basis.root may at.unwritten in
+    let stays : page_at new.store.pages basis.root ≡ pages_before old basis.root = other_page_stays old new bucket basis.root step (not_the_header (view_of old) basis.root bucket at.header at.fields at.head at.at) ∙ unwritten_store old basis.root may at.unwritten.own in
     subst (λ (p : Option Page). (header_of p).depth ≤ basis.max_depth) (sym stays) file.shallow
 
-told_change : (basis : Basis) (new : Moment) (before after : WalkFields) (done : Change) (told : WalkAnswer) → TellsOfChange basis new before after done told → Makes basis new before after done
+told_change : (basis : Basis) (new : Moment) (before after : WalkFields) (done : Change) (told : WalkAnswer) → TellsOfChange (one_key basis) new before after done told → Makes (one_key basis) new before after done
 told_change basis new before after done answer.Changed tells = tells
 told_change basis new before after done answer.Going tells = absurd tells
 told_change basis new before after done (answer.Waiting page by) tells = absurd tells
 told_change basis new before after done (answer.Found value) tells = absurd tells
 told_change basis new before after done answer.NeedSplit tells = absurd tells
 told_change basis new before after done answer.Widen tells = absurd tells
-told_change basis new before after done (answer.Refused reason) tells = absurd tells
+told_change basis new before after done (answer.Refused reason) tells = absurd (tells.1 refl)
 
 -- what a walk made is in the store
 pub made_alone : (basis : Basis) (new : Moment) (before after : WalkFields) (done : Change) → IsAlone new → IsHashFile basis.bits (pages_before new) basis.root basis.max_depth → depth_of (page_at new.store.pages) basis.root ≤ basis.max_depth
-    → Makes basis new before after done → HasChanged basis new before.key (value_after done)
+    → Makes (one_key basis) new before after done → HasChanged basis new before.key (value_after done)
 made_alone basis new before after done alone file shallow makes =
-    let changed : IsChanged basis after (view_of new) (page_of before.phase) done = subst (λ (phase : Phase). Stands phase basis after (view_of new)) makes.phase makes.stands in
-    subst (λ (key : ℕ). HasChanged basis new key (value_after done)) makes.same.key (changed_alone basis new after (page_of before.phase) done alone file changed shallow)
+    let changed : IsChanged (one_key basis) after (view_of new) (page_of before.phase) done = subst (λ (phase : Phase). Stands phase (one_key basis) after (view_of new)) makes.phase makes.stands in
+    subst (λ (key : ℕ). HasChanged basis new key (value_after done)) makes.same.key (changed_alone (one_key basis) new after (page_of before.phase) done alone file changed shallow)
 
 -- a transaction alone may go on with its walk, where the pages that it began with are a hash file,
 pub may_walk_alone : (bits : ℕ → ℕ) (opens : set.FinSet nat_cmp) (root max_depth : ℕ) (mid old : Moment) (walk : WalkFields) → opens ≡ set.empty → mid ≡ old → IsAlone mid → IsHashFile bits (pages_before old) root max_depth → IsStanding (basis_of bits root max_depth old) walk (view_of old)
-    → MayWalk (record { bits = bits; opens = opens; root = root; max_depth = max_depth; tx = mid.running.tx }) mid walk
+    → MayWalk (record { bits = bits; opens = opens; root = root; max_depth = max_depth; tx = mid.running.tx; before = nothing_before }) mid walk
 may_walk_alone bits opens root max_depth mid old walk none same alone file stands =
     let was : IsHashFile bits (pages_before mid) root max_depth = subst (λ (m : Moment). IsHashFile bits (pages_before m) root max_depth) (sym same) file in
-    subst (λ opens. MayWalk (record { bits = bits; opens = opens; root = root; max_depth = max_depth; tx = mid.running.tx }) mid walk) (sym none) (record {
+    subst (λ opens. MayWalk (record { bits = bits; opens = opens; root = root; max_depth = max_depth; tx = mid.running.tx; before = nothing_before }) mid walk) (sym none) (record {
       bounded = file.bounded;
       small = file.small;
       may = alone.may;
+      written = nothing_written (view_of mid);
       file = record { clean = pages_before mid; is_clean = before_is_clean mid alone.may; form = was.form };
       shallow = was.shallow;
       stands = subst (λ (m : Moment). IsStanding (basis_of bits root max_depth m) walk (view_of m)) (sym same) stands;
@@ -118,7 +120,7 @@ may_walk_alone bits opens root max_depth mid old walk none same alone file stand
 pub change_alone : (bits : ℕ → ℕ) (opens : set.FinSet nat_cmp) (root max_depth : ℕ) (mid old new : Moment) (before after : WalkFields) (done : Change) (told : WalkAnswer)
     → opens ≡ set.empty → mid ≡ old → IsAlone mid → IsAtRecord before.phase → IsHashFile bits (pages_before old) root max_depth → IsStanding (basis_of bits root max_depth old) before (view_of old)
     → MayStep new → ((clean : ℕ → Option Page) → IsCleanFor mid clean → IsCleanFor new clean) → WritesAtMost mid new (page_of before.phase)
-    → TellsOfChange (record { bits = bits; opens = opens; root = root; max_depth = max_depth; tx = mid.running.tx }) new before after done told
+    → TellsOfChange (record { bits = bits; opens = opens; root = root; max_depth = max_depth; tx = mid.running.tx; before = nothing_before }) new before after done told
     → HasChanged (basis_of bits root max_depth old) new before.key (value_after done)
 change_alone bits opens root max_depth mid old new before after done told none same alone record_there was stood may clean step tells =
     let basis : Basis = basis_of bits root max_depth mid in
@@ -128,5 +130,5 @@ change_alone bits opens root max_depth mid old new before after done told none s
     let shallow = shallow_after_write basis mid new before (page_of before.phase) at.0 at.1 alone.may file at.2 step in
     let keeps = write_keeps_before mid mid new (page_of before.phase) refl alone may clean step in
     let makes : Makes basis new before after done =
-    subst (λ (opens : set.FinSet nat_cmp). Makes (record { bits = bits; opens = opens; root = root; max_depth = max_depth; tx = mid.running.tx }) new before after done) none (told_change (record { bits = bits; opens = opens; root = root; max_depth = max_depth; tx = mid.running.tx }) new before after done told tells) in
+    subst (λ (opens : set.FinSet nat_cmp). Makes (record { bits = bits; opens = opens; root = root; max_depth = max_depth; tx = mid.running.tx; before = nothing_before }) new before after done) none (told_change (record { bits = bits; opens = opens; root = root; max_depth = max_depth; tx = mid.running.tx; before = nothing_before }) new before after done told tells) in
     made_alone basis new before after done (alone_after_write mid new (page_of before.phase) alone may step) (file_kept bits root max_depth mid new keeps file) shallow makes

@@ -27,7 +27,7 @@ use Rattle.mlt_hash.specs.Changes.{HasNoRoom, IsAtAbsent, IsAtRecord, IsFull, Ma
 use Rattle.mlt_hash.specs.Passes.{HasRoomFrom, IsNextPass, next_of, value_after}
 use Rattle.mlt_hash_file.specs.SplitPages.{HasRoomAt, pages_for, pages_in_the_end, pages_left_at, pages_to_make}
 use Rattle.mlt_hash.specs.Steps.{HasFound, IsSameWalk}
-use Rattle.mlt_hash.specs.Walks.{Basis, IsAtBucket, IsStanding, Stands, WalkFields}
+use Rattle.mlt_hash.specs.Walks.{Basis, IsAtBucket, IsStanding, Stands, WalkFields, nothing_before, one_key}
 use Rattle.mlt_hash.specs.declared.answer.WalkAnswer.{WalkAnswer}
 use Rattle.mlt_hash.specs.declared.answer.WalkAnswer.TheVariants as answer
 use Rattle.mlt_hash.specs.declared.pass.Change.{Change}
@@ -74,10 +74,10 @@ found_record (at.Splitting own room_depth) value is there = absurd is
 found_record (at.Changed bucket done) value is there = absurd is
 
 -- a walk that has arrived has written nothing
-pub arrived_store : (basis : Basis) (m : Moment) (before walk : WalkFields) (value : Option ℕ) (q : ℕ) → IsAlone m → HasArrived basis m before walk value → page_at m.store.pages q ≡ pages_before m q
+pub arrived_store : (basis : Basis) (m : Moment) (before walk : WalkFields) (value : Option ℕ) (q : ℕ) → IsAlone m → HasArrived (one_key basis) m before walk value → page_at m.store.pages q ≡ pages_before m q
 arrived_store basis m before walk value q alone arrived =
-    let here = arrived_at basis walk (view_of m) walk.phase value arrived.found arrived.stands in
-    unwritten_store m q alone.may here.1.unwritten
+    let here = arrived_at (one_key basis) walk (view_of m) walk.phase value arrived.found arrived.stands in
+    unwritten_store m q alone.may here.1.unwritten.own
 
 -- **What a walk alone has found is the value of its key.**
 pub found_is_value : (basis : Basis) (m : Moment) (before walk : WalkFields) (value : Option ℕ) → IsAlone m → HasArrived basis m before walk value → look_up basis.bits (pages_before m) basis.root before.key ≡ value
@@ -182,7 +182,7 @@ module _ (bits : ℕ → ℕ) (root max_depth : ℕ) (first mid new : Moment) (w
 
     -- where nothing is written, the pages are those before
     store_is : new ≡ mid → page_at new.store.pages ≡ pages_before new
-    store_is same i q = let h = here in unwritten_store new q may (subst (λ (m : Moment). IsUnwritten (view_of m)) (sym same) h.2.unwritten) i
+    store_is same i q = let h = here in unwritten_store new q may (subst (λ (m : Moment). IsUnwritten (view_of m)) (sym same) h.2.unwritten.own) i
 
     pages_counted : (d : ℕ) → new ≡ mid → after.phase ≡ at.Adding value (page_of walk.phase) d true → pages_in_the_end root after new ≡ map.len (put_back new.running.images new.store.pages) + pages_for bits (pages_before new) root walk.key d
     pages_counted d same phase =
@@ -223,6 +223,7 @@ module _ (bits : ℕ → ℕ) (root max_depth : ℕ) (first mid new : Moment) (w
     pass_tells answer.NeedSplit writes tells = needs_room writes tells
     pass_tells answer.Widen writes tells = record { same = tells.same; narrow = tells.narrow; phase = tells.phase }
     pass_tells (answer.Refused refusal.NoRoom) writes tells = (tells.later, is_full tells.fields tells.full, never tells)
+    pass_tells (answer.Refused reason) writes tells = absurd (tells.1 refl)
     pass_tells other writes tells = absurd tells
 
 retell_splits : (basis : Basis) (new : Moment) (before walk after : WalkFields) (value : ℕ) → IsSameWalk before walk → NeedsSplits basis new walk after value → NeedsSplits basis new before after value
@@ -252,12 +253,12 @@ retell basis new before walk after value other same tells = absurd tells
 pub addition_tells : (bits : ℕ → ℕ) (opens : set.FinSet nat_cmp) (root max_depth : ℕ) (first old mid new : Moment) (before walk after : WalkFields) (found : Option ℕ) (value : ℕ) (told : WalkAnswer)
     → opens ≡ set.empty → mid ≡ old → IsAlone mid → KeepsBefore first old → HasArrived (basis_of bits root max_depth first) old before walk found → IsAtAbsent walk.phase → IsHashFile bits (pages_before first) root max_depth
     → MayStep new → ((clean : ℕ → Option Page) → IsCleanFor mid clean → IsCleanFor new clean) → WritesIfChanged mid new (page_of walk.phase) told
-    → TellsOfAddition (record { bits = bits; opens = opens; root = root; max_depth = max_depth; tx = mid.running.tx }) new walk after value told
+    → TellsOfAddition (record { bits = bits; opens = opens; root = root; max_depth = max_depth; tx = mid.running.tx; before = nothing_before }) new walk after value told
     → TellsOfPass (basis_of bits root max_depth first) new before after value told
 addition_tells bits opens root max_depth first old mid new before walk after found value told none same alone keeps arrived absent was may clean writes tells =
     let basis : Basis = basis_of bits root max_depth first in
     let same_tx : mid.running.tx ≡ first.running.tx = ap (λ (m : Moment). m.running.tx) same ∙ keeps.tx in
-    let same_basis : record { bits = bits; opens = opens; root = root; max_depth = max_depth; tx = mid.running.tx } ≡ basis = λ i. record { bits = bits; opens = none i; root = root; max_depth = max_depth; tx = same_tx i } in
+    let same_basis : record { bits = bits; opens = opens; root = root; max_depth = max_depth; tx = mid.running.tx; before = nothing_before } ≡ basis = λ i. record { bits = bits; opens = none i; root = root; max_depth = max_depth; tx = same_tx i; before = nothing_before } in
     let stood : IsStanding basis walk (view_of mid) = subst (λ (m : Moment). IsStanding basis walk (view_of m)) (sym same) arrived.stands in
     let file : IsHashFile bits (pages_before mid) root max_depth = subst (λ (m : Moment). IsHashFile bits (pages_before m) root max_depth) (sym same) (file_kept bits root max_depth first old keeps was) in
     let of_pass = pass_tells bits root max_depth first mid new walk after value alone file absent stood may clean (writes_at_most mid new (page_of walk.phase) told writes) told writes (subst (λ (basis : Basis). TellsOfAddition basis new walk after value told) same_basis tells) in

@@ -173,7 +173,7 @@ module _ (bits : ℕ → ℕ) (root max_depth : ℕ) (first now new : Moment) (w
         let fits : b.header.depth ≤ max_depth = subst (λ (p : Option Page). (header_of p).depth ≤ max_depth) head shallow in
         let stands : IsSplitting ours after (view_of new) room_depth = subst (λ (phase : Phase). Stands phase ours after (view_of new)) b.phase b.on.stands in
         let same : stands.split ≡ b.split = some_is_one stands.split b.split after.split stands.split_is b.split_is in
-        let deep_there = (begins_now (aim_of ours after room_depth) new stands.split alone_new.may (clean_file bits root max_depth new alone_new.may (file_kept bits root max_depth now new keeps file)) stands.under_way).deep in
+        let deep_there = (begins_now (aim_of ours after room_depth) new stands.split alone_new.may (clean_now (aim_of ours after room_depth) new alone_new.may (clean_file bits root max_depth new alone_new.may (file_kept bits root max_depth now new keeps file))) stands.under_way).deep in
         let deep : b.split.depth < room_depth = subst (λ (s : SplitFields). s.depth < room_depth) same deep_there in
         let steps : directory_steps b.split.depth b.split.directory_depth ≤ 513 = few_steps b.split.depth b.split.directory_depth (omega (arith, fits, b.directory_depth, file.small)) in
         let now_is : effort walk now ≡ 1000 * (17 - b.bucket.depth) = ap (λ (phase : Phase). effort_at phase walk now) phase_is ∙ ap (λ (p : Option Page). 1000 * (17 - (bucket_of p).depth)) bucket in
@@ -234,13 +234,13 @@ module _ (bits : ℕ → ℕ) (root max_depth : ℕ) (first now new : Moment) (w
     stands_there : (was : SplitFields) → walk.split ≡ Some was → MayStandAt was.phase was.depth was.directory_depth
     stands_there was is =
         let aim : Aim = aim_of ours walk room_depth in
-        let stands = stands_now aim now splitting.split splitting.split.phase refl alone.may clean_now_is splitting.under_way in
+        let stands = stands_now aim now splitting.split splitting.split.phase refl alone.may (clean_now aim now alone.may clean_now_is) splitting.under_way in
         subst (λ (split : SplitFields). MayStandAt split.phase split.depth split.directory_depth) (split_is was is) (may_stand splitting.split.phase aim _ _ _ splitting.split splitting.under_way.bucket stands)
 
     within : (was : SplitFields) → walk.split ≡ Some was → was.depth ≤ was.directory_depth
     within was is =
         let aim : Aim = aim_of ours walk room_depth in
-        subst (λ (split : SplitFields). split.depth ≤ split.directory_depth) (split_is was is) (depths_are_small aim _ splitting.split splitting.under_way.bucket (begins_now aim now splitting.split alone.may clean_now_is splitting.under_way)).0
+        subst (λ (split : SplitFields). split.depth ≤ split.directory_depth) (split_is was is) (depths_are_small aim _ splitting.split splitting.under_way.bucket (begins_now aim now splitting.split alone.may (clean_now aim now alone.may clean_now_is) splitting.under_way)).0
 
     done_there : (was : SplitFields) → walk.split ≡ Some was → OfSplit walk (λ (split : SplitFields). IsDone split.phase (aim_of ours walk room_depth) now new split) → IsDone was.phase (aim_of ours walk room_depth) now new was
     done_there was is done = subst (λ (split : SplitFields). IsDone split.phase (aim_of ours walk room_depth) now new split) (some_is_one done.0 was walk.split done.1 is) done.2

@@ -8,7 +8,7 @@ use Rattle.mlt_hash_file.specs.Alone.{KeepsBefore, basis_of, pages_before}
 use Rattle.mlt_hash_file.specs.AloneWalks.{HasArrived, IsHashFile}
 use Rattle.mlt_hash.specs.Splitting.{IsUnderWay, TellsAt}
 use Rattle.mlt_hash.specs.Steps.{IsSameWalk, TellsOfPath, steps_to_bucket}
-use Rattle.mlt_hash.specs.Walks.{Basis, IsAtStart, IsStanding, Stands, WalkFields}
+use Rattle.mlt_hash.specs.Walks.{Basis, IsAtStart, IsStanding, Stands, WalkFields, nothing_before, one_key}
 use Rattle.mlt_hash.specs.declared.answer.WalkAnswer.{WalkAnswer}
 use Rattle.mlt_hash.specs.declared.answer.WalkAnswer.TheVariants as answer
 use Rattle.mlt_hash.specs.declared.pass.Phase.{Phase}
@@ -25,7 +25,7 @@ file_kept bits root max_depth old new keeps file = subst (λ (pages : ℕ → Op
 
 -- what a walk goes by is the same at each of its steps
 pub same_basis : (bits : ℕ → ℕ) (root max_depth : ℕ) (old new : Moment) → KeepsBefore old new → basis_of bits root max_depth new ≡ basis_of bits root max_depth old
-same_basis bits root max_depth old new keeps i = record { bits = bits; opens = set.empty; root = root; max_depth = max_depth; tx = keeps.tx i }
+same_basis bits root max_depth old new keeps i = record { bits = bits; opens = set.empty; root = root; max_depth = max_depth; tx = keeps.tx i; before = nothing_before }
 
 -- a walk is on its way to its bucket
 pub record IsOnItsWay (basis : Basis) (old now : Moment) (before walk : WalkFields) : Type 0 where
@@ -34,11 +34,11 @@ pub record IsOnItsWay (basis : Basis) (old now : Moment) (before walk : WalkFiel
   pub stands : IsStanding basis walk (view_of now)
   pub keeps : KeepsBefore old now
 
-pub starts : (basis : Basis) (m : Moment) (walk : WalkFields) → walk.phase ≡ at.Start → IsAtStart (view_of m) → IsOnItsWay basis m m walk walk
+pub starts : (basis : Basis) (m : Moment) (walk : WalkFields) → walk.phase ≡ at.Start → IsAtStart (view_of m) → IsOnItsWay (one_key basis) m m walk walk
 starts basis m walk start nothing = record {
   more = subst (λ (phase : Phase). 0 < steps_to_bucket phase) (sym start) (omega arith);
   same = record { key = refl; mode = refl; pass = refl };
-  stands = subst (λ (phase : Phase). Stands phase basis walk (view_of m)) (sym start) nothing;
+  stands = subst (λ (phase : Phase). Stands phase (one_key basis) walk (view_of m)) (sym start) (nothing, refl);
   keeps = keeps_same m;
 }
 

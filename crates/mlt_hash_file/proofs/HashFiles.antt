@@ -17,7 +17,7 @@ use Rattle.mlt_held.specs.Moments.{Moment}
 use Rattle.mlt_hash_file.specs.Alone.{IsAlone, IsIdle, KeepsBefore, basis_of, pages_before}
 use Rattle.mlt_hash_file.specs.AloneWalks.{ChangesValue, HasArrived, HasChanged, IsHashFile, RefusesFor, TellsRefusal}
 use Rattle.mlt_hash.specs.Changes.{IsAtRecord}
-use Rattle.mlt_hash.specs.Walks.{Basis, WalkFields}
+use Rattle.mlt_hash.specs.Walks.{Basis, WalkFields, one_key}
 use Rattle.mlt_hash_file.proofs.Alone.{keeps_both}
 use Rattle.mlt_hash_file.proofs.AloneEnds.{idle_before, idle_store}
 use Rattle.mlt_hash_file.proofs.AlonePasses.{arrived_store, found_is_value, found_record}
@@ -51,7 +51,7 @@ pub absent_before : (bits : ℕ → ℕ) (root max_depth : ℕ) (m : Moment) (ke
 absent_before bits root max_depth m key idle file absent = ap (λ (pages : ℕ → Option Page). look_up bits pages root key) (idle_store m idle) ∙ sym (record_is bits root max_depth m.store.pages key file) ∙ absent
 
 -- who has only read leaves the store as it was
-pub store_stays : (basis : Basis) (old mid : Moment) (before walk : WalkFields) (value : Option ℕ) → IsIdle old → KeepsBefore old mid → IsAlone mid → HasArrived basis mid before walk value → mid.store ≡ old.store
+pub store_stays : (basis : Basis) (old mid : Moment) (before walk : WalkFields) (value : Option ℕ) → IsIdle old → KeepsBefore old mid → IsAlone mid → HasArrived (one_key basis) mid before walk value → mid.store ≡ old.store
 store_stays basis old mid before walk value idle keeps alone arrived =
     let pages : mid.store.pages ≡ old.store.pages = same_pages mid.store.pages old.store.pages (λ q. arrived_store basis mid before walk value q alone arrived ∙ keeps.pages q ∙ idle_before old q idle) in
     λ i. record { pages = pages i; max_pages = keeps.max_pages i }

@@ -9,7 +9,7 @@ use Rattle.mlt_page_locks.specs.LockTables.{LockTable, coded_table, is_holder}
 use Rattle.mlt_subtx.specs.Images.{Running, coded_running}
 use Rattle.mlt_hash_form.specs.declared.root.Root.{Root}
 use Rattle.mlt_held.specs.Moments.{MayStep, Moment, page_before}
-use Rattle.mlt_hash.specs.Walks.{Basis}
+use Rattle.mlt_hash.specs.Walks.{Basis, nothing_before}
 use Rattle.mlt_hash.specs.declared.answer.WalkAnswer.{WalkAnswer}
 use Rattle.mlt_hash.specs.declared.answer.WalkAnswer.TheVariants as answer
 
@@ -35,10 +35,16 @@ pub record KeepsBefore (old new : Moment) : Type 0 where
   pub max_pages : new.store.max_pages ≡ old.store.max_pages
   pub pages : (q : ℕ) → pages_before new q ≡ pages_before old q
 
--- what a walk goes by where no transaction is open, so that no ghost keeps its room
+-- what a walk to its first key goes by where no transaction is open, so that no ghost keeps its room
 abbrev pub basis_of : (ℕ → ℕ) → ℕ → ℕ → Moment → Basis
-basis_of bits root max_depth m =
-    record { bits = bits; opens = set.empty; root = root; max_depth = max_depth; tx = m.running.tx }
+basis_of bits root max_depth m = record {
+  bits = bits;
+  opens = set.empty;
+  root = root;
+  max_depth = max_depth;
+  tx = m.running.tx;
+  before = nothing_before;
+}
 
 -- the same of a transaction that has this root
 abbrev pub basis_alone : {P : Type 0} → (P → ℕ → ℕ) → Root P → Moment → Basis

@@ -1,14 +1,15 @@
 use Rattle.mlt_held.specs.Moments.{moment}
-use Rattle.std.proofs.Common.{subst}
+use Rattle.std.proofs.Common.{refl, subst}
 use Rattle.mlt_hash_file.specs.Alone.{IsAlone}
 use Rattle.mlt_hash_file.proofs.Alone.{alone_after_step, step_keeps_before}
 use Rattle.mlt_hash_file.proofs.AloneSteps.{goes}
 use Rattle.mlt_hash_file.proofs.AloneChanges.{may_walk_alone}
 use Rattle.mlt_hash_file.proofs.runner.Runner.step.Goals as goal
 
-pub advance-requires-clause-ready : goal.advance-requires-clause-ready
-advance-requires-clause-ready g c =
-    may_walk_alone (g.P.Pseudo.bits_of c.args.root.now.pseudo) c.self.inside.opens c.args.root.now.page c.args.root.now.max_depth (moment c.self.inside.subtx c.self.inside.pages) c.args.self.now c.args.walk.now c.self.invariant.1 c.self.view_is c.self.invariant.0 c.requires.file c.requires.stands
+pub advance-requires : goal.advance-requires
+advance-requires g c κs within =
+    let ready = may_walk_alone (g.P.Pseudo.bits_of c.args.root.now.pseudo) c.self.inside.opens c.args.root.now.page c.args.root.now.max_depth (moment c.self.inside.subtx c.self.inside.pages) c.args.self.now c.args.walk.now c.self.invariant.1 c.self.view_is c.self.invariant.0 c.requires.file c.requires.stands in
+    (within, (refl, (c.requires.under_way, ready)))
 
 pub invariant_of-self : goal.invariant_of-self
 invariant_of-self g c = (
