@@ -5,7 +5,7 @@ ghost use Rattle.std.specs.Prelude.{◌≡◌, List};
 ghost use Rattle.mlt_kinds.specs.declared.operation.ObjOp.{ObjOp};
 ghost use Rattle.mlt_kinds.specs.declared.operation.ObjReply.{ObjReply};
 ghost use Rattle.mlt_held.specs.Views.{View};
-ghost use Rattle.mlt_hash.specs.Walks.{Basis};
+ghost use Rattle.mlt_hash.specs.Walks.{Basis, one_key};
 ghost use Rattle.mlt_hash.specs.declared.pass.Pass.TheVariants.{First, Narrow, Wide};
 ghost use Rattle.mlt_operation.specs.declared.request.Request.TheVariants.{Do};
 ghost use Rattle.mlt_transaction.specs.declared.transaction.At.TheVariants as at;
@@ -19,7 +19,7 @@ ghost use Rattle.mlt_counts.specs.OwnSteps.{AreOwnSteps, OwnStep};
 pub fn first_passes_take_four_steps()
     ensures { (basis : Basis) (op : ObjOp) (t : Transaction) (seen : View) (steps : List OwnStep)
         → t.at ≡ at.Pending (started_in (Do op) First)
-        → AreOwnSteps basis t seen steps → TakesFirstPass basis op steps }
+        → AreOwnSteps (one_key basis) t seen steps → TakesFirstPass (one_key basis) op steps }
 {}
 
 /// A narrow pass is told so too; or it is refused earlier; or it is given up at its third step, told Going, for a wide
@@ -28,14 +28,14 @@ pub fn first_passes_take_four_steps()
 pub fn narrow_passes_take_few_steps()
     ensures { (basis : Basis) (op : ObjOp) (t : Transaction) (seen : View) (steps : List OwnStep)
         → t.at ≡ at.Pending (started_in (Do op) Narrow)
-        → AreOwnSteps basis t seen steps → TakesNarrowPass basis op steps }
+        → AreOwnSteps (one_key basis) t seen steps → TakesNarrowPass (one_key basis) op steps }
 {}
 
 /// So is a wide pass, which is never given up.
 pub fn wide_passes_take_few_steps()
     ensures { (basis : Basis) (op : ObjOp) (t : Transaction) (seen : View) (steps : List OwnStep)
         → t.at ≡ at.Pending (started_in (Do op) Wide)
-        → AreOwnSteps basis t seen steps → TakesLaterPass basis steps }
+        → AreOwnSteps (one_key basis) t seen steps → TakesLaterPass (one_key basis) steps }
 {}
 
 /// An operation is taken back at the fourth step of its inverse, told Going at the three before it; and at the first step,
@@ -43,5 +43,5 @@ pub fn wide_passes_take_few_steps()
 pub fn inverses_take_four_steps_or_one()
     ensures { (basis : Basis) (t : Transaction) (last : ObjOp × ObjReply) (seen : View)
         (steps : List OwnStep)
-        → IsToTakeBack t last → AreOwnSteps basis t seen steps → TakesBackInFour last steps }
+        → IsToTakeBack t last → AreOwnSteps (one_key basis) t seen steps → TakesBackInFour last steps }
 {}
