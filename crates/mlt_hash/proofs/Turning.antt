@@ -20,7 +20,7 @@ use Rattle.mlt_split.proofs.Closing.{held_page_over}
 use Rattle.mlt_split.proofs.HeldPages.{reads_as, same_header}
 use Rattle.mlt_split.proofs.Later.{stronger_exclusive}
 use Rattle.mlt_hash.specs.Passes.{header_held, header_mode}
-use Rattle.mlt_hash.specs.Walks.{Basis, Before, Follows, HoldsBeside, IsChanged, IsHeaded, MayWalk, Stands, WalkFields, basis_after, before_of, nothing_before, one_key}
+use Rattle.mlt_hash.specs.Walks.{Basis, Before, GoesAfter, HoldsBeside, IsChanged, IsHeaded, MayWalk, Stands, WalkFields, basis_after, before_of, nothing_before, one_key}
 use Rattle.mlt_hash.specs.Changes.{IsChangedPhase}
 use Rattle.mlt_hash.specs.declared.pass.Change.{Change}
 use Rattle.mlt_hash.specs.declared.pass.Pass.{Pass}
@@ -97,7 +97,7 @@ module _ (basis : Basis) (walk : WalkFields) (m : Moment) (first : basis.before 
 
       headed : IsHeaded then on (view_over (view_of m).own m) dir row depth
       headed = record {
-        follows = subst (λ (p : Pass). Follows p (before_of (view_of m))) (sym wide) (omega arith);
+        goes_after = subst (λ (p : Pass). GoesAfter p (before_of (view_of m))) (sym wide) (omega arith);
         unwritten = nothing_since (view_of m);
         header = h;
         held = same_entries (view_of m).modes (with_page (view_of m).modes basis.root Exclusive) (λ q. held_alike (view_of m).modes basis.root q root_is_exclusive) ∙ ap (λ p. header_held (view_of m).modes p basis.root) (sym wide);
