@@ -18,7 +18,7 @@ use Rattle.mlt_held.specs.Views.{View}
 use Rattle.mlt_held.proofs.Views.{mode_of_others}
 use Rattle.mlt_split.specs.Rests.{HoldsAmong, IsIn}
 use Rattle.mlt_split.proofs.Among.{among_after_lock, among_after_make, among_still, few_are_held, few_pages}
-use Rattle.mlt_hash.specs.Walks.{Before, Follows, HoldsBeside, nothing_before}
+use Rattle.mlt_hash.specs.Walks.{Before, GoesAfter, HoldsBeside, nothing_before}
 use Rattle.mlt_hash.specs.declared.pass.Pass.{Pass}
 use Rattle.mlt_hash.specs.declared.pass.Pass.TheVariants as pass
 
@@ -108,19 +108,19 @@ few_beside view header others few small among =
     omega (arith, held, few, few_pages header.depth small)
 
 -- what a walk did before holds 17 buckets at most
-pub few_before : (on : Pass) (before : Before) → Follows on before → before.buckets ≤ 17
+pub few_before : (on : Pass) (before : Before) → GoesAfter on before → before.buckets ≤ 17
 few_before pass.First before anew = omega (arith, ap (λ (b : Before). b.buckets) anew)
 few_before pass.Narrow before anew = omega (arith, ap (λ (b : Before). b.buckets) anew)
 few_before pass.Wide before few = few
 
 -- each pass may be the first one to a key
-pub follows_nothing : (on : Pass) → Follows on nothing_before
-follows_nothing pass.First = refl
-follows_nothing pass.Narrow = refl
-follows_nothing pass.Wide = omega arith
+pub goes_after_nothing : (on : Pass) → GoesAfter on nothing_before
+goes_after_nothing pass.First = refl
+goes_after_nothing pass.Narrow = refl
+goes_after_nothing pass.Wide = omega arith
 
 -- and one that is not wide is
-pub anew_unless_wide : (on : Pass) (before : Before) → Follows on before → (on ≡ pass.Wide → ⊥) → before ≡ nothing_before
+pub anew_unless_wide : (on : Pass) (before : Before) → GoesAfter on before → (on ≡ pass.Wide → ⊥) → before ≡ nothing_before
 anew_unless_wide pass.First before anew narrow = anew
 anew_unless_wide pass.Narrow before anew narrow = anew
 anew_unless_wide pass.Wide before few narrow = absurd (narrow refl)

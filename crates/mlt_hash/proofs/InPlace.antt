@@ -152,7 +152,7 @@ module _ (basis : Basis) (walk : WalkFields) (view : View) (n depth : ℕ) (foun
       header = stands.header;
       head = (λ k. own_or (writes.others basis.root not_header k) (unwrap_or ((writes.seen basis.root ∙ stands.head) k) None)) ∙ reads_since basis.before.written view stands.unwritten basis.root (Some (page.Head stands.header)) stands.head;
       shallow = stands.shallow;
-      few = few_beside new stands.header (basis.before.buckets + 2) (omega (arith, few_before walk.pass basis.before stands.follows)) (let most = stands.shallow in omega (arith, most, small)) beside;
+      few = few_beside new stands.header (basis.before.buckets + 2) (omega (arith, few_before walk.pass basis.before stands.goes_after)) (let most = stands.shallow in omega (arith, most, small)) beside;
       among = more_beside new stands.header (basis.before.buckets + 2) (basis.before.buckets + 18) (omega arith) beside;
       rest = view.own;
       slot = i;

@@ -14,3 +14,4 @@ pub mod Splittings
 pub mod Standing
 pub mod Standings
 pub mod StepsLeft
+pub mod Turning

@@ -29,7 +29,7 @@ use Rattle.mlt_split.proofs.Later.{stronger_exclusive}
 use Rattle.mlt_split.proofs.Locks.{done_writes_what_it_locks, locks_its_page_alone}
 use Rattle.mlt_split.proofs.Narrow.{narrow_leaves_header, narrow_makes_none, narrow_next_page}
 use Rattle.mlt_hash.specs.Passes.{MayHoldMore, bucket_held, bucket_mode, directory_held, directory_mode, header_held, header_mode}
-use Rattle.mlt_hash.specs.Walks.{Basis, Before, Follows, HasRead, HoldsByPass, IsAtBucket, IsSplitting, StaysNarrow, WalkFields, aim_of, view_for}
+use Rattle.mlt_hash.specs.Walks.{Basis, Before, GoesAfter, HasRead, HoldsByPass, IsAtBucket, IsSplitting, StaysNarrow, WalkFields, aim_of, view_for}
 use Rattle.mlt_hash.specs.declared.pass.Pass.{Pass}
 use Rattle.mlt_hash.specs.declared.pass.Pass.TheVariants as pass
 
@@ -57,7 +57,7 @@ dir_is_no_bucket : (view : View) (p q : ℕ) (dir : List ℕ) (fields : BucketFi
 dir_is_no_bucket view p q dir fields listed at same = let both : Some (Some (page.Dir dir)) ≡ Some (Some (page.Bucket fields)) = sym listed ∙ ap view.seen same ∙ at in cc
 
 -- a page that is locked on the way has the mode of the pass
-takes_mode : (on : Pass) (before : Before) → Follows on before → (q : ℕ) (mode : Mode) → (on ≡ pass.Wide → mode ≡ Exclusive) → stronger (map.get before.held q) mode ≡ mode
+takes_mode : (on : Pass) (before : Before) → GoesAfter on before → (q : ℕ) (mode : Mode) → (on ≡ pass.Wide → mode ≡ Exclusive) → stronger (map.get before.held q) mode ≡ mode
 takes_mode pass.First before anew q mode wide = ap (λ (b : Before). stronger (map.get b.held q) mode) anew ∙ ap (λ o. stronger o mode) (map.get-empty {X = Mode} nat_cmp q)
 takes_mode pass.Narrow before anew q mode wide = ap (λ (b : Before). stronger (map.get b.held q) mode) anew ∙ ap (λ o. stronger o mode) (map.get-empty {X = Mode} nat_cmp q)
 takes_mode pass.Wide before few q mode wide = ap (stronger (map.get before.held q)) (wide refl) ∙ stronger_exclusive (map.get before.held q) ∙ sym (wide refl)
@@ -70,7 +70,7 @@ held_still modes q mode p held =
       | inr elsewhere ↦ ap is_some (mode_of_others modes q mode p elsewhere) ∙ held
     ]
 
-module _ (before : Before) (walk : WalkFields) (follows : Follows walk.pass before) (root dir bucket : ℕ) (apart : root ≢ dir) (beside : root ≢ bucket) (below : dir ≢ bucket) where
+module _ (before : Before) (walk : WalkFields) (follows : GoesAfter walk.pass before) (root dir bucket : ℕ) (apart : root ≢ dir) (beside : root ≢ bucket) (below : dir ≢ bucket) where
   abbrev one : Modes
   one = header_held before.held walk.pass root
 
@@ -115,7 +115,7 @@ read_at_bucket basis walk view bucket depth found here = record {
 pub holds_at_bucket : (basis : Basis) (walk : WalkFields) (view : View) (bucket depth : ℕ) (found : Option ℕ) → (here : IsAtBucket basis walk view bucket depth found) → HoldsByPass basis.before.held walk.pass walk.mode basis.root (dir_of here.header (basis.bits walk.key)) bucket view
 holds_at_bucket basis walk view bucket depth found here =
     let dir = dir_of here.header (basis.bits walk.key) in
-    held_on_way basis.before walk here.follows basis.root dir bucket (head_is_no_dir view basis.root dir here.header here.dir here.head here.listed) (head_is_no_bucket view basis.root bucket here.header here.fields here.head here.at) (dir_is_no_bucket view dir bucket here.dir here.fields here.listed here.at) view here.held
+    held_on_way basis.before walk here.goes_after basis.root dir bucket (head_is_no_dir view basis.root dir here.header here.dir here.head here.listed) (head_is_no_bucket view basis.root bucket here.header here.fields here.head here.at) (dir_is_no_bucket view dir bucket here.dir here.fields here.listed here.at) view here.held
 
 -- the page is one that the pass may hold beside its way
 abbrev IsMore : WalkFields → View → ℕ → Type 0

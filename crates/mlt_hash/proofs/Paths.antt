@@ -18,7 +18,7 @@ use Rattle.mlt_hash.specs.Passes.{bucket_mode, directory_mode, header_mode}
 use Rattle.mlt_hash.specs.Walks.{Basis, Before, HoldsBeside, IsAtBucket, IsAtStart, IsHeaded, IsPlaced, Stands, WalkFields, basis_after, nothing_before, one_key, view_for}
 use Rattle.mlt_hash.specs.Steps.{GoesOn, HasFound, steps_to_bucket}
 use Rattle.mlt_hash.specs.declared.pass.Phase.TheVariants as at
-use Rattle.mlt_hash.proofs.Beside.{bucket_beside, directory_beside, follows_nothing, header_beside}
+use Rattle.mlt_hash.proofs.Beside.{bucket_beside, directory_beside, goes_after_nothing, header_beside}
 use Rattle.mlt_hash.proofs.Readings.{reads_clean}
 
 -- the header is there,
@@ -41,7 +41,7 @@ headed basis walk after old new mode header dir row depth anew file shallow may 
     let here : file.clean basis.root ≡ Some (page.Head header) = reads_clean no_writes old new basis.root mode (Some (page.Head header)) file.clean may (clean file.clean file.is_clean) unwritten reads in
     let held : (view_of new).modes ≡ with_page map.empty basis.root (header_mode walk.pass) = reads.modes ∙ (λ i. with_page (start.unheld i) basis.root (mode_is i)) in
     let stands : IsHeaded (one_key basis) (record walk { phase = at.Headed dir row depth }) (view_of new) dir row depth = record {
-      follows = follows_nothing walk.pass;
+      goes_after = goes_after_nothing walk.pass;
       unwritten = still_unwritten no_writes (view_of old) (view_of new) basis.root mode (Some (page.Head header)) unwritten reads;
       header = header;
       held = held;
@@ -86,7 +86,7 @@ module _ (basis : Basis) (walk after : WalkFields) (old new : Moment) (mode : Mo
       let before = basis.before.written in
       let shallow = here.shallow in
       let stands : IsPlaced basis (record walk { phase = at.Placed bucket depth }) (view_for basis new) bucket depth = record {
-        follows = here.follows;
+        goes_after = here.goes_after;
         unwritten = still_unwritten before (view_for basis old) (view_for basis new) number mode (Some (page.Dir dir)) here.unwritten reads;
         header = here.header;
         held = reads.modes ∙ (λ i. with_page (here.held i) (here.dir_is i) (mode_is i));
@@ -110,7 +110,7 @@ module _ (basis : Basis) (walk after : WalkFields) (old new : Moment) (mode : Mo
   arrived fields found here mode_is reads found_is phase is =
       let before = basis.before.written in
       let stands : IsAtBucket basis (record walk { phase = at.AtBucket number depth found }) (view_for basis new) number depth found = record {
-        follows = here.follows;
+        goes_after = here.goes_after;
         unwritten = still_unwritten before (view_for basis old) (view_for basis new) number mode (Some (page.Bucket fields)) here.unwritten reads;
         header = here.header;
         held = reads.modes ∙ (λ i. with_page (here.held i) number (mode_is i));

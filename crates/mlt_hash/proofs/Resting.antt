@@ -127,7 +127,7 @@ module _ (basis : Basis) (walk : WalkFields) (m : Moment) (fields : BucketFields
     no_ghost = nowhere_at (is_ghost_of walk.key basis.tx) fields.slots refl full.no_ghost;
     room = room;
     small = small;
-    few_before = few_before walk.pass basis.before bucket.follows;
+    few_before = few_before walk.pass basis.before bucket.goes_after;
     among = more_beside (view_for basis m) bucket.header (basis.before.buckets + 2) (basis.before.buckets + 2 + fields.depth) (omega arith) bucket.among;
   }
 
@@ -144,7 +144,7 @@ module _ (basis : Basis) (walk : WalkFields) (m : Moment) (fields : BucketFields
     most = has.1;
     unsplit_is = λ _. deeper d has.0 has.2;
     later = later;
-    narrow = λ is. let fits = narrow is in let same = bucket.depth_is in record { enough = omega (arith, fits.0, same); one_page = omega (arith, fits.1, same); unwritten = bucket.unwritten.own basis.root ∙ ap (λ (b : Before). b.written basis.root) (anew_unless_wide walk.pass basis.before bucket.follows (λ wide. narrow_is_not_wide (sym is ∙ wide))) };
+    narrow = λ is. let fits = narrow is in let same = bucket.depth_is in record { enough = omega (arith, fits.0, same); one_page = omega (arith, fits.1, same); unwritten = bucket.unwritten.own basis.root ∙ ap (λ (b : Before). b.written basis.root) (anew_unless_wide walk.pass basis.before bucket.goes_after (λ wide. narrow_is_not_wide (sym is ∙ wide))) };
     wide = λ is. (holds_at_bucket basis walk (view_for basis m) n (directory_depth_of walk.phase) None bucket).on_header ∙ ap (λ p. Some (header_mode p)) is;
   }
 
@@ -153,7 +153,7 @@ pub few_at_bucket : (basis : Basis) (walk : WalkFields) (view : View) → IsAtAb
 few_at_bucket basis walk view none stands narrow =
     let here = absent_at basis walk view walk.phase none stands in
     let dir = dir_of here.header (basis.bits walk.key) in
-    let anew = anew_unless_wide walk.pass basis.before here.follows narrow in
+    let anew = anew_unless_wide walk.pass basis.before here.goes_after narrow in
     three_held view.modes walk.pass walk.mode basis.root dir (page_of walk.phase) (here.held ∙ ap (λ (b : Before). bucket_held b.held walk.pass walk.mode basis.root dir (page_of walk.phase)) anew)
 
 -- a bucket that is full is the one that is seen

@@ -12,14 +12,14 @@ stands_at basis walk view phase is stands = subst (λ (phase : Phase). Stands ph
 
 -- whoever is open, a walk on its way stands where it stands
 pub headed_for : (basis : Basis) (opens : set.FinSet nat_cmp) (walk : WalkFields) (view : View) (dir row depth : ℕ) → IsHeaded basis walk view dir row depth → IsHeaded (record basis { opens = opens }) walk view dir row depth
-headed_for basis opens walk view dir row depth here = record { follows = here.follows; unwritten = here.unwritten; header = here.header; held = here.held; among = here.among; head = here.head; dir_is = here.dir_is; row_is = here.row_is; depth_is = here.depth_is; shallow = here.shallow }
+headed_for basis opens walk view dir row depth here = record { goes_after = here.goes_after; unwritten = here.unwritten; header = here.header; held = here.held; among = here.among; head = here.head; dir_is = here.dir_is; row_is = here.row_is; depth_is = here.depth_is; shallow = here.shallow }
 
 pub placed_for : (basis : Basis) (opens : set.FinSet nat_cmp) (walk : WalkFields) (view : View) (bucket depth : ℕ) → IsPlaced basis walk view bucket depth → IsPlaced (record basis { opens = opens }) walk view bucket depth
-placed_for basis opens walk view bucket depth here = record { follows = here.follows; unwritten = here.unwritten; header = here.header; held = here.held; among = here.among; head = here.head; dir = here.dir; listed = here.listed; bucket_is = here.bucket_is; depth_is = here.depth_is; shallow = here.shallow }
+placed_for basis opens walk view bucket depth here = record { goes_after = here.goes_after; unwritten = here.unwritten; header = here.header; held = here.held; among = here.among; head = here.head; dir = here.dir; listed = here.listed; bucket_is = here.bucket_is; depth_is = here.depth_is; shallow = here.shallow }
 
 pub at_bucket_for : (basis : Basis) (opens : set.FinSet nat_cmp) (walk : WalkFields) (view : View) (bucket depth : ℕ) (found : Option ℕ) → IsAtBucket basis walk view bucket depth found → IsAtBucket (record basis { opens = opens }) walk view bucket depth found
 at_bucket_for basis opens walk view bucket depth found here = record {
-  follows = here.follows;
+  goes_after = here.goes_after;
   unwritten = here.unwritten;
   header = here.header;
   held = here.held;

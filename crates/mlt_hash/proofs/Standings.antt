@@ -10,7 +10,7 @@ use Rattle.mlt_held.specs.Views.{View}
 use Rattle.mlt_held.proofs.Reading.{read_is_there}
 use Rattle.mlt_split.proofs.Closing.{HasClean}
 use Rattle.mlt_split.proofs.Few.{rest_holds_few, split_holds_few}
-use Rattle.mlt_hash.specs.Walks.{Basis, Follows, HasRead, HoldsBeside, IsStanding, Stands, WalkFields, aim_of}
+use Rattle.mlt_hash.specs.Walks.{Basis, GoesAfter, HasRead, HoldsBeside, IsStanding, Stands, WalkFields, aim_of}
 use Rattle.mlt_hash.specs.declared.pass.Phase.{Phase}
 use Rattle.mlt_hash.specs.declared.pass.Phase.TheVariants as at
 use Rattle.mlt_hash.proofs.Beside.{few_before, few_beside}
@@ -18,16 +18,16 @@ use Rattle.mlt_hash.proofs.Paths.{header_small}
 use Rattle.mlt_hash.proofs.Readings.{none_held}
 
 -- on its way a walk holds few pages
-few_on_way : (basis : Basis) (walk : WalkFields) (view : View) (header : HeadFields) (others : ℕ) (clean : ℕ → Option Page) → Agrees view.seen clean → HasForm basis.bits clean basis.root → Follows walk.pass basis.before → view.seen basis.root ≡ Some (Some (page.Head header))
+few_on_way : (basis : Basis) (walk : WalkFields) (view : View) (header : HeadFields) (others : ℕ) (clean : ℕ → Option Page) → Agrees view.seen clean → HasForm basis.bits clean basis.root → GoesAfter walk.pass basis.before → view.seen basis.root ≡ Some (Some (page.Head header))
     → others ≤ basis.before.buckets + 2 → HoldsBeside view header others → map.len view.modes < 300
 few_on_way basis walk view header others clean agree form follows head le among =
     few_beside view header others (omega (arith, le, few_before walk.pass basis.before follows)) (header_small basis.bits clean basis.root header form (agree basis.root (Some (page.Head header)) head)) among
 
 few_at : (phase : Phase) (basis : Basis) (walk : WalkFields) (view : View) (clean : ℕ → Option Page) → Agrees view.seen clean → HasForm basis.bits clean basis.root → Stands phase basis walk view → map.len view.modes < 300
 few_at at.Start basis walk view clean agree form s = let few = none_held view.modes s.0.unheld in omega (arith, few)
-few_at (at.Headed dir row depth) basis walk view clean agree form s = few_on_way basis walk view s.header (basis.before.buckets + 1) clean agree form s.follows s.head (omega arith) s.among
-few_at (at.Placed bucket depth) basis walk view clean agree form s = few_on_way basis walk view s.header (basis.before.buckets + 1) clean agree form s.follows s.head (omega arith) s.among
-few_at (at.AtBucket bucket depth found) basis walk view clean agree form s = few_on_way basis walk view s.header (basis.before.buckets + 2) clean agree form s.follows s.head (omega arith) s.among
+few_at (at.Headed dir row depth) basis walk view clean agree form s = few_on_way basis walk view s.header (basis.before.buckets + 1) clean agree form s.goes_after s.head (omega arith) s.among
+few_at (at.Placed bucket depth) basis walk view clean agree form s = few_on_way basis walk view s.header (basis.before.buckets + 1) clean agree form s.goes_after s.head (omega arith) s.among
+few_at (at.AtBucket bucket depth found) basis walk view clean agree form s = few_on_way basis walk view s.header (basis.before.buckets + 2) clean agree form s.goes_after s.head (omega arith) s.among
 few_at (at.Full next) basis walk view clean agree form s = omega (arith, s)
 few_at (at.Adding value bucket room_depth unsplit) basis walk view clean agree form s =
     let w : HasClean (aim_of basis walk room_depth) view = record { clean = clean; agrees = agree; form = form } in

@@ -43,6 +43,11 @@ abbrev pub IsAtAbsent : Phase → Type 0
 IsAtAbsent (at.AtBucket bucket depth found) = found ≡ None
 IsAtAbsent other = ⊥
 
+-- the walk has written its change
+abbrev pub IsChangedPhase : Phase → Type 0
+IsChangedPhase (at.Changed bucket done) = Unit {0}
+IsChangedPhase other = ⊥
+
 -- the page of the bucket that a walk is at
 abbrev pub page_of : Phase → ℕ
 page_of at.Start = 0

@@ -92,9 +92,9 @@ abbrev pub view_for : Basis → Moment → View
 view_for basis m = view_over basis.before.written m
 
 -- only a wide pass goes on to another key
-abbrev pub Follows : Pass → Before → Type 0
-Follows pass.Wide before = before.buckets ≤ 17
-Follows other before = before ≡ nothing_before
+abbrev pub GoesAfter : Pass → Before → Type 0
+GoesAfter pass.Wide before = before.buckets ≤ 17
+GoesAfter other before = before ≡ nothing_before
 
 -- all pages that are held stand in a list of at most so many and the pages of the directory, and so do these
 abbrev pub HoldsBeside : View → HeadFields → ℕ → Type 0
@@ -113,7 +113,7 @@ StartsAnew basis view = IsAtStart view × (basis.before ≡ nothing_before)
 
 -- the header is held and read
 pub record IsHeaded (basis : Basis) (walk : WalkFields) (view : View) (dir row depth : ℕ) : Type 0 where
-  pub follows : Follows walk.pass basis.before
+  pub goes_after : GoesAfter walk.pass basis.before
   pub unwritten : IsUnwrittenSince basis.before.written view
   pub header : HeadFields
   pub held : view.modes ≡ header_held basis.before.held walk.pass basis.root
@@ -126,7 +126,7 @@ pub record IsHeaded (basis : Basis) (walk : WalkFields) (view : View) (dir row d
 
 -- so is the directory page of the key's place
 pub record IsPlaced (basis : Basis) (walk : WalkFields) (view : View) (bucket depth : ℕ) : Type 0 where
-  pub follows : Follows walk.pass basis.before
+  pub goes_after : GoesAfter walk.pass basis.before
   pub unwritten : IsUnwrittenSince basis.before.written view
   pub header : HeadFields
   pub held : view.modes
@@ -142,7 +142,7 @@ pub record IsPlaced (basis : Basis) (walk : WalkFields) (view : View) (bucket de
 -- so is the bucket that the key leads to, and what it has of the key is known
 pub record IsAtBucket (basis : Basis) (walk : WalkFields) (view : View) (bucket depth : ℕ)
     (found : Option ℕ) : Type 0 where
-  pub follows : Follows walk.pass basis.before
+  pub goes_after : GoesAfter walk.pass basis.before
   pub unwritten : IsUnwrittenSince basis.before.written view
   pub header : HeadFields
   pub held : view.modes

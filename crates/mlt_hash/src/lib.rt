@@ -5,6 +5,7 @@
 mod adding;
 mod answer;
 mod change;
+mod going_on;
 mod opening;
 mod pass;
 mod path;

@@ -33,7 +33,7 @@ lock-requires-clause-few g c =
     let at = stands g s in
     let small = (ready g s).small in
     let shallow = at.shallow in
-    few_beside (view_for g.basis (before g s)) at.header (g.basis.before.buckets + 1) (omega (arith, few_before s.args.walk.now.pass g.basis.before at.follows)) (omega (arith, shallow, small)) at.among
+    few_beside (view_for g.basis (before g s)) at.header (g.basis.before.buckets + 1) (omega (arith, few_before s.args.walk.now.pass g.basis.before at.goes_after)) (omega (arith, shallow, small)) at.among
 
 -- the directory page is there
 dir : (g : Over) (s : Start g) → (dir : List ℕ) × (over (ready g s).file.clean g.basis.before.written s.args.number ≡ Some (page.Dir dir))

@@ -1,0 +1,122 @@
+-- A wide pass that has changed its first record goes on to another key
+use Rattle.std.proofs.Common.{◌≡◌, ℕ, ◌≤◌, true, Option, None, Some, is_some, refl, sym, ap, subst, ◌∙◌, inl, inr, arith}
+use Rattle.std.specs.FinMap as map
+use Rattle.std.proofs.lemmas.Bool.{cases_eq}
+use Rattle.mlt_types.specs.declared.mode.Mode.TheVariants.{Exclusive}
+use Rattle.mlt_page.specs.Values.{HeadFields}
+use Rattle.mlt_page.specs.declared.page.Page.{Page}
+use Rattle.mlt_page.specs.declared.page.Page.TheVariants as page
+use Rattle.mlt_page_locks.specs.LockTables.{Modes, can_read}
+use Rattle.mlt_page_locks.specs.Requests.{with_page}
+use Rattle.mlt_page_locks.proofs.Maps.{same_entries}
+use Rattle.mlt_hash_form.specs.File.{dir_of, header_of, row_of}
+use Rattle.mlt_hash_form.specs.Held.{Agrees, over}
+use Rattle.mlt_held.specs.Moments.{Moment}
+use Rattle.mlt_held.specs.Views.{ReadsHeldPage, view_of, view_over}
+use Rattle.mlt_held.proofs.Since.{all_written, nothing_since, read_is_seen}
+use Rattle.mlt_held.proofs.Views.{agrees, may_read, mode_of_others, mode_of_page, seen_held}
+use Rattle.mlt_split.specs.Rests.{held_page}
+use Rattle.mlt_split.proofs.Closing.{held_page_over}
+use Rattle.mlt_split.proofs.HeldPages.{reads_as, same_header}
+use Rattle.mlt_split.proofs.Later.{stronger_exclusive}
+use Rattle.mlt_hash.specs.Passes.{header_held, header_mode}
+use Rattle.mlt_hash.specs.Walks.{Basis, Before, GoesAfter, HoldsBeside, IsChanged, IsHeaded, MayWalk, Stands, WalkFields, basis_after, before_of, nothing_before, one_key}
+use Rattle.mlt_hash.specs.Changes.{IsChangedPhase}
+use Rattle.mlt_hash.specs.declared.pass.Change.{Change}
+use Rattle.mlt_hash.specs.declared.pass.Pass.{Pass}
+use Rattle.mlt_hash.specs.declared.pass.Pass.TheVariants as pass
+use Rattle.mlt_hash.specs.declared.pass.Phase.{Phase}
+use Rattle.mlt_hash.specs.declared.pass.Phase.TheVariants as at
+use Rattle.mlt_hash.proofs.Beside.{still_beside}
+
+-- where it stands
+changed_at : (phase : Phase) (basis : Basis) (walk : WalkFields) (m : Moment) → IsChangedPhase phase → Stands phase (one_key basis) walk (view_of m) → (bucket : ℕ) × (done : Change) × IsChanged (one_key basis) walk (view_of m) bucket done
+changed_at (at.Changed bucket done) basis walk m changed stands = (bucket, done, stands)
+changed_at other basis walk m changed stands = absurd changed
+
+-- a page that is held exclusively stays as it is held
+held_alike : (modes : Modes) (root q : ℕ) → map.get modes root ≡ Some Exclusive → map.get modes q ≡ map.get (with_page modes root Exclusive) q
+held_alike modes root q held =
+    elim (cases_eq q root) [
+      | inl here ↦ subst (λ (p : ℕ). map.get modes p ≡ map.get (with_page modes root Exclusive) p) (sym here) (held ∙ sym (mode_of_page modes root Exclusive ∙ ap Some (stronger_exclusive (map.get modes root))))
+      | inr elsewhere ↦ sym (mode_of_others modes root Exclusive q elsewhere)
+    ]
+
+module _ (basis : Basis) (walk : WalkFields) (m : Moment) (first : basis.before ≡ nothing_before) (wide : walk.pass ≡ pass.Wide) (phase : IsChangedPhase walk.phase) (given : MayWalk basis m walk) where
+  ready : MayWalk (one_key basis) m walk
+  ready = subst (λ (b : Before). MayWalk (basis_after b basis) m walk) first given
+
+  changed : (bucket : ℕ) × (done : Change) × IsChanged (one_key basis) walk (view_of m) bucket done
+  changed = changed_at walk.phase basis walk m phase ready.stands
+
+  abbrev header : HeadFields
+  header = changed.2.header
+
+  -- it holds the header,
+  root_is_exclusive : map.get (view_of m).modes basis.root ≡ Some Exclusive
+  root_is_exclusive = changed.2.holds.on_header ∙ ap (λ p. Some (header_mode p)) wide
+
+  pub may_read_header : can_read m.locks m.running.tx basis.root ≡ true
+  may_read_header = may_read m basis.root Exclusive root_is_exclusive
+
+  seen_header : is_some ((view_of m).seen basis.root) ≡ true
+  seen_header = ap is_some (seen_held m basis.root may_read_header)
+
+  -- and reads it
+  pub reads_header : (read : Page) → ReadsHeldPage (view_of m) basis.root read → (h : HeadFields) × (read ≡ page.Head h)
+  reads_header read reads =
+      let both : Some read ≡ Some (page.Head header) = sym (reads_as (view_of m) basis.root (Some read) reads) ∙ changed.2.head in
+      let same : read ≡ page.Head header = cc in
+      (header, same)
+
+  module _ (h : HeadFields) (reads : ReadsHeldPage (view_of m) basis.root (page.Head h)) where
+    read_as : held_page (view_of m) basis.root ≡ Some (page.Head h)
+    read_as = reads_as (view_of m) basis.root (Some (page.Head h)) reads
+
+    same_read : header ≡ h
+    same_read = same_header (view_of m) basis.root header h changed.2.head read_as
+
+    pub shallow : h.depth ≤ basis.max_depth
+    shallow = subst (λ (h : HeadFields). h.depth ≤ basis.max_depth) same_read changed.2.shallow
+
+    pub small : h.depth ≤ 16
+    small = let most = ready.small in omega (arith, shallow, most)
+
+    agree : Agrees (view_of m).seen ready.file.clean
+    agree = agrees m ready.file.clean ready.may ready.file.is_clean
+
+    head_over : over ready.file.clean (view_of m).own basis.root ≡ Some (page.Head h)
+    head_over = sym (held_page_over (view_of m) ready.file.clean basis.root agree seen_header) ∙ read_as
+
+    module _ (key dir row depth : ℕ) (dir_is : dir ≡ dir_of h (basis.bits key)) (row_is : row ≡ row_of h (basis.bits key)) (depth_is : depth ≡ h.depth) where
+      abbrev on : WalkFields
+      on = record walk { key = key; mode = Exclusive; phase = at.Headed dir row depth; split = None }
+
+      abbrev then : Basis
+      then = basis_after (before_of (view_of m)) basis
+
+      headed : IsHeaded then on (view_over (view_of m).own m) dir row depth
+      headed = record {
+        goes_after = subst (λ (p : Pass). GoesAfter p (before_of (view_of m))) (sym wide) (omega arith);
+        unwritten = nothing_since (view_of m);
+        header = h;
+        held = same_entries (view_of m).modes (with_page (view_of m).modes basis.root Exclusive) (λ q. held_alike (view_of m).modes basis.root q root_is_exclusive) ∙ ap (λ p. header_held (view_of m).modes p basis.root) (sym wide);
+        among = still_beside (view_of m) (view_over (view_of m).own m) h 18 refl (subst (λ (h : HeadFields). HoldsBeside (view_of m) h 18) same_read changed.2.among);
+        head = read_is_seen (view_of m) basis.root (page.Head h) seen_header read_as;
+        dir_is = dir_is;
+        row_is = row_is;
+        depth_is = depth_is;
+        shallow = shallow;
+      }
+
+      -- **It may go on over what it has written.**
+      pub goes_on : MayWalk then m on
+      goes_on = record {
+        bounded = ready.bounded;
+        small = ready.small;
+        may = ready.may;
+        written = all_written m ready.may;
+        file = record { clean = ready.file.clean; is_clean = ready.file.is_clean; form = (changed.2.changes.changes ready.file.clean agree ready.file.form).form };
+        shallow = subst (λ (p : Option Page). (header_of p).depth ≤ basis.max_depth) (sym head_over) shallow;
+        stands = headed;
+      }

@@ -1,0 +1,55 @@
+//! A wide pass goes on to another key.
+
+ghost use Rattle.std.specs.Prelude.{◌≡◌, ℕ, None};
+ghost use Rattle.mlt_held.specs.Moments.{moment};
+ghost use Rattle.mlt_held.specs.Views.{view_of};
+ghost use Rattle.mlt_hash.specs.Walks.{Basis, MayWalk, basis_after, before_of, nothing_before};
+ghost use Rattle.mlt_hash.specs.Changes.{IsChangedPhase};
+ghost use Rattle.mlt_hash.specs.declared.pass.Pass.TheVariants as pass;
+
+use crate::pass::Phase;
+use crate::walk::Walk;
+use mlt_hash_form::{Place, Root};
+use mlt_held::{LockedStore, read_held};
+use mlt_page::Page;
+use mlt_subtx::Subtx;
+use mlt_types::{Key, Mode, Pseudo};
+
+impl Walk {
+    /// Goes on to another key, in a wide pass that has changed the record of its first one. It is no step: the header is
+    /// held, and the next step locks the directory page of that key. From now on the walk stands over what it has
+    /// written, and all that it holds it keeps. The ghost is what the walk went by.
+    pub fn go_on_to<P: Pseudo>(
+        &mut self,
+        key: Key,
+        root: &Root<P>,
+        subtx: &Subtx,
+        pages: &LockedStore,
+    )
+        ghost basis: { Basis }
+        requires root { root.now.page ≡ basis.root }
+        requires bits { P.bits_of root.now.pseudo ≡ basis.bits }
+        requires first { basis.before ≡ nothing_before }
+        requires wide { self.old.pass ≡ pass.Wide }
+        requires changed { IsChangedPhase self.old.phase }
+        requires ready { MayWalk basis (moment subtx.now pages.now) self.old }
+        ensures walk { (dir : ℕ) × (row : ℕ) × (depth : ℕ)
+            × (self.new ≡ record self.old {
+              key = key;
+              mode = Mode.Exclusive;
+              phase = Phase.Headed dir row depth;
+              split = None;
+            }) }
+        ensures ready { let m = moment subtx.now pages.now in
+            MayWalk (basis_after (before_of (view_of m)) basis) m self.new }
+    {
+        let Page::Head(header) = read_held(subtx, pages, root.page) else {
+            unreachable!()
+        };
+        let place = Place::of(root.pseudo.bits(&key), header.depth);
+        self.key = key;
+        self.mode = Mode::Exclusive;
+        self.phase = Phase::Headed(header.dir(place.dir), place.entry, header.depth);
+        self.split = None;
+    }
+}
