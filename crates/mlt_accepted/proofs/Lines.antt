@@ -13,11 +13,14 @@ use Rattle.mlt_words.specs.declared.keyword.Word.{Word}
 use Rattle.mlt_words.specs.declared.keyword.Word.TheVariants.{Key, Number}
 use Rattle.mlt_words.specs.Lines.{lines}
 use Rattle.mlt_words.specs.Words.{raw_words, words_of, words_from, spelling, word_of}
-use Rattle.mlt_words.proofs.Pieces.{TextIs, is_printable, all_append, at_most, beside, key_text, number_again, number_alone, number_is, words_apart}
+use Rattle.mlt_words.specs.Fronts.{TextIs, is_printable}
+use Rattle.mlt_words.proofs.Cutting.{line_cut}
+use Rattle.mlt_words.proofs.Pieces.{all_append, at_most, beside, key_text, number_again, number_alone, number_is, words_apart}
 use Rattle.mlt_script.specs.Forms.{key_at, number_below, reply_after, reply_at, reply_word}
+use Rattle.mlt_script.proofs.Saying.{all_allowed}
 use Rattle.mlt_print.specs.Ranges.{FitsReply}
-use Rattle.mlt_print.proofs.Printed.{line_cut, no_lines}
-use Rattle.mlt_print.proofs.Rereading.{all_allowed, keeps_its_end, op_again, op_is, op_words}
+use Rattle.mlt_print.proofs.Printed.{no_lines}
+use Rattle.mlt_print.proofs.Rereading.{keeps_its_end, op_again, op_is, op_words}
 use Rattle.mlt_trace.specs.declared.item.TraceItem.{TraceItem}
 use Rattle.mlt_trace.specs.declared.item.TraceItem.TheVariants.{Begin, Op, Back, Commit, Abort}
 use Rattle.mlt_trace.specs.Items.{item_text, trace_text}
