@@ -157,8 +157,9 @@ fn op_keyword(text: &[u8]) -> Option<(Keyword, &[u8])>
     }
 }
 
-/// The operation at the front of a text, its amount a number, and the text behind it. `None` also where other than one
-/// space stands between its words, or a number has more than 19 digits: then `read_op` reads it.
+/// The operation that a text begins with, its amount a number, and the text behind it, which may go on with any byte: where
+/// that is a space, a tab or the end of the line, `read_op` reads the same. `None` also where other than one space stands
+/// between its words, though `read_op` may read it. Of more than 19 digits of a number the first 19 are taken.
 pub fn front_op(text: &[u8]) -> Option<(ObjOp, &[u8])>
     ensures { IfSome result (λ x. BeginsWithOp text.now x.0 x.1.now) }
 {

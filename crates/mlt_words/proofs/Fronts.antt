@@ -59,7 +59,9 @@ number_before text end value p l f d v s =
 pub number_words : (text rest : List ℕ) (n : ℕ) → BeginsWithNumber text n rest → BeginsWithWords text (Number n ∷ []) 20 rest
 unfolding words_of
 number_words text rest n (ds, is, digits, value, few, all) = (
-  ds, is, (
+  ds,
+  is,
+  (
     ap (map word_of) (digits_word ds [] digits ∙ word_alone ds few.0) ∙ ap (λ (w : Word). w ∷ []) (word_is_number ds n few.0 digits value),
     digits_printable ds digits,
     let l = few.1 in omega (arith, l),
