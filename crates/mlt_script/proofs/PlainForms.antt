@@ -8,6 +8,8 @@ use Rattle.mlt_kinds.specs.declared.element.ElementOp.TheVariants as element
 use Rattle.mlt_kinds.specs.declared.counter.CounterOp.TheVariants as counter
 use Rattle.mlt_kinds.specs.declared.operation.ObjOp.{ObjOp}
 use Rattle.mlt_kinds.specs.declared.operation.ObjOp.TheVariants.{Account, Element, Counter}
+use Rattle.mlt_kinds.specs.declared.operation.ObjReply.{ObjReply}
+use Rattle.mlt_kinds.specs.declared.operation.ObjReply.TheVariants as reply
 use Rattle.mlt_script.specs.declared.forms.LineForm.{LineForm}
 use Rattle.mlt_script.specs.declared.forms.LineForm.TheVariants.{Begins, Says, Closes}
 use Rattle.mlt_tree.specs.declared.statement.Asking.{Asking}
@@ -25,8 +27,8 @@ use Rattle.mlt_words.specs.Words.{spelling}
 use Rattle.mlt_words.proofs.Cutting.{line_cut}
 use Rattle.mlt_words.proofs.Fronts.{no_comment}
 use Rattle.mlt_words.proofs.Pieces.{at_most, beside, key_text}
-use Rattle.mlt_script.specs.Forms.{asking_at, ask_form, fixed, form_of, key_form, op_at, key_at, account_at, element_at, counter_at, deposit_at, withdraw_at, up_at, down_at, number_below, amount_at, begin_form}
-use Rattle.mlt_script.specs.Plain.{AsksElement, BeginsWithForm, BeginsWithOp, GoesOnWithOp}
+use Rattle.mlt_script.specs.Forms.{asking_at, ask_form, fixed, form_of, key_form, op_at, key_at, account_at, element_at, counter_at, deposit_at, withdraw_at, up_at, down_at, number_below, amount_at, begin_form, reply_at, reply_after, reply_word}
+use Rattle.mlt_script.specs.Plain.{AsksElement, BeginsWithForm, BeginsWithOp, BeginsWithReply, GoesOnWithOp}
 use Rattle.mlt_script.proofs.Saying.{says_so}
 
 -- the rest in another form
@@ -155,6 +157,33 @@ asking_line text middle rest op (t, [], e, h, c, f) l = let n : op_at [] ≡ Som
 asking_line text middle rest op (t, (w ∷ ws), e, h, c, f) l =
     first_line text t rest w ws _ (e ∙ ap (λ (xs : List ℕ). t ++ xs) l) (at_most t (w ∷ ws) 60 200 (omega arith) h) c
     (ask_form_of (w ∷ ws) op (ap op_at (ap (λ (xs : List Word). w ∷ xs) (sym (append-nil ws))) ∙ f []))
+
+-- ---- replies
+
+is_no_reply : (r : ObjReply) → reply_word key.Is ≡ Some r → ⊥
+unfolding reply_word
+is_no_reply r h = cc
+
+reply_of_word : (k : Keyword) (r : ObjReply) (more : List Word) → reply_word k ≡ Some r → reply_at (Key k ∷ more) ≡ Some (r, more)
+unfolding reply_at reply_after key_at
+reply_of_word key.Is r more h = absurd (is_no_reply r h)
+reply_of_word k r more h = rw h refl
+
+pub reply_first : (k : Keyword) (text rest : List ℕ) (r : ObjReply) → text ≡ spelling k ++ rest → Some r ≡ reply_word k → BeginsWithReply text r rest
+reply_first k text rest r e h = (
+  spelling k, Key k ∷ [], e, at_most (spelling k) (Key k ∷ []) 8 29 (omega arith) (key_text k), λ more. reply_of_word k r more (sym h),
+)
+
+pub value_reply : (text middle rest : List ℕ) (v : ℕ) → text ≡ (spelling key.Is ++ 32 ∷ []) ++ middle → BeginsWithWords middle (Number v ∷ []) 20 rest → v < 2 ^ 64
+    → BeginsWithReply text (reply.Is v) rest
+unfolding reply_at reply_after key_at number_below
+value_reply text middle rest v e (t, is, h) below = (
+  spelling key.Is ++ 32 ∷ t,
+  Key key.Is ∷ Number v ∷ [],
+  e ∙ ap (λ (xs : List ℕ). spelling key.Is ++ 32 ∷ xs) is,
+  beside (spelling key.Is) t (Key key.Is ∷ []) (Number v ∷ []) 8 20 (key_text key.Is) h,
+  λ more. rw (lt-ltb v (2 ^ 64) below) refl,
+)
 
 -- ---- begin and commit
 

@@ -1,11 +1,12 @@
--- Operations and lines of a plain form, which has one space between words and nothing else.
+-- Operations, replies and lines of a plain form, which has one space between words and nothing else.
 use Rattle.std.specs.Prelude.{◌≡◌, ◌<◌, ℕ, ◌^◌, List, ◌∷◌, ◌++◌, length, Some, false}
 use Rattle.mlt_kinds.specs.declared.element.ElementOp.{ElementOp}
 use Rattle.mlt_kinds.specs.declared.operation.ObjOp.{ObjOp}
 use Rattle.mlt_kinds.specs.declared.operation.ObjOp.TheVariants.{Element}
+use Rattle.mlt_kinds.specs.declared.operation.ObjReply.{ObjReply}
 use Rattle.mlt_script.specs.declared.forms.LineForm.{LineForm}
 use Rattle.mlt_script.specs.declared.line.Reading.TheVariants.{Form}
-use Rattle.mlt_script.specs.Forms.{asking_at, op_at}
+use Rattle.mlt_script.specs.Forms.{asking_at, op_at, reply_at}
 use Rattle.mlt_script.specs.Readings.{reading}
 use Rattle.mlt_tree.specs.declared.statement.Asking.TheVariants.{Fixed}
 use Rattle.mlt_words.specs.declared.keyword.Keyword.{Keyword}
@@ -35,6 +36,14 @@ BeginsWithOp text op rest =
     × TextIs t words 60
     × (is_comment t ≡ false)
     × ((more : List Word) → op_at (words ++ more) ≡ Some (op, more))
+
+-- the text begins with a reply, at most 29 printable bytes, and then comes the rest
+abbrev pub BeginsWithReply : List ℕ → ObjReply → List ℕ → Type 0
+BeginsWithReply text reply rest =
+    (t : List ℕ) × (words : List Word)
+    × (text ≡ t ++ rest)
+    × TextIs t words 29
+    × ((more : List Word) → reply_at (words ++ more) ≡ Some (reply, more))
 
 -- the first line of the text is of the form, and then comes the rest
 abbrev pub BeginsWithForm : List ℕ → LineForm → List ℕ → Type 0

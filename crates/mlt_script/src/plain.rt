@@ -1,13 +1,14 @@
-//! Operations and lines of a plain form, which has one space between words and nothing else, read in one pass. Nearly
+//! Operations, replies and lines of a plain form, which has one space between words and nothing else, read in one pass. Nearly
 //! all input is of it. What is not is read in the general way, with the same answer.
 
 ghost use Rattle.std.specs.Prelude.{◌≡◌, ◌<◌, ◌^◌, ◌++◌, ◌∷◌, [], length, IfSome};
-ghost use Rattle.mlt_script.specs.Plain.{AsksElement, BeginsWithForm, BeginsWithOp, GoesOnWithOp};
+ghost use Rattle.mlt_script.specs.Plain.{AsksElement, BeginsWithForm, BeginsWithOp, BeginsWithReply, GoesOnWithOp};
 ghost use Rattle.mlt_words.specs.Fronts.{BeginsWithWords};
 ghost use Rattle.mlt_words.specs.Words.{spelling};
 
 use crate::forms::LineForm;
-use mlt_kinds::{AccountOp, CounterOp, ElementOp, ObjOp};
+use crate::operations::reply;
+use mlt_kinds::{AccountOp, CounterOp, ElementOp, ObjOp, ObjReply};
 use mlt_tree::{Asking, Ending, Line, Statement};
 use mlt_words::{Keyword, Word, after, front_number};
 
@@ -165,6 +166,53 @@ pub fn front_op(text: &[u8]) -> Option<(ObjOp, &[u8])>
 {
     let (keyword, rest) = op_keyword(text)?;
     op_after(keyword, rest)
+}
+
+// The keyword, where the text begins with it, and the text behind it.
+fn worded<'a>(keyword: Keyword, bytes: &[u8], text: &'a [u8]) -> Option<(Keyword, &'a [u8])>
+    requires { bytes.now ≡ spelling keyword }
+    ensures { IfSome result (λ x. text.now ≡ spelling x.0 ++ x.1.now) }
+{
+    let rest = after(text, bytes)?;
+    Some((keyword, rest))
+}
+
+// The keyword of a reply with which the text begins, and the text behind it.
+fn reply_keyword(text: &[u8]) -> Option<(Keyword, &[u8])>
+    ensures { IfSome result (λ x. text.now ≡ spelling x.0 ++ x.1.now) }
+{
+    match *text.first()? {
+        b'a' if text.starts_with(b"ad") => worded(Keyword::Added, b"added", text),
+        b'a' => worded(Keyword::Absent, b"absent", text),
+        b'c' => worded(Keyword::Closed, b"closed", text),
+        b'd' => worded(Keyword::Done, b"done", text),
+        b'e' => worded(Keyword::Exists, b"exists", text),
+        b'm' => worded(Keyword::Missing, b"missing", text),
+        b'n' if text.starts_with(b"not") => worded(Keyword::NotEmpty, b"notempty", text),
+        b'n' => worded(Keyword::No, b"no", text),
+        b'o' if text.starts_with(b"ov") => worded(Keyword::Over, b"over", text),
+        b'o' => worded(Keyword::Opened, b"opened", text),
+        b'p' => worded(Keyword::Present, b"present", text),
+        b'r' => worded(Keyword::Removed, b"removed", text),
+        b's' => worded(Keyword::Short, b"short", text),
+        b'y' => worded(Keyword::Yes, b"yes", text),
+        _ => None,
+    }
+}
+
+/// The reply that a text begins with, a word or `is v` with one space, and the text behind it, which may go on with any
+/// byte: where that is a space, a tab or the end of the line, `read_reply` reads the same. `None` also where `read_reply`
+/// reads another form. Of more than 19 digits the first 19 are taken.
+pub fn front_reply(text: &[u8]) -> Option<(ObjReply, &[u8])>
+    ensures { IfSome result (λ x. BeginsWithReply text.now x.0 x.1.now) }
+{
+    if let Some(rest) = after(text, b"is ") {
+        let (value, rest) = number_64(rest)?;
+        return Some((ObjReply::Is(value), rest));
+    }
+    let (keyword, rest) = reply_keyword(text)?;
+    let reply = reply(keyword)?;
+    Some((reply, rest))
 }
 
 // The first line, where it is `begin`, `begin K` or `commit`, and the text after it.
