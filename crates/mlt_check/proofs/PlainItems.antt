@@ -6,20 +6,18 @@ use Rattle.std.proofs.lemmas.List.{append-nil, map-append}
 use Rattle.mlt_kinds.specs.declared.operation.ObjOp.{ObjOp}
 use Rattle.mlt_kinds.specs.declared.operation.ObjReply.{ObjReply}
 use Rattle.mlt_words.specs.declared.keyword.Word.{Word}
-use Rattle.mlt_words.specs.Fronts.{BeginsWithNumber, is_printable}
 use Rattle.mlt_words.specs.Lines.{lines}
 use Rattle.mlt_words.specs.Numbers.{is_digit, number_of}
 use Rattle.mlt_words.specs.Words.{raw_words, words_of, words_from, word_of}
 use Rattle.mlt_words.proofs.Cutting.{line_cut}
 use Rattle.mlt_words.proofs.Pieces.{all_append, digits_printable, digits_word, word_alone, words_apart}
-use Rattle.mlt_script.specs.Forms.{op_at, reply_at}
+use Rattle.mlt_script.specs.Forms.{reply_at}
 use Rattle.mlt_script.specs.Plain.{BeginsWithOp, BeginsWithReply}
 use Rattle.mlt_script.proofs.Saying.{all_allowed}
 use Rattle.mlt_trace.specs.declared.item.TraceItem.{TraceItem}
-use Rattle.mlt_trace.specs.declared.item.TraceItem.TheVariants.{Begin, Op, Commit}
-use Rattle.mlt_check.specs.declared.reading.Reading.TheVariants.{Says}
+use Rattle.mlt_trace.specs.declared.item.TraceItem.TheVariants.{Abort, Back, Begin, Commit, Op}
 use Rattle.mlt_check.specs.Plain.{BeginsWithDone, BeginsWithItem, BeginsWithNumbered, PieceIs}
-use Rattle.mlt_check.specs.Readings.{item_of, item_with, reading}
+use Rattle.mlt_check.specs.Readings.{item_of, item_with}
 use Rattle.mlt_check.specs.Words.{done_at, positive_at}
 use Rattle.mlt_check.proofs.Allowed.{allowed_reading}
 
@@ -55,13 +53,27 @@ positive n ds ws e h = let not_zero : n ≢ 0 = omega (arith, h) in rw (e, ne_eq
 
 -- ---- each item
 
-pub begin_item : (text after rest : List ℕ) (tx : ℕ) → BeginsWithNumbered text (codes "begin ") tx after → after ≡ 10 ∷ rest → BeginsWithItem text (Begin tx) rest
-unfolding item_of item_with words_from
-begin_item text after rest tx (middle, e, (ds, is, digits, value, few, all), from_one) l =
-    line_says text (codes "begin" ++ 32 ∷ ds) rest (codes "begin" ∷ ds ∷ []) 29 _ (omega arith)
-    (then text middle (10 ∷ rest) (codes "begin") ds e (is ∙ ap (λ (xs : List ℕ). ds ++ xs) l))
-    (both (codes "begin") ds (codes "begin" ∷ []) (ds ∷ []) 8 20 (refl, refl, omega arith) (digits_alone ds digits few.0 few.1))
-    (rw (positive tx ds [] value from_one) refl)
+-- a word and the number of a transaction
+numbered_item : (text word after rest : List ℕ) (tx : ℕ) (item : TraceItem) → PieceIs word (word ∷ []) 8 → ((ds : List ℕ) → number_of ds ≡ Some tx → 0 < tx → item_of (word ∷ ds ∷ []) ≡ Some item)
+    → BeginsWithNumbered text (word ++ 32 ∷ []) tx after → after ≡ 10 ∷ rest → BeginsWithItem text item rest
+numbered_item text word after rest tx item piece says (middle, e, (ds, is, digits, value, few, all), from_one) l =
+    line_says text (word ++ 32 ∷ ds) rest (word ∷ ds ∷ []) 29 item (omega arith)
+    (then text middle (10 ∷ rest) word ds (e ∙ append_assoc word (32 ∷ []) middle) (is ∙ ap (λ (xs : List ℕ). ds ++ xs) l))
+    (both word ds (word ∷ []) (ds ∷ []) 8 20 piece (digits_alone ds digits few.0 few.1))
+    (says ds value from_one)
+
+module _ (text after rest : List ℕ) (tx : ℕ) where
+  pub begin_item : BeginsWithNumbered text (codes "begin ") tx after → after ≡ 10 ∷ rest → BeginsWithItem text (Begin tx) rest
+  unfolding item_of item_with words_from
+  begin_item = numbered_item text (codes "begin") after rest tx (Begin tx) (refl, refl, omega arith) (λ ds value from_one. rw (positive tx ds [] value from_one) refl)
+
+  pub back_item : BeginsWithNumbered text (codes "back ") tx after → after ≡ 10 ∷ rest → BeginsWithItem text (Back tx) rest
+  unfolding item_of item_with words_from
+  back_item = numbered_item text (codes "back") after rest tx (Back tx) (refl, refl, omega arith) (λ ds value from_one. rw (positive tx ds [] value from_one) refl)
+
+  pub abort_item : BeginsWithNumbered text (codes "abort ") tx after → after ≡ 10 ∷ rest → BeginsWithItem text (Abort tx) rest
+  unfolding item_of item_with words_from
+  abort_item = numbered_item text (codes "abort") after rest tx (Abort tx) (refl, refl, omega arith) (λ ds value from_one. rw (positive tx ds [] value from_one) refl)
 
 pub commit_item : (text first after rest : List ℕ) (tx number : ℕ) → BeginsWithNumbered text (codes "commit ") tx first → BeginsWithNumbered first (codes " ") number after → after ≡ 10 ∷ rest
     → BeginsWithItem text (Commit tx number) rest
@@ -70,7 +82,7 @@ commit_item text first after rest tx number (middle, e, (ds, is, digits, value, 
     line_says text ((codes "commit" ++ 32 ∷ ds) ++ 32 ∷ es) rest (codes "commit" ∷ ds ∷ es ∷ []) 50 _ (omega arith)
     (then text more (10 ∷ rest) (codes "commit" ++ 32 ∷ ds) es (then text middle (32 ∷ more) (codes "commit") ds e (is ∙ ap (λ (xs : List ℕ). ds ++ xs) f)) (also ∙ ap (λ (xs : List ℕ). es ++ xs) l))
     (both (codes "commit" ++ 32 ∷ ds) es (codes "commit" ∷ ds ∷ []) (es ∷ []) 29 20
-      (both (codes "commit") ds (codes "commit" ∷ []) (ds ∷ []) 8 20 (refl, refl, omega arith) (digits_alone ds digits few.0 few.1)) (digits_alone es tens short.0 short.1))
+    (both (codes "commit") ds (codes "commit" ∷ []) (ds ∷ []) 8 20 (refl, refl, omega arith) (digits_alone ds digits few.0 few.1)) (digits_alone es tens short.0 short.1))
     (rw (positive tx ds (es ∷ []) value from_one, positive number es [] count from_two) refl)
 
 pub op_item : (text first middle after rest : List ℕ) (tx : ℕ) (done : ObjOp × ObjReply) → BeginsWithNumbered text (codes "op ") tx first → first ≡ 32 ∷ middle → BeginsWithDone middle done after
@@ -80,7 +92,7 @@ op_item text first middle after rest tx done (behind, e, (ds, is, digits, value,
     line_says text ((codes "op" ++ 32 ∷ ds) ++ 32 ∷ t) rest (codes "op" ∷ ds ∷ raw_words t) 120 _ (omega arith)
     (then text middle (10 ∷ rest) (codes "op" ++ 32 ∷ ds) t (then text behind (32 ∷ middle) (codes "op") ds e (is ∙ ap (λ (xs : List ℕ). ds ++ xs) f)) (also ∙ ap (λ (xs : List ℕ). t ++ xs) l))
     (both (codes "op" ++ 32 ∷ ds) t (codes "op" ∷ ds ∷ []) (raw_words t) 29 90
-      (both (codes "op") ds (codes "op" ∷ []) (ds ∷ []) 8 20 (refl, refl, omega arith) (digits_alone ds digits few.0 few.1)) piece)
+    (both (codes "op") ds (codes "op" ∷ []) (ds ∷ []) 8 20 (refl, refl, omega arith) (digits_alone ds digits few.0 few.1)) piece)
     (rw (positive tx ds (raw_words t) value from_one, does) refl)
 
 -- an operation and its reply

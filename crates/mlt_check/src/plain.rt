@@ -37,6 +37,22 @@ fn begin(text: &[u8]) -> Option<(TraceItem, &[u8])>
     Some((TraceItem::Begin(TxId(tx)), rest))
 }
 
+fn back(text: &[u8]) -> Option<(TraceItem, &[u8])>
+    ensures { IfSome result (λ x. BeginsWithItem text.now x.0 x.1.now) }
+{
+    let (tx, rest) = numbered(text, b"back ")?;
+    let rest = after(rest, b"\n")?;
+    Some((TraceItem::Back(TxId(tx)), rest))
+}
+
+fn abort(text: &[u8]) -> Option<(TraceItem, &[u8])>
+    ensures { IfSome result (λ x. BeginsWithItem text.now x.0 x.1.now) }
+{
+    let (tx, rest) = numbered(text, b"abort ")?;
+    let rest = after(rest, b"\n")?;
+    Some((TraceItem::Abort(TxId(tx)), rest))
+}
+
 fn op(text: &[u8]) -> Option<(TraceItem, &[u8])>
     ensures { IfSome result (λ x. BeginsWithItem text.now x.0 x.1.now) }
 {
@@ -55,15 +71,17 @@ fn commit(text: &[u8]) -> Option<(TraceItem, &[u8])>
     Some((TraceItem::Commit(TxId(tx), number), rest))
 }
 
-/// The item of the first line of a text, where it is a `begin`, `op` or `commit` with one space between words and an LF
-/// directly behind, and the text after it. `None` also where it has another form.
+/// The item of the first line of a text, where one space stands between its words and an LF directly behind, and the text
+/// after it. `None` also where the line has another form: then it is read in the general way.
 pub fn plain_item(text: &[u8]) -> Option<(TraceItem, &[u8])>
     ensures { IfSome result (λ x. BeginsWithItem text.now x.0 x.1.now) }
 {
     match *text.first()? {
         b'o' => op(text),
-        b'b' => begin(text),
+        b'b' if text.starts_with(b"be") => begin(text),
+        b'b' => back(text),
         b'c' => commit(text),
+        b'a' => abort(text),
         _ => None,
     }
 }

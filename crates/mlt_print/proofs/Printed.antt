@@ -1,5 +1,5 @@
 -- Printed scripts are read again.
-use Rattle.std.proofs.Common.{◌≡◌, ℕ, List, [], ◌∷◌, ◌++◌, map, inl, inr, true, false, Result, Ok, Err, OnOk, refl, sym, ap, subst, ◌∙◌, append_assoc}
+use Rattle.std.proofs.Common.{◌≡◌, ℕ, List, [], ◌∷◌, ◌++◌, map, inl, inr, true, Result, Ok, Err, OnOk, refl, sym, ap, subst, ◌∙◌, append_assoc}
 use Rattle.std.specs.List.{list_all}
 use Rattle.std.proofs.lemmas.List.{append-nil, map-append}
 use Rattle.mlt_script.specs.declared.forms.LineForm.{LineForm}
@@ -12,7 +12,7 @@ use Rattle.mlt_print.specs.Again.{IsReadAs, IsReadAgain, AreReadAgain, second_li
 use Rattle.mlt_tree.specs.Blocks.{Block, lines_of}
 use Rattle.mlt_tree.specs.Blocks.Block.{Nothing, Then, If}
 use Rattle.mlt_script.specs.Grammar.{AreScripts, AreLawful, AreSpelled, IsSpelled, IsLawful, Spells, form_in, forms_of}
-use Rattle.mlt_words.specs.Lines.{Raw, lines, onto, is_lf}
+use Rattle.mlt_words.specs.Lines.{Raw, lines}
 use Rattle.mlt_tree.specs.LineTexts.{line_text, ending_text}
 use Rattle.mlt_print.specs.Printing.{as_line, begin_text, second_part, block_text, script_text, scripts_text, shown}
 use Rattle.mlt_print.specs.Ranges.{FitsLine}

@@ -1,9 +1,9 @@
 -- Printed lines say what they were written for.
-use Rattle.std.proofs.Common.{◌≡◌, ℕ, suc, ◌-◌, ◌^◌, ◌<◌, List, [], ◌∷◌, ◌++◌, length, get_or, zero, nat_lt, ◌==◌, ◌&&◌, ◌||◌, Bool, true, false, cond, Some, refl, sym, ap, subst, ◌∙◌, append_assoc, arith}
+use Rattle.std.proofs.Common.{◌≡◌, ℕ, suc, ◌-◌, ◌^◌, ◌<◌, List, [], ◌∷◌, ◌++◌, length, get_or, zero, nat_lt, ◌==◌, ◌&&◌, Bool, true, false, cond, Some, refl, sym, ap, subst, ◌∙◌, append_assoc, arith}
 use Rattle.std.specs.List.{list_all}
 use Rattle.std.specs.Fmt.{decimal}
 use Rattle.std.proofs.lemmas.List.{append-nil}
-use Rattle.std.proofs.lemmas.Bool.{lt-ltb, le-ltb}
+use Rattle.std.proofs.lemmas.Bool.{lt-ltb}
 use Rattle.mlt_kinds.specs.declared.account.AccountOp.TheVariants as account
 use Rattle.mlt_kinds.specs.declared.element.ElementOp.TheVariants as element
 use Rattle.mlt_kinds.specs.declared.counter.CounterOp.TheVariants as counter
@@ -12,7 +12,6 @@ use Rattle.mlt_kinds.specs.declared.operation.ObjOp.TheVariants.{Account, Elemen
 use Rattle.mlt_kinds.specs.declared.operation.ObjReply.{ObjReply}
 use Rattle.mlt_kinds.specs.declared.operation.ObjReply.TheVariants as reply
 use Rattle.mlt_kinds.specs.Texts.{op_text}
-use Rattle.mlt_script.specs.declared.forms.LineForm.{LineForm}
 use Rattle.mlt_script.specs.declared.forms.LineForm.TheVariants.{Begins, Says, Closes}
 use Rattle.mlt_words.specs.declared.keyword.Keyword.{Keyword}
 use Rattle.mlt_words.specs.declared.keyword.Keyword.TheVariants as key
@@ -34,7 +33,7 @@ use Rattle.mlt_tree.specs.declared.statement.Line.TheVariants as line
 use Rattle.mlt_tree.specs.declared.statement.Ending.{Ending}
 use Rattle.mlt_tree.specs.declared.statement.Ending.TheVariants.{Commit, Abort}
 use Rattle.mlt_script.specs.Forms.{form_of, key_form, key_at, asking_at, account_at, element_at, counter_at, deposit_at, withdraw_at, up_at, down_at, number_below, amount_at, op_at, reply_word, wanted_at, asking_is_at, begin_form, let_form, letter_at, source_at, need_form, if_form, ask_form}
-use Rattle.mlt_words.specs.Lines.{without_cr, is_comment, is_allowed}
+use Rattle.mlt_words.specs.Lines.{without_cr, is_comment}
 use Rattle.mlt_words.specs.Letters.{letter_text}
 use Rattle.mlt_tree.specs.LineTexts.{amount_op_text, asking_text, wanted_text, reply_wanted, source_text, line_text, ending_text}
 use Rattle.mlt_print.specs.Printing.{begin_text}
@@ -43,7 +42,7 @@ use Rattle.mlt_script.specs.Readings.{reading}
 use Rattle.mlt_words.specs.Words.{spelling}
 use Rattle.mlt_words.specs.Fronts.{TextIs, is_printable}
 use Rattle.mlt_words.proofs.Pieces.{first_and, beside, at_most, key_text, letter_is, number_is}
-use Rattle.mlt_script.proofs.Saying.{all_allowed, says_so}
+use Rattle.mlt_script.proofs.Saying.{says_so}
 
 -- A printable line without a comment says what its words say.
 

@@ -171,7 +171,11 @@ reply_of_word k r more h = rw h refl
 
 pub reply_first : (k : Keyword) (text rest : List ℕ) (r : ObjReply) → text ≡ spelling k ++ rest → Some r ≡ reply_word k → BeginsWithReply text r rest
 reply_first k text rest r e h = (
-  spelling k, Key k ∷ [], e, at_most (spelling k) (Key k ∷ []) 8 29 (omega arith) (key_text k), λ more. reply_of_word k r more (sym h),
+  spelling k,
+  Key k ∷ [],
+  e,
+  at_most (spelling k) (Key k ∷ []) 8 29 (omega arith) (key_text k),
+  λ more. reply_of_word k r more (sym h),
 )
 
 pub value_reply : (text middle rest : List ℕ) (v : ℕ) → text ≡ (spelling key.Is ++ 32 ∷ []) ++ middle → BeginsWithWords middle (Number v ∷ []) 20 rest → v < 2 ^ 64
