@@ -3,7 +3,7 @@
 use mlt_cursor::{Cursor, Next};
 use mlt_kinds::{AccountOp, CounterOp, ElementOp, ObjOp, ObjReply};
 use mlt_print::print;
-use mlt_script::{front_op, parse};
+use mlt_script::{front_op, front_reply, parse};
 use mlt_test_tools::{same, same_at};
 use mlt_tree::by_client;
 use mlt_types::{Refusal, ScriptCause};
@@ -590,6 +590,34 @@ const FRONTS: &[(&[u8], ObjOp, &[u8])] = &[
 fn plain_operations_are_found(rt: HostRuntime) -> Result<(), Fail> {
     for (text, op, rest) in FRONTS {
         same(&front_op(text), &Some((*op, *rest)))?;
+    }
+    Ok(())
+}
+
+// A reply, then a text that stands behind it.
+const REPLIES: &[(&[u8], ObjReply, &[u8])] = &[
+    (b"opened\n", ObjReply::Opened, b"\n"),
+    (b"exists", ObjReply::Exists, b""),
+    (b"closed \n", ObjReply::Closed, b" \n"),
+    (b"notempty\r", ObjReply::NotEmpty, b"\r"),
+    (b"done", ObjReply::Done, b""),
+    (b"over", ObjReply::Over, b""),
+    (b"short", ObjReply::Short, b""),
+    (b"missing", ObjReply::Missing, b""),
+    (b"added", ObjReply::Added, b""),
+    (b"present", ObjReply::Present, b""),
+    (b"removed", ObjReply::Removed, b""),
+    (b"absent", ObjReply::Absent, b""),
+    (b"yes", ObjReply::Yes, b""),
+    (b"no", ObjReply::No, b""),
+    (b"is 0042\n", ObjReply::Is(42), b"\n"),
+];
+
+// Nor does that of `front_reply` say where it finds a reply.
+#[test]
+fn plain_replies_are_found(rt: HostRuntime) -> Result<(), Fail> {
+    for (text, reply, rest) in REPLIES {
+        same(&front_reply(text), &Some((*reply, *rest)))?;
     }
     Ok(())
 }
