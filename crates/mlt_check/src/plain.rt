@@ -1,5 +1,5 @@
-//! Lines of a trace of the plain form, which has one space between words and nothing else, read in one pass. All that the
-//! program writes is of it. Other lines are read in the general way, with the same answer.
+//! Lines of a trace of the plain form, which has one space between words, no number above 19 digits and nothing else, read
+//! in one pass. Nearly all that the program writes is of it. Other lines are read in the general way, with the same answer.
 
 ghost use Rattle.std.specs.Prelude.{◌≡◌, ◌++◌, IfSome};
 ghost use Rattle.mlt_check.specs.Plain.{BeginsWithDone, BeginsWithItem, BeginsWithNumbered};

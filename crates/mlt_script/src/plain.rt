@@ -1,5 +1,5 @@
-//! Operations, replies and lines of a plain form, which has one space between words and nothing else, read in one pass. Nearly
-//! all input is of it. What is not is read in the general way, with the same answer.
+//! Operations, replies and lines of a plain form, which has one space between words and nothing else, read in one pass.
+//! Nearly all input is of it. What is not is read in the general way, with the same answer.
 
 ghost use Rattle.std.specs.Prelude.{◌≡◌, ◌<◌, ◌^◌, ◌++◌, ◌∷◌, [], length, IfSome};
 ghost use Rattle.mlt_script.specs.Plain.{AsksElement, BeginsWithForm, BeginsWithOp, BeginsWithReply, GoesOnWithOp};
@@ -158,9 +158,9 @@ fn op_keyword(text: &[u8]) -> Option<(Keyword, &[u8])>
     }
 }
 
-/// The operation that a text begins with, its amount a number, and the text behind it, which may go on with any byte: where
-/// that is a space, a tab or the end of the line, `read_op` reads the same. `None` also where other than one space stands
-/// between its words, though `read_op` may read it. Of more than 19 digits of a number the first 19 are taken.
+/// The operation that a text begins with, its amount a number, and the text behind it, which may go on with any byte:
+/// where that is a space, a tab or the end of the line, `read_op` reads the same. `None` also where other than one space
+/// stands between its words, though `read_op` may read it. Of more than 19 digits of a number the first 19 are taken.
 pub fn front_op(text: &[u8]) -> Option<(ObjOp, &[u8])>
     ensures { IfSome result (λ x. BeginsWithOp text.now x.0 x.1.now) }
 {
