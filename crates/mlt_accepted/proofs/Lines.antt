@@ -1,5 +1,5 @@
 -- The lines of a written trace say its items.
-use Rattle.std.proofs.Common.{◌≡◌, ◌≢◌, ℕ, ◌+◌, ◌^◌, ◌<◌, ◌≤◌, List, [], ◌∷◌, ◌++◌, length, map, true, Some, codes, refl, ap, ◌∙◌, append_assoc, length-append, arith}
+use Rattle.std.proofs.Common.{◌≡◌, ◌≢◌, ℕ, ◌+◌, ◌^◌, ◌<◌, ◌≤◌, List, [], ◌∷◌, ◌++◌, length, map, true, Some, codes, refl, ap, ◌∙◌, append_assoc, arith}
 use Rattle.std.specs.Fmt.{decimal}
 use Rattle.std.specs.List.{list_all}
 use Rattle.std.proofs.lemmas.Bool.{le-ltb, lt-ltb, ne_eqb}
@@ -13,32 +13,25 @@ use Rattle.mlt_words.specs.declared.keyword.Word.{Word}
 use Rattle.mlt_words.specs.declared.keyword.Word.TheVariants.{Key, Number}
 use Rattle.mlt_words.specs.Lines.{lines}
 use Rattle.mlt_words.specs.Words.{raw_words, words_of, words_from, spelling, word_of}
-use Rattle.mlt_words.proofs.Pieces.{TextIs, is_printable, all_append, at_most, beside, key_text, number_again, number_alone, number_is, words_apart}
+use Rattle.mlt_words.specs.Fronts.{TextIs, is_printable}
+use Rattle.mlt_words.proofs.Cutting.{line_cut}
+use Rattle.mlt_words.proofs.Pieces.{at_most, beside, key_text, number_again, number_alone, number_is}
 use Rattle.mlt_script.specs.Forms.{key_at, number_below, reply_after, reply_at, reply_word}
+use Rattle.mlt_script.proofs.Saying.{all_allowed}
 use Rattle.mlt_print.specs.Ranges.{FitsReply}
-use Rattle.mlt_print.proofs.Printed.{line_cut, no_lines}
-use Rattle.mlt_print.proofs.Rereading.{all_allowed, keeps_its_end, op_again, op_is, op_words}
+use Rattle.mlt_print.proofs.Printed.{no_lines}
+use Rattle.mlt_print.proofs.Rereading.{keeps_its_end, op_again, op_is, op_words}
 use Rattle.mlt_trace.specs.declared.item.TraceItem.{TraceItem}
 use Rattle.mlt_trace.specs.declared.item.TraceItem.TheVariants.{Begin, Op, Back, Commit, Abort}
 use Rattle.mlt_trace.specs.Items.{item_text, trace_text}
 use Rattle.mlt_check.specs.declared.reading.Reading.TheVariants.{Says}
+use Rattle.mlt_check.specs.Plain.{PieceIs}
+use Rattle.mlt_check.proofs.PlainItems.{both}
 use Rattle.mlt_check.specs.Readings.{item_of, item_with, reading}
 use Rattle.mlt_check.specs.Words.{done_at, positive_at}
 use Rattle.mlt_accepted.specs.Writable.{AreWritable, FitsDone, IsWritable}
 
 -- ---- pieces of a line
-
--- what is known of a piece of a line: its words as their bytes, that it is printable, and at most how long it is
-abbrev PieceIs : List ℕ → List (List ℕ) → ℕ → Type 0
-PieceIs t ws n = (raw_words t ≡ ws) × (list_all is_printable t ≡ true) × (length t ≤ n)
-
--- two pieces with a space between them
-both : (t u : List ℕ) (ws vs : List (List ℕ)) (n m : ℕ) → PieceIs t ws n → PieceIs u vs m → PieceIs (t ++ 32 ∷ u) (ws ++ vs) (n + 1 + m)
-both t u ws vs n m h k = (
-  words_apart t [] u ∙ ap (λ (xs : List (List ℕ)). xs ++ raw_words u) h.0 ∙ ap (λ (xs : List (List ℕ)). ws ++ xs) k.0,
-  all_append t (32 ∷ u) h.1 k.1,
-  rw length-append (let p = h.2 in let q = k.2 in omega (arith, p, q)),
-)
 
 begin_alone : PieceIs (codes "begin") (codes "begin" ∷ []) 8
 unfolding words_from

@@ -11,3 +11,4 @@ pub mod Stepping
 pub mod Standing
 pub mod Judging
 pub mod Allowed
+pub mod PlainItems

@@ -5,3 +5,4 @@ pub mod Replaying
 pub mod Checkers
 pub mod AcceptedItems
 pub mod Answering
+pub mod Plain

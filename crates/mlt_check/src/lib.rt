@@ -6,6 +6,7 @@ mod checker;
 mod committed;
 mod laws;
 mod open_tx;
+mod plain;
 mod reading;
 mod trace_check;
 mod words;

@@ -6,6 +6,7 @@ ghost use Rattle.mlt_words.specs.Lines.{Raw, lines, is_allowed};
 ghost use Rattle.mlt_check.specs.Readings.{Judges, alone, item_of, item_or_fault, item_with, reading};
 ghost use Rattle.mlt_words.specs.Words.{raw_words};
 
+use crate::plain::plain_item;
 use crate::words::{done, positive};
 use mlt_trace::TraceItem;
 use mlt_types::{TraceCause, TxId};
@@ -122,6 +123,9 @@ pub fn read_first(text: &[u8]) -> (Reading, &[u8])
         × (result.0 ≡ reading raw) }
     ensures less { length result.1.now < length text.now }
 {
+    if let Some((item, rest)) = plain_item(text) {
+        return (Reading::Says(item), rest);
+    }
     let (judged, rest) = judge_first(text);
     match judged {
         Ok(line) => (read_words(line), rest),

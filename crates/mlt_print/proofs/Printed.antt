@@ -1,5 +1,5 @@
 -- Printed scripts are read again.
-use Rattle.std.proofs.Common.{◌≡◌, ℕ, List, [], ◌∷◌, ◌++◌, map, inl, inr, true, false, Result, Ok, Err, OnOk, refl, sym, ap, subst, ◌∙◌, append_assoc}
+use Rattle.std.proofs.Common.{◌≡◌, ℕ, List, [], ◌∷◌, ◌++◌, map, inl, inr, true, Result, Ok, Err, OnOk, refl, sym, ap, subst, ◌∙◌, append_assoc}
 use Rattle.std.specs.List.{list_all}
 use Rattle.std.proofs.lemmas.List.{append-nil, map-append}
 use Rattle.mlt_script.specs.declared.forms.LineForm.{LineForm}
@@ -12,29 +12,15 @@ use Rattle.mlt_print.specs.Again.{IsReadAs, IsReadAgain, AreReadAgain, second_li
 use Rattle.mlt_tree.specs.Blocks.{Block, lines_of}
 use Rattle.mlt_tree.specs.Blocks.Block.{Nothing, Then, If}
 use Rattle.mlt_script.specs.Grammar.{AreScripts, AreLawful, AreSpelled, IsSpelled, IsLawful, Spells, form_in, forms_of}
-use Rattle.mlt_words.specs.Lines.{Raw, lines, onto, is_lf}
+use Rattle.mlt_words.specs.Lines.{Raw, lines}
 use Rattle.mlt_tree.specs.LineTexts.{line_text, ending_text}
 use Rattle.mlt_print.specs.Printing.{as_line, begin_text, second_part, block_text, script_text, scripts_text, shown}
 use Rattle.mlt_print.specs.Ranges.{FitsLine}
 use Rattle.mlt_script.specs.Readings.{reading}
 use Rattle.mlt_tree.specs.Scripts.{ScriptForm, IsScript}
-use Rattle.mlt_words.proofs.Pieces.{is_printable, first_and}
-use Rattle.mlt_print.proofs.Rereading.{no_lf, line_again, line_printable, begin_again, ending_again}
-
-at_lf : (bs : List ℕ) → lines (10 ∷ bs) ≡ record { bytes = []; ended = true } ∷ lines bs
-unfolding lines
-at_lf bs = refl
-
-at_other : (b : ℕ) (bs : List ℕ) → is_lf b ≡ false → lines (b ∷ bs) ≡ onto b (lines bs)
-unfolding lines
-at_other b bs h = rw h refl
-
--- a printable text and its LF are a line of their own
-pub line_cut : (t rest : List ℕ) → list_all is_printable t ≡ true → lines (t ++ 10 ∷ rest) ≡ record { bytes = t; ended = true } ∷ lines rest
-line_cut [] rest h = at_lf rest
-line_cut (b ∷ t) rest h =
-    let p = first_and (is_printable b) (list_all is_printable t) h in
-    at_other b (t ++ 10 ∷ rest) (no_lf b p.0) ∙ ap (onto b) (line_cut t rest p.1)
+use Rattle.mlt_words.specs.Fronts.{is_printable}
+use Rattle.mlt_words.proofs.Cutting.{line_cut}
+use Rattle.mlt_print.proofs.Rereading.{line_again, line_printable, begin_again, ending_again}
 
 pub reads_line : (t : List ℕ) (form : LineForm) → reading record { bytes = t; ended = true } ≡ Form form → list_all is_printable t ≡ true → IsReadAs (as_line t) (form ∷ [])
 reads_line t form e h = λ rest.

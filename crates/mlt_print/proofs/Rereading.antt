@@ -1,9 +1,9 @@
 -- Printed lines say what they were written for.
-use Rattle.std.proofs.Common.{◌≡◌, ℕ, suc, ◌-◌, ◌^◌, ◌<◌, List, [], ◌∷◌, ◌++◌, length, get_or, zero, nat_lt, ◌==◌, ◌&&◌, ◌||◌, Bool, true, false, cond, Some, refl, sym, ap, subst, ◌∙◌, append_assoc, arith}
+use Rattle.std.proofs.Common.{◌≡◌, ℕ, suc, ◌-◌, ◌^◌, ◌<◌, List, [], ◌∷◌, ◌++◌, length, get_or, zero, nat_lt, ◌==◌, ◌&&◌, Bool, true, false, cond, Some, refl, sym, ap, subst, ◌∙◌, append_assoc, arith}
 use Rattle.std.specs.List.{list_all}
 use Rattle.std.specs.Fmt.{decimal}
 use Rattle.std.proofs.lemmas.List.{append-nil}
-use Rattle.std.proofs.lemmas.Bool.{lt-ltb, le-ltb}
+use Rattle.std.proofs.lemmas.Bool.{lt-ltb}
 use Rattle.mlt_kinds.specs.declared.account.AccountOp.TheVariants as account
 use Rattle.mlt_kinds.specs.declared.element.ElementOp.TheVariants as element
 use Rattle.mlt_kinds.specs.declared.counter.CounterOp.TheVariants as counter
@@ -12,7 +12,6 @@ use Rattle.mlt_kinds.specs.declared.operation.ObjOp.TheVariants.{Account, Elemen
 use Rattle.mlt_kinds.specs.declared.operation.ObjReply.{ObjReply}
 use Rattle.mlt_kinds.specs.declared.operation.ObjReply.TheVariants as reply
 use Rattle.mlt_kinds.specs.Texts.{op_text}
-use Rattle.mlt_script.specs.declared.forms.LineForm.{LineForm}
 use Rattle.mlt_script.specs.declared.forms.LineForm.TheVariants.{Begins, Says, Closes}
 use Rattle.mlt_words.specs.declared.keyword.Keyword.{Keyword}
 use Rattle.mlt_words.specs.declared.keyword.Keyword.TheVariants as key
@@ -34,14 +33,16 @@ use Rattle.mlt_tree.specs.declared.statement.Line.TheVariants as line
 use Rattle.mlt_tree.specs.declared.statement.Ending.{Ending}
 use Rattle.mlt_tree.specs.declared.statement.Ending.TheVariants.{Commit, Abort}
 use Rattle.mlt_script.specs.Forms.{form_of, key_form, key_at, asking_at, account_at, element_at, counter_at, deposit_at, withdraw_at, up_at, down_at, number_below, amount_at, op_at, reply_word, wanted_at, asking_is_at, begin_form, let_form, letter_at, source_at, need_form, if_form, ask_form}
-use Rattle.mlt_words.specs.Lines.{without_cr, is_comment, is_allowed}
+use Rattle.mlt_words.specs.Lines.{without_cr, is_comment}
 use Rattle.mlt_words.specs.Letters.{letter_text}
 use Rattle.mlt_tree.specs.LineTexts.{amount_op_text, asking_text, wanted_text, reply_wanted, source_text, line_text, ending_text}
 use Rattle.mlt_print.specs.Printing.{begin_text}
 use Rattle.mlt_print.specs.Ranges.{FitsOp, FitsAmount, FitsAsking, FitsReply, FitsWanted, FitsSource, FitsLine}
 use Rattle.mlt_script.specs.Readings.{reading}
 use Rattle.mlt_words.specs.Words.{spelling}
-use Rattle.mlt_words.proofs.Pieces.{TextIs, first_and, is_printable, beside, at_most, key_text, letter_is, number_is}
+use Rattle.mlt_words.specs.Fronts.{TextIs, is_printable}
+use Rattle.mlt_words.proofs.Pieces.{first_and, beside, at_most, key_text, letter_is, number_is}
+use Rattle.mlt_script.proofs.Saying.{says_so}
 
 -- A printable line without a comment says what its words say.
 
@@ -53,9 +54,6 @@ printable_at (b ∷ t) (suc k) h l = printable_at t k (first_and (is_printable b
 no_cr : (b : ℕ) → is_printable b ≡ true → (b == 13) ≡ false
 no_cr b h = grind arith
 
-pub no_lf : (b : ℕ) → is_printable b ≡ true → (b == 10) ≡ false
-no_lf b h = grind arith
-
 and_false : (a : Bool) → (a && false) ≡ false
 and_false true = refl
 and_false false = refl
@@ -65,25 +63,6 @@ keeps_its_end [] h = refl
 keeps_its_end (b ∷ t) h =
     let e : (get_or (b ∷ t) (length (b ∷ t) - 1) 0 == 13) ≡ false = no_cr _ (printable_at (b ∷ t) (length (b ∷ t) - 1) h (omega arith)) in
     rw (e, and_false (nat_lt 0 (length (b ∷ t)))) refl
-
-allowed_by : (b : ℕ) → is_printable b ≡ true → is_allowed b ≡ true
-allowed_by b h = rw h (or_true (b == 9)) where
-  or_true : (a : Bool) → (a || true) ≡ true
-  or_true true = refl
-  or_true false = refl
-
-pub all_allowed : (t : List ℕ) → list_all is_printable t ≡ true → list_all is_allowed t ≡ true
-all_allowed [] h = refl
-all_allowed (b ∷ t) h = both_of (is_printable b) b t refl h (λ k. all_allowed t k) where
-  both_of : (c : Bool) (b : ℕ) (t : List ℕ) → is_printable b ≡ c → (c && list_all is_printable t) ≡ true → (list_all is_printable t ≡ true → list_all is_allowed t ≡ true) → list_all is_allowed (b ∷ t) ≡ true
-  both_of true b t e h k = rw (allowed_by b e) (k h)
-  both_of false b t e h k = absurd (cc h)
-
-pub says_so : (t : List ℕ) (w : Word) (ws : List Word) (form : LineForm) → TextIs t (w ∷ ws) 200 → is_comment t ≡ false → form_of (w ∷ ws) ≡ Some form
-    → reading record { bytes = t; ended = true } ≡ Form form
-unfolding reading
-says_so t w ws form h c f =
-    rw (le-ltb 200 (length t) h.2, keeps_its_end t h.1, c, all_allowed t h.1, h.0, f) refl
 
 -- The words of an operation.
 abbrev op_key : ObjOp → Keyword

@@ -6,3 +6,4 @@ pub mod Completeness
 pub mod Deciding
 pub mod Numbers
 pub mod Saying
+pub mod PlainForms

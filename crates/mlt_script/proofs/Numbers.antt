@@ -1,5 +1,5 @@
 -- Numbers of operations, read without asking what other words are.
-use Rattle.std.proofs.Common.{◌≡◌, ℕ, List, Bool, true, Option, Some, None, option_and_then, nat_lt, if◌then◌else◌, refl, ap}
+use Rattle.std.proofs.Common.{◌≡◌, ℕ, List, Option, Some, None, option_and_then, nat_lt, if◌then◌else◌, refl}
 use Rattle.mlt_words.specs.declared.keyword.Word.{Word}
 use Rattle.mlt_words.specs.declared.keyword.Word.TheVariants.{Key, Variable, Number, Other}
 use Rattle.mlt_words.specs.Words.{word_at, number_at, number_word}

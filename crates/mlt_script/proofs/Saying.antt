@@ -1,12 +1,13 @@
 -- What a line says, by its form and by its bytes.
-use Rattle.std.proofs.Common.{◌≡◌, ℕ, ◌-◌, List, [], ◌∷◌, length, take, get_or, is_some, Bool, true, false, cond, Some, None, nat_lt, ◌==◌, ◌&&◌, if◌then◌else◌, refl, sym, ◌∙◌, arith}
+use Rattle.std.proofs.Common.{◌≡◌, ℕ, ◌-◌, List, [], ◌∷◌, length, take, get_or, is_some, Bool, true, false, cond, Some, None, nat_lt, ◌==◌, ◌&&◌, ◌||◌, if◌then◌else◌, refl, sym, ◌∙◌, arith}
 use Rattle.std.specs.List.{list_all}
-use Rattle.std.proofs.lemmas.Bool.{ltb-true}
+use Rattle.std.proofs.lemmas.Bool.{le-ltb, ltb-true}
 use Rattle.std.proofs.lemmas.List.Folds.{list_all_at}
 use Rattle.mlt_types.specs.declared.refusal.ScriptCause.TheVariants as cause
 use Rattle.mlt_script.specs.declared.forms.LineForm.{LineForm}
 use Rattle.mlt_script.specs.declared.line.Reading.TheVariants.{Bad, Skip, Form}
 use Rattle.mlt_words.specs.declared.keyword.Word.{Word}
+use Rattle.mlt_words.specs.Fronts.{TextIs, is_printable}
 use Rattle.mlt_words.specs.Lines.{is_allowed, is_comment, without_cr}
 use Rattle.mlt_words.specs.Words.{word_at, words_of}
 use Rattle.mlt_script.specs.Forms.{form_of, key_at}
@@ -43,3 +44,21 @@ pub allowed_reading : (line : List ℕ) → list_all is_allowed line ≡ true
     → reading (record { bytes = line; ended = true }) ≡ (if nat_lt 200 (length line) then Bad cause.Line else if is_comment line then Skip else said_by (words_of line))
 unfolding reading
 allowed_reading line h = rw (no_cr line h, h) refl
+
+allowed_by : (b : ℕ) → is_printable b ≡ true → is_allowed b ≡ true
+allowed_by b h = rw h (or_true (b == 9)) where
+  or_true : (a : Bool) → (a || true) ≡ true
+  or_true true = refl
+  or_true false = refl
+
+pub all_allowed : (t : List ℕ) → list_all is_printable t ≡ true → list_all is_allowed t ≡ true
+all_allowed [] h = refl
+all_allowed (b ∷ t) h = both_of (is_printable b) b t refl h (λ k. all_allowed t k) where
+  both_of : (c : Bool) (b : ℕ) (t : List ℕ) → is_printable b ≡ c → (c && list_all is_printable t) ≡ true → (list_all is_printable t ≡ true → list_all is_allowed t ≡ true) → list_all is_allowed (b ∷ t) ≡ true
+  both_of true b t e h k = rw (allowed_by b e) (k h)
+  both_of false b t e h k = absurd (cc h)
+
+-- the words of a printable line say its form
+pub says_so : (t : List ℕ) (w : Word) (ws : List Word) (form : LineForm) → TextIs t (w ∷ ws) 200 → is_comment t ≡ false → form_of (w ∷ ws) ≡ Some form
+    → reading record { bytes = t; ended = true } ≡ Form form
+says_so t w ws form h c f = allowed_reading t (all_allowed t h.1) ∙ rw (le-ltb 200 (length t) h.2, c, h.0, f) refl

@@ -4,3 +4,4 @@ pub mod Grammar
 pub mod Scan
 pub mod Frames
 pub mod Parsers
+pub mod Plain

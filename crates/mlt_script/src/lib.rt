@@ -7,6 +7,8 @@ mod line;
 mod open_script;
 mod operations;
 mod parser;
+mod plain;
 
 pub use operations::{read_op, read_reply};
 pub use parser::parse;
+pub use plain::{front_op, front_reply};

@@ -7,6 +7,7 @@ ghost use Rattle.mlt_script.specs.Readings.{reading, said_by, Judges};
 ghost use Rattle.mlt_words.specs.Words.{words_of};
 
 use crate::forms::{LineForm, line_form};
+use crate::plain::plain_line;
 use mlt_types::ScriptCause;
 use mlt_words::{
     first_line, first_printable_line, has_word, is_allowed_line, is_comment_line, trimmed,
@@ -97,6 +98,9 @@ pub fn read_first(text: &[u8]) -> (Reading, &[u8])
         × (result.0 ≡ reading raw) }
     ensures less { length result.1.now < length text.now }
 {
+    if let Some((form, rest)) = plain_line(text) {
+        return (Reading::Form(form), rest);
+    }
     let (judged, rest) = judge_first(text);
     match judged {
         Ok(line) => (read_words(line), rest),

@@ -155,7 +155,7 @@ pub fn read_op(text: &[u8]) -> Option<(ObjOp, &[u8])>
 
 /// The reply that is one word.
 #[tactic(auto, unfolding(crate::specs::Forms::reply_word))]
-fn reply(keyword: Keyword) -> Option<ObjReply>
+pub fn reply(keyword: Keyword) -> Option<ObjReply>
     ensures { result ≡ reply_word keyword }
 {
     match keyword {

@@ -3,7 +3,7 @@
 use mlt_cursor::{Cursor, Next};
 use mlt_kinds::{AccountOp, CounterOp, ElementOp, ObjOp, ObjReply};
 use mlt_print::print;
-use mlt_script::parse;
+use mlt_script::{front_op, front_reply, parse};
 use mlt_test_tools::{same, same_at};
 use mlt_tree::by_client;
 use mlt_types::{Refusal, ScriptCause};
@@ -79,6 +79,29 @@ const STATEMENTS: &[(&[u8], Outcome)] = &[
     (b"read 1 1", Err((2, ScriptCause::Words))),
     (b"commit 1", Err((2, ScriptCause::Words))),
     (b"begin 1000", Err((2, ScriptCause::Words))),
+    // Just off the plain form, which has one space between words.
+    (b"deposits 1 2", Err((2, ScriptCause::Words))),
+    (b"deposi 1 2", Err((2, ScriptCause::Words))),
+    (b"deposit1 2", Err((2, ScriptCause::Words))),
+    (b"downs 1 2", Err((2, ScriptCause::Words))),
+    (b"removed 1 2", Err((2, ScriptCause::Words))),
+    (b"reads 1", Err((2, ScriptCause::Words))),
+    (b"opened 1", Err((2, ScriptCause::Words))),
+    (b"begins", Err((2, ScriptCause::Words))),
+    (b"commits", Err((2, ScriptCause::Words))),
+    (b"up 1 2x", Err((2, ScriptCause::Words))),
+    (b"up 1 2,", Err((2, ScriptCause::Words))),
+    (b"up 1 -2", Err((2, ScriptCause::Words))),
+    (b"up 1", Err((2, ScriptCause::Words))),
+    (b"up  ", Err((2, ScriptCause::Words))),
+    (b"up 1 2 # two", Err((2, ScriptCause::Words))),
+    (b"up 1 2\r\r", Err((2, ScriptCause::Line))),
+    (b"up 1 2\x0B", Err((2, ScriptCause::Line))),
+    (b"up 1 2\x00", Err((2, ScriptCause::Line))),
+    (b"up 1 18446744073709551616", Err((2, ScriptCause::Words))),
+    (b"up 000000000000000000001 1", Err((2, ScriptCause::Words))),
+    (b"add 1 18446744073709551617", Err((2, ScriptCause::Words))),
+    (b"begin 7", Err((2, ScriptCause::Place))),
     // Words of other statements.
     (b"need open 1 is opened", Ok(1)),
     (b"need open 1 is yes", Ok(1)),
@@ -120,6 +143,20 @@ const TEXTS: &[(&[u8], Outcome)] = &[
     (b"begin 1000\nabort", Err((1, ScriptCause::Words))),
     (b"begin 1 2\nabort", Err((1, ScriptCause::Words))),
     (b"begin\r\ncommit\r\n", Ok(1)),
+    (b"begin 7\r\ncommit\r\n", Ok(1)),
+    (b"begin 999\ncommit \n", Ok(1)),
+    (b" begin\n\tcommit\n", Ok(1)),
+    (b"begin \ncommit\n", Ok(1)),
+    (b"begin  7\ncommit\n", Ok(1)),
+    (b"begin 00000000000000000999\ncommit\n", Ok(1)),
+    (
+        b"begin 000000000000000000999\ncommit\n",
+        Err((1, ScriptCause::Words)),
+    ),
+    (b"begin 4294967296\n", Err((1, ScriptCause::Words))),
+    (b"begin 7x\n", Err((1, ScriptCause::Words))),
+    (b"begin 7 # x\n", Err((1, ScriptCause::Words))),
+    (b"begins\n", Err((1, ScriptCause::Words))),
     (b"begin\ncommit\nbegin\nabort\n", Ok(2)),
     (b"open 1", Err((1, ScriptCause::Place))),
     (b"begin\ndeposit 1\ncommit", Err((2, ScriptCause::Words))),
@@ -458,6 +495,129 @@ fn scripts_are_printed(rt: HostRuntime) -> Result<(), Fail> {
         let scripts = parse(rt.alloc(), text)?;
         let printed = print(rt.alloc(), &scripts)?;
         same(&printed.as_bytes(), wanted)?;
+    }
+    Ok(())
+}
+
+// Statements, and how they are printed. Those that come first are as they are printed, the others just off that.
+const SPELLED: &[(&[u8], &[u8])] = &[
+    (b"open 1", b"open 1"),
+    (b"close 4294967295", b"close 4294967295"),
+    (b"deposit 1 2", b"deposit 1 2"),
+    (b"withdraw 7 0", b"withdraw 7 0"),
+    (b"balance 0", b"balance 0"),
+    (b"add 1 2", b"add 1 2"),
+    (b"remove 65535 4294967295", b"remove 65535 4294967295"),
+    (b"has 3 4", b"has 3 4"),
+    (b"up 1 9999999999999999999", b"up 1 9999999999999999999"),
+    (
+        b"down 1 18446744073709551615",
+        b"down 1 18446744073709551615",
+    ),
+    (b"read 12", b"read 12"),
+    (b"deposit  1 2", b"deposit 1 2"),
+    (b"deposit 1  2", b"deposit 1 2"),
+    (b"deposit\t1 2", b"deposit 1 2"),
+    (b"deposit 1\t2", b"deposit 1 2"),
+    (b" deposit 1 2", b"deposit 1 2"),
+    (b"deposit 1 2 ", b"deposit 1 2"),
+    (b"deposit 1 2\t", b"deposit 1 2"),
+    (b"deposit 1 2\r", b"deposit 1 2"),
+    (b"deposit 01 002", b"deposit 1 2"),
+    (b"has 00003 00000000000000000004", b"has 3 4"),
+    (b"up 1 0000000000000000019", b"up 1 19"),
+    (b"up 1 00000000000000000019", b"up 1 19"),
+    (b"up 1 10000000000000000000", b"up 1 10000000000000000000"),
+    (b"withdraw 1 v", b"withdraw 1 v"),
+];
+
+#[test]
+fn statements_are_printed(rt: HostRuntime) -> Result<(), Fail> {
+    for (text, wanted) in SPELLED {
+        let text = repeated(rt.alloc(), b"begin\n", text, 1, b"\ncommit\n")?;
+        let printed = print(rt.alloc(), &parse(rt.alloc(), &text)?)?;
+        let wanted = repeated(rt.alloc(), b"begin\n", wanted, 1, b"\ncommit\n")?;
+        same(&printed.as_bytes(), &wanted.as_slice())?;
+    }
+    Ok(())
+}
+
+// An operation with one space between its words, then a text that stands behind it.
+const FRONTS: &[(&[u8], ObjOp, &[u8])] = &[
+    (b"open 1\n", ObjOp::Account(1, AccountOp::Open), b"\n"),
+    (b"close 2", ObjOp::Account(2, AccountOp::Close), b""),
+    (
+        b"deposit 1 2 done",
+        ObjOp::Account(1, AccountOp::Deposit(2)),
+        b" done",
+    ),
+    (
+        b"withdraw 1 09\r",
+        ObjOp::Account(1, AccountOp::Withdraw(9)),
+        b"\r",
+    ),
+    (
+        b"balance 4294967295",
+        ObjOp::Account(4294967295, AccountOp::Balance),
+        b"",
+    ),
+    (
+        b"add 65535 4294967295x",
+        ObjOp::Element(65535, 4294967295, ElementOp::Add),
+        b"x",
+    ),
+    (
+        b"remove 1 2\t",
+        ObjOp::Element(1, 2, ElementOp::Remove),
+        b"\t",
+    ),
+    (b"has 1 2", ObjOp::Element(1, 2, ElementOp::Has), b""),
+    (
+        b"up 1 9999999999999999999",
+        ObjOp::Counter(1, CounterOp::Up(9999999999999999999)),
+        b"",
+    ),
+    (
+        b"down 1 18446744073709551615",
+        ObjOp::Counter(1, CounterOp::Down(1844674407370955161)),
+        b"5",
+    ),
+    (b"read 7", ObjOp::Counter(7, CounterOp::Read), b""),
+];
+
+// The contract of `front_op` does not say where it finds an operation.
+#[test]
+fn plain_operations_are_found(rt: HostRuntime) -> Result<(), Fail> {
+    for (text, op, rest) in FRONTS {
+        same(&front_op(text), &Some((*op, *rest)))?;
+    }
+    Ok(())
+}
+
+// A reply, then a text that stands behind it.
+const REPLIES: &[(&[u8], ObjReply, &[u8])] = &[
+    (b"opened\n", ObjReply::Opened, b"\n"),
+    (b"exists", ObjReply::Exists, b""),
+    (b"closed \n", ObjReply::Closed, b" \n"),
+    (b"notempty\r", ObjReply::NotEmpty, b"\r"),
+    (b"done", ObjReply::Done, b""),
+    (b"over", ObjReply::Over, b""),
+    (b"short", ObjReply::Short, b""),
+    (b"missing", ObjReply::Missing, b""),
+    (b"added", ObjReply::Added, b""),
+    (b"present", ObjReply::Present, b""),
+    (b"removed", ObjReply::Removed, b""),
+    (b"absent", ObjReply::Absent, b""),
+    (b"yes", ObjReply::Yes, b""),
+    (b"no", ObjReply::No, b""),
+    (b"is 0042\n", ObjReply::Is(42), b"\n"),
+];
+
+// Nor does that of `front_reply` say where it finds a reply.
+#[test]
+fn plain_replies_are_found(rt: HostRuntime) -> Result<(), Fail> {
+    for (text, reply, rest) in REPLIES {
+        same(&front_reply(text), &Some((*reply, *rest)))?;
     }
     Ok(())
 }

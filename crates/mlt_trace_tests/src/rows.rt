@@ -23,6 +23,12 @@ op 1 balance 1 is",
         Err((6, TraceCause::Cut)),
     ),
     (b"", Ok("")),
+    // The first of these, its lines just off the form that is written.
+    (
+        b"begin  1\n begin\t2\r\nop 2 open 00000000000000000001 opened\nop 02 deposit 1 7 done \ncommit 2 01\n\
+op 1  balance 1 is\t00000000000000000007\ncommit 1 2 \n",
+        Ok("serial 2\nserial 1\naccount 1 7\n"),
+    ),
 ];
 
 #[test]

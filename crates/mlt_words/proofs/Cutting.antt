@@ -1,11 +1,13 @@
 -- The first line of a text.
-use Rattle.std.proofs.Common.{◌≡◌, ℕ, suc, zero, ◌+◌, ◌-◌, ◌<◌, ◌≤◌, List, [], ◌∷◌, length, take, drop, get_or, Bool, true, false, cond, ltb, Some, None, refl, ap, ◌∙◌, arith}
+use Rattle.std.proofs.Common.{◌≡◌, ℕ, suc, zero, ◌+◌, ◌-◌, ◌<◌, ◌≤◌, List, [], ◌∷◌, ◌++◌, length, take, drop, get_or, Bool, true, false, cond, ltb, Some, None, refl, ap, ◌∙◌, arith}
 use Rattle.std.specs.List.{list_all, position, position_or_len}
 use Rattle.std.proofs.lemmas.List.{take_all, length-drop}
 use Rattle.std.proofs.lemmas.List.Sums.{fails_before_first}
 use Rattle.std.proofs.lemmas.List.Quantifiers.{position-Some}
 use Rattle.std.proofs.lemmas.Bool.{ltb-false}
+use Rattle.mlt_words.specs.Fronts.{is_printable}
 use Rattle.mlt_words.specs.Lines.{lines, onto, is_lf, is_allowed, is_unprintable}
+use Rattle.mlt_words.proofs.Pieces.{first_and}
 
 at_lf : (b : ℕ) (bs : List ℕ) → is_lf b ≡ true → lines (b ∷ bs) ≡ record { bytes = []; ended = true } ∷ lines bs
 unfolding lines
@@ -65,3 +67,13 @@ printable text i e f =
     let s : i + 1 ≡ suc i = omega arith in
     let t : take (length text - (i + 1)) (drop (i + 1) text) ≡ drop (i + 1) text = take_all (length text - (i + 1)) (drop (i + 1) text) (rw length-drop (omega arith)) in
     (rw (t, s) (up_to text i h.0 f (λ k l. no_lf (get_or text k 0) (h.2 k l))), all_allowed text i h.2 h.0)
+
+printable_no_lf : (b : ℕ) → is_printable b ≡ true → is_lf b ≡ false
+printable_no_lf b h = grind arith
+
+-- a printable text and its LF are a line of their own
+pub line_cut : (t rest : List ℕ) → list_all is_printable t ≡ true → lines (t ++ 10 ∷ rest) ≡ record { bytes = t; ended = true } ∷ lines rest
+line_cut [] rest h = at_lf 10 rest refl
+line_cut (b ∷ t) rest h =
+    let p = first_and (is_printable b) (list_all is_printable t) h in
+    at_other b (t ++ 10 ∷ rest) (printable_no_lf b p.0) ∙ ap (onto b) (line_cut t rest p.1)

@@ -1,5 +1,5 @@
 -- A number at the front of a text, read digit by digit.
-use Rattle.std.proofs.Common.{◌≡◌, ℕ, suc, zero, ◌+◌, ◌-◌, ◌*◌, ◌^◌, ◌<◌, ◌≤◌, List, [], ◌∷◌, ◌++◌, length, take, drop, get_or, map, Bool, true, Some, None, refl, sym, ap, subst, ◌∙◌, append_assoc, arith}
+use Rattle.std.proofs.Common.{◌≡◌, ℕ, suc, zero, ◌+◌, ◌-◌, ◌*◌, ◌^◌, ◌<◌, ◌≤◌, List, [], ◌∷◌, ◌++◌, length, take, drop, get_or, map, true, Some, refl, sym, ap, subst, ◌∙◌, append_assoc, arith}
 use Rattle.std.specs.List.{list_all, position}
 use Rattle.std.specs.Str.Parse.{digits_value}
 use Rattle.std.specs.Char.{digit_value}
@@ -27,13 +27,13 @@ up_to (b ∷ bs) begun (suc i) h d o =
     at_other begun b bs (digit_no_blank b p.0) ∙ up_to bs (begun ++ b ∷ []) i (omega arith) p.1 o
     ∙ ap (λ (w : List ℕ). word_if w ++ words_from [] (drop i bs)) (append_assoc begun (b ∷ []) (take i bs))
 
-taken : (front : List ℕ) (i : ℕ) → i ≤ length front → length (take i front) ≡ i
+pub taken : (front : List ℕ) (i : ℕ) → i ≤ length front → length (take i front) ≡ i
 taken [] zero h = refl
 taken [] (suc i) h = absurd (omega arith)
 taken (b ∷ bs) zero h = refl
 taken (b ∷ bs) (suc i) h = ap suc (taken bs i (omega arith))
 
-writes : (word : List ℕ) (value : ℕ) → 0 < length word → length word ≤ 20 → list_all is_digit word ≡ true → value ≡ digits_value 10 word → value < 2 ^ 64
+pub writes : (word : List ℕ) (value : ℕ) → 0 < length word → length word ≤ 20 → list_all is_digit word ≡ true → value ≡ digits_value 10 word → value < 2 ^ 64
     → number_of word ≡ Some value
 unfolding number_of
 writes word value l g d v h = rw (lt-ltb 0 (length word) l, le-leb (length word) 20 g, d, sym v, lt-ltb value (2 ^ 64) h) refl
@@ -56,7 +56,7 @@ number_first text front rest start end value f s r l g e d v h o =
     ap (λ (ws : List (List ℕ)). word_at (map word_of ws)) (a.0 ∙ ap raw_words same ∙ k)
     ∙ ap (λ (x : Word). Some (x, words_of (drop end front))) w ∙ ap (λ (bs : List ℕ). Some (Number value, words_of bs)) (sym behind)
 
-is_digit_by : (b : ℕ) → 48 ≤ b → b ≤ 57 → is_digit b ≡ true
+pub is_digit_by : (b : ℕ) → 48 ≤ b → b ≤ 57 → is_digit b ≡ true
 is_digit_by b l g = rw (le-leb 48 b l, le-leb b 57 g) refl
 
 -- one more digit at the index

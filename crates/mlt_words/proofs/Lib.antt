@@ -3,3 +3,4 @@ pub mod Cutting
 pub mod Numerals
 pub mod Pieces
 pub mod Digits
+pub mod Fronts

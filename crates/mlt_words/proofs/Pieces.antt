@@ -1,5 +1,5 @@
 -- Words of printed lines, read back.
-use Rattle.std.proofs.Common.{◌≡◌, ℕ, ◌+◌, ◌%◌, ◌^◌, ◌<◌, ◌≤◌, List, [], ◌∷◌, ◌++◌, length, map, nat_le, leb, ◌==◌, ◌&&◌, Bool, true, false, cond, Some, None, codes, refl, sym, ap, ◌∙◌, append_assoc, length-append, arith}
+use Rattle.std.proofs.Common.{◌≡◌, ℕ, ◌+◌, ◌%◌, ◌^◌, ◌<◌, ◌≤◌, List, [], ◌∷◌, ◌++◌, length, map, leb, ◌==◌, ◌&&◌, Bool, true, false, cond, Some, None, codes, refl, sym, ap, ◌∙◌, append_assoc, length-append, arith}
 use Rattle.std.specs.Fmt.{decimal}
 use Rattle.std.specs.List.{list_all}
 use Rattle.std.specs.Str.{bytes_eq}
@@ -13,17 +13,10 @@ use Rattle.mlt_words.specs.declared.keyword.Word.TheVariants.{Key, Variable, Num
 use Rattle.mlt_words.specs.declared.letter.Letter.{Letter}
 use Rattle.mlt_words.specs.declared.letter.Letter.TheVariants as letter
 use Rattle.mlt_words.specs.Letters.{byte_of, letter_of}
+use Rattle.mlt_words.specs.Fronts.{TextIs, is_printable}
 use Rattle.mlt_words.specs.Numbers.{is_digit, number_of}
 use Rattle.mlt_words.specs.Words.{spelling, spelled_among, keyword_of, letter_word, word_of, word_if, raw_words, words_from, words_of, is_blank, all_keywords}
 use Rattle.mlt_words.proofs.Splitting.{at_other}
-
--- 0x20 to 0x7E
-abbrev pub is_printable : ℕ → Bool
-is_printable byte = nat_le 32 byte && nat_le byte 126
-
--- what is known of a piece of a printed line: its words, that it is printable, and at most how long it is
-abbrev pub TextIs : List ℕ → List Word → ℕ → Type 0
-TextIs t ws n = (words_of t ≡ ws) × (list_all is_printable t ≡ true) × (length t ≤ n)
 
 both : (c : Bool) (w p q r s t : List (List ℕ)) → p ≡ q ++ t → r ≡ s ++ t → cond c (w ++ p) r ≡ cond c (w ++ q) s ++ t
 both true w p q r s t e f = ap (λ (x : List (List ℕ)). w ++ x) e ∙ sym (append_assoc w q t)
@@ -164,11 +157,11 @@ pub first_and : (a b : Bool) → (a && b) ≡ true → (a ≡ true) × (b ≡ tr
 first_and true b h = (refl, h)
 first_and false b h = absurd (cc h)
 
-digits_printable : (t : List ℕ) → list_all is_digit t ≡ true → list_all is_printable t ≡ true
+pub digits_printable : (t : List ℕ) → list_all is_digit t ≡ true → list_all is_printable t ≡ true
 digits_printable [] h = refl
 digits_printable (b ∷ t) h = let p = first_and (is_digit b) (list_all is_digit t) h in rw (digit_printable b p.0) (digits_printable t p.1)
 
-digits_word : (t begun : List ℕ) → list_all is_digit t ≡ true → words_from begun t ≡ word_if (begun ++ t)
+pub digits_word : (t begun : List ℕ) → list_all is_digit t ≡ true → words_from begun t ≡ word_if (begun ++ t)
 unfolding words_from
 digits_word [] begun h = ap word_if (sym (append-nil begun))
 digits_word (b ∷ t) begun h =
@@ -244,7 +237,7 @@ number_again n h =
     let l : length (decimal n) ≤ 20 = length-decimal-le 20 n (omega arith) (omega (arith, h)) h in
     rw (lt-ltb 0 (length (decimal n)) (decimal_nonempty n h), le-leb (length (decimal n)) 20 l, all_digits n h, v, lt-ltb n (2 ^ 64) h) refl
 
-word_alone : (w : List ℕ) → 0 < length w → word_if w ≡ w ∷ []
+pub word_alone : (w : List ℕ) → 0 < length w → word_if w ≡ w ∷ []
 word_alone [] h = absurd (omega (arith, h))
 word_alone (b ∷ bs) h = refl
 

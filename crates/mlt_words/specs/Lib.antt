@@ -2,3 +2,4 @@ pub mod Numbers
 pub mod Letters
 pub mod Words
 pub mod Lines
+pub mod Fronts

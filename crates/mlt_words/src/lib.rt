@@ -1,12 +1,14 @@
 //! The text level of scripts: lines, words, and what a word is.
 #![tactic(auto)]
 
+mod front;
 mod keyword;
 mod letter;
 mod line;
 mod number;
 mod words;
 
+pub use front::{after, front_number};
 pub use keyword::{Keyword, Word};
 pub use letter::Letter;
 pub use line::{first_line, first_printable_line, is_allowed_line, is_comment_line, trimmed};

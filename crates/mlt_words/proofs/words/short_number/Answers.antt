@@ -1,5 +1,4 @@
-use Rattle.std.proofs.Common.{◌≡◌, ◌^◌, ◌<◌, refl, sym, ◌∙◌, true, rules}
-use Rattle.mlt_words.specs.Words.{is_over}
+use Rattle.std.proofs.Common.{◌^◌, ◌<◌, refl, sym, ◌∙◌, rules}
 use Rattle.mlt_words.proofs.Digits.{number_first}
 use Rattle.mlt_words.proofs.words.short_number.Goals as goal
 

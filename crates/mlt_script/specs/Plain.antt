@@ -1,0 +1,50 @@
+-- Operations, replies and lines of a plain form, which has one space between words and nothing else.
+use Rattle.std.specs.Prelude.{◌≡◌, ◌<◌, ℕ, ◌^◌, List, ◌∷◌, ◌++◌, length, Some, false}
+use Rattle.mlt_kinds.specs.declared.element.ElementOp.{ElementOp}
+use Rattle.mlt_kinds.specs.declared.operation.ObjOp.{ObjOp}
+use Rattle.mlt_kinds.specs.declared.operation.ObjOp.TheVariants.{Element}
+use Rattle.mlt_kinds.specs.declared.operation.ObjReply.{ObjReply}
+use Rattle.mlt_script.specs.declared.forms.LineForm.{LineForm}
+use Rattle.mlt_script.specs.declared.line.Reading.TheVariants.{Form}
+use Rattle.mlt_script.specs.Forms.{asking_at, op_at, reply_at}
+use Rattle.mlt_script.specs.Readings.{reading}
+use Rattle.mlt_tree.specs.declared.statement.Asking.TheVariants.{Fixed}
+use Rattle.mlt_words.specs.declared.keyword.Keyword.{Keyword}
+use Rattle.mlt_words.specs.declared.keyword.Word.{Word}
+use Rattle.mlt_words.specs.declared.keyword.Word.TheVariants.{Number}
+use Rattle.mlt_words.specs.Fronts.{BeginsWithWords, TextIs}
+use Rattle.mlt_words.specs.Lines.{Raw, is_comment, lines}
+
+-- the text begins with the words that follow the keyword in this operation, and then comes the rest
+abbrev pub GoesOnWithOp : Keyword → List ℕ → ObjOp → List ℕ → Type 0
+GoesOnWithOp keyword text op rest =
+    (words : List Word)
+    × BeginsWithWords text words 41 rest
+    × ((more : List Word) → asking_at keyword (words ++ more) ≡ Some (Fixed op, more))
+
+-- the keyword asks this of an element, whose numbers follow
+abbrev pub AsksElement : Keyword → ElementOp → Type 0
+AsksElement keyword op =
+    (set element : ℕ) (more : List Word) → set < 2 ^ 16 → element < 2 ^ 32
+    → asking_at keyword (Number set ∷ Number element ∷ more) ≡ Some (Fixed (Element set element op), more)
+
+-- the text begins with an operation, at most 60 printable bytes that are no comment, and then comes the rest
+abbrev pub BeginsWithOp : List ℕ → ObjOp → List ℕ → Type 0
+BeginsWithOp text op rest =
+    (t : List ℕ) × (words : List Word)
+    × (text ≡ t ++ rest)
+    × TextIs t words 60
+    × (is_comment t ≡ false)
+    × ((more : List Word) → op_at (words ++ more) ≡ Some (op, more))
+
+-- the text begins with a reply, at most 29 printable bytes, and then comes the rest
+abbrev pub BeginsWithReply : List ℕ → ObjReply → List ℕ → Type 0
+BeginsWithReply text reply rest =
+    (t : List ℕ) × (words : List Word)
+    × (text ≡ t ++ rest)
+    × TextIs t words 29
+    × ((more : List Word) → reply_at (words ++ more) ≡ Some (reply, more))
+
+-- the first line of the text is of the form, and then comes the rest
+abbrev pub BeginsWithForm : List ℕ → LineForm → List ℕ → Type 0
+BeginsWithForm text form rest = (raw : Raw) × (lines text ≡ raw ∷ lines rest) × (Form form ≡ reading raw) × (length rest < length text)
