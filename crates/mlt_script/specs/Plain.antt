@@ -47,4 +47,6 @@ BeginsWithReply text reply rest =
 
 -- the first line of the text is of the form, and then comes the rest
 abbrev pub BeginsWithForm : List ℕ → LineForm → List ℕ → Type 0
-BeginsWithForm text form rest = (raw : Raw) × (lines text ≡ raw ∷ lines rest) × (Form form ≡ reading raw) × (length rest < length text)
+BeginsWithForm text form rest =
+    (raw : Raw) × (lines text ≡ raw ∷ lines rest) × (Form form ≡ reading raw)
+    × (length rest < length text)

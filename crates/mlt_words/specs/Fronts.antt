@@ -17,7 +17,8 @@ abbrev pub begins_with_digit : List ℕ → Bool
 begins_with_digit [] = false
 begins_with_digit (b ∷ bs) = is_digit b
 
--- The text begins with 1 to 19 digits that write the number, and then comes the rest. They are all the digits that stand there, or 19.
+-- The text begins with 1 to 19 digits that write the number, and then comes the rest. They are all the digits that stand
+-- there, or 19.
 abbrev pub BeginsWithNumber : List ℕ → ℕ → List ℕ → Type 0
 BeginsWithNumber text number rest =
     (digits : List ℕ)
