@@ -142,7 +142,8 @@ LacksMemory basis before after reason =
 
 abbrev pub TellsOfChange : Basis → Moment → WalkFields → WalkFields → Change → WalkAnswer → Type 0
 TellsOfChange basis new before after done answer.Changed = Makes basis new before after done
-TellsOfChange basis new before after done (answer.Refused reason) = LacksMemory basis before after reason
+TellsOfChange basis new before after done (answer.Refused reason) =
+    LacksMemory basis before after reason
 TellsOfChange basis new before after done other = ⊥
 
 -- The bucket has neither a ghost of the transaction to revive nor a slot with room.
@@ -212,5 +213,6 @@ TellsOfAddition basis new before after value answer.Changed =
 TellsOfAddition basis new before after value answer.NeedSplit = NeedsSplit basis new before after value
 TellsOfAddition basis new before after value answer.Widen = MustWiden basis new before after
 TellsOfAddition basis new before after value (answer.Refused refusal.NoRoom) = HasNoRoom basis new before after
-TellsOfAddition basis new before after value (answer.Refused reason) = LacksMemory basis before after reason
+TellsOfAddition basis new before after value (answer.Refused reason) =
+    LacksMemory basis before after reason
 TellsOfAddition basis new before after value other = ⊥

@@ -99,7 +99,8 @@ GoesAfter other before = before ≡ nothing_before
 -- all pages that are held stand in a list of at most so many and the pages of the directory, and so do these
 abbrev pub HoldsBeside : View → HeadFields → ℕ → Type 0
 HoldsBeside view header others =
-    HoldsAmong view header.dirs header.dirs 0 (2 ^ (header.depth - 8)) 0 (others + 2 ^ (header.depth - 8))
+    HoldsAmong view header.dirs header.dirs 0 (2 ^ (header.depth - 8)) 0
+    (others + 2 ^ (header.depth - 8))
 
 -- nothing is held or written
 pub record IsAtStart (view : View) : Type 0 where
@@ -146,7 +147,8 @@ pub record IsAtBucket (basis : Basis) (walk : WalkFields) (view : View) (bucket 
   pub unwritten : IsUnwrittenSince basis.before.written view
   pub header : HeadFields
   pub held : view.modes
-      ≡ bucket_held basis.before.held walk.pass walk.mode basis.root (dir_of header (basis.bits walk.key)) bucket
+      ≡ bucket_held basis.before.held walk.pass walk.mode basis.root
+      (dir_of header (basis.bits walk.key)) bucket
   pub among : HoldsBeside view header (basis.before.buckets + 2)
   pub head : view.seen basis.root ≡ Some (Some (page.Head header))
   pub dir : List ℕ
@@ -168,7 +170,8 @@ pub record HasRead (basis : Basis) (key : ℕ) (view : View) (found : Option ℕ
 
 -- Which pages a walk holds from its bucket's step on, and in which modes: those that it held before; those that it locked on
 -- its way, in the modes of its pass; and each other page exclusively that it has written or made, as its pass may.
-pub record HoldsByPass (before : Modes) (pass : Pass) (mode : Mode) (root dir bucket : ℕ) (view : View) : Type 0 where
+pub record HoldsByPass (before : Modes) (pass : Pass) (mode : Mode) (root dir bucket : ℕ) (view : View)
+    : Type 0 where
   pub on_header : map.get view.modes root ≡ Some (header_mode pass)
   pub on_dir : map.get view.modes dir ≡ Some (directory_mode pass)
   pub on_bucket : map.get view.modes bucket ≡ Some (bucket_mode pass mode)

@@ -130,7 +130,8 @@ impl Walk {
         ensures no_room { (result ≡ WalkAnswer.Refused Refusal.NoRoom)
             ↔ (HasToMake self.old.phase basis (moment subtx.old pages.old) self.old
             × HasNoPageLeft pages.old.store) }
-        ensures tells { TellsAt self.old.phase basis (moment subtx.old pages.old) (moment subtx.new pages.new) self.old self.new result }
+        ensures tells { TellsAt self.old.phase basis
+            (moment subtx.old pages.old) (moment subtx.new pages.new) self.old self.new result }
     {
         let phase = self.phase;
         match phase {
