@@ -14,12 +14,17 @@ use Rattle.mlt_page_locks.proofs.LockLaws.{writer_reads}
 use Rattle.mlt_page_locks.specs.Requests.{IsLowest, conflicts, granted, is_against, with_page}
 use Rattle.mlt_subtx.specs.Images.{Running, image_of, or_image}
 use Rattle.mlt_subtx.proofs.ImageLaws.{not_there}
+use Rattle.mlt_hash_form.specs.File.{FilePages}
 use Rattle.mlt_hash_form.specs.Held.{Agrees, over, own_or}
 use Rattle.mlt_held.specs.Moments.{IsCleanFor, MayStep, Moment}
 use Rattle.mlt_held.specs.PageSteps.{LocksAtMost, LocksPage, MakesLockedPage, TouchesOnePage, WritesAtMost, WritesHeldPage}
 use Rattle.mlt_held.specs.Views.{page_written, view_of}
 use Rattle.mlt_held.proofs.Views.{agrees}
-use Rattle.mlt_hash_file.specs.Alone.{IsAlone, KeepsBefore, pages_before}
+use Rattle.mlt_held.specs.Views.{HasWritten, IsUnwrittenSince, view_over}
+use Rattle.mlt_held.proofs.Rebased.{written_over, written_stays}
+use Rattle.mlt_held.proofs.Since.{agrees_over, over_since}
+use Rattle.mlt_hash.specs.Walks.{Before}
+use Rattle.mlt_hash_file.specs.Alone.{IsAlone, KeepsBefore, pages_before, pages_since}
 
 -- the others have no place among the locks,
 pub no_place : (m : Moment) (u : ℕ) → IsAlone m → u ≢ m.running.tx → map.get m.locks.held u ≡ None
@@ -75,6 +80,18 @@ written_over_before m q may =
 
 pub store_is_over : (m : Moment) → MayStep m → over (pages_before m) (view_of m).own ≡ page_at m.store.pages
 store_is_over m may i q = written_over_before m q may i
+
+-- **A walk that went on to its key sees what stood then,**
+pub sees_since : (since : Before) (m : Moment) → MayStep m → Agrees (view_over since.written m).seen (pages_since since m)
+sees_since since m may = agrees_over since.written m (pages_before m) may (before_is_clean m may)
+
+-- **and with its own writes over that it sees the store.**
+pub store_is_since : (since : Before) (m : Moment) → MayStep m → HasWritten since.written (view_of m) → over (pages_since since m) (view_over since.written m).own ≡ page_at m.store.pages
+store_is_since since m may written i q = (written_over (since.written q) ((view_of m).own q) (pages_before m q) (λ some. (written q some).1) ∙ written_over_before m q may) i
+
+-- so where it has written nothing since, the store is as it was then
+pub unwritten_store : (since : Before) (m : Moment) → MayStep m → HasWritten since.written (view_of m) → IsUnwrittenSince since.written (view_over since.written m) → page_at m.store.pages ≡ pages_since since m
+unwritten_store since m may written unwritten = sym (store_is_since since m may written) ∙ over_since since.written (view_over since.written m) unwritten (pages_since since m) (sees_since since m may)
 
 -- what a step keeps apart from the pages
 record KeepsBounds (old new : Moment) : Type 0 where
@@ -153,6 +170,10 @@ before_kept old new alone still clean keeps = record {
   max_pages = keeps.max_pages;
   pages = λ q. sym (clean_is_before new (pages_before old) q still (clean (pages_before old) (before_is_clean old alone.may)));
 }
+
+-- what it wrote stays written
+pub written_after : (written : FilePages) (mid old new : Moment) → mid ≡ old → MayStep mid → TouchesOnePage mid new → HasWritten written (view_of old) → HasWritten written (view_of new)
+written_after written mid old new same may touches has = written_stays written mid new may touches (subst (λ (m : Moment). HasWritten written (view_of m)) (sym same) has)
 
 -- **A transaction is alone still once it has made a step,**
 pub alone_after_step : (old new : Moment) → IsAlone old → MayStep new → TouchesOnePage old new → IsAlone new

@@ -11,23 +11,22 @@ use Rattle.mlt_page.specs.Values.{BucketFields}
 use Rattle.mlt_page.specs.declared.page.Page.{Page}
 use Rattle.mlt_page.specs.declared.page.Page.TheVariants as page
 use Rattle.mlt_store.specs.Stores.{page_at}
-use Rattle.mlt_subtx.specs.Images.{put_back}
-use Rattle.mlt_subtx.proofs.ImageLaws.{page_at-put_back, same_pages}
 use Rattle.mlt_hash_form.specs.File.{bucket_of, buckets_of, depth_of, lead_of, look_up}
 use Rattle.mlt_hash_form.specs.Room.{is_crowded}
 use Rattle.mlt_hash_form.proofs.Crowd.{crowded_in_fewer, crowded_test}
 use Rattle.mlt_hash_form.proofs.InPages.{led_at}
 use Rattle.mlt_held.specs.Moments.{IsCleanFor, MayStep, Moment}
-use Rattle.mlt_held.specs.PageSteps.{WritesAtMost}
-use Rattle.mlt_held.specs.Views.{IsUnwritten, View, view_of}
-use Rattle.mlt_hash_file.specs.Alone.{IsAlone, KeepsBefore, basis_of, pages_before}
+use Rattle.mlt_held.specs.PageSteps.{TouchesOnePage, WritesAtMost}
+use Rattle.mlt_held.specs.Views.{HasWritten, IsUnwrittenSince, View, view_of, view_over}
+use Rattle.mlt_held.proofs.Rebased.{written_stays}
+use Rattle.mlt_hash_file.specs.Alone.{IsAlone, KeepsBefore, basis_of, pages_since}
 use Rattle.mlt_hash.specs.StepsLeft.{IsPutting}
-use Rattle.mlt_hash_file.specs.AloneWalks.{HasArrived, HasChanged, IsFullFor, IsHashFile, NeedsRoom, NeedsSplits, NeverHasRoomFor, TellsOfPass, added_value}
+use Rattle.mlt_hash_file.specs.AloneWalks.{HasArrived, HasChanged, HasMade, IsFullFor, IsHashFile, NeedsRoom, NeedsSplits, NeverHasRoomFor, TellsOfPass, added_value}
 use Rattle.mlt_hash.specs.Changes.{HasNoRoom, IsAtAbsent, IsAtRecord, IsFull, Makes, NeedsSplit, TellsOfAddition, WritesIfChanged, crowded_at, page_of}
 use Rattle.mlt_hash.specs.Passes.{HasRoomFrom, IsNextPass, next_of, value_after}
 use Rattle.mlt_hash_file.specs.SplitPages.{HasRoomAt, pages_for, pages_in_the_end, pages_left_at, pages_to_make}
 use Rattle.mlt_hash.specs.Steps.{HasFound, IsSameWalk}
-use Rattle.mlt_hash.specs.Walks.{Basis, IsAtBucket, IsStanding, Stands, WalkFields, nothing_before, one_key}
+use Rattle.mlt_hash.specs.Walks.{Basis, Before, IsAtBucket, IsStanding, Stands, WalkFields, view_for}
 use Rattle.mlt_hash.specs.declared.answer.WalkAnswer.{WalkAnswer}
 use Rattle.mlt_hash.specs.declared.answer.WalkAnswer.TheVariants as answer
 use Rattle.mlt_hash.specs.declared.pass.Change.{Change}
@@ -36,9 +35,9 @@ use Rattle.mlt_hash.specs.declared.pass.Pass.{Pass}
 use Rattle.mlt_hash.specs.declared.pass.Pass.TheVariants as pass
 use Rattle.mlt_hash.specs.declared.pass.Phase.{Phase}
 use Rattle.mlt_hash.specs.declared.pass.Phase.TheVariants as at
-use Rattle.mlt_hash_file.proofs.Alone.{alone_after_write, keeps_both, sees_before, write_keeps_before}
-use Rattle.mlt_hash_file.proofs.AloneChanges.{made_alone, shallow_after_write, unwritten_store, writes_at_most}
-use Rattle.mlt_hash_file.proofs.AloneWalks.{file_kept, same_basis, same_before, same_walks}
+use Rattle.mlt_hash_file.proofs.Alone.{alone_after_write, sees_since, unwritten_store, write_keeps_before}
+use Rattle.mlt_hash_file.proofs.AloneChanges.{made_alone, shallow_after_write, writes_at_most}
+use Rattle.mlt_hash_file.proofs.AloneWalks.{file_kept, same_basis, same_since, same_walks}
 use Rattle.mlt_hash.proofs.Laws.{found_there, path_taken}
 
 -- a walk that has arrived is at its bucket, with what it has found,
@@ -52,7 +51,7 @@ arrived_at basis walk view (at.Adding own bucket room_depth unsplit) value is st
 arrived_at basis walk view (at.Splitting own room_depth) value is stands = absurd is
 arrived_at basis walk view (at.Changed bucket done) value is stands = absurd is
 
-found_absent : (phase : Phase) (value : Option ℕ) → HasFound phase value → value ≡ None → IsAtAbsent phase
+pub found_absent : (phase : Phase) (value : Option ℕ) → HasFound phase value → value ≡ None → IsAtAbsent phase
 found_absent (at.AtBucket bucket depth found) value is none = is ∙ none
 found_absent at.Start value is none = absurd is
 found_absent (at.Headed dir row depth) value is none = absurd is
@@ -74,38 +73,36 @@ found_record (at.Splitting own room_depth) value is there = absurd is
 found_record (at.Changed bucket done) value is there = absurd is
 
 -- a walk that has arrived has written nothing
-pub arrived_store : (basis : Basis) (m : Moment) (before walk : WalkFields) (value : Option ℕ) (q : ℕ) → IsAlone m → HasArrived (one_key basis) m before walk value → page_at m.store.pages q ≡ pages_before m q
-arrived_store basis m before walk value q alone arrived =
-    let here = arrived_at (one_key basis) walk (view_of m) walk.phase value arrived.found arrived.stands in
-    unwritten_store m q alone.may here.1.unwritten.own
+pub arrived_store : (basis : Basis) (m : Moment) (before walk : WalkFields) (value : Option ℕ) → IsAlone m → HasWritten basis.before.written (view_of m) → HasArrived basis m before walk value → page_at m.store.pages ≡ pages_since basis.before m
+arrived_store basis m before walk value alone written arrived =
+    let here = arrived_at basis walk (view_for basis m) walk.phase value arrived.found arrived.stands in
+    unwritten_store basis.before m alone.may written here.1.unwritten
 
 -- **What a walk alone has found is the value of its key.**
-pub found_is_value : (basis : Basis) (m : Moment) (before walk : WalkFields) (value : Option ℕ) → IsAlone m → HasArrived basis m before walk value → look_up basis.bits (pages_before m) basis.root before.key ≡ value
+pub found_is_value : (basis : Basis) (m : Moment) (before walk : WalkFields) (value : Option ℕ) → IsAlone m → HasArrived basis m before walk value → look_up basis.bits (pages_since basis.before m) basis.root before.key ≡ value
 found_is_value basis m before walk value alone arrived =
-    let here = arrived_at basis walk (view_of m) walk.phase value arrived.found arrived.stands in
-    ap (look_up basis.bits (pages_before m) basis.root) (sym arrived.same.key) ∙ found_there basis walk (view_of m) (page_of walk.phase) here.0 value (pages_before m) here.1 (sees_before m alone.may)
+    let here = arrived_at basis walk (view_for basis m) walk.phase value arrived.found arrived.stands in
+    ap (look_up basis.bits (pages_since basis.before m) basis.root) (sym arrived.same.key) ∙ found_there basis walk (view_for basis m) (page_of walk.phase) here.0 value (pages_since basis.before m) here.1 (sees_since basis.before m alone.may)
 
 -- so it finds none where there is none
-pub finds_none : (basis : Basis) (m : Moment) (before walk : WalkFields) (value : Option ℕ) → IsAlone m → HasArrived basis m before walk value → look_up basis.bits (pages_before m) basis.root before.key ≡ None → IsAtAbsent walk.phase
+pub finds_none : (basis : Basis) (m : Moment) (before walk : WalkFields) (value : Option ℕ) → IsAlone m → HasArrived basis m before walk value → look_up basis.bits (pages_since basis.before m) basis.root before.key ≡ None → IsAtAbsent walk.phase
 finds_none basis m before walk value alone arrived none = found_absent walk.phase value arrived.found (sym (found_is_value basis m before walk value alone arrived) ∙ none)
 
-pub absent_here : (bits : ℕ → ℕ) (root max_depth : ℕ) (first old mid : Moment) (before walk : WalkFields) (value : Option ℕ) → mid ≡ old → IsAlone mid → KeepsBefore first old → HasArrived (basis_of bits root max_depth first) old before walk value
-    → look_up bits (pages_before first) root before.key ≡ None → IsAtAbsent walk.phase
-absent_here bits root max_depth first old mid before walk value same alone keeps arrived none =
-    let arrived_mid : HasArrived (basis_of bits root max_depth first) mid before walk value = subst (λ (m : Moment). HasArrived (basis_of bits root max_depth first) m before walk value) (sym same) arrived in
-    let none_mid : look_up bits (pages_before mid) root before.key ≡ None = ap (λ (m : Moment). look_up bits (pages_before m) root before.key) same ∙ ap (λ (pages : ℕ → Option Page). look_up bits pages root before.key) (same_before first old keeps) ∙ none in
-    finds_none (basis_of bits root max_depth first) mid before walk value alone arrived_mid none_mid
+pub absent_here : (since : Before) (bits : ℕ → ℕ) (root max_depth : ℕ) (first old : Moment) (before walk : WalkFields) (value : Option ℕ) → IsAlone old → KeepsBefore first old → HasArrived (basis_of since bits root max_depth first) old before walk value
+    → look_up bits (pages_since since first) root before.key ≡ None → IsAtAbsent walk.phase
+absent_here since bits root max_depth first old before walk value alone keeps arrived none =
+    finds_none (basis_of since bits root max_depth first) old before walk value alone arrived (ap (λ (pages : ℕ → Option Page). look_up bits pages root before.key) (same_since since first old keeps) ∙ none)
 
 -- a walk that has arrived stands there, by what the transaction goes by now
-pub arrived_stands : (bits : ℕ → ℕ) (root max_depth : ℕ) (first old : Moment) (before walk : WalkFields) (value : Option ℕ) → KeepsBefore first old → HasArrived (basis_of bits root max_depth first) old before walk value → IsStanding (basis_of bits root max_depth old) walk (view_of old)
-arrived_stands bits root max_depth first old before walk value keeps arrived = subst (λ basis. IsStanding basis walk (view_of old)) (sym (same_basis bits root max_depth first old keeps)) arrived.stands
+pub arrived_stands : (since : Before) (bits : ℕ → ℕ) (root max_depth : ℕ) (first old : Moment) (before walk : WalkFields) (value : Option ℕ) → KeepsBefore first old → HasArrived (basis_of since bits root max_depth first) old before walk value → IsStanding (basis_of since bits root max_depth old) walk (view_over since.written old)
+arrived_stands since bits root max_depth first old before walk value keeps arrived = subst (λ basis. IsStanding basis walk (view_for basis old)) (sym (same_basis since bits root max_depth first old keeps)) arrived.stands
 
 -- and its bucket is where its key leads
-leads_here : (basis : Basis) (m : Moment) (walk : WalkFields) (bucket depth : ℕ) (found : Option ℕ) (here : IsAtBucket basis walk (view_of m) bucket depth found) → MayStep m → lead_of (pages_before m) basis.root (basis.bits walk.key) ≡ bucket
+leads_here : (basis : Basis) (m : Moment) (walk : WalkFields) (bucket depth : ℕ) (found : Option ℕ) (here : IsAtBucket basis walk (view_for basis m) bucket depth found) → MayStep m → lead_of (pages_since basis.before m) basis.root (basis.bits walk.key) ≡ bucket
 leads_here basis m walk bucket depth found here may =
-    (led_at (pages_before m) basis.root (basis.bits walk.key) here.header here.dir bucket here.fields (path_taken basis walk (view_of m) bucket depth found (pages_before m) here (sees_before m may))).0
+    (led_at (pages_since basis.before m) basis.root (basis.bits walk.key) here.header here.dir bucket here.fields (path_taken basis walk (view_for basis m) bucket depth found (pages_since basis.before m) here (sees_since basis.before m may))).0
 
-absent_bucket : (basis : Basis) (walk : WalkFields) (view : View) (phase : Phase) → IsAtAbsent phase → Stands phase basis walk view → (depth : ℕ) × (found : Option ℕ) × IsAtBucket basis walk view (page_of phase) depth found
+pub absent_bucket : (basis : Basis) (walk : WalkFields) (view : View) (phase : Phase) → IsAtAbsent phase → Stands phase basis walk view → (depth : ℕ) × (found : Option ℕ) × IsAtBucket basis walk view (page_of phase) depth found
 absent_bucket basis walk view (at.AtBucket bucket depth found) none stands = (depth, found, stands)
 absent_bucket basis walk view at.Start none stands = absurd none
 absent_bucket basis walk view (at.Headed dir row depth) none stands = absurd none
@@ -124,14 +121,14 @@ not_first crowded l most g pass.Wide is same = cc
 follows : (phase : Phase) (next : Pass) → phase ≡ at.Full next → (next ≡ pass.First → ⊥) → (phase ≡ at.Full (next_of phase)) × (next_of phase ≡ pass.First → ⊥)
 follows phase next is later = subst (λ (phase : Phase). (phase ≡ at.Full (next_of phase)) × (next_of phase ≡ pass.First → ⊥)) (sym is) (refl, later)
 
-module _ (bits : ℕ → ℕ) (root max_depth : ℕ) (first mid new : Moment) (walk after : WalkFields) (value : ℕ) (alone : IsAlone mid) (file : IsHashFile bits (pages_before mid) root max_depth) (none : IsAtAbsent walk.phase)
-    (stood : IsStanding (basis_of bits root max_depth first) walk (view_of mid)) (may : MayStep new) (clean : (clean : ℕ → Option Page) → IsCleanFor mid clean → IsCleanFor new clean) (step : WritesAtMost mid new (page_of walk.phase))
+module _ (since : Before) (bits : ℕ → ℕ) (root max_depth : ℕ) (first mid new : Moment) (walk after : WalkFields) (value : ℕ) (alone : IsAlone mid) (written : HasWritten since.written (view_of mid)) (file : IsHashFile bits (pages_since since mid) root max_depth) (none : IsAtAbsent walk.phase)
+    (stood : IsStanding (basis_of since bits root max_depth first) walk (view_over since.written mid)) (may : MayStep new) (clean : (clean : ℕ → Option Page) → IsCleanFor mid clean → IsCleanFor new clean) (touches : TouchesOnePage mid new) (step : WritesAtMost mid new (page_of walk.phase))
   where
     abbrev ours : Basis
-    ours = basis_of bits root max_depth first
+    ours = basis_of since bits root max_depth first
 
-    here : (depth : ℕ) × (found : Option ℕ) × IsAtBucket ours walk (view_of mid) (page_of walk.phase) depth found
-    here = absent_bucket ours walk (view_of mid) walk.phase none stood
+    here : (depth : ℕ) × (found : Option ℕ) × IsAtBucket ours walk (view_over since.written mid) (page_of walk.phase) depth found
+    here = absent_bucket ours walk (view_over since.written mid) walk.phase none stood
 
     keeps : KeepsBefore mid new
     keeps = write_keeps_before mid mid new (page_of walk.phase) refl alone may clean step
@@ -139,59 +136,61 @@ module _ (bits : ℕ → ℕ) (root max_depth : ℕ) (first mid new : Moment) (w
     alone_new : IsAlone new
     alone_new = alone_after_write mid new (page_of walk.phase) alone may step
 
-    file_new : IsHashFile bits (pages_before new) root max_depth
-    file_new = file_kept bits root max_depth mid new keeps file
+    written_new : HasWritten since.written (view_of new)
+    written_new = written_stays since.written mid new alone.may touches written
+
+    file_new : IsHashFile bits (pages_since since new) root max_depth
+    file_new = file_kept since bits root max_depth mid new keeps file
 
     shallow : depth_of (page_at new.store.pages) root ≤ max_depth
-    shallow = let h = here in shallow_after_write ours mid new walk (page_of walk.phase) h.0 h.1 alone.may file h.2 step
+    shallow = let h = here in shallow_after_write ours mid new walk (page_of walk.phase) h.0 h.1 alone.may written file h.2 step
 
     -- the bucket that the walk sees is the key's
-    leads : lead_of (pages_before new) root (bits walk.key) ≡ page_of walk.phase
-    leads = let h = here in ap (λ (pages : ℕ → Option Page). lead_of pages root (bits walk.key)) (same_before mid new keeps) ∙ leads_here ours mid walk (page_of walk.phase) h.0 h.1 h.2 alone.may
+    leads : lead_of (pages_since since new) root (bits walk.key) ≡ page_of walk.phase
+    leads = let h = here in ap (λ (pages : ℕ → Option Page). lead_of pages root (bits walk.key)) (same_since since mid new keeps) ∙ leads_here ours mid walk (page_of walk.phase) h.0 h.1 h.2 alone.may
 
-    key_bucket : (fields : BucketFields) → (view_of new).seen (page_of walk.phase) ≡ Some (Some (page.Bucket fields)) → buckets_of (pages_before new) (lead_of (pages_before new) root (bits walk.key)) ≡ fields
-    key_bucket fields sees = ap (buckets_of (pages_before new)) leads ∙ ap bucket_of (sees_before new may (page_of walk.phase) (Some (page.Bucket fields)) sees)
+    key_bucket : (fields : BucketFields) → (view_over since.written new).seen (page_of walk.phase) ≡ Some (Some (page.Bucket fields)) → buckets_of (pages_since since new) (lead_of (pages_since since new) root (bits walk.key)) ≡ fields
+    key_bucket fields sees = ap (buckets_of (pages_since since new)) leads ∙ ap bucket_of (sees_since since new may (page_of walk.phase) (Some (page.Bucket fields)) sees)
 
-    is_full : (fields : BucketFields) → IsFull ours walk (view_of new) fields → IsFullFor bits (pages_before new) root walk.key
+    is_full : (fields : BucketFields) → IsFull ours walk (view_over since.written new) fields → IsFullFor bits (pages_since since new) root walk.key
     is_full fields full = ap (λ (b : BucketFields). list_all (is_kept set.empty) b.slots) (key_bucket fields full.sees.at) ∙ full.no_room
 
-    never : HasNoRoom ours new walk after → NeverHasRoomFor bits (pages_before new) max_depth walk.key
+    never : HasNoRoom ours new walk after → NeverHasRoomFor bits (pages_since since new) max_depth walk.key
     never has =
-        let same : buckets_of (pages_before new) (lead_of (pages_before new) root (bits walk.key)) ≡ has.fields = key_bucket has.fields has.full.sees.at in
+        let same : buckets_of (pages_since since new) (lead_of (pages_since since new) root (bits walk.key)) ≡ has.fields = key_bucket has.fields has.full.sees.at in
         let x : ℕ = bits walk.key in
         let below : x < 2 ^ 64 = file_new.bounded walk.key in
-        let fine : (buckets_of (pages_before new) (lead_of (pages_before new) root x)).depth ≤ max_depth = omega (arith, file_new.form.form.fine x below, file_new.shallow) in
+        let fine : (buckets_of (pages_since since new) (lead_of (pages_since since new) root x)).depth ≤ max_depth = omega (arith, file_new.form.form.fine x below, file_new.shallow) in
         let fits : has.fields.depth ≤ max_depth = subst (λ (b : BucketFields). b.depth ≤ max_depth) same fine in
         let crowded : is_crowded bits set.empty max_depth x has.fields.slots ≡ true = has.never max_depth fits (omega arith) in
-        let there : is_crowded bits set.empty max_depth x (buckets_of (pages_before new) (lead_of (pages_before new) root x)).slots ≡ true = ap (λ (b : BucketFields). is_crowded bits set.empty max_depth x b.slots) same ∙ crowded in
-        (crowded_test bits set.empty _ (lead_of (pages_before new) root) (buckets_of (pages_before new)) max_depth x below file_new.bounded file_new.form.form fine (omega (arith, file_new.small))).1 there
+        let there : is_crowded bits set.empty max_depth x (buckets_of (pages_since since new) (lead_of (pages_since since new) root x)).slots ≡ true = ap (λ (b : BucketFields). is_crowded bits set.empty max_depth x b.slots) same ∙ crowded in
+        (crowded_test bits set.empty _ (lead_of (pages_since since new) root) (buckets_of (pages_since since new)) max_depth x below file_new.bounded file_new.form.form fine (omega (arith, file_new.small))).1 there
 
     -- at a depth at which the bucket has room, and at any deeper one, the file is not crowded
-    has_room : (fields : BucketFields) (d : ℕ) → (view_of new).seen (page_of walk.phase) ≡ Some (Some (page.Bucket fields)) → d ≤ max_depth → crowded_at ours walk fields d ≡ false → NeverHasRoomFor bits (pages_before new) max_depth walk.key → ⊥
+    has_room : (fields : BucketFields) (d : ℕ) → (view_over since.written new).seen (page_of walk.phase) ≡ Some (Some (page.Bucket fields)) → d ≤ max_depth → crowded_at ours walk fields d ≡ false → NeverHasRoomFor bits (pages_since since new) max_depth walk.key → ⊥
     has_room fields d sees within room never =
-        let same : buckets_of (pages_before new) (lead_of (pages_before new) root (bits walk.key)) ≡ fields = key_bucket fields sees in
+        let same : buckets_of (pages_since since new) (lead_of (pages_since since new) root (bits walk.key)) ≡ fields = key_bucket fields sees in
         let x : ℕ = bits walk.key in
         let below : x < 2 ^ 64 = file_new.bounded walk.key in
-        let fine : (buckets_of (pages_before new) (lead_of (pages_before new) root x)).depth ≤ max_depth = omega (arith, file_new.form.form.fine x below, file_new.shallow) in
-        let there : is_crowded bits set.empty max_depth x (buckets_of (pages_before new) (lead_of (pages_before new) root x)).slots ≡ true = (crowded_test bits set.empty _ (lead_of (pages_before new) root) (buckets_of (pages_before new)) max_depth x below file_new.bounded file_new.form.form fine (omega (arith, file_new.small))).0 never in
+        let fine : (buckets_of (pages_since since new) (lead_of (pages_since since new) root x)).depth ≤ max_depth = omega (arith, file_new.form.form.fine x below, file_new.shallow) in
+        let there : is_crowded bits set.empty max_depth x (buckets_of (pages_since since new) (lead_of (pages_since since new) root x)).slots ≡ true = (crowded_test bits set.empty _ (lead_of (pages_since since new) root) (buckets_of (pages_since since new)) max_depth x below file_new.bounded file_new.form.form fine (omega (arith, file_new.small))).0 never in
         let crowded : is_crowded bits set.empty max_depth x fields.slots ≡ true = ap (λ (b : BucketFields). is_crowded bits set.empty max_depth x b.slots) (sym same) ∙ there in
         false≢true (sym room ∙ crowded_in_fewer bits set.empty d max_depth x fields.slots within (omega (arith, file_new.small)) crowded)
 
-    changed : (done : Change) → value_after done ≡ Some value → Makes ours new walk after done → HasChanged ours new walk.key (Some value)
-    changed done is makes = subst (λ (value : Option ℕ). HasChanged ours new walk.key value) is (made_alone ours new walk after done alone_new file_new shallow makes)
+    changed : (done : Change) → value_after done ≡ Some value → Makes ours new walk after done → HasMade ours new walk after (Some value)
+    changed done is makes = subst (λ (value : Option ℕ). HasMade ours new walk after value) is (made_alone ours new walk after done alone_new written_new file_new shallow makes)
 
     -- where nothing is written, the pages are those before
-    store_is : new ≡ mid → page_at new.store.pages ≡ pages_before new
-    store_is same i q = let h = here in unwritten_store new q may (subst (λ (m : Moment). IsUnwritten (view_of m)) (sym same) h.2.unwritten.own) i
+    store_is : new ≡ mid → page_at new.store.pages ≡ pages_since since new
+    store_is same = let h = here in unwritten_store since new may written_new (subst (λ (m : Moment). IsUnwrittenSince since.written (view_over since.written m)) (sym same) h.2.unwritten)
 
-    pages_counted : (d : ℕ) → new ≡ mid → after.phase ≡ at.Adding value (page_of walk.phase) d true → pages_in_the_end root after new ≡ map.len (put_back new.running.images new.store.pages) + pages_for bits (pages_before new) root walk.key d
+    pages_counted : (d : ℕ) → new ≡ mid → after.phase ≡ at.Adding value (page_of walk.phase) d true → pages_in_the_end root after new ≡ map.len new.store.pages + pages_for bits (pages_since since new) root walk.key d
     pages_counted d same phase =
         let stored = store_is same in
-        let back : new.store.pages ≡ put_back new.running.images new.store.pages = sym (same_pages _ _ (λ q. page_at-put_back new.running.images new.store.pages q ∙ sym (λ i. stored i q))) in
-        let leads_there : page_of walk.phase ≡ lead_of (pages_before new) root (bits walk.key) = sym leads in
+        let leads_there : page_of walk.phase ≡ lead_of (pages_since since new) root (bits walk.key) = sym leads in
         let left : pages_left_at after.phase root after new ≡ pages_to_make (buckets_of (page_at new.store.pages) (page_of walk.phase)).depth (depth_of (page_at new.store.pages) root) d = ap (λ (phase : Phase). pages_left_at phase root after new) phase in
-        let same_left : pages_to_make (buckets_of (page_at new.store.pages) (page_of walk.phase)).depth (depth_of (page_at new.store.pages) root) d ≡ pages_for bits (pages_before new) root walk.key d = (λ i. pages_to_make (buckets_of (stored i) (leads_there i)).depth (depth_of (stored i) root) d) in
-        (λ i. map.len (back i) + (left ∙ same_left) i)
+        let same_left : pages_to_make (buckets_of (page_at new.store.pages) (page_of walk.phase)).depth (depth_of (page_at new.store.pages) root) d ≡ pages_for bits (pages_since since new) root walk.key d = (λ i. pages_to_make (buckets_of (stored i) (leads_there i)).depth (depth_of (stored i) root) d) in
+        (λ i. map.len new.store.pages + (left ∙ same_left) i)
 
     needs_splits : new ≡ mid → NeedsSplit ours new walk after value → (walk.pass ≡ pass.First → ⊥) → NeedsSplits ours new walk after value
     needs_splits same needs later =
@@ -202,6 +201,7 @@ module _ (bits : ℕ → ℕ) (root max_depth : ℕ) (first mid new : Moment) (w
           ever = has_room needs.fields next.0 needs.full.sees.at next.2.1 next.2.2;
           d = next.0;
           least = subst (λ (b : BucketFields). HasRoomFrom (λ e. is_crowded bits set.empty e (bits walk.key) b.slots) b.depth max_depth next.0) (sym (key_bucket needs.fields needs.full.sees.at)) next.2;
+          unwritten = store_is same;
           pages = pages_counted next.0 same next.1;
         }
 
@@ -223,46 +223,56 @@ module _ (bits : ℕ → ℕ) (root max_depth : ℕ) (first mid new : Moment) (w
     pass_tells answer.NeedSplit writes tells = needs_room writes tells
     pass_tells answer.Widen writes tells = record { same = tells.same; narrow = tells.narrow; phase = tells.phase }
     pass_tells (answer.Refused refusal.NoRoom) writes tells = (tells.later, is_full tells.fields tells.full, never tells)
-    pass_tells (answer.Refused reason) writes tells = absurd (tells.1 refl)
+    pass_tells (answer.Refused reason) writes tells = (tells.0, tells.1)
     pass_tells other writes tells = absurd tells
 
 retell_splits : (basis : Basis) (new : Moment) (before walk after : WalkFields) (value : ℕ) → IsSameWalk before walk → NeedsSplits basis new walk after value → NeedsSplits basis new before after value
 retell_splits basis new before walk after value same needs = record {
   value_is = needs.value_is;
   may = needs.may;
-  ever = subst (λ (key : ℕ). NeverHasRoomFor basis.bits (pages_before new) basis.max_depth key → ⊥) same.key needs.ever;
+  ever = subst (λ (key : ℕ). NeverHasRoomFor basis.bits (pages_since basis.before new) basis.max_depth key → ⊥) same.key needs.ever;
   d = needs.d;
-  least = subst (λ (key : ℕ). HasRoomAt basis.bits (pages_before new) basis.root basis.max_depth key needs.d) same.key needs.least;
-  pages = subst (λ (key : ℕ). pages_in_the_end basis.root after new ≡ map.len (put_back new.running.images new.store.pages) + pages_for basis.bits (pages_before new) basis.root key needs.d) same.key needs.pages;
+  least = subst (λ (key : ℕ). HasRoomAt basis.bits (pages_since basis.before new) basis.root basis.max_depth key needs.d) same.key needs.least;
+  unwritten = needs.unwritten;
+  pages = subst (λ (key : ℕ). pages_in_the_end basis.root after new ≡ map.len new.store.pages + pages_for basis.bits (pages_since basis.before new) basis.root key needs.d) same.key needs.pages;
+}
+
+pub retell_made : (basis : Basis) (new : Moment) (before walk after : WalkFields) (value : Option ℕ) → IsSameWalk before walk → HasMade basis new walk after value → HasMade basis new before after value
+retell_made basis new before walk after value same made = record {
+  changed = subst (λ (key : ℕ). HasChanged basis new key value) same.key made.changed;
+  same = same_walks before walk after same made.same;
+  phase = made.phase;
+  stands = made.stands;
 }
 
 -- a pass tells the same of the walk as it was before it went to its bucket
 pub retell : (basis : Basis) (new : Moment) (before walk after : WalkFields) (value : ℕ) (told : WalkAnswer) → IsSameWalk before walk → TellsOfPass basis new walk after value told → TellsOfPass basis new before after value told
-retell basis new before walk after value answer.Changed same tells = subst (λ (key : ℕ). HasChanged basis new key (Some value)) same.key tells
+retell basis new before walk after value answer.Changed same tells = retell_made basis new before walk after (Some value) same tells
 retell basis new before walk after value answer.NeedSplit same tells = record {
-  full = subst (λ (key : ℕ). IsFullFor basis.bits (pages_before new) basis.root key) same.key tells.full;
+  full = subst (λ (key : ℕ). IsFullFor basis.bits (pages_since basis.before new) basis.root key) same.key tells.full;
   same = same_walks before walk after same tells.same;
   first = λ is. tells.first (same.pass ∙ is);
   later = λ later. retell_splits basis new before walk after value same (tells.later (λ is. later (sym same.pass ∙ is)));
 }
 retell basis new before walk after value answer.Widen same tells = record { same = same_walks before walk after same tells.same; narrow = sym same.pass ∙ tells.narrow; phase = tells.phase }
-retell basis new before walk after value (answer.Refused refusal.NoRoom) same tells = (λ is. tells.0 (same.pass ∙ is), subst (λ (key : ℕ). IsFullFor basis.bits (pages_before new) basis.root key) same.key tells.1, subst (λ (key : ℕ). NeverHasRoomFor basis.bits (pages_before new) basis.max_depth key) same.key tells.2)
+retell basis new before walk after value (answer.Refused refusal.NoRoom) same tells = (λ is. tells.0 (same.pass ∙ is), subst (λ (key : ℕ). IsFullFor basis.bits (pages_since basis.before new) basis.root key) same.key tells.1, subst (λ (key : ℕ). NeverHasRoomFor basis.bits (pages_since basis.before new) basis.max_depth key) same.key tells.2)
+retell basis new before walk after value (answer.Refused reason) same tells = tells
 retell basis new before walk after value other same tells = absurd tells
 
 -- **A pass alone tells what its addition told at the bucket that it went to.**
-pub addition_tells : (bits : ℕ → ℕ) (opens : set.FinSet nat_cmp) (root max_depth : ℕ) (first old mid new : Moment) (before walk after : WalkFields) (found : Option ℕ) (value : ℕ) (told : WalkAnswer)
-    → opens ≡ set.empty → mid ≡ old → IsAlone mid → KeepsBefore first old → HasArrived (basis_of bits root max_depth first) old before walk found → IsAtAbsent walk.phase → IsHashFile bits (pages_before first) root max_depth
-    → MayStep new → ((clean : ℕ → Option Page) → IsCleanFor mid clean → IsCleanFor new clean) → WritesIfChanged mid new (page_of walk.phase) told
-    → TellsOfAddition (record { bits = bits; opens = opens; root = root; max_depth = max_depth; tx = mid.running.tx; before = nothing_before }) new walk after value told
-    → TellsOfPass (basis_of bits root max_depth first) new before after value told
-addition_tells bits opens root max_depth first old mid new before walk after found value told none same alone keeps arrived absent was may clean writes tells =
-    let basis : Basis = basis_of bits root max_depth first in
-    let same_tx : mid.running.tx ≡ first.running.tx = ap (λ (m : Moment). m.running.tx) same ∙ keeps.tx in
-    let same_basis : record { bits = bits; opens = opens; root = root; max_depth = max_depth; tx = mid.running.tx; before = nothing_before } ≡ basis = λ i. record { bits = bits; opens = none i; root = root; max_depth = max_depth; tx = same_tx i; before = nothing_before } in
-    let stood : IsStanding basis walk (view_of mid) = subst (λ (m : Moment). IsStanding basis walk (view_of m)) (sym same) arrived.stands in
-    let file : IsHashFile bits (pages_before mid) root max_depth = subst (λ (m : Moment). IsHashFile bits (pages_before m) root max_depth) (sym same) (file_kept bits root max_depth first old keeps was) in
-    let of_pass = pass_tells bits root max_depth first mid new walk after value alone file absent stood may clean (writes_at_most mid new (page_of walk.phase) told writes) told writes (subst (λ (basis : Basis). TellsOfAddition basis new walk after value told) same_basis tells) in
-    retell basis new before walk after value told arrived.same of_pass
+pub addition_tells : (since : Before) (bits : ℕ → ℕ) (opens : set.FinSet nat_cmp) (root max_depth : ℕ) (old mid new : Moment) (walk after : WalkFields) (value : ℕ) (told : WalkAnswer)
+    → opens ≡ set.empty → mid ≡ old → IsAlone mid → HasWritten since.written (view_of old) → IsHashFile bits (pages_since since old) root max_depth → IsStanding (basis_of since bits root max_depth old) walk (view_over since.written old) → IsAtAbsent walk.phase
+    → MayStep new → ((clean : ℕ → Option Page) → IsCleanFor mid clean → IsCleanFor new clean) → TouchesOnePage mid new → WritesIfChanged mid new (page_of walk.phase) told
+    → TellsOfAddition (record { bits = bits; opens = opens; root = root; max_depth = max_depth; tx = mid.running.tx; before = since }) new walk after value told
+    → TellsOfPass (basis_of since bits root max_depth old) new walk after value told
+addition_tells since bits opens root max_depth old mid new walk after value told none same alone written was stood absent may clean touches writes tells =
+    let basis : Basis = basis_of since bits root max_depth old in
+    let same_tx : mid.running.tx ≡ old.running.tx = ap (λ (m : Moment). m.running.tx) same in
+    let same_basis : record { bits = bits; opens = opens; root = root; max_depth = max_depth; tx = mid.running.tx; before = since } ≡ basis = λ i. record { bits = bits; opens = none i; root = root; max_depth = max_depth; tx = same_tx i; before = since } in
+    let written_mid : HasWritten since.written (view_of mid) = subst (λ (m : Moment). HasWritten since.written (view_of m)) (sym same) written in
+    let stood_mid : IsStanding basis walk (view_over since.written mid) = subst (λ (m : Moment). IsStanding basis walk (view_over since.written m)) (sym same) stood in
+    let file : IsHashFile bits (pages_since since mid) root max_depth = subst (λ (m : Moment). IsHashFile bits (pages_since since m) root max_depth) (sym same) was in
+    pass_tells since bits root max_depth old mid new walk after value alone written_mid file absent stood_mid may clean touches (writes_at_most mid new (page_of walk.phase) told writes) told writes (subst (λ (basis : Basis). TellsOfAddition basis new walk after value told) same_basis tells)
 
-pub addition_keeps : (first old mid new : Moment) (q : ℕ) → mid ≡ old → IsAlone mid → KeepsBefore first old → MayStep new → ((clean : ℕ → Option Page) → IsCleanFor mid clean → IsCleanFor new clean) → WritesAtMost mid new q → KeepsBefore first new
-addition_keeps first old mid new q same alone keeps may clean step = keeps_both first old new keeps (write_keeps_before mid old new q same alone may clean step)
+pub basis_before : (since : Before) (bits : ℕ → ℕ) (root max_depth : ℕ) (first now new : Moment) (before after : WalkFields) (value : ℕ) (told : WalkAnswer) → KeepsBefore first now → TellsOfPass (basis_of since bits root max_depth now) new before after value told → TellsOfPass (basis_of since bits root max_depth first) new before after value told
+basis_before since bits root max_depth first now new before after value told keeps tells = subst (λ (basis : Basis). TellsOfPass basis new before after value told) (same_basis since bits root max_depth first now keeps) tells

@@ -15,9 +15,9 @@ use Rattle.mlt_page_locks.proofs.LockLaws.{writer_reads}
 use Rattle.mlt_subtx.specs.Images.{image_of, or_image}
 use Rattle.mlt_hash_form.specs.File.{bucket_of, depth_of, header_of}
 use Rattle.mlt_hash_form.specs.Held.{own_or}
-use Rattle.mlt_held.specs.Moments.{HasCleanFile, MayStep, Moment}
+use Rattle.mlt_held.specs.Moments.{HasFileOver, MayStep, Moment}
 use Rattle.mlt_held.specs.PageSteps.{WritesAtMost}
-use Rattle.mlt_held.specs.Views.{page_written, view_of}
+use Rattle.mlt_held.specs.Views.{HasWritten, page_written, view_of, view_over}
 use Rattle.mlt_split.specs.Rests.{Aim, held_page}
 use Rattle.mlt_split.specs.Splits.{SplitFields, directory_steps, steps_left, steps_left_at}
 use Rattle.mlt_split.specs.Steps.{IsDone, IsMaking}
@@ -26,14 +26,15 @@ use Rattle.mlt_split.specs.declared.phase.SplitPhase.TheVariants as split_at
 use Rattle.mlt_split.proofs.HeldPages.{clean_now}
 use Rattle.mlt_split.proofs.Later.{begins_now, stands_now}
 use Rattle.mlt_split.proofs.OldBucket.{depths_are_small}
-use Rattle.mlt_hash_file.specs.Alone.{HasNotWaited, IsAlone, KeepsBefore, basis_of, pages_before}
+use Rattle.mlt_hash_file.specs.Alone.{HasNotWaited, IsAlone, KeepsBefore, basis_of, pages_before, pages_since}
 use Rattle.mlt_hash.specs.StepsLeft.{IsPutting}
-use Rattle.mlt_hash_file.specs.AloneWalks.{HasChanged, IsHashFile, MayAdd, TellsOfSplits, added_value}
+use Rattle.mlt_hash_file.specs.AloneWalks.{HasMade, IsHashFile, MayAdd, TellsOfSplits, added_value}
 use Rattle.mlt_hash.specs.Changes.{Makes}
 use Rattle.mlt_hash_file.specs.SplitPages.{left_from, left_from_split, pages_in_the_end, pages_left_at, pages_to_make}
 use Rattle.mlt_hash.specs.Splitting.{BeginsSplit, HasToSplit, OfSplit, SplitCloses, SplitGoesOn, TellsAt, TellsOfAdding, TellsOfSplitting, walk_step}
 use Rattle.mlt_hash.specs.Splitting.{IsUnderWay as HasNextStep}
-use Rattle.mlt_hash.specs.Walks.{Basis, IsAdding, IsSplitting, IsStanding, Stands, WalkFields, aim_of}
+use Rattle.mlt_hash.specs.Walks.{Basis, Before, IsAdding, IsSplitting, IsStanding, Stands, WalkFields, aim_of, view_for}
+use Rattle.mlt_hash.specs.Steps.{IsSameWalk}
 use Rattle.mlt_hash.specs.declared.answer.WalkAnswer.{WalkAnswer}
 use Rattle.mlt_hash.specs.declared.answer.WalkAnswer.TheVariants as answer
 use Rattle.mlt_hash.specs.declared.pass.Change.TheVariants as change
@@ -42,22 +43,26 @@ use Rattle.mlt_hash.specs.declared.pass.Phase.TheVariants as at
 use Rattle.mlt_hash_file.proofs.Alone.{before_is_clean, keeps_both, keeps_same, reads_image_back}
 use Rattle.mlt_hash_file.proofs.AloneChanges.{made_alone, other_page_stays}
 use Rattle.mlt_hash_file.proofs.AlonePages.{made, may_stand, pages_close, pages_go_on}
-use Rattle.mlt_hash.proofs.Puts.{kept_is_shallow}
+use Rattle.mlt_hash.proofs.Puts.{found_below, kept_is_shallow}
+use Rattle.mlt_hash_file.proofs.AlonePasses.{retell_made}
 use Rattle.mlt_hash_file.proofs.SplitPages.{MayStandAt, begun, one_at_least, one_is_left}
-use Rattle.mlt_hash_file.proofs.AloneWalks.{file_kept, same_basis}
+use Rattle.mlt_hash_file.proofs.AloneWalks.{file_kept, same_basis, same_walks}
 
 reads_held : (b : Bool) (image : Option (Option Page)) (stored : Option Page) (read : Page) → (is_some image ≡ true → b ≡ true) → (is_some image ≡ true → is_some stored ≡ true)
     → own_or (cond b (page_written image stored) None) (unwrap_or (cond b (Some (or_image image stored)) None) None) ≡ Some read → stored ≡ Some read
 reads_held true image stored read held there reads = sym (reads_image_back true image stored held there) ∙ reads
 reads_held false image stored read held there reads = cc
 
--- what a walk holds is in the store
-pub held_is_stored : (m : Moment) (q : ℕ) (read : Page) → MayStep m → held_page (view_of m) q ≡ Some read → page_at m.store.pages q ≡ Some read
-held_is_stored m q read may reads = reads_held (can_read m.locks m.running.tx q) (image_of m.running.images q) (page_at m.store.pages q) read (λ some. writer_reads m.locks m.running.tx q (may.images_locked q some)) (may.images_there q) reads
+held_in_store : (m : Moment) (q : ℕ) (read : Page) → MayStep m → held_page (view_of m) q ≡ Some read → page_at m.store.pages q ≡ Some read
+held_in_store m q read may reads = reads_held (can_read m.locks m.running.tx q) (image_of m.running.images q) (page_at m.store.pages q) read (λ some. writer_reads m.locks m.running.tx q (may.images_locked q some)) (may.images_there q) reads
 
--- there is a clean file
-pub clean_file : (bits : ℕ → ℕ) (root max_depth : ℕ) (m : Moment) → MayStep m → IsHashFile bits (pages_before m) root max_depth → HasCleanFile bits root m
-clean_file bits root max_depth m may file = record { clean = pages_before m; is_clean = before_is_clean m may; form = file.form }
+-- what a walk holds is in the store
+pub held_is_stored : (basis : Basis) (m : Moment) (q : ℕ) (read : Page) → MayStep m → HasWritten basis.before.written (view_of m) → held_page (view_for basis m) q ≡ Some read → page_at m.store.pages q ≡ Some read
+held_is_stored basis m q read may written reads = held_in_store m q read may (found_below basis m q (Some read) written reads)
+
+-- there is a clean file, with what was written before over it
+pub clean_file : (since : Before) (bits : ℕ → ℕ) (root max_depth : ℕ) (m : Moment) → MayStep m → IsHashFile bits (pages_since since m) root max_depth → HasFileOver bits root since.written m
+clean_file since bits root max_depth m may file = record { clean = pages_before m; is_clean = before_is_clean m may; form = file.form }
 
 if_few : (b : Bool) (x y n : ℕ) → x ≤ n → y ≤ n → (if b then x else y) ≤ n
 if_few true x y n few other = few
@@ -93,9 +98,10 @@ some_is_one x y o is_x is_y = let e : Some x ≡ Some y = sym is_x ∙ is_y in c
 
 -- a walk alone that splits
 pub record IsSplittingOn (basis : Basis) (old now : Moment) (before walk : WalkFields) : Type 0 where
-  pub key : walk.key ≡ before.key
+  pub same : IsSameWalk before walk
   pub value : added_value walk.phase ≡ added_value before.phase
   pub may : MayAdd basis now walk
+  pub written : HasWritten basis.before.written (view_of now)
   pub keeps : KeepsBefore old now
   pub pages : pages_in_the_end basis.root walk now ≤ pages_in_the_end basis.root before old
 
@@ -125,34 +131,40 @@ past_the_limit count most most' left is full same left_is one = omega (arith, fu
 no_more : (x y z : ℕ) → x ≤ y → y ≤ z → x ≤ z
 no_more x y z first next = omega (arith, first, next)
 
-at_most : (basis : Basis) (new : Moment) (key value less most : ℕ) (told : WalkAnswer) → less ≤ most → TellsOfSplits basis new key value less told → TellsOfSplits basis new key value most told
-at_most basis new key value less most answer.Changed within tells = tells
-at_most basis new key value less most (answer.Refused refusal.NoRoom) within tells = omega (arith, within, tells)
-at_most basis new key value less most (answer.Refused reason) within tells = tells
-at_most basis new key value less most other within tells = absurd tells
+at_most : (basis : Basis) (new : Moment) (before after : WalkFields) (value less most : ℕ) (told : WalkAnswer) → less ≤ most → TellsOfSplits basis new before after value less told → TellsOfSplits basis new before after value most told
+at_most basis new before after value less most answer.Changed within tells = tells
+at_most basis new before after value less most (answer.Refused refusal.NoRoom) within tells = omega (arith, within, tells)
+at_most basis new before after value less most (answer.Refused reason) within tells = tells
+at_most basis new before after value less most other within tells = absurd tells
+
+retell_splits : (basis : Basis) (new : Moment) (before walk after : WalkFields) (value most : ℕ) (told : WalkAnswer) → IsSameWalk before walk → TellsOfSplits basis new walk after value most told → TellsOfSplits basis new before after value most told
+retell_splits basis new before walk after value most answer.Changed same tells = retell_made basis new before walk after (Some value) same tells
+retell_splits basis new before walk after value most (answer.Refused refusal.NoRoom) same tells = tells
+retell_splits basis new before walk after value most (answer.Refused reason) same tells = tells
+retell_splits basis new before walk after value most other same tells = absurd tells
 
 -- what a step leads to: the walk goes on with less work, or tells
 record Advances (basis : Basis) (now new : Moment) (walk after : WalkFields) : Type 0 where
-  key : after.key ≡ walk.key
+  same : IsSameWalk walk after
   value : added_value after.phase ≡ added_value walk.phase
   may : MayAdd basis new after
   less : effort after new < effort walk now
   pages : pages_in_the_end basis.root after new ≤ pages_in_the_end basis.root walk now
 
-module _ (bits : ℕ → ℕ) (root max_depth : ℕ) (first now new : Moment) (walk after : WalkFields) (alone : IsAlone now) (alone_new : IsAlone new) (file : IsHashFile bits (pages_before now) root max_depth) (keeps : KeepsBefore now new) where
+module _ (since : Before) (bits : ℕ → ℕ) (root max_depth : ℕ) (first now new : Moment) (walk after : WalkFields) (alone : IsAlone now) (alone_new : IsAlone new) (written : HasWritten since.written (view_of now)) (written_new : HasWritten since.written (view_of new)) (file : IsHashFile bits (pages_since since now) root max_depth) (keeps : KeepsBefore now new) where
   abbrev ours : Basis
-  ours = basis_of bits root max_depth first
+  ours = basis_of since bits root max_depth first
 
-  clean_now_is : HasCleanFile bits root now
-  clean_now_is = clean_file bits root max_depth now alone.may file
+  clean_now_is : HasFileOver bits root since.written now
+  clean_now_is = clean_file since bits root max_depth now alone.may file
 
   -- where the walk is at rest,
-  module _ (value n room_depth : ℕ) (unsplit : Bool) (adding : IsAdding ours walk (view_of now) n room_depth unsplit) (phase_is : walk.phase ≡ at.Adding value n room_depth unsplit) where
+  module _ (value n room_depth : ℕ) (unsplit : Bool) (adding : IsAdding ours walk (view_over since.written now) n room_depth unsplit) (phase_is : walk.phase ≡ at.Adding value n room_depth unsplit) where
     stored_bucket : page_at now.store.pages n ≡ Some (page.Bucket adding.fields)
-    stored_bucket = held_is_stored now n (page.Bucket adding.fields) alone.may adding.rest.found
+    stored_bucket = held_is_stored ours now n (page.Bucket adding.fields) alone.may written adding.rest.found
 
     stored_head : page_at now.store.pages root ≡ Some (page.Head adding.header)
-    stored_head = held_is_stored now root (page.Head adding.header) alone.may adding.rest.head
+    stored_head = held_is_stored ours now root (page.Head adding.header) alone.may written adding.rest.head
 
     shallow : depth_of (page_at now.store.pages) root ≤ max_depth
     shallow = subst (λ (p : Option Page). (header_of p).depth ≤ max_depth) (sym stored_head) adding.shallow
@@ -168,18 +180,18 @@ module _ (bits : ℕ → ℕ) (root max_depth : ℕ) (first now new : Moment) (w
 
     begins : BeginsSplit ours (walk_step now new walk after) value n room_depth → Advances ours now new walk after
     begins b =
-        let head : page_at now.store.pages root ≡ Some (page.Head b.header) = held_is_stored now root (page.Head b.header) alone.may b.head in
-        let bucket : page_at now.store.pages n ≡ Some (page.Bucket b.bucket) = held_is_stored now n (page.Bucket b.bucket) alone.may b.found in
+        let head : page_at now.store.pages root ≡ Some (page.Head b.header) = held_is_stored ours now root (page.Head b.header) alone.may written b.head in
+        let bucket : page_at now.store.pages n ≡ Some (page.Bucket b.bucket) = held_is_stored ours now n (page.Bucket b.bucket) alone.may written b.found in
         let fits : b.header.depth ≤ max_depth = subst (λ (p : Option Page). (header_of p).depth ≤ max_depth) head shallow in
-        let stands : IsSplitting ours after (view_of new) room_depth = subst (λ (phase : Phase). Stands phase ours after (view_of new)) b.phase b.on.stands in
+        let stands : IsSplitting ours after (view_over since.written new) room_depth = subst (λ (phase : Phase). Stands phase ours after (view_over since.written new)) b.phase b.on.stands in
         let same : stands.split ≡ b.split = some_is_one stands.split b.split after.split stands.split_is b.split_is in
-        let deep_there = (begins_now (aim_of ours after room_depth) new stands.split alone_new.may (clean_now (aim_of ours after room_depth) new alone_new.may (clean_file bits root max_depth new alone_new.may (file_kept bits root max_depth now new keeps file))) stands.under_way).deep in
+        let deep_there = (begins_now (aim_of ours after room_depth) new stands.split alone_new.may (clean_now (aim_of ours after room_depth) new alone_new.may (clean_file since bits root max_depth new alone_new.may (file_kept since bits root max_depth now new keeps file))) stands.under_way).deep in
         let deep : b.split.depth < room_depth = subst (λ (s : SplitFields). s.depth < room_depth) same deep_there in
         let steps : directory_steps b.split.depth b.split.directory_depth ≤ 513 = few_steps b.split.depth b.split.directory_depth (omega (arith, fits, b.directory_depth, file.small)) in
         let now_is : effort walk now ≡ 1000 * (17 - b.bucket.depth) = ap (λ (phase : Phase). effort_at phase walk now) phase_is ∙ ap (λ (p : Option Page). 1000 * (17 - (bucket_of p).depth)) bucket in
         let new_is : effort after new ≡ 1000 * (16 - b.split.depth) + steps_left b.split = ap (λ (phase : Phase). effort_at phase after new) b.phase ∙ split_effort_is after.split b.split b.split_is in
         record {
-          key = b.on.same.key;
+          same = b.on.same;
           value = ap added_value b.phase ∙ sym (ap added_value phase_is);
           may = record {
             stands = b.on.stands;
@@ -192,18 +204,18 @@ module _ (bits : ℕ → ℕ) (root max_depth : ℕ) (first now new : Moment) (w
     not_root : root ≡ n → ⊥
     not_root same = let both : Some (page.Head adding.header) ≡ Some (page.Bucket adding.fields) = sym stored_head ∙ ap (page_at now.store.pages) same ∙ stored_bucket in cc
 
-    puts : Makes ours new walk after (change.Put value) → WritesAtMost now new n → HasChanged ours new walk.key (Some value)
+    puts : Makes ours new walk after (change.Put value) → WritesAtMost now new n → HasMade ours new walk after (Some value)
     puts makes writes =
         let stays : page_at new.store.pages root ≡ page_at now.store.pages root = other_page_stays now new n root writes not_root in
         let fits : depth_of (page_at new.store.pages) root ≤ max_depth = subst (λ (p : Option Page). (header_of p).depth ≤ max_depth) (sym stays) shallow in
-        made_alone ours new walk after (change.Put value) alone_new (file_kept bits root max_depth now new keeps file) fits makes
+        made_alone ours new walk after (change.Put value) alone_new written_new (file_kept since bits root max_depth now new keeps file) fits makes
 
     has_to_be_deeper : HasToSplit ours now walk value n room_depth → adding.fields.depth < room_depth
     has_to_be_deeper (inl unsplit_yet) = adding.unsplit_is (let both : at.Adding value n room_depth unsplit ≡ at.Adding value n room_depth true = sym phase_is ∙ unsplit_yet in cc)
     has_to_be_deeper (inr full) =
         let aim : Aim = aim_of ours walk room_depth in
         let same : full.0 ≡ adding.fields = (let both : Some (page.Bucket full.0) ≡ Some (page.Bucket adding.fields) = sym full.1 ∙ adding.rest.found in cc) in
-        kept_is_shallow aim (view_of now) n adding.header adding.fields adding.rest (clean_now aim now alone.may clean_now_is) (subst (λ (b : BucketFields). list_all (is_kept set.empty) b.slots ≡ true) same full.2)
+        kept_is_shallow aim (view_over since.written now) n adding.header adding.fields adding.rest (clean_now aim now alone.may clean_now_is) (subst (λ (b : BucketFields). list_all (is_kept set.empty) b.slots ≡ true) same full.2)
 
     -- where the store is full and a split is to begin, the splits lead to more pages than there may be
     full_at_rest : HasToSplit ours now walk value n room_depth → map.len now.store.pages ≡ now.store.max_pages → new.store.max_pages < pages_in_the_end root walk now
@@ -214,7 +226,7 @@ module _ (bits : ℕ → ℕ) (root max_depth : ℕ) (first now new : Moment) (w
     adding_goes : TellsOfAdding ours (walk_step now new walk after) value n room_depth answer.Going → Advances ours now new walk after
     adding_goes tells = begins tells
 
-    adding_ends : (told : WalkAnswer) → (told ≡ answer.Going → ⊥) → TellsOfAdding ours (walk_step now new walk after) value n room_depth told → TellsOfSplits ours new walk.key value (pages_in_the_end root walk now) told
+    adding_ends : (told : WalkAnswer) → (told ≡ answer.Going → ⊥) → TellsOfAdding ours (walk_step now new walk after) value n room_depth told → TellsOfSplits ours new walk after value (pages_in_the_end root walk now) told
     adding_ends answer.Going not tells = absurd (not refl)
     adding_ends answer.Changed not tells = puts tells.1 tells.2
     adding_ends (answer.Refused refusal.NoRoom) not tells = full_at_rest tells.0 tells.1
@@ -223,7 +235,7 @@ module _ (bits : ℕ → ℕ) (root max_depth : ℕ) (first now new : Moment) (w
     adding_ends other not tells = absurd tells
 
   -- and in the midst of a split
-  module _ (value room_depth : ℕ) (splitting : IsSplitting ours walk (view_of now) room_depth) (phase_is : walk.phase ≡ at.Splitting value room_depth) where
+  module _ (value room_depth : ℕ) (splitting : IsSplitting ours walk (view_over since.written now) room_depth) (phase_is : walk.phase ≡ at.Splitting value room_depth) where
     effort_now : (was : SplitFields) → walk.split ≡ Some was → effort walk now ≡ 1000 * (16 - was.depth) + steps_left was
     effort_now was is = ap (λ (phase : Phase). effort_at phase walk now) phase_is ∙ split_effort_is walk.split was is
 
@@ -266,7 +278,7 @@ module _ (bits : ℕ → ℕ) (root max_depth : ℕ) (first now new : Moment) (w
         let now_is = effort_now s.was s.was_is in
         let new_is : effort after new ≡ 1000 * (16 - s.is.depth) + steps_left s.is = ap (λ (phase : Phase). effort_at phase after new) s.phase ∙ split_effort_is after.split s.is s.is_is in
         record {
-          key = s.on.same.key;
+          same = s.on.same;
           value = ap added_value s.phase ∙ sym (ap added_value phase_is);
           may = record {
             stands = s.on.stands;
@@ -278,12 +290,12 @@ module _ (bits : ℕ → ℕ) (root max_depth : ℕ) (first now new : Moment) (w
 
     split_closes : SplitCloses ours new walk after value room_depth → OfSplit walk (λ (split : SplitFields). IsDone split.phase (aim_of ours walk room_depth) now new split) → Advances ours now new walk after
     split_closes s done =
-        let head : page_at new.store.pages root ≡ Some (page.Head s.rests.header) = held_is_stored new root (page.Head s.rests.header) alone_new.may s.rests.rest.head in
-        let bucket : page_at new.store.pages s.bucket ≡ Some (page.Bucket s.rests.bucket) = held_is_stored new s.bucket (page.Bucket s.rests.bucket) alone_new.may s.rests.rest.found in
+        let head : page_at new.store.pages root ≡ Some (page.Head s.rests.header) = held_is_stored ours new root (page.Head s.rests.header) alone_new.may written_new s.rests.rest.head in
+        let bucket : page_at new.store.pages s.bucket ≡ Some (page.Bucket s.rests.bucket) = held_is_stored ours new s.bucket (page.Bucket s.rests.bucket) alone_new.may written_new s.rests.rest.found in
         let now_is = effort_now s.was s.was_is in
         let new_is : effort after new ≡ 1000 * (17 - s.rests.bucket.depth) = ap (λ (phase : Phase). effort_at phase after new) s.phase ∙ ap (λ (p : Option Page). 1000 * (17 - (bucket_of p).depth)) bucket in
         record {
-          key = s.on.same.key;
+          same = s.on.same;
           value = ap added_value s.phase ∙ sym (ap added_value phase_is);
           may = record {
             stands = s.on.stands;
@@ -307,7 +319,7 @@ module _ (bits : ℕ → ℕ) (root max_depth : ℕ) (first now new : Moment) (w
     full_in_split : (split : SplitFields) → walk.split ≡ Some split → IsMaking split.phase → map.len now.store.pages ≡ now.store.max_pages → new.store.max_pages < pages_in_the_end root walk now
     full_in_split split is making full = past_the_limit _ _ _ _ _ full keeps.max_pages (left_now split is) (one_left split.phase split.depth split.directory_depth (stands_there split is) making)
 
-    splitting_ends : (told : WalkAnswer) → (told ≡ answer.Going → ⊥) → HasNotWaited told → TellsOfSplitting ours (walk_step now new walk after) value room_depth told → TellsOfSplits ours new walk.key value (pages_in_the_end root walk now) told
+    splitting_ends : (told : WalkAnswer) → (told ≡ answer.Going → ⊥) → HasNotWaited told → TellsOfSplitting ours (walk_step now new walk after) value room_depth told → TellsOfSplits ours new walk after value (pages_in_the_end root walk now) told
     splitting_ends answer.Going not went tells = absurd (not refl)
     splitting_ends (answer.Waiting page by) not went tells = absurd went
     splitting_ends (answer.Refused refusal.NoRoom) not went tells = full_in_split tells.0.0 tells.0.1 tells.0.2 tells.2
@@ -316,48 +328,53 @@ module _ (bits : ℕ → ℕ) (root max_depth : ℕ) (first now new : Moment) (w
     splitting_ends other not went tells = absurd tells
 
   -- **A step of a walk that splits goes on, with less work left,**
-  advances_at : (phase : Phase) → walk.phase ≡ phase → IsPutting phase → Stands phase ours walk (view_of now) → TellsAt phase ours now new walk after answer.Going → Advances ours now new walk after
+  advances_at : (phase : Phase) → walk.phase ≡ phase → IsPutting phase → Stands phase ours walk (view_over since.written now) → TellsAt phase ours now new walk after answer.Going → Advances ours now new walk after
   advances_at (at.Adding value n room_depth unsplit) is adds stands tells = adding_goes value n room_depth unsplit stands is tells
   advances_at (at.Splitting value room_depth) is adds stands tells = splitting_goes value room_depth stands is tells
   advances_at other is adds stands tells = absurd adds
 
   -- **or tells how it ended.**
-  ends_at : (phase : Phase) → walk.phase ≡ phase → IsPutting phase → Stands phase ours walk (view_of now) → (told : WalkAnswer) → (told ≡ answer.Going → ⊥) → HasNotWaited told → TellsAt phase ours now new walk after told
-      → TellsOfSplits ours new walk.key (added_value phase) (pages_in_the_end root walk now) told
+  ends_at : (phase : Phase) → walk.phase ≡ phase → IsPutting phase → Stands phase ours walk (view_over since.written now) → (told : WalkAnswer) → (told ≡ answer.Going → ⊥) → HasNotWaited told → TellsAt phase ours now new walk after told
+      → TellsOfSplits ours new walk after (added_value phase) (pages_in_the_end root walk now) told
   ends_at (at.Adding value n room_depth unsplit) is adds stands told not went tells = adding_ends value n room_depth unsplit stands is told not tells
   ends_at (at.Splitting value room_depth) is adds stands told not went tells = splitting_ends value room_depth stands is told not went tells
   ends_at other is adds stands told not went tells = absurd adds
 
-splitting_still : (basis : Basis) (first now new : Moment) (before walk after : WalkFields) → IsSplittingOn basis first now before walk → KeepsBefore now new → Advances basis now new walk after → IsSplittingOn basis first new before after
-splitting_still basis first now new before walk after on keeps step = record {
-  key = step.key ∙ on.key;
+splitting_still : (basis : Basis) (first now new : Moment) (before walk after : WalkFields) → IsSplittingOn basis first now before walk → HasWritten basis.before.written (view_of new) → KeepsBefore now new → Advances basis now new walk after → IsSplittingOn basis first new before after
+splitting_still basis first now new before walk after on written keeps step = record {
+  same = same_walks before walk after on.same step.same;
   value = step.value ∙ on.value;
   may = step.may;
+  written = written;
   keeps = keeps_both first now new on.keeps keeps;
   pages = no_more _ _ _ step.pages on.pages;
 }
 
-module _ (bits : ℕ → ℕ) (root max_depth : ℕ) (first now new : Moment) (before walk after : WalkFields) (alone : IsAlone now × IsAlone new) (file : IsHashFile bits (pages_before first) root max_depth) (on : IsSplittingOn (basis_of bits root max_depth first) first now before walk) (keeps : KeepsBefore now new) where
-  told_here : (told : WalkAnswer) → TellsAt walk.phase (basis_of bits root max_depth now) now new walk after told → TellsAt walk.phase (basis_of bits root max_depth first) now new walk after told
-  told_here told tells = subst (λ (basis : Basis). TellsAt walk.phase basis now new walk after told) (same_basis bits root max_depth first now on.keeps) tells
+module _ (since : Before) (bits : ℕ → ℕ) (root max_depth : ℕ) (first now new : Moment) (before walk after : WalkFields) (alone : IsAlone now × IsAlone new) (file : IsHashFile bits (pages_since since first) root max_depth) (on : IsSplittingOn (basis_of since bits root max_depth first) first now before walk) (keeps : KeepsBefore now new)
+    (written : HasWritten since.written (view_of new))
+  where
+    told_here : (told : WalkAnswer) → TellsAt walk.phase (basis_of since bits root max_depth now) now new walk after told → TellsAt walk.phase (basis_of since bits root max_depth first) now new walk after told
+    told_here told tells = subst (λ (basis : Basis). TellsAt walk.phase basis now new walk after told) (same_basis since bits root max_depth first now on.keeps) tells
 
-  goes_on : TellsAt walk.phase (basis_of bits root max_depth now) now new walk after answer.Going → Advances (basis_of bits root max_depth first) now new walk after
-  goes_on tells =
-      advances_at bits root max_depth first now new walk after alone.0 alone.1 (file_kept bits root max_depth first now on.keeps file) keeps walk.phase refl on.may.adds on.may.stands (told_here answer.Going tells)
+    goes_on : TellsAt walk.phase (basis_of since bits root max_depth now) now new walk after answer.Going → Advances (basis_of since bits root max_depth first) now new walk after
+    goes_on tells =
+        advances_at since bits root max_depth first now new walk after alone.0 alone.1 on.written written (file_kept since bits root max_depth first now on.keeps file) keeps walk.phase refl on.may.adds on.may.stands (told_here answer.Going tells)
 
-  pub splits_on : TellsAt walk.phase (basis_of bits root max_depth now) now new walk after answer.Going → IsSplittingOn (basis_of bits root max_depth first) first new before after
-  splits_on tells = splitting_still (basis_of bits root max_depth first) first now new before walk after on keeps (goes_on tells)
+    pub splits_on : TellsAt walk.phase (basis_of since bits root max_depth now) now new walk after answer.Going → IsSplittingOn (basis_of since bits root max_depth first) first new before after
+    splits_on tells = splitting_still (basis_of since bits root max_depth first) first now new before walk after on written keeps (goes_on tells)
 
-  pub less_effort : TellsAt walk.phase (basis_of bits root max_depth now) now new walk after answer.Going → effort after new < effort walk now
-  less_effort tells = (goes_on tells).less
+    pub less_effort : TellsAt walk.phase (basis_of since bits root max_depth now) now new walk after answer.Going → effort after new < effort walk now
+    less_effort tells = (goes_on tells).less
 
-  pub splits_end : (told : WalkAnswer) → (told ≡ answer.Going → ⊥) → HasNotWaited told → TellsAt walk.phase (basis_of bits root max_depth now) now new walk after told → TellsOfSplits (basis_of bits root max_depth first) new before.key (added_value before.phase) (pages_in_the_end root before first) told
-  splits_end told not went tells =
-      let ended = ends_at bits root max_depth first now new walk after alone.0 alone.1 (file_kept bits root max_depth first now on.keeps file) keeps walk.phase refl on.may.adds on.may.stands told not went (told_here told tells) in
-      at_most (basis_of bits root max_depth first) new _ _ _ _ told on.pages (subst (λ (key : ℕ). TellsOfSplits (basis_of bits root max_depth first) new key (added_value before.phase) (pages_in_the_end root walk now) told) on.key (subst (λ (value : ℕ). TellsOfSplits (basis_of bits root max_depth first) new walk.key value (pages_in_the_end root walk now) told) on.value ended))
+    pub splits_end : (told : WalkAnswer) → (told ≡ answer.Going → ⊥) → HasNotWaited told → TellsAt walk.phase (basis_of since bits root max_depth now) now new walk after told
+        → TellsOfSplits (basis_of since bits root max_depth first) new before after (added_value before.phase) (pages_in_the_end root before first) told
+    splits_end told not went tells =
+        let ended = ends_at since bits root max_depth first now new walk after alone.0 alone.1 on.written written (file_kept since bits root max_depth first now on.keeps file) keeps walk.phase refl on.may.adds on.may.stands told not went (told_here told tells) in
+        let retold = retell_splits (basis_of since bits root max_depth first) new before walk after (added_value walk.phase) (pages_in_the_end root walk now) told on.same ended in
+        at_most (basis_of since bits root max_depth first) new before after _ _ _ told on.pages (subst (λ (value : ℕ). TellsOfSplits (basis_of since bits root max_depth first) new before after value (pages_in_the_end root walk now) told) on.value retold)
 
-pub splits_start : (basis : Basis) (m : Moment) (walk : WalkFields) → MayAdd basis m walk → IsSplittingOn basis m m walk walk
-splits_start basis m walk may = record { key = refl; value = refl; may = may; keeps = keeps_same m; pages = omega arith }
+pub splits_start : (basis : Basis) (m : Moment) (walk : WalkFields) → HasWritten basis.before.written (view_of m) → MayAdd basis m walk → IsSplittingOn basis m m walk walk
+splits_start basis m walk written may = record { same = record { key = refl; mode = refl; pass = refl }; value = refl; may = may; written = written; keeps = keeps_same m; pages = omega arith }
 
-pub stands_to_split : (bits : ℕ → ℕ) (root max_depth : ℕ) (first now : Moment) (before walk : WalkFields) → IsSplittingOn (basis_of bits root max_depth first) first now before walk → IsStanding (basis_of bits root max_depth now) walk (view_of now)
-stands_to_split bits root max_depth first now before walk on = subst (λ (basis : Basis). IsStanding basis walk (view_of now)) (sym (same_basis bits root max_depth first now on.keeps)) on.may.stands
+pub stands_to_split : (since : Before) (bits : ℕ → ℕ) (root max_depth : ℕ) (first now : Moment) (before walk : WalkFields) → IsSplittingOn (basis_of since bits root max_depth first) first now before walk → IsStanding (basis_of since bits root max_depth now) walk (view_over since.written now)
+stands_to_split since bits root max_depth first now before walk on = subst (λ (basis : Basis). IsStanding basis walk (view_for basis now)) (sym (same_basis since bits root max_depth first now on.keeps)) on.may.stands

@@ -1,14 +1,15 @@
 -- The way of a walk that runs alone
-use Rattle.std.proofs.Common.{◌≡◌, ℕ, ◌<◌, Option, refl, sym, subst, ◌∙◌, arith}
+use Rattle.mlt_hash_form.specs.Held.{over}
+use Rattle.std.proofs.Common.{◌<◌, ◌∙◌, ◌≡◌, Option, ap, arith, refl, subst, sym, ℕ}
 use Rattle.std.specs.FinSet as set
 use Rattle.mlt_page.specs.declared.page.Page.{Page}
 use Rattle.mlt_held.specs.Moments.{Moment}
-use Rattle.mlt_held.specs.Views.{view_of}
-use Rattle.mlt_hash_file.specs.Alone.{KeepsBefore, basis_of, pages_before}
+use Rattle.mlt_held.specs.Views.{HasWritten, view_of, view_over}
+use Rattle.mlt_hash_file.specs.Alone.{KeepsBefore, basis_of, pages_before, pages_since}
 use Rattle.mlt_hash_file.specs.AloneWalks.{HasArrived, IsHashFile}
 use Rattle.mlt_hash.specs.Splitting.{IsUnderWay, TellsAt}
 use Rattle.mlt_hash.specs.Steps.{IsSameWalk, TellsOfPath, steps_to_bucket}
-use Rattle.mlt_hash.specs.Walks.{Basis, IsAtStart, IsStanding, Stands, WalkFields, nothing_before, one_key}
+use Rattle.mlt_hash.specs.Walks.{Basis, Before, IsAtStart, IsStanding, Stands, WalkFields, nothing_before, view_for}
 use Rattle.mlt_hash.specs.declared.answer.WalkAnswer.{WalkAnswer}
 use Rattle.mlt_hash.specs.declared.answer.WalkAnswer.TheVariants as answer
 use Rattle.mlt_hash.specs.declared.pass.Phase.{Phase}
@@ -19,28 +20,41 @@ use Rattle.mlt_hash_file.proofs.Alone.{keeps_both, keeps_same}
 pub same_before : (old new : Moment) → KeepsBefore old new → pages_before new ≡ pages_before old
 same_before old new keeps i q = keeps.pages q i
 
+-- and as they stood when the walk went on to its key
+pub same_since : (since : Before) (old new : Moment) → KeepsBefore old new → pages_since since new ≡ pages_since since old
+same_since since old new keeps = ap (λ pages. over pages since.written) (same_before old new keeps)
+
 -- so the file is the one that it was
-pub file_kept : (bits : ℕ → ℕ) (root max_depth : ℕ) (old new : Moment) → KeepsBefore old new → IsHashFile bits (pages_before old) root max_depth → IsHashFile bits (pages_before new) root max_depth
-file_kept bits root max_depth old new keeps file = subst (λ (pages : ℕ → Option Page). IsHashFile bits pages root max_depth) (sym (same_before old new keeps)) file
+pub file_kept : (since : Before) (bits : ℕ → ℕ) (root max_depth : ℕ) (old new : Moment) → KeepsBefore old new → IsHashFile bits (pages_since since old) root max_depth → IsHashFile bits (pages_since since new) root max_depth
+file_kept since bits root max_depth old new keeps file = subst (λ (pages : ℕ → Option Page). IsHashFile bits pages root max_depth) (sym (same_since since old new keeps)) file
 
 -- what a walk goes by is the same at each of its steps
-pub same_basis : (bits : ℕ → ℕ) (root max_depth : ℕ) (old new : Moment) → KeepsBefore old new → basis_of bits root max_depth new ≡ basis_of bits root max_depth old
-same_basis bits root max_depth old new keeps i = record { bits = bits; opens = set.empty; root = root; max_depth = max_depth; tx = keeps.tx i; before = nothing_before }
+pub same_basis : (since : Before) (bits : ℕ → ℕ) (root max_depth : ℕ) (old new : Moment) → KeepsBefore old new → basis_of since bits root max_depth new ≡ basis_of since bits root max_depth old
+same_basis since bits root max_depth old new keeps i = record { bits = bits; opens = set.empty; root = root; max_depth = max_depth; tx = keeps.tx i; before = since }
 
 -- a walk is on its way to its bucket
 pub record IsOnItsWay (basis : Basis) (old now : Moment) (before walk : WalkFields) : Type 0 where
   pub more : 0 < steps_to_bucket walk.phase
   pub same : IsSameWalk before walk
-  pub stands : IsStanding basis walk (view_of now)
+  pub written : HasWritten basis.before.written (view_of now)
+  pub stands : IsStanding basis walk (view_for basis now)
   pub keeps : KeepsBefore old now
 
-pub starts : (basis : Basis) (m : Moment) (walk : WalkFields) → walk.phase ≡ at.Start → IsAtStart (view_of m) → IsOnItsWay (one_key basis) m m walk walk
-starts basis m walk start nothing = record {
-  more = subst (λ (phase : Phase). 0 < steps_to_bucket phase) (sym start) (omega arith);
+pub starts : (basis : Basis) (m : Moment) (walk : WalkFields) → 0 < steps_to_bucket walk.phase → HasWritten basis.before.written (view_of m) → IsStanding basis walk (view_for basis m) → IsOnItsWay basis m m walk walk
+starts basis m walk more written stands = record {
+  more = more;
   same = record { key = refl; mode = refl; pass = refl };
-  stands = subst (λ (phase : Phase). Stands phase (one_key basis) walk (view_of m)) (sym start) (nothing, refl);
+  written = written;
+  stands = stands;
   keeps = keeps_same m;
 }
+
+-- a walk that has not begun is on its way, and stands where nothing was done before
+pub more_from_start : (walk : WalkFields) → walk.phase ≡ at.Start → 0 < steps_to_bucket walk.phase
+more_from_start walk start = subst (λ (phase : Phase). 0 < steps_to_bucket phase) (sym start) (omega arith)
+
+pub stands_at_start : (bits : ℕ → ℕ) (root max_depth : ℕ) (m : Moment) (walk : WalkFields) → walk.phase ≡ at.Start → IsAtStart (view_of m) → IsStanding (basis_of nothing_before bits root max_depth m) walk (view_of m)
+stands_at_start bits root max_depth m walk start nothing = subst (λ (phase : Phase). Stands phase (basis_of nothing_before bits root max_depth m) walk (view_of m)) (sym start) (nothing, refl)
 
 -- then it has a next step,
 under_way_at : (phase : Phase) → 0 < steps_to_bucket phase → IsUnderWay phase
@@ -70,27 +84,27 @@ path_tells (at.Changed bucket done) basis old new before after told more tells =
 pub same_walks : (first next last : WalkFields) → IsSameWalk first next → IsSameWalk next last → IsSameWalk first last
 same_walks first next last one two = record { key = two.key ∙ one.key; mode = two.mode ∙ one.mode; pass = two.pass ∙ one.pass }
 
-module _ (bits : ℕ → ℕ) (root max_depth : ℕ) (old now new : Moment) (before walk after : WalkFields) (way : IsOnItsWay (basis_of bits root max_depth old) old now before walk) where
+module _ (since : Before) (bits : ℕ → ℕ) (root max_depth : ℕ) (old now new : Moment) (before walk after : WalkFields) (way : IsOnItsWay (basis_of since bits root max_depth old) old now before walk) where
   -- the walk stands so at this moment too
-  pub stands_now : IsStanding (basis_of bits root max_depth now) walk (view_of now)
-  stands_now = subst (λ (basis : Basis). IsStanding basis walk (view_of now)) (sym (same_basis bits root max_depth old now way.keeps)) way.stands
+  pub stands_now : IsStanding (basis_of since bits root max_depth now) walk (view_over since.written now)
+  stands_now = subst (λ (basis : Basis). IsStanding basis walk (view_for basis now)) (sym (same_basis since bits root max_depth old now way.keeps)) way.stands
 
-  told_of : (told : WalkAnswer) → TellsAt walk.phase (basis_of bits root max_depth now) now new walk after told → TellsOfPath (basis_of bits root max_depth old) now new walk after told
+  told_of : (told : WalkAnswer) → TellsAt walk.phase (basis_of since bits root max_depth now) now new walk after told → TellsOfPath (basis_of since bits root max_depth old) now new walk after told
   told_of told tells =
-      subst (λ (basis : Basis). TellsOfPath basis now new walk after told) (same_basis bits root max_depth old now way.keeps) (path_tells walk.phase (basis_of bits root max_depth now) now new walk after told way.more tells)
+      subst (λ (basis : Basis). TellsOfPath basis now new walk after told) (same_basis since bits root max_depth old now way.keeps) (path_tells walk.phase (basis_of since bits root max_depth now) now new walk after told way.more tells)
 
   -- it goes on,
-  pub on_its_way : KeepsBefore now new → TellsAt walk.phase (basis_of bits root max_depth now) now new walk after answer.Going → IsOnItsWay (basis_of bits root max_depth old) old new before after
-  on_its_way keeps tells =
+  pub on_its_way : KeepsBefore now new → HasWritten since.written (view_of new) → TellsAt walk.phase (basis_of since bits root max_depth now) now new walk after answer.Going → IsOnItsWay (basis_of since bits root max_depth old) old new before after
+  on_its_way keeps written tells =
       let told = told_of answer.Going tells in
-      record { more = told.1; same = same_walks before walk after way.same told.0.same; stands = told.0.stands; keeps = keeps_both old now new way.keeps keeps }
+      record { more = told.1; same = same_walks before walk after way.same told.0.same; written = written; stands = told.0.stands; keeps = keeps_both old now new way.keeps keeps }
 
   -- with a step fewer,
-  pub one_step_fewer : TellsAt walk.phase (basis_of bits root max_depth now) now new walk after answer.Going → steps_to_bucket after.phase < steps_to_bucket walk.phase
+  pub one_step_fewer : TellsAt walk.phase (basis_of since bits root max_depth now) now new walk after answer.Going → steps_to_bucket after.phase < steps_to_bucket walk.phase
   one_step_fewer tells = let told = told_of answer.Going tells in omega (arith, told.0.fewer)
 
   -- or has arrived,
-  pub arrives : (found : Option ℕ) → TellsAt walk.phase (basis_of bits root max_depth now) now new walk after (answer.Found found) → HasArrived (basis_of bits root max_depth old) new before after found
+  pub arrives : (found : Option ℕ) → TellsAt walk.phase (basis_of since bits root max_depth now) now new walk after (answer.Found found) → HasArrived (basis_of since bits root max_depth old) new before after found
   arrives found tells =
       let told = told_of (answer.Found found) tells in
       record { same = same_walks before walk after way.same told.0.same; stands = told.0.stands; found = told.1 }

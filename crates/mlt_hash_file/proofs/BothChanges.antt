@@ -1,8 +1,7 @@
 -- The changes of a pair that runs alone: what is in the store then, and why there is no room
-use Rattle.std.proofs.Common.{◌≡◌, ◌≢◌, ◌⊎◌, ℕ, ◌<◌, ◌≤◌, ◌^◌, true, false, Bool, Option, None, Some, refl, sym, ap, subst, ◌∙◌, inl, inr, arith, slice_index_or}
+use Rattle.std.proofs.Common.{◌≡◌, ◌≢◌, ◌⊎◌, ℕ, ◌≤◌, true, Option, None, Some, refl, sym, ap, subst, ◌∙◌, inl, inr, arith, slice_index_or}
 use Rattle.std.specs.List.{list_all}
 use Rattle.std.specs.FinSet as set
-use Rattle.std.specs.FinMap as map
 use Rattle.std.specs.Ordering.{nat_cmp}
 use Rattle.std.proofs.lemmas.Bool.{not-false}
 use Rattle.std.proofs.lemmas.List.Elements.{All-from_get_or}
@@ -11,13 +10,12 @@ use Rattle.mlt_page.specs.Slots.{is_kept}
 use Rattle.mlt_page.specs.declared.page.Page.{Page}
 use Rattle.mlt_page.specs.declared.page.Page.TheVariants as page
 use Rattle.mlt_page.specs.declared.slot.Slot.TheVariants.{Free}
-use Rattle.mlt_page.specs.Values.{BucketFields, HeadFields}
-use Rattle.mlt_hash_form.specs.File.{FilePages, HasForm, bucket_of, buckets_of, depth_of, header_of, look_up}
+use Rattle.mlt_page.specs.Values.{BucketFields}
+use Rattle.mlt_hash_form.specs.File.{FilePages, HasForm, bucket_of, buckets_of, header_of, look_up}
 use Rattle.mlt_hash_form.specs.Held.{Agrees, over, own_or}
-use Rattle.mlt_held.specs.Views.{ReadsHeldBucket, View}
-use Rattle.mlt_record.specs.Plans.{WriteFields, has_room}
+use Rattle.mlt_held.specs.Views.{View}
 use Rattle.mlt_pair.specs.Changes.{IsFull, IsFullBehind, IsSide, LeavesLeft, LeavesRight, MakesAsked, MakesBoth, MakesChange, MakesOwed, Owes, OwesChange, task_of}
-use Rattle.mlt_pair.specs.Pairs.{IsFinding, IsFound, PairFields, later_of, later_page}
+use Rattle.mlt_pair.specs.Pairs.{IsFinding, IsFound, PairFields, later_page}
 use Rattle.mlt_pair.specs.Plans.{FitsFound, HasNoPlan, IsPlan}
 use Rattle.mlt_pair.specs.Ways.{HasRead, IsThere, page_of}
 use Rattle.mlt_pair.specs.declared.asked.Changes.{Changes}
@@ -33,7 +31,7 @@ use Rattle.mlt_hash_file.specs.AloneWalks.{IsFullFor, IsHashFile}
 use Rattle.mlt_hash_file.specs.SplitPages.{bucket_for}
 use Rattle.mlt_hash_file.specs.TwoKeys.{AsksToAdd, ChangesTwo, DoesAsked, FitsValues, HasNoRoomFor, two_keys, value_then}
 use Rattle.mlt_hash_file.proofs.AloneChanges.{not_the_header}
-use Rattle.mlt_hash_file.proofs.BothRecords.{DoesOne, IsBetween, does_one, side_leads}
+use Rattle.mlt_hash_file.proofs.BothRecords.{IsBetween, does_one, side_leads}
 
 -- a header is no bucket
 not_head : (bits : ℕ → ℕ) (root key : ℕ) (view : View) (way : Way) → IsThere way → HasRead bits root key view way → root ≢ page_of way

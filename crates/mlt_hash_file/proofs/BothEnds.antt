@@ -1,16 +1,16 @@
 -- The changes of two keys' records as a transaction alone makes them, and as the map of records has them
-use Rattle.std.proofs.Common.{◌≡◌, ◌≢◌, ◌⊎◌, ℕ, ◌≤◌, Option, None, Some, refl, sym, ap, subst, ◌∙◌, inl, inr, arith}
+use Rattle.mlt_hash.specs.Walks.{nothing_before}
+use Rattle.std.proofs.Common.{◌≡◌, ◌≢◌, ℕ, Option, None, Some, refl, sym, ap, subst, ◌∙◌, inl, inr, arith}
 use Rattle.std.specs.Ordering.{nat_cmp}
 use Rattle.std.specs.FinMap as map
 use Rattle.std.specs.FinSet as set
 use Rattle.std.proofs.lemmas.Bool.{cases_eq}
 use Rattle.std.proofs.lemmas.Bool.Decides.{nat_tests}
 use Rattle.mlt_types.specs.Maps.{with_entry}
-use Rattle.mlt_page.specs.declared.page.Page.{Page}
 use Rattle.mlt_store.specs.Stores.{Pages, page_at}
 use Rattle.mlt_page_locks.proofs.Maps.{get_inserted, get_removed, same_entries}
 use Rattle.mlt_hash_form.specs.File.{FilePages, look_up}
-use Rattle.mlt_hash_form.specs.Held.{Agrees, over}
+use Rattle.mlt_hash_form.specs.Held.{over}
 use Rattle.mlt_hash_form.specs.Records.{live_records}
 use Rattle.mlt_held.specs.Moments.{MayStep, Moment}
 use Rattle.mlt_held.specs.Views.{view_of}
@@ -21,14 +21,13 @@ use Rattle.mlt_pair.specs.declared.asked.Changes.{Changes}
 use Rattle.mlt_pair.specs.declared.asked.RecordChange.{RecordChange}
 use Rattle.mlt_pair.specs.declared.answer.ChangeAnswer.{ChangeAnswer}
 use Rattle.mlt_pair.specs.declared.answer.ChangeAnswer.TheVariants as answer
-use Rattle.mlt_pair.specs.declared.answer.Side.{Side}
 use Rattle.mlt_pair.specs.declared.answer.Side.TheVariants as side
 use Rattle.mlt_pair.proofs.Laws.{starts}
 use Rattle.mlt_hash_file.specs.Alone.{IsAlone, IsIdle, KeepsBefore, basis_of, pages_before}
 use Rattle.mlt_hash_file.specs.AloneWalks.{IsHashFile}
 use Rattle.mlt_hash_file.specs.TwoKeys.{ChangesTwo, FitsValues, HasNoRoomFor, TellsOfBoth, TwoKeys, two_keys, value_then, with_change, with_changes}
 use Rattle.mlt_hash_file.proofs.Alone.{sees_before, store_is_over}
-use Rattle.mlt_hash_file.proofs.AloneEnds.{idle_starts, idle_store}
+use Rattle.mlt_hash_file.proofs.AloneEnds.{idle_starts}
 use Rattle.mlt_hash_file.proofs.AloneWalks.{same_before}
 use Rattle.mlt_hash_file.proofs.BothChanges.{both_at_once, both_in_turn, full_left, full_right}
 use Rattle.mlt_hash_file.proofs.HashFiles.{record_is}
@@ -58,7 +57,7 @@ module _ (bits : ℕ → ℕ) (root max_depth : ℕ) (opens : set.FinSet nat_cmp
       (subst (λ (c : FilePages). ChangesTwo bits c (over c (view_of new).own) root max_depth (two_keys pair.left pair.right changes)) (sym (before_is new keeps)) changed)
 
   -- **What a pair tells alone that has made all its changes, or found no room,**
-  pub tells_both : (new : Moment) (after : PairFields) (told : ChangeAnswer) → MayStep new → KeepsBefore base new → (told ≡ answer.OneLeft → ⊥) → TellsOfChanges opens old new pair after changes told → TellsOfBoth (basis_of bits root max_depth base) new (two_keys pair.left pair.right changes) told
+  pub tells_both : (new : Moment) (after : PairFields) (told : ChangeAnswer) → MayStep new → KeepsBefore base new → (told ≡ answer.OneLeft → ⊥) → TellsOfChanges opens old new pair after changes told → TellsOfBoth (basis_of nothing_before bits root max_depth base) new (two_keys pair.left pair.right changes) told
   tells_both new after answer.Changed may keeps not_left tells =
       to_store new may keeps (both_at_once bits root max_depth old.running.tx pair changes (pages_before old) (view_of old) file_here found finding_here (sees_before old alone.may) fits_here opens (view_of new) tells.0)
   tells_both new after answer.OneLeft may keeps not_left tells = absurd (not_left refl)
@@ -127,8 +126,7 @@ records_changed bits root max_depth pages pages' two apart file changed = same_e
         ]
 
 -- what is asked fits what the file has, as it fits the map
-pub fits_file : (bits : ℕ → ℕ) (root max_depth : ℕ) (base now : Moment) (two : TwoKeys) → IsIdle base → IsHashFile bits (page_at base.store.pages) root max_depth → KeepsBefore base now → FitsValues two (map.get (live_records base.store.pages)) → FitsValues two (look_up bits (pages_before now) root)
-fits_file bits root max_depth base now two idle file keeps fits =
-    let pages : pages_before now ≡ page_at base.store.pages = same_before base now keeps ∙ idle_store base idle in
-    let values : map.get (live_records base.store.pages) ≡ look_up bits (page_at base.store.pages) root = λ i k. record_is bits root max_depth base.store.pages k file i in
-    subst (FitsValues two) (values ∙ ap (λ (p : FilePages). look_up bits p root) (sym pages)) fits
+pub fits_file : (bits : ℕ → ℕ) (root max_depth : ℕ) (pages : Pages) (two : TwoKeys) → IsHashFile bits (page_at pages) root max_depth → FitsValues two (map.get (live_records pages)) → FitsValues two (look_up bits (page_at pages) root)
+fits_file bits root max_depth pages two file fits =
+    let values : map.get (live_records pages) ≡ look_up bits (page_at pages) root = λ i k. record_is bits root max_depth pages k file i in
+    subst (FitsValues two) values fits

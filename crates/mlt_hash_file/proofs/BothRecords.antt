@@ -1,25 +1,20 @@
 -- What a change of two keys' records makes of the file
-use Rattle.std.proofs.Common.{◌≡◌, ◌≢◌, ◌⊎◌, ℕ, ◌<◌, ◌≤◌, ◌^◌, true, false, Bool, Option, None, Some, refl, sym, ap, subst, ◌∙◌, inl, inr, arith}
+use Rattle.std.proofs.Common.{◌≡◌, ◌≢◌, ℕ, ◌<◌, ◌^◌, Option, None, Some, sym, ap, subst, ◌∙◌, inl, inr, arith}
 use Rattle.std.specs.FinSet as set
 use Rattle.std.specs.FinMap as map
 use Rattle.std.specs.Ordering.{nat_cmp}
-use Rattle.std.proofs.lemmas.Bool.{cases_eq}
-use Rattle.mlt_page.specs.declared.page.Page.{Page}
 use Rattle.mlt_page_locks.specs.LockTables.{Modes}
-use Rattle.mlt_hash_form.specs.Changes.{slot_change}
 use Rattle.mlt_hash_form.specs.File.{FilePages, HasForm, lead_of, look_up}
 use Rattle.mlt_hash_form.specs.Held.{Agrees, over}
 use Rattle.mlt_held.specs.Views.{View}
-use Rattle.mlt_pair.specs.Changes.{IsHolding, IsSide, MakesAsked, MakesChange, WritesBucketsAlone}
+use Rattle.mlt_pair.specs.Changes.{IsHolding, IsSide, MakesAsked, WritesBucketsAlone}
 use Rattle.mlt_pair.specs.Pairs.{IsFound, PairFields}
-use Rattle.mlt_pair.specs.Plans.{FitsFound, value_after}
+use Rattle.mlt_pair.specs.Plans.{FitsFound}
 use Rattle.mlt_pair.specs.Ways.{page_of}
 use Rattle.mlt_pair.specs.declared.asked.RecordChange.{RecordChange}
 use Rattle.mlt_pair.proofs.Readings.{read_still}
 use Rattle.mlt_pair.proofs.Records.{both_lead, changes_one}
-use Rattle.mlt_pair.proofs.Slots.{plan_number}
-use Rattle.mlt_hash_file.specs.AloneWalks.{IsHashFile}
-use Rattle.mlt_hash_file.specs.TwoKeys.{ChangesTwo, DoesAsked, TwoKeys, value_then}
+use Rattle.mlt_hash_file.specs.TwoKeys.{DoesAsked, value_then}
 
 -- A pair that has found its keys has written nothing but its buckets, and the pages with what it wrote are a file.
 pub record IsBetween (bits : ℕ → ℕ) (root : ℕ) (pair : PairFields) (clean : FilePages) (view : View) : Type 0 where

@@ -1,5 +1,5 @@
 -- The way of a pair that runs alone
-use Rattle.std.proofs.Common.{◌≡◌, ℕ, ◌<◌, ◌≤◌, Option, refl, sym, ap, subst, ◌∙◌, arith}
+use Rattle.std.proofs.Common.{◌≡◌, ℕ, ◌<◌, Option, refl, ◌∙◌, arith}
 use Rattle.mlt_held.specs.Moments.{Moment}
 use Rattle.mlt_held.specs.Views.{view_of}
 use Rattle.mlt_pair.specs.Pairs.{IsFinding, IsUnderWay, PairFields, most_steps}

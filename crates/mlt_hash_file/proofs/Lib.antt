@@ -12,5 +12,6 @@ pub mod BothEnds
 pub mod BothRecords
 pub mod BothSteps
 pub mod HashFiles
+pub mod InTurn
 pub mod OpenedFiles
 pub mod SplitPages

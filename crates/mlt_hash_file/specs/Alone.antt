@@ -5,11 +5,12 @@ use Rattle.std.specs.FinMap as map
 use Rattle.std.specs.FinSet as set
 use Rattle.mlt_page.specs.declared.page.Page.{Page}
 use Rattle.mlt_store.specs.Stores.{PageStore, coded_store}
+use Rattle.mlt_hash_form.specs.Held.{over}
 use Rattle.mlt_page_locks.specs.LockTables.{LockTable, coded_table, is_holder}
 use Rattle.mlt_subtx.specs.Images.{Running, coded_running}
 use Rattle.mlt_hash_form.specs.declared.root.Root.{Root}
 use Rattle.mlt_held.specs.Moments.{MayStep, Moment, page_before}
-use Rattle.mlt_hash.specs.Walks.{Basis, nothing_before}
+use Rattle.mlt_hash.specs.Walks.{Basis, Before}
 use Rattle.mlt_hash.specs.declared.answer.WalkAnswer.{WalkAnswer}
 use Rattle.mlt_hash.specs.declared.answer.WalkAnswer.TheVariants as answer
 
@@ -28,6 +29,10 @@ pub record IsIdle (m : Moment) : Type 0 where
 abbrev pub pages_before : Moment → ℕ → Option Page
 pages_before m = page_before m.running.images m.store.pages
 
+-- the same with what a walk wrote over them before it went on to its key
+abbrev pub pages_since : Before → Moment → ℕ → Option Page
+pages_since since m = over (pages_before m) since.written
+
 -- what each step keeps: whose it is, how many places and pages there may be, and the clean pages
 pub record KeepsBefore (old new : Moment) : Type 0 where
   pub tx : new.running.tx ≡ old.running.tx
@@ -35,20 +40,20 @@ pub record KeepsBefore (old new : Moment) : Type 0 where
   pub max_pages : new.store.max_pages ≡ old.store.max_pages
   pub pages : (q : ℕ) → pages_before new q ≡ pages_before old q
 
--- what a walk to its first key goes by where no transaction is open, so that no ghost keeps its room
-abbrev pub basis_of : (ℕ → ℕ) → ℕ → ℕ → Moment → Basis
-basis_of bits root max_depth m = record {
+-- what a walk goes by that did this before, where no transaction is open, so that no ghost keeps its room
+abbrev pub basis_of : Before → (ℕ → ℕ) → ℕ → ℕ → Moment → Basis
+basis_of since bits root max_depth m = record {
   bits = bits;
   opens = set.empty;
   root = root;
   max_depth = max_depth;
   tx = m.running.tx;
-  before = nothing_before;
+  before = since;
 }
 
 -- the same of a transaction that has this root
-abbrev pub basis_alone : {P : Type 0} → (P → ℕ → ℕ) → Root P → Moment → Basis
-basis_alone bits_of root m = basis_of (bits_of root.pseudo) root.page root.max_depth m
+abbrev pub basis_alone : {P : Type 0} → Before → (P → ℕ → ℕ) → Root P → Moment → Basis
+basis_alone since bits_of root m = basis_of since (bits_of root.pseudo) root.page root.max_depth m
 
 -- the walk was not told to wait
 abbrev pub HasNotWaited : WalkAnswer → Type 0

@@ -1,5 +1,6 @@
 -- What walks do that run alone
-use Rattle.std.specs.Prelude.{ℕ, ◌≡◌, ◌<◌, ◌≤◌, ◌+◌, ◌^◌, ◌⊎◌, true, None, Option, Some}
+use Rattle.mlt_hash.specs.Changes.{IsChangedPhase}
+use Rattle.std.specs.Prelude.{◌+◌, ◌<◌, ◌^◌, ◌≡◌, ◌≢◌, ◌≤◌, ◌⊎◌, None, Option, Some, true, ℕ}
 use Rattle.std.specs.List.{list_all}
 use Rattle.std.specs.FinMap as map
 use Rattle.std.specs.FinSet as set
@@ -13,11 +14,11 @@ use Rattle.mlt_hash_form.specs.Room.{IsCrowded}
 use Rattle.mlt_hash_form.specs.declared.root.Root.{Root}
 use Rattle.mlt_subtx.specs.Images.{put_back}
 use Rattle.mlt_held.specs.Moments.{Moment}
-use Rattle.mlt_held.specs.Views.{view_of}
-use Rattle.mlt_hash.specs.Walks.{Basis, IsStanding, WalkFields}
+use Rattle.mlt_held.specs.Views.{HasWritten, view_of}
+use Rattle.mlt_hash.specs.Walks.{Basis, Before, IsStanding, WalkFields, nothing_before, view_for}
 use Rattle.mlt_hash.specs.Steps.{HasFound, IsSameWalk}
 use Rattle.mlt_hash.specs.StepsLeft.{IsPutting}
-use Rattle.mlt_hash_file.specs.Alone.{pages_before}
+use Rattle.mlt_hash_file.specs.Alone.{pages_before, pages_since}
 use Rattle.mlt_hash.specs.Passes.{next_of}
 use Rattle.mlt_hash_file.specs.SplitPages.{BoundedFile, HasRoomAt, LacksPages, bucket_for, pages_for, pages_in_the_end}
 use Rattle.mlt_hash.specs.declared.pass.Pass.TheVariants as pass
@@ -40,6 +41,12 @@ IsFileBefore bits_of root m = IsHashFile (bits_of root.pseudo) (pages_before m) 
 abbrev pub IsAbsentBefore : {P : Type 0} → (P → ℕ → ℕ) → Root P → Moment → ℕ → Type 0
 IsAbsentBefore bits_of root m key = look_up (bits_of root.pseudo) (pages_before m) root.page key ≡ None
 
+-- what a walk did before is written, and with it the pages are a hash file with this root
+pub record IsReadySince {P : Type 0} (since : Before) (bits_of : P → ℕ → ℕ) (root : Root P)
+    (m : Moment) : Type 0 where
+  pub written : HasWritten since.written (view_of m)
+  pub file : IsHashFile (bits_of root.pseudo) (pages_since since m) root.page root.max_depth
+
 -- another hash file, in which the key has this value, or none, and each other key what it had
 pub record ChangesValue (bits : ℕ → ℕ) (before after : ℕ → Option Page) (root max_depth key : ℕ)
     (value : Option ℕ) : Type 0 where
@@ -48,16 +55,35 @@ pub record ChangesValue (bits : ℕ → ℕ) (before after : ℕ → Option Page
   pub others : (k : ℕ) → (k ≡ key → ⊥) → look_up bits after root k ≡ look_up bits before root k
 
 -- the walk is at its key's bucket, and has found this there
-pub record HasArrived (basis : Basis) (new : Moment) (before after : WalkFields) (value : Option ℕ) : Type 0 where
+pub record HasArrived (basis : Basis) (new : Moment) (before after : WalkFields) (value : Option ℕ)
+    : Type 0 where
   pub same : IsSameWalk before after
-  pub stands : IsStanding basis after (view_of new)
+  pub stands : IsStanding basis after (view_for basis new)
   pub found : HasFound after.phase value
 
 -- the change of the walk's key is written
 abbrev pub HasChanged : Basis → Moment → ℕ → Option ℕ → Type 0
 HasChanged basis new key value =
-    ChangesValue basis.bits (pages_before new) (page_at new.store.pages)
+    ChangesValue basis.bits (pages_since basis.before new) (page_at new.store.pages)
     basis.root basis.max_depth key value
+
+-- so it is, and the walk stands where it wrote it
+pub record HasMade (basis : Basis) (new : Moment) (before after : WalkFields) (value : Option ℕ)
+    : Type 0 where
+  pub changed : HasChanged basis new before.key value
+  pub same : IsSameWalk before after
+  pub phase : IsChangedPhase after.phase
+  pub stands : IsStanding basis after (view_for basis new)
+
+-- a page of the walk wanted memory, which was refused: never that of its first key's one change
+abbrev pub IsRefusedMemory : Basis → Refusal → Type 0
+IsRefusedMemory basis reason = (reason ≡ refusal.OutOfMemory) × (basis.before ≢ nothing_before)
+
+-- what a change of a record that is there tells
+abbrev pub TellsOfMaking : Basis → Moment → WalkFields → WalkFields → Option ℕ → WalkAnswer → Type 0
+TellsOfMaking basis new before after value answer.Changed = HasMade basis new before after value
+TellsOfMaking basis new before after value (answer.Refused reason) = IsRefusedMemory basis reason
+TellsOfMaking basis new before after value other = ⊥
 
 -- the bucket of the key has no slot with room
 abbrev pub IsFullFor : (ℕ → ℕ) → (ℕ → Option Page) → ℕ → ℕ → Type 0
@@ -75,23 +101,28 @@ added_value other = 0
 
 -- the walk may go on to split, and to add its record
 pub record MayAdd (basis : Basis) (new : Moment) (walk : WalkFields) : Type 0 where
-  pub stands : IsStanding basis walk (view_of new)
+  pub stands : IsStanding basis walk (view_for basis new)
   pub adds : IsPutting walk.phase
 
 -- Some depth makes room, and the walk may go on to split its bucket down to there, which takes so many pages.
-pub record NeedsSplits (basis : Basis) (new : Moment) (before after : WalkFields) (value : ℕ) : Type 0 where
+pub record NeedsSplits (basis : Basis) (new : Moment) (before after : WalkFields) (value : ℕ)
+    : Type 0 where
   pub value_is : added_value after.phase ≡ value
   pub may : MayAdd basis new after
-  pub ever : NeverHasRoomFor basis.bits (pages_before new) basis.max_depth before.key → ⊥
+  pub ever : NeverHasRoomFor basis.bits (pages_since basis.before new) basis.max_depth before.key
+      → ⊥
   pub d : ℕ
-  pub least : HasRoomAt basis.bits (pages_before new) basis.root basis.max_depth before.key d
+  pub least : HasRoomAt basis.bits (pages_since basis.before new)
+      basis.root basis.max_depth before.key d
+  pub unwritten : page_at new.store.pages ≡ pages_since basis.before new
   pub pages : pages_in_the_end basis.root after new
-      ≡ map.len (put_back new.running.images new.store.pages)
-      + pages_for basis.bits (pages_before new) basis.root before.key d
+      ≡ map.len new.store.pages
+      + pages_for basis.bits (pages_since basis.before new) basis.root before.key d
 
 -- A split is needed: a first pass says which one follows, and a later one may go on.
-pub record NeedsRoom (basis : Basis) (new : Moment) (before after : WalkFields) (value : ℕ) : Type 0 where
-  pub full : IsFullFor basis.bits (pages_before new) basis.root before.key
+pub record NeedsRoom (basis : Basis) (new : Moment) (before after : WalkFields) (value : ℕ)
+    : Type 0 where
+  pub full : IsFullFor basis.bits (pages_since basis.before new) basis.root before.key
   pub same : IsSameWalk before after
   pub first : before.pass ≡ pass.First
       → (after.phase ≡ at.Full (next_of after.phase)) × (next_of after.phase ≡ pass.First → ⊥)
@@ -105,21 +136,26 @@ pub record NeedsWidth (before after : WalkFields) : Type 0 where
 
 -- what a pass tells that adds a record of this value
 abbrev pub TellsOfPass : Basis → Moment → WalkFields → WalkFields → ℕ → WalkAnswer → Type 0
-TellsOfPass basis new before after value answer.Changed = HasChanged basis new before.key (Some value)
+TellsOfPass basis new before after value answer.Changed =
+    HasMade basis new before after (Some value)
 TellsOfPass basis new before after value answer.NeedSplit = NeedsRoom basis new before after value
 TellsOfPass basis new before after value answer.Widen = NeedsWidth before after
 TellsOfPass basis new before after value (answer.Refused refusal.NoRoom) =
     (before.pass ≡ pass.First → ⊥)
-    × IsFullFor basis.bits (pages_before new) basis.root before.key
-    × NeverHasRoomFor basis.bits (pages_before new) basis.max_depth before.key
+    × IsFullFor basis.bits (pages_since basis.before new) basis.root before.key
+    × NeverHasRoomFor basis.bits (pages_since basis.before new) basis.max_depth before.key
+TellsOfPass basis new before after value (answer.Refused reason) = IsRefusedMemory basis reason
 TellsOfPass basis new before after value other = ⊥
 
 -- what the splits of a pass tell that lead to this number of pages
-abbrev pub TellsOfSplits : Basis → Moment → ℕ → ℕ → ℕ → WalkAnswer → Type 0
-TellsOfSplits basis new key value most answer.Changed = HasChanged basis new key (Some value)
-TellsOfSplits basis new key value most (answer.Refused refusal.NoRoom) = new.store.max_pages < most
-TellsOfSplits basis new key value most (answer.Refused reason) = reason ≡ refusal.OutOfMemory
-TellsOfSplits basis new key value most other = ⊥
+abbrev pub TellsOfSplits : Basis → Moment → WalkFields → WalkFields → ℕ → ℕ → WalkAnswer → Type 0
+TellsOfSplits basis new before after value most answer.Changed =
+    HasMade basis new before after (Some value)
+TellsOfSplits basis new before after value most (answer.Refused refusal.NoRoom) =
+    new.store.max_pages < most
+TellsOfSplits basis new before after value most (answer.Refused reason) =
+    reason ≡ refusal.OutOfMemory
+TellsOfSplits basis new before after value most other = ⊥
 
 -- Why an addition is refused. The bucket of the key is full; and no split makes room, or there may not be as many pages as
 -- the splits make that do, or a growth was refused to them.

@@ -3,7 +3,6 @@ use Rattle.std.specs.Prelude.{ℕ, ◌≡◌, ◌≢◌, ◌⊎◌, IsSome, Opti
 use Rattle.std.specs.Ordering.{nat_cmp}
 use Rattle.std.specs.FinMap as map
 use Rattle.mlt_types.specs.Maps.{with_entry}
-use Rattle.mlt_page.specs.declared.page.Page.{Page}
 use Rattle.mlt_page.specs.declared.slot.Slot.{Slot}
 use Rattle.mlt_store.specs.Stores.{page_at}
 use Rattle.mlt_hash_form.specs.Changes.{ChangesRecord, slot_change}
@@ -33,6 +32,10 @@ pub record TwoKeys : Type 0 where
 
 abbrev pub two_keys : ℕ → ℕ → Changes → TwoKeys
 two_keys left right changes = record { left = left; right = right; changes = changes }
+
+-- a change of each of them
+abbrev pub both_changes : RecordChange → RecordChange → Changes
+both_changes left right = record { left = Some left; right = Some right }
 
 -- the keys differ, and a change is asked of one of them at least
 pub record AsksOfTwo (two : TwoKeys) : Type 0 where

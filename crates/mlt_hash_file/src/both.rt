@@ -1,5 +1,6 @@
 //! Changes of the records of two keys at once.
 
+ghost use Rattle.mlt_hash.specs.Walks.{nothing_before};
 ghost use Rattle.std.specs.Prelude.{◌≡◌, IfErr, IfOk, OnErr, OnOk};
 ghost use Rattle.std.specs.FinMap as map;
 ghost use Rattle.mlt_store.specs.Stores.{page_at};
@@ -8,16 +9,19 @@ ghost use Rattle.mlt_hash_form.specs.Records.{live_records};
 ghost use Rattle.mlt_held.specs.Views.{view_of};
 ghost use Rattle.mlt_pair.specs.Pairs.{FileRoot, IsFinding, IsFound, IsUnderWay};
 ghost use Rattle.mlt_pair.specs.Steps.{TellsOfStep};
-ghost use Rattle.mlt_hash_file.specs.Alone.{IsAlone, KeepsBefore, basis_alone, pages_before};
-ghost use Rattle.mlt_hash_file.specs.AloneWalks.{IsFileBefore};
-ghost use Rattle.mlt_hash_file.specs.HashFiles.{IsFileOf};
-ghost use Rattle.mlt_hash_file.specs.TwoKeys.{AsksOfTwo, FitsValues, HasArrivedAtBoth, HasNoRoomFor, HasNotWaited, TellsOfBoth, two_keys, with_changes};
+ghost use Rattle.mlt_hash_file.specs.Alone.{IsAlone, IsIdle, KeepsBefore, basis_alone, pages_before};
+ghost use Rattle.mlt_hash_file.specs.AloneWalks.{IsFileBefore, IsHashFile};
+ghost use Rattle.mlt_hash_file.specs.HashFiles.{IsFileOf, bounded_by};
+ghost use Rattle.mlt_hash_file.specs.InTurn.{RefusesBoth, bounded_with};
+ghost use Rattle.mlt_hash_file.specs.TwoKeys.{AsksOfTwo, ChangesTwo, FitsValues, HasArrivedAtBoth, HasNotWaited, TellsOfBoth, two_keys, with_changes};
 
 use crate::hash_file::HashFile;
 use crate::runner::Runner;
+use mlt_hash::WalkAnswer;
 use mlt_hash_form::Root;
-use mlt_pair::{ChangeAnswer, Changes, Pair, PairAnswer, Side};
-use mlt_types::{Key, Pseudo};
+use mlt_pair::{ChangeAnswer, Changes, Pair, PairAnswer};
+use mlt_types::{Key, Pseudo, Refusal};
+use std::alloc::Global;
 
 impl Runner {
     /// One step of a pair.
@@ -73,8 +77,8 @@ impl Runner {
         requires fits { FitsValues (two_keys pair.old.left pair.old.right changes.now)
             (look_up (P.bits_of root.now.pseudo) (pages_before self.old) root.now.page) }
         ensures keeps { KeepsBefore self.old self.new }
-        ensures tells { TellsOfBoth (basis_alone P.bits_of root.now self.old) self.new
-            (two_keys pair.old.left pair.old.right changes.now) result }
+        ensures tells { TellsOfBoth (basis_alone nothing_before P.bits_of root.now self.old)
+            self.new (two_keys pair.old.left pair.old.right changes.now) result }
     {
         match pair.change(changes, &mut self.subtx, &mut self.pages, &self.opens) {
             ChangeAnswer::OneLeft => {
@@ -84,16 +88,55 @@ impl Runner {
             answer => answer,
         }
     }
+
+    /// Makes at most one change of each key's record: in both buckets at once, or in turn where one of them has to be split.
+    fn change_records<P: Pseudo>(
+        &mut self,
+        alloc: Global,
+        left: Key,
+        right: Key,
+        changes: &Changes,
+        root: &Root<P>,
+    ) -> Result<(), Refusal>
+        requires idle { IsIdle self.old }
+        requires file { IsHashFile (P.bits_of root.now.pseudo) (page_at self.old.store.pages)
+            root.now.page root.now.max_depth }
+        requires asks { AsksOfTwo (two_keys left right changes.now) }
+        requires fits { FitsValues (two_keys left right changes.now)
+            (look_up (P.bits_of root.now.pseudo) (page_at self.old.store.pages) root.now.page) }
+        ensures keeps { KeepsBefore self.old self.new }
+        ensures changes { OnOk result (ChangesTwo (P.bits_of root.now.pseudo)
+            (page_at self.old.store.pages) (page_at self.new.store.pages)
+            root.now.page root.now.max_depth (two_keys left right changes.now)) }
+        ensures refusal { IfErr result (λ refusal. RefusesBoth (bounded_with
+            (basis_alone nothing_before P.bits_of root.now self.old) self.old.store.pages self.old)
+            (two_keys left right changes.now) refusal) }
+    {
+        let mut pair = Pair::find(left, right);
+        self.find_both(&mut pair, root);
+        match self.change_both(&mut pair, changes, root) {
+            ChangeAnswer::Full(_) => {
+                self.roll_back();
+                match self.change_in_turn(alloc, left, right, changes, root) {
+                    WalkAnswer::Changed => Ok(()),
+                    WalkAnswer::Refused(refusal) => Err(refusal),
+                    _ => unreachable!(),
+                }
+            }
+            ChangeAnswer::Changed => Ok(()),
+            ChangeAnswer::OneLeft => unreachable!(),
+        }
+    }
 }
 
 impl<P: Pseudo> HashFile<P> {
-    /// Makes at most one change of the record of each of two keys, which differ: both at once, as their buckets are, without
-    /// a split.
+    /// Makes at most one change of the record of each of two keys, which differ: both, or neither.
     ///
     /// # Errors
-    /// The side whose key's bucket has no room for its record: of the left key, or of the right one once the left one's
-    /// change is made. The file is then as before.
-    pub fn change_both(&mut self, left: Key, right: Key, changes: &Changes) -> Result<(), Side>
+    /// `NoRoom`, where no split that the depth allows makes room for the left key's record, or for the right key's once the
+    /// left one's change is made, or the splits that make it need more pages than there may be. `OutOfMemory`, where a
+    /// growth was refused to them. The file is then as before. Where the buckets of both keys have room there is neither.
+    pub fn change_both(&mut self, left: Key, right: Key, changes: &Changes) -> Result<(), Refusal>
         requires asks { AsksOfTwo (two_keys left right changes.now) }
         requires fits { FitsValues (two_keys left right changes.now)
             (map.get (live_records self.old.pages)) }
@@ -102,21 +145,21 @@ impl<P: Pseudo> HashFile<P> {
         ensures limits { self.new ≡ record self.old { pages = self.new.pages } }
         ensures file { IsFileOf P.bits_of self.new }
         ensures err { OnErr result (self.new ≡ self.old) }
-        ensures full { IfErr result (λ side. HasNoRoomFor side (P.bits_of self.old.pseudo)
-            (page_at self.old.pages) self.old.root (two_keys left right changes.now)) }
+        ensures refusal { IfErr result (λ refusal. RefusesBoth (bounded_by P.bits_of self.old)
+            (two_keys left right changes.now) refusal) }
     {
-        let mut pair = Pair::find(left, right);
-        self.runner.find_both(&mut pair, &self.root);
-        match self.runner.change_both(&mut pair, changes, &self.root) {
-            ChangeAnswer::Full(side) => {
-                self.runner.roll_back();
-                Err(side)
-            }
-            ChangeAnswer::Changed => {
+        match self
+            .runner
+            .change_records(self.alloc, left, right, changes, &self.root)
+        {
+            Ok(()) => {
                 self.runner.end();
                 Ok(())
             }
-            ChangeAnswer::OneLeft => unreachable!(),
+            Err(refusal) => {
+                self.runner.roll_back();
+                Err(refusal)
+            }
         }
     }
 }

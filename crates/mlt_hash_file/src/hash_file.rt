@@ -24,7 +24,7 @@ use std::marker::Model;
 /// keys to pseudokeys.
 #[derive(Drop)]
 pub struct HashFile<P: Pseudo> {
-    alloc: Global,
+    pub(crate) alloc: Global,
     pub(crate) root: Root<P>,
     pub(crate) runner: Runner,
 }
@@ -146,8 +146,10 @@ impl<P: Pseudo> HashFile<P> {
     {
         let mut walk = Walk::find(self.alloc, key, Mode::Exclusive);
         self.runner.find(&mut walk, &self.root);
-        self.runner.update(&mut walk, value, &self.root);
-        self.runner.end();
+        match self.runner.update(&mut walk, value, &self.root) {
+            WalkAnswer::Changed => self.runner.end(),
+            _ => unreachable!(),
+        }
     }
 
     /// Removes a key's record.
@@ -160,8 +162,10 @@ impl<P: Pseudo> HashFile<P> {
     {
         let mut walk = Walk::find(self.alloc, key, Mode::Exclusive);
         self.runner.find(&mut walk, &self.root);
-        self.runner.remove(&mut walk, &self.root);
-        self.runner.end();
+        match self.runner.remove(&mut walk, &self.root) {
+            WalkAnswer::Changed => self.runner.end(),
+            _ => unreachable!(),
+        }
     }
 
     /// How deep the directory is.

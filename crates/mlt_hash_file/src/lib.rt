@@ -4,6 +4,7 @@
 
 mod both;
 mod hash_file;
+mod in_turn;
 mod runner;
 
 pub use hash_file::HashFile;

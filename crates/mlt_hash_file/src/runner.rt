@@ -1,15 +1,16 @@
 //! A transaction that runs alone.
 
-ghost use Rattle.std.specs.Prelude.{◌≡◌, ◌≢◌, ◌≤◌, ℕ, None, Some};
+ghost use Rattle.std.specs.Prelude.{◌≡◌, ◌≢◌, ◌≤◌, ◌<◌, ℕ, None, Some};
 ghost use Rattle.mlt_types.specs.declared.mode.Mode.{Mode};
 ghost use Rattle.mlt_store.specs.Stores.{page_at};
 ghost use Rattle.mlt_hash_form.specs.File.{look_up};
-ghost use Rattle.mlt_held.specs.Views.{view_of};
-ghost use Rattle.mlt_hash.specs.Walks.{IsAtStart, IsStanding};
+ghost use Rattle.mlt_held.specs.Views.{HasWritten, view_of, view_over};
+ghost use Rattle.mlt_hash.specs.Walks.{Before, IsAtStart, IsStanding, nothing_before};
 ghost use Rattle.mlt_hash.specs.Splitting.{IsUnderWay, TellsAt};
-ghost use Rattle.mlt_hash.specs.Changes.{IsAtRecord};
+ghost use Rattle.mlt_hash.specs.Changes.{IsAtAbsent, IsAtRecord};
+ghost use Rattle.mlt_hash.specs.Steps.{steps_to_bucket};
 ghost use Rattle.mlt_hash_file.specs.Alone.{HasNotWaited, IsAlone, IsIdle, KeepsBefore, basis_alone};
-ghost use Rattle.mlt_hash_file.specs.AloneWalks.{HasArrived, HasChanged, IsAbsentBefore, IsFileBefore, MayAdd, TellsOfInsertion, TellsOfLater, TellsOfPass, TellsOfSplits, added_value};
+ghost use Rattle.mlt_hash_file.specs.AloneWalks.{HasArrived, IsAbsentBefore, IsFileBefore, IsReadySince, MayAdd, TellsOfMaking, TellsOfInsertion, TellsOfLater, TellsOfPass, TellsOfSplits, added_value};
 ghost use Rattle.mlt_hash.specs.Passes.{next_of};
 ghost use Rattle.mlt_hash_file.specs.SplitPages.{pages_in_the_end};
 ghost use Rattle.mlt_hash.specs.declared.pass.Pass.{Pass};
@@ -50,14 +51,16 @@ impl Model for Runner {
 }
 
 impl Runner {
-    /// One step of a walk.
+    /// One step of a walk. The ghost is what the walk did before it went on to its key.
     pub(crate) fn step<P: Pseudo>(&mut self, walk: &mut Walk, root: &Root<P>) -> WalkAnswer
+        ghost since: { Before }
         requires under_way { IsUnderWay walk.old.phase }
-        requires file { IsFileBefore P.bits_of root.now self.old }
-        requires stands { IsStanding (basis_alone P.bits_of root.now self.old) walk.old
-            (view_of self.old) }
+        requires ready { IsReadySince since P.bits_of root.now self.old }
+        requires stands { IsStanding (basis_alone since P.bits_of root.now self.old) walk.old
+            (view_over since.written self.old) }
         ensures keeps { KeepsBefore self.old self.new }
-        ensures tells { TellsAt walk.old.phase (basis_alone P.bits_of root.now self.old)
+        ensures written { HasWritten since.written (view_of self.new) }
+        ensures tells { TellsAt walk.old.phase (basis_alone since P.bits_of root.now self.old)
             self.old self.new walk.old walk.new result }
         ensures goes { HasNotWaited result }
         ensures alone { IsAlone self.old × IsAlone self.new }
@@ -71,11 +74,14 @@ impl Runner {
 
     /// Goes on to the bucket of the walk's key: the value that the key has there, if it has one.
     pub(crate) fn find<P: Pseudo>(&mut self, walk: &mut Walk, root: &Root<P>) -> Option<Value>
-        requires start { walk.old.phase ≡ Phase.Start }
-        requires nothing { IsAtStart (view_of self.old) }
-        requires file { IsFileBefore P.bits_of root.now self.old }
+        ghost since: { Before }
+        requires on_its_way { 0 < steps_to_bucket walk.old.phase }
+        requires ready { IsReadySince since P.bits_of root.now self.old }
+        requires stands { IsStanding (basis_alone since P.bits_of root.now self.old) walk.old
+            (view_over since.written self.old) }
         ensures keeps { KeepsBefore self.old self.new }
-        ensures arrives { HasArrived (basis_alone P.bits_of root.now self.old)
+        ensures written { HasWritten since.written (view_of self.new) }
+        ensures arrives { HasArrived (basis_alone since P.bits_of root.now self.old)
             self.new walk.old walk.new result }
         ensures alone { IsAlone self.new }
     {
@@ -86,6 +92,32 @@ impl Runner {
                 _ => unreachable!(),
             }
         }
+    }
+
+    /// Adds a record of the walk's key, which has none in the bucket that the walk has found, if that has room.
+    pub(crate) fn put<P: Pseudo>(
+        &mut self,
+        walk: &mut Walk,
+        value: Value,
+        root: &Root<P>,
+    ) -> WalkAnswer
+        ghost since: { Before }
+        requires mode { walk.old.mode ≡ Mode.Exclusive }
+        requires absent { IsAtAbsent walk.old.phase }
+        requires ready { IsReadySince since P.bits_of root.now self.old }
+        requires stands { IsStanding (basis_alone since P.bits_of root.now self.old) walk.old
+            (view_over since.written self.old) }
+        ensures keeps { KeepsBefore self.old self.new }
+        ensures written { HasWritten since.written (view_of self.new) }
+        ensures tells { TellsOfPass (basis_alone since P.bits_of root.now self.old)
+            self.new walk.old walk.new value result }
+        ensures alone { IsAlone self.old }
+    {
+        let setting = Setting {
+            root,
+            opens: &self.opens,
+        };
+        walk.insert(value, &setting, &mut self.subtx, &mut self.pages)
     }
 
     /// A pass that adds a record of the walk's key, which has none, if its bucket has room.
@@ -101,15 +133,11 @@ impl Runner {
         requires file { IsFileBefore P.bits_of root.now self.old }
         requires absent { IsAbsentBefore P.bits_of root.now self.old walk.old.key }
         ensures keeps { KeepsBefore self.old self.new }
-        ensures tells { TellsOfPass (basis_alone P.bits_of root.now self.old)
+        ensures tells { TellsOfPass (basis_alone nothing_before P.bits_of root.now self.old)
             self.new walk.old walk.new value result }
     {
         self.find(walk, root);
-        let setting = Setting {
-            root,
-            opens: &self.opens,
-        };
-        walk.insert(value, &setting, &mut self.subtx, &mut self.pages)
+        self.put(walk, value, root)
     }
 
     /// Rolls a pass back that found no room, and runs the one that follows.
@@ -124,8 +152,9 @@ impl Runner {
         requires file { IsFileBefore P.bits_of root.now self.old }
         requires absent { IsAbsentBefore P.bits_of root.now self.old walk.old.key }
         ensures keeps { KeepsBefore self.old self.new }
-        ensures tells { TellsOfPass (basis_alone P.bits_of root.now self.old)
-            self.new (record walk.old { pass = next_of walk.old.phase; phase = Phase.Start }) walk.new value result }
+        ensures tells { TellsOfPass (basis_alone nothing_before P.bits_of root.now self.old)
+            self.new (record walk.old { pass = next_of walk.old.phase; phase = Phase.Start })
+            walk.new value result }
     {
         self.roll_back();
         walk.again();
@@ -134,11 +163,13 @@ impl Runner {
 
     /// Splits the bucket until there is room, and adds the record.
     pub(crate) fn split<P: Pseudo>(&mut self, walk: &mut Walk, root: &Root<P>) -> WalkAnswer
-        requires file { IsFileBefore P.bits_of root.now self.old }
-        requires adds { MayAdd (basis_alone P.bits_of root.now self.old) self.old walk.old }
+        ghost since: { Before }
+        requires ready { IsReadySince since P.bits_of root.now self.old }
+        requires adds { MayAdd (basis_alone since P.bits_of root.now self.old) self.old walk.old }
         ensures keeps { KeepsBefore self.old self.new }
-        ensures tells { TellsOfSplits (basis_alone P.bits_of root.now self.old)
-            self.new walk.old.key (added_value walk.old.phase) (pages_in_the_end root.now.page walk.old self.old) result }
+        ensures tells { TellsOfSplits (basis_alone since P.bits_of root.now self.old) self.new
+            walk.old walk.new (added_value walk.old.phase)
+            (pages_in_the_end root.now.page walk.old self.old) result }
     {
         loop {
             match self.step(walk, root) {
@@ -161,8 +192,9 @@ impl Runner {
         requires file { IsFileBefore P.bits_of root.now self.old }
         requires absent { IsAbsentBefore P.bits_of root.now self.old walk.old.key }
         ensures keeps { KeepsBefore self.old self.new }
-        ensures tells { TellsOfLater (basis_alone P.bits_of root.now self.old)
-            self.new (record walk.old { pass = next_of walk.old.phase; phase = Phase.Start }) walk.new value result }
+        ensures tells { TellsOfLater (basis_alone nothing_before P.bits_of root.now self.old)
+            self.new (record walk.old { pass = next_of walk.old.phase; phase = Phase.Start })
+            walk.new value result }
     {
         match self.add_again(walk, value, root) {
             WalkAnswer::NeedSplit => self.split(walk, root),
@@ -183,7 +215,7 @@ impl Runner {
         requires file { IsFileBefore P.bits_of root.now self.old }
         requires absent { IsAbsentBefore P.bits_of root.now self.old walk.old.key }
         ensures keeps { KeepsBefore self.old self.new }
-        ensures tells { TellsOfInsertion (basis_alone P.bits_of root.now self.old)
+        ensures tells { TellsOfInsertion (basis_alone nothing_before P.bits_of root.now self.old)
             self.new walk.old.key value result }
     {
         match self.add_with_splits(walk, value, root) {
@@ -205,7 +237,7 @@ impl Runner {
         requires file { IsFileBefore P.bits_of root.now self.old }
         requires absent { IsAbsentBefore P.bits_of root.now self.old walk.old.key }
         ensures keeps { KeepsBefore self.old self.new }
-        ensures tells { TellsOfInsertion (basis_alone P.bits_of root.now self.old)
+        ensures tells { TellsOfInsertion (basis_alone nothing_before P.bits_of root.now self.old)
             self.new walk.old.key value result }
     {
         match self.add(walk, value, root) {
@@ -215,31 +247,38 @@ impl Runner {
     }
 
     /// Gives the record of the walk's key, which the walk has found, another value.
-    pub(crate) fn update<P: Pseudo>(&mut self, walk: &mut Walk, value: Value, root: &Root<P>)
+    pub(crate) fn update<P: Pseudo>(
+        &mut self,
+        walk: &mut Walk,
+        value: Value,
+        root: &Root<P>,
+    ) -> WalkAnswer
+        ghost since: { Before }
         requires mode { walk.old.mode ≡ Mode.Exclusive }
         requires found { IsAtRecord walk.old.phase }
-        requires file { IsFileBefore P.bits_of root.now self.old }
-        requires stands { IsStanding (basis_alone P.bits_of root.now self.old) walk.old
-            (view_of self.old) }
+        requires ready { IsReadySince since P.bits_of root.now self.old }
+        requires stands { IsStanding (basis_alone since P.bits_of root.now self.old) walk.old
+            (view_over since.written self.old) }
         ensures keeps { KeepsBefore self.old self.new }
-        ensures changes { HasChanged (basis_alone P.bits_of root.now self.old)
-            self.new walk.old.key (Some value) }
+        ensures tells { TellsOfMaking (basis_alone since P.bits_of root.now self.old)
+            self.new walk.old walk.new (Some value) result }
     {
-        walk.update(value, &mut self.subtx, &mut self.pages);
+        walk.update(value, &mut self.subtx, &mut self.pages)
     }
 
     /// Removes the record of the walk's key, which the walk has found.
-    pub(crate) fn remove<P: Pseudo>(&mut self, walk: &mut Walk, root: &Root<P>)
+    pub(crate) fn remove<P: Pseudo>(&mut self, walk: &mut Walk, root: &Root<P>) -> WalkAnswer
+        ghost since: { Before }
         requires mode { walk.old.mode ≡ Mode.Exclusive }
         requires found { IsAtRecord walk.old.phase }
-        requires file { IsFileBefore P.bits_of root.now self.old }
-        requires stands { IsStanding (basis_alone P.bits_of root.now self.old) walk.old
-            (view_of self.old) }
+        requires ready { IsReadySince since P.bits_of root.now self.old }
+        requires stands { IsStanding (basis_alone since P.bits_of root.now self.old) walk.old
+            (view_over since.written self.old) }
         ensures keeps { KeepsBefore self.old self.new }
-        ensures changes { HasChanged (basis_alone P.bits_of root.now self.old)
-            self.new walk.old.key None }
+        ensures tells { TellsOfMaking (basis_alone since P.bits_of root.now self.old)
+            self.new walk.old walk.new None result }
     {
-        walk.remove(&mut self.subtx, &mut self.pages);
+        walk.remove(&mut self.subtx, &mut self.pages)
     }
 
     /// Keeps what was written, and releases all locks.

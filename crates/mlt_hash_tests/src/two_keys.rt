@@ -5,9 +5,9 @@ ghost use Rattle.mlt_pair.specs.Plans.{FitsFound};
 
 use mlt_hash_file::HashFile;
 use mlt_pair::RecordChange::{Insert, Remove, Update};
-use mlt_pair::{Changes, RecordChange, Side};
+use mlt_pair::{Changes, RecordChange};
 use mlt_test_tools::{same, same_at};
-use mlt_types::{Cell, Key, Limits, Low, Pseudo, Value};
+use mlt_types::{Cell, Key, Limits, Low, Pseudo, Refusal, Value};
 use std::alloc::Global;
 use std::process::Abort;
 use std::test::Fail;
@@ -18,7 +18,7 @@ enum Act {
     /// Adds these accounts, which are not there, each with a value of its number and 100.
     InsertAll(&'static [u32]),
     /// Changes these two accounts at once. This is the answer.
-    Both(u32, Option<RecordChange>, u32, Option<RecordChange>, Result<(), Side>),
+    Both(u32, Option<RecordChange>, u32, Option<RecordChange>, Result<(), Refusal>),
     /// This account has this value.
     Get(u32, Option<Value>),
     /// The depth of the directory, and the number of pages.
@@ -54,7 +54,7 @@ fn change_both<P: Pseudo>(
     left: Key,
     right: Key,
     changes: &Changes,
-) -> Result<(), Side> {
+) -> Result<(), Refusal> {
     let left_found = file.get(left);
     let right_found = file.get(right);
     assert!(rt; left != right);
@@ -102,14 +102,20 @@ fn goes_through<P: Pseudo>(
     Ok(())
 }
 
-fn goes(rt: &impl Abort, alloc: Global, acts: &[Act]) -> Result<(), Fail> {
-    let limits = Limits::checked(1, 1, 100, 16, 1)?;
+// These acts on a new file of at most so many pages.
+fn goes(rt: &impl Abort, alloc: Global, max_pages: u32, acts: &[Act]) -> Result<(), Fail> {
+    let limits = Limits::checked(1, 1, max_pages, 16, 1)?;
     let mut file = HashFile::new(alloc, &limits, Low)?;
     goes_through(rt, &mut file, acts)
 }
 
 // The pseudokeys of these accounts are alike in their first 13 bits, and start with 0.
 const ZEROS: &[u32] = &[0, 1, 2, 3, 4, 5, 6, 7];
+
+// So are these in theirs, which start with 1.
+const ONES: &[u32] = &[
+    32_768, 32_769, 32_770, 32_771, 32_772, 32_773, 32_774, 32_775,
+];
 
 // Eight slots for two keys: the right key's change is planned with the left one's in place.
 const ONE_BUCKET: &[Act] = &[
@@ -124,18 +130,25 @@ const ONE_BUCKET: &[Act] = &[
     Act::Get(0, Some(30)),
     Act::Get(1, Some(31)),
     Act::InsertAll(&[2, 3, 4, 5, 6]),
-    Act::Both(7, Some(Insert(1)), 8, Some(Insert(2)), Err(Side::Right)),
-    Act::Get(7, None),
-    Act::Get(8, None),
     Act::Both(7, Some(Insert(1)), 6, Some(Update(2)), Ok(())),
-    Act::Get(6, Some(2)),
-    Act::Both(8, Some(Insert(3)), 6, Some(Remove), Err(Side::Left)),
     Act::Get(6, Some(2)),
     Act::Both(6, Some(Remove), 8, Some(Insert(3)), Ok(())),
     Act::Get(6, None),
     Act::Get(8, Some(3)),
-    Act::Both(8, Some(Update(4)), 9, Some(Insert(5)), Err(Side::Right)),
-    Act::Get(8, Some(3)),
+    Act::Form(0, 3),
+];
+
+// Nobody's ghost keeps its room: eight of them are eight slots for other records.
+const EIGHT_GHOSTS: &[Act] = &[
+    Act::InsertAll(ZEROS),
+    Act::Both(0, Some(Remove), 1, Some(Remove), Ok(())),
+    Act::Both(2, Some(Remove), 3, Some(Remove), Ok(())),
+    Act::Both(4, Some(Remove), 5, Some(Remove), Ok(())),
+    Act::Both(6, Some(Remove), 7, Some(Remove), Ok(())),
+    Act::Both(8, Some(Insert(1)), 9, Some(Insert(2)), Ok(())),
+    Act::Get(0, None),
+    Act::Get(8, Some(1)),
+    Act::Get(9, Some(2)),
     Act::Form(0, 3),
 ];
 
@@ -154,16 +167,6 @@ const TWO_BUCKETS: &[Act] = &[
     Act::Get(32_769, Some(3)),
     Act::Get(32_770, Some(5)),
     Act::Both(32_770, None, 8, Some(Insert(6)), Ok(())),
-    Act::Both(
-        32_771,
-        Some(Insert(7)),
-        9,
-        Some(Insert(8)),
-        Err(Side::Right),
-    ),
-    Act::Both(9, Some(Insert(8)), 32_771, Some(Insert(7)), Err(Side::Left)),
-    Act::Get(9, None),
-    Act::Get(32_771, None),
     Act::Form(1, 4),
 ];
 
@@ -185,19 +188,163 @@ const TWO_DIRECTORY_PAGES: &[Act] = &[
     Act::Form(13, 47),
 ];
 
+// The bucket of accounts 0 to 7 is split thirteen times, until account 8 has another one: for the left key,
+const SPLITS_FOR_THE_LEFT: &[Act] = &[
+    Act::InsertAll(ZEROS),
+    Act::Both(8, Some(Insert(3)), 6, Some(Update(2)), Ok(())),
+    Act::Get(6, Some(2)),
+    Act::Get(7, Some(107)),
+    Act::Get(8, Some(3)),
+    Act::Form(13, 47),
+];
+
+// for the right one, whose bucket the left key's record fills,
+const SPLITS_FOR_THE_RIGHT: &[Act] = &[
+    Act::InsertAll(&[0, 1, 2, 3, 4, 5, 6]),
+    Act::Both(7, Some(Insert(1)), 8, Some(Insert(2)), Ok(())),
+    Act::Get(0, Some(100)),
+    Act::Get(7, Some(1)),
+    Act::Get(8, Some(2)),
+    Act::Form(13, 47),
+];
+
+// and for a key alone.
+const SPLITS_FOR_ONE_KEY: &[Act] = &[
+    Act::InsertAll(ZEROS),
+    Act::Both(0, None, 8, Some(Insert(2)), Ok(())),
+    Act::Get(0, Some(100)),
+    Act::Get(8, Some(2)),
+    Act::Both(16, Some(Insert(3)), 8, None, Ok(())),
+    Act::Get(16, Some(3)),
+    Act::Form(13, 47),
+];
+
+// One split makes room, and moves the record of account 32,768, before it changes
+const THE_SPLIT_MOVES_THE_SECOND_KEY: &[Act] = &[
+    Act::InsertAll(&[0, 1, 2, 3, 4, 5, 6, 32_768]),
+    Act::Both(7, Some(Insert(1)), 32_768, Some(Update(9)), Ok(())),
+    Act::Get(7, Some(1)),
+    Act::Get(32_768, Some(9)),
+    Act::Form(1, 4),
+];
+
+// or after that.
+const THE_SPLIT_MOVES_THE_FIRST_KEY: &[Act] = &[
+    Act::InsertAll(&[0, 1, 2, 3, 4, 5, 6, 32_768]),
+    Act::Both(32_768, Some(Update(9)), 7, Some(Insert(1)), Ok(())),
+    Act::Get(7, Some(1)),
+    Act::Get(32_768, Some(9)),
+    Act::Form(1, 4),
+];
+
+// Of two full buckets of depth 1 each is split twelve times, which makes 24 pages, and 31 of the directory.
+const SPLITS_FOR_BOTH: &[Act] = &[
+    Act::InsertAll(ZEROS),
+    Act::InsertAll(ONES),
+    Act::Form(1, 4),
+    Act::Both(8, Some(Insert(1)), 32_776, Some(Insert(2)), Ok(())),
+    Act::Get(0, Some(100)),
+    Act::Get(8, Some(1)),
+    Act::Get(32_768, Some(32_868)),
+    Act::Get(32_776, Some(2)),
+    Act::Form(13, 59),
+];
+
+// With a page fewer there is no room for the second key, and the file is as before,
+const ONE_PAGE_TOO_FEW: &[Act] = &[
+    Act::InsertAll(ZEROS),
+    Act::InsertAll(ONES),
+    Act::Both(
+        8,
+        Some(Insert(1)),
+        32_776,
+        Some(Insert(2)),
+        Err(Refusal::NoRoom),
+    ),
+    Act::Get(0, Some(100)),
+    Act::Get(8, None),
+    Act::Get(32_776, None),
+    Act::Form(1, 4),
+    Act::Both(8, Some(Insert(1)), 32_768, Some(Remove), Ok(())),
+    Act::Get(8, Some(1)),
+    Act::Get(32_768, None),
+    Act::Form(13, 47),
+];
+
+// and so it is where there are too few for the first one.
+const TOO_FEW_FOR_THE_FIRST: &[Act] = &[
+    Act::InsertAll(ZEROS),
+    Act::Both(8, Some(Insert(1)), 0, Some(Update(2)), Err(Refusal::NoRoom)),
+    Act::Get(0, Some(100)),
+    Act::Get(8, None),
+    Act::Form(0, 3),
+];
+
+// Accounts that are alike in all 16 bits that a directory may have: no split makes room for a ninth of them.
+const ALIKE: &[Act] = &[
+    Act::InsertAll(&[0, 65_536, 131_072, 196_608, 262_144, 327_680, 393_216]),
+    Act::Both(
+        458_752,
+        Some(Insert(1)),
+        524_288,
+        Some(Insert(2)),
+        Err(Refusal::NoRoom),
+    ),
+    Act::Get(458_752, None),
+    Act::Both(458_752, Some(Insert(1)), 0, Some(Update(2)), Ok(())),
+    Act::Both(
+        524_288,
+        Some(Insert(3)),
+        0,
+        Some(Remove),
+        Err(Refusal::NoRoom),
+    ),
+    Act::Get(0, Some(2)),
+    Act::Both(0, Some(Remove), 524_288, Some(Insert(3)), Ok(())),
+    Act::Get(0, None),
+    Act::Get(524_288, Some(3)),
+    Act::Form(0, 3),
+];
+
 #[test]
 fn both_keys_in_one_bucket(rt: HostRuntime) -> Result<(), Fail> {
-    goes(&rt, rt.alloc(), ONE_BUCKET)
+    goes(&rt, rt.alloc(), 100, ONE_BUCKET)?;
+    goes(&rt, rt.alloc(), 100, EIGHT_GHOSTS)
 }
 
 #[test]
 fn keys_in_two_buckets(rt: HostRuntime) -> Result<(), Fail> {
-    goes(&rt, rt.alloc(), TWO_BUCKETS)
+    goes(&rt, rt.alloc(), 100, TWO_BUCKETS)
 }
 
 #[test]
 fn keys_under_two_directory_pages(rt: HostRuntime) -> Result<(), Fail> {
-    goes(&rt, rt.alloc(), TWO_DIRECTORY_PAGES)
+    goes(&rt, rt.alloc(), 100, TWO_DIRECTORY_PAGES)
+}
+
+#[test]
+fn splits_for_either_key(rt: HostRuntime) -> Result<(), Fail> {
+    goes(&rt, rt.alloc(), 47, SPLITS_FOR_THE_LEFT)?;
+    goes(&rt, rt.alloc(), 47, SPLITS_FOR_THE_RIGHT)?;
+    goes(&rt, rt.alloc(), 47, SPLITS_FOR_ONE_KEY)
+}
+
+#[test]
+fn splits_that_move_the_other_key(rt: HostRuntime) -> Result<(), Fail> {
+    goes(&rt, rt.alloc(), 4, THE_SPLIT_MOVES_THE_SECOND_KEY)?;
+    goes(&rt, rt.alloc(), 4, THE_SPLIT_MOVES_THE_FIRST_KEY)
+}
+
+#[test]
+fn splits_for_both_keys(rt: HostRuntime) -> Result<(), Fail> {
+    goes(&rt, rt.alloc(), 59, SPLITS_FOR_BOTH)
+}
+
+#[test]
+fn no_room_for_either_key(rt: HostRuntime) -> Result<(), Fail> {
+    goes(&rt, rt.alloc(), 58, ONE_PAGE_TOO_FEW)?;
+    goes(&rt, rt.alloc(), 46, TOO_FEW_FOR_THE_FIRST)?;
+    goes(&rt, rt.alloc(), 100, ALIKE)
 }
 
 const CALLS: u64 = 2_000;
@@ -237,21 +384,6 @@ fn changed(has: Option<Value>, change: &Option<RecordChange>) -> Option<Value> {
     }
 }
 
-// A record that found no room is added by itself, with a split. Only an insertion finds none.
-fn add_alone(
-    rt: &impl Abort,
-    file: &mut HashFile<Low>,
-    key: u64,
-    has: &mut Option<Value>,
-) -> Result<(), Fail>
-    requires { key < 24 }
-{
-    same_at(&key, has, &None)?;
-    same_at(&key, &insert(rt, file, number_of(key), 5), &true)?;
-    *has = Some(5);
-    Ok(())
-}
-
 // Two different keys, drawn at random.
 fn two_of(state: u64) -> (u64, u64)
     ensures left { result.0 < 24 }
@@ -262,50 +394,46 @@ fn two_of(state: u64) -> (u64, u64)
     (left, (left + 1 + (state >> 40) % (KEYS - 1)) % KEYS)
 }
 
-// Changes two keys drawn at random, beside a list of what each key has. Whether both changes were made.
+// Changes two keys drawn at random, beside a list of what each key has.
 fn change_beside(
     rt: &impl Abort,
     file: &mut HashFile<Low>,
     has: &mut [Option<Value>; 24],
     state: u64,
-) -> Result<bool, Fail> {
+) -> Result<(), Fail> {
     let (left, right) = two_of(state);
     let changes = Changes {
         left: fitting(&has[left as usize], state >> 32),
         right: fitting(&has[right as usize], state >> 44),
     };
     if changes.left.is_none() && changes.right.is_none() {
-        return Ok(true);
+        return Ok(());
     }
     let left_key = account(number_of(left));
     let right_key = account(number_of(right));
-    let told = change_both(rt, file, left_key, right_key, &changes);
-    match told {
-        Ok(()) => {
-            has[left as usize] = changed(has[left as usize], &changes.left);
-            has[right as usize] = changed(has[right as usize], &changes.right);
-        }
-        Err(Side::Left) => add_alone(rt, file, left, &mut has[left as usize])?,
-        Err(Side::Right) => add_alone(rt, file, right, &mut has[right as usize])?,
-    }
+    same_at(
+        &state,
+        &change_both(rt, file, left_key, right_key, &changes),
+        &Ok(()),
+    )?;
+    has[left as usize] = changed(has[left as usize], &changes.left);
+    has[right as usize] = changed(has[right as usize], &changes.right);
     same_at(&left, &file.get(left_key), &has[left as usize])?;
-    same_at(&right, &file.get(right_key), &has[right as usize])?;
-    Ok(told.is_ok())
+    same_at(&right, &file.get(right_key), &has[right as usize])
 }
 
+// Eight groups of three accounts each, which differ in their first three bits: no more than three splits in a row are wanted.
 #[test]
 fn random_changes_beside_a_list(rt: HostRuntime) -> Result<(), Fail> {
-    let limits = Limits::checked(1, 1, 100, 16, 1)?;
+    let limits = Limits::checked(1, 1, 100, 3, 1)?;
     let mut file = HashFile::new(rt.alloc(), &limits, Low)?;
     let mut has = [None; 24];
-    let (mut state, mut was_full) = (1, false);
+    let mut state = 1;
     for _ in 0..CALLS {
         state = next_number(state);
-        if !change_beside(&rt, &mut file, &mut has, state)? {
-            was_full = true;
-        }
+        change_beside(&rt, &mut file, &mut has, state)?;
     }
-    same(&was_full, &true)?;
+    same(&(file.depth() > 0), &true)?;
     has_all(&mut file, &has)
 }
 

@@ -1,3 +1,7 @@
+use Rattle.mlt_held.specs.Views.{view_of}
+use Rattle.mlt_held.proofs.Since.{nothing_written}
+use Rattle.mlt_hash.specs.Walks.{nothing_before}
+use Rattle.mlt_hash_file.proofs.AloneWalks.{more_from_start, stands_at_start}
 use Rattle.std.proofs.Common.{◌≡◌, ◌∙◌, sym, subst}
 use Rattle.std.specs.FinMap as map
 use Rattle.mlt_store.specs.Stores.{PageStore, page_at}
@@ -8,24 +12,30 @@ use Rattle.mlt_hash_file.proofs.AloneEnds.{idle_starts}
 use Rattle.mlt_hash_file.proofs.HashFiles.{file_before, found_is_record, store_stays}
 use Rattle.mlt_hash_file.proofs.hash_file.HashFile.get.Goals as goal
 
-pub find-found-requires-clause-nothing : goal.find-found-requires-clause-nothing
-find-found-requires-clause-nothing g c = idle_starts c.self.inside.runner c.self.invariant.0
-
-pub find-found-requires-clause-file : goal.find-found-requires-clause-file
-find-found-requires-clause-file g c = file_before (g.P.Pseudo.bits_of c.self.inside.root.pseudo) c.self.inside.root.page c.self.inside.root.max_depth c.self.inside.runner c.self.invariant.0 c.self.invariant.1
+pub find-found-requires : goal.find-found-requires
+find-found-requires g c κs within = (
+  within,
+  (
+    more_from_start c.find-walk.result (λ i. (c.find-walk.ensures i).phase),
+    (
+      record { written = nothing_written (view_of c.self.inside.runner); file = file_before (g.P.Pseudo.bits_of c.self.inside.root.pseudo) c.self.inside.root.page c.self.inside.root.max_depth c.self.inside.runner c.self.invariant.0 c.self.invariant.1 },
+      stands_at_start (g.P.Pseudo.bits_of c.self.inside.root.pseudo) c.self.inside.root.page c.self.inside.root.max_depth c.self.inside.runner c.find-walk.result (λ i. (c.find-walk.ensures i).phase) (idle_starts c.self.inside.runner c.self.invariant.0),
+    ),
+  ),
+)
 
 pub invariant_of-self : goal.invariant_of-self
 invariant_of-self g c =
     let bits = g.P.Pseudo.bits_of c.self.inside.root.pseudo in
     let stays : c.end.new.self.store ≡ c.self.inside.runner.store =
-    c.end.ensures.store ∙ store_stays (basis_of bits c.self.inside.root.page c.self.inside.root.max_depth c.self.inside.runner) c.self.inside.runner c.find-found.new.self c.find-walk.result c.find-found.new.walk c.find-found.result c.self.invariant.0 c.find-found.ensures.keeps c.find-found.ensures.alone c.find-found.ensures.arrives in
+    c.end.ensures.store ∙ store_stays (basis_of nothing_before bits c.self.inside.root.page c.self.inside.root.max_depth c.self.inside.runner) c.self.inside.runner c.find-found.new.self c.find-walk.result c.find-found.new.walk c.find-found.result c.self.invariant.0 c.find-found.ensures.keeps c.find-found.ensures.alone c.find-found.ensures.arrives in
     (c.end.ensures.idle, subst (λ (s : PageStore). IsHashFile bits (page_at s.pages) c.self.inside.root.page c.self.inside.root.max_depth) (sym stays) c.self.invariant.1)
 
 pub returns-clause-file : goal.returns-clause-file
 returns-clause-file g c =
     let bits = g.P.Pseudo.bits_of c.self.inside.root.pseudo in
     let stays : c.end.new.self.store ≡ c.self.inside.runner.store =
-    c.end.ensures.store ∙ store_stays (basis_of bits c.self.inside.root.page c.self.inside.root.max_depth c.self.inside.runner) c.self.inside.runner c.find-found.new.self c.find-walk.result c.find-found.new.walk c.find-found.result c.self.invariant.0 c.find-found.ensures.keeps c.find-found.ensures.alone c.find-found.ensures.arrives in
+    c.end.ensures.store ∙ store_stays (basis_of nothing_before bits c.self.inside.root.page c.self.inside.root.max_depth c.self.inside.runner) c.self.inside.runner c.find-found.new.self c.find-walk.result c.find-found.new.walk c.find-found.result c.self.invariant.0 c.find-found.ensures.keeps c.find-found.ensures.alone c.find-found.ensures.arrives in
     subst (λ (s : PageStore). IsHashFile bits (page_at s.pages) c.self.inside.root.page c.self.inside.root.max_depth) (sym stays) c.self.invariant.1
 
 pub returns-clause-value : goal.returns-clause-value
@@ -37,5 +47,5 @@ pub returns-clause-same : goal.returns-clause-same
 returns-clause-same g c =
     let bits = g.P.Pseudo.bits_of c.self.inside.root.pseudo in
     let stays : c.end.new.self.store ≡ c.self.inside.runner.store =
-    c.end.ensures.store ∙ store_stays (basis_of bits c.self.inside.root.page c.self.inside.root.max_depth c.self.inside.runner) c.self.inside.runner c.find-found.new.self c.find-walk.result c.find-found.new.walk c.find-found.result c.self.invariant.0 c.find-found.ensures.keeps c.find-found.ensures.alone c.find-found.ensures.arrives in
+    c.end.ensures.store ∙ store_stays (basis_of nothing_before bits c.self.inside.root.page c.self.inside.root.max_depth c.self.inside.runner) c.self.inside.runner c.find-found.new.self c.find-walk.result c.find-found.new.walk c.find-found.result c.self.invariant.0 c.find-found.ensures.keeps c.find-found.ensures.alone c.find-found.ensures.arrives in
     (λ i. record { pages = (stays i).pages; root = c.self.inside.root.page; max_depth = c.self.inside.root.max_depth; max_pages = (stays i).max_pages; pseudo = c.self.inside.root.pseudo }) ∙ c.self.view_is

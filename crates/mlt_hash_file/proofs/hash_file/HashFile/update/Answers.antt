@@ -1,3 +1,8 @@
+use Rattle.mlt_held.specs.Views.{view_of}
+use Rattle.mlt_held.proofs.Since.{nothing_written}
+use Rattle.mlt_hash.specs.Walks.{nothing_before}
+use Rattle.mlt_hash_file.proofs.AloneWalks.{more_from_start, stands_at_start}
+use Rattle.mlt_hash_file.proofs.AlonePasses.{arrived_stands}
 use Rattle.std.proofs.Common.{◌≡◌, ◌∙◌, IsSome, sym, ap, subst}
 use Rattle.std.specs.FinMap as map
 use Rattle.mlt_store.specs.Stores.{PageStore}
@@ -7,25 +12,40 @@ use Rattle.mlt_hash_file.proofs.AloneWalks.{file_kept}
 use Rattle.mlt_hash_file.proofs.HashFiles.{at_record, file_before, inserts}
 use Rattle.mlt_hash_file.proofs.hash_file.HashFile.update.Goals as goal
 
-pub find-requires-clause-nothing : goal.find-requires-clause-nothing
-find-requires-clause-nothing g c = idle_starts c.self.inside.runner c.self.invariant.0
+pub find-requires : goal.find-requires
+find-requires g c κs within = (
+  within,
+  (
+    more_from_start c.find-walk.result (λ i. (c.find-walk.ensures i).phase),
+    (
+      record { written = nothing_written (view_of c.self.inside.runner); file = file_before (g.P.Pseudo.bits_of c.self.inside.root.pseudo) c.self.inside.root.page c.self.inside.root.max_depth c.self.inside.runner c.self.invariant.0 c.self.invariant.1 },
+      stands_at_start (g.P.Pseudo.bits_of c.self.inside.root.pseudo) c.self.inside.root.page c.self.inside.root.max_depth c.self.inside.runner c.find-walk.result (λ i. (c.find-walk.ensures i).phase) (idle_starts c.self.inside.runner c.self.invariant.0),
+    ),
+  ),
+)
 
-pub find-requires-clause-file : goal.find-requires-clause-file
-find-requires-clause-file g c = file_before (g.P.Pseudo.bits_of c.self.inside.root.pseudo) c.self.inside.root.page c.self.inside.root.max_depth c.self.inside.runner c.self.invariant.0 c.self.invariant.1
-
-pub update-requires-clause-found : goal.update-requires-clause-found
-update-requires-clause-found g c =
-    at_record (g.P.Pseudo.bits_of c.self.inside.root.pseudo) c.self.inside.root.page c.self.inside.root.max_depth c.self.inside.runner c.find.new.self c.find-walk.result c.find.new.walk c.find.result c.self.invariant.0 c.self.invariant.1 c.find.ensures.keeps c.find.ensures.alone c.find.ensures.arrives
-    (subst IsSome (sym (λ i. map.get (live_records ((c.self.view_is i).pages)) ((c.find-walk.ensures i).key))) c.requires.present)
-
-pub update-requires-clause-file : goal.update-requires-clause-file
-update-requires-clause-file g c =
-    let bits = g.P.Pseudo.bits_of c.self.inside.root.pseudo in
-    file_kept bits c.self.inside.root.page c.self.inside.root.max_depth c.self.inside.runner c.find.new.self c.find.ensures.keeps (file_before bits c.self.inside.root.page c.self.inside.root.max_depth c.self.inside.runner c.self.invariant.0 c.self.invariant.1)
+pub update-requires : goal.update-requires
+update-requires g c κs within = (
+  within,
+  (
+    c.find.ensures.arrives.same.mode ∙ (λ i. (c.find-walk.ensures i).mode),
+    (
+      at_record (g.P.Pseudo.bits_of c.self.inside.root.pseudo) c.self.inside.root.page c.self.inside.root.max_depth c.self.inside.runner c.find.new.self c.find-walk.result c.find.new.walk c.find.result c.self.invariant.0 c.self.invariant.1 c.find.ensures.keeps c.find.ensures.alone c.find.ensures.arrives
+          (subst IsSome (sym (λ i. map.get (live_records ((c.self.view_is i).pages)) ((c.find-walk.ensures i).key))) c.requires.present),
+      (
+        record {
+          written = c.find.ensures.written;
+          file = file_kept nothing_before (g.P.Pseudo.bits_of c.self.inside.root.pseudo) c.self.inside.root.page c.self.inside.root.max_depth c.self.inside.runner c.find.new.self c.find.ensures.keeps (file_before (g.P.Pseudo.bits_of c.self.inside.root.pseudo) c.self.inside.root.page c.self.inside.root.max_depth c.self.inside.runner c.self.invariant.0 c.self.invariant.1);
+        },
+        arrived_stands nothing_before (g.P.Pseudo.bits_of c.self.inside.root.pseudo) c.self.inside.root.page c.self.inside.root.max_depth c.self.inside.runner c.find.new.self c.find-walk.result c.find.new.walk c.find.result c.find.ensures.keeps c.find.ensures.arrives,
+      ),
+    ),
+  ),
+)
 
 pub returns-clause-records : goal.returns-clause-records
 returns-clause-records g c =
     let key : c.find.new.walk.key ≡ c.args.key = c.find.ensures.arrives.same.key ∙ (λ i. (c.find-walk.ensures i).key) in
     ap (λ (s : PageStore). live_records s.pages) c.end.ensures.store
-    ∙ inserts (g.P.Pseudo.bits_of c.self.inside.root.pseudo) c.self.inside.root.page c.self.inside.root.max_depth c.self.inside.runner c.find.new.self c.update.new.self c.find.new.walk.key c.self.invariant.0 c.self.invariant.1 c.find.ensures.keeps c.update.ensures.keeps c.args.value c.update.ensures.changes
+    ∙ inserts (g.P.Pseudo.bits_of c.self.inside.root.pseudo) c.self.inside.root.page c.self.inside.root.max_depth c.self.inside.runner c.find.new.self c.update.new.self c.find.new.walk.key c.self.invariant.0 c.self.invariant.1 c.find.ensures.keeps c.in-Changed.ensures.keeps c.args.value c.in-Changed.ensures.tells.changed
     ∙ (λ i. map.insert (live_records ((c.self.view_is i).pages)) (key i) c.args.value)

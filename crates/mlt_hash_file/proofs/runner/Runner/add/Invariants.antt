@@ -1,5 +1,8 @@
-use Rattle.mlt_hash.specs.Walks.{basis_in}
+use Rattle.mlt_hash.specs.Walks.{nothing_before}
 use Rattle.mlt_hash_file.proofs.runner.Runner.add.Given as goal
 
-abbrev pub ghost-insert : goal.ghost-insert
-ghost-insert g a = basis_in g.P.Pseudo.bits_of a.setting.now a.subtx.now.tx
+abbrev pub ghost-find : goal.ghost-find
+ghost-find g a = nothing_before
+
+abbrev pub ghost-put : goal.ghost-put
+ghost-put g a = nothing_before

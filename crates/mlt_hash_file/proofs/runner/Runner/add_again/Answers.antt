@@ -1,7 +1,7 @@
 use Rattle.std.proofs.Common.{subst}
 use Rattle.mlt_hash_file.specs.Alone.{basis_of}
 use Rattle.mlt_hash_file.specs.AloneWalks.{TellsOfPass}
-use Rattle.mlt_hash.specs.Walks.{Basis}
+use Rattle.mlt_hash.specs.Walks.{Basis, nothing_before}
 use Rattle.mlt_hash_file.proofs.AloneEnds.{idle_starts}
 use Rattle.mlt_hash_file.proofs.AlonePasses.{retell}
 use Rattle.mlt_hash_file.proofs.AloneWalks.{file_kept, same_basis}
@@ -11,12 +11,12 @@ pub add-requires-clause-nothing : goal.add-requires-clause-nothing
 add-requires-clause-nothing g c = idle_starts c.roll_back.new.self c.roll_back.ensures.idle
 
 pub add-requires-clause-file : goal.add-requires-clause-file
-add-requires-clause-file g c = file_kept (g.P.Pseudo.bits_of c.args.root.now.pseudo) c.args.root.now.page c.args.root.now.max_depth c.args.self.now c.roll_back.new.self c.roll_back.ensures.keeps c.requires.file
+add-requires-clause-file g c = file_kept nothing_before (g.P.Pseudo.bits_of c.args.root.now.pseudo) c.args.root.now.page c.args.root.now.max_depth c.args.self.now c.roll_back.new.self c.roll_back.ensures.keeps c.requires.file
 
 pub returns-clause-tells : goal.returns-clause-tells
 returns-clause-tells g c =
     let bits = g.P.Pseudo.bits_of c.args.root.now.pseudo in
-    let basis : Basis = basis_of bits c.args.root.now.page c.args.root.now.max_depth c.args.self.now in
+    let basis : Basis = basis_of nothing_before bits c.args.root.now.page c.args.root.now.max_depth c.args.self.now in
     let told : TellsOfPass basis c.add.new.self c.again.new.self c.add.new.walk c.args.value c.add.result =
-    subst (λ (basis : Basis). TellsOfPass basis c.add.new.self c.again.new.self c.add.new.walk c.args.value c.add.result) (same_basis bits c.args.root.now.page c.args.root.now.max_depth c.args.self.now c.roll_back.new.self c.roll_back.ensures.keeps) c.add.ensures.tells in
+    subst (λ (basis : Basis). TellsOfPass basis c.add.new.self c.again.new.self c.add.new.walk c.args.value c.add.result) (same_basis nothing_before bits c.args.root.now.page c.args.root.now.max_depth c.args.self.now c.roll_back.new.self c.roll_back.ensures.keeps) c.add.ensures.tells in
     retell basis c.add.new.self _ c.again.new.self c.add.new.walk c.args.value c.add.result (record { key = λ i. (c.again.ensures i).key; mode = λ i. (c.again.ensures i).mode; pass = λ i. (c.again.ensures i).pass }) told

@@ -1,25 +1,34 @@
+use Rattle.mlt_hash_file.specs.Alone.{basis_of}
+use Rattle.mlt_held.specs.Views.{view_of}
+use Rattle.mlt_held.proofs.Since.{nothing_written}
+use Rattle.mlt_hash.specs.Walks.{nothing_before}
 use Rattle.mlt_hash_file.proofs.Alone.{keeps_both}
 use Rattle.mlt_hash_file.proofs.AloneInsertions.{may_add_now, pass_is_later, splits_are_later, splits_before}
 use Rattle.mlt_hash_file.proofs.AloneWalks.{file_kept}
 use Rattle.mlt_hash_file.proofs.runner.Runner.add_with_splits.Goals as goal
 
-pub split-requires-clause-file : goal.split-requires-clause-file
-split-requires-clause-file g c = file_kept (g.P.Pseudo.bits_of c.args.root.now.pseudo) c.args.root.now.page c.args.root.now.max_depth c.args.self.now c.add_again.new.self c.in-NeedSplit.ensures.keeps c.requires.file
-
-pub split-requires-clause-adds : goal.split-requires-clause-adds
-split-requires-clause-adds g c =
-    may_add_now (g.P.Pseudo.bits_of c.args.root.now.pseudo) c.args.root.now.page c.args.root.now.max_depth c.args.self.now c.add_again.new.self c.add_again.new.walk c.in-NeedSplit.ensures.keeps (c.in-NeedSplit.ensures.tells.later c.requires.later).may
+pub split-requires : goal.split-requires
+split-requires g c κs within = (
+  within,
+  (
+    record {
+      written = nothing_written (view_of c.add_again.new.self);
+      file = file_kept nothing_before (g.P.Pseudo.bits_of c.args.root.now.pseudo) c.args.root.now.page c.args.root.now.max_depth c.args.self.now c.add_again.new.self c.in-NeedSplit.ensures.keeps c.requires.file;
+    },
+    may_add_now nothing_before (g.P.Pseudo.bits_of c.args.root.now.pseudo) c.args.root.now.page c.args.root.now.max_depth c.args.self.now c.add_again.new.self c.add_again.new.walk c.in-NeedSplit.ensures.keeps (c.in-NeedSplit.ensures.tells.later c.requires.later).may,
+  ),
+)
 
 pub returns-in-NeedSplit-clause-keeps : goal.returns-in-NeedSplit-clause-keeps
 returns-in-NeedSplit-clause-keeps g c = keeps_both c.args.self.now c.add_again.new.self c.split.new.self c.in-NeedSplit.ensures.keeps c.split.ensures.keeps
 
 pub returns-in-NeedSplit-clause-tells : goal.returns-in-NeedSplit-clause-tells
 returns-in-NeedSplit-clause-tells g c =
-    let tells = splits_before (g.P.Pseudo.bits_of c.args.root.now.pseudo) c.args.root.now.page c.args.root.now.max_depth c.args.self.now c.add_again.new.self c.split.new.self c.add_again.new.walk.key _ _ c.split.result c.in-NeedSplit.ensures.keeps c.split.ensures.tells in
-    splits_are_later _ c.add_again.new.self c.split.new.self _ c.add_again.new.walk c.split.new.walk c.args.value c.split.result c.split.ensures.keeps c.in-NeedSplit.ensures.tells c.requires.later tells
+    let tells = splits_before nothing_before (g.P.Pseudo.bits_of c.args.root.now.pseudo) c.args.root.now.page c.args.root.now.max_depth c.args.self.now c.add_again.new.self c.split.new.self c.add_again.new.walk c.split.new.walk _ _ c.split.result c.in-NeedSplit.ensures.keeps c.split.ensures.tells in
+    splits_are_later (basis_of nothing_before (g.P.Pseudo.bits_of c.args.root.now.pseudo) c.args.root.now.page c.args.root.now.max_depth c.args.self.now) c.add_again.new.self c.split.new.self _ c.add_again.new.walk c.split.new.walk c.args.value c.split.result c.split.ensures.keeps c.in-NeedSplit.ensures.tells c.requires.later tells
 
 pub returns-in_default : goal.returns-in_default
 returns-in_default g c = record {
   keeps = c.add_again.ensures.keeps;
-  tells = pass_is_later _ c.add_again.new.self _ c.add_again.new.walk c.args.value c.add_again.result c.in_default.not-NeedSplit c.add_again.ensures.tells;
+  tells = pass_is_later (basis_of nothing_before (g.P.Pseudo.bits_of c.args.root.now.pseudo) c.args.root.now.page c.args.root.now.max_depth c.args.self.now) c.add_again.new.self _ c.add_again.new.walk c.args.value c.add_again.result c.in_default.not-NeedSplit c.add_again.ensures.tells;
 }

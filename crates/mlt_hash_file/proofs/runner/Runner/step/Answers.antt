@@ -1,15 +1,15 @@
 use Rattle.mlt_held.specs.Moments.{moment}
 use Rattle.std.proofs.Common.{refl, subst}
 use Rattle.mlt_hash_file.specs.Alone.{IsAlone}
-use Rattle.mlt_hash_file.proofs.Alone.{alone_after_step, step_keeps_before}
+use Rattle.mlt_hash_file.proofs.Alone.{alone_after_step, step_keeps_before, written_after}
 use Rattle.mlt_hash_file.proofs.AloneSteps.{goes}
 use Rattle.mlt_hash_file.proofs.AloneChanges.{may_walk_alone}
 use Rattle.mlt_hash_file.proofs.runner.Runner.step.Goals as goal
 
 pub advance-requires : goal.advance-requires
 advance-requires g c κs within =
-    let ready = may_walk_alone (g.P.Pseudo.bits_of c.args.root.now.pseudo) c.self.inside.opens c.args.root.now.page c.args.root.now.max_depth (moment c.self.inside.subtx c.self.inside.pages) c.args.self.now c.args.walk.now c.self.invariant.1 c.self.view_is c.self.invariant.0 c.requires.file c.requires.stands in
-    (within, (refl, (c.requires.under_way, ready)))
+    let ready = may_walk_alone g.since (g.P.Pseudo.bits_of c.args.root.now.pseudo) c.self.inside.opens c.args.root.now.page c.args.root.now.max_depth (moment c.self.inside.subtx c.self.inside.pages) c.args.self.now c.args.walk.now c.self.invariant.1 c.self.view_is c.self.invariant.0 c.requires.1.1.0.written c.requires.1.1.0.file c.requires.1.1.1 in
+    (within, (refl, (c.requires.1.0, ready)))
 
 pub invariant_of-self : goal.invariant_of-self
 invariant_of-self g c = (
@@ -20,6 +20,10 @@ invariant_of-self g c = (
 pub returns-clause-keeps : goal.returns-clause-keeps
 returns-clause-keeps g c =
     step_keeps_before (moment c.self.inside.subtx c.self.inside.pages) c.args.self.now (moment c.advance.new.subtx c.advance.new.pages) c.self.view_is c.self.invariant.0 c.advance.ensures.leaves.may c.advance.ensures.leaves.clean c.advance.ensures.leaves.touches
+
+pub returns-clause-written : goal.returns-clause-written
+returns-clause-written g c =
+    written_after g.since.written (moment c.self.inside.subtx c.self.inside.pages) c.args.self.now (moment c.advance.new.subtx c.advance.new.pages) c.self.view_is c.self.invariant.0.may c.advance.ensures.leaves.touches c.requires.1.1.0.written
 
 pub returns-clause-goes : goal.returns-clause-goes
 returns-clause-goes g c = goes c.args.walk.now.phase _ (moment c.self.inside.subtx c.self.inside.pages) (moment c.advance.new.subtx c.advance.new.pages) c.args.walk.now c.advance.new.self c.advance.result c.self.invariant.0 c.advance.ensures.tells

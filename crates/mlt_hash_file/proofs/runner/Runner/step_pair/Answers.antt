@@ -1,6 +1,7 @@
 use Rattle.std.proofs.Common.{subst, sym}
 use Rattle.mlt_held.specs.Moments.{Moment, moment}
 use Rattle.mlt_held.specs.Views.{view_of}
+use Rattle.mlt_hash.specs.Walks.{nothing_before}
 use Rattle.mlt_pair.specs.Pairs.{IsFinding}
 use Rattle.mlt_hash_file.specs.Alone.{pages_before}
 use Rattle.mlt_hash_file.specs.AloneWalks.{IsHashFile}
@@ -17,7 +18,7 @@ advance-requires-clause-ready g c =
     record {
       bounded = c.requires.file.bounded;
       may = c.self.invariant.0.may;
-      file = clean_file bits c.args.root.now.page c.args.root.now.max_depth old c.self.invariant.0.may file;
+      file = clean_file nothing_before bits c.args.root.now.page c.args.root.now.max_depth old c.self.invariant.0.may file;
       finding = subst (λ (m : Moment). IsFinding bits c.args.root.now.page c.args.pair.now (view_of m)) (sym c.self.view_is) c.requires.finding;
     }
 

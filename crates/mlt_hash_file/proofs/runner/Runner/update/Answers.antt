@@ -1,7 +1,7 @@
 use Rattle.mlt_held.specs.Moments.{moment}
 use Rattle.std.proofs.Common.{refl}
 use Rattle.mlt_hash.specs.Changes.{MayChange, page_of}
-use Rattle.mlt_hash.specs.Walks.{basis_by}
+use Rattle.mlt_hash.specs.Walks.{basis_after, basis_by}
 use Rattle.mlt_hash.specs.declared.pass.Change.TheVariants as change
 use Rattle.mlt_hash_file.proofs.Alone.{alone_after_write, write_keeps_before}
 use Rattle.mlt_hash_file.proofs.AloneChanges.{change_alone, may_walk_alone, writes_at_most}
@@ -9,10 +9,10 @@ use Rattle.mlt_hash_file.proofs.runner.Runner.update.Given.{Over}
 use Rattle.mlt_hash_file.proofs.runner.Runner.update.Goals.{After-update-arg-3-1}
 use Rattle.mlt_hash_file.proofs.runner.Runner.update.Goals as goal
 
-may : (g : Over) (c : After-update-arg-3-1 g) → MayChange (basis_by g.P.Pseudo.bits_of c.args.root.now c.self.inside.opens c.self.inside.subtx.tx) (moment c.self.inside.subtx c.self.inside.pages) c.args.walk.now
+may : (g : Over) (c : After-update-arg-3-1 g) → MayChange (basis_after g.since (basis_by g.P.Pseudo.bits_of c.args.root.now c.self.inside.opens c.self.inside.subtx.tx)) (moment c.self.inside.subtx c.self.inside.pages) c.args.walk.now
 may g c = record {
-  walks = may_walk_alone (g.P.Pseudo.bits_of c.args.root.now.pseudo) c.self.inside.opens c.args.root.now.page c.args.root.now.max_depth (moment c.self.inside.subtx c.self.inside.pages) c.args.self.now c.args.walk.now c.self.invariant.1 c.self.view_is c.self.invariant.0 c.requires.file c.requires.stands;
-  exclusive = c.requires.mode;
+  walks = may_walk_alone g.since (g.P.Pseudo.bits_of c.args.root.now.pseudo) c.self.inside.opens c.args.root.now.page c.args.root.now.max_depth (moment c.self.inside.subtx c.self.inside.pages) c.args.self.now c.args.walk.now c.self.invariant.1 c.self.view_is c.self.invariant.0 c.requires.1.1.1.0.written c.requires.1.1.1.0.file c.requires.1.1.1.1;
+  exclusive = c.requires.1.0;
 }
 
 pub update-requires-clause-ready : goal.update-requires-clause-ready
@@ -28,7 +28,8 @@ pub returns-clause-keeps : goal.returns-clause-keeps
 returns-clause-keeps g c =
     write_keeps_before (moment c.self.inside.subtx c.self.inside.pages) c.args.self.now (moment c.update.new.subtx c.update.new.pages) (page_of c.args.walk.now.phase) c.self.view_is c.self.invariant.0 c.update.ensures.leaves.may c.update.ensures.leaves.clean (writes_at_most _ _ _ c.update.result c.update.ensures.writes)
 
-pub returns-clause-changes : goal.returns-clause-changes
-returns-clause-changes g c =
-    change_alone (g.P.Pseudo.bits_of c.args.root.now.pseudo) c.self.inside.opens c.args.root.now.page c.args.root.now.max_depth (moment c.self.inside.subtx c.self.inside.pages) c.args.self.now (moment c.update.new.subtx c.update.new.pages)
-    c.args.walk.now c.update.new.self (change.Set c.args.value) c.update.result c.self.invariant.1 c.self.view_is c.self.invariant.0 c.requires.found c.requires.file c.requires.stands c.update.ensures.leaves.may c.update.ensures.leaves.clean (writes_at_most _ _ _ c.update.result c.update.ensures.writes) (c.update.ensures.tells _ refl (may g c.before))
+pub returns-clause-tells : goal.returns-clause-tells
+returns-clause-tells g c =
+    change_alone g.since (g.P.Pseudo.bits_of c.args.root.now.pseudo) c.self.inside.opens c.args.root.now.page c.args.root.now.max_depth (moment c.self.inside.subtx c.self.inside.pages) c.args.self.now (moment c.update.new.subtx c.update.new.pages) c.args.walk.now c.update.new.self (change.Set c.args.value) c.update.result
+    c.self.invariant.1 c.self.view_is c.self.invariant.0 c.requires.1.1.0 c.requires.1.1.1.0.written c.requires.1.1.1.0.file c.requires.1.1.1.1
+    c.update.ensures.leaves.may c.update.ensures.leaves.clean c.update.ensures.leaves.touches (writes_at_most _ _ _ c.update.result c.update.ensures.writes) (c.update.ensures.tells _ refl (may g c.before))

@@ -1,0 +1,8 @@
+use Rattle.mlt_hash.specs.Walks.{nothing_before}
+use Rattle.mlt_hash_file.proofs.hash_file.HashFile.update.Given as goal
+
+abbrev pub ghost-find : goal.ghost-find
+ghost-find g a = nothing_before
+
+abbrev pub ghost-update : goal.ghost-update
+ghost-update g a = nothing_before
