@@ -14,4 +14,5 @@ pub mod Splittings
 pub mod Standing
 pub mod Standings
 pub mod StepsLeft
+pub mod Stood
 pub mod Turning

@@ -25,11 +25,11 @@ use Rattle.mlt_hash.specs.declared.pass.Phase.TheVariants as at
 use Rattle.mlt_hash.proofs.Passed.{read_as}
 use Rattle.mlt_hash.proofs.Standing.{at_bucket_for, headed_for, placed_for}
 
-seen_as : (seen : Option (Option Page)) → is_some seen ≡ true → (p : Option Page) × (seen ≡ Some p)
+pub seen_as : (seen : Option (Option Page)) → is_some seen ≡ true → (p : Option Page) × (seen ≡ Some p)
 seen_as None held = absurd (false≢true held)
 seen_as (Some p) held = (p, refl)
 
-kept_is_used : (opens : set.FinSet nat_cmp) (slot : Slot) → is_kept opens slot ≡ true → is_used slot ≡ true
+pub kept_is_used : (opens : set.FinSet nat_cmp) (slot : Slot) → is_kept opens slot ≡ true → is_used slot ≡ true
 kept_is_used opens Free kept = absurd (false≢true kept)
 kept_is_used opens (Live key value) kept = refl
 kept_is_used opens (Ghost key value owner) kept = refl

@@ -9,8 +9,10 @@ use Rattle.mlt_page.specs.declared.page.Page.TheVariants as page
 use Rattle.mlt_page_locks.specs.LockTables.{Modes, can_read}
 use Rattle.mlt_page_locks.specs.Requests.{with_page}
 use Rattle.mlt_page_locks.proofs.Maps.{same_entries}
-use Rattle.mlt_hash_form.specs.File.{dir_of, header_of, row_of}
-use Rattle.mlt_hash_form.specs.Held.{Agrees, over}
+use Rattle.mlt_page.specs.declared.slot.Slot.{Slot}
+use Rattle.mlt_hash_form.specs.File.{buckets_of, dir_of, header_of, row_of}
+use Rattle.mlt_hash_form.specs.Form.{is_used, slot_at}
+use Rattle.mlt_hash_form.specs.Held.{Agrees, over, own_or}
 use Rattle.mlt_held.specs.Moments.{Moment}
 use Rattle.mlt_held.specs.Views.{ReadsHeldPage, view_of, view_over}
 use Rattle.mlt_held.proofs.Since.{all_written, nothing_since, read_is_seen}
@@ -19,8 +21,8 @@ use Rattle.mlt_split.specs.Rests.{held_page}
 use Rattle.mlt_split.proofs.Closing.{held_page_over}
 use Rattle.mlt_split.proofs.HeldPages.{reads_as, same_header}
 use Rattle.mlt_split.proofs.Later.{stronger_exclusive}
-use Rattle.mlt_hash.specs.Passes.{header_held, header_mode}
-use Rattle.mlt_hash.specs.Walks.{Basis, Before, GoesAfter, HoldsBeside, IsChanged, IsHeaded, MayWalk, Stands, WalkFields, basis_after, before_of, nothing_before, one_key}
+use Rattle.mlt_hash.specs.Passes.{header_held, header_mode, slot_after}
+use Rattle.mlt_hash.specs.Walks.{Basis, Before, GoesAfter, HoldsBeside, IsChanged, IsHeaded, IsOwnSlot, MayWalk, SlotsStood, Stands, WalkFields, basis_after, before_of, nothing_before, one_key, slot_on}
 use Rattle.mlt_hash.specs.Changes.{IsChangedPhase}
 use Rattle.mlt_hash.specs.declared.pass.Change.{Change}
 use Rattle.mlt_hash.specs.declared.pass.Pass.{Pass}
@@ -28,6 +30,8 @@ use Rattle.mlt_hash.specs.declared.pass.Pass.TheVariants as pass
 use Rattle.mlt_hash.specs.declared.pass.Phase.{Phase}
 use Rattle.mlt_hash.specs.declared.pass.Phase.TheVariants as at
 use Rattle.mlt_hash.proofs.Beside.{still_beside}
+use Rattle.mlt_hash.proofs.Owners.{seen_as}
+use Rattle.mlt_hash.proofs.Stood.{own_after, slot_cases}
 
 -- where it stands
 changed_at : (phase : Phase) (basis : Basis) (walk : WalkFields) (m : Moment) → IsChangedPhase phase → Stands phase (one_key basis) walk (view_of m) → (bucket : ℕ) × (done : Change) × IsChanged (one_key basis) walk (view_of m) bucket done
@@ -55,6 +59,26 @@ module _ (basis : Basis) (walk : WalkFields) (m : Moment) (first : basis.before 
   -- it holds the header,
   root_is_exclusive : map.get (view_of m).modes basis.root ≡ Some Exclusive
   root_is_exclusive = changed.2.holds.on_header ∙ ap (λ p. Some (header_mode p)) wide
+
+  clean_agrees : Agrees (view_of m).seen ready.file.clean
+  clean_agrees = agrees m ready.file.clean ready.may ready.file.is_clean
+
+  -- each slot that it wrote is its own, or stood on a page that it has seen,
+  pub slots_stood : SlotsStood (view_of m).own basis.tx (view_of m)
+  slots_stood n p written i used =
+      let clean : ℕ → Option Page = ready.file.clean in
+      let own : ℕ → Option Page = (view_of m).own in
+      let rest : ℕ → Option Page = changed.2.rest in
+      let s : Slot = slot_after changed.1 walk.key basis.tx in
+      let there : slot_at (buckets_of (over clean own)) n i ≡ slot_on (Some p) i = ap (λ o. slot_on (own_or o (clean n)) i) written in
+      elim (slot_cases (buckets_of (over clean rest)) (buckets_of (over clean own)) changed.0 changed.2.slot s (changed.2.changes.changes clean clean_agrees ready.file.form).sets n i) [
+        | inl new ↦ inl (subst (IsOwnSlot basis.tx) (sym new ∙ there) (own_after changed.1 walk.key basis.tx))
+        | inr old ↦
+            let stood = (changed.2.changes.keeps clean clean_agrees ready.file.form).stood n i (ap is_used (sym old ∙ there) ∙ used) in
+            let held : is_some ((view_of m).seen stood.0) ≡ true = elim stood.2 [ inl same ↦ ap (λ q. is_some ((view_of m).seen q)) same ∙ (all_written m ready.may n (ap is_some written)).0 | inr other ↦ other ] in
+            let seen = seen_as ((view_of m).seen stood.0) held in
+            inr (stood.0, seen.0, seen.1, ap (λ (q : Option Page). slot_on q i) (sym (clean_agrees stood.0 seen.0 seen.1)) ∙ stood.1 ∙ sym old ∙ there)
+      ]
 
   pub may_read_header : can_read m.locks m.running.tx basis.root ≡ true
   may_read_header = may_read m basis.root Exclusive root_is_exclusive

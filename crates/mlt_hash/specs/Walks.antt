@@ -1,6 +1,6 @@
 -- Where a walk stands, by its phase: which pages it holds, and what it has read of them. Each fact is about these pages
 -- alone, so that what other transactions do can't touch it.
-use Rattle.std.specs.Prelude.{ℕ, ◌≡◌, ◌≢◌, ◌<◌, ◌≤◌, ◌+◌, ◌-◌, ◌^◌, Bool, IsSome, true, false, List, slice_index, slice_index_or, Option, Some, None, is_some, position}
+use Rattle.std.specs.Prelude.{ℕ, ◌≡◌, ◌≢◌, ◌⊎◌, ◌<◌, ◌≤◌, ◌+◌, ◌-◌, ◌^◌, Bool, IsSome, true, false, List, slice_index, slice_index_or, Option, Some, None, is_some, position}
 use Rattle.std.specs.Ordering.{nat_cmp}
 use Rattle.std.specs.FinMap as map
 use Rattle.std.specs.FinSet as set
@@ -8,12 +8,12 @@ use Rattle.mlt_types.specs.declared.mode.Mode.{Mode}
 use Rattle.mlt_types.specs.declared.mode.Mode.TheVariants.{Exclusive}
 use Rattle.mlt_page.specs.Slots.{is_ghost_of, is_kept, is_live_of}
 use Rattle.mlt_page.specs.declared.slot.Slot.{Slot}
-use Rattle.mlt_page.specs.declared.slot.Slot.TheVariants.{Free}
+use Rattle.mlt_page.specs.declared.slot.Slot.TheVariants.{Free, Ghost, Live}
 use Rattle.mlt_page.specs.declared.page.Page.{Page}
 use Rattle.mlt_page.specs.declared.page.Page.TheVariants as page
 use Rattle.mlt_page.specs.Values.{BucketFields, HeadFields}
-use Rattle.mlt_hash_form.specs.Form.{value_in}
-use Rattle.mlt_hash_form.specs.File.{FilePages, HasForm, depth_of, dir_of, row_of}
+use Rattle.mlt_hash_form.specs.Form.{is_used, value_in}
+use Rattle.mlt_hash_form.specs.File.{FilePages, HasForm, bucket_of, depth_of, dir_of, row_of}
 use Rattle.mlt_hash_form.specs.Changes.{IsHome, slot_change}
 use Rattle.mlt_hash_form.specs.Held.{Agrees, ChangesFile, over}
 use Rattle.mlt_hash_form.specs.declared.root.Root.{Root}
@@ -54,6 +54,26 @@ nothing_before = record { written = no_writes; held = map.empty; buckets = 0 }
 -- All that it has done for its first key. One key has 17 buckets at most: the first one, and one of each split.
 abbrev pub before_of : View → Before
 before_of view = record { written = view.own; held = view.modes; buckets = 17 }
+
+-- a record, or a ghost that this transaction left
+abbrev pub IsOwnSlot : ℕ → Slot → Type 0
+IsOwnSlot tx Free = ⊥
+IsOwnSlot tx (Live key value) = Unit {0}
+IsOwnSlot tx (Ghost key value owner) = owner ≡ tx
+
+-- slot i of a page, which is free where that is no bucket
+abbrev pub slot_on : Option Page → ℕ → Slot
+slot_on page i = slice_index_or (bucket_of page).slots i Free
+
+-- Each slot of a page that was written is free; or it has a record, or a ghost of the transaction's own; or what it has stood at
+-- the same place of a page that was seen.
+abbrev pub SlotsStood : FilePages → ℕ → View → Type 0
+SlotsStood written tx view =
+    (n : ℕ) (page : Page) → written n ≡ Some page
+    → (i : ℕ) → is_used (slot_on (Some page) i) ≡ true
+    → IsOwnSlot tx (slot_on (Some page) i)
+    ⊎ ((o : ℕ) × (first : Option Page) × (view.seen o ≡ Some first)
+    × (slot_on first i ≡ slot_on (Some page) i))
 
 -- what a walk goes by: the function of keys, who is open, the header's page, how deep the directory may get, whose
 -- walk it is, and what it did before

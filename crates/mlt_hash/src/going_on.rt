@@ -3,7 +3,7 @@
 ghost use Rattle.std.specs.Prelude.{◌≡◌, ℕ, None};
 ghost use Rattle.mlt_held.specs.Moments.{moment};
 ghost use Rattle.mlt_held.specs.Views.{view_of};
-ghost use Rattle.mlt_hash.specs.Walks.{Basis, MayWalk, basis_after, before_of, nothing_before};
+ghost use Rattle.mlt_hash.specs.Walks.{Basis, MayWalk, SlotsStood, basis_after, before_of, nothing_before};
 ghost use Rattle.mlt_hash.specs.Changes.{IsChangedPhase};
 ghost use Rattle.mlt_hash.specs.declared.pass.Pass.TheVariants as pass;
 
@@ -42,6 +42,8 @@ impl Walk {
             }) }
         ensures ready { let m = moment subtx.now pages.now in
             MayWalk (basis_after (before_of (view_of m)) basis) m self.new }
+        ensures stood { let m = moment subtx.now pages.now in
+            SlotsStood (view_of m).own basis.tx (view_of m) }
     {
         let Page::Head(header) = read_held(subtx, pages, root.page) else {
             unreachable!()

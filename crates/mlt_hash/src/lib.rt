@@ -19,8 +19,8 @@ pub use opening::open_file;
 pub use pass::{Change, Pass, Phase};
 pub use walk::Walk;
 pub use walk_laws::{
-    closed_owners_keep_the_walk, each_step_leaves_one_fewer, narrow_passes_hold_their_next_page,
-    narrow_passes_never_wait, same_view_keeps_the_walk, walk_at_its_bucket_has_passed,
-    walk_starts_without_pages, walks_hold_fewer_than_300_pages, what_is_found_is_there,
-    what_was_found_stays_there,
+    closed_owners_keep_the_walk, closed_owners_keep_what_was_written, each_step_leaves_one_fewer,
+    narrow_passes_hold_their_next_page, narrow_passes_never_wait, same_view_keeps_the_walk,
+    walk_at_its_bucket_has_passed, walk_starts_without_pages, walks_hold_fewer_than_300_pages,
+    what_is_found_is_there, what_was_found_stays_there,
 };

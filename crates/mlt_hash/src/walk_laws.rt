@@ -1,19 +1,19 @@
 //! What a walk knows, whatever other transactions do.
 
-ghost use Rattle.std.specs.Prelude.{ℕ, ◌≡◌, ◌<◌, ◌+◌, Option, Some};
+ghost use Rattle.std.specs.Prelude.{ℕ, ◌≡◌, ◌<◌, ◌+◌, Option, Some, true};
 ghost use Rattle.std.specs.Ordering.{nat_cmp};
 ghost use Rattle.std.specs.FinMap as map;
 ghost use Rattle.std.specs.FinSet as set;
 ghost use Rattle.mlt_types.specs.declared.mode.Mode.TheVariants.{Exclusive};
 ghost use Rattle.mlt_page.specs.declared.page.Page.{Page};
 ghost use Rattle.mlt_page_locks.specs.LockTables.{pages_of};
-ghost use Rattle.mlt_hash_form.specs.File.{HasForm, look_up};
+ghost use Rattle.mlt_hash_form.specs.File.{FilePages, HasForm, look_up};
 ghost use Rattle.mlt_hash_form.specs.Held.{Agrees};
 ghost use Rattle.mlt_held.specs.Moments.{MayStep, Moment};
-ghost use Rattle.mlt_held.specs.Views.{View, view_of};
+ghost use Rattle.mlt_held.specs.Views.{View, rebased, view_of};
 ghost use Rattle.mlt_split.specs.Rests.{KeepsNoMore};
 ghost use Rattle.mlt_split.specs.Steps.{IsNextPage};
-ghost use Rattle.mlt_hash.specs.Walks.{Basis, HasRead, HoldsByPass, IsAtBucket, IsAtStart, IsSplitting, IsStanding, WalkFields, aim_of, view_for};
+ghost use Rattle.mlt_hash.specs.Walks.{Basis, HasRead, HoldsByPass, IsAtBucket, IsAtStart, IsSplitting, IsStanding, SlotsStood, WalkFields, aim_of, view_for};
 ghost use Rattle.mlt_hash.specs.Splitting.{TellsAt, TellsOfSplitting, WalkStep};
 ghost use Rattle.mlt_hash.specs.StepsLeft.{IsPutting, steps_to_put};
 ghost use Rattle.mlt_hash.specs.declared.answer.WalkAnswer.TheVariants as answer;
@@ -42,6 +42,19 @@ pub fn closed_owners_keep_the_walk()
         → IsStanding basis walk view → KeepsNoMore basis.opens fewer view
         → Agrees view.seen clean → HasForm basis.bits clean basis.root
         → IsStanding (record basis { opens = fewer }) walk view }
+{}
+
+/// So it does over what it wrote for its first key: on these pages no more slots are kept than before, as long as its own
+/// transaction is open.
+pub fn closed_owners_keep_what_was_written()
+    ensures stood { (written : FilePages) (tx : ℕ) (old new : View)
+        → SlotsStood written tx old
+        → ((q : ℕ) (p : Option Page) → old.seen q ≡ Some p → new.seen q ≡ Some p)
+        → SlotsStood written tx new }
+    ensures no_more { (written : FilePages) (tx : ℕ) (opens fewer : set.FinSet nat_cmp)
+        (view : View)
+        → SlotsStood written tx view → set.contains opens tx ≡ true
+        → KeepsNoMore opens fewer view → KeepsNoMore opens fewer (rebased written view) }
 {}
 
 /// So do other transactions that change nothing of what the walk holds.

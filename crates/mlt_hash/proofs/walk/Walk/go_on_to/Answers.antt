@@ -9,7 +9,7 @@ use Rattle.mlt_held.specs.Moments.{Moment, moment}
 use Rattle.mlt_held.specs.Views.{ReadsHeldPage, view_of}
 use Rattle.mlt_hash.specs.Walks.{MayWalk, WalkFields, basis_after, before_of}
 use Rattle.mlt_hash.specs.declared.pass.Phase.TheVariants as at
-use Rattle.mlt_hash.proofs.Turning.{goes_on, may_read_header, reads_header, small}
+use Rattle.mlt_hash.proofs.Turning.{goes_on, may_read_header, reads_header, slots_stood, small}
 use Rattle.mlt_hash.proofs.walk.Walk.go_on_to.Goals as goal
 
 pub read_held-requires-clause-held : goal.read_held-requires-clause-held
@@ -43,3 +43,6 @@ returns-clause-ready g c =
     (c.dir.ensures ∙ ap (λ (h : HeadFields). slice_index h.dirs c.of-place.result.dir) (sym c.header.view_is) ∙ ap (slice_index c.header.inside.dirs) c.of-place.ensures.dir ∙ ap (λ x. slice_index c.header.inside.dirs (first_bits c.header.inside.depth x / 256)) bits)
     (c.of-place.ensures.entry ∙ ap (λ x. first_bits c.header.inside.depth x % 256) bits) refl in
     subst (λ (w : WalkFields). MayWalk (basis_after (before_of (view_of m)) g.basis) m w) (sym (ap (λ (w : WalkFields). record w { key = c.args.key; mode = Exclusive; phase = at.Headed c.dir.result c.of-place.result.entry c.header.inside.depth; split = None }) c.self.view_is)) on
+
+pub returns-clause-stood : goal.returns-clause-stood
+returns-clause-stood g c = slots_stood g.basis c.args.self.now (moment c.args.subtx.now c.args.pages.now) c.requires.1.1.1.0 c.requires.1.1.1.1.0 c.requires.1.1.1.1.1.0 c.requires.1.1.1.1.1.1

@@ -1,0 +1,71 @@
+-- What stood in the slots that a wide pass wrote for its first key, and whose room is kept once owners of ghosts close
+use Rattle.std.proofs.Common.{◌≡◌, ◌⊎◌, ℕ, zero, suc, true, slice_index_or, slice_set, List, [], ◌∷◌, Option, None, Some, refl, sym, ap, subst, ◌∙◌, inl, inr}
+use Rattle.std.specs.Ordering.{nat_cmp}
+use Rattle.std.specs.FinSet as set
+use Rattle.std.proofs.lemmas.Bool.{cases_eq}
+use Rattle.mlt_page.specs.Slots.{is_kept}
+use Rattle.mlt_page.specs.declared.slot.Slot.{Slot}
+use Rattle.mlt_page.specs.declared.slot.Slot.TheVariants.{Free, Ghost, Live}
+use Rattle.mlt_page.specs.declared.page.Page.{Page}
+use Rattle.mlt_page.specs.Values.{BucketFields}
+use Rattle.mlt_hash_form.specs.File.{FilePages}
+use Rattle.mlt_hash_form.specs.Form.{SetsOneSlot, slot_at}
+use Rattle.mlt_held.specs.Views.{View, rebased, seen_with}
+use Rattle.mlt_split.specs.Rests.{KeepsNoMore}
+use Rattle.mlt_hash.specs.Passes.{slot_after}
+use Rattle.mlt_hash.specs.Walks.{IsOwnSlot, SlotsStood, slot_on}
+use Rattle.mlt_hash.specs.declared.pass.Change.{Change}
+use Rattle.mlt_hash.specs.declared.pass.Change.TheVariants as change
+use Rattle.mlt_hash.proofs.Owners.{kept_is_used}
+
+-- a slot of a list in which one was set is that one's new content, or as before
+set_cases : (slots : List Slot) (i j : ℕ) (s : Slot) → (slice_index_or (slice_set slots i s) j Free ≡ s) ⊎ (slice_index_or (slice_set slots i s) j Free ≡ slice_index_or slots j Free)
+set_cases [] i j s = inr refl
+set_cases (slot ∷ slots) zero zero s = inl refl
+set_cases (slot ∷ slots) zero (suc j) s = inr refl
+set_cases (slot ∷ slots) (suc i) zero s = inr refl
+set_cases (slot ∷ slots) (suc i) (suc j) s = set_cases slots i j s
+
+pub slot_cases : (buckets buckets' : ℕ → BucketFields) (n i : ℕ) (s : Slot) → SetsOneSlot buckets buckets' n i s → (m j : ℕ) → (slot_at buckets' m j ≡ s) ⊎ (slot_at buckets' m j ≡ slot_at buckets m j)
+slot_cases buckets buckets' n i s sets m j =
+    elim (cases_eq m n) [
+      | inl here ↦
+          let slots : slot_at buckets' m j ≡ slice_index_or (slice_set (buckets n).slots i s) j Free = ap (λ k. slot_at buckets' k j) here ∙ ap (λ slots. slice_index_or slots j Free) sets.slots in
+          elim (set_cases (buckets n).slots i j s) [ inl new ↦ inl (slots ∙ new) | inr old ↦ inr (slots ∙ old ∙ ap (λ k. slot_at buckets k j) (sym here)) ]
+      | inr elsewhere ↦ inr (ap (λ (b : BucketFields). slice_index_or b.slots j Free) (sets.others m elsewhere))
+    ]
+
+-- what a change leaves in its slot is the transaction's own
+pub own_after : (done : Change) (key tx : ℕ) → IsOwnSlot tx (slot_after done key tx)
+own_after (change.Put value) key tx = tt
+own_after (change.Revive value) key tx = tt
+own_after (change.Set value) key tx = tt
+own_after change.Remove key tx = refl
+
+-- and its room is kept as long as the transaction is open
+own_is_kept : (opens : set.FinSet nat_cmp) (tx : ℕ) (slot : Slot) → set.contains opens tx ≡ true → IsOwnSlot tx slot → is_kept opens slot ≡ true
+own_is_kept opens tx Free is_open own = absurd own
+own_is_kept opens tx (Live key value) is_open own = refl
+own_is_kept opens tx (Ghost key value owner) is_open own = ap (set.contains opens) own ∙ is_open
+
+-- what stood on pages that were seen still did once more is seen
+pub still_stood : (written : FilePages) (tx : ℕ) (old new : View) → SlotsStood written tx old → ((q : ℕ) (p : Option Page) → old.seen q ≡ Some p → new.seen q ≡ Some p) → SlotsStood written tx new
+still_stood written tx old new stood more n p is i used = elim (stood n p is i used) [ inl own ↦ inl own | inr was ↦ inr (was.0, was.1, more was.0 was.1 was.2, was.3) ]
+
+module _ (written : FilePages) (tx : ℕ) (opens fewer : set.FinSet nat_cmp) (view : View) (stood : SlotsStood written tx view) (is_open : set.contains opens tx ≡ true) (no_more : KeepsNoMore opens fewer view) where
+  kept_on : (n : ℕ) (page : Page) (i : ℕ) → written n ≡ Some page → is_kept fewer (slot_on (Some page) i) ≡ true → is_kept opens (slot_on (Some page) i) ≡ true
+  kept_on n page i is kept =
+      elim (stood n page is i (kept_is_used fewer (slot_on (Some page) i) kept)) [
+        | inl own ↦ own_is_kept opens tx (slot_on (Some page) i) is_open own
+        | inr was ↦ ap (is_kept opens) (sym was.3) ∙ no_more was.0 was.1 was.2 i (ap (is_kept fewer) was.3 ∙ kept)
+      ]
+
+  kept_at : (n : ℕ) (p : Option Page) (i : ℕ) (w : Option Page) → written n ≡ w → seen_with w (view.seen n) ≡ Some p → is_kept fewer (slot_on p i) ≡ true → is_kept opens (slot_on p i) ≡ true
+  kept_at n p i None is sees kept = no_more n p sees i kept
+  kept_at n p i (Some page) is sees kept =
+      let same : p ≡ Some page = (let both : Some p ≡ Some (Some page) = sym sees in cc) in
+      subst (λ (q : Option Page). is_kept opens (slot_on q i) ≡ true) (sym same) (kept_on n page i is (subst (λ (q : Option Page). is_kept fewer (slot_on q i) ≡ true) same kept))
+
+  -- **Where no more is kept on the pages that were seen, none is on those that were written, as long as the transaction is open.**
+  pub keeps_no_more_written : KeepsNoMore opens fewer (rebased written view)
+  keeps_no_more_written n p sees i kept = kept_at n p i (written n) refl sees kept
