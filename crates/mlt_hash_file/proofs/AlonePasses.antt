@@ -13,6 +13,7 @@ use Rattle.mlt_page.specs.declared.page.Page.TheVariants as page
 use Rattle.mlt_store.specs.Stores.{page_at}
 use Rattle.mlt_hash_form.specs.File.{bucket_of, buckets_of, depth_of, lead_of, look_up}
 use Rattle.mlt_hash_form.specs.Room.{is_crowded}
+use Rattle.mlt_hash_form.specs.declared.root.Root.{Root}
 use Rattle.mlt_hash_form.proofs.Crowd.{crowded_in_fewer, crowded_test}
 use Rattle.mlt_hash_form.proofs.InPages.{led_at}
 use Rattle.mlt_held.specs.Moments.{IsCleanFor, MayStep, Moment}
@@ -21,7 +22,7 @@ use Rattle.mlt_held.specs.Views.{HasWritten, IsUnwrittenSince, View, view_of, vi
 use Rattle.mlt_held.proofs.Rebased.{written_stays}
 use Rattle.mlt_hash_file.specs.Alone.{IsAlone, KeepsBefore, basis_of, pages_since}
 use Rattle.mlt_hash.specs.StepsLeft.{IsPutting}
-use Rattle.mlt_hash_file.specs.AloneWalks.{HasArrived, HasChanged, HasMade, IsFullFor, IsHashFile, NeedsRoom, NeedsSplits, NeverHasRoomFor, TellsOfPass, added_value}
+use Rattle.mlt_hash_file.specs.AloneWalks.{HasArrived, HasChanged, HasMade, IsFullFor, IsHashFile, IsReadySince, NeedsRoom, NeedsSplits, NeverHasRoomFor, TellsOfPass, added_value}
 use Rattle.mlt_hash.specs.Changes.{HasNoRoom, IsAtAbsent, IsAtRecord, IsFull, Makes, NeedsSplit, TellsOfAddition, WritesIfChanged, crowded_at, page_of}
 use Rattle.mlt_hash.specs.Passes.{HasRoomFrom, IsNextPass, next_of, value_after}
 use Rattle.mlt_hash_file.specs.SplitPages.{HasRoomAt, pages_for, pages_in_the_end, pages_left_at, pages_to_make}
@@ -93,9 +94,14 @@ pub absent_here : (since : Before) (bits : ℕ → ℕ) (root max_depth : ℕ) (
 absent_here since bits root max_depth first old before walk value alone keeps arrived none =
     finds_none (basis_of since bits root max_depth first) old before walk value alone arrived (ap (λ (pages : ℕ → Option Page). look_up bits pages root before.key) (same_since since first old keeps) ∙ none)
 
--- a walk that has arrived stands there, by what the transaction goes by now
-pub arrived_stands : (since : Before) (bits : ℕ → ℕ) (root max_depth : ℕ) (first old : Moment) (before walk : WalkFields) (value : Option ℕ) → KeepsBefore first old → HasArrived (basis_of since bits root max_depth first) old before walk value → IsStanding (basis_of since bits root max_depth old) walk (view_over since.written old)
-arrived_stands since bits root max_depth first old before walk value keeps arrived = subst (λ basis. IsStanding basis walk (view_for basis old)) (sym (same_basis since bits root max_depth first old keeps)) arrived.stands
+-- a walk that has arrived may go on from there, by what the transaction goes by now,
+pub ready_there : {P : Type 0} (since : Before) (bits_of : P → ℕ → ℕ) (root : Root P) (first mid : Moment) (before walk : WalkFields) (found : Option ℕ) → KeepsBefore first mid → HasWritten since.written (view_of mid) → IsHashFile (bits_of root.pseudo) (pages_since since first) root.page root.max_depth
+    → HasArrived (basis_of since (bits_of root.pseudo) root.page root.max_depth first) mid before walk found → IsReadySince since bits_of root mid walk
+ready_there since bits_of root first mid before walk found keeps written file arrived = record {
+  written = written;
+  file = file_kept since (bits_of root.pseudo) root.page root.max_depth first mid keeps file;
+  stands = subst (λ basis. IsStanding basis walk (view_for basis mid)) (sym (same_basis since (bits_of root.pseudo) root.page root.max_depth first mid keeps)) arrived.stands;
+}
 
 -- and its bucket is where its key leads
 leads_here : (basis : Basis) (m : Moment) (walk : WalkFields) (bucket depth : ℕ) (found : Option ℕ) (here : IsAtBucket basis walk (view_for basis m) bucket depth found) → MayStep m → lead_of (pages_since basis.before m) basis.root (basis.bits walk.key) ≡ bucket

@@ -3,10 +3,12 @@ use Rattle.mlt_hash_form.specs.Held.{over}
 use Rattle.std.proofs.Common.{◌<◌, ◌∙◌, ◌≡◌, Option, ap, arith, refl, subst, sym, ℕ}
 use Rattle.std.specs.FinSet as set
 use Rattle.mlt_page.specs.declared.page.Page.{Page}
+use Rattle.mlt_hash_form.specs.declared.root.Root.{Root}
 use Rattle.mlt_held.specs.Moments.{Moment}
 use Rattle.mlt_held.specs.Views.{HasWritten, view_of, view_over}
+use Rattle.mlt_held.proofs.Since.{nothing_written}
 use Rattle.mlt_hash_file.specs.Alone.{KeepsBefore, basis_of, pages_before, pages_since}
-use Rattle.mlt_hash_file.specs.AloneWalks.{HasArrived, IsHashFile}
+use Rattle.mlt_hash_file.specs.AloneWalks.{HasArrived, IsFileBefore, IsHashFile, IsReadySince}
 use Rattle.mlt_hash.specs.Splitting.{IsUnderWay, TellsAt}
 use Rattle.mlt_hash.specs.Steps.{IsSameWalk, TellsOfPath, steps_to_bucket}
 use Rattle.mlt_hash.specs.Walks.{Basis, Before, IsAtStart, IsStanding, Stands, WalkFields, nothing_before, view_for}
@@ -49,12 +51,16 @@ starts basis m walk more written stands = record {
   keeps = keeps_same m;
 }
 
--- a walk that has not begun is on its way, and stands where nothing was done before
+-- a walk that has not begun is on its way, over what it has not written
 pub more_from_start : (walk : WalkFields) → walk.phase ≡ at.Start → 0 < steps_to_bucket walk.phase
 more_from_start walk start = subst (λ (phase : Phase). 0 < steps_to_bucket phase) (sym start) (omega arith)
 
-pub stands_at_start : (bits : ℕ → ℕ) (root max_depth : ℕ) (m : Moment) (walk : WalkFields) → walk.phase ≡ at.Start → IsAtStart (view_of m) → IsStanding (basis_of nothing_before bits root max_depth m) walk (view_of m)
-stands_at_start bits root max_depth m walk start nothing = subst (λ (phase : Phase). Stands phase (basis_of nothing_before bits root max_depth m) walk (view_of m)) (sym start) (nothing, refl)
+pub ready_at_start : {P : Type 0} (bits_of : P → ℕ → ℕ) (root : Root P) (m : Moment) (walk : WalkFields) → walk.phase ≡ at.Start → IsAtStart (view_of m) → IsFileBefore bits_of root m → IsReadySince nothing_before bits_of root m walk
+ready_at_start bits_of root m walk start nothing file = record {
+  written = nothing_written (view_of m);
+  file = file;
+  stands = subst (λ (phase : Phase). Stands phase (basis_of nothing_before (bits_of root.pseudo) root.page root.max_depth m) walk (view_of m)) (sym start) (nothing, refl);
+}
 
 -- then it has a next step,
 under_way_at : (phase : Phase) → 0 < steps_to_bucket phase → IsUnderWay phase

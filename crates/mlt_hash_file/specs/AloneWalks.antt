@@ -14,11 +14,11 @@ use Rattle.mlt_hash_form.specs.Room.{IsCrowded}
 use Rattle.mlt_hash_form.specs.declared.root.Root.{Root}
 use Rattle.mlt_subtx.specs.Images.{put_back}
 use Rattle.mlt_held.specs.Moments.{Moment}
-use Rattle.mlt_held.specs.Views.{HasWritten, view_of}
-use Rattle.mlt_hash.specs.Walks.{Basis, Before, IsStanding, WalkFields, nothing_before, view_for}
+use Rattle.mlt_held.specs.Views.{HasWritten, view_of, view_over}
+use Rattle.mlt_hash.specs.Walks.{Basis, Before, IsAtStart, IsStanding, WalkFields, nothing_before, view_for}
 use Rattle.mlt_hash.specs.Steps.{HasFound, IsSameWalk}
 use Rattle.mlt_hash.specs.StepsLeft.{IsPutting}
-use Rattle.mlt_hash_file.specs.Alone.{pages_before, pages_since}
+use Rattle.mlt_hash_file.specs.Alone.{basis_alone, pages_before, pages_since}
 use Rattle.mlt_hash.specs.Passes.{next_of}
 use Rattle.mlt_hash_file.specs.SplitPages.{BoundedFile, HasRoomAt, LacksPages, bucket_for, pages_for, pages_in_the_end}
 use Rattle.mlt_hash.specs.declared.pass.Pass.TheVariants as pass
@@ -41,11 +41,18 @@ IsFileBefore bits_of root m = IsHashFile (bits_of root.pseudo) (pages_before m) 
 abbrev pub IsAbsentBefore : {P : Type 0} → (P → ℕ → ℕ) → Root P → Moment → ℕ → Type 0
 IsAbsentBefore bits_of root m key = look_up (bits_of root.pseudo) (pages_before m) root.page key ≡ None
 
--- what a walk did before is written, and with it the pages are a hash file with this root
+-- a transaction alone that holds nothing, over a hash file with this root
+pub record IsResting {P : Type 0} (bits_of : P → ℕ → ℕ) (root : Root P) (m : Moment) : Type 0 where
+  pub nothing : IsAtStart (view_of m)
+  pub file : IsFileBefore bits_of root m
+  pub stored : page_at m.store.pages ≡ pages_before m
+
+-- what a walk did before is written, with it the pages are a hash file with this root, and over it the walk stands
 pub record IsReadySince {P : Type 0} (since : Before) (bits_of : P → ℕ → ℕ) (root : Root P)
-    (m : Moment) : Type 0 where
+    (m : Moment) (walk : WalkFields) : Type 0 where
   pub written : HasWritten since.written (view_of m)
   pub file : IsHashFile (bits_of root.pseudo) (pages_since since m) root.page root.max_depth
+  pub stands : IsStanding (basis_alone since bits_of root m) walk (view_over since.written m)
 
 -- another hash file, in which the key has this value, or none, and each other key what it had
 pub record ChangesValue (bits : ℕ → ℕ) (before after : ℕ → Option Page) (root max_depth key : ℕ)

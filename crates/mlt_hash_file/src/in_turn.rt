@@ -4,16 +4,15 @@ ghost use Rattle.std.specs.Prelude.{◌≡◌, ◌≢◌, ◌<◌, Some};
 ghost use Rattle.mlt_types.specs.declared.mode.Mode.{Mode};
 ghost use Rattle.mlt_store.specs.Stores.{page_at};
 ghost use Rattle.mlt_hash_form.specs.File.{look_up};
-ghost use Rattle.mlt_held.specs.Views.{view_of, view_over};
 ghost use Rattle.mlt_pair.specs.Plans.{FitsFound};
 ghost use Rattle.mlt_pair.specs.declared.asked.RecordChange.TheVariants as record_change;
-ghost use Rattle.mlt_hash.specs.Walks.{Before, IsAtStart, IsStanding, nothing_before};
+ghost use Rattle.mlt_hash.specs.Walks.{Before, nothing_before};
 ghost use Rattle.mlt_hash.specs.Changes.{IsAtAbsent};
 ghost use Rattle.mlt_hash.specs.Steps.{steps_to_bucket};
 ghost use Rattle.mlt_hash.specs.declared.pass.Pass.{Pass};
 ghost use Rattle.mlt_hash.specs.declared.pass.Phase.{Phase};
-ghost use Rattle.mlt_hash_file.specs.Alone.{KeepsBefore, basis_alone, pages_before, pages_since};
-ghost use Rattle.mlt_hash_file.specs.AloneWalks.{IsFileBefore, IsHashFile, IsReadySince};
+ghost use Rattle.mlt_hash_file.specs.Alone.{KeepsBefore, basis_alone, pages_since};
+ghost use Rattle.mlt_hash_file.specs.AloneWalks.{IsFileBefore, IsHashFile, IsReadySince, IsResting};
 ghost use Rattle.mlt_hash_file.specs.InTurn.{MayGoOn, MayGoOnIfChanged, TellsInTurn, TellsOfKey};
 ghost use Rattle.mlt_hash_file.specs.TwoKeys.{AsksOfTwo, FitsValues, both_changes, two_keys};
 
@@ -32,9 +31,7 @@ impl Runner {
         requires wide { walk.old.pass ≡ Pass.Wide }
         requires mode { walk.old.mode ≡ Mode.Exclusive }
         requires absent { IsAtAbsent walk.old.phase }
-        requires ready { IsReadySince since P.bits_of root.now self.old }
-        requires stands { IsStanding (basis_alone since P.bits_of root.now self.old) walk.old
-            (view_over since.written self.old) }
+        requires ready { IsReadySince since P.bits_of root.now self.old walk.old }
         ensures keeps { KeepsBefore self.old self.new }
         ensures tells { TellsOfKey (basis_alone since P.bits_of root.now self.old)
             self.old.store.pages self.new walk.old.key (record_change.Insert value) result }
@@ -58,9 +55,7 @@ impl Runner {
         requires on_its_way { 0 < steps_to_bucket walk.old.phase }
         requires wide { walk.old.pass ≡ Pass.Wide }
         requires mode { walk.old.mode ≡ Mode.Exclusive }
-        requires ready { IsReadySince since P.bits_of root.now self.old }
-        requires stands { IsStanding (basis_alone since P.bits_of root.now self.old) walk.old
-            (view_over since.written self.old) }
+        requires ready { IsReadySince since P.bits_of root.now self.old walk.old }
         requires stored { page_at self.old.store.pages ≡ pages_since since self.old }
         requires fits { FitsFound (Some change) (look_up (P.bits_of root.now.pseudo)
             (page_at self.old.store.pages) root.now.page walk.old.key) }
@@ -88,9 +83,7 @@ impl Runner {
         requires start { walk.old.phase ≡ Phase.Start }
         requires wide { walk.old.pass ≡ Pass.Wide }
         requires mode { walk.old.mode ≡ Mode.Exclusive }
-        requires nothing { IsAtStart (view_of self.old) }
-        requires file { IsFileBefore P.bits_of root.now self.old }
-        requires stored { page_at self.old.store.pages ≡ pages_before self.old }
+        requires rests { IsResting P.bits_of root.now self.old }
         requires fits { FitsFound (Some change) (look_up (P.bits_of root.now.pseudo)
             (page_at self.old.store.pages) root.now.page walk.old.key) }
         ensures keeps { KeepsBefore self.old self.new }
@@ -135,9 +128,7 @@ impl Runner {
         next: RecordChange,
         root: &Root<P>,
     ) -> WalkAnswer
-        requires nothing { IsAtStart (view_of self.old) }
-        requires file { IsFileBefore P.bits_of root.now self.old }
-        requires stored { page_at self.old.store.pages ≡ pages_before self.old }
+        requires rests { IsResting P.bits_of root.now self.old }
         requires apart { left ≢ right }
         requires fits { FitsValues (two_keys left right (both_changes first next))
             (look_up (P.bits_of root.now.pseudo) (page_at self.old.store.pages) root.now.page) }
@@ -160,9 +151,7 @@ impl Runner {
         change: RecordChange,
         root: &Root<P>,
     ) -> WalkAnswer
-        requires nothing { IsAtStart (view_of self.old) }
-        requires file { IsFileBefore P.bits_of root.now self.old }
-        requires stored { page_at self.old.store.pages ≡ pages_before self.old }
+        requires rests { IsResting P.bits_of root.now self.old }
         requires fits { FitsFound (Some change) (look_up (P.bits_of root.now.pseudo)
             (page_at self.old.store.pages) root.now.page key) }
         ensures keeps { KeepsBefore self.old self.new }
@@ -182,9 +171,7 @@ impl Runner {
         changes: &Changes,
         root: &Root<P>,
     ) -> WalkAnswer
-        requires nothing { IsAtStart (view_of self.old) }
-        requires file { IsFileBefore P.bits_of root.now self.old }
-        requires stored { page_at self.old.store.pages ≡ pages_before self.old }
+        requires rests { IsResting P.bits_of root.now self.old }
         requires asks { AsksOfTwo (two_keys left right changes.now) }
         requires fits { FitsValues (two_keys left right changes.now)
             (look_up (P.bits_of root.now.pseudo) (page_at self.old.store.pages) root.now.page) }

@@ -4,13 +4,14 @@ ghost use Rattle.std.specs.Prelude.{◌≡◌, ◌≢◌, ◌≤◌, ◌<◌, �
 ghost use Rattle.mlt_types.specs.declared.mode.Mode.{Mode};
 ghost use Rattle.mlt_store.specs.Stores.{page_at};
 ghost use Rattle.mlt_hash_form.specs.File.{look_up};
-ghost use Rattle.mlt_held.specs.Views.{HasWritten, view_of, view_over};
-ghost use Rattle.mlt_hash.specs.Walks.{Before, IsAtStart, IsStanding, nothing_before};
+ghost use Rattle.mlt_held.specs.Views.{HasWritten, view_of};
+ghost use Rattle.mlt_hash.specs.Walks.{Before, IsAtStart, nothing_before};
 ghost use Rattle.mlt_hash.specs.Splitting.{IsUnderWay, TellsAt};
 ghost use Rattle.mlt_hash.specs.Changes.{IsAtAbsent, IsAtRecord};
 ghost use Rattle.mlt_hash.specs.Steps.{steps_to_bucket};
+ghost use Rattle.mlt_hash.specs.StepsLeft.{IsPutting};
 ghost use Rattle.mlt_hash_file.specs.Alone.{HasNotWaited, IsAlone, IsIdle, KeepsBefore, basis_alone};
-ghost use Rattle.mlt_hash_file.specs.AloneWalks.{HasArrived, IsAbsentBefore, IsFileBefore, IsReadySince, MayAdd, TellsOfMaking, TellsOfInsertion, TellsOfLater, TellsOfPass, TellsOfSplits, added_value};
+ghost use Rattle.mlt_hash_file.specs.AloneWalks.{HasArrived, IsAbsentBefore, IsFileBefore, IsReadySince, TellsOfMaking, TellsOfInsertion, TellsOfLater, TellsOfPass, TellsOfSplits, added_value};
 ghost use Rattle.mlt_hash.specs.Passes.{next_of};
 ghost use Rattle.mlt_hash_file.specs.SplitPages.{pages_in_the_end};
 ghost use Rattle.mlt_hash.specs.declared.pass.Pass.{Pass};
@@ -55,9 +56,7 @@ impl Runner {
     pub(crate) fn step<P: Pseudo>(&mut self, walk: &mut Walk, root: &Root<P>) -> WalkAnswer
         ghost since: { Before }
         requires under_way { IsUnderWay walk.old.phase }
-        requires ready { IsReadySince since P.bits_of root.now self.old }
-        requires stands { IsStanding (basis_alone since P.bits_of root.now self.old) walk.old
-            (view_over since.written self.old) }
+        requires ready { IsReadySince since P.bits_of root.now self.old walk.old }
         ensures keeps { KeepsBefore self.old self.new }
         ensures written { HasWritten since.written (view_of self.new) }
         ensures tells { TellsAt walk.old.phase (basis_alone since P.bits_of root.now self.old)
@@ -76,9 +75,7 @@ impl Runner {
     pub(crate) fn find<P: Pseudo>(&mut self, walk: &mut Walk, root: &Root<P>) -> Option<Value>
         ghost since: { Before }
         requires on_its_way { 0 < steps_to_bucket walk.old.phase }
-        requires ready { IsReadySince since P.bits_of root.now self.old }
-        requires stands { IsStanding (basis_alone since P.bits_of root.now self.old) walk.old
-            (view_over since.written self.old) }
+        requires ready { IsReadySince since P.bits_of root.now self.old walk.old }
         ensures keeps { KeepsBefore self.old self.new }
         ensures written { HasWritten since.written (view_of self.new) }
         ensures arrives { HasArrived (basis_alone since P.bits_of root.now self.old)
@@ -104,9 +101,7 @@ impl Runner {
         ghost since: { Before }
         requires mode { walk.old.mode ≡ Mode.Exclusive }
         requires absent { IsAtAbsent walk.old.phase }
-        requires ready { IsReadySince since P.bits_of root.now self.old }
-        requires stands { IsStanding (basis_alone since P.bits_of root.now self.old) walk.old
-            (view_over since.written self.old) }
+        requires ready { IsReadySince since P.bits_of root.now self.old walk.old }
         ensures keeps { KeepsBefore self.old self.new }
         ensures written { HasWritten since.written (view_of self.new) }
         ensures tells { TellsOfPass (basis_alone since P.bits_of root.now self.old)
@@ -164,8 +159,8 @@ impl Runner {
     /// Splits the bucket until there is room, and adds the record.
     pub(crate) fn split<P: Pseudo>(&mut self, walk: &mut Walk, root: &Root<P>) -> WalkAnswer
         ghost since: { Before }
-        requires ready { IsReadySince since P.bits_of root.now self.old }
-        requires adds { MayAdd (basis_alone since P.bits_of root.now self.old) self.old walk.old }
+        requires ready { IsReadySince since P.bits_of root.now self.old walk.old }
+        requires adds { IsPutting walk.old.phase }
         ensures keeps { KeepsBefore self.old self.new }
         ensures tells { TellsOfSplits (basis_alone since P.bits_of root.now self.old) self.new
             walk.old walk.new (added_value walk.old.phase)
@@ -256,9 +251,7 @@ impl Runner {
         ghost since: { Before }
         requires mode { walk.old.mode ≡ Mode.Exclusive }
         requires found { IsAtRecord walk.old.phase }
-        requires ready { IsReadySince since P.bits_of root.now self.old }
-        requires stands { IsStanding (basis_alone since P.bits_of root.now self.old) walk.old
-            (view_over since.written self.old) }
+        requires ready { IsReadySince since P.bits_of root.now self.old walk.old }
         ensures keeps { KeepsBefore self.old self.new }
         ensures tells { TellsOfMaking (basis_alone since P.bits_of root.now self.old)
             self.new walk.old walk.new (Some value) result }
@@ -271,9 +264,7 @@ impl Runner {
         ghost since: { Before }
         requires mode { walk.old.mode ≡ Mode.Exclusive }
         requires found { IsAtRecord walk.old.phase }
-        requires ready { IsReadySince since P.bits_of root.now self.old }
-        requires stands { IsStanding (basis_alone since P.bits_of root.now self.old) walk.old
-            (view_over since.written self.old) }
+        requires ready { IsReadySince since P.bits_of root.now self.old walk.old }
         ensures keeps { KeepsBefore self.old self.new }
         ensures tells { TellsOfMaking (basis_alone since P.bits_of root.now self.old)
             self.new walk.old walk.new None result }

@@ -1,7 +1,5 @@
-use Rattle.mlt_held.specs.Views.{view_of}
-use Rattle.mlt_held.proofs.Since.{nothing_written}
 use Rattle.mlt_hash.specs.Walks.{nothing_before}
-use Rattle.mlt_hash_file.proofs.AloneWalks.{more_from_start, stands_at_start}
+use Rattle.mlt_hash_file.proofs.AloneWalks.{more_from_start, ready_at_start}
 use Rattle.std.proofs.Common.{◌≡◌, ◌∙◌, sym, subst}
 use Rattle.std.specs.FinMap as map
 use Rattle.mlt_store.specs.Stores.{PageStore, page_at}
@@ -17,10 +15,7 @@ find-found-requires g c κs within = (
   within,
   (
     more_from_start c.find-walk.result (λ i. (c.find-walk.ensures i).phase),
-    (
-      record { written = nothing_written (view_of c.self.inside.runner); file = file_before (g.P.Pseudo.bits_of c.self.inside.root.pseudo) c.self.inside.root.page c.self.inside.root.max_depth c.self.inside.runner c.self.invariant.0 c.self.invariant.1 },
-      stands_at_start (g.P.Pseudo.bits_of c.self.inside.root.pseudo) c.self.inside.root.page c.self.inside.root.max_depth c.self.inside.runner c.find-walk.result (λ i. (c.find-walk.ensures i).phase) (idle_starts c.self.inside.runner c.self.invariant.0),
-    ),
+    ready_at_start g.P.Pseudo.bits_of c.self.inside.root c.self.inside.runner c.find-walk.result (λ i. (c.find-walk.ensures i).phase) (idle_starts c.self.inside.runner c.self.invariant.0) (file_before (g.P.Pseudo.bits_of c.self.inside.root.pseudo) c.self.inside.root.page c.self.inside.root.max_depth c.self.inside.runner c.self.invariant.0 c.self.invariant.1),
   ),
 )
 

@@ -1,14 +1,11 @@
-use Rattle.mlt_held.specs.Views.{view_of}
-use Rattle.mlt_held.proofs.Since.{nothing_written}
 use Rattle.mlt_hash.specs.Walks.{nothing_before}
-use Rattle.mlt_hash_file.proofs.AloneWalks.{more_from_start, stands_at_start}
-use Rattle.mlt_hash_file.proofs.AlonePasses.{arrived_stands}
+use Rattle.mlt_hash_file.proofs.AloneWalks.{more_from_start, ready_at_start}
+use Rattle.mlt_hash_file.proofs.AlonePasses.{ready_there}
 use Rattle.std.proofs.Common.{◌≡◌, ◌∙◌, IsSome, sym, ap, subst}
 use Rattle.std.specs.FinMap as map
 use Rattle.mlt_store.specs.Stores.{PageStore}
 use Rattle.mlt_hash_form.specs.Records.{live_records}
 use Rattle.mlt_hash_file.proofs.AloneEnds.{idle_starts}
-use Rattle.mlt_hash_file.proofs.AloneWalks.{file_kept}
 use Rattle.mlt_hash_file.proofs.HashFiles.{at_record, file_before, removes}
 use Rattle.mlt_hash_file.proofs.hash_file.HashFile.remove.Goals as goal
 
@@ -17,10 +14,7 @@ find-requires g c κs within = (
   within,
   (
     more_from_start c.find-walk.result (λ i. (c.find-walk.ensures i).phase),
-    (
-      record { written = nothing_written (view_of c.self.inside.runner); file = file_before (g.P.Pseudo.bits_of c.self.inside.root.pseudo) c.self.inside.root.page c.self.inside.root.max_depth c.self.inside.runner c.self.invariant.0 c.self.invariant.1 },
-      stands_at_start (g.P.Pseudo.bits_of c.self.inside.root.pseudo) c.self.inside.root.page c.self.inside.root.max_depth c.self.inside.runner c.find-walk.result (λ i. (c.find-walk.ensures i).phase) (idle_starts c.self.inside.runner c.self.invariant.0),
-    ),
+    ready_at_start g.P.Pseudo.bits_of c.self.inside.root c.self.inside.runner c.find-walk.result (λ i. (c.find-walk.ensures i).phase) (idle_starts c.self.inside.runner c.self.invariant.0) (file_before (g.P.Pseudo.bits_of c.self.inside.root.pseudo) c.self.inside.root.page c.self.inside.root.max_depth c.self.inside.runner c.self.invariant.0 c.self.invariant.1),
   ),
 )
 
@@ -32,13 +26,7 @@ remove-requires g c κs within = (
     (
       at_record (g.P.Pseudo.bits_of c.self.inside.root.pseudo) c.self.inside.root.page c.self.inside.root.max_depth c.self.inside.runner c.find.new.self c.find-walk.result c.find.new.walk c.find.result c.self.invariant.0 c.self.invariant.1 c.find.ensures.keeps c.find.ensures.alone c.find.ensures.arrives
           (subst IsSome (sym (λ i. map.get (live_records ((c.self.view_is i).pages)) ((c.find-walk.ensures i).key))) c.requires.present),
-      (
-        record {
-          written = c.find.ensures.written;
-          file = file_kept nothing_before (g.P.Pseudo.bits_of c.self.inside.root.pseudo) c.self.inside.root.page c.self.inside.root.max_depth c.self.inside.runner c.find.new.self c.find.ensures.keeps (file_before (g.P.Pseudo.bits_of c.self.inside.root.pseudo) c.self.inside.root.page c.self.inside.root.max_depth c.self.inside.runner c.self.invariant.0 c.self.invariant.1);
-        },
-        arrived_stands nothing_before (g.P.Pseudo.bits_of c.self.inside.root.pseudo) c.self.inside.root.page c.self.inside.root.max_depth c.self.inside.runner c.find.new.self c.find-walk.result c.find.new.walk c.find.result c.find.ensures.keeps c.find.ensures.arrives,
-      ),
+      ready_there nothing_before g.P.Pseudo.bits_of c.self.inside.root c.self.inside.runner c.find.new.self c.find-walk.result c.find.new.walk c.find.result c.find.ensures.keeps c.find.ensures.written (file_before (g.P.Pseudo.bits_of c.self.inside.root.pseudo) c.self.inside.root.page c.self.inside.root.max_depth c.self.inside.runner c.self.invariant.0 c.self.invariant.1) c.find.ensures.arrives,
     ),
   ),
 )

@@ -14,8 +14,9 @@ split-requires g c κs within = (
     record {
       written = nothing_written (view_of c.add_again.new.self);
       file = file_kept nothing_before (g.P.Pseudo.bits_of c.args.root.now.pseudo) c.args.root.now.page c.args.root.now.max_depth c.args.self.now c.add_again.new.self c.in-NeedSplit.ensures.keeps c.requires.file;
+      stands = (may_add_now nothing_before (g.P.Pseudo.bits_of c.args.root.now.pseudo) c.args.root.now.page c.args.root.now.max_depth c.args.self.now c.add_again.new.self c.add_again.new.walk c.in-NeedSplit.ensures.keeps (c.in-NeedSplit.ensures.tells.later c.requires.later).may).stands;
     },
-    may_add_now nothing_before (g.P.Pseudo.bits_of c.args.root.now.pseudo) c.args.root.now.page c.args.root.now.max_depth c.args.self.now c.add_again.new.self c.add_again.new.walk c.in-NeedSplit.ensures.keeps (c.in-NeedSplit.ensures.tells.later c.requires.later).may,
+    (may_add_now nothing_before (g.P.Pseudo.bits_of c.args.root.now.pseudo) c.args.root.now.page c.args.root.now.max_depth c.args.self.now c.add_again.new.self c.add_again.new.walk c.in-NeedSplit.ensures.keeps (c.in-NeedSplit.ensures.tells.later c.requires.later).may).adds,
   ),
 )
 

@@ -1,6 +1,4 @@
-use Rattle.mlt_held.specs.Views.{view_of}
-use Rattle.mlt_held.proofs.Since.{nothing_written}
-use Rattle.mlt_hash_file.proofs.AloneWalks.{more_from_start, stands_at_start}
+use Rattle.mlt_hash_file.proofs.AloneWalks.{more_from_start, ready_at_start}
 use Rattle.mlt_hash_file.proofs.runner.Runner.change_first.Goals as goal
 
 pub change_key-requires : goal.change_key-requires
@@ -13,11 +11,8 @@ change_key-requires g c κs within = (
       (
         c.requires.mode,
         (
-          record { written = nothing_written (view_of c.args.self.now); file = c.requires.file },
-          (
-            stands_at_start (g.P.Pseudo.bits_of c.args.root.now.pseudo) c.args.root.now.page c.args.root.now.max_depth c.args.self.now c.args.walk.now c.requires.start c.requires.nothing,
-            (c.requires.stored, c.requires.fits),
-          ),
+          ready_at_start g.P.Pseudo.bits_of c.args.root.now c.args.self.now c.args.walk.now c.requires.start c.requires.rests.nothing c.requires.rests.file,
+          (c.requires.rests.stored, c.requires.fits),
         ),
       ),
     ),

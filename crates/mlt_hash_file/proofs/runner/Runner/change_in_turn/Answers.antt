@@ -18,4 +18,4 @@ returns-in-Some-None-clause-tells g c =
 pub returns-in-None-Some-clause-tells : goal.returns-in-None-Some-clause-tells
 returns-in-None-Some-clause-tells g c =
     tells_right (basis_of nothing_before (g.P.Pseudo.bits_of c.args.root.now.pseudo) c.args.root.now.page c.args.root.now.max_depth c.args.self.now) c.args.self.now.store.pages c.change_one-in-None-Some.new.self c.args.left c.args.right c.in-None-Some.change c.args.changes.now c.change_one-in-None-Some.result c.requires.asks.apart
-    (subst (λ pages. IsHashFile (g.P.Pseudo.bits_of c.args.root.now.pseudo) pages c.args.root.now.page c.args.root.now.max_depth) (sym c.requires.stored) c.requires.file) c.in-None-Some.is-0 c.in-None-Some.is-1 c.change_one-in-None-Some.ensures.tells
+    (subst (λ pages. IsHashFile (g.P.Pseudo.bits_of c.args.root.now.pseudo) pages c.args.root.now.page c.args.root.now.max_depth) (sym c.requires.rests.stored) c.requires.rests.file) c.in-None-Some.is-0 c.in-None-Some.is-1 c.change_one-in-None-Some.ensures.tells

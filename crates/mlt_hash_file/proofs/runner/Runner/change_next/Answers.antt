@@ -23,13 +23,10 @@ change_key-requires g c κs within =
           (
             (λ i. (walk.3 i).mode),
             (
-              record { written = written_on (g.P.Pseudo.bits_of c.args.root.now.pseudo) c.args.root.now.page c.args.root.now.max_depth (moment c.self.inside.subtx c.self.inside.pages) c.args.self.now c.args.walk.now c.self.view_is c.self.invariant.0 c.requires.goes_on c.requires.file; file = file_on (g.P.Pseudo.bits_of c.args.root.now.pseudo) c.args.root.now.page c.args.root.now.max_depth (moment c.self.inside.subtx c.self.inside.pages) c.args.self.now c.args.walk.now c.self.view_is c.self.invariant.0 c.requires.goes_on c.requires.file c.requires.so_far },
+              record { written = written_on (g.P.Pseudo.bits_of c.args.root.now.pseudo) c.args.root.now.page c.args.root.now.max_depth (moment c.self.inside.subtx c.self.inside.pages) c.args.self.now c.args.walk.now c.self.view_is c.self.invariant.0 c.requires.goes_on c.requires.file; file = file_on (g.P.Pseudo.bits_of c.args.root.now.pseudo) c.args.root.now.page c.args.root.now.max_depth (moment c.self.inside.subtx c.self.inside.pages) c.args.self.now c.args.walk.now c.self.view_is c.self.invariant.0 c.requires.goes_on c.requires.file c.requires.so_far; stands = stands_on (g.P.Pseudo.bits_of c.args.root.now.pseudo) c.args.root.now.page c.args.root.now.max_depth (moment c.self.inside.subtx c.self.inside.pages) c.args.self.now c.args.walk.now c.self.view_is c.self.invariant.0 c.requires.goes_on c.requires.file c.go_on_to.new.self c.go_on_to.ensures.ready },
               (
-                stands_on (g.P.Pseudo.bits_of c.args.root.now.pseudo) c.args.root.now.page c.args.root.now.max_depth (moment c.self.inside.subtx c.self.inside.pages) c.args.self.now c.args.walk.now c.self.view_is c.self.invariant.0 c.requires.goes_on c.requires.file c.go_on_to.new.self c.go_on_to.ensures.ready,
-                (
-                  stored_on (g.P.Pseudo.bits_of c.args.root.now.pseudo) c.args.root.now.page c.args.root.now.max_depth (moment c.self.inside.subtx c.self.inside.pages) c.args.self.now c.args.walk.now c.self.view_is c.self.invariant.0 c.requires.goes_on c.requires.file,
-                  subst (λ k. FitsFound (Some c.args.change) (look_up (g.P.Pseudo.bits_of c.args.root.now.pseudo) (page_at c.args.self.now.store.pages) c.args.root.now.page k)) (λ i. (sym walk.3 i).key) c.requires.fits,
-                ),
+                stored_on (g.P.Pseudo.bits_of c.args.root.now.pseudo) c.args.root.now.page c.args.root.now.max_depth (moment c.self.inside.subtx c.self.inside.pages) c.args.self.now c.args.walk.now c.self.view_is c.self.invariant.0 c.requires.goes_on c.requires.file,
+                subst (λ k. FitsFound (Some c.args.change) (look_up (g.P.Pseudo.bits_of c.args.root.now.pseudo) (page_at c.args.self.now.store.pages) c.args.root.now.page k)) (λ i. (sym walk.3 i).key) c.requires.fits,
               ),
             ),
           ),

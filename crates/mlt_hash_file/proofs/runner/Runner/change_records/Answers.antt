@@ -32,15 +32,12 @@ change_both-requires g c κs within =
     let fits : FitsValues (two_keys c.find_both.new.pair.left c.find_both.new.pair.right c.args.changes.now) (look_up bits (pages_before c.find_both.new.self) c.args.root.now.page) = transport (λ i. FitsValues (two_keys (sym left i) (sym right i) c.args.changes.now) (look_up bits (sym pages i) c.args.root.now.page)) c.requires.fits in
     (within, (refl, (file_kept nothing_before bits c.args.root.now.page c.args.root.now.max_depth c.args.self.now c.find_both.new.self c.find_both.ensures.keeps file, (c.find_both.ensures.arrives.found, (c.find_both.ensures.arrives.finding, (asks, fits))))))
 
-pub change_in_turn-requires-clause-nothing : goal.change_in_turn-requires-clause-nothing
-change_in_turn-requires-clause-nothing g c = idle_starts c.roll_back.new.self c.roll_back.ensures.idle
-
-pub change_in_turn-requires-clause-file : goal.change_in_turn-requires-clause-file
-change_in_turn-requires-clause-file g c =
-    file_kept nothing_before (g.P.Pseudo.bits_of c.args.root.now.pseudo) c.args.root.now.page c.args.root.now.max_depth c.args.self.now c.roll_back.new.self (keeps_both c.args.self.now c.change_both.new.self c.roll_back.new.self (keeps_both c.args.self.now c.find_both.new.self c.change_both.new.self c.find_both.ensures.keeps c.change_both.ensures.keeps) c.roll_back.ensures.keeps) (file_before (g.P.Pseudo.bits_of c.args.root.now.pseudo) c.args.root.now.page c.args.root.now.max_depth c.args.self.now c.requires.idle c.requires.file)
-
-pub change_in_turn-requires-clause-stored : goal.change_in_turn-requires-clause-stored
-change_in_turn-requires-clause-stored g c = sym (idle_store c.roll_back.new.self c.roll_back.ensures.idle)
+pub change_in_turn-requires-clause-rests : goal.change_in_turn-requires-clause-rests
+change_in_turn-requires-clause-rests g c = record {
+  nothing = idle_starts c.roll_back.new.self c.roll_back.ensures.idle;
+  file = file_kept nothing_before (g.P.Pseudo.bits_of c.args.root.now.pseudo) c.args.root.now.page c.args.root.now.max_depth c.args.self.now c.roll_back.new.self (keeps_both c.args.self.now c.change_both.new.self c.roll_back.new.self (keeps_both c.args.self.now c.find_both.new.self c.change_both.new.self c.find_both.ensures.keeps c.change_both.ensures.keeps) c.roll_back.ensures.keeps) (file_before (g.P.Pseudo.bits_of c.args.root.now.pseudo) c.args.root.now.page c.args.root.now.max_depth c.args.self.now c.requires.idle c.requires.file);
+  stored = sym (idle_store c.roll_back.new.self c.roll_back.ensures.idle);
+}
 
 pub change_in_turn-requires-clause-fits : goal.change_in_turn-requires-clause-fits
 change_in_turn-requires-clause-fits g c =

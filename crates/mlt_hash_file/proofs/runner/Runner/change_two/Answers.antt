@@ -12,7 +12,7 @@ pub change_next-requires-clause-goes_on : goal.change_next-requires-clause-goes_
 change_next-requires-clause-goes_on g c = goes_on_now (g.P.Pseudo.bits_of c.args.root.now.pseudo) c.args.root.now.page c.args.root.now.max_depth c.args.self.now c.change_first.new.self c.change_first.new.walk c.in-Changed.ensures.keeps c.in-Changed.ensures.goes_on
 
 pub change_next-requires-clause-file : goal.change_next-requires-clause-file
-change_next-requires-clause-file g c = file_kept nothing_before (g.P.Pseudo.bits_of c.args.root.now.pseudo) c.args.root.now.page c.args.root.now.max_depth c.args.self.now c.change_first.new.self c.in-Changed.ensures.keeps c.requires.file
+change_next-requires-clause-file g c = file_kept nothing_before (g.P.Pseudo.bits_of c.args.root.now.pseudo) c.args.root.now.page c.args.root.now.max_depth c.args.self.now c.change_first.new.self c.in-Changed.ensures.keeps c.requires.rests.file
 
 pub change_next-requires-clause-fits : goal.change_next-requires-clause-fits
 change_next-requires-clause-fits g c =

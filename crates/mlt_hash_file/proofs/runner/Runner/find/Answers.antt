@@ -2,19 +2,17 @@ use Rattle.mlt_hash_file.proofs.AloneWalks.{file_kept, stands_now, starts, under
 use Rattle.mlt_hash_file.proofs.runner.Runner.find.Goals as goal
 
 pub loop-found-init : goal.loop-found-init
-loop-found-init g c = starts _ c.args.self.now c.args.walk.now c.requires.1.0 c.requires.1.1.0.written c.requires.1.1.1
+loop-found-init g c = starts _ c.args.self.now c.args.walk.now c.requires.1.0 c.requires.1.1.written c.requires.1.1.stands
 
 pub step-requires : goal.step-requires
 step-requires g c κs within = (
   within,
   (
     under_way _ c.args.self.now c.loop-found.self c.args.walk.now c.loop-found.walk c.loop-found.invariant,
-    (
-      record {
-        written = c.loop-found.invariant.written;
-        file = file_kept g.since (g.P.Pseudo.bits_of c.args.root.now.pseudo) c.args.root.now.page c.args.root.now.max_depth c.args.self.now c.loop-found.self c.loop-found.invariant.keeps c.requires.1.1.0.file;
-      },
-      stands_now g.since (g.P.Pseudo.bits_of c.args.root.now.pseudo) c.args.root.now.page c.args.root.now.max_depth c.args.self.now c.loop-found.self c.loop-found.self c.args.walk.now c.loop-found.walk c.loop-found.walk c.loop-found.invariant,
-    ),
+    record {
+      written = c.loop-found.invariant.written;
+      file = file_kept g.since (g.P.Pseudo.bits_of c.args.root.now.pseudo) c.args.root.now.page c.args.root.now.max_depth c.args.self.now c.loop-found.self c.loop-found.invariant.keeps c.requires.1.1.file;
+      stands = stands_now g.since (g.P.Pseudo.bits_of c.args.root.now.pseudo) c.args.root.now.page c.args.root.now.max_depth c.args.self.now c.loop-found.self c.loop-found.self c.args.walk.now c.loop-found.walk c.loop-found.walk c.loop-found.invariant;
+    },
   ),
 )

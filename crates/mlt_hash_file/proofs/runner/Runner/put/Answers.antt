@@ -11,7 +11,7 @@ use Rattle.mlt_hash_file.proofs.runner.Runner.put.Goals as goal
 pub insert-requires : goal.insert-requires
 insert-requires g c κs within =
     let ready : MayChange (basis_after g.since (basis_by g.P.Pseudo.bits_of c.args.root.now c.self.inside.opens c.self.inside.subtx.tx)) (moment c.self.inside.subtx c.self.inside.pages) c.args.walk.now = record {
-      walks = may_walk_alone g.since (g.P.Pseudo.bits_of c.args.root.now.pseudo) c.self.inside.opens c.args.root.now.page c.args.root.now.max_depth (moment c.self.inside.subtx c.self.inside.pages) c.args.self.now c.args.walk.now c.self.invariant.1 c.self.view_is c.self.invariant.0 c.requires.1.1.1.0.written c.requires.1.1.1.0.file c.requires.1.1.1.1;
+      walks = may_walk_alone g.since (g.P.Pseudo.bits_of c.args.root.now.pseudo) c.self.inside.opens c.args.root.now.page c.args.root.now.max_depth (moment c.self.inside.subtx c.self.inside.pages) c.args.self.now c.args.walk.now c.self.invariant.1 c.self.view_is c.self.invariant.0 c.requires.1.1.1.written c.requires.1.1.1.file c.requires.1.1.1.stands;
       exclusive = c.requires.1.0;
     } in
     (within, (refl, (ready, c.requires.1.1.0)))
@@ -28,12 +28,12 @@ returns-clause-keeps g c =
 
 pub returns-clause-written : goal.returns-clause-written
 returns-clause-written g c =
-    written_after g.since.written (moment c.self.inside.subtx c.self.inside.pages) c.args.self.now (moment c.insert.new.subtx c.insert.new.pages) c.self.view_is c.self.invariant.0.may c.insert.ensures.leaves.touches c.requires.1.1.1.0.written
+    written_after g.since.written (moment c.self.inside.subtx c.self.inside.pages) c.args.self.now (moment c.insert.new.subtx c.insert.new.pages) c.self.view_is c.self.invariant.0.may c.insert.ensures.leaves.touches c.requires.1.1.1.written
 
 pub returns-clause-tells : goal.returns-clause-tells
 returns-clause-tells g c =
     addition_tells g.since (g.P.Pseudo.bits_of c.args.root.now.pseudo) c.self.inside.opens c.args.root.now.page c.args.root.now.max_depth c.args.self.now (moment c.self.inside.subtx c.self.inside.pages) (moment c.insert.new.subtx c.insert.new.pages) c.args.walk.now c.insert.new.self c.args.value c.insert.result
-    c.self.invariant.1 c.self.view_is c.self.invariant.0 c.requires.1.1.1.0.written c.requires.1.1.1.0.file c.requires.1.1.1.1 c.requires.1.1.0
+    c.self.invariant.1 c.self.view_is c.self.invariant.0 c.requires.1.1.1.written c.requires.1.1.1.file c.requires.1.1.1.stands c.requires.1.1.0
     c.insert.ensures.leaves.may c.insert.ensures.leaves.clean c.insert.ensures.leaves.touches c.insert.ensures.writes c.insert.ensures.tells
 
 pub returns-clause-alone : goal.returns-clause-alone

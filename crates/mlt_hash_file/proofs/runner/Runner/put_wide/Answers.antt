@@ -13,9 +13,10 @@ split-requires g c κs within = (
   (
     record {
       written = c.in-NeedSplit.ensures.written;
-      file = file_kept g.since (g.P.Pseudo.bits_of c.args.root.now.pseudo) c.args.root.now.page c.args.root.now.max_depth c.args.self.now c.put.new.self c.in-NeedSplit.ensures.keeps c.requires.1.1.1.1.0.file;
+      file = file_kept g.since (g.P.Pseudo.bits_of c.args.root.now.pseudo) c.args.root.now.page c.args.root.now.max_depth c.args.self.now c.put.new.self c.in-NeedSplit.ensures.keeps c.requires.1.1.1.1.file;
+      stands = (may_add_now g.since (g.P.Pseudo.bits_of c.args.root.now.pseudo) c.args.root.now.page c.args.root.now.max_depth c.args.self.now c.put.new.self c.put.new.walk c.in-NeedSplit.ensures.keeps (c.in-NeedSplit.ensures.tells.later (not_first c.args.walk.now c.requires.1.0)).may).stands;
     },
-    may_add_now g.since (g.P.Pseudo.bits_of c.args.root.now.pseudo) c.args.root.now.page c.args.root.now.max_depth c.args.self.now c.put.new.self c.put.new.walk c.in-NeedSplit.ensures.keeps (c.in-NeedSplit.ensures.tells.later (not_first c.args.walk.now c.requires.1.0)).may,
+    (may_add_now g.since (g.P.Pseudo.bits_of c.args.root.now.pseudo) c.args.root.now.page c.args.root.now.max_depth c.args.self.now c.put.new.self c.put.new.walk c.in-NeedSplit.ensures.keeps (c.in-NeedSplit.ensures.tells.later (not_first c.args.walk.now c.requires.1.0)).may).adds,
   ),
 )
 
@@ -24,19 +25,19 @@ returns-in-NeedSplit-clause-keeps g c = keeps_both c.args.self.now c.put.new.sel
 
 pub returns-in-NeedSplit-clause-tells : goal.returns-in-NeedSplit-clause-tells
 returns-in-NeedSplit-clause-tells g c =
-    splits_tell g.since (g.P.Pseudo.bits_of c.args.root.now.pseudo) c.args.root.now.page c.args.root.now.max_depth c.args.self.now c.args.walk.now c.requires.1.0 (stored_here g.since (g.P.Pseudo.bits_of c.args.root.now.pseudo) c.args.root.now.page c.args.root.now.max_depth c.args.self.now c.args.walk.now c.put.ensures.alone c.requires.1.1.1.1.0.written c.requires.1.1.1.0 c.requires.1.1.1.1.1)
+    splits_tell g.since (g.P.Pseudo.bits_of c.args.root.now.pseudo) c.args.root.now.page c.args.root.now.max_depth c.args.self.now c.args.walk.now c.requires.1.0 (stored_here g.since (g.P.Pseudo.bits_of c.args.root.now.pseudo) c.args.root.now.page c.args.root.now.max_depth c.args.self.now c.args.walk.now c.put.ensures.alone c.requires.1.1.1.1.written c.requires.1.1.1.0 c.requires.1.1.1.1.stands)
     c.put.new.self c.split.new.self c.put.new.walk c.split.new.walk c.args.value c.in-NeedSplit.ensures.keeps (keeps_both c.args.self.now c.put.new.self c.split.new.self c.in-NeedSplit.ensures.keeps c.split.ensures.keeps) c.in-NeedSplit.ensures.tells c.split.result
     (splits_before g.since (g.P.Pseudo.bits_of c.args.root.now.pseudo) c.args.root.now.page c.args.root.now.max_depth c.args.self.now c.put.new.self c.split.new.self c.put.new.walk c.split.new.walk _ _ c.split.result c.in-NeedSplit.ensures.keeps c.split.ensures.tells)
 
 pub returns-in-NeedSplit-clause-goes_on : goal.returns-in-NeedSplit-clause-goes_on
 returns-in-NeedSplit-clause-goes_on g c =
-    splits_go_on g.since (g.P.Pseudo.bits_of c.args.root.now.pseudo) c.args.root.now.page c.args.root.now.max_depth c.args.self.now c.args.walk.now c.requires.1.0 (stored_here g.since (g.P.Pseudo.bits_of c.args.root.now.pseudo) c.args.root.now.page c.args.root.now.max_depth c.args.self.now c.args.walk.now c.put.ensures.alone c.requires.1.1.1.1.0.written c.requires.1.1.1.0 c.requires.1.1.1.1.1)
+    splits_go_on g.since (g.P.Pseudo.bits_of c.args.root.now.pseudo) c.args.root.now.page c.args.root.now.max_depth c.args.self.now c.args.walk.now c.requires.1.0 (stored_here g.since (g.P.Pseudo.bits_of c.args.root.now.pseudo) c.args.root.now.page c.args.root.now.max_depth c.args.self.now c.args.walk.now c.put.ensures.alone c.requires.1.1.1.1.written c.requires.1.1.1.0 c.requires.1.1.1.1.stands)
     c.put.new.self c.split.new.self c.put.new.walk c.split.new.walk c.args.value c.in-NeedSplit.ensures.keeps (keeps_both c.args.self.now c.put.new.self c.split.new.self c.in-NeedSplit.ensures.keeps c.split.ensures.keeps) c.in-NeedSplit.ensures.tells c.split.result
     (splits_before g.since (g.P.Pseudo.bits_of c.args.root.now.pseudo) c.args.root.now.page c.args.root.now.max_depth c.args.self.now c.put.new.self c.split.new.self c.put.new.walk c.split.new.walk _ _ c.split.result c.in-NeedSplit.ensures.keeps c.split.ensures.tells)
 
 pub returns-in_default : goal.returns-in_default
 returns-in_default g c = record {
   keeps = c.put.ensures.keeps;
-  tells = pass_tells_key g.since (g.P.Pseudo.bits_of c.args.root.now.pseudo) c.args.root.now.page c.args.root.now.max_depth c.args.self.now c.args.walk.now c.requires.1.0 (stored_here g.since (g.P.Pseudo.bits_of c.args.root.now.pseudo) c.args.root.now.page c.args.root.now.max_depth c.args.self.now c.args.walk.now c.put.ensures.alone c.requires.1.1.1.1.0.written c.requires.1.1.1.0 c.requires.1.1.1.1.1) c.put.new.self c.put.new.walk c.args.value c.put.result c.put.ensures.keeps c.in_default.not-NeedSplit c.put.ensures.tells;
-  goes_on = pass_goes_on g.since (g.P.Pseudo.bits_of c.args.root.now.pseudo) c.args.root.now.page c.args.root.now.max_depth c.args.self.now c.args.walk.now c.requires.1.0 (stored_here g.since (g.P.Pseudo.bits_of c.args.root.now.pseudo) c.args.root.now.page c.args.root.now.max_depth c.args.self.now c.args.walk.now c.put.ensures.alone c.requires.1.1.1.1.0.written c.requires.1.1.1.0 c.requires.1.1.1.1.1) c.put.new.self c.put.new.walk c.args.value c.put.result c.put.ensures.tells;
+  tells = pass_tells_key g.since (g.P.Pseudo.bits_of c.args.root.now.pseudo) c.args.root.now.page c.args.root.now.max_depth c.args.self.now c.args.walk.now c.requires.1.0 (stored_here g.since (g.P.Pseudo.bits_of c.args.root.now.pseudo) c.args.root.now.page c.args.root.now.max_depth c.args.self.now c.args.walk.now c.put.ensures.alone c.requires.1.1.1.1.written c.requires.1.1.1.0 c.requires.1.1.1.1.stands) c.put.new.self c.put.new.walk c.args.value c.put.result c.put.ensures.keeps c.in_default.not-NeedSplit c.put.ensures.tells;
+  goes_on = pass_goes_on g.since (g.P.Pseudo.bits_of c.args.root.now.pseudo) c.args.root.now.page c.args.root.now.max_depth c.args.self.now c.args.walk.now c.requires.1.0 (stored_here g.since (g.P.Pseudo.bits_of c.args.root.now.pseudo) c.args.root.now.page c.args.root.now.max_depth c.args.self.now c.args.walk.now c.put.ensures.alone c.requires.1.1.1.1.written c.requires.1.1.1.0 c.requires.1.1.1.1.stands) c.put.new.self c.put.new.walk c.args.value c.put.result c.put.ensures.tells;
 }

@@ -4,20 +4,18 @@ use Rattle.mlt_hash_file.proofs.AloneWalks.{file_kept}
 use Rattle.mlt_hash_file.proofs.runner.Runner.split.Goals as goal
 
 pub loop-answer-init : goal.loop-answer-init
-loop-answer-init g c = splits_start _ c.args.self.now c.args.walk.now c.requires.1.0.written c.requires.1.1
+loop-answer-init g c = splits_start _ c.args.self.now c.args.walk.now c.requires.1.0.written (record { stands = c.requires.1.0.stands; adds = c.requires.1.1 })
 
 pub step-requires : goal.step-requires
 step-requires g c κs within = (
   within,
   (
     has_next_step _ c.loop-answer.self c.loop-answer.walk c.loop-answer.invariant.may,
-    (
-      record {
-        written = c.loop-answer.invariant.written;
-        file = file_kept g.since (g.P.Pseudo.bits_of c.args.root.now.pseudo) c.args.root.now.page c.args.root.now.max_depth c.args.self.now c.loop-answer.self c.loop-answer.invariant.keeps c.requires.1.0.file;
-      },
-      stands_to_split g.since (g.P.Pseudo.bits_of c.args.root.now.pseudo) c.args.root.now.page c.args.root.now.max_depth c.args.self.now c.loop-answer.self c.args.walk.now c.loop-answer.walk c.loop-answer.invariant,
-    ),
+    record {
+      written = c.loop-answer.invariant.written;
+      file = file_kept g.since (g.P.Pseudo.bits_of c.args.root.now.pseudo) c.args.root.now.page c.args.root.now.max_depth c.args.self.now c.loop-answer.self c.loop-answer.invariant.keeps c.requires.1.0.file;
+      stands = stands_to_split g.since (g.P.Pseudo.bits_of c.args.root.now.pseudo) c.args.root.now.page c.args.root.now.max_depth c.args.self.now c.loop-answer.self c.args.walk.now c.loop-answer.walk c.loop-answer.invariant;
+    },
   ),
 )
 

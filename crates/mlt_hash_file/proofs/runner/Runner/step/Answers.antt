@@ -8,7 +8,7 @@ use Rattle.mlt_hash_file.proofs.runner.Runner.step.Goals as goal
 
 pub advance-requires : goal.advance-requires
 advance-requires g c κs within =
-    let ready = may_walk_alone g.since (g.P.Pseudo.bits_of c.args.root.now.pseudo) c.self.inside.opens c.args.root.now.page c.args.root.now.max_depth (moment c.self.inside.subtx c.self.inside.pages) c.args.self.now c.args.walk.now c.self.invariant.1 c.self.view_is c.self.invariant.0 c.requires.1.1.0.written c.requires.1.1.0.file c.requires.1.1.1 in
+    let ready = may_walk_alone g.since (g.P.Pseudo.bits_of c.args.root.now.pseudo) c.self.inside.opens c.args.root.now.page c.args.root.now.max_depth (moment c.self.inside.subtx c.self.inside.pages) c.args.self.now c.args.walk.now c.self.invariant.1 c.self.view_is c.self.invariant.0 c.requires.1.1.written c.requires.1.1.file c.requires.1.1.stands in
     (within, (refl, (c.requires.1.0, ready)))
 
 pub invariant_of-self : goal.invariant_of-self
@@ -23,7 +23,7 @@ returns-clause-keeps g c =
 
 pub returns-clause-written : goal.returns-clause-written
 returns-clause-written g c =
-    written_after g.since.written (moment c.self.inside.subtx c.self.inside.pages) c.args.self.now (moment c.advance.new.subtx c.advance.new.pages) c.self.view_is c.self.invariant.0.may c.advance.ensures.leaves.touches c.requires.1.1.0.written
+    written_after g.since.written (moment c.self.inside.subtx c.self.inside.pages) c.args.self.now (moment c.advance.new.subtx c.advance.new.pages) c.self.view_is c.self.invariant.0.may c.advance.ensures.leaves.touches c.requires.1.1.written
 
 pub returns-clause-goes : goal.returns-clause-goes
 returns-clause-goes g c = goes c.args.walk.now.phase _ (moment c.self.inside.subtx c.self.inside.pages) (moment c.advance.new.subtx c.advance.new.pages) c.args.walk.now c.advance.new.self c.advance.result c.self.invariant.0 c.advance.ensures.tells

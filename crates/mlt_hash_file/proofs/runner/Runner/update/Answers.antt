@@ -11,7 +11,7 @@ use Rattle.mlt_hash_file.proofs.runner.Runner.update.Goals as goal
 
 may : (g : Over) (c : After-update-arg-3-1 g) → MayChange (basis_after g.since (basis_by g.P.Pseudo.bits_of c.args.root.now c.self.inside.opens c.self.inside.subtx.tx)) (moment c.self.inside.subtx c.self.inside.pages) c.args.walk.now
 may g c = record {
-  walks = may_walk_alone g.since (g.P.Pseudo.bits_of c.args.root.now.pseudo) c.self.inside.opens c.args.root.now.page c.args.root.now.max_depth (moment c.self.inside.subtx c.self.inside.pages) c.args.self.now c.args.walk.now c.self.invariant.1 c.self.view_is c.self.invariant.0 c.requires.1.1.1.0.written c.requires.1.1.1.0.file c.requires.1.1.1.1;
+  walks = may_walk_alone g.since (g.P.Pseudo.bits_of c.args.root.now.pseudo) c.self.inside.opens c.args.root.now.page c.args.root.now.max_depth (moment c.self.inside.subtx c.self.inside.pages) c.args.self.now c.args.walk.now c.self.invariant.1 c.self.view_is c.self.invariant.0 c.requires.1.1.1.written c.requires.1.1.1.file c.requires.1.1.1.stands;
   exclusive = c.requires.1.0;
 }
 
@@ -31,5 +31,5 @@ returns-clause-keeps g c =
 pub returns-clause-tells : goal.returns-clause-tells
 returns-clause-tells g c =
     change_alone g.since (g.P.Pseudo.bits_of c.args.root.now.pseudo) c.self.inside.opens c.args.root.now.page c.args.root.now.max_depth (moment c.self.inside.subtx c.self.inside.pages) c.args.self.now (moment c.update.new.subtx c.update.new.pages) c.args.walk.now c.update.new.self (change.Set c.args.value) c.update.result
-    c.self.invariant.1 c.self.view_is c.self.invariant.0 c.requires.1.1.0 c.requires.1.1.1.0.written c.requires.1.1.1.0.file c.requires.1.1.1.1
+    c.self.invariant.1 c.self.view_is c.self.invariant.0 c.requires.1.1.0 c.requires.1.1.1.written c.requires.1.1.1.file c.requires.1.1.1.stands
     c.update.ensures.leaves.may c.update.ensures.leaves.clean c.update.ensures.leaves.touches (writes_at_most _ _ _ c.update.result c.update.ensures.writes) (c.update.ensures.tells _ refl (may g c.before))
