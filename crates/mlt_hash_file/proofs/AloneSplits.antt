@@ -1,5 +1,5 @@
 -- The splits of a walk alone: they come to an end, and leave the directory as shallow as it has to be
-use Rattle.std.proofs.Common.{◌≡◌, ℕ, ◌<◌, ◌≤◌, ◌+◌, ◌*◌, ◌-◌, ◌^◌, Bool, true, false, cond, Option, None, Some, is_some, unwrap_or, nat_eq, nat_lt, if◌then◌else◌, refl, sym, ap, subst, ◌∙◌, inl, inr, arith}
+use Rattle.std.proofs.Common.{◌≡◌, ℕ, zero, suc, min, ◌<◌, ◌≤◌, ◌+◌, ◌*◌, ◌-◌, ◌^◌, Bool, true, false, cond, Option, None, Some, is_some, unwrap_or, nat_eq, nat_lt, if◌then◌else◌, refl, sym, ap, subst, ◌∙◌, inl, inr, arith}
 use Rattle.std.specs.List.{list_all}
 use Rattle.std.specs.FinMap as map
 use Rattle.std.specs.FinSet as set
@@ -17,7 +17,7 @@ use Rattle.mlt_hash_form.specs.File.{bucket_of, depth_of, header_of}
 use Rattle.mlt_hash_form.specs.Held.{own_or}
 use Rattle.mlt_held.specs.Moments.{HasFileOver, MayStep, Moment}
 use Rattle.mlt_held.specs.PageSteps.{WritesAtMost}
-use Rattle.mlt_held.specs.Views.{HasWritten, page_written, view_of, view_over}
+use Rattle.mlt_held.specs.Views.{HasWritten, View, page_written, view_of, view_over}
 use Rattle.mlt_split.specs.Rests.{Aim, held_page}
 use Rattle.mlt_split.specs.Splits.{SplitFields, directory_steps, steps_left, steps_left_at}
 use Rattle.mlt_split.specs.Steps.{IsDone, IsMaking}
@@ -27,7 +27,7 @@ use Rattle.mlt_split.proofs.HeldPages.{clean_now}
 use Rattle.mlt_split.proofs.Later.{begins_now, stands_now}
 use Rattle.mlt_split.proofs.OldBucket.{depths_are_small}
 use Rattle.mlt_hash_file.specs.Alone.{HasNotWaited, IsAlone, KeepsBefore, basis_of, pages_before, pages_since}
-use Rattle.mlt_hash.specs.StepsLeft.{IsPutting}
+use Rattle.mlt_hash.specs.StepsLeft.{IsPutting, depth_after, steps_of_splits, steps_to_put, steps_to_put_at}
 use Rattle.mlt_hash_file.specs.AloneWalks.{HasMade, IsHashFile, MayAdd, TellsOfSplits, added_value}
 use Rattle.mlt_hash.specs.Changes.{Makes}
 use Rattle.mlt_hash_file.specs.SplitPages.{left_from, left_from_split, pages_in_the_end, pages_left_at, pages_to_make}
@@ -40,10 +40,11 @@ use Rattle.mlt_hash.specs.declared.answer.WalkAnswer.TheVariants as answer
 use Rattle.mlt_hash.specs.declared.pass.Change.TheVariants as change
 use Rattle.mlt_hash.specs.declared.pass.Phase.{Phase}
 use Rattle.mlt_hash.specs.declared.pass.Phase.TheVariants as at
-use Rattle.mlt_hash_file.proofs.Alone.{before_is_clean, keeps_both, keeps_same, reads_image_back}
+use Rattle.mlt_hash_file.proofs.Alone.{before_is_clean, keeps_both, sees_since, keeps_same, reads_image_back}
 use Rattle.mlt_hash_file.proofs.AloneChanges.{made_alone, other_page_stays}
 use Rattle.mlt_hash_file.proofs.AlonePages.{made, may_stand, pages_close, pages_go_on}
 use Rattle.mlt_hash.proofs.Puts.{found_below, kept_is_shallow}
+use Rattle.mlt_hash.proofs.StepsLeft.{one_fewer}
 use Rattle.mlt_hash_file.proofs.AlonePasses.{retell_made}
 use Rattle.mlt_hash_file.proofs.SplitPages.{MayStandAt, begun, one_at_least, one_is_left}
 use Rattle.mlt_hash_file.proofs.AloneWalks.{file_kept, same_basis, same_walks}
@@ -340,6 +341,21 @@ module _ (since : Before) (bits : ℕ → ℕ) (root max_depth : ℕ) (first now
   ends_at (at.Splitting value room_depth) is adds stands told not went tells = splitting_ends value room_depth stands is told not went tells
   ends_at other is adds stands told not went tells = absurd adds
 
+-- a count that stops at the greatest number is at most one more
+pub at_most_one : (steps next : ℕ) → next ≡ min (steps + 1) (2 ^ 32 - 1) → next ≤ steps + 1
+at_most_one steps next is = omega (arith, is)
+
+-- the last step that puts the record is one of those that were left
+puts_once : (n l g : ℕ) → 1 ≤ steps_of_splits n l g
+unfolding steps_of_splits
+puts_once zero l g = let one : steps_of_splits zero l g ≡ 1 = refl in omega (arith, one)
+puts_once (suc n) l g = let more : steps_of_splits (suc n) l g ≡ 2 + directory_steps l g + steps_of_splits n (l + 1) (depth_after l g) = refl in omega (arith, more)
+
+put_is_left : (phase : Phase) (basis : Basis) (old new : Moment) (before after : WalkFields) (root : ℕ) (view : View) → IsPutting phase → TellsAt phase basis old new before after answer.Changed → 1 ≤ steps_to_put_at phase root before view
+put_is_left (at.Adding value bucket room_depth unsplit) basis old new before after root view adds tells = puts_once _ _ _
+put_is_left (at.Splitting value room_depth) basis old new before after root view adds tells = absurd tells
+put_is_left other basis old new before after root view adds tells = absurd adds
+
 splitting_still : (basis : Basis) (first now new : Moment) (before walk after : WalkFields) → IsSplittingOn basis first now before walk → HasWritten basis.before.written (view_of new) → KeepsBefore now new → Advances basis now new walk after → IsSplittingOn basis first new before after
 splitting_still basis first now new before walk after on written keeps step = record {
   same = same_walks before walk after on.same step.same;
@@ -362,6 +378,19 @@ module _ (since : Before) (bits : ℕ → ℕ) (root max_depth : ℕ) (first now
 
     pub splits_on : TellsAt walk.phase (basis_of since bits root max_depth now) now new walk after answer.Going → IsSplittingOn (basis_of since bits root max_depth first) first new before after
     splits_on tells = splitting_still (basis_of since bits root max_depth first) first now new before walk after on written keeps (goes_on tells)
+
+    -- each step is one of those that are left,
+    pub steps_on : (taken next most : ℕ) → next ≤ taken + 1 → taken + steps_to_put root walk (view_over since.written now) ≤ most → TellsAt walk.phase (basis_of since bits root max_depth now) now new walk after answer.Going → next + steps_to_put root after (view_over since.written new) ≤ most
+    steps_on taken next most one within tells =
+        let kept = file_kept since bits root max_depth now new keeps (file_kept since bits root max_depth first now on.keeps file) in
+        let fewer = one_fewer (basis_of since bits root max_depth now) now new walk after (pages_since since new) (sees_since since new alone.1.may) kept.form on.may.adds tells in
+        omega (arith, one, within, fewer)
+
+    -- and so is the last one
+    pub steps_end : (taken next most : ℕ) (told : WalkAnswer) → next ≤ taken + 1 → taken + steps_to_put root walk (view_over since.written now) ≤ most → TellsAt walk.phase (basis_of since bits root max_depth now) now new walk after told → told ≡ answer.Changed → next ≤ most
+    steps_end taken next most told one within tells is =
+        let left = put_is_left walk.phase (basis_of since bits root max_depth now) now new walk after root (view_over since.written now) on.may.adds (subst (λ told. TellsAt walk.phase (basis_of since bits root max_depth now) now new walk after told) is tells) in
+        omega (arith, one, within, left)
 
     pub less_effort : TellsAt walk.phase (basis_of since bits root max_depth now) now new walk after answer.Going → effort after new < effort walk now
     less_effort tells = (goes_on tells).less

@@ -1,5 +1,5 @@
 -- Two keys' records changed in turn: what is in the store then, and why there is no room
-use Rattle.std.proofs.Common.{◌≡◌, ◌≢◌, ℕ, ◌<◌, ◌+◌, Option, None, Some, IsSome, refl, sym, ap, subst, ◌∙◌, inl, inr, arith}
+use Rattle.std.proofs.Common.{◌+◌, ◌-◌, ◌<◌, ◌^◌, ◌∙◌, ◌≡◌, ◌≢◌, ◌≤◌, IsSome, None, Option, Some, ap, arith, inl, inr, min, refl, subst, sym, ℕ}
 use Rattle.std.proofs.Math.Path.{transport}
 use Rattle.std.specs.FinMap as map
 use Rattle.std.specs.FinSet as set
@@ -19,6 +19,7 @@ use Rattle.mlt_pair.specs.declared.asked.RecordChange.{RecordChange}
 use Rattle.mlt_pair.specs.declared.asked.RecordChange.TheVariants as change
 use Rattle.mlt_hash.specs.Changes.{IsAtAbsent, IsAtRecord}
 use Rattle.mlt_hash.specs.Steps.{steps_to_bucket}
+use Rattle.mlt_hash.specs.StepsLeft.{steps_to_put}
 use Rattle.mlt_hash.specs.Walks.{Basis, Before, IsStanding, MayWalk, WalkFields, basis_after, before_of, nothing_before}
 use Rattle.mlt_hash.specs.declared.pass.Phase.{Phase}
 use Rattle.mlt_hash.specs.declared.pass.Phase.TheVariants as at
@@ -27,9 +28,9 @@ use Rattle.mlt_hash.specs.declared.answer.WalkAnswer.TheVariants as answer
 use Rattle.mlt_hash.specs.declared.pass.Pass.TheVariants as pass
 use Rattle.mlt_hash_file.specs.Alone.{IsAlone, KeepsBefore, basis_of, pages_before, pages_since}
 use Rattle.mlt_hash_file.specs.AloneWalks.{ChangesValue, HasArrived, HasMade, IsFullFor, IsHashFile, NeedsRoom, NeedsSplits, NeverHasRoomFor, TellsOfMaking, TellsOfPass, TellsOfSplits, added_value}
-use Rattle.mlt_hash_file.specs.InTurn.{MayGoOn, MayGoOnIfChanged, RefusesBoth, TellsInTurn, TellsOfKey, bounded_with}
-use Rattle.mlt_hash_file.specs.SplitPages.{HasRoomAt, LacksPages, pages_for, pages_in_the_end}
-use Rattle.mlt_hash_file.specs.TwoKeys.{HasNoRoomFor, TwoKeys, both_changes, two_keys}
+use Rattle.mlt_hash_file.specs.InTurn.{DoesLeft, MayGoOn, MayGoOnIfChanged, PutsIfChanged, RefusesBoth, StepsIfChanged, StepsInTurn, StepsInTurnIfChanged, StepsOfBoth, StepsOfKey, TellsInTurn, TellsOfKey, bounded_with}
+use Rattle.mlt_hash_file.specs.SplitPages.{BoundedFile, HasRoomAt, LacksPages, pages_for, pages_in_the_end, steps_down_to}
+use Rattle.mlt_hash_file.specs.TwoKeys.{HasNoRoomFor, TwoKeys, both_changes, two_keys, value_then}
 use Rattle.mlt_hash_file.proofs.Alone.{store_is_over, unwritten_store}
 use Rattle.mlt_hash_file.proofs.AloneChanges.{may_walk_alone}
 use Rattle.mlt_hash_file.proofs.AlonePasses.{absent_bucket, arrived_store, found_absent, found_is_value, found_record, retell_made}
@@ -112,9 +113,20 @@ module _ (since : Before) (bits : ℕ → ℕ) (root max_depth : ℕ) (old : Mom
     splits_tell (answer.Refused reason) tells = tells
     splits_tell other tells = absurd tells
 
+    -- in so many steps
+    pub splits_put : (told : WalkAnswer) (steps : ℕ) → (told ≡ answer.Changed → steps ≤ steps_to_put root at (view_over since.written mid)) → PutsIfChanged (bounded_with ours old.store.pages new) walk.key told steps
+    splits_put answer.Changed steps most =
+        inr (splits.d, subst (λ (pages : FilePages). HasRoomAt bits pages root max_depth walk.key splits.d) (as_stored mid first) splits.least, subst (λ (n : ℕ). steps ≤ n) (splits.steps ∙ ap (λ (pages : FilePages). steps_down_to bits pages root walk.key splits.d) (as_stored mid first)) (most refl))
+    splits_put other steps most = tt
+
     pub splits_go_on : (told : WalkAnswer) → TellsOfSplits ours new at after (added_value at.phase) (pages_in_the_end root at mid) told → MayGoOnIfChanged ours new after told
     splits_go_on answer.Changed tells = made_goes_on new after (Some value) (has_made tells)
     splits_go_on other tells = tt
+
+-- an addition in a bucket with room takes no more steps
+pub pass_puts : (told : WalkAnswer) (file : BoundedFile) (key : ℕ) → PutsIfChanged file key told 0
+pass_puts answer.Changed file key = inl refl
+pass_puts other file key = tt
 
 -- what was found on the way to the key
 module _ (since : Before) (bits : ℕ → ℕ) (root max_depth : ℕ) (old mid : Moment) (before walk : WalkFields) (found : Option ℕ) (stored : page_at old.store.pages ≡ pages_since since old) (alone : IsAlone mid) (written : HasWritten since.written (view_of mid)) (keeps : KeepsBefore old mid)
@@ -139,6 +151,10 @@ module _ (since : Before) (bits : ℕ → ℕ) (root max_depth : ℕ) (old mid :
     -- what is told there of the key holds of the file as it was before
     pub told_of_key : (new : Moment) (asked : RecordChange) (told : WalkAnswer) → TellsOfKey (basis_of since bits root max_depth mid) mid.store.pages new walk.key asked told → TellsOfKey (basis_of since bits root max_depth old) old.store.pages new before.key asked told
     told_of_key new asked told tells = transport (λ i. TellsOfKey (same_basis since bits root max_depth old mid keeps i) (same_store_there i) new (arrived.same.key i) asked told) tells
+
+    -- and so do its steps
+    pub puts_there : (new : Moment) (told : WalkAnswer) (steps : ℕ) → PutsIfChanged (bounded_with (basis_of since bits root max_depth mid) mid.store.pages new) walk.key told steps → PutsIfChanged (bounded_with (basis_of since bits root max_depth old) old.store.pages new) before.key told steps
+    puts_there new told steps puts = transport (λ i. PutsIfChanged (bounded_with (same_basis since bits root max_depth old mid keeps i) (same_store_there i) new) (arrived.same.key i) told steps) puts
 
     pub goes_on_from_there : (new : Moment) (after : WalkFields) (told : WalkAnswer) → MayGoOnIfChanged (basis_of since bits root max_depth mid) new after told → MayGoOnIfChanged (basis_of since bits root max_depth old) new after told
     goes_on_from_there new after told goes = transport (λ i. MayGoOnIfChanged (same_basis since bits root max_depth old mid keeps i) new after told) goes
@@ -230,3 +246,62 @@ refuses_both basis pages old new two which reason same full tells = subst (λ (n
     here refusal.NoRoom tells = tells
     here refusal.OutOfMemory tells = (which, full)
     here reason tells = absurd (let only : reason ≡ refusal.OutOfMemory = tells in cc)
+
+-- a sum that stops at the greatest number is at most the sum
+pub most_of : (first more steps : ℕ) → steps ≡ min (first + more) (2 ^ 32 - 1) → steps ≤ first + more
+most_of first more steps is = omega (arith, is)
+
+-- the steps of the way to a key and of its put together
+pub steps_of_key : (file : BoundedFile) (key way way' put steps : ℕ) (told : WalkAnswer) → way ≡ way' → steps ≡ min (way + put) (2 ^ 32 - 1) → PutsIfChanged file key told put → StepsIfChanged file key way' told steps
+steps_of_key file key way way' put steps answer.Changed same is puts = (put, puts, subst (λ (w : ℕ). steps ≤ w + put) same (most_of way put steps is))
+steps_of_key file key way way' put steps other same is puts = tt
+
+-- a change of a record that is there takes no more steps than its way
+pub steps_of_way : (file : BoundedFile) (key way way' : ℕ) (told : WalkAnswer) → way ≡ way' → StepsIfChanged file key way' told way
+steps_of_way file key way way' answer.Changed same = (0, inl refl, subst (λ (w : ℕ). way ≤ w + 0) same (omega arith))
+steps_of_way file key way way' other same = tt
+
+-- **The steps of both changes in turn,**
+pub steps_of_two : (file after : BoundedFile) (two : TwoKeys) (first more steps : ℕ) (told : WalkAnswer) → DoesLeft file after two → StepsOfKey file two.left 3 first → StepsIfChanged after two.right 2 told more → steps ≡ min (first + more) (2 ^ 32 - 1) → StepsInTurnIfChanged file two told steps
+steps_of_two file after two first more steps answer.Changed left_done left right is =
+    let sum : steps ≤ first + more = most_of first more steps is in
+    record { after = after; left_done = left_done; left = left.0; right = right.0; left_puts = left.1; right_puts = right.1; most = omega (arith, sum, left.2, right.2) }
+steps_of_two file after two first more steps other left_done left right is = tt
+
+-- **or of one of them.**
+pub steps_of_left : (file after : BoundedFile) (two : TwoKeys) (steps : ℕ) → DoesLeft file after two → StepsOfKey file two.left 3 steps → StepsInTurn file two steps
+steps_of_left file after two steps left_done left = record { after = after; left_done = left_done; left = left.0; right = 0; left_puts = left.1; right_puts = inl refl; most = omega (arith, left.2) }
+
+pub steps_of_right : (file : BoundedFile) (two : TwoKeys) (steps : ℕ) → DoesLeft file file two → StepsOfKey file two.right 3 steps → StepsInTurn file two steps
+steps_of_right file two steps left_done right = record { after = file; left_done = left_done; left = 0; right = right.0; left_puts = inl refl; right_puts = right.1; most = omega (arith, right.2) }
+
+-- so are those of the one change that is asked
+pub left_in_turn : (basis : Basis) (pages : Pages) (new : Moment) (left right : ℕ) (asked : RecordChange) (changes : Changes) (told : WalkAnswer) (steps : ℕ) → changes.left ≡ Some asked → TellsOfKey basis pages new left asked told → StepsIfChanged (bounded_with basis pages new) left 3 told steps
+    → StepsInTurnIfChanged (bounded_with basis pages new) (two_keys left right changes) told steps
+left_in_turn basis pages new left right asked changes answer.Changed steps is tells within =
+    let done : DoesLeft (bounded_with basis pages new) (bounded_with basis new.store.pages new) (two_keys left right changes) = record {
+      bounds = refl;
+      changes = subst (λ (a : Option RecordChange). ChangesValue basis.bits (page_at pages) (page_at new.store.pages) basis.root basis.max_depth left (value_then a (look_up basis.bits (page_at pages) basis.root left))) (sym is) tells;
+    } in
+    steps_of_left (bounded_with basis pages new) (bounded_with basis new.store.pages new) (two_keys left right changes) steps done within
+left_in_turn basis pages new left right asked changes other steps is tells within = tt
+
+pub right_in_turn : (basis : Basis) (pages : Pages) (new : Moment) (left right : ℕ) (changes : Changes) (told : WalkAnswer) (steps : ℕ) → IsHashFile basis.bits (page_at pages) basis.root basis.max_depth → changes.left ≡ None → StepsIfChanged (bounded_with basis pages new) right 3 told steps
+    → StepsInTurnIfChanged (bounded_with basis pages new) (two_keys left right changes) told steps
+right_in_turn basis pages new left right changes answer.Changed steps file none within =
+    let done : DoesLeft (bounded_with basis pages new) (bounded_with basis pages new) (two_keys left right changes) = record {
+      bounds = refl;
+      changes = subst (λ (a : Option RecordChange). ChangesValue basis.bits (page_at pages) (page_at pages) basis.root basis.max_depth left (value_then a (look_up basis.bits (page_at pages) basis.root left))) (sym none) (record { file = file; here = refl; others = λ k ne. refl });
+    } in
+    steps_of_right (bounded_with basis pages new) (two_keys left right changes) steps done within
+right_in_turn basis pages new left right changes other steps file none within = tt
+
+-- **All steps of a change of two keys' records:** of the pass of a pair that found no room, and of both in turn,
+pub steps_with_splits : (basis : Basis) (pages : Pages) (old new : Moment) (two : TwoKeys) (way steps all : ℕ) → new.store.max_pages ≡ old.store.max_pages → way ≤ 5 → StepsInTurn (bounded_with basis pages new) two steps → all ≡ min (way + steps) (2 ^ 32 - 1) → StepsOfBoth (bounded_with basis pages old) two all
+steps_with_splits basis pages old new two way steps all same few within is =
+    let sum = most_of way steps all is in
+    inr (steps, subst (λ (n : ℕ). StepsInTurn (record { bits = basis.bits; has = page_at pages; pages = pages; root = basis.root; max_depth = basis.max_depth; max_pages = n }) two steps) same within, omega (arith, sum, few))
+
+-- **or of the pair alone.**
+pub steps_of_pair : (file : BoundedFile) (two : TwoKeys) (way last all : ℕ) → way ≤ 5 → last ≤ 1 → all ≡ min (way + last) (2 ^ 32 - 1) → StepsOfBoth file two all
+steps_of_pair file two way last all few one is = let sum = most_of way last all is in inl (omega (arith, sum, few, one))

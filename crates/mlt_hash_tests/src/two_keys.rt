@@ -17,8 +17,10 @@ use std::test::Fail;
 enum Act {
     /// Adds these accounts, which are not there, each with a value of its number and 100.
     InsertAll(&'static [u32]),
-    /// Changes these two accounts at once. This is the answer.
+    /// Changes these two accounts at once. This is the answer, the steps that it took left out.
     Both(u32, Option<RecordChange>, u32, Option<RecordChange>, Result<(), Refusal>),
+    /// Changes these two accounts at once, in so many steps.
+    Steps(u32, Option<RecordChange>, u32, Option<RecordChange>, u32),
     /// This account has this value.
     Get(u32, Option<Value>),
     /// The depth of the directory, and the number of pages.
@@ -54,7 +56,7 @@ fn change_both<P: Pseudo>(
     left: Key,
     right: Key,
     changes: &Changes,
-) -> Result<(), Refusal> {
+) -> Result<u32, Refusal> {
     let left_found = file.get(left);
     let right_found = file.get(right);
     assert!(rt; left != right);
@@ -62,6 +64,20 @@ fn change_both<P: Pseudo>(
     assert!(rt; fits(&changes.left, &left_found));
     assert!(rt; fits(&changes.right, &right_found));
     file.change_both(left, right, changes)
+}
+
+// Changes two accounts, each by its number and what is asked of it.
+fn ask<P: Pseudo>(
+    rt: &impl Abort,
+    file: &mut HashFile<P>,
+    left: (u32, Option<RecordChange>),
+    right: (u32, Option<RecordChange>),
+) -> Result<u32, Refusal> {
+    let changes = Changes {
+        left: left.1,
+        right: right.1,
+    };
+    change_both(rt, file, account(left.0), account(right.0), &changes)
 }
 
 fn insert_all<P: Pseudo>(
@@ -86,12 +102,12 @@ fn goes_through<P: Pseudo>(
         match *act {
             Act::InsertAll(numbers) => insert_all(rt, file, numbers)?,
             Act::Both(left, left_change, right, right_change, wanted) => {
-                let changes = Changes {
-                    left: left_change,
-                    right: right_change,
-                };
-                let told = change_both(rt, file, account(left), account(right), &changes);
-                same_at(act, &told, &wanted)?;
+                let told = ask(rt, file, (left, left_change), (right, right_change));
+                same_at(act, &told.map(|_| ()), &wanted)?;
+            }
+            Act::Steps(left, left_change, right, right_change, wanted) => {
+                let told = ask(rt, file, (left, left_change), (right, right_change));
+                same_at(act, &told, &Ok(wanted))?;
             }
             Act::Get(number, wanted) => same_at(act, &file.get(account(number)), &wanted)?,
             Act::Form(depth, pages) => {
@@ -186,6 +202,36 @@ const TWO_DIRECTORY_PAGES: &[Act] = &[
     Act::Get(32_768, None),
     Act::Get(32_769, Some(6)),
     Act::Form(13, 47),
+];
+
+// A pass of a pair locks the header, one or two pages of the directory and one or two buckets, and writes the earlier bucket in
+// a step of its own, if both change.
+const STEPS_OF_A_PAIR: &[Act] = &[
+    Act::Steps(0, Some(Insert(1)), 1, Some(Insert(2)), 3),
+    Act::Steps(0, Some(Update(3)), 1, None, 3),
+    Act::InsertAll(&[2, 3, 4, 5, 6, 7]),
+    Act::InsertAll(&[32_768]),
+    Act::Form(1, 4),
+    Act::Steps(0, Some(Update(4)), 32_768, Some(Update(5)), 5),
+    Act::Steps(32_768, Some(Update(6)), 0, Some(Update(7)), 5),
+    Act::InsertAll(&[8]),
+    Act::Form(13, 47),
+    Act::Steps(0, Some(Update(8)), 32_768, Some(Update(9)), 6),
+];
+
+// Three steps find no room. Then the wide pass: the header, the directory page and the bucket; the new bucket, the old one, the
+// directory page and the header of one split; the put; and the directory page and the bucket of the second key.
+const THIRTEEN_STEPS: &[Act] = &[
+    Act::InsertAll(&[0, 1, 2, 3, 4, 5, 6, 32_768]),
+    Act::Steps(7, Some(Insert(1)), 32_768, Some(Update(9)), 13),
+    Act::Form(1, 4),
+];
+
+// For the second key: three steps, and three; then two to its bucket, four of the split, and the put.
+const THE_SAME_FOR_THE_SECOND_KEY: &[Act] = &[
+    Act::InsertAll(&[0, 1, 2, 3, 4, 5, 6, 32_768]),
+    Act::Steps(32_768, Some(Update(9)), 7, Some(Insert(1)), 13),
+    Act::Form(1, 4),
 ];
 
 // The bucket of accounts 0 to 7 is split thirteen times, until account 8 has another one: for the left key,
@@ -336,6 +382,13 @@ fn splits_that_move_the_other_key(rt: HostRuntime) -> Result<(), Fail> {
 }
 
 #[test]
+fn steps_of_two_keys(rt: HostRuntime) -> Result<(), Fail> {
+    goes(&rt, rt.alloc(), 100, STEPS_OF_A_PAIR)?;
+    goes(&rt, rt.alloc(), 4, THIRTEEN_STEPS)?;
+    goes(&rt, rt.alloc(), 4, THE_SAME_FOR_THE_SECOND_KEY)
+}
+
+#[test]
 fn splits_for_both_keys(rt: HostRuntime) -> Result<(), Fail> {
     goes(&rt, rt.alloc(), 59, SPLITS_FOR_BOTH)
 }
@@ -411,11 +464,8 @@ fn change_beside(
     }
     let left_key = account(number_of(left));
     let right_key = account(number_of(right));
-    same_at(
-        &state,
-        &change_both(rt, file, left_key, right_key, &changes),
-        &Ok(()),
-    )?;
+    let told = change_both(rt, file, left_key, right_key, &changes);
+    same_at(&state, &told.is_ok(), &true)?;
     has[left as usize] = changed(has[left as usize], &changes.left);
     has[right as usize] = changed(has[right as usize], &changes.right);
     same_at(&left, &file.get(left_key), &has[left as usize])?;

@@ -1,3 +1,5 @@
+use Rattle.mlt_hash_file.specs.HashFiles.{bounded_by}
+use Rattle.mlt_hash_file.specs.InTurn.{StepsOfBoth}
 use Rattle.std.proofs.Common.{◌≡◌, ◌∙◌, sym, ap, subst}
 use Rattle.std.proofs.Math.Path.{transport}
 use Rattle.std.specs.FinMap as map
@@ -35,3 +37,6 @@ pub returns-in-Err-clause-err : goal.returns-in-Err-clause-err
 returns-in-Err-clause-err g c =
     let stays : c.roll_back.new.self.store ≡ c.self.inside.runner.store = idle_store_stays c.self.inside.runner c.roll_back.new.self c.self.invariant.0 c.roll_back.ensures.idle (keeps_both c.self.inside.runner c.change_records.new.self c.roll_back.new.self c.change_records.ensures.keeps c.roll_back.ensures.keeps) in
     (λ i. record { pages = (stays i).pages; root = c.self.inside.root.page; max_depth = c.self.inside.root.max_depth; max_pages = (stays i).max_pages; pseudo = c.self.inside.root.pseudo }) ∙ c.self.view_is
+
+pub returns-in-Ok-clause-steps : goal.returns-in-Ok-clause-steps
+returns-in-Ok-clause-steps g c = transport (λ i. StepsOfBoth (bounded_by g.P.Pseudo.bits_of (c.self.view_is i)) (two_keys c.args.left c.args.right c.args.changes.now) c.in-Ok.steps) c.in-Ok.ensures.steps

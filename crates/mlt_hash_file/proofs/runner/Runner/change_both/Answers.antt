@@ -1,4 +1,4 @@
-use Rattle.std.proofs.Common.{ℕ, refl, subst, sym}
+use Rattle.std.proofs.Common.{ℕ, arith, refl, subst, sym}
 use Rattle.mlt_held.specs.Moments.{Moment, moment}
 use Rattle.mlt_held.specs.Views.{view_of}
 use Rattle.mlt_pair.specs.Changes.{HasChanged}
@@ -53,4 +53,5 @@ returns-in_default g c =
       keeps = keeps;
       tells = tells_both (g.P.Pseudo.bits_of c.args.root.now.pseudo) c.args.root.now.page c.args.root.now.max_depth c.self.inside.opens c.args.self.now old c.args.pair.now c.args.changes.now c.self.invariant.1 c.self.view_is c.self.invariant.0 c.requires.1.1.0 c.requires.1.1.1.0 c.requires.1.1.1.1.0 c.requires.1.1.1.1.1.1
           mid c.change.new.self c.change.result c.change.ensures.leaves.may keeps c.in_default.not-OneLeft c.change.ensures.tells;
+      steps = omega arith;
     }

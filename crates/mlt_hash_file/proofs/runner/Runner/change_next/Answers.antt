@@ -1,3 +1,5 @@
+use Rattle.std.proofs.Math.Path.{transport}
+use Rattle.mlt_hash.specs.Steps.{steps_to_bucket}
 use Rattle.std.proofs.Common.{◌∙◌, Some, refl, subst, sym}
 use Rattle.mlt_store.specs.Stores.{page_at}
 use Rattle.mlt_hash_form.specs.File.{look_up}
@@ -5,7 +7,7 @@ use Rattle.mlt_held.specs.Moments.{moment}
 use Rattle.mlt_pair.specs.Plans.{FitsFound}
 use Rattle.mlt_hash.specs.Walks.{nothing_before}
 use Rattle.mlt_hash_file.specs.Alone.{basis_of}
-use Rattle.mlt_hash_file.specs.InTurn.{TellsOfKey}
+use Rattle.mlt_hash_file.specs.InTurn.{StepsIfChanged, TellsOfKey, bounded_with}
 use Rattle.mlt_hash_file.proofs.InTurn.{file_on, may_go_on, more_to_go, stands_on, stored_on, written_on}
 use Rattle.mlt_hash_file.proofs.runner.Runner.change_next.Goals as goal
 
@@ -36,4 +38,9 @@ change_key-requires g c κs within =
 
 pub returns-clause-tells : goal.returns-clause-tells
 returns-clause-tells g c =
-    subst (λ k. TellsOfKey (basis_of nothing_before (g.P.Pseudo.bits_of c.args.root.now.pseudo) c.args.root.now.page c.args.root.now.max_depth c.args.self.now) c.args.self.now.store.pages c.change_key.new.self k c.args.change c.change_key.result) (λ i. (c.go_on_to.ensures.walk.3 i).key) c.change_key.ensures.tells
+    subst (λ k. TellsOfKey (basis_of nothing_before (g.P.Pseudo.bits_of c.args.root.now.pseudo) c.args.root.now.page c.args.root.now.max_depth c.args.self.now) c.args.self.now.store.pages c.change_key.new.self k c.args.change c.change_key.result.0) (λ i. (c.go_on_to.ensures.walk.3 i).key) c.change_key.ensures.tells
+
+pub returns-clause-steps : goal.returns-clause-steps
+returns-clause-steps g c =
+    let walk = c.go_on_to.ensures.walk in
+    transport (λ i. StepsIfChanged (bounded_with (basis_of nothing_before (g.P.Pseudo.bits_of c.args.root.now.pseudo) c.args.root.now.page c.args.root.now.max_depth c.args.self.now) c.args.self.now.store.pages c.change_key.new.self) ((walk.3 i).key) (steps_to_bucket ((walk.3 i).phase)) c.change_key.result.0 c.change_key.result.1) c.change_key.ensures.steps
