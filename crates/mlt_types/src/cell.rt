@@ -15,6 +15,8 @@ pub enum Cell {
     Element(u16, u32),
     /// A counter, by its number.
     Counter(u32),
+    /// How many elements a set has, by the set's number.
+    Size(u16),
 }
 
 /// The key of a cell's record. A contract sees its number.
@@ -39,9 +41,12 @@ const COUNTERS: u64 = 2 << 48;
 
 const ELEMENTS: u64 = 3 << 48;
 
+const SIZES: u64 = 4 << 48;
+
 impl Key {
-    /// The key of a cell: `2^48 + a` for account `a`, `2 * 2^48 + c` for counter `c`, and
-    /// `3 * 2^48 + s * 2^32 + e` for element `e` of set `s`. No other cell has it.
+    /// The key of a cell: `2^48 + a` for account `a`, `2 * 2^48 + c` for counter `c`,
+    /// `3 * 2^48 + s * 2^32 + e` for element `e` of set `s`, and `4 * 2^48 + s` for the size of set `s`. No other
+    /// cell has it.
     pub fn of(cell: &Cell) -> Key
         ensures number { result ≡ key_number cell.now }
         ensures apart { (other : Cell) → IsInRange other → key_number other ≡ result
@@ -51,11 +56,12 @@ impl Key {
             Cell::Account(account) => ACCOUNTS + u64::from(account),
             Cell::Counter(counter) => COUNTERS + u64::from(counter),
             Cell::Element(set, element) => ELEMENTS + (u64::from(set) << 32) + u64::from(element),
+            Cell::Size(set) => SIZES + u64::from(set),
         };
         Key { number }
     }
 
-    /// The number of the key, below 2^50.
+    /// The number of the key, below 2^51.
     pub fn number(&self) -> u64
         ensures { result ≡ self.now }
     {
