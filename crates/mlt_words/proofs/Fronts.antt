@@ -100,6 +100,7 @@ no_comment key.Has rest = refl
 no_comment key.Up rest = refl
 no_comment key.Down rest = refl
 no_comment key.Read rest = refl
+no_comment key.Size rest = refl
 no_comment key.Opened rest = refl
 no_comment key.Exists rest = refl
 no_comment key.Closed rest = refl

@@ -32,6 +32,7 @@ spelling key.Has = codes "has"
 spelling key.Up = codes "up"
 spelling key.Down = codes "down"
 spelling key.Read = codes "read"
+spelling key.Size = codes "size"
 spelling key.Opened = codes "opened"
 spelling key.Exists = codes "exists"
 spelling key.Closed = codes "closed"
@@ -51,9 +52,9 @@ abbrev pub all_keywords : List Keyword
 all_keywords =
     key.Begin ∷ key.Commit ∷ key.Abort ∷ key.Need ∷ key.Let ∷ key.If ∷ key.Else ∷ key.End ∷ key.Is ∷
     key.Equals ∷ key.Open ∷ key.Close ∷ key.Deposit ∷ key.Withdraw ∷ key.Balance ∷ key.Add ∷
-    key.Remove ∷ key.Has ∷ key.Up ∷ key.Down ∷ key.Read ∷ key.Opened ∷ key.Exists ∷ key.Closed ∷
-    key.NotEmpty ∷ key.Done ∷ key.Over ∷ key.Short ∷ key.Missing ∷ key.Added ∷ key.Present ∷
-    key.Removed ∷ key.Absent ∷ key.Yes ∷ key.No ∷ []
+    key.Remove ∷ key.Has ∷ key.Up ∷ key.Down ∷ key.Read ∷ key.Size ∷ key.Opened ∷ key.Exists ∷
+    key.Closed ∷ key.NotEmpty ∷ key.Done ∷ key.Over ∷ key.Short ∷ key.Missing ∷ key.Added ∷
+    key.Present ∷ key.Removed ∷ key.Absent ∷ key.Yes ∷ key.No ∷ []
 
 -- whether the keyword begins with the byte
 abbrev pub begins_with : ℕ → Keyword → Bool

@@ -31,6 +31,7 @@ pub enum Keyword {
     Up,
     Down,
     Read,
+    Size,
     Opened,
     Exists,
     Closed,
@@ -87,6 +88,7 @@ impl Keyword {
             Keyword::Up => b"up",
             Keyword::Down => b"down",
             Keyword::Read => b"read",
+            Keyword::Size => b"size",
             Keyword::Opened => b"opened",
             Keyword::Exists => b"exists",
             Keyword::Closed => b"closed",
@@ -156,7 +158,7 @@ fn spelled(first: u8, word: &[u8]) -> Option<Keyword>
             let removed = or_else(Keyword::Removed, word, None);
             or_else(Keyword::Remove, word, or_else(Keyword::Read, word, removed))
         }
-        b's' => or_else(Keyword::Short, word, None),
+        b's' => or_else(Keyword::Size, word, or_else(Keyword::Short, word, None)),
         b'u' => or_else(Keyword::Up, word, None),
         b'w' => or_else(Keyword::Withdraw, word, None),
         b'y' => or_else(Keyword::Yes, word, None),
