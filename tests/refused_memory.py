@@ -27,6 +27,14 @@ ALL_KINDS = (
     + ["begin", "whole 7 remove 3 4", "whole 7 read 7", "whole 7 close 2", "commit 7"]
 )
 SPLIT_STAYS = ["begin", *EIGHT, "commit 1", "begin", "whole 2 open 32768", "abort 2", "undo 2"]
+# With low pseudokeys sixteen accounts fill two buckets, and the second addition splits both: one for its element, and the
+# other for the size of its set.
+SIXTEEN = [f"whole 1 open {n}" for n in range(0, 65536, 4096)]
+SPLITS_FOR_BOTH = ["begin", *SIXTEEN, "commit 1", "begin", "call 2 add 40000 20000", *["step 2"] * 40, "commit 2"]
+SIZES_TAKEN_BACK = (
+    ["begin", "whole 1 add 4 1", "whole 1 size 4", "whole 1 add 4 2", "whole 1 remove 4 1", "abort 1", "undo 1"]
+    + ["begin", "whole 2 size 4", "whole 2 add 4 5", "commit 2"]
+)
 COUNTER_WRAPS = (
     ["begin", "begin", "whole 1 up 2 5", "whole 2 up 2 5", "abort 1", "undo 1", "commit 2"]
     + ["begin", "whole 3 read 2", "whole 3 down 2 6", "commit 3"]
@@ -38,6 +46,11 @@ SPLIT_STAYS_TELLS = lines(f"{OPENED}done opened|aborting|aborted|{ACCOUNTS}|dept
 COUNTER_WRAPS_TELLS = lines(
     "begun 1|begun 2|done done|done done|aborting|aborted|committed 1|begun 3|done is 5|done done|committed 2"
     "|counter 2 18446744073709551615|depth 0"
+)
+
+SIZES_TAKEN_BACK_TELLS = lines(
+    "begun 1|done added|done is 1|done added|done removed|aborting|aborted|begun 2|done is 0|done added|committed 1"
+    "|element 4 5|depth 0"
 )
 
 FIRST_RUN = lines("begin|open 1|deposit 1 50|balance 1|commit")
@@ -157,6 +170,9 @@ STEPS = {
     "refused-growths-of-split-stays-after-abort": ("low", SPLIT_STAYS, SPLIT_STAYS_TELLS),
     "refused-growths-of-counter-wraps-mult": ("mult", COUNTER_WRAPS, COUNTER_WRAPS_TELLS),
     "refused-growths-of-counter-wraps-low": ("low", COUNTER_WRAPS, COUNTER_WRAPS_TELLS),
+    "refused-growths-of-splits-for-two-keys": ("low", SPLITS_FOR_BOTH, None),
+    "refused-growths-of-sizes-taken-back-mult": ("mult", SIZES_TAKEN_BACK, SIZES_TAKEN_BACK_TELLS),
+    "refused-growths-of-sizes-taken-back-low": ("low", SIZES_TAKEN_BACK, SIZES_TAKEN_BACK_TELLS),
 }
 
 
@@ -180,11 +196,19 @@ def steps(mltx, case):
 
 
 SPLIT = ["begin", *EIGHT, "commit 1", "begin", "whole 2 open 32768"]
+SPREAD = "|".join(f"account {n} 0" for n in range(0, 65536, 4096))
+SPREAD_TELLS = "begun 1|" + "done opened|" * 16 + "committed 1|begun 2|"
+IN_BOTH = ["begin", *SIXTEEN, "commit 1", "begin", "whole 2 add 40000 20000"]
 IN_SPLIT = {
     "growth-refused-in-split": (SPLIT, f"{OPENED}{REFUSED}|{ACCOUNTS}|depth 0"),
     "growth-refused-in-split-and-the-call-repeated": (
         [*SPLIT, "whole 2 open 32768", "commit 2"],
         f"{OPENED}{REFUSED}|done opened|committed 2|{ACCOUNTS}|account 32768 0|depth 1",
+    ),
+    "growth-refused-in-splits-for-two-keys": (IN_BOTH, f"{SPREAD_TELLS}{REFUSED}|{SPREAD}|depth 1"),
+    "growth-refused-in-splits-for-two-keys-and-the-call-repeated": (
+        [*IN_BOTH, "whole 2 add 40000 20000", "whole 2 size 40000", "commit 2"],
+        f"{SPREAD_TELLS}{REFUSED}|done added|done is 1|committed 2|{SPREAD}|element 40000 20000|depth 2",
     ),
 }
 
@@ -196,7 +220,7 @@ def in_split(mltx, case):
     runs = Runs(mltx, "steps", "--hash", "low")
     met = 0
     for what, came in runs.one_refused(lambda number: runs.run(as_text(events), first=number)):
-        if came.out.startswith(lines(f"{OPENED}{REFUSED}")):
+        if came.out.startswith(lines(tells[: tells.index(REFUSED) + len(REFUSED)])):
             met += 1
             same((came.status, came.out, came.err), (0, lines(tells), ""), what)
     holds(met > 0, "no request for memory of the split was refused")

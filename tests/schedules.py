@@ -88,6 +88,9 @@ class History:
         self.standing[number] -= count
 
 
+LINE = "\n"
+
+
 def going(count):
     return ", ".join(["going"] * count)
 
@@ -112,6 +115,8 @@ EIGHT = range(8)
 ALIKE = range(0, 8 * 65536, 65536)
 # Eight more that are alike, in the other half.
 HIGH = range(32768, 8 * 65536, 65536)
+# Nine that make one of depth 1: five in its lower half, and four in the other.
+PARTED = (*range(5), *range(32768, 32772))
 # Seventeen that make a directory of depth 13 by low pseudokeys.
 DEEP = (*range(9), *range(1024, 1032))
 
@@ -490,6 +495,186 @@ element 65535 0
 counter 3 5
 counter 9 1
 depth 1""", LOW),
+    # A set's size waits for additions of others, each to its commit.
+    "size-waits-for-adds": Schedule("""
+begin > begun 1
+begin > begun 2
+begin > begun 3
+whole 1 add 4 1 > done added
+whole 2 add 4 2 > done added
+whole 3 size 4 > blocked by 1
+commit 1 > committed 1
+whole 3 size 4 > blocked by 2
+commit 2 > committed 2
+whole 3 size 4 > done is 2
+commit 3 > committed 3
+element 4 1
+element 4 2
+depth 0"""),
+    # A removal waits for a size that was told, as an addition does; what changes nothing, and what reads, waits for none.
+    "size-holds-back-what-changes-it": Schedule("""
+begin > begun 1
+whole 1 add 4 1 > done added
+commit 1 > committed 1
+begin > begun 2
+whole 2 size 4 > done is 1
+begin > begun 3
+whole 3 size 4 > done is 1
+whole 3 add 4 1 > done present
+whole 3 remove 4 2 > done absent
+whole 3 has 4 1 > done yes
+whole 3 size 5 > done is 0
+whole 3 add 5 1 > done added
+whole 3 add 4 2 > blocked by 2
+whole 3 remove 4 1 > blocked by 2
+abort 2 > aborting
+undo 2 > aborted
+whole 3 remove 4 1 > done removed
+whole 3 size 4 > done is 0
+commit 3 > committed 2
+element 5 1
+depth 0"""),
+    # The lowest that holds back is told: here an element's, there a size's.
+    "lowest-of-element-and-size": Schedule("""
+begin > begun 1
+begin > begun 2
+begin > begun 3
+begin > begun 4
+whole 2 has 4 1 > done no
+whole 3 size 4 > done is 0
+whole 4 add 4 1 > blocked by 2
+whole 4 add 4 2 > blocked by 3
+whole 1 size 4 > done is 0
+whole 4 add 4 1 > blocked by 1
+commit 1 > committed 1
+commit 3 > committed 2
+whole 4 add 4 1 > blocked by 2
+whole 4 add 4 2 > done added
+whole 2 size 4 > blocked by 4
+commit 4 > committed 3
+whole 2 size 4 > done is 1
+element 4 2
+depth 0"""),
+    # A set of which all is taken back has a size record still, which has 0.
+    "sizes-are-taken-back": Schedule("""
+begin > begun 1
+whole 1 size 4 > done is 0
+whole 1 add 4 1 > done added
+whole 1 size 4 > done is 1
+whole 1 add 4 2 > done added
+whole 1 size 4 > done is 2
+whole 1 remove 4 1 > done removed
+whole 1 size 4 > done is 1
+abort 1 > aborting
+step 1 > undone
+step 1 > going, going, going, undone
+step 1 > undone
+step 1 > going, going, going, undone
+step 1 > undone
+step 1 > going, going, going, undone
+step 1 > aborted
+begin > begun 2
+whole 2 size 4 > done is 0
+whole 2 add 4 5 > done added
+whole 2 size 4 > done is 1
+commit 2 > committed 1
+element 4 5
+depth 0"""),
+    "size-record-stays-at-zero": Schedule("""
+begin > begun 1
+whole 1 add 4 1 > done added
+whole 1 remove 4 1 > done removed
+commit 1 > committed 1
+begin > begun 2
+call 2 size 4 > called
+step 2 > going, going, going, done is 0
+whole 2 size 65535 > done is 0
+whole 2 add 4 1 > done added
+commit 2 > committed 2
+element 4 1
+depth 0"""),
+    # Another transaction adds while one takes its own addition back: both count.
+    "other-adds-while-one-is-taken-back": Schedule("""
+begin > begun 1
+begin > begun 2
+whole 1 add 4 1 > done added
+whole 2 add 4 2 > done added
+abort 1 > aborting
+step 1 > going, going, going
+whole 2 add 4 3 > waiting by 1
+step 1 > aborted
+whole 2 add 4 3 > done added
+commit 2 > committed 1
+begin > begun 3
+whole 3 size 4 > done is 2
+element 4 2
+element 4 3
+depth 0"""),
+    # By `low` seven accounts, the element and the size of set 0 have one pseudokey: there is room for eight.
+    "no-room-for-a-size": Schedule(f"""
+{made(*ALIKE[:7])}
+begin > begun 2
+whole 2 add 0 0 > refused 2 NoRoom
+whole 2 has 0 0 > done no
+whole 2 size 0 > done is 0
+{empty(*ALIKE[:7])}
+depth 0""", LOW),
+    "room-for-a-size": Schedule(f"""
+{made(*ALIKE[:6])}
+begin > begun 2
+whole 2 add 0 0 > done added
+whole 2 size 0 > done is 1
+commit 2 > committed 2
+{empty(*ALIKE[:6])}
+element 0 0
+depth 0""", LOW),
+    # The size record exists, so that the element alone needs room, and has none.
+    "no-room-for-an-element-beside-its-size": Schedule(f"""
+{made(*ALIKE[:6])}
+begin > begun 2
+whole 2 add 0 0 > done added
+call 2 add 0 65536 > called
+step 2 > {going(5)}, refused 2 NoRoom
+whole 2 size 0 > done is 1
+commit 2 > committed 2
+{empty(*ALIKE[:6])}
+element 0 0
+depth 0""", LOW),
+    # The set's own number is the size's low pseudokey, so the split parts it from the elements.
+    "size-after-a-split": Schedule(f"""
+begin > begun 1
+{LINE.join(f"whole 1 add 32768 {number} > done added" for number in range(7))}
+commit 1 > committed 1
+begin > begun 2
+call 2 add 32768 7 > called
+step 2 > {going(13)}, done added
+whole 2 size 32768 > done is 8
+abort 2 > aborting
+undo 2 > aborted
+begin > begun 3
+whole 3 size 32768 > done is 7
+{LINE.join(f"element 32768 {number}" for number in range(7))}
+depth 1""", LOW),
+    # In two buckets the later one is written in its step, and the earlier one in a step of its own, where it changes. In
+    # one bucket both are written in one step.
+    "element-and-size-in-two-buckets": Schedule(f"""
+{made(*PARTED)}
+begin > begun 2
+call 2 remove 32769 7 > called
+step 2 > {going(4)}, done absent
+call 2 add 40000 60000 > called
+step 2 > {going(3)}, done added
+call 2 add 40000 9 > called
+step 2 > {going(5)}, done added
+call 2 add 40000 9 > called
+step 2 > {going(4)}, done present
+abort 2 > aborting
+step 2 > undone
+step 2 > {going(5)}, undone
+step 2 > {going(3)}, undone
+step 2 > aborted
+{empty(*PARTED)}
+depth 1""", LOW),
 }
 
 
@@ -519,8 +704,9 @@ def trace_of_the_abort(mltx):
 
 
 def keys_of(count):
-    """The numbers of the keys of as many accounts, counters and elements of set 5."""
-    return [kind * 2**48 + rest + number for kind, rest in ((1, 0), (2, 0), (3, 5 * 2**32)) for number in range(count)]
+    """The numbers of the keys of as many accounts, counters and elements of set 5, and of the size of that set."""
+    named = ((1, 0), (2, 0), (3, 5 * 2**32))
+    return [*(kind * 2**48 + rest + number for kind, rest in named for number in range(count)), 4 * 2**48 + 5]
 
 
 def mult(key):
@@ -595,10 +781,12 @@ def hash_functions_differ(mltx):
 
 @test
 def low_pseudokeys_of_each_kind_are_one(mltx):
-    """Cells of three kinds with the same 16 low bits of their numbers share a bucket, and the ninth finds no room."""
+    """Cells of three kinds with the same 16 low bits of their numbers share a bucket, and the ninth finds no room. The
+    sizes of the sets are apart from them by the numbers of the sets."""
     asked = ["open 5", "up 5 1", "add 0 5", "add 1 5", "add 65535 5", "open 65541", "up 4294901765 1", "add 7 65541"]
     replies = ["opened", "done", "added", "added", "added", "opened", "done", "added"]
     text = "".join(f"whole 1 {operation}\n" for operation in [*asked, "add 2 5"])
     told = "".join(f"done {reply}\n" for reply in replies)
     ran = mltx.run("steps", "--hash", "low", "-", given=f"begin\n{text}")
-    expect(ran, out=f"begun 1\n{told}refused 2 NoRoom\ndepth 0\n")
+    depth = depth_of([5] * 8 + [4 * 2**48 + number for number in (0, 1, 65535, 7)], low)
+    expect(ran, out=f"begun 1\n{told}refused 2 NoRoom\ndepth {depth}\n")

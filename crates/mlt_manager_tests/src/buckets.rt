@@ -35,6 +35,22 @@ whole 1 open 262144\nwhole 1 open 327680\nwhole 1 open 393216\nwhole 1 open 4587
 pub const ALIKE_TEXT: &str = "account 0 0\naccount 65536 0\naccount 131072 0\naccount 196608 0\n\
 account 262144 0\naccount 327680 0\naccount 393216 0\naccount 458752 0\n";
 
+/// All of them but one.
+pub const ALIKE_SEVEN: &[Row] = &[
+    ("begin", 1, "begun 1"),
+    (
+        "whole 1 open 0\nwhole 1 open 65536\nwhole 1 open 131072\nwhole 1 open 196608\n\
+whole 1 open 262144\nwhole 1 open 327680\nwhole 1 open 393216",
+        7,
+        "done opened",
+    ),
+    ("commit 1", 1, "committed 1"),
+];
+
+/// The base of these seven.
+pub const ALIKE_SEVEN_TEXT: &str = "account 0 0\naccount 65536 0\naccount 131072 0\n\
+account 196608 0\naccount 262144 0\naccount 327680 0\naccount 393216 0\n";
+
 /// A directory of depth 13, of whose pages the first has all entries of a full bucket of depth 6.
 pub const DEEP: &[Row] = &[
     ("begin", 1, "begun 1"),

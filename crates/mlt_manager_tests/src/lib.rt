@@ -18,6 +18,8 @@ mod room;
 #[cfg(test)]
 mod schedule;
 #[cfg(test)]
+mod sizes;
+#[cfg(test)]
 mod solo;
 #[cfg(test)]
 mod splits;
