@@ -5,5 +5,6 @@ pub mod Reading
 pub mod Rebased
 pub mod Results
 pub mod Since
+pub mod Turns
 pub mod Unwritten
 pub mod Views

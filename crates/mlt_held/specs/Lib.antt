@@ -1,4 +1,5 @@
 pub mod Moments
 pub mod PageSteps
+pub mod PageTurns
 pub mod Reading
 pub mod Views
