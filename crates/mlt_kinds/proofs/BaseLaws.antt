@@ -1,6 +1,5 @@
--- The laws of whole bases: what the cells hold is the base, a step has one answer and one start, and steps on
--- different cells pass each other.
-use Rattle.std.proofs.Common.{◌≡◌, ◌≢◌, ◌⊎◌, inl, inr, ℕ, zero, suc, Bool, true, false, cond, Option, None, Some, Contains, is_some, refl, sym, ap, subst, ◌∙◌, arith}
+-- The laws of whole bases: what the cells hold is the base, and a step has one answer and one start.
+use Rattle.std.proofs.Common.{◌≡◌, ◌≢◌, ◌⊎◌, inl, inr, ℕ, zero, suc, Bool, true, false, cond, Option, None, Some, is_some, refl, sym, ap, subst, ◌∙◌, arith}
 use Rattle.std.proofs.lemmas.Bool.{cases_eq}
 use Rattle.std.proofs.lemmas.Cmp.{on_total, then_total, tied_itself}
 use Rattle.std.specs.declared.cmp.Ordering.{Ordering}
@@ -9,19 +8,18 @@ use Rattle.std.specs.Ordering.{nat_cmp, ordering_then, eq_by_cmp, is_eq}
 use Rattle.std.specs.Cmp.{IsTotalOrder, nat_cmp_total}
 use Rattle.std.specs.FinMap as map
 use Rattle.mlt_types.specs.declared.cell.Cell.{Cell}
-use Rattle.mlt_types.specs.declared.cell.Cell.TheVariants.{Account, Element, Counter}
+use Rattle.mlt_types.specs.declared.cell.Cell.TheVariants.{Account, Element, Counter, Size}
 use Rattle.mlt_types.specs.Maps.{with_entry}
 use Rattle.mlt_kinds.specs.declared.operation.ObjOp.{ObjOp}
 use Rattle.mlt_kinds.specs.declared.operation.ObjOp.TheVariants as op
 use Rattle.mlt_kinds.specs.declared.operation.ObjReply.{ObjReply}
 use Rattle.mlt_kinds.specs.AccountLaws.{account_one_answer, account_one_start}
-use Rattle.mlt_kinds.specs.Bases.{Base, Step, counter_entry, counter_value, element_cmp, element_entry, state_at, with_state}
+use Rattle.mlt_kinds.specs.Bases.{Base, Step, TellsSize, counter_entry, counter_value, element_cmp, element_entry, state_at, with_state}
 use Rattle.mlt_kinds.specs.Cells.{CellState, CellStep}
-use Rattle.mlt_kinds.specs.Cells.CellState.{AccountState, ElementState, CounterState}
+use Rattle.mlt_kinds.specs.Cells.CellState.{AccountState, ElementState, CounterState, NoState}
 use Rattle.mlt_kinds.specs.CounterLaws.{counter_one_answer, counter_one_start}
 use Rattle.mlt_kinds.specs.ElementLaws.{element_one_answer, element_one_start}
-use Rattle.mlt_kinds.specs.Operations.{AreApart, cell_of, cells_of}
-use Rattle.mlt_kinds.specs.Passing.{Passes, PassesOnCell}
+use Rattle.mlt_kinds.specs.Operations.{cell_of}
 
 -- ---- orders and keys
 
@@ -45,16 +43,23 @@ one_cell_or_two (Element s e) (Element t f) =
       | inr n ↦ inr (λ h. n (cc))
     ]
 one_cell_or_two (Counter c) (Counter d) = elim (cases_eq c d) [ inl e ↦ inl (ap Counter e) | inr n ↦ inr (λ h. n (cc)) ]
+one_cell_or_two (Size s) (Size t) = elim (cases_eq s t) [ inl e ↦ inl (ap Size e) | inr n ↦ inr (λ h. n (cc)) ]
 one_cell_or_two (Account a) (Element t f) = inr (λ h. cc)
 one_cell_or_two (Account a) (Counter d) = inr (λ h. cc)
 one_cell_or_two (Element s e) (Account b) = inr (λ h. cc)
 one_cell_or_two (Element s e) (Counter d) = inr (λ h. cc)
 one_cell_or_two (Counter c) (Account b) = inr (λ h. cc)
 one_cell_or_two (Counter c) (Element t f) = inr (λ h. cc)
+one_cell_or_two (Account a) (Size t) = inr (λ h. cc)
+one_cell_or_two (Element s e) (Size t) = inr (λ h. cc)
+one_cell_or_two (Counter c) (Size t) = inr (λ h. cc)
+one_cell_or_two (Size s) (Account b) = inr (λ h. cc)
+one_cell_or_two (Size s) (Element t f) = inr (λ h. cc)
+one_cell_or_two (Size s) (Counter d) = inr (λ h. cc)
 
 -- ---- what the cells hold is the base
 
-same_element : (p q : Option (Unit {0})) → is_some p ≡ is_some q → p ≡ q
+pub same_element : (p q : Option (Unit {0})) → is_some p ≡ is_some q → p ≡ q
 same_element None None e = refl
 same_element None (Some y) e = absurd (cc)
 same_element (Some x) None e = absurd (cc)
@@ -91,25 +96,32 @@ same_base b d h =
 
 -- ---- one answer, one start
 
-cell_one_answer : (o : ObjOp) (s t u : CellState) (r q : ObjReply) → CellStep s (o, r) t → CellStep s (o, q) u → (r ≡ q) × (t ≡ u)
-cell_one_answer (op.Account a o) (AccountState s) (AccountState t) (AccountState u) r q h k =
+-- what is told of a size is one reply
+abbrev OneAnswer : Base → ObjOp → ObjReply → ObjReply → CellState → CellState → CellState → Type 0
+OneAnswer b o r q s t u =
+    CellStep s (o, r) t → CellStep s (o, q) u → TellsSize b (o, r) → TellsSize b (o, q) → (r ≡ q) × (t ≡ u)
+
+cell_one_answer : (b : Base) (o : ObjOp) (r q : ObjReply) (s t u : CellState) → OneAnswer b o r q s t u
+cell_one_answer b (op.Account a o) r q (AccountState s) (AccountState t) (AccountState u) h k _ _ =
     let one = account_one_answer s o r q t u h k in (one.0, ap AccountState one.1)
-cell_one_answer (op.Element set e o) (ElementState s) (ElementState t) (ElementState u) r q h k =
+cell_one_answer b (op.Element set e o) r q (ElementState s) (ElementState t) (ElementState u) h k _ _ =
     let one = element_one_answer s o r q t u h k in (one.0, ap ElementState one.1)
-cell_one_answer (op.Counter c o) (CounterState s) (CounterState t) (CounterState u) r q h k =
+cell_one_answer b (op.Counter d o) r q (CounterState s) (CounterState t) (CounterState u) h k _ _ =
     let one = counter_one_answer s o r q t u h k in (one.0, ap CounterState one.1)
-cell_one_answer _ _ _ _ r q h k = absurd (first_of (cc, grind arith))
+cell_one_answer b (op.Size set) r q NoState NoState NoState h k told other = (told ∙ sym other, refl)
+cell_one_answer b _ r q _ _ _ h k _ _ = absurd (first_of (cc, grind arith))
 
 cell_one_start : (o : ObjOp) (s u t : CellState) (r : ObjReply) → CellStep s (o, r) t → CellStep u (o, r) t → s ≡ u
 cell_one_start (op.Account a o) (AccountState s) (AccountState u) (AccountState t) r h k = ap AccountState (account_one_start s u t o r h k)
 cell_one_start (op.Element set e o) (ElementState s) (ElementState u) (ElementState t) r h k = ap ElementState (element_one_start s u t o r h k)
 cell_one_start (op.Counter c o) (CounterState s) (CounterState u) (CounterState t) r h k = ap CounterState (counter_one_start s u t o r h k)
+cell_one_start (op.Size set) NoState NoState NoState r h k = refl
 cell_one_start _ _ _ _ r h k = absurd (first_of (cc, grind arith))
 
 -- an operation is told one reply, and leads to one base
 pub base_one_answer : (b c d : Base) (o : ObjOp) (r q : ObjReply) → Step b (o, r) c → Step b (o, q) d → (r ≡ q) × (c ≡ d)
 base_one_answer b c d o r q h k =
-    let one = cell_one_answer o _ _ _ r q h.0 k.0 in (
+    let one = cell_one_answer b o r q _ _ _ h.0 k.0 h.2 k.2 in (
       one.0,
       same_base c d (λ other. elim (one_cell_or_two other (cell_of o)) [
         | inl e ↦ subst (λ (x : Cell). state_at c x ≡ state_at d x) (sym e) one.1
@@ -141,7 +153,7 @@ module _ {K X : Type 0} {R : K → K → Ordering} (o : IsTotalOrder R) where
   entry_beside same m k None q n = map.get-remove o m k q ∙ ap (λ b. cond b None (map.get m q)) (other_key same q k n)
   entry_beside same m k (Some x) q n = map.get-insert o m k x q ∙ ap (λ b. cond b (Some x) (map.get m q)) (other_key same q k n)
 
-element_entry_is : (p : Bool) → is_some (element_entry p) ≡ p
+pub element_entry_is : (p : Bool) → is_some (element_entry p) ≡ p
 element_entry_is true = refl
 element_entry_is false = refl
 
@@ -154,18 +166,21 @@ abbrev pub IsStateOf : Cell → CellState → Type 0
 IsStateOf (Account a) (AccountState s) = Unit {0}
 IsStateOf (Element s e) (ElementState p) = Unit {0}
 IsStateOf (Counter c) (CounterState v) = Unit {0}
+IsStateOf (Size s) NoState = Unit {0}
 IsStateOf _ _ = ⊥
 
 pub cell_step_states : (x : ObjOp × ObjReply) (s t : CellState) → CellStep s x t → IsStateOf (cell_of x.0) s × IsStateOf (cell_of x.0) t
 cell_step_states (op.Account a o, r) (AccountState s) (AccountState t) h = (tt, tt)
 cell_step_states (op.Element set e o, r) (ElementState s) (ElementState t) h = (tt, tt)
 cell_step_states (op.Counter c o, r) (CounterState s) (CounterState t) h = (tt, tt)
+cell_step_states (op.Size set, r) NoState NoState h = (tt, tt)
 cell_step_states _ _ _ h = absurd h
 
 pub state_here : (b : Base) (c : Cell) (s : CellState) → IsStateOf c s → state_at (with_state b c s) c ≡ s
 state_here b (Account a) (AccountState s) h = ap AccountState (entry_here nat_cmp_total b.accounts a s)
 state_here b (Element s e) (ElementState p) h = ap ElementState (ap is_some (entry_here element_cmp_total b.elements (s, e) (element_entry p)) ∙ element_entry_is p)
 state_here b (Counter c) (CounterState v) h = ap CounterState (ap counter_value (entry_here nat_cmp_total b.counters c (counter_entry v)) ∙ counter_entry_is v)
+state_here b (Size s) NoState h = refl
 state_here b _ _ h = absurd h
 
 pub state_beside : (b : Base) (c : Cell) (s : CellState) (other : Cell) → other ≢ c → state_at (with_state b c s) other ≡ state_at b other
@@ -181,67 +196,24 @@ state_beside b (Element s e) (ElementState p) (Account d) n = refl
 state_beside b (Element s e) (ElementState p) (Counter d) n = refl
 state_beside b (Counter c) (CounterState v) (Account d) n = refl
 state_beside b (Counter c) (CounterState v) (Element t f) n = refl
+state_beside b (Account a) (AccountState s) (Size t) n = refl
+state_beside b (Element s e) (ElementState p) (Size t) n = refl
+state_beside b (Counter c) (CounterState v) (Size t) n = refl
 state_beside b _ _ other n = refl
 
--- a step of the cell is a step of the base
-pub step_to : (b : Base) (x : ObjOp × ObjReply) (t : CellState) → CellStep (state_at b (cell_of x.0)) x t → Step b x (with_state b (cell_of x.0) t)
-step_to b x t h =
+-- a step of the cell is a step of the base, where a size is told as it is
+pub step_to : (b : Base) (x : ObjOp × ObjReply) (t : CellState) → CellStep (state_at b (cell_of x.0)) x t → TellsSize b x → Step b x (with_state b (cell_of x.0) t)
+step_to b x t h told =
     let is : IsStateOf (cell_of x.0) t = (cell_step_states x _ t h).1 in
     let here : t ≡ state_at (with_state b (cell_of x.0) t) (cell_of x.0) = sym (state_here b (cell_of x.0) t is) in
-    (subst (CellStep (state_at b (cell_of x.0)) x) here h, state_beside b (cell_of x.0) t)
+    (subst (CellStep (state_at b (cell_of x.0)) x) here h, state_beside b (cell_of x.0) t, told)
 
--- ---- passing
-
--- operations that are locked on no cell of both are on different cells
-own_cell : (op : ObjOp) → Contains (cells_of op) (cell_of op)
-own_cell op = (0, omega arith, refl)
-
-pub apart_on_two_cells : (op other : ObjOp) → AreApart op other → cell_of op ≢ cell_of other
-apart_on_two_cells op other apart e = apart (cell_of op) (own_cell op) (subst (Contains (cells_of other)) (sym e) (own_cell other))
-
--- operations on different cells pass
-pub apart_steps_pass : (p q : ObjOp × ObjReply) → cell_of p.0 ≢ cell_of q.0 → Passes p q
-apart_steps_pass p q apart b m s h k =
-    let c = cell_of p.0 in
-    let d = cell_of q.0 in
-    let back : d ≢ c = λ e. apart (sym e) in
-    let first : CellStep (state_at b d) q (state_at s d) = subst (λ x. CellStep x q (state_at s d)) (h.1 d back) k.0 in
-    let n = with_state b d (state_at s d) in
-    let to : Step b q n = step_to b q (state_at s d) first in
-    let here : state_at n d ≡ state_at s d = state_here b d (state_at s d) (cell_step_states q _ _ first).1 in
-    let there : state_at b c ≡ state_at n c = sym (state_beside b d (state_at s d) c apart) in
-    let second : CellStep (state_at n c) p (state_at s c) =
-    subst (λ x. CellStep x p (state_at s c)) there (subst (CellStep (state_at b c) p) (sym (k.1 c apart)) h.0)
-    in (
-      n,
-      to,
-      (
-        second,
-        λ other o. elim (one_cell_or_two other d) [
-          | inl e ↦ subst (λ (x : Cell). state_at s x ≡ state_at n x) (sym e) (sym here)
-          | inr f ↦ k.1 other f ∙ h.1 other o ∙ sym (state_beside b d (state_at s d) other f)
-        ],
-      ),
-    )
-
--- operations on one cell pass, where they do so on the cell
-pub cell_steps_pass : (p q : ObjOp × ObjReply) → cell_of p.0 ≡ cell_of q.0 → PassesOnCell p q → Passes p q
-cell_steps_pass p q one pass b m s h k =
-    let c = cell_of p.0 in
-    let d = cell_of q.0 in
-    let h' : CellStep (state_at b d) p (state_at m d) = subst (λ (x : Cell). CellStep (state_at b x) p (state_at m x)) one h.0 in
-    let way = pass (state_at b d) (state_at m d) (state_at s d) h' k.0 in
-    let n = with_state b d way.0 in
-    let to : Step b q n = step_to b q way.0 way.1 in
-    let here : way.0 ≡ state_at n d = sym (state_here b d way.0 (cell_step_states q _ _ way.1).1) in
-    let second : CellStep (state_at n d) p (state_at s d) = subst (λ x. CellStep x p (state_at s d)) here way.2 in
-    let second' : CellStep (state_at n c) p (state_at s c) = subst (λ (x : Cell). CellStep (state_at n x) p (state_at s x)) (sym one) second in (
-      n,
-      to,
-      (
-        second',
-        λ other o.
-            let o' : other ≢ d = λ e. o (e ∙ sym one) in
-            k.1 other o' ∙ h.1 other o ∙ sym (state_beside b d way.0 other o'),
-      ),
-    )
+-- a step changes the cell that it is on, and nothing else
+pub step_is : (b c : Base) (x : ObjOp × ObjReply) → Step b x c → c ≡ with_state b (cell_of x.0) (state_at c (cell_of x.0))
+step_is b c x h =
+    let one = cell_of x.0 in
+    let t = state_at c one in
+    same_base c (with_state b one t) (λ other. elim (one_cell_or_two other one) [
+      | inl e ↦ subst (λ (y : Cell). state_at c y ≡ state_at (with_state b one t) y) (sym e) (sym (state_here b one t (cell_step_states x _ t h.0).1))
+      | inr n ↦ h.1 other n ∙ sym (state_beside b one t other n)
+    ])

@@ -1,1 +1,3 @@
 pub mod BaseLaws
+pub mod PassingLaws
+pub mod Sizes

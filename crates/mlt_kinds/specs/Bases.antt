@@ -1,17 +1,19 @@
 -- Bases: what all cells hold, without pages; and the runs of operations over them.
-use Rattle.std.specs.Prelude.{◌≡◌, ◌≢◌, ℕ, zero, suc, ◌+◌, Bool, true, false, Option, None, Some, is_some, List, [], ◌∷◌, refl}
+use Rattle.std.specs.Prelude.{◌≡◌, ◌≢◌, ◌==◌, ℕ, zero, suc, ◌+◌, Bool, true, false, Option, None, Some, is_some, List, [], ◌∷◌, refl}
 use Rattle.std.specs.declared.cmp.Ordering.{Ordering}
 use Rattle.std.specs.Ordering.{nat_cmp, ordering_then}
 use Rattle.std.specs.Coded.{Coded, code_by, coded_ℕ, coded×}
 use Rattle.std.specs.FinMap as map
 use Rattle.std.specs.FinSet as set
 use Rattle.mlt_types.specs.declared.cell.Cell.{Cell}
-use Rattle.mlt_types.specs.declared.cell.Cell.TheVariants.{Account, Element, Counter}
+use Rattle.mlt_types.specs.declared.cell.Cell.TheVariants.{Account, Element, Counter, Size}
 use Rattle.mlt_types.specs.Maps.{with_entry}
 use Rattle.mlt_kinds.specs.declared.operation.ObjOp.{ObjOp}
+use Rattle.mlt_kinds.specs.declared.operation.ObjOp.TheVariants as op
 use Rattle.mlt_kinds.specs.declared.operation.ObjReply.{ObjReply}
+use Rattle.mlt_kinds.specs.declared.operation.ObjReply.TheVariants.{Is}
 use Rattle.mlt_kinds.specs.Cells.{CellState, CellStep}
-use Rattle.mlt_kinds.specs.Cells.CellState.{AccountState, ElementState, CounterState}
+use Rattle.mlt_kinds.specs.Cells.CellState.{AccountState, ElementState, CounterState, NoState}
 use Rattle.mlt_kinds.specs.Operations.{cell_of}
 
 -- elements by their sets, and in one set by their numbers
@@ -55,11 +57,16 @@ counter_value (Some less_one) = less_one + 1
 abbrev pub counter_at : Base → ℕ → ℕ
 counter_at b c = counter_value (map.get b.counters c)
 
+-- how many elements a set has
+unfoldable pub size_at : Base → ℕ → ℕ
+size_at b s = map.len (map.retain_keys b.elements (λ element. element.0 == s))
+
 -- what a cell holds
 abbrev pub state_at : Base → Cell → CellState
 state_at b (Account a) = AccountState (account_at b a)
 state_at b (Element s e) = ElementState (element_at b s e)
 state_at b (Counter c) = CounterState (counter_at b c)
+state_at b (Size s) = NoState
 
 -- what is kept of an element
 abbrev pub element_entry : Bool → Option (Unit {0})
@@ -82,10 +89,15 @@ with_state b _ _ = b
 abbrev pub SameBut : Base → Base → Cell → Type 0
 SameBut b b' cell = (other : Cell) → other ≢ cell → state_at b' other ≡ state_at b other
 
--- An operation with its reply is a step of the cell that it is on; all other cells are as before.
+-- an operation that asks for the size of a set is told how many elements the set has
+abbrev pub TellsSize : Base → ObjOp × ObjReply → Type 0
+TellsSize b (op.Size s, reply) = reply ≡ Is (size_at b s)
+TellsSize b _ = Unit {0}
+
+-- An operation with its reply is a step of the cell that it is on; all other cells are as before. A size is told as it is.
 abbrev pub Step : Base → ObjOp × ObjReply → Base → Type 0
 Step b x b' =
-    CellStep (state_at b (cell_of x.0)) x (state_at b' (cell_of x.0)) × SameBut b b' (cell_of x.0)
+    CellStep (state_at b (cell_of x.0)) x (state_at b' (cell_of x.0)) × SameBut b b' (cell_of x.0) × TellsSize b x
 
 -- operations with their replies, in order
 abbrev pub Transcript : Type 0

@@ -8,4 +8,5 @@ pub mod ElementLaws
 pub mod Elements
 pub mod Operations
 pub mod Passing
+pub mod Sizes
 pub mod Texts

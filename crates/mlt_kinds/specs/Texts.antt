@@ -7,7 +7,7 @@ use Rattle.mlt_kinds.specs.declared.element.ElementOp.TheVariants.{Add, Remove, 
 use Rattle.mlt_kinds.specs.declared.counter.CounterOp.{CounterOp}
 use Rattle.mlt_kinds.specs.declared.counter.CounterOp.TheVariants.{Up, Down, Read}
 use Rattle.mlt_kinds.specs.declared.operation.ObjOp.{ObjOp}
-use Rattle.mlt_kinds.specs.declared.operation.ObjOp.TheVariants.{Account, Element, Counter}
+use Rattle.mlt_kinds.specs.declared.operation.ObjOp.TheVariants.{Account, Element, Counter, Size}
 use Rattle.mlt_kinds.specs.declared.operation.ObjReply.{ObjReply}
 use Rattle.mlt_kinds.specs.declared.operation.ObjReply.TheVariants.{Opened, Exists, Closed, NotEmpty, Done, Over, Short, Missing, Added, Present, Removed, Absent, Yes, No, Is}
 use Rattle.std.specs.Fmt.{decimal}
@@ -37,6 +37,7 @@ abbrev pub op_text : ObjOp → List ℕ
 op_text (Account a op) = account_op_text a op
 op_text (Element s e op) = element_op_text s e op
 op_text (Counter c op) = counter_op_text c op
+op_text (Size s) = with_number (codes "size") s
 
 abbrev pub reply_text : ObjReply → List ℕ
 reply_text Opened = codes "opened"

@@ -15,5 +15,5 @@ pub use account::{Account, AccountOp, MAX_BALANCE};
 pub use counter::{Counter, CounterOp};
 pub use element::{Element, ElementOp};
 pub use kind::Kind;
-pub use laws::{steps_of_bases_are_fixed, steps_of_bases_pass};
+pub use laws::{sizes_follow_steps, steps_of_bases_are_fixed, steps_of_bases_pass};
 pub use operation::{Done, ObjOp, ObjReply};

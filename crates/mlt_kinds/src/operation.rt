@@ -19,6 +19,8 @@ pub enum ObjOp {
     Element(u16, u32, ElementOp),
     /// What is asked of the counter of this number.
     Counter(u32, CounterOp),
+    /// How many elements the set of this number has.
+    Size(u16),
 }
 
 /// What an operation is told.
@@ -65,6 +67,7 @@ impl ObjOp {
             ObjOp::Account(account, _) => Cell::Account(account),
             ObjOp::Element(set, element, _) => Cell::Element(set, element),
             ObjOp::Counter(counter, _) => Cell::Counter(counter),
+            ObjOp::Size(set) => Cell::Size(set),
         }
     }
 }
@@ -142,6 +145,7 @@ impl fmt::Display for ObjOp {
                 CounterOp::Down(amount) => write!(f, "down {counter} {amount}"),
                 CounterOp::Read => write!(f, "read {counter}"),
             },
+            ObjOp::Size(set) => write!(f, "size {set}"),
         }
     }
 }

@@ -1,5 +1,5 @@
-use Rattle.std.proofs.Common.{arith}
 use Rattle.mlt_kinds.proofs.BaseLaws.{base_one_answer, base_one_start, same_base, step_to}
+use Rattle.mlt_kinds.proofs.PassingLaws.{few_cells}
 use Rattle.mlt_kinds.proofs.laws.steps_of_bases_are_fixed.Goals as goal
 
 pub returns-clause-cells : goal.returns-clause-cells
@@ -15,4 +15,4 @@ pub returns-clause-of_the_cell : goal.returns-clause-of_the_cell
 returns-clause-of_the_cell c = step_to
 
 pub returns-clause-few : goal.returns-clause-few
-returns-clause-few c = λ op. omega arith
+returns-clause-few c = few_cells
