@@ -1,4 +1,5 @@
 pub mod Maps
 pub mod Meanings
+pub mod OperationChanges
 pub mod Steps
 pub mod Texts

@@ -1,6 +1,7 @@
 -- What each operation needs, is told and changes where it finds a record with a value or none, and how it is undone.
-use Rattle.std.specs.Prelude.{ℕ, ◌+◌, ◌-◌, ◌%◌, ◌^◌, nat_lt, ◌==◌, cond, Bool, true, false, Option, None, Some, is_some, List, [], ◌∷◌}
+use Rattle.std.specs.Prelude.{ℕ, ◌+◌, ◌-◌, ◌%◌, ◌^◌, nat_lt, ◌==◌, cond, Bool, true, false, Option, None, Some, is_some, List, [], ◌∷◌, ◌++◌}
 use Rattle.mlt_types.specs.declared.cell.Cell.{Cell}
+use Rattle.mlt_types.specs.declared.cell.Cell.TheVariants as cell
 use Rattle.mlt_types.specs.declared.mode.Mode.{Mode}
 use Rattle.mlt_types.specs.declared.mode.Mode.TheVariants.{Shared, Exclusive}
 use Rattle.mlt_types.specs.Cells.{key_number}
@@ -11,11 +12,12 @@ use Rattle.mlt_kinds.specs.declared.counter.CounterOp.TheVariants.{Up, Down, Rea
 use Rattle.mlt_kinds.specs.declared.element.ElementOp.{ElementOp}
 use Rattle.mlt_kinds.specs.declared.element.ElementOp.TheVariants as element
 use Rattle.mlt_kinds.specs.declared.operation.ObjOp.{ObjOp}
-use Rattle.mlt_kinds.specs.declared.operation.ObjOp.TheVariants.{Account, Element, Counter}
+use Rattle.mlt_kinds.specs.declared.operation.ObjOp.TheVariants.{Account, Element, Counter, Size}
 use Rattle.mlt_kinds.specs.declared.operation.ObjReply.{ObjReply}
 use Rattle.mlt_kinds.specs.declared.operation.ObjReply.TheVariants as told
 use Rattle.mlt_kinds.specs.Accounts.{max_balance}
 use Rattle.mlt_kinds.specs.Operations.{cell_of}
+use Rattle.mlt_base.specs.declared.record.Changes.{Changes}
 use Rattle.mlt_base.specs.declared.record.RecChange.{RecChange}
 use Rattle.mlt_base.specs.declared.record.RecChange.TheVariants.{Add, Set, ToGhost, Revive, Plus, Minus}
 
@@ -24,6 +26,7 @@ abbrev pub mode_of : ObjOp → Mode
 mode_of (Account a Balance) = Shared
 mode_of (Element s e element.Has) = Shared
 mode_of (Counter c Read) = Shared
+mode_of (Size s) = Shared
 mode_of _ = Exclusive
 
 -- the key, and the mode in which its bucket is locked
@@ -56,16 +59,38 @@ counter_reply_of (Down n) None = (told.Done, Some (Add ((2 ^ 64 - n) % 2 ^ 64)))
 counter_reply_of Read (Some v) = (told.Is v, None)
 counter_reply_of Read None = (told.Is 0, None)
 
+-- a set without a size record has no element
+abbrev pub size_reply_of : Option ℕ → ObjReply × Option RecChange
+size_reply_of (Some v) = (told.Is v, None)
+size_reply_of None = (told.Is 0, None)
+
 abbrev pub reply_of : ObjOp → Option ℕ → ObjReply × Option RecChange
 reply_of (Account a op) live = account_reply_of op live
 reply_of (Element s e op) live = element_reply_of op (is_some live)
 reply_of (Counter c op) live = counter_reply_of op live
+reply_of (Size s) live = size_reply_of live
 
--- The changes of records that an operation makes, each with the cell whose record it is: a list of at most two. An
--- operation of today makes one alone, or none.
-abbrev pub changes_on : ObjOp → Option RecChange → List (Cell × RecChange)
-changes_on op None = []
-changes_on op (Some change) = (cell_of op, change) ∷ []
+-- What an operation that is told the reply changes of its set's size record, where that has a value or there is none:
+-- an element that is added raises the size by 1, and makes the record where the set had none yet; one that is removed
+-- lowers it by 1. Every other leaves it.
+abbrev pub size_change_of : ObjOp × ObjReply → Option ℕ → Option RecChange
+size_change_of (Element s e element.Add, told.Added) None = Some (Add 1)
+size_change_of (Element s e element.Add, told.Added) (Some v) = Some (Plus 1)
+size_change_of (Element s e element.Remove, told.Removed) found = Some (Minus 1)
+size_change_of _ _ = None
+
+-- The changes of records, each with the cell whose record it is, one after the other: of the operation's own cell, and
+-- then of its set's size. Only an operation on an element has a set.
+abbrev pub own_change_on : ObjOp → Option RecChange → List (Cell × RecChange)
+own_change_on op None = []
+own_change_on op (Some change) = (cell_of op, change) ∷ []
+
+abbrev pub size_change_on : ObjOp → Option RecChange → List (Cell × RecChange)
+size_change_on (Element s e op) (Some change) = (cell.Size s, change) ∷ []
+size_change_on _ _ = []
+
+abbrev pub changes_on : ObjOp → Changes → List (Cell × RecChange)
+changes_on op changes = own_change_on op changes.own ++ size_change_on op changes.size
 
 -- the change that undoes the operation that was told the reply
 abbrev pub account_inverse_of : AccountOp → ObjReply → Option RecChange
@@ -89,3 +114,10 @@ abbrev pub inverse_of : ObjOp × ObjReply → Option RecChange
 inverse_of (Account a op, reply) = account_inverse_of op reply
 inverse_of (Element s e op, reply) = element_inverse_of op reply
 inverse_of (Counter c op, reply) = counter_inverse_of op reply
+inverse_of (Size s, reply) = None
+
+-- the change that undoes what it did to its set's size
+abbrev pub size_inverse_of : ObjOp × ObjReply → Option RecChange
+size_inverse_of (Element s e element.Add, told.Added) = Some (Minus 1)
+size_inverse_of (Element s e element.Remove, told.Removed) = Some (Plus 1)
+size_inverse_of _ = None

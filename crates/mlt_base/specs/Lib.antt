@@ -4,3 +4,4 @@ pub mod Growth
 pub mod Kept
 pub mod Meaning
 pub mod Records
+pub mod Requests

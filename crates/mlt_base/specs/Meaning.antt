@@ -1,15 +1,54 @@
 -- What live records mean as a base. Live records are a finite map from the numbers of keys to values.
-use Rattle.std.specs.Prelude.{◌≡◌, ℕ, None}
+use Rattle.std.specs.Prelude.{◌≡◌, ℕ, ◌^◌, ◌<◌, List, [], ◌∷◌, Option, None, Some}
 use Rattle.std.specs.FinMap as map
 use Rattle.std.specs.Ordering.{nat_cmp}
 use Rattle.mlt_types.specs.declared.cell.Cell.{Cell}
+use Rattle.mlt_types.specs.declared.cell.Cell.TheVariants.{Size}
 use Rattle.mlt_types.specs.Cells.{IsInRange, key_number}
-use Rattle.mlt_kinds.specs.Bases.{Base, state_at}
-use Rattle.mlt_base.specs.Records.{IsRecord, state_of_record}
+use Rattle.mlt_types.specs.Maps.{with_entry}
+use Rattle.mlt_kinds.specs.declared.operation.ObjOp.{ObjOp}
+use Rattle.mlt_kinds.specs.declared.operation.ObjOp.TheVariants as op
+use Rattle.mlt_kinds.specs.declared.operation.ObjReply.{ObjReply}
+use Rattle.mlt_kinds.specs.Bases.{Base, size_at, state_at}
+use Rattle.mlt_kinds.specs.Operations.{cell_of}
+use Rattle.mlt_base.specs.declared.record.Changes.{Changes}
+use Rattle.mlt_base.specs.declared.record.RecChange.{RecChange}
+use Rattle.mlt_base.specs.Effects.{inverse_of, reply_of, size_change_of, size_inverse_of}
+use Rattle.mlt_base.specs.Records.{IsRecord, counter_of_record, record_after, state_of_record}
 
 -- The records mean the base: each cell that there can be has a record that it can have, and holds what that means; any
--- other holds nothing.
+-- other holds nothing. And the value of each size record is the number of the elements of its set; a set without one has
+-- none.
 pub record Means (records : map.FinMap nat_cmp ℕ) (base : Base) : Type 0 where
   pub can_be : (c : Cell) → IsInRange c → IsRecord c (map.get records (key_number c))
   pub holds : (c : Cell) → IsInRange c → state_at base c ≡ state_of_record c (map.get records (key_number c))
   pub elsewhere : (c : Cell) → (IsInRange c → ⊥) → state_at base c ≡ state_of_record c None
+  pub sized : (s : ℕ) → s < 2 ^ 16 → counter_of_record (map.get records (key_number (Size s))) ≡ size_at base s
+
+-- the records after changes, made one after the other
+abbrev pub records_after : map.FinMap nat_cmp ℕ → List (Cell × RecChange) → map.FinMap nat_cmp ℕ
+records_after records [] = records
+records_after records (change ∷ changes) =
+    records_after (with_entry records (key_number change.0) (record_after (Some change.1) (map.get records (key_number change.0)))) changes
+
+-- the record of a cell, and the size record of the set that an operation on an element is on
+abbrev pub record_in : map.FinMap nat_cmp ℕ → Cell → Option ℕ
+record_in records cell = map.get records (key_number cell)
+
+abbrev pub size_record_in : map.FinMap nat_cmp ℕ → ObjOp → Option ℕ
+size_record_in records (op.Element s e action) = record_in records (Size s)
+size_record_in records _ = None
+
+-- what an operation is told by the records, and what it changes of them
+abbrev pub told_by : map.FinMap nat_cmp ℕ → ObjOp → ObjReply
+told_by records op = (reply_of op (record_in records (cell_of op))).0
+
+abbrev pub changes_of : map.FinMap nat_cmp ℕ → ObjOp → Changes
+changes_of records op = record {
+  own = (reply_of op (record_in records (cell_of op))).1;
+  size = size_change_of (op, told_by records op) (size_record_in records op);
+}
+
+-- what undoes an operation that was told its reply
+abbrev pub changes_back : ObjOp × ObjReply → Changes
+changes_back x = record { own = inverse_of x; size = size_inverse_of x }

@@ -4,37 +4,42 @@ use Rattle.std.specs.Prelude.{◌≡◌, ℕ, ◌+◌, ◌-◌, ◌%◌, ◌^◌
 use Rattle.mlt_types.specs.declared.cell.Cell.{Cell}
 use Rattle.mlt_types.specs.declared.cell.Cell.TheVariants as cell
 use Rattle.mlt_kinds.specs.declared.counter.CounterOp.TheVariants.{Up, Down}
+use Rattle.mlt_kinds.specs.declared.element.ElementOp.TheVariants as element
 use Rattle.mlt_kinds.specs.declared.operation.ObjOp.{ObjOp}
-use Rattle.mlt_kinds.specs.declared.operation.ObjOp.TheVariants.{Counter}
+use Rattle.mlt_kinds.specs.declared.operation.ObjOp.TheVariants.{Counter, Element}
 use Rattle.mlt_kinds.specs.declared.operation.ObjReply.{ObjReply}
+use Rattle.mlt_kinds.specs.declared.operation.ObjReply.TheVariants as told
 use Rattle.mlt_kinds.specs.Accounts.{IsAccount}
 use Rattle.mlt_kinds.specs.Cells.{CellState}
-use Rattle.mlt_kinds.specs.Cells.CellState.{AccountState, ElementState, CounterState}
+use Rattle.mlt_kinds.specs.Cells.CellState.{AccountState, ElementState, CounterState, NoState}
 use Rattle.mlt_base.specs.declared.record.RecChange.{RecChange}
 use Rattle.mlt_base.specs.declared.record.RecChange.TheVariants.{Add, Set, ToGhost, Revive, Plus, Minus}
 
--- the value of a counter with this record
+-- the value of a counter, or of the size of a set, with this record
 abbrev pub counter_of_record : Option ℕ → ℕ
 counter_of_record None = 0
 counter_of_record (Some v) = v
 
 -- what a cell with this record holds: an account its balance, an element whether it is there, a counter its value, which
--- is 0 where there is no record
+-- is 0 where there is no record; the size of a set nothing of its own
 abbrev pub state_of_record : Cell → Option ℕ → CellState
 state_of_record (cell.Account a) live = AccountState live
 state_of_record (cell.Element s e) live = ElementState (is_some live)
 state_of_record (cell.Counter c) live = CounterState (counter_of_record live)
+state_of_record (cell.Size s) live = NoState
 
 -- what the record of an element can be
 abbrev pub IsElementRecord : Option ℕ → Type 0
 IsElementRecord None = Unit {0}
 IsElementRecord (Some v) = v ≡ 0
 
--- the record of this cell can be this: a balance is in range, an element has the value 0, and a counter has 64 bits
+-- the record of this cell can be this: a balance is in range, an element has the value 0, and a counter and a size have
+-- 64 bits
 abbrev pub IsRecord : Cell → Option ℕ → Type 0
 IsRecord (cell.Account a) live = IsAccount live
 IsRecord (cell.Element s e) live = IsElementRecord live
 IsRecord (cell.Counter c) live = counter_of_record live < 2 ^ 64
+IsRecord (cell.Size s) live = counter_of_record live < 2 ^ 64
 
 -- the record with the amount added, or taken away, modulo 2^64
 abbrev pub plus : ℕ → Option ℕ → Option ℕ
@@ -67,3 +72,9 @@ abbrev pub HasWhatIsUndone : ObjOp × ObjReply → Option ℕ → Type 0
 HasWhatIsUndone (Counter c (Up n), reply) live = IsSome live
 HasWhatIsUndone (Counter c (Down n), reply) live = IsSome live
 HasWhatIsUndone _ live = Unit {0}
+
+-- and a set of which an element was added or removed has a size record, since none of these is ever removed either
+abbrev pub HasSizeToUndo : ObjOp × ObjReply → Option ℕ → Type 0
+HasSizeToUndo (Element s e element.Add, told.Added) live = IsSome live
+HasSizeToUndo (Element s e element.Remove, told.Removed) live = IsSome live
+HasSizeToUndo _ live = Unit {0}

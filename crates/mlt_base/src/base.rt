@@ -5,7 +5,7 @@ ghost use Rattle.std.specs.String.{string_bytes};
 ghost use Rattle.mlt_base.specs.BaseText.{base_text};
 ghost use Rattle.mlt_base.specs.Growth.{MakesObject};
 ghost use Rattle.mlt_kinds.specs.Accounts.{IsAccount};
-ghost use Rattle.mlt_kinds.specs.Bases.{account_at, counter_at, element_at, empty_base, Step};
+ghost use Rattle.mlt_kinds.specs.Bases.{account_at, counter_at, element_at, empty_base, size_at, Step};
 
 use crate::accounts::Accounts;
 use crate::counters::Counters;
@@ -66,6 +66,13 @@ impl Base {
         self.elements.has(set, element)
     }
 
+    /// How many elements a set has. It does not go over them.
+    pub fn size(&self, set: u16) -> u64
+        ensures { result ≡ size_at self.now set }
+    {
+        self.elements.size(set)
+    }
+
     /// The value of a counter, 0 to 2^64 - 1.
     pub fn value(&self, counter: u32) -> u64
         ensures { result ≡ counter_at self.now counter }
@@ -88,6 +95,7 @@ impl Base {
             ObjOp::Account(account, op) => self.apply_account(account, op),
             ObjOp::Element(set, element, op) => self.apply_element(set, element, op),
             ObjOp::Counter(counter, op) => self.apply_counter(counter, op),
+            ObjOp::Size(set) => Ok(ObjReply::Is(self.size(set))),
         }
     }
 
@@ -115,8 +123,10 @@ impl Base {
     {
         let before = self.elements.has(set, element);
         let (after, reply) = Element::apply(&before, &op);
-        if after != before {
-            self.elements.set(set, element, after)?;
+        match (before, after) {
+            (false, true) => self.elements.add(set, element)?,
+            (true, false) => self.elements.remove(set, element),
+            (false, false) | (true, true) => (),
         }
         Ok(reply)
     }

@@ -9,9 +9,12 @@ mod counters;
 mod elements;
 mod meaning;
 mod record;
+mod request;
+mod sizes;
 mod text;
 
 pub use base::Base;
 pub use meaning::records_mean_bases;
-pub use record::{RecChange, access, inverse, reply};
+pub use record::{Changes, RecChange, access, inverse, reply};
+pub use request::Request;
 pub use text::write_base;

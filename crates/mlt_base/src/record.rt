@@ -2,7 +2,7 @@
 //! record or none, and the change that undoes it.
 
 ghost use Rattle.std.specs.Prelude.{◌≡◌, ◌≤◌, ℕ, Option, is_some, length};
-ghost use Rattle.mlt_base.specs.Effects.{access_of, account_inverse_of, account_reply_of, changes_on, counter_inverse_of, counter_reply_of, element_inverse_of, element_reply_of, inverse_of, reply_of};
+ghost use Rattle.mlt_base.specs.Effects.{access_of, account_inverse_of, account_reply_of, changes_on, counter_inverse_of, counter_reply_of, element_inverse_of, element_reply_of, inverse_of, reply_of, size_change_of, size_inverse_of};
 ghost use Rattle.mlt_base.specs.Records.{CanChange, counter_of_record, HasWhatIsUndone, IsRecord, record_after, state_of_record};
 ghost use Rattle.mlt_kinds.specs.Accounts.{AccountStep, IsAccount};
 ghost use Rattle.mlt_kinds.specs.Cells.{CellState, CellStep};
@@ -30,8 +30,18 @@ pub enum RecChange {
     Minus(u64),
 }
 
+/// What an operation, or the undoing of one, changes: the record of its own cell, and the size record of its set. Only
+/// where an element is added or removed, or that is undone, there is a change of a size.
+#[derive(Clone, Copy, Debug, PartialEq, Eq)]
+pub struct Changes {
+    /// The change of the record of the operation's cell.
+    pub own: Option<RecChange>,
+    /// The change of the size record of the element's set.
+    pub size: Option<RecChange>,
+}
+
 /// The key of the record that an operation reads, and the mode in which it locks the bucket: `Shared` for
-/// `balance`, `has` and `read`, which change nothing, and else `Exclusive`.
+/// `balance`, `has`, `read` and `size`, which change nothing, and else `Exclusive`.
 pub fn access(op: &ObjOp) -> (Key, Mode)
     ensures { result ≡ access_of op.now }
 {
@@ -39,14 +49,15 @@ pub fn access(op: &ObjOp) -> (Key, Mode)
         ObjOp::Account(_, AccountOp::Balance) => Mode::Shared,
         ObjOp::Element(_, _, ElementOp::Has) => Mode::Shared,
         ObjOp::Counter(_, CounterOp::Read) => Mode::Shared,
+        ObjOp::Size(_) => Mode::Shared,
         _ => Mode::Exclusive,
     };
     (Key::of(&op.cell()), mode)
 }
 
-/// What an operation is told, and the change that it makes, where the live record of its key has the value, or
-/// with `None` where there is none. It is the operation's step on the cell that the record stands for. No operation changes
-/// more than two records.
+/// What an operation is told, and the change that it makes of the live record of its key, where that has the value, or
+/// with `None` where there is none. It is the operation's step on the cell that the record stands for. Whatever it changes
+/// of a size record beside, it changes no more than two records.
 pub fn reply(op: &ObjOp, live: Option<Value>) -> (ObjReply, Option<RecChange>)
     ensures table { result ≡ reply_of op.now live }
     ensures step { IsRecord (cell_of op.now) live
@@ -55,12 +66,14 @@ pub fn reply(op: &ObjOp, live: Option<Value>) -> (ObjReply, Option<RecChange>)
     ensures record { IsRecord (cell_of op.now) live
         → IsRecord (cell_of op.now) (record_after result.1 live) }
     ensures fits { CanChange result.1 live }
-    ensures few { length (changes_on op.now result.1) ≤ 2 }
+    ensures few { (size : Option RecChange)
+        → length (changes_on op.now (record { own = result.1; size = size })) ≤ 2 }
 {
     match *op {
         ObjOp::Account(_, op) => account_reply(op, live),
         ObjOp::Element(_, _, op) => element_reply(op, live),
         ObjOp::Counter(_, op) => counter_reply(op, live),
+        ObjOp::Size(_) => (ObjReply::Is(live.unwrap_or(0)), None),
     }
 }
 
@@ -156,6 +169,21 @@ fn down_reply(live: Option<Value>, amount: u64) -> (ObjReply, Option<RecChange>)
     (ObjReply::Done, Some(change))
 }
 
+/// The change that an operation which is told the reply makes of its set's size record, where that has the value, or
+/// with `None` where there is none.
+pub(crate) fn size_change(op: &ObjOp, reply: ObjReply, live: Option<Value>) -> Option<RecChange>
+    ensures { result ≡ size_change_of (op.now, reply) live }
+{
+    match (*op, reply) {
+        (ObjOp::Element(_, _, ElementOp::Add), ObjReply::Added) => match live {
+            Some(_) => Some(RecChange::Plus(1)),
+            None => Some(RecChange::Add(1)),
+        },
+        (ObjOp::Element(_, _, ElementOp::Remove), ObjReply::Removed) => Some(RecChange::Minus(1)),
+        _ => None,
+    }
+}
+
 /// The change that undoes an operation on the record as it is then, or `None` where nothing is to be undone.
 pub fn inverse(done: &Done) -> Option<RecChange>
     ensures table { result ≡ inverse_of done.now }
@@ -176,6 +204,7 @@ pub fn inverse(done: &Done) -> Option<RecChange>
         ObjOp::Account(_, op) => account_inverse(op, reply),
         ObjOp::Element(_, _, op) => element_inverse(op, reply),
         ObjOp::Counter(_, op) => counter_inverse(op, reply),
+        ObjOp::Size(_) => None,
     }
 }
 
@@ -207,6 +236,17 @@ fn counter_inverse(op: CounterOp, reply: ObjReply) -> Option<RecChange>
     match (op, reply) {
         (CounterOp::Up(amount), ObjReply::Done) => Some(RecChange::Minus(amount)),
         (CounterOp::Down(amount), ObjReply::Done) => Some(RecChange::Plus(amount)),
+        _ => None,
+    }
+}
+
+/// The change that undoes what an operation did to its set's size record, or `None` where nothing is to be undone.
+pub(crate) fn size_inverse(done: &Done) -> Option<RecChange>
+    ensures { result ≡ size_inverse_of done.now }
+{
+    match (done.op(), done.reply()) {
+        (ObjOp::Element(_, _, ElementOp::Add), ObjReply::Added) => Some(RecChange::Minus(1)),
+        (ObjOp::Element(_, _, ElementOp::Remove), ObjReply::Removed) => Some(RecChange::Plus(1)),
         _ => None,
     }
 }
