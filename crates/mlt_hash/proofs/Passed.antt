@@ -70,6 +70,14 @@ held_still modes q mode p held =
       | inr elsewhere ↦ ap is_some (mode_of_others modes q mode p elsewhere) ∙ held
     ]
 
+-- and exclusively, if it was held so
+exclusive_still : (modes : Modes) (q : ℕ) (mode : Mode) (p : ℕ) → map.get modes p ≡ Some Exclusive → map.get (with_page modes q mode) p ≡ Some Exclusive
+exclusive_still modes q mode p held =
+    elim (cases_eq p q) [
+      | inl here ↦ ap (λ p. map.get (with_page modes q mode) p) here ∙ mode_of_page modes q mode ∙ ap (λ o. Some (stronger o mode)) (ap (map.get modes) (sym here) ∙ held)
+      | inr elsewhere ↦ mode_of_others modes q mode p elsewhere ∙ held
+    ]
+
 module _ (before : Before) (walk : WalkFields) (follows : GoesAfter walk.pass before) (root dir bucket : ℕ) (apart : root ≢ dir) (beside : root ≢ bucket) (below : dir ≢ bucket) where
   abbrev one : Modes
   one = header_held before.held walk.pass root
@@ -94,6 +102,7 @@ module _ (before : Before) (walk : WalkFields) (follows : GoesAfter walk.pass be
         ∙ ap (λ o. Some (stronger o (bucket_mode walk.pass walk.mode))) (mode_of_others one dir (directory_mode walk.pass) bucket (λ e. below (sym e)) ∙ mode_of_others before.held root (header_mode walk.pass) bucket (λ e. beside (sym e)))
         ∙ ap Some (takes_mode walk.pass before follows bucket (bucket_mode walk.pass walk.mode) (λ wide. ap (λ pass. bucket_mode pass walk.mode) wide));
     kept = λ q some. ap (λ (modes : Modes). is_some (map.get modes q)) held ∙ held_still two bucket (bucket_mode walk.pass walk.mode) q (held_still one dir (directory_mode walk.pass) q (held_still before.held root (header_mode walk.pass) q some));
+    exclusive = λ q was. ap (λ (modes : Modes). map.get modes q) held ∙ exclusive_still two bucket (bucket_mode walk.pass walk.mode) q (exclusive_still one dir (directory_mode walk.pass) q (exclusive_still before.held root (header_mode walk.pass) q was));
     others = λ q away further last none some. absurd (false≢true (sym none ∙ sym (ap is_some (ap (λ (modes : Modes). map.get modes q) held ∙ not_among q away further last)) ∙ some));
   }
 
@@ -153,6 +162,10 @@ module _ (basis : Basis) (walk : WalkFields) (old new : View) (step : StepsOn wa
   keeps_held : (q : ℕ) → is_some (map.get old.modes q) ≡ true → is_some (map.get new.modes q) ≡ true
   keeps_held q held = elim (step.modes q) [ inl same ↦ ap is_some same ∙ held | inr locked ↦ ap is_some locked.0 ]
 
+  -- and exclusively, if it was held so
+  keeps_exclusive : (q : ℕ) → map.get old.modes q ≡ Some Exclusive → map.get new.modes q ≡ Some Exclusive
+  keeps_exclusive q held = elim (step.modes q) [ inl same ↦ same ∙ held | inr locked ↦ locked.0 ]
+
   -- what a pass held beside its way it may still hold
   holds_more : (q : ℕ) (at : Pass) → MayHoldMore at (old.seen q) (is_some (old.own q)) → MayHoldMore at (new.seen q) (is_some (new.own q))
   holds_more q pass.First none = none
@@ -186,6 +199,7 @@ module _ (basis : Basis) (walk : WalkFields) (old new : View) (step : StepsOn wa
     on_dir = keeps_mode read.dir (directory_mode walk.pass) (page.Dir read.way.placed.entries) read.way.placed.listed (λ wide. ap directory_mode wide) holds.on_dir;
     on_bucket = keeps_mode read.bucket (bucket_mode walk.pass walk.mode) (page.Bucket read.way.fields) read.way.at (λ wide. ap (λ pass. bucket_mode pass walk.mode) wide) holds.on_bucket;
     kept = λ q some. keeps_held q (holds.kept q some);
+    exclusive = λ q was. keeps_exclusive q (holds.exclusive q was);
     others = keeps_others basis.root read.dir read.bucket holds;
   }
 

@@ -188,14 +188,16 @@ pub record HasRead (basis : Basis) (key : ℕ) (view : View) (found : Option ℕ
   pub way : HasReadBucket basis.bits basis.root key view dir bucket found
   pub shallow : way.placed.header.depth ≤ basis.max_depth
 
--- Which pages a walk holds from its bucket's step on, and in which modes: those that it held before; those that it locked on
--- its way, in the modes of its pass; and each other page exclusively that it has written or made, as its pass may.
+-- Which pages a walk holds from its bucket's step on, and in which modes: those that it held before, exclusively where it held
+-- them so; those that it locked on its way, in the modes of its pass; and each other page exclusively that it has written or
+-- made, as its pass may.
 pub record HoldsByPass (before : Modes) (pass : Pass) (mode : Mode) (root dir bucket : ℕ) (view : View)
     : Type 0 where
   pub on_header : map.get view.modes root ≡ Some (header_mode pass)
   pub on_dir : map.get view.modes dir ≡ Some (directory_mode pass)
   pub on_bucket : map.get view.modes bucket ≡ Some (bucket_mode pass mode)
   pub kept : (q : ℕ) → is_some (map.get before q) ≡ true → is_some (map.get view.modes q) ≡ true
+  pub exclusive : (q : ℕ) → map.get before q ≡ Some Exclusive → map.get view.modes q ≡ Some Exclusive
   pub others : (q : ℕ) → q ≢ root → q ≢ dir → q ≢ bucket → is_some (map.get before q) ≡ false
       → is_some (map.get view.modes q) ≡ true
       → (map.get view.modes q ≡ Some Exclusive) × MayHoldMore pass (view.seen q) (is_some (view.own q))
