@@ -7,5 +7,6 @@ pub mod AccountExact
 pub mod ElementExact
 pub mod CounterExact
 pub mod BasePasses
+pub mod SizeBreaks
 pub mod BaseBreaks
 pub mod BaseOrder

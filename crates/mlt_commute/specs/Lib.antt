@@ -6,4 +6,5 @@ pub mod CounterTable
 pub mod CounterTableLaws
 pub mod ElementTable
 pub mod ElementTableLaws
+pub mod Sizes
 pub mod Tables

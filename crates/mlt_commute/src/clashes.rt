@@ -6,23 +6,25 @@ ghost use Rattle.mlt_commute.specs.Clashes.{clashes, marked_classes};
 ghost use Rattle.mlt_kinds.specs.Bases.{Step};
 ghost use Rattle.mlt_order.specs.Runs.{RightCommutesBackward};
 
+use crate::sizes::changes_told;
 use crate::table::Table;
 use mlt_kinds::{Account, Counter, Done, Element, ObjOp};
 
 /// Whether an operation with its reply, requested later, clashes with one that is held: they are on one cell,
-/// and the table of its kind marks their classes. Where they do not, the requested operation right commutes
-/// backward with the held one over all bases; where they do, some operations on the cell and of their classes
-/// do not, in some base.
+/// and the table of its kind marks their classes; or the one tells the size of a set and the other changes it.
+/// Where they do not, the requested operation right commutes backward with the held one over all bases; where
+/// they do, some operations on their cells and of their classes do not, in some base.
 pub fn clash(held: &Done, requested: &Done) -> bool
     ensures table { result ≡ clashes held.now requested.now }
     ensures exact { MatchBool result (SomeLikeThemBreak held.now requested.now)
         (RightCommutesBackward Step held.now requested.now) }
 {
-    is_marked_on_one_cell(held, requested)
+    is_marked(held, requested)
 }
 
-// Whether they are on one cell, and the table of its kind marks their classes.
-fn is_marked_on_one_cell(held: &Done, requested: &Done) -> bool
+// Whether they are on one cell, and the table of its kind marks their classes; or the one tells the size of a set and
+// the other changes it.
+fn is_marked(held: &Done, requested: &Done) -> bool
     ensures { result ≡ clashes held.now requested.now }
 {
     let reply = held.reply();
@@ -38,6 +40,12 @@ fn is_marked_on_one_cell(held: &Done, requested: &Done) -> bool
         },
         (ObjOp::Counter(counter, op), ObjOp::Counter(other, request)) => {
             counter == other && are_marked::<Counter>(&op, &reply, &request, &answer)
+        },
+        (ObjOp::Element(set, _, op), ObjOp::Size(other_set)) => {
+            set == other_set && changes_told(&op, &reply, &answer)
+        },
+        (ObjOp::Size(set), ObjOp::Element(other_set, _, request)) => {
+            set == other_set && changes_told(&request, &answer, &reply)
         },
         _ => false,
     }

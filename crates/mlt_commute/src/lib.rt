@@ -12,6 +12,7 @@ mod counters;
 mod elements;
 mod example;
 mod laws;
+mod sizes;
 mod table;
 
 pub use accounts::AccountClass;
@@ -23,4 +24,5 @@ pub use laws::{
     clashes_are_exact, every_history_of_bases_is_serializable, operation_without_clash_may_come,
     steps_of_bases_meet_the_laws,
 };
+pub use sizes::SizeExample;
 pub use table::Table;

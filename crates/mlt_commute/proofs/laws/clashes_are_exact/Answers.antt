@@ -1,10 +1,9 @@
-use Rattle.mlt_kinds.proofs.BaseLaws.{apart_on_two_cells}
 use Rattle.mlt_commute.proofs.BaseBreaks.{clashing_break}
 use Rattle.mlt_commute.proofs.BasePasses.{apart_do_not_clash, clash_free_pass}
 use Rattle.mlt_commute.proofs.laws.clashes_are_exact.Goals as goal
 
 pub returns-clause-apart : goal.returns-clause-apart
-returns-clause-apart c = λ held requested apart. apart_do_not_clash held requested (apart_on_two_cells held.0 requested.0 apart)
+returns-clause-apart c = apart_do_not_clash
 
 pub returns-clause-passes : goal.returns-clause-passes
 returns-clause-passes c = clash_free_pass
