@@ -1,3 +1,4 @@
+pub mod Counting
 pub mod Maps
 pub mod Meanings
 pub mod OperationChanges

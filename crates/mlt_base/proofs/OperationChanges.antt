@@ -1,5 +1,5 @@
 -- What an operation, or the undoing of one, changes of the records is its step of the base that they mean.
-use Rattle.std.proofs.Common.{◌≡◌, ◌≢◌, ◌⊎◌, inl, inr, ℕ, ◌+◌, ◌-◌, ◌%◌, ◌^◌, ◌<◌, ◌≤◌, Bool, true, false, List, [], ◌∷◌, ◌++◌, Option, None, Some, IsSome, is_some, refl, sym, ap, subst, ◌∙◌, arith}
+use Rattle.std.proofs.Common.{◌≡◌, ◌≢◌, inl, inr, ℕ, ◌+◌, ◌^◌, ◌<◌, ◌≤◌, true, false, List, [], ◌∷◌, ◌++◌, Option, None, Some, refl, sym, ap, subst, ◌∙◌, arith}
 use Rattle.std.proofs.lemmas.Bool.{cases_eq, eq-eqb}
 use Rattle.std.specs.Cmp.{nat_cmp_total}
 use Rattle.std.specs.FinMap as map
@@ -17,14 +17,13 @@ use Rattle.mlt_kinds.specs.declared.operation.ObjReply.TheVariants as told
 use Rattle.mlt_kinds.proofs.BaseLaws.{entry_beside, entry_here, state_beside, state_here, step_to}
 use Rattle.mlt_kinds.proofs.Sizes.{other_set_untouched, size_after_step, size_below}
 use Rattle.mlt_kinds.specs.Bases.{Base, Step, TellsSize, element_at, size_at, state_at, with_state}
-use Rattle.mlt_kinds.specs.Cells.{CellState, CellStep}
-use Rattle.mlt_kinds.specs.Cells.CellState.{ElementState, NoState}
+use Rattle.mlt_kinds.specs.Cells.{CellStep}
+use Rattle.mlt_kinds.specs.Cells.CellState.{ElementState}
 use Rattle.mlt_kinds.specs.Operations.{cell_of}
 use Rattle.mlt_kinds.specs.Sizes.{put_into, taken_from}
 use Rattle.mlt_base.specs.declared.record.Changes.{Changes}
 use Rattle.mlt_base.specs.declared.record.RecChange.{RecChange}
-use Rattle.mlt_base.specs.declared.record.RecChange.TheVariants.{Add, Plus, Minus}
-use Rattle.mlt_base.specs.Effects.{changes_on, inverse_of, own_change_on, reply_of, size_change_of, size_change_on, size_inverse_of, size_reply_of}
+use Rattle.mlt_base.specs.Effects.{changes_on, inverse_of, own_change_on, size_change_of, size_change_on, size_inverse_of, size_reply_of}
 use Rattle.mlt_base.specs.Meaning.{Means, changes_back, changes_of, record_in, records_after, size_record_in, told_by}
 use Rattle.mlt_base.specs.Records.{HasSizeToUndo, IsRecord, counter_of_record, record_after, state_of_record}
 use Rattle.mlt_base.proofs.Meanings.{MeansCells, a_state, below_or_not, cells_changed, cells_meant, changed, record_beside, record_here}
@@ -142,7 +141,7 @@ module _ (records : map.FinMap nat_cmp ℕ) (b : Base) (h : Means records b) whe
       }
 
 -- all that an operation on an element changes
-element_changes : (records : map.FinMap nat_cmp ℕ) (s e : ℕ) (o : ElementOp) (changes : Changes) → IsInRange (Element s e)
+pub element_changes : (records : map.FinMap nat_cmp ℕ) (s e : ℕ) (o : ElementOp) (changes : Changes) → IsInRange (Element s e)
     → records_after records (changes_on (op.Element s e o) changes)
     ≡ changed (changed records (Element s e) (record_after changes.own (record_in records (Element s e)))) (Size s) (record_after changes.size (record_in records (Size s)))
 element_changes records s e o changes range =
