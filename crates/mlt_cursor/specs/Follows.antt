@@ -3,7 +3,7 @@ use Rattle.std.specs.Prelude.{◌≡◌, ◌≤◌, ℕ, List, [], ◌∷◌, �
 use Rattle.mlt_kinds.specs.declared.account.AccountOp.TheVariants as account
 use Rattle.mlt_kinds.specs.declared.counter.CounterOp.TheVariants as counter
 use Rattle.mlt_kinds.specs.declared.operation.ObjOp.{ObjOp}
-use Rattle.mlt_kinds.specs.declared.operation.ObjOp.TheVariants.{Account, Counter}
+use Rattle.mlt_kinds.specs.declared.operation.ObjOp.TheVariants.{Account, Counter, Size}
 use Rattle.mlt_kinds.specs.declared.operation.ObjReply.{ObjReply}
 use Rattle.mlt_kinds.specs.declared.operation.ObjReply.TheVariants as reply
 use Rattle.mlt_kinds.specs.Bases.{Transcript}
@@ -45,6 +45,7 @@ asked vs (By op l) = with_amount op (slice_index vs (index_of l))
 abbrev pub asked_from : Source → ObjOp
 asked_from (source.Balance a) = Account a account.Balance
 asked_from (source.Read c) = Counter c counter.Read
+asked_from (source.Size s) = Size s
 
 -- whether the two replies are the same one
 abbrev pub same_reply : ObjReply → ObjReply → Bool

@@ -71,6 +71,7 @@ fn reading(source: Source) -> ObjOp
     match source {
         Source::Balance(account) => ObjOp::Account(account, AccountOp::Balance),
         Source::Read(counter) => ObjOp::Counter(counter, CounterOp::Read),
+        Source::Size(set) => ObjOp::Size(set),
     }
 }
 

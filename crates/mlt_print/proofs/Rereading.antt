@@ -8,7 +8,7 @@ use Rattle.mlt_kinds.specs.declared.account.AccountOp.TheVariants as account
 use Rattle.mlt_kinds.specs.declared.element.ElementOp.TheVariants as element
 use Rattle.mlt_kinds.specs.declared.counter.CounterOp.TheVariants as counter
 use Rattle.mlt_kinds.specs.declared.operation.ObjOp.{ObjOp}
-use Rattle.mlt_kinds.specs.declared.operation.ObjOp.TheVariants.{Account, Element, Counter}
+use Rattle.mlt_kinds.specs.declared.operation.ObjOp.TheVariants.{Account, Element, Counter, Size}
 use Rattle.mlt_kinds.specs.declared.operation.ObjReply.{ObjReply}
 use Rattle.mlt_kinds.specs.declared.operation.ObjReply.TheVariants as reply
 use Rattle.mlt_kinds.specs.Texts.{op_text}
@@ -32,7 +32,7 @@ use Rattle.mlt_tree.specs.declared.statement.Line.{Line}
 use Rattle.mlt_tree.specs.declared.statement.Line.TheVariants as line
 use Rattle.mlt_tree.specs.declared.statement.Ending.{Ending}
 use Rattle.mlt_tree.specs.declared.statement.Ending.TheVariants.{Commit, Abort}
-use Rattle.mlt_script.specs.Forms.{form_of, key_form, key_at, asking_at, account_at, element_at, counter_at, deposit_at, withdraw_at, up_at, down_at, number_below, amount_at, op_at, reply_word, wanted_at, asking_is_at, begin_form, let_form, letter_at, source_at, need_form, if_form, ask_form}
+use Rattle.mlt_script.specs.Forms.{form_of, key_form, key_at, asking_at, account_at, element_at, counter_at, set_size_at, deposit_at, withdraw_at, up_at, down_at, number_below, amount_at, op_at, reply_word, wanted_at, asking_is_at, begin_form, let_form, letter_at, source_at, need_form, if_form, ask_form}
 use Rattle.mlt_words.specs.Lines.{without_cr, is_comment}
 use Rattle.mlt_words.specs.Letters.{letter_text}
 use Rattle.mlt_tree.specs.LineTexts.{amount_op_text, asking_text, wanted_text, reply_wanted, source_text, line_text, ending_text}
@@ -77,6 +77,7 @@ op_key (Element s e element.Has) = key.Has
 op_key (Counter c (counter.Up n)) = key.Up
 op_key (Counter c (counter.Down n)) = key.Down
 op_key (Counter c counter.Read) = key.Read
+op_key (Size s) = key.Size
 
 abbrev op_rest : ObjOp → List Word
 op_rest (Account a account.Open) = Number a ∷ []
@@ -90,6 +91,7 @@ op_rest (Element s e element.Has) = Number s ∷ Number e ∷ []
 op_rest (Counter c (counter.Up n)) = Number c ∷ Number n ∷ []
 op_rest (Counter c (counter.Down n)) = Number c ∷ Number n ∷ []
 op_rest (Counter c counter.Read) = Number c ∷ []
+op_rest (Size s) = Number s ∷ []
 
 abbrev amount_key : AmountOp → Keyword
 amount_key (amount.Deposit a) = key.Deposit
@@ -127,6 +129,7 @@ op_is (Element s e element.Has) h = at_most _ _ 50 60 (omega arith) (beside (spe
 op_is (Counter c (counter.Up n)) h = at_most _ _ 50 60 (omega arith) (beside (spelling key.Up ++ 32 ∷ decimal c) (decimal n) (Key key.Up ∷ Number c ∷ []) (Number n ∷ []) 29 20 (beside (spelling key.Up) (decimal c) (Key key.Up ∷ []) (Number c ∷ []) 8 20 (key_text key.Up) (number_is c (let p = h.0 in omega (arith, p)))) (number_is n (let p = h.1 in omega (arith, p))))
 op_is (Counter c (counter.Down n)) h = at_most _ _ 50 60 (omega arith) (beside (spelling key.Down ++ 32 ∷ decimal c) (decimal n) (Key key.Down ∷ Number c ∷ []) (Number n ∷ []) 29 20 (beside (spelling key.Down) (decimal c) (Key key.Down ∷ []) (Number c ∷ []) 8 20 (key_text key.Down) (number_is c (let p = h.0 in omega (arith, p)))) (number_is n (let p = h.1 in omega (arith, p))))
 op_is (Counter c counter.Read) h = at_most _ _ 29 60 (omega arith) (beside (spelling key.Read) (decimal c) (Key key.Read ∷ []) (Number c ∷ []) 8 20 (key_text key.Read) (number_is c (let p = h.0 in omega (arith, p))))
+op_is (Size s) h = at_most _ _ 29 60 (omega arith) (beside (spelling key.Size) (decimal s) (Key key.Size ∷ []) (Number s ∷ []) 8 20 (key_text key.Size) (number_is s (omega (arith, h))))
 
 amount_is : (op : AmountOp) → FitsAmount op → TextIs (amount_op_text op) (Key (amount_key op) ∷ amount_rest op) 40
 amount_is (amount.Deposit a) h = at_most _ _ 29 40 (omega arith) (beside (spelling key.Deposit) (decimal a) (Key key.Deposit ∷ []) (Number a ∷ []) 8 20 (key_text key.Deposit) (number_is a (omega (arith, h))))
@@ -182,7 +185,7 @@ wanted_is (wanted.ValueOf l) h = at_most (letter_text l) (Variable l ∷ []) 1 2
 
 -- Their words are read as what they stand for, whatever words follow.
 asking_again : (a : Asking) (more : List Word) → FitsAsking a → asking_at (asking_key a) (asking_rest a ++ more) ≡ Some (a, more)
-unfolding asking_at account_at element_at counter_at deposit_at withdraw_at up_at down_at number_below amount_at
+unfolding asking_at account_at element_at counter_at set_size_at deposit_at withdraw_at up_at down_at number_below amount_at
 asking_again (Fixed (Account a account.Open)) more h = rw (lt-ltb a (2 ^ 32) h.0) refl
 asking_again (Fixed (Account a account.Close)) more h = rw (lt-ltb a (2 ^ 32) h.0) refl
 asking_again (Fixed (Account a (account.Deposit n))) more h = rw (lt-ltb a (2 ^ 32) h.0) refl
@@ -194,6 +197,7 @@ asking_again (Fixed (Element s e element.Has)) more h = rw (lt-ltb s (2 ^ 16) h.
 asking_again (Fixed (Counter c (counter.Up n))) more h = rw (lt-ltb c (2 ^ 32) h.0) refl
 asking_again (Fixed (Counter c (counter.Down n))) more h = rw (lt-ltb c (2 ^ 32) h.0) refl
 asking_again (Fixed (Counter c counter.Read)) more h = rw (lt-ltb c (2 ^ 32) h.0) refl
+asking_again (Fixed (Size s)) more h = rw (lt-ltb s (2 ^ 16) h) refl
 asking_again (By (amount.Deposit a) l) more h = rw (lt-ltb a (2 ^ 32) h) refl
 asking_again (By (amount.Withdraw a) l) more h = rw (lt-ltb a (2 ^ 32) h) refl
 asking_again (By (amount.Up c) l) more h = rw (lt-ltb c (2 ^ 32) h) refl
@@ -247,19 +251,23 @@ is_text k a w h f =
 abbrev source_key : Source → Keyword
 source_key (source.Balance a) = key.Balance
 source_key (source.Read c) = key.Read
+source_key (source.Size s) = key.Size
 
 abbrev source_number : Source → ℕ
 source_number (source.Balance a) = a
 source_number (source.Read c) = c
+source_number (source.Size s) = s
 
 source_is : (s : Source) → FitsSource s → TextIs (source_text s) (Key (source_key s) ∷ Number (source_number s) ∷ []) 29
 source_is (source.Balance a) h = beside (spelling key.Balance) (decimal a) (Key key.Balance ∷ []) (Number a ∷ []) 8 20 (key_text key.Balance) (number_is a (omega (arith, h)))
 source_is (source.Read c) h = beside (spelling key.Read) (decimal c) (Key key.Read ∷ []) (Number c ∷ []) 8 20 (key_text key.Read) (number_is c (omega (arith, h)))
+source_is (source.Size s) h = beside (spelling key.Size) (decimal s) (Key key.Size ∷ []) (Number s ∷ []) 8 20 (key_text key.Size) (number_is s (omega (arith, h)))
 
 source_again : (s : Source) → FitsSource s → source_at (source_key s) (Number (source_number s) ∷ []) ≡ Some (s, [])
 unfolding source_at number_below
 source_again (source.Balance a) h = rw (lt-ltb a (2 ^ 32) h) refl
 source_again (source.Read c) h = rw (lt-ltb c (2 ^ 32) h) refl
+source_again (source.Size s) h = rw (lt-ltb s (2 ^ 16) h) refl
 
 let_text : (l : Letter) (s : Source) → FitsSource s
     → TextIs (((spelling key.Let ++ 32 ∷ letter_text l) ++ 32 ∷ spelling key.Equals) ++ 32 ∷ source_text s) (Key key.Let ∷ Variable l ∷ Key key.Equals ∷ Key (source_key s) ∷ Number (source_number s) ∷ []) 200
@@ -294,6 +302,7 @@ keyed_as_asked (Fixed (Element s e element.Has)) rest = refl
 keyed_as_asked (Fixed (Counter c (counter.Up n))) rest = refl
 keyed_as_asked (Fixed (Counter c (counter.Down n))) rest = refl
 keyed_as_asked (Fixed (Counter c counter.Read)) rest = refl
+keyed_as_asked (Fixed (Size s)) rest = refl
 keyed_as_asked (By (amount.Deposit a) l) rest = refl
 keyed_as_asked (By (amount.Withdraw a) l) rest = refl
 keyed_as_asked (By (amount.Up c) l) rest = refl
@@ -317,6 +326,7 @@ no_comment (Fixed (Element s e element.Has)) = refl
 no_comment (Fixed (Counter c (counter.Up n))) = refl
 no_comment (Fixed (Counter c (counter.Down n))) = refl
 no_comment (Fixed (Counter c counter.Read)) = refl
+no_comment (Fixed (Size s)) = refl
 no_comment (By (amount.Deposit a) l) = refl
 no_comment (By (amount.Withdraw a) l) = refl
 no_comment (By (amount.Up c) l) = refl

@@ -5,7 +5,7 @@ use Rattle.mlt_kinds.specs.declared.account.AccountOp.TheVariants as account
 use Rattle.mlt_kinds.specs.declared.counter.CounterOp.{CounterOp}
 use Rattle.mlt_kinds.specs.declared.counter.CounterOp.TheVariants as counter
 use Rattle.mlt_kinds.specs.declared.operation.ObjOp.{ObjOp}
-use Rattle.mlt_kinds.specs.declared.operation.ObjOp.TheVariants.{Account, Element, Counter}
+use Rattle.mlt_kinds.specs.declared.operation.ObjOp.TheVariants.{Account, Element, Counter, Size}
 use Rattle.mlt_kinds.specs.declared.operation.ObjReply.{ObjReply}
 use Rattle.mlt_kinds.specs.declared.operation.ObjReply.TheVariants.{Is}
 use Rattle.mlt_tree.specs.declared.statement.AmountOp.{AmountOp}
@@ -15,7 +15,7 @@ use Rattle.mlt_tree.specs.declared.statement.Asking.TheVariants.{Fixed, By}
 use Rattle.mlt_tree.specs.declared.statement.Wanted.{Wanted}
 use Rattle.mlt_tree.specs.declared.statement.Wanted.TheVariants.{Reply, ValueOf}
 use Rattle.mlt_tree.specs.declared.statement.Source.{Source}
-use Rattle.mlt_tree.specs.declared.statement.Source.TheVariants.{Balance, Read}
+use Rattle.mlt_tree.specs.declared.statement.Source.TheVariants as source
 use Rattle.mlt_tree.specs.declared.statement.Statement.{Statement}
 use Rattle.mlt_tree.specs.declared.statement.Statement.TheVariants.{Ask, Need, Let}
 use Rattle.mlt_tree.specs.declared.statement.Line.{Line}
@@ -35,6 +35,7 @@ abbrev pub FitsOp : ObjOp → Type 0
 FitsOp (Account a op) = (a < 2 ^ 32) × FitsAccount op
 FitsOp (Element s e op) = (s < 2 ^ 16) × (e < 2 ^ 32)
 FitsOp (Counter c op) = (c < 2 ^ 32) × FitsCounter op
+FitsOp (Size s) = s < 2 ^ 16
 
 abbrev pub FitsAmount : AmountOp → Type 0
 FitsAmount (amount.Deposit a) = a < 2 ^ 32
@@ -55,8 +56,9 @@ FitsWanted (Reply r) = FitsReply r
 FitsWanted (ValueOf l) = Unit {0}
 
 abbrev pub FitsSource : Source → Type 0
-FitsSource (Balance a) = a < 2 ^ 32
-FitsSource (Read c) = c < 2 ^ 32
+FitsSource (source.Balance a) = a < 2 ^ 32
+FitsSource (source.Read c) = c < 2 ^ 32
+FitsSource (source.Size s) = s < 2 ^ 16
 
 abbrev pub FitsStatement : Statement → Type 0
 FitsStatement (Ask a) = FitsAsking a

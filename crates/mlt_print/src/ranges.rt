@@ -55,6 +55,7 @@ pub fn op_fits(op: ObjOp)
             fits_32(counter);
             counter_fits(op);
         }
+        ObjOp::Size(set) => fits_16(set),
     }
 }
 
@@ -103,6 +104,7 @@ fn source_fits(source: Source)
     match source {
         Source::Balance(account) => fits_32(account),
         Source::Read(counter) => fits_32(counter),
+        Source::Size(set) => fits_16(set),
     }
 }
 

@@ -7,7 +7,7 @@ use Rattle.mlt_kinds.specs.declared.account.AccountOp.TheVariants as account
 use Rattle.mlt_kinds.specs.declared.element.ElementOp.TheVariants as element
 use Rattle.mlt_kinds.specs.declared.counter.CounterOp.TheVariants as counter
 use Rattle.mlt_kinds.specs.declared.operation.ObjOp.{ObjOp}
-use Rattle.mlt_kinds.specs.declared.operation.ObjOp.TheVariants.{Account, Element, Counter}
+use Rattle.mlt_kinds.specs.declared.operation.ObjOp.TheVariants.{Account, Element, Counter, Size}
 use Rattle.mlt_kinds.specs.declared.operation.ObjReply.{ObjReply}
 use Rattle.mlt_kinds.specs.declared.operation.ObjReply.TheVariants as reply
 use Rattle.mlt_script.specs.declared.forms.LineForm.{LineForm}
@@ -27,7 +27,7 @@ use Rattle.mlt_words.specs.Words.{spelling}
 use Rattle.mlt_words.proofs.Cutting.{line_cut}
 use Rattle.mlt_words.proofs.Fronts.{no_comment}
 use Rattle.mlt_words.proofs.Pieces.{at_most, beside, key_text}
-use Rattle.mlt_script.specs.Forms.{asking_at, ask_form, fixed, form_of, key_form, op_at, key_at, account_at, element_at, counter_at, deposit_at, withdraw_at, up_at, down_at, number_below, amount_at, begin_form, reply_at, reply_after, reply_word}
+use Rattle.mlt_script.specs.Forms.{asking_at, ask_form, fixed, form_of, key_form, op_at, key_at, account_at, element_at, counter_at, set_size_at, deposit_at, withdraw_at, up_at, down_at, number_below, amount_at, begin_form, reply_at, reply_after, reply_word}
 use Rattle.mlt_script.specs.Plain.{AsksElement, BeginsWithForm, BeginsWithOp, BeginsWithReply, GoesOnWithOp}
 use Rattle.mlt_script.proofs.Saying.{says_so}
 
@@ -93,6 +93,10 @@ pub on_element : (k : Keyword) (op : element.the_data) (text rest : List ℕ) (s
     → BeginsWithWords text (Number s ∷ Number e ∷ []) 41 rest → GoesOnWithOp k text (Element s e op) rest
 on_element k op text rest s e f h l w = goes_on k text rest _ 41 _ (omega arith) w (λ more. f s e more h l)
 
+pub sizing : (text rest : List ℕ) (s : ℕ) → s < 2 ^ 16 → BeginsWithWords text (Number s ∷ []) 20 rest → GoesOnWithOp key.Size text (Size s) rest
+unfolding asking_at set_size_at number_below
+sizing text rest s below h = goes_on key.Size text rest _ 20 _ (omega arith) h (λ more. rw (lt-ltb s (2 ^ 16) below) refl)
+
 -- ---- an operation and its line
 
 -- behind a keyword and a space
@@ -140,6 +144,7 @@ ask_key key.Has words op h = rw h refl
 ask_key key.Up words op h = rw h refl
 ask_key key.Down words op h = rw h refl
 ask_key key.Read words op h = rw h refl
+ask_key key.Size words op h = rw h refl
 ask_key k words op h = cc
 
 -- a line that is an operation

@@ -8,7 +8,7 @@ use Rattle.mlt_kinds.specs.declared.element.ElementOp.TheVariants as element
 use Rattle.mlt_kinds.specs.declared.counter.CounterOp.{CounterOp}
 use Rattle.mlt_kinds.specs.declared.counter.CounterOp.TheVariants as counter
 use Rattle.mlt_kinds.specs.declared.operation.ObjOp.{ObjOp}
-use Rattle.mlt_kinds.specs.declared.operation.ObjOp.TheVariants.{Account, Element, Counter}
+use Rattle.mlt_kinds.specs.declared.operation.ObjOp.TheVariants.{Account, Element, Counter, Size}
 use Rattle.mlt_kinds.specs.declared.operation.ObjReply.{ObjReply}
 use Rattle.mlt_kinds.specs.declared.operation.ObjReply.TheVariants as reply
 use Rattle.mlt_script.specs.declared.forms.LineForm.{LineForm}
@@ -97,6 +97,11 @@ counter_at op words = do
   c ← number_below (2 ^ 32) words
   Some (Fixed (Counter c.0 op), c.1)
 
+unfoldable pub set_size_at : List Word → Option (Asking × List Word)
+set_size_at words = do
+  s ← number_below (2 ^ 16) words
+  Some (Fixed (Size s.0), s.1)
+
 -- the number of an account or a counter, and an amount
 unfoldable pub deposit_at : List Word → Option (Asking × List Word)
 deposit_at words = do
@@ -131,6 +136,7 @@ asking_at key.Has words = element_at element.Has words
 asking_at key.Up words = up_at words
 asking_at key.Down words = down_at words
 asking_at key.Read words = counter_at counter.Read words
+asking_at key.Size words = set_size_at words
 asking_at keyword words = None
 
 abbrev pub fixed : Asking → List Word → Option (ObjOp × List Word)
@@ -231,6 +237,9 @@ source_at key.Balance words = do
 source_at key.Read words = do
   c ← number_below (2 ^ 32) words
   Some (source.Read c.0, c.1)
+source_at key.Size words = do
+  s ← number_below (2 ^ 16) words
+  Some (source.Size s.0, s.1)
 source_at keyword words = None
 
 abbrev pub equals_source : Letter → Keyword → List Word → Option LineForm
@@ -240,7 +249,7 @@ equals_source l key.Equals rest = do
   finish (Says (line.Plain (Let l s.0))) s.1
 equals_source l keyword rest = None
 
--- let v = balance A, or let v = read C
+-- let v = balance A, let v = read C, or let v = size S
 unfoldable pub let_form : List Word → Option LineForm
 let_form words = do
   l ← letter_at words

@@ -4,7 +4,7 @@ ghost use Rattle.std.specs.Prelude.{◌≡◌};
 ghost use Rattle.mlt_script.specs.Forms.{Reads, number_below, letter_at, asking_is_at, source_at, finish, begin_form, let_form, need_form, if_form, ask_form, key_form, form_of};
 ghost use Rattle.mlt_words.specs.Words.{words_of};
 
-use crate::operations::{asking, keyword, number_32, wanted};
+use crate::operations::{asking, keyword, number_16, number_32, wanted};
 use mlt_tree::{Asking, Ending, Line, Source, Statement, Wanted};
 use mlt_words::{Keyword, Letter, Word, has_word, next_number, next_word};
 
@@ -86,6 +86,10 @@ fn source(keyword: Keyword, text: &[u8]) -> Option<(Source, &[u8])>
         Keyword::Read => {
             let (counter, rest) = number_32(text)?;
             Some((Source::Read(counter), rest))
+        }
+        Keyword::Size => {
+            let (set, rest) = number_16(text)?;
+            Some((Source::Size(set), rest))
         }
         _ => None,
     }

@@ -1,7 +1,7 @@
 //! Operations and replies, as words.
 
 ghost use Rattle.std.specs.Prelude.{◌≡◌, ◌≤◌, ◌^◌};
-ghost use Rattle.mlt_script.specs.Forms.{Reads, key_at, number_below, amount_at, account_at, element_at, counter_at, deposit_at, withdraw_at, up_at, down_at, asking_at, op_at, reply_word, reply_at, wanted_at};
+ghost use Rattle.mlt_script.specs.Forms.{Reads, key_at, number_below, amount_at, account_at, element_at, counter_at, set_size_at, deposit_at, withdraw_at, up_at, down_at, asking_at, op_at, reply_word, reply_at, wanted_at};
 ghost use Rattle.mlt_words.specs.Words.{words_of};
 
 use mlt_kinds::{AccountOp, CounterOp, ElementOp, ObjOp, ObjReply};
@@ -87,6 +87,14 @@ fn counter(op: CounterOp, text: &[u8]) -> Option<(Asking, &[u8])>
     Some((Asking::Fixed(ObjOp::Counter(counter, op)), rest))
 }
 
+#[tactic(auto, unfolding(crate::specs::Forms::set_size_at))]
+fn size(text: &[u8]) -> Option<(Asking, &[u8])>
+    ensures { Reads result (set_size_at (words_of text.now)) }
+{
+    let (set, rest) = number_16(text)?;
+    Some((Asking::Fixed(ObjOp::Size(set)), rest))
+}
+
 #[tactic(auto, unfolding(crate::specs::Forms::deposit_at))]
 fn deposit(text: &[u8]) -> Option<(Asking, &[u8])>
     ensures { Reads result (deposit_at (words_of text.now)) }
@@ -136,6 +144,7 @@ pub fn asking(keyword: Keyword, text: &[u8]) -> Option<(Asking, &[u8])>
         Keyword::Up => up(text),
         Keyword::Down => down(text),
         Keyword::Read => counter(CounterOp::Read, text),
+        Keyword::Size => size(text),
         _ => None,
     }
 }

@@ -118,6 +118,16 @@ fn element(keyword: Keyword, text: &[u8]) -> Option<(ObjOp, &[u8])>
     }
 }
 
+// The set whose size is asked, and the text behind it.
+fn size(text: &[u8]) -> Option<(ObjOp, &[u8])>
+    ensures { IfSome result (λ x. GoesOnWithOp Keyword.Size text.now x.0 x.1.now) }
+{
+    match number_64(text)? {
+        (set, rest) if set < 1 << 16 => Some((ObjOp::Size(set as u16), rest)),
+        _ => None,
+    }
+}
+
 // What stands behind the keyword of an operation and a space, and the text behind it.
 fn op_after(keyword: Keyword, text: &[u8]) -> Option<(ObjOp, &[u8])>
     ensures { IfSome result (λ x. GoesOnWithOp keyword text.now x.0 x.1.now) }
@@ -125,6 +135,7 @@ fn op_after(keyword: Keyword, text: &[u8]) -> Option<(ObjOp, &[u8])>
     match keyword {
         Keyword::Up | Keyword::Down | Keyword::Read => counter(keyword, text),
         Keyword::Add | Keyword::Remove | Keyword::Has => element(keyword, text),
+        Keyword::Size => size(text),
         _ => account(keyword, text),
     }
 }
@@ -152,6 +163,7 @@ fn op_keyword(text: &[u8]) -> Option<(Keyword, &[u8])>
         b'o' => spaced(Keyword::Open, b"open ", text),
         b'r' if text.starts_with(b"rem") => spaced(Keyword::Remove, b"remove ", text),
         b'r' => spaced(Keyword::Read, b"read ", text),
+        b's' => spaced(Keyword::Size, b"size ", text),
         b'u' => spaced(Keyword::Up, b"up ", text),
         b'w' => spaced(Keyword::Withdraw, b"withdraw ", text),
         _ => None,

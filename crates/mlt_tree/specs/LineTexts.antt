@@ -12,7 +12,7 @@ use Rattle.mlt_tree.specs.declared.statement.Asking.TheVariants.{Fixed, By}
 use Rattle.mlt_tree.specs.declared.statement.Wanted.{Wanted}
 use Rattle.mlt_tree.specs.declared.statement.Wanted.TheVariants.{Reply, ValueOf}
 use Rattle.mlt_tree.specs.declared.statement.Source.{Source}
-use Rattle.mlt_tree.specs.declared.statement.Source.TheVariants.{Balance, Read}
+use Rattle.mlt_tree.specs.declared.statement.Source.TheVariants.{Balance, Read, Size}
 use Rattle.mlt_tree.specs.declared.statement.Statement.{Statement}
 use Rattle.mlt_tree.specs.declared.statement.Statement.TheVariants.{Ask, Need, Let}
 use Rattle.mlt_tree.specs.declared.statement.Line.{Line}
@@ -46,6 +46,7 @@ wanted_text (ValueOf l) = letter_text l
 abbrev pub source_text : Source → List ℕ
 source_text (Balance a) = with_number (codes "balance") a
 source_text (Read c) = with_number (codes "read") c
+source_text (Size s) = with_number (codes "size") s
 
 abbrev pub statement_text : Statement → List ℕ
 statement_text (Ask a) = asking_text a

@@ -59,6 +59,7 @@ impl fmt::Display for Source {
         match *self {
             Source::Balance(account) => write!(f, "balance {account}"),
             Source::Read(counter) => write!(f, "read {counter}"),
+            Source::Size(set) => write!(f, "size {set}"),
         }
     }
 }

@@ -58,6 +58,8 @@ pub enum Source {
     Balance(u32),
     /// The value of the counter of this number.
     Read(u32),
+    /// How many elements the set of this number has.
+    Size(u16),
 }
 
 /// A statement that asks one operation and goes on with the next line.
