@@ -90,9 +90,11 @@ RESULTS = [
     ("close", (1,), Reply.CLOSED),
     ("remove", (2, 3), Reply.ABSENT),
     ("has", (2, 3), False),
+    ("size", (2,), 0),
     ("add", (2, 3), Reply.ADDED),
     ("add", (2, 3), Reply.PRESENT),
     ("has", (2, 3), True),
+    ("size", (2,), 1),
     ("remove", (2, 3), Reply.REMOVED),
     ("down", (4, 1), Reply.DONE),
     ("read", (4,), 2**64 - 1),
@@ -100,6 +102,7 @@ RESULTS = [
     ("read", (4,), 2),
     ("open", (2**32 - 1,), Reply.OPENED),
     ("add", (2**16 - 1, 2**32 - 1), Reply.ADDED),
+    ("size", (2**16 - 1,), 1),
     ("up", (2**32 - 1, 2**64 - 1), Reply.DONE),
 ]
 
@@ -125,7 +128,7 @@ def each_call_has_each_reply(mltx):
 def replies_of_formats():
     """The replies of each operation, as the tables of docs/FORMATS.md have them."""
     text, found = (ROOT / "docs/FORMATS.md").read_text(), {}
-    for title in ("Accounts", "Elements", "Counters"):
+    for title in ("Accounts", "Elements", "Sizes", "Counters"):
         table = text.partition(f"\n## {title}\n")[2].partition("\n## ")[0]
         for words, reply in re.findall(r"(?m)^\| ([a-z, ]+?)(?: n)? / (\w+)", table):
             for word in words.split(", "):
@@ -160,6 +163,7 @@ OUT_OF_RANGE = [
     (ValueError, "withdraw", (1, 2**64), "amount has to be 0 to 18446744073709551615, and is 18446744073709551616"),
     (ValueError, "add", (2**16, 0), "set has to be 0 to 65535, and is 65536"),
     (ValueError, "has", (0, 2**32), "element has to be 0 to 4294967295, and is 4294967296"),
+    (ValueError, "size", (2**16,), "set has to be 0 to 65535, and is 65536"),
     (ValueError, "read", (2**32,), "counter has to be 0 to 4294967295, and is 4294967296"),
     (TypeError, "up", (7, 1.0), "amount has to be a whole number, and is 1.0"),
     (TypeError, "up", ("7", 1), "counter has to be a whole number, and is '7'"),

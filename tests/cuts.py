@@ -25,6 +25,7 @@ else
 end
 add 4 19\r
 need has 4 19 is yes
+let u = size 4
 up 3 v
 commit
 
@@ -66,6 +67,7 @@ whole 3 add 4 19
 commit 3
 begin
 whole 4 has 4 19
+whole 4 size 4
 abort 4
 step 4 4"""
 
@@ -87,6 +89,7 @@ op 13 withdraw 1 0012 done
 commit 13 2
 begin 20
 op 20 read 7 is 0
+op 20 size 4 is 1
 commit 20 3
 begin 21
 abort 21

@@ -25,11 +25,12 @@ BAD_LINES = {
 # Words that are no operation, of one form or the other. In scripts an amount may also be a variable.
 NO_OPERATIONS = [
     *("open", "close 1 2", "balance", "deposit 1", "withdraw 1 2 3", "add 4", "remove 4 9 1", "has 4", "up 7", "down"),
-    *("read", "read 7 1"),
+    *("size", "size 4 9", "read", "read 7 1"),
     *("play 1", "Open 1", "OPEN 1", "open1", "opened 1", "transfer 1 2 3"),
     *("open 4294967296", "close 99999999999", "balance 18446744073709551616", "deposit 4294967296 1"),
     *("withdraw 4294967296 1", "withdraw 1 18446744073709551616"),
-    *("add 65536 0", "remove 65536 0", "has 65536 0", "add 0 4294967296", "up 4294967296 1", "down 4294967296 1"),
+    *("add 65536 0", "remove 65536 0", "has 65536 0", "add 0 4294967296", "size 65536"),
+    *("up 4294967296 1", "down 4294967296 1"),
     *("read 4294967296", "deposit 1 18446744073709551616", "up 7 99999999999999999999", "down 7 18446744073709551616"),
     *("open 000000000000000000001", "deposit 1 000000000000000000005"),
     *("open -1", "open +1", "open 0x1", "open 1.0", "open 1_0"),
@@ -63,6 +64,7 @@ SCRIPT = {
     "let-with-a-word-more": ("begin|let v = read 7 1|commit", 2, "Words"),
     "let-without-spaces": ("begin|let v=read 7|commit", 2, "Words"),
     "let-with-one-space": ("begin|let v= read 7|commit", 2, "Words"),
+    "let-of-a-set-out-of-range": ("begin|let v = size 65536|commit", 2, "Words"),
     "let-of-a-digit": ("begin|let 1 = read 7|commit", 2, "Words"),
     "variable-as-an-account": ("begin|let v = read 7|balance v|commit", 3, "Words"),
     "variable-in-capitals": ("begin|deposit 1 V|commit", 2, "Words"),

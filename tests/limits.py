@@ -121,7 +121,7 @@ def all_pages_that_can_be_made_are_made_by_scripts(mltx):
 
 MOST_OPERATIONS = 1_024
 MIX = ["open 1", "deposit 1 5", "withdraw 1 3", "add 4 9", "balance 1", "remove 4 9", "up 7 11", "down 2 1"]
-MIX += ["withdraw 1 2", "close 1", "read 7", "has 4 9", "add 4 8"]
+MIX += ["withdraw 1 2", "close 1", "read 7", "has 4 9", "add 4 8", "size 4"]
 OPERATIONS = {
     "a-transaction-has-1024-operations": ["up 2 3"] * MOST_OPERATIONS,
     "a-transaction-has-1024-operations-of-all-kinds": (MIX * 100)[:MOST_OPERATIONS],
@@ -281,6 +281,8 @@ NUMBERS = {
     "an-account-too-many": ("open 4294967296", None, []),
     "the-last-set": ("add 65535 0", "added", ["element 65535 0"]),
     "a-set-too-many": ("add 65536 0", None, []),
+    "the-size-of-the-last-set": ("size 65535", "is 0", []),
+    "the-size-of-a-set-too-many": ("size 65536", None, []),
     "the-last-element": ("add 65535 4294967295", "added", ["element 65535 4294967295"]),
     "an-element-too-many": ("add 0 4294967296", None, []),
     "the-last-counter": ("up 4294967295 1", "done", ["counter 4294967295 1"]),

@@ -1,8 +1,8 @@
 """A small model of the tables, of scripts and of traces, for expected values. It is written from docs/FORMATS.md alone.
 
 An operation is a tuple, as `("open", 1)`, `("deposit", 1, 50)` or `("has", 4, 9)`. A reply is its text, as `done` or
-`is 5`. A cell is `("account", a)`, `("element", s, e)` or `("counter", c)`. What a cell holds is None where it is
-absent, else its number, which is 0 for an element."""
+`is 5`. A cell is `("account", a)`, `("element", s, e)`, `("counter", c)` or `("size", s)`. What a cell holds is None
+where it is absent, else its number, which is 0 for an element. The size of a set is the number of its elements."""
 import re
 from dataclasses import dataclass, field
 
@@ -11,15 +11,23 @@ MOST_LINE, MOST_OPERATIONS, MOST_NESTING = 200, 256, 16
 
 # How many numbers each operation takes: those that name its cell, and its amount.
 NAMES = {"open": 1, "close": 1, "deposit": 1, "withdraw": 1, "balance": 1}
-NAMES |= {"add": 2, "remove": 2, "has": 2, "up": 1, "down": 1, "read": 1}
-KINDS = {"add": "element", "remove": "element", "has": "element", "up": "counter", "down": "counter", "read": "counter"}
+NAMES |= {"add": 2, "remove": 2, "has": 2, "size": 1, "up": 1, "down": 1, "read": 1}
+KINDS = {"add": "element", "remove": "element", "has": "element", "size": "size"}
+KINDS |= {"up": "counter", "down": "counter", "read": "counter"}
+# The ends of the ranges of the numbers that name a cell.
+RANGES = {"account": [2**32], "element": [2**16, 2**32], "size": [2**16], "counter": [2**32]}
 WITH_AMOUNT = ("deposit", "withdraw", "up", "down")
 REPLIES = "opened exists closed notempty done over short missing added present removed absent yes no".split()
 
 
+def kind_of(name):
+    """The kind of the cells that an operation of this name is on."""
+    return KINDS.get(name, "account")
+
+
 def cell_of(op):
     """The cell of an operation."""
-    return (KINDS.get(op[0], "account"), *op[1 : 1 + NAMES[op[0]]])
+    return (kind_of(op[0]), *op[1 : 1 + NAMES[op[0]]])
 
 
 def text_of(op):
@@ -28,8 +36,8 @@ def text_of(op):
 
 def apply(held, op):
     """What an operation is told where its cell holds this, and what the cell holds then."""
-    kind = cell_of(op)[0]
-    return {"account": _account, "element": _element, "counter": _counter}[kind](held, op[0], op[-1])
+    by_kind = {"account": _account, "element": _element, "size": _size, "counter": _counter}
+    return by_kind[kind_of(op[0])](held, op[0], op[-1])
 
 
 def _account(held, name, n):
@@ -55,6 +63,10 @@ def _element(held, name, _):
     return ("yes" if there else "no"), held
 
 
+def _size(held, _name, _set):
+    return f"is {held}", held
+
+
 def _counter(held, name, n):
     value = held or 0
     if name == "read":
@@ -77,15 +89,22 @@ def take_back(held, op, reply):
 # The letter of each class, by operation and reply, and which classes conflict: held first, then those requested later.
 CLASSES = {"opened": "O", "exists": "E", "closed": "C", "notempty": "N", "over": "V", "short": "S", "missing": "X"}
 CLASSES |= {"added": "A", "present": "P", "removed": "R", "absent": "Z", "yes": "Y", "no": "Q"}
-BY_OPERATION = {"deposit": "D", "withdraw": "W", "up": "K", "down": "K", "balance": "B", "read": "G"}
+BY_OPERATION = {"deposit": "D", "withdraw": "W", "up": "K", "down": "K", "balance": "B", "read": "G", "size": "G"}
 CONFLICTS = {"O": "ECDVWSB", "E": "C", "C": "OX", "N": "W", "D": "CNVWB", "V": "CW", "W": "CDSB", "S": "CD", "B": "CDW"}
 CONFLICTS |= {"X": "O", "A": "PRY", "P": "R", "Y": "R", "R": "AZQ", "Z": "A", "Q": "A", "K": "G", "G": "K"}
 
 
+def locks(op, reply):
+    """The cells that an operation with this reply is locked on, each with its class there: what puts an element in or
+    takes it out counts on the size of its set."""
+    there = {cell_of(op): CLASSES.get(reply) or BY_OPERATION[op[0]]}
+    return {**there, ("size", op[1]): "K"} if reply in ("added", "removed") else there
+
+
 def clash(held, requested):
     """Whether a pair of operation and reply may not pass one that another transaction holds."""
-    first, second = (CLASSES.get(reply) or BY_OPERATION[op[0]] for op, reply in (held, requested))
-    return cell_of(held[0]) == cell_of(requested[0]) and second in CONFLICTS[first]
+    first, second = locks(*held), locks(*requested)
+    return any(second[cell] in CONFLICTS[first[cell]] for cell in first.keys() & second.keys())
 
 
 class Base:
@@ -95,11 +114,15 @@ class Base:
         self.cells, self.changed = {}, []
 
     def held(self, op):
+        if op[0] == "size":
+            return sum(cell[:2] == ("element", op[1]) for cell in self.cells)
         return self.cells.get(cell_of(op))
 
     def put(self, op, value):
-        self.changed.append((cell_of(op), self.held(op)))
-        self._set(cell_of(op), value)
+        """Puts a value into the cell of an operation. A set's size goes with its elements, and is not put."""
+        if op[0] != "size":
+            self.changed.append((cell_of(op), self.held(op)))
+            self._set(cell_of(op), value)
 
     def _set(self, cell, value):
         if value is None:
@@ -219,8 +242,7 @@ def read_op(words, variables=False):
     places = NAMES.get(name, -1)
     if len(rest) != places + (name in WITH_AMOUNT):
         return None
-    bounds = [2**16, 2**32] if places == 2 else [2**32]
-    numbers = [number(word, bound) for word, bound in zip(rest, bounds)]
+    numbers = [number(word, end) for word, end in zip(rest, RANGES[kind_of(name)])]
     if name in WITH_AMOUNT:
         numbers.append(_amount(rest[-1], variables))
     return None if None in numbers else (name, *numbers)
@@ -239,7 +261,7 @@ def _statement(words):
             return (first, op, reply, [], []) if first == "if" else (first, op, reply)
     elif first == "let" and len(rest) == 4 and re.fullmatch("[a-z]", rest[0]) and rest[1] == "=":
         op = read_op(rest[2:])
-        if op and op[0] in ("balance", "read"):
+        if op and op[0] in ("balance", "read", "size"):
             return "let", rest[0], op
     op = read_op(words, True)
     return None if op is None else ("op", op)

@@ -1,4 +1,5 @@
-"""All pairs of operations on one cell in all small states, and what each second one is told beside the first.
+"""All pairs of operations on one account, counter or set in all small states, and what each second one is told beside
+the first.
 
 A transaction holds the first operation, and another asks for the second: it is done or blocked, just as the table of
 conflicts says. Then they end in each order. A program with one pair more or less in its table fails."""
@@ -8,13 +9,17 @@ from random_work import show, watched_schedule
 MOST = 10**18
 ACCOUNT = [("open",), ("close",), ("balance",), *(("deposit", n) for n in (0, 1, 5, MOST, 2**64 - 1))]
 ACCOUNT += [("withdraw", n) for n in (0, 1, 5, MOST)]
-# By name the operations that bring a cell into each state, and the operations of the pairs, without their cell.
+# By name the operations that bring an account, a set or a counter into each state, and the operations of the pairs,
+# without its number.
 KINDS = {
     "all-pairs-on-an-account": (
         [[], [("open",)], *([("open",), ("deposit", n)] for n in (1, 5, MOST - 1, MOST))],
         ACCOUNT,
     ),
-    "all-pairs-on-an-element": ([[], [("add",)]], [("add",), ("remove",), ("has",)]),
+    "all-pairs-on-a-set": (
+        [[], [("add", 1)], [("add", 2)], [("add", 1), ("add", 2)]],
+        [*((name, element) for element in (1, 2) for name in ("add", "remove", "has")), ("size",)],
+    ),
     "all-pairs-on-a-counter": (
         [[], [("up", 0)], [("up", 5)]],
         [("up", 0), ("up", 1), ("down", 2**64 - 1), ("down", 6), ("read",)],
@@ -29,15 +34,16 @@ ENDS = [
 ]
 
 
-def pair(first, cell, state, held, requested, end):
-    """The events of a pair on a cell of its own. `first` is the transaction that brings it into its state."""
+def pair(first, place, state, held, requested, end):
+    """The events of a pair on an account, a set or a counter of this number. `first` is the transaction that brings it
+    into its state."""
 
     def on(form):
-        return (form[0], *((4,) if form[0] in ("add", "remove", "has") else ()), cell, *form[1:])
+        return (form[0], place, *form[1:])
 
     made = [("begin",), *(("whole", first, on(form)) for form in state), ("commit", first)]
     both = [("begin",), ("begin",), ("whole", first + 1, on(held)), ("whole", first + 2, on(requested))]
-    return [*made, *both, *((name, first + 1 + place) for name, place in end)]
+    return [*made, *both, *((name, first + 1 + which) for name, which in end)]
 
 
 @each(KINDS, seconds=1)
@@ -45,7 +51,7 @@ def all_pairs(mltx, case):
     """Each reply is the one that the tables give, and who is blocked is blocked by the right one."""
     states, forms = case
     cases = [(state, held, requested, end) for state in states for held in forms for requested in forms for end in ENDS]
-    events = [event for cell, parts in enumerate(cases) for event in pair(3 * cell + 1, cell, *parts)]
+    events = [event for place, parts in enumerate(cases) for event in pair(3 * place + 1, place, *parts)]
     ran = mltx.run("steps", "--trace", "trace", "-", given="".join(show(event) + "\n" for event in events))
     expect(ran, out=ran.out)
     watch = watched_schedule(mltx, events, ran.out.decode().splitlines(), low=False)

@@ -109,7 +109,7 @@ def help_of_the_prompt(mltx):
         connected(server).close()
         ran = typed(server.address, "help\nhelp deposit\n? read\nhelp source\nhelp nothing\n")
     out = ran.out.decode()
-    for usage in ("open ACCOUNT", "add SET ELEMENT", "up COUNTER AMOUNT", "begin", "source FILE", "quit"):
+    for usage in ("open ACCOUNT", "add SET ELEMENT", "size SET", "up COUNTER AMOUNT", "begin", "source FILE", "quit"):
         holds(re.search(rf"(?m)^{usage} ", out), f"{usage} is listed in {out}")
     deposit = (
         "deposit ACCOUNT AMOUNT|    asks for so much more in the account"

@@ -14,13 +14,13 @@ import harness
 import model
 from harness import Failed, each, expect, holds, same
 
-# Cells: accounts, elements and counters. ONE of each, and FEW, are fought for. Of WIDE buckets split, now and then
-# thirteen times, but no pseudokey of `low` has nine. CROWD are eleven accounts of one pseudokey, for which a bucket has
-# eight slots.
+# Cells: accounts, elements, whose sets are asked for their sizes, and counters. ONE of each, and FEW, are fought for.
+# Of WIDE buckets split, now and then thirteen times, but no pseudokey of `low` has nine. CROWD are eleven accounts, two
+# elements and the size of their set, all of one pseudokey, for which a bucket has eight slots.
 ONE = ((1,), ((4, 9),), (7,))
 FEW = ((1, 2, 3), ((4, 9), (4, 10)), (7, 8))
 WIDE = ((*range(0, 65_536, 4_096), *range(9), 65_536), ((1, 0), (2, 0), (2, 20_000)), (0, 1, 50_000))
-CROWD = (tuple(65_536 * place for place in range(11)), ((4, 1),), (2,))
+CROWD = (tuple(65_536 * place for place in range(11)), ((0, 0), (0, 65_536), (4, 1)), (2,))
 AMOUNTS = (0, 0, 1, 1, 2, 3, 5, 10**18 - 3, 10**18, 2**64 - 1)
 
 
@@ -42,12 +42,13 @@ def told_in(name, case, text):
 def random_op(dice, cells, amount=None):
     """An operation on one of the cells. An account is often opened first."""
     accounts, elements, counters = cells
-    kind = dice.choice(("account", "account", "account", "element", "counter"))
+    kind = dice.choice(("account", "account", "account", "element", "element", "counter"))
     if kind == "account":
         names = "open open close close close deposit deposit deposit withdraw withdraw withdraw balance"
         op = (dice.choice(names.split()), dice.choice(accounts))
     elif kind == "element":
-        op = (dice.choice(("add", "remove", "has")), *dice.choice(elements))
+        op = (dice.choice(("add", "add", "remove", "has", "size")), *dice.choice(elements))
+        op = op[:2] if op[0] == "size" else op
     else:
         op = (dice.choice(("up", "up", "down", "read")), dice.choice(counters))
     if op[0] in model.WITH_AMOUNT:
@@ -60,6 +61,7 @@ def likely_reply(dice, op):
     usual = {"open": "opened exists", "close": "closed notempty missing", "deposit": "done done over missing"}
     usual |= {"withdraw": "done done short missing", "add": "added present", "remove": "removed absent"}
     usual |= {"has": "yes no", "up": "done", "down": "done", "balance": "0 1 5 a b missing", "read": "0 1 5 a b"}
+    usual |= {"size": "0 1 1 2 a b"}
     if dice.random() < 0.04:
         return dice.choice(model.REPLIES)
     return dice.choice(usual[op[0]].split())
@@ -74,7 +76,8 @@ def random_statements(dice, cells, most, nesting=0):
         if form == "op":
             lines.append(model.text_of(op))
         elif form == "let":
-            asked = dice.choice((("balance", dice.choice(cells[0])), ("read", dice.choice(cells[2]))))
+            account, (set_number, _), counter = map(dice.choice, cells)
+            asked = dice.choice((("balance", account), ("size", set_number), ("read", counter)))
             lines.append(f"let {dice.choice('abc')} = {model.text_of(asked)}")
         else:
             lines.append(f"{form} {model.text_of(op)} is {likely_reply(dice, op)}")
@@ -282,24 +285,25 @@ class Watch:
     def _end_of(self, t, op):
         """What the tables say is the end of a pass that ends now."""
         reply, _ = model.apply(self.base.held(op), op)
-        if self._adds(op, reply) and not self._has_room(t, op):
+        if not self._has_room(self._wants_room(t, op, reply)):
             return "refused 2 NoRoom"
         held_by_others = ((by, held) for by, it in self.open.items() if by != t for held in it.held)
         blocks = [by for by, held in held_by_others if model.clash(held, (op, reply))]
         return f"blocked by {min(blocks)}" if blocks else f"done {reply}"
 
-    def _adds(self, op, reply):
-        return reply in ("opened", "added") or op[0] in ("up", "down") and model.cell_of(op) not in self.records
+    def _wants_room(self, t, op, reply):
+        """The cells whose records are added: not one that revives a ghost of its own, and of counters and of sizes
+        those that have none. A set's size has its record from the first element on that was ever put into it."""
+        cells = [model.cell_of(op)] if reply in ("opened", "added") or op[0] in ("up", "down") else []
+        cells += [("size", op[1])] if reply == "added" else []
+        return [cell for cell in cells if cell not in self.records and (cell, t) not in self.ghosts]
 
-    def _has_room(self, t, op):
-        """Whether a cell can be added. At the greatest depth `low` has a bucket for each pseudokey, and it has eight
-        slots: for live records, and for ghosts whose owners are open."""
-        cell = model.cell_of(op)
-        if not self.low or (cell, t) in self.ghosts:
-            return True
-        live = [it for it in (*self.base.cells, *self.records) if it[0] != "counter" or it in self.records]
-        taken = len(set(it for it in live if it[-1] % 2**16 == cell[-1] % 2**16))
-        return taken + sum(ghost[-1] % 2**16 == cell[-1] % 2**16 for ghost, _ in self.ghosts) < 8
+    def _has_room(self, cells):
+        """Whether these cells can be added. At the greatest depth `low` has a bucket for each pseudokey, and it has
+        eight slots: for live records, and for ghosts whose owners are open."""
+        there = {*(it for it in self.base.cells if it[0] != "counter"), *self.records}
+        taken = [*there, *(ghost for ghost, _ in self.ghosts), *cells]
+        return not self.low or all(sum(it[-1] % 2**16 == cell[-1] % 2**16 for it in taken) <= 8 for cell in cells)
 
     def _done(self, t, op, reply):
         it, cell = self.open[t], model.cell_of(op)
@@ -309,6 +313,8 @@ class Watch:
         self.base.ask(op)
         if op[0] in ("up", "down"):
             self.records.add(cell)
+        if reply == "added":
+            self.records.add(("size", op[1]))
         if reply in ("opened", "added"):
             self.ghosts.discard((cell, t))
         elif reply in ("closed", "removed"):

@@ -133,7 +133,7 @@ FAULTY = [
     *("foo", "begin 1", "begin now", "Begin", "commit 1", "abort 1", "quit 1", "QUIT", "exit", "end", "else"),
     *("# a comment", "#", "need open 1 is opened", "let v = balance 1", "if open 1 is opened", "call 1 open 1"),
     *("step 1", "op 1 open 1 opened", "open", "open 1 2", "open 4294967296", "open -1", "open +1", "open a"),
-    *("open 000000000000000000001", "add 65536 0", "deposit 1 v", "deposit 1", "deposit 1 18446744073709551616"),
+    *("open 000000000000000000001", "add 65536 0", "size 65536", "deposit 1 v", "deposit 1", "deposit 1 18446744073709551616"),
     *("up 7 1 # one", "up 4294967296 1"),
     *("up 7 1 \x7f", "up 7 \x01 1", "\x00", "up 7 1\r ", "up 7 1\r\r", "up 7 1 \xb5", "\x0c"),
 ]
@@ -156,6 +156,7 @@ TABLE = {
     "open 1": ("error 3 NoSuchTx", "opened"),
     "balance 1": ("error 3 NoSuchTx", "missing"),
     "has 4 9": ("error 3 NoSuchTx", "no"),
+    "size 4": ("error 3 NoSuchTx", "is 0"),
     "read 7": ("error 3 NoSuchTx", "is 0"),
     "commit": ("error 3 NoSuchTx", "committed 1"),
     "abort": ("error 3 NoSuchTx", "aborted"),

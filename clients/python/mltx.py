@@ -263,6 +263,7 @@ _BALANCE: Form[Optional[int]] = Form("balance", (ACCOUNT,), "the balance", {Repl
 _ADD = Form("add", (SET, ELEMENT), "the element put into the set", _words(Reply.ADDED, Reply.PRESENT))
 _REMOVE = Form("remove", (SET, ELEMENT), "the element taken out of the set", _words(Reply.REMOVED, Reply.ABSENT))
 _HAS = Form("has", (SET, ELEMENT), "whether the element is in the set", {Reply.YES: True, Reply.NO: False})
+_SIZE: Form[int] = Form("size", (SET,), "the number of the set's elements", {}, tells_number=True)
 _UP = Form("up", (COUNTER, AMOUNT), "the counter so much higher, modulo 2^64", _words(Reply.DONE))
 _DOWN = Form("down", (COUNTER, AMOUNT), "the counter so much lower, modulo 2^64", _words(Reply.DONE))
 _READ: Form[int] = Form("read", (COUNTER,), "the counter's value", {}, tells_number=True)
@@ -270,7 +271,7 @@ _READ: Form[int] = Form("read", (COUNTER,), "the counter's value", {}, tells_num
 # The form of each operation by its word.
 FORMS: dict[str, Form[Any]] = {
     form.word: form
-    for form in (_OPEN, _CLOSE, _DEPOSIT, _WITHDRAW, _BALANCE, _ADD, _REMOVE, _HAS, _UP, _DOWN, _READ)
+    for form in (_OPEN, _CLOSE, _DEPOSIT, _WITHDRAW, _BALANCE, _ADD, _REMOVE, _HAS, _SIZE, _UP, _DOWN, _READ)
 }
 
 
@@ -314,6 +315,10 @@ class Operation(Generic[Result]):
     @staticmethod
     def has(set_number: int, element: int) -> Operation[bool]:
         return _HAS.of(set_number, element)
+
+    @staticmethod
+    def size(set_number: int) -> Operation[int]:
+        return _SIZE.of(set_number)
 
     @staticmethod
     def up(counter: int, amount: int) -> Operation[Reply]:
@@ -526,6 +531,11 @@ class Transaction:
     def has(self, set_number: int, element: int) -> bool:
         """Whether an element is in a set."""
         return self.ask(Operation.has(set_number, element))
+
+    def size(self, set_number: int) -> int:
+        """How many elements a set has. Of a set into which another transaction puts an element, or from which it takes
+        one out, it is told once that one has ended."""
+        return self.ask(Operation.size(set_number))
 
     # Counters: each is there, and has a value of 0 to 2^64 - 1, which is 0 at the start.
 
