@@ -18,11 +18,13 @@ STORED = {
     "block-by-reply": "A withdrawal is blocked as long as its reply is not certain",
     "wait-for-a-page": "Of two deposits one waits for a page, and not for a transaction",
     "abort-under-later-deposit": "A deposit is taken back under a later one, which stays",
+    "size-of-a-set": "A set's size waits for an addition, and not for who only looks",
     "split-beside-a-reader": "A bucket is split while another transaction reads",
 }
 SCHEDULES = {name: words[1:] for name, words in EXAMPLES.items() if words[0] == "steps"}
 # What stands at the points of their arrows.
 HELD = {"block-by-reply.txt": ["holds withdraw 1 3"], "wait-for-a-page.txt": ["holds the page"]}
+HELD["size-of-a-set.txt"] = ["holds size 4", "holds add 4 12"]
 # The most pixels of a picture's width, the least size of a font, and the part of it that a character takes at least.
 MOST_WIDTH, LEAST_SIZE, NARROW = 1000, 12, 0.5
 ENDS_A_WHOLE = ("refused 1 OutOfMemory", "refused 2 NoRoom")
@@ -288,6 +290,11 @@ FAULTS = {
     "picture-of-a-block-by-nothing": (
         "begin\nwhole 1 up 7 1\nbegin\nwhole 2 read 6\n", "begun 1\ndone done\nbegun 2\nblocked by 1\ndepth 0\n",
         "A line 4: `blocked by 1`: transaction 1 has done nothing to what `read 6` is on",
+    ),
+    "picture-of-a-size-blocked-by-another-set": (
+        "begin\nwhole 1 add 5 4\nbegin\nwhole 2 size 4\n",
+        "begun 1\ndone added\nbegun 2\nblocked by 1\ndepth 0\n",
+        "A line 4: `blocked by 1`: transaction 1 has done nothing to what `size 4` is on",
     ),
     "picture-of-answers-without-an-end": ("begin\n", "begun 1\n", "A line 2: the base and the depth are missing"),
     "picture-of-answers-with-too-much": (

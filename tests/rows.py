@@ -372,6 +372,7 @@ EXAMPLES = {
     "side-by-side.txt": ("run", "--workers", "1"),
     "wait-for-a-page.txt": ("steps",),
     "block-by-reply.txt": ("steps",),
+    "size-of-a-set.txt": ("steps",),
     "abort-under-later-deposit.txt": ("steps",),
     "split-beside-a-reader.txt": ("steps", "--hash", "low"),
     "abort-under-deposit.trace": ("check",),

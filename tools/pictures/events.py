@@ -13,11 +13,13 @@ OPERATIONS = {
     **dict.fromkeys(("add", "remove", "has"), (ELEMENT, ())),
     **dict.fromkeys(("up", "down"), (COUNTER, (BIG,))),
     "read": (COUNTER, ()),
+    "size": ((SET,), ()),
 }
 KINDS = {
     **dict.fromkeys(("open", "close", "balance", "deposit", "withdraw"), "account"),
     **dict.fromkeys(("add", "remove", "has"), "element"),
     **dict.fromkeys(("up", "down", "read"), "counter"),
+    "size": "size",
 }
 REPLY = r"(?:opened|exists|closed|notempty|done|over|short|missing|added|present|removed|absent|yes|no|is \d{1,20})"
 REFUSED = r"refused \d{1,2} [A-Za-z]+"
@@ -103,6 +105,14 @@ def cell(operation):
     """The cell of an operation: its kind and the numbers that name it."""
     name, *numbers = operation.split()
     return (KINDS[name], *numbers[:len(OPERATIONS[name][0])])
+
+
+def meet(one, other):
+    """Whether two operations are on one cell, or one of them is on the size of a set, and the other puts an element into
+    that set or takes one out."""
+    words = [operation.split() for operation in (one, other)]
+    sizes = {("size", numbers[0]) for name, *numbers in words if name in ("add", "remove")}
+    return cell(one) == cell(other) or cell(one) in sizes or cell(other) in sizes
 
 
 def _event(words):

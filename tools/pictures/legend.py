@@ -14,6 +14,7 @@ ASKED = {
     "add": "puts {1} into set {0}",
     "remove": "takes {1} out of set {0}",
     "has": "asks whether {1} is in set {0}",
+    "size": "asks how many are in set {}",
     "up": "adds {1} to counter {0}",
     "down": "takes {1} from counter {0}",
     "read": "asks for counter {}",

@@ -2,7 +2,7 @@
 from 0; how far apart they are is left to the layout."""
 from dataclasses import dataclass, field
 
-from .events import Faulty, cell
+from .events import Faulty, meet
 from .fonts import width
 
 LABEL_SIZE, PILL_SIZE, PILL_PAD = 13, 12, 7
@@ -217,7 +217,7 @@ class Scene:
         self._label(lane, "low", point, moment.answer, "reply", anchor if arrow.goes_up() else "beside")
         held = "the page"
         if kind == "blocked":
-            here = [it for it in target.held if cell(it) == cell(lane.bar.text)]
+            here = [it for it in target.held if meet(it, lane.bar.text)]
             if not here:
                 self._fault(moment, f"transaction {number} has done nothing to what `{lane.bar.text}` is on")
             held = _named(here)
