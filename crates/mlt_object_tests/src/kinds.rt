@@ -18,6 +18,7 @@ const OPERATIONS: &[ObjOp] = &[
     ObjOp::Counter(u32::MAX, CounterOp::Up(0)),
     ObjOp::Counter(u32::MAX, CounterOp::Down(u64::MAX)),
     ObjOp::Counter(u32::MAX, CounterOp::Read),
+    ObjOp::Size(u16::MAX),
 ];
 
 const TEXT_OF_OPERATIONS: &str = "open 4294967295\n\
@@ -30,7 +31,8 @@ remove 65535 4294967295\n\
 has 65535 4294967295\n\
 up 4294967295 0\n\
 down 4294967295 18446744073709551615\n\
-read 4294967295\n";
+read 4294967295\n\
+size 65535\n";
 
 const REPLIES: &[ObjReply] = &[
     ObjReply::Opened,

@@ -1,6 +1,6 @@
 //! How many pairs the tables mark, their examples run, and clashes.
 
-use mlt_commute::{AccountClass, CounterClass, ElementClass, Example, Table, clash};
+use mlt_commute::{AccountClass, CounterClass, ElementClass, Example, SizeExample, Table, clash};
 use mlt_kinds::{
     Account, AccountOp, Counter, CounterOp, Done, Element, ElementOp, Kind, ObjOp, ObjReply,
 };
@@ -83,6 +83,32 @@ where
         && !(later_first == first && later_second == second && end == after)
 }
 
+#[test]
+fn classes_that_count() -> Result<(), Fail> {
+    let mut counted: u64 = 0;
+    for class in ELEMENT_CLASSES {
+        let example = class.size_example();
+        same_at(class, &example.is_some(), &class.counts())?;
+        if let Some(example) = example {
+            same_at(class, &shows_sizes(&example), &true)?;
+            counted = counted.saturating_add(1);
+        }
+    }
+    same(&counted, &2)
+}
+
+// Whether the operation of an example has its reply, and takes the size of a set without other elements from the one
+// number to another, so that no size that is told on one side of it is told on the other.
+fn shows_sizes(example: &SizeExample) -> bool {
+    let (after, reply) = Element::apply(&example.present, &example.op);
+    let size: u64 = if example.present { 1 } else { 0 };
+    let size_after: u64 = if after { 1 } else { 0 };
+    reply == example.reply
+        && size == example.before
+        && size_after == example.after
+        && size != size_after
+}
+
 // An operation with its reply that is held, one that is requested, and whether they clash.
 type Pair = ((ObjOp, ObjReply), (ObjOp, ObjReply), bool);
 
@@ -113,7 +139,21 @@ const YES_BESIDE: (ObjOp, ObjReply) = (ObjOp::Element(1, 3, ElementOp::Has), Obj
 
 const YES_ELSEWHERE: (ObjOp, ObjReply) = (ObjOp::Element(2, 2, ElementOp::Has), ObjReply::Yes);
 
-// Clashes need one cell and marked classes.
+const ADDED_BESIDE: (ObjOp, ObjReply) = (ObjOp::Element(1, 3, ElementOp::Add), ObjReply::Added);
+
+const PRESENT: (ObjOp, ObjReply) = (ObjOp::Element(1, 2, ElementOp::Add), ObjReply::Present);
+
+const REMOVED: (ObjOp, ObjReply) = (ObjOp::Element(1, 2, ElementOp::Remove), ObjReply::Removed);
+
+const ABSENT: (ObjOp, ObjReply) = (ObjOp::Element(1, 2, ElementOp::Remove), ObjReply::Absent);
+
+const SIZE: (ObjOp, ObjReply) = (ObjOp::Size(1), ObjReply::Is(1));
+
+const SIZE_ELSEWHERE: (ObjOp, ObjReply) = (ObjOp::Size(2), ObjReply::Is(1));
+
+const NO_SIZE: (ObjOp, ObjReply) = (ObjOp::Size(1), ObjReply::Done);
+
+// Clashes need one cell and marked classes, or a set whose size is told and an operation that changes it.
 const PAIRS: &[Pair] = &[
     (SHORT, DEPOSITED, true),
     (DEPOSITED, SHORT, false),
@@ -129,6 +169,24 @@ const PAIRS: &[Pair] = &[
     (YES, ADDED, false),
     (ADDED, YES_BESIDE, false),
     (ADDED, YES_ELSEWHERE, false),
+    (ADDED, SIZE, true),
+    (SIZE, ADDED, true),
+    (ADDED_BESIDE, SIZE, true),
+    (REMOVED, SIZE, true),
+    (SIZE, REMOVED, true),
+    (PRESENT, SIZE, false),
+    (SIZE, PRESENT, false),
+    (ABSENT, SIZE, false),
+    (SIZE, ABSENT, false),
+    (YES, SIZE, false),
+    (SIZE, YES, false),
+    (ADDED, SIZE_ELSEWHERE, false),
+    (SIZE_ELSEWHERE, REMOVED, false),
+    (ADDED, NO_SIZE, false),
+    (ADDED, ADDED_BESIDE, false),
+    (SIZE, SIZE, false),
+    (SIZE, UP, false),
+    (DEPOSITED, SIZE, false),
 ];
 
 #[test]
