@@ -65,7 +65,7 @@ there_in_range records b s e h there =
       | inr not ↦ let gone : state_at b (Element s e) ≡ ElementState false = h.elsewhere (Element s e) (λ range. not range.1) in absurd (cc (gone, there))
     ]
 
-bounded : (records : map.FinMap nat_cmp ℕ) (b : Base) (s : ℕ) → MeansCells records b → size_at b s ≤ 2 ^ 32
+pub bounded : (records : map.FinMap nat_cmp ℕ) (b : Base) (s : ℕ) → MeansCells records b → size_at b s ≤ 2 ^ 32
 bounded records b s h = size_below (2 ^ 32) b s (λ e. there_in_range records b s e h)
 
 -- what an operation makes of its set's size is what its step makes of it
@@ -155,7 +155,7 @@ element_changes records s e o changes range =
     ∙ ap (λ (live : Option ℕ). changed between (Size s) (record_after changes.size live)) found
 
 -- a size is read and stays
-size_stays : (live : Option ℕ) → record_after (size_reply_of live).1 live ≡ live
+pub size_stays : (live : Option ℕ) → record_after (size_reply_of live).1 live ≡ live
 size_stays None = refl
 size_stays (Some v) = refl
 
@@ -173,7 +173,7 @@ tells_size records b (op.Counter c o) h range = tt
 tells_size records b (op.Size s) h range = size_told (record_in records (Size s)) (size_at b s) (h.sized s range)
 
 -- the record of the operation's cell after it, and the base
-abbrev now_of : map.FinMap nat_cmp ℕ → ObjOp → Option ℕ
+abbrev pub now_of : map.FinMap nat_cmp ℕ → ObjOp → Option ℕ
 now_of records o = record_after (changes_of records o).own (record_in records (cell_of o))
 
 abbrev base_after : map.FinMap nat_cmp ℕ → Base → ObjOp → Base
@@ -237,7 +237,7 @@ means_step records b o h range can cell =
 -- ---- steps back
 
 -- the record of the operation's cell once it is undone, and the base
-abbrev undone_of : map.FinMap nat_cmp ℕ → ObjOp × ObjReply → Option ℕ
+abbrev pub undone_of : map.FinMap nat_cmp ℕ → ObjOp × ObjReply → Option ℕ
 undone_of records x = record_after (inverse_of x) (record_in records (cell_of x.0))
 
 abbrev base_before : map.FinMap nat_cmp ℕ → Base → ObjOp × ObjReply → Base

@@ -1,0 +1,17 @@
+use Rattle.mlt_base.proofs.SizeRecords.{can_resize, can_resize_back, has_size_now, has_size_still, has_size_still_back}
+use Rattle.mlt_base.proofs.meaning.size_records_can_be_changed.Goals as goal
+
+pub returns-clause-resize : goal.returns-clause-resize
+returns-clause-resize c = can_resize
+
+pub returns-clause-left : goal.returns-clause-left
+returns-clause-left c = has_size_now
+
+pub returns-clause-stays : goal.returns-clause-stays
+returns-clause-stays c = has_size_still
+
+pub returns-clause-back : goal.returns-clause-back
+returns-clause-back c = can_resize_back
+
+pub returns-clause-stays_back : goal.returns-clause-stays_back
+returns-clause-stays_back c = has_size_still_back
