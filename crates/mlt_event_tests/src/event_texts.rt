@@ -71,6 +71,7 @@ const OPERATIONS: &[(&str, ObjOp)] = &[
         ObjOp::Counter(4294967295, CounterOp::Down(18446744073709551615)),
     ),
     ("call 1 read 2", ObjOp::Counter(2, CounterOp::Read)),
+    ("call 1 size 65535", ObjOp::Size(65535)),
 ];
 
 // Texts of no events, with the line and the cause of their first fault. First, words of events.
@@ -113,6 +114,7 @@ const OPERATION_WORDS: &[(&[u8], u64, ScriptCause)] = &[
     (b"whole\n", 1, ScriptCause::Words),
     (b"whole 1\n", 1, ScriptCause::Words),
     (b"whole 1 has 65536 1\n", 1, ScriptCause::Words),
+    (b"whole 1 size 65536\n", 1, ScriptCause::Words),
     (b"whole 1 read 1 is 0\n", 1, ScriptCause::Words),
     (b"whole 1 open 1 # note\n", 1, ScriptCause::Words),
     (b"open 1\n", 1, ScriptCause::Words),

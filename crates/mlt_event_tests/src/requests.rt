@@ -38,6 +38,7 @@ const OPERATIONS: &[(&[u8], ObjOp)] = &[
     ),
     (b"down 7 1\n", ObjOp::Counter(7, CounterOp::Down(1))),
     (b"read 7\n", ObjOp::Counter(7, CounterOp::Read)),
+    (b"size 65535\n", ObjOp::Size(65535)),
     (
         b" up\t00000000000000000007  01 \r\n",
         ObjOp::Counter(7, CounterOp::Up(1)),
@@ -78,6 +79,7 @@ const OTHERS: &[&[u8]] = &[
     b"add 65536 1\n",
     b"has 1 4294967296\n",
     b"read 4294967296\n",
+    b"size 65536\n",
     b"need open 1 is opened\n",
     b"let v = read 1\n",
     b"if open 1 is opened\n",

@@ -77,6 +77,10 @@ const STATEMENTS: &[(&[u8], Outcome)] = &[
     (b"down 4294967296 1", Err((2, ScriptCause::Words))),
     (b"down 1 z", Ok(1)),
     (b"read 1 1", Err((2, ScriptCause::Words))),
+    (b"size 65535", Ok(1)),
+    (b"size 65536", Err((2, ScriptCause::Words))),
+    (b"size 1 1", Err((2, ScriptCause::Words))),
+    (b"size v", Err((2, ScriptCause::Words))),
     (b"commit 1", Err((2, ScriptCause::Words))),
     (b"begin 1000", Err((2, ScriptCause::Words))),
     // Just off the plain form, which has one space between words.
@@ -86,6 +90,7 @@ const STATEMENTS: &[(&[u8], Outcome)] = &[
     (b"downs 1 2", Err((2, ScriptCause::Words))),
     (b"removed 1 2", Err((2, ScriptCause::Words))),
     (b"reads 1", Err((2, ScriptCause::Words))),
+    (b"sizes 1", Err((2, ScriptCause::Words))),
     (b"opened 1", Err((2, ScriptCause::Words))),
     (b"begins", Err((2, ScriptCause::Words))),
     (b"commits", Err((2, ScriptCause::Words))),
@@ -117,6 +122,8 @@ const STATEMENTS: &[(&[u8], Outcome)] = &[
     (b"need need open 1 is done", Err((2, ScriptCause::Words))),
     (b"let v = balance 1", Ok(1)),
     (b"let z = read 4294967295", Ok(1)),
+    (b"let s = size 65535", Ok(1)),
+    (b"let s = size 65536", Err((2, ScriptCause::Words))),
     (b"let v = has 1 1", Err((2, ScriptCause::Words))),
     (b"let v= balance 1", Err((2, ScriptCause::Words))),
     (b"let vv = balance 1", Err((2, ScriptCause::Words))),
@@ -408,6 +415,9 @@ const TRANSFER: &[u8] =
 const NEEDS: &[u8] =
     b"begin\nneed add 4 9 is added\nlet c = read 7\nneed up 7 c is done\nneed read 7 is c\nabort\n";
 
+const SIZES: &[u8] =
+    b"begin\nlet n = size 4\nneed size 4 is n\nup 7 n\nneed size 65535 is 0\ncommit\n";
+
 // A script, the operations that a cursor asks for with the reply to each, and what comes then.
 type Path = (&'static [u8], &'static [(ObjOp, ObjReply)], Next);
 
@@ -451,6 +461,16 @@ const PATHS_OF_CURSORS: &[Path] = &[
         &[(ObjOp::Element(4, 9, ElementOp::Add), ObjReply::Present)],
         Next::Abort,
     ),
+    (
+        SIZES,
+        &[
+            (ObjOp::Size(4), ObjReply::Is(2)),
+            (ObjOp::Size(4), ObjReply::Is(2)),
+            (ObjOp::Counter(7, CounterOp::Up(2)), ObjReply::Done),
+            (ObjOp::Size(65535), ObjReply::Is(0)),
+        ],
+        Next::Commit,
+    ),
 ];
 
 // The cursor asks for these operations.
@@ -480,6 +500,7 @@ fn cursors_follow_scripts(rt: HostRuntime) -> Result<(), Fail> {
 // Scripts, and how they are printed.
 const PRINTED: &[(&[u8], &[u8])] = &[
     (TRANSFER, TRANSFER),
+    (SIZES, SIZES),
     (
         b"# two scripts\n\nbegin 7\nopen 1\r\n\tdeposit  1\t0005 \nneed balance 1 is 5\nif has 4 9 is yes\nelse\nend\n\
 if read 1 is v\nelse\nup 1 v\nend\ncommit\n\nbegin 0\nneed withdraw 4294967295 18446744073709551615 is short\n\
@@ -515,6 +536,7 @@ const SPELLED: &[(&[u8], &[u8])] = &[
         b"down 1 18446744073709551615",
     ),
     (b"read 12", b"read 12"),
+    (b"size 65535", b"size 65535"),
     (b"deposit  1 2", b"deposit 1 2"),
     (b"deposit 1  2", b"deposit 1 2"),
     (b"deposit\t1 2", b"deposit 1 2"),
@@ -529,6 +551,8 @@ const SPELLED: &[(&[u8], &[u8])] = &[
     (b"up 1 00000000000000000019", b"up 1 19"),
     (b"up 1 10000000000000000000", b"up 1 10000000000000000000"),
     (b"withdraw 1 v", b"withdraw 1 v"),
+    (b"size  007", b"size 7"),
+    (b"let v = size 00000000000000000007", b"let v = size 7"),
 ];
 
 #[test]
@@ -583,6 +607,7 @@ const FRONTS: &[(&[u8], ObjOp, &[u8])] = &[
         b"5",
     ),
     (b"read 7", ObjOp::Counter(7, CounterOp::Read), b""),
+    (b"size 65535 is 0", ObjOp::Size(65535), b" is 0"),
 ];
 
 // The contract of `front_op` does not say where it finds an operation.

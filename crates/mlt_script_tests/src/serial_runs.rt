@@ -29,6 +29,19 @@ fn if_else_script(rt: HostRuntime) -> Result<(), Fail> {
     are_reported(rt.alloc(), Form::Solo, IF_ELSE)
 }
 
+// The size of a set goes with its elements, also back with those of a script that aborts. The text of a base has none.
+const SIZES: &[(&[u8], &str)] = &[(
+    b"begin\nadd 4 1\nadd 4 2\nadd 5 1\nlet n = size 4\nremove 4 1\nneed size 4 is n\ncommit\n\
+begin\nsize 4\nadd 4 2\nadd 4 2\nsize 4\nremove 4 3\nneed size 4 is 1\ncommit\n",
+    "client 0 script 1\nadded\nadded\nadded\nis 2\nremoved\nis 1\naborted\n\
+client 0 script 2\nis 0\nadded\npresent\nis 1\nabsent\nis 1\ncommitted 1\nelement 4 2\n",
+)];
+
+#[test]
+fn sizes_of_sets(rt: HostRuntime) -> Result<(), Fail> {
+    are_reported(rt.alloc(), Form::Run, SIZES)
+}
+
 // Scripts that abort leave nothing. In the report of a run scripts have names by their clients.
 const BY_CLIENT: &[(&[u8], &str)] = &[
     (

@@ -192,6 +192,10 @@ const FAULTS: &[(&[u8], Said)] = &[
         Err((3, TraceCause::Reply)),
     ),
     (
+        b"begin 1\nbegin 2\nop 2 size 3 is 0\nop 1 add 3 8 added\ncommit 1 1\ncommit 2 2\n",
+        Err((3, TraceCause::Reply)),
+    ),
+    (
         b"begin 1\nbegin 2\nop 1 up 1 1 done\nop 2 up 2 1 done\nop 1 read 1 is 0\ncommit 2 1\ncommit 1 2\n",
         Err((5, TraceCause::Reply)),
     ),

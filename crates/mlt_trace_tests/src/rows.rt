@@ -83,6 +83,10 @@ const ACCEPTED: &[(&[u8], Said)] = &[
 begin 6\nop 6 up 9 1 done\n",
         Ok("serial 4\naccount 5 0\nelement 3 8\ncounter 9 2\n"),
     ),
+    (
+        b"begin 1\nbegin 2\nop 1 add 3 8 added\nop 2 add 3 9 added\ncommit 2 1\nop 1 size 3 is 2\ncommit 1 2\n",
+        Ok("serial 2\nserial 1\nelement 3 8\nelement 3 9\n"),
+    ),
     (b"begin 1\n", Ok("")),
     (b"begin 1\nop 1 read 1 is 5\n", Ok("")),
     (b"begin 1\nop 1 read 1 is 5\nback 1\nabort 1\n", Ok("")),
