@@ -15,7 +15,7 @@ ghost use Rattle.mlt_order.specs.Runs.{IsFunctional, IsInjective, IsSerialBase, 
 ghost use Rattle.mlt_order.specs.Tables.{AreFinitelyMany};
 
 /// Two operations do not clash that are locked on no cell of both. Over whole bases an operation right commutes
-/// backward with a held one where they do not clash. Where they clash, some operations on the cell and of their
+/// backward with a held one where they do not clash. Where they clash, some operations on their cells and of their
 /// classes do not.
 pub fn clashes_are_exact()
     ensures apart { (held requested : ObjOp × ObjReply) → AreApart held.0 requested.0

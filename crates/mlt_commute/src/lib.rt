@@ -1,5 +1,5 @@
-//! Which operations conflict: the exact tables of accounts, elements and counters, and the law that makes
-//! commit order right over them.
+//! Which operations conflict: the exact tables of accounts, elements and counters, what changes the size of a set,
+//! and the law that makes commit order right over them.
 //!
 //! An operation with its reply has a class. Of an ordered pair of classes, held and requested, the table says
 //! whether some operations of them, at some state, do not right commute backward (Weihl, IEEE Transactions on
