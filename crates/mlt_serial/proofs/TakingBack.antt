@@ -17,10 +17,10 @@ use Rattle.mlt_kinds.specs.Accounts as accounts
 use Rattle.mlt_kinds.specs.Elements as elements
 use Rattle.mlt_kinds.specs.Counters as counters
 use Rattle.mlt_kinds.specs.Cells.{CellState, CellStep}
-use Rattle.mlt_kinds.specs.Cells.CellState.{AccountState, ElementState, CounterState}
+use Rattle.mlt_kinds.specs.Cells.CellState.{AccountState, ElementState, CounterState, NoState}
 use Rattle.mlt_kinds.specs.Operations.{cell_of}
 use Rattle.mlt_kinds.proofs.BaseLaws.{base_one_answer, same_base, one_cell_or_two}
-use Rattle.mlt_kinds.specs.Bases.{Base, Step, Runs, Transcript, state_at, SameBut}
+use Rattle.mlt_kinds.specs.Bases.{Base, Step, Runs, TellsSize, Transcript, state_at, SameBut}
 use Rattle.mlt_serial.specs.TakingBack.{opposite_of}
 
 -- the opposite operation leads back with some reply; where there is none, nothing changed
@@ -50,7 +50,24 @@ cell_back : (x : ObjOp × ObjReply) (s t : CellState) → CellStep s x t → Lea
 cell_back (op.Account a o, r) (AccountState s) (AccountState t) h = subst (λ z. LeadsBack (cell.Account a) (opposite_of (op.Account a o, r)) (AccountState s) (AccountState z)) h.1 (account_back a o r s h.0)
 cell_back (op.Element set e o, r) (ElementState s) (ElementState t) h = subst (λ z. LeadsBack (cell.Element set e) (opposite_of (op.Element set e o, r)) (ElementState s) (ElementState z)) h.1 (element_back set e o r s h.0)
 cell_back (op.Counter c o, r) (CounterState s) (CounterState t) h = subst (λ z. LeadsBack (cell.Counter c) (opposite_of (op.Counter c o, r)) (CounterState s) (CounterState z)) h.1 (counter_back c o r s h.0)
+cell_back (op.Size s, r) NoState NoState h = refl
 cell_back _ _ _ h = absurd h
+
+-- the opposite operation asks for no size
+abbrev AsksNoSize : Option ObjOp → Type 0
+AsksNoSize None = Unit {0}
+AsksNoSize (Some o) = (b : Base) (r : ObjReply) → TellsSize b (o, r)
+
+asks_no_size : (x : ObjOp × ObjReply) → AsksNoSize (opposite_of x)
+asks_no_size (op.Account a account.Open, Opened) = λ b r. tt
+asks_no_size (op.Account a account.Close, Closed) = λ b r. tt
+asks_no_size (op.Account a (account.Deposit n), Done) = λ b r. tt
+asks_no_size (op.Account a (account.Withdraw n), Done) = λ b r. tt
+asks_no_size (op.Element s e element.Add, Added) = λ b r. tt
+asks_no_size (op.Element s e element.Remove, Removed) = λ b r. tt
+asks_no_size (op.Counter c (counter.Up n), reply) = λ b r. tt
+asks_no_size (op.Counter c (counter.Down n), reply) = λ b r. tt
+asks_no_size _ = tt
 
 -- the opposite operation leads to the base before, whatever it is told
 pub leads_back : (x : ObjOp × ObjReply) (m c next : Base) (o : ObjOp) (r : ObjReply) → Step m x c → opposite_of x ≡ Some o → Step c (o, r) next → next ≡ m
@@ -59,7 +76,8 @@ leads_back x m c next o r h is k =
     let back : LeadsBack d (Some o) (state_at m d) (state_at c d) = subst (λ z. LeadsBack d z (state_at m d) (state_at c d)) is (cell_back x (state_at m d) (state_at c d) h.0) in
     let here : CellStep (state_at c (cell_of o)) (o, back.1) (state_at m (cell_of o)) = subst (λ (z : Cell). CellStep (state_at c z) (o, back.1) (state_at m z)) (sym back.0) back.2 in
     let beside : SameBut c m (cell_of o) = λ other n. sym (h.1 other (λ e. n (e ∙ sym back.0))) in
-    (base_one_answer c next m o r back.1 k (here, beside)).1
+    let tells = subst AsksNoSize is (asks_no_size x) c back.1 in
+    (base_one_answer c next m o r back.1 k (here, beside, tells)).1
 
 -- and where there is none, the base is the one before
 pub was_same : (x : ObjOp × ObjReply) (m c : Base) → Step m x c → opposite_of x ≡ None → c ≡ m
