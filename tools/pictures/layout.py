@@ -139,7 +139,8 @@ class _Part:
         near, far = ("top", "low") if arrow.goes_up() else ("low", "top")
         low, high = sorted((arrow.lane.order(), arrow.target.order()))
         between = [lane for lane in self.lanes if low < lane.order() < high]
-        return [(arrow.lane, near), (arrow.target, far), *((lane, row) for lane in between for row in ("top", "low"))]
+        whole = [(lane, row) for lane in between for row in ("top", "bar", "low")]
+        return [(arrow.lane, near), (arrow.target, far), *whole]
 
     def places(self):
         """The places of the points, the first of which is at 0. What is too close is drawn apart evenly."""
