@@ -1,0 +1,11 @@
+pub mod Depths
+pub mod Performing
+pub mod WalkSteps
+pub mod Records
+pub mod FirstPass
+pub mod WidePass
+pub mod AtWideBuckets
+pub mod Doubles
+pub mod AtBuckets
+pub mod Answers
+pub mod Leaving
