@@ -14,10 +14,10 @@ use Rattle.mlt_kinds.specs.declared.operation.ObjReply.TheVariants.{Opened, Exis
 use Rattle.mlt_kinds.specs.Accounts as account
 use Rattle.mlt_kinds.specs.Counters as counter
 use Rattle.mlt_kinds.specs.Elements as element
-use Rattle.mlt_kinds.specs.Bases.{Base, Step, state_at, with_state}
+use Rattle.mlt_kinds.specs.Bases.{Base, Step, TellsSize, size_at, state_at, with_state}
 use Rattle.mlt_kinds.proofs.BaseLaws.{step_to}
 use Rattle.mlt_kinds.specs.Cells.{CellState, CellStep}
-use Rattle.mlt_kinds.specs.Cells.CellState.{AccountState, ElementState, CounterState}
+use Rattle.mlt_kinds.specs.Cells.CellState.{AccountState, ElementState, CounterState, NoState}
 use Rattle.mlt_kinds.specs.Operations.{cell_of}
 use Rattle.mlt_order.specs.Runs.{Runs}
 use Rattle.mlt_check.specs.Replaying.{IsFalseAt}
@@ -90,6 +90,20 @@ no_counter_step : (s c : ℕ) (o : CounterOp) (r : ObjReply) → (counter.IsLega
 no_counter_step s c o r n (CounterState t) h = n h.0
 no_counter_step s c o r n _ h = h
 
+-- a size is told as a number
+abbrev IsNumber : ObjReply → Type 0
+IsNumber (Is v) = Unit {0}
+IsNumber _ = ⊥
+
+size_is_number : (set : ℕ) (r : ObjReply) (t : CellState) → CellStep NoState (op.Size set, r) t → IsNumber r
+size_is_number set (Is v) NoState h = tt
+size_is_number set _ NoState h = h
+size_is_number set _ _ h = absurd h
+
+size_legal : (set : ℕ) (r : ObjReply) → CellStepsOrNot NoState (op.Size set, r)
+size_legal set (Is v) = inl (NoState, tt)
+size_legal set r = inr (λ t h. size_is_number set r t h)
+
 cell_steps_or_not : (s : CellState) (x : ObjOp × ObjReply) → CellStepsOrNot s x
 cell_steps_or_not (AccountState s) (op.Account a o, r) =
     elim (account_legal o r s) [ inl h ↦ inl (AccountState (account.next_of o r s), (h, refl)) | inr n ↦ inr (no_account_step s a o r n) ]
@@ -97,12 +111,27 @@ cell_steps_or_not (ElementState s) (op.Element set e o, r) =
     elim (element_legal o r s) [ inl h ↦ inl (ElementState (element.next_of o r s), (h, refl)) | inr n ↦ inr (no_element_step s set e o r n) ]
 cell_steps_or_not (CounterState s) (op.Counter c o, r) =
     elim (counter_legal o r s) [ inl h ↦ inl (CounterState (counter.next_of o r s), (h, refl)) | inr n ↦ inr (no_counter_step s c o r n) ]
+cell_steps_or_not NoState (op.Size set, r) = size_legal set r
 cell_steps_or_not _ _ = inr (λ t h. h)
+
+-- a size is told as it is, or not
+same_number : (m n : ℕ) → Is m ≡ Is n → m ≡ n
+same_number m n e = cc
+
+tells_or_not : (b : Base) (x : ObjOp × ObjReply) → Decided (TellsSize b x)
+tells_or_not b (op.Size set, Is v) = elim (cases_eq v (size_at b set)) [ inl e ↦ inl (ap Is e) | inr n ↦ inr (λ h. n (same_number v (size_at b set) h)) ]
+tells_or_not b (op.Size set, r) = inr (λ h. cc)
+tells_or_not b (op.Account a o, r) = inl tt
+tells_or_not b (op.Element set e o, r) = inl tt
+tells_or_not b (op.Counter c o, r) = inl tt
 
 -- the operation with its reply leads the base somewhere, or nowhere
 steps_or_not : (b : Base) (x : ObjOp × ObjReply) → ((next : Base) × Step b x next) ⊎ IsFalseAt b x
 steps_or_not b x = elim (cell_steps_or_not (state_at b (cell_of x.0)) x) [
-  | inl h ↦ inl (with_state b (cell_of x.0) h.0, step_to b x h.0 h.1)
+  | inl h ↦ elim (tells_or_not b x) [
+    | inl told ↦ inl (with_state b (cell_of x.0) h.0, step_to b x h.0 h.1 told)
+    | inr not ↦ inr (λ next step. not step.2)
+  ]
   | inr n ↦ inr (λ next step. n (state_at next (cell_of x.0)) step.0)
 ]
 
