@@ -1,39 +1,68 @@
--- Who stands in the way at the cell of a requested operation does so over all that is held, and back.
-use Rattle.std.proofs.Common.{◌≡◌, ℕ, List, Option, Some, None, ap}
+-- Who stands against a requested operation at a place where it looks holds one with which it clashes, and back.
+use Rattle.std.proofs.Common.{◌≡◌, ◌⊎◌, ℕ, List, [], ◌∷◌, ◌++◌, Option, None, Some, Contains, sym, subst, inl, inr}
+use Rattle.std.proofs.lemmas.List.Elements.{Contains-append_left, Contains-push, Contains-push_cases}
 use Rattle.indexmap.specs.IndexMap.{IndexMap}
 use Rattle.mlt_types.specs.declared.cell.Cell.{Cell}
-use Rattle.mlt_types.specs.Cells.{IsInRange, key_number}
+use Rattle.mlt_types.specs.Cells.{IsInRange}
 use Rattle.mlt_kinds.specs.Operations.{cell_of}
 use Rattle.mlt_kinds.specs.declared.operation.ObjOp.{ObjOp}
 use Rattle.mlt_kinds.specs.declared.operation.ObjReply.{ObjReply}
 use Rattle.mlt_object_locks.specs.declared.holders.Holder.{Holder}
-use Rattle.mlt_object_locks.specs.Locks.{Held, HoldsClash, IsLowestIfAny}
-use Rattle.mlt_object_locks.specs.Classes.{AreInTheWay}
-use Rattle.mlt_object_locks.specs.Holders.{IsInTheWay, IsLowestInTheWay}
+use Rattle.mlt_object_locks.specs.Locks.{Held, HoldsClash, IsLowestOf, lower_of}
+use Rattle.mlt_object_locks.specs.Holders.{StandsAgainst}
 use Rattle.mlt_object_locks.specs.Noted.{KeysWithRoom}
-use Rattle.mlt_object_locks.specs.Cells.{IsSound, list_at}
-use Rattle.mlt_object_locks.proofs.ClassLaws.{one_cell}
+use Rattle.mlt_object_locks.specs.Cells.{IsSound, StandsAtOne, list_at}
+use Rattle.mlt_object_locks.specs.Places.{looked_at}
+use Rattle.mlt_object_locks.proofs.ClassLaws.{clash_hinders, hindered_clash, share_place}
+use Rattle.mlt_object_locks.proofs.Lowest.{lowest_of_both, lowest_of_first, same_lowest}
 
-module _ {S S' : Type 0} (cells : IndexMap ℕ (List Holder) S) (reserved : List (ℕ × Cell)) (noted : IndexMap ℕ KeysWithRoom S') (held : List Held) (is : IsSound cells reserved noted held) (tx against : ℕ) (requested : ObjOp × ObjReply)
-    (apart : (other : Cell) → IsInRange other → key_number other ≡ key_number (cell_of requested.0) → other ≡ cell_of requested.0) (way : AreInTheWay against requested) where
-  abbrev Here : List Holder
-  Here = list_at cells (key_number (cell_of requested.0))
+module _ {S S' : Type 0} (cells : IndexMap ℕ (List Holder) S) (reserved : List (ℕ × Cell)) (noted : IndexMap ℕ KeysWithRoom S') (held : List Held) (is : IsSound cells reserved noted held) (tx : ℕ) (requested : ObjOp × ObjReply) (range : IsInRange (cell_of requested.0)) where
+  abbrev Here : ℕ → Type 0
+  Here = StandsAtOne cells (looked_at requested.0) tx requested
 
-  clash_here : (number : ℕ) → HoldsClash held tx requested number → IsInTheWay Here tx against number
+  clash_here : (number : ℕ) → HoldsClash held tx requested number → Here number
   clash_here number h =
       let earlier = h.1.0 in
-      let bit = way.has earlier h.1.2 in
-      let has = is.has (key_number (cell_of requested.0)) number bit.0 (earlier, h.1.1, ap key_number (one_cell earlier requested h.1.2), bit.1) in
-      (h.0, (has.0, has.1, (bit.0, has.2, bit.2)))
+      let shares = share_place earlier requested h.1.2 in
+      let bit = clash_hinders earlier requested (is.in_range number earlier h.1.1) range h.1.2 in
+      (shares.0, shares.2, (h.0, (bit.0, is.has shares.0 number bit.0 (earlier, h.1.1, shares.1, bit.1), bit.2)))
 
-  clash_held : (number : ℕ) → IsInTheWay Here tx against number → HoldsClash held tx requested number
+  clash_held : (number : ℕ) → Here number → HoldsClash held tx requested number
   clash_held number h =
-      let bit = h.1.2 in
-      let holds = is.only (key_number (cell_of requested.0)) number bit.0 (h.1.0, h.1.1, bit.1) in
-      let cell = apart (cell_of holds.0.0) (is.in_range number holds.0 holds.1) holds.2 in
-      (h.0, (holds.0, holds.1, way.only holds.0 bit.0 cell holds.3 bit.2))
+      let bit = h.2.1 in
+      let holds = is.only h.0 number bit.0 bit.1 in
+      (h.2.0, (holds.0, holds.1, hindered_clash holds.0 requested (is.in_range number holds.0 holds.1) range (h.0, holds.2, h.1) bit.0 holds.3 bit.2))
 
   -- so the lowest there is the lowest of all
-  pub lowest_of_all : (lowest : Option ℕ) → IsLowestInTheWay Here tx against lowest → IsLowestIfAny held tx requested lowest
-  lowest_of_all None h = λ number k. h number (clash_here number k)
-  lowest_of_all (Some lowest) h = (clash_held lowest h.0, λ number k. h.1 number (clash_here number k))
+  pub lowest_of_all : (lowest : Option ℕ) → IsLowestOf Here lowest → IsLowestOf (HoldsClash held tx requested) lowest
+  lowest_of_all lowest h = same_lowest Here (HoldsClash held tx requested) clash_held clash_here lowest h
+
+-- who stands against it at one place more
+module _ {S : Type 0} (cells : IndexMap ℕ (List Holder) S) (places : List ℕ) (place tx : ℕ) (requested : ObjOp × ObjReply) where
+  abbrev Before : ℕ → Type 0
+  Before = StandsAtOne cells places tx requested
+
+  abbrev There : ℕ → Type 0
+  There = StandsAgainst (list_at cells place) tx requested
+
+  abbrev After : ℕ → Type 0
+  After = StandsAtOne cells (places ++ place ∷ []) tx requested
+
+  still : (n : ℕ) → Before n → After n
+  still n h = (h.0, Contains-append_left places (place ∷ []) h.0 h.1, h.2)
+
+  there : (n : ℕ) → There n → After n
+  there n h = (place, Contains-push places place, h)
+
+  either : (n : ℕ) → After n → Before n ⊎ There n
+  either n h = by (Contains-push_cases places place h.0 h.1)
+    where
+      by : Contains places h.0 ⊎ (place ≡ h.0) → Before n ⊎ There n
+      by (inl c) = inl (h.0, c, h.2)
+      by (inr e) = inr (subst (λ k. StandsAgainst (list_at cells k) tx requested n) (sym e) h.2)
+
+  pub lowest_with_one : (lowest : Option ℕ) (other : ℕ) → IsLowestOf Before lowest → IsLowestOf There (Some other) → IsLowestOf After (Some (lower_of lowest other))
+  lowest_with_one lowest other h k = lowest_of_both Before There After still there either lowest other h k
+
+  pub lowest_with_none : (lowest : Option ℕ) → IsLowestOf Before lowest → IsLowestOf There None → IsLowestOf After lowest
+  lowest_with_none lowest h none = lowest_of_first Before There After still there either lowest h none

@@ -1,27 +1,34 @@
 -- Each class has a bit of its own, and clashes on one cell are told by classes.
-use Prim.Native.Nat.{zero}
-use Rattle.std.proofs.Common.{suc, bit_or, ◌*◌, ◌%◌, ◌^◌, ◌≡◌, ◌⊎◌, ℕ, ◌<◌, ◌+◌, Bool, true, false, ◌≤◌, List, [], ◌∷◌, ◌++◌, Option, Some, None, Contains, get_or, length, take, sym, ap, subst, refl, ◌∙◌, true≢false, inl, inr, arith}
+use Rattle.std.proofs.Common.{◌≡◌, ◌⊎◌, ℕ, ◌<◌, Bool, true, false, ◌≤◌, List, [], ◌∷◌, ◌++◌, map, Option, Some, None, Contains, get_or, length, sym, ap, subst, refl, ◌∙◌, true≢false, inl, inr, arith}
 use Rattle.std.specs.Option.{option_map}
-use Rattle.std.proofs.lemmas.List.{get_or_past, take_all, take_more}
+use Rattle.std.proofs.lemmas.List.{get_or_past}
 use Rattle.std.proofs.lemmas.List.Elements.{Contains-push_cases}
 use Rattle.std.proofs.lemmas.Bool.{cases_eq, cases_lt, eq-eqb, ne_eqb}
 use Rattle.mlt_types.specs.declared.cell.Cell.TheVariants as cell
+use Rattle.mlt_types.specs.Cells.{IsInRange, key_number}
+use Rattle.mlt_kinds.specs.declared.element.ElementOp.{ElementOp}
+use Rattle.mlt_kinds.specs.declared.element.ElementOp.TheVariants.{Add, Remove, Has}
 use Rattle.mlt_kinds.specs.declared.operation.ObjOp.{ObjOp}
 use Rattle.mlt_kinds.specs.declared.operation.ObjOp.TheVariants as op
 use Rattle.mlt_kinds.specs.declared.operation.ObjReply.{ObjReply}
-use Rattle.mlt_kinds.specs.Operations.{cell_of}
+use Rattle.mlt_kinds.specs.declared.operation.ObjReply.TheVariants as reply
+use Rattle.mlt_kinds.specs.Operations.{cell_of, size_cells}
 use Rattle.mlt_commute.specs.Clashes.{clashes, marked_classes}
 use Rattle.mlt_commute.specs.declared.accounts.AccountClass.TheVariants as account
+use Rattle.mlt_commute.specs.declared.elements.ElementClass.{ElementClass}
 use Rattle.mlt_commute.specs.declared.elements.ElementClass.TheVariants as element
 use Rattle.mlt_commute.specs.declared.counters.CounterClass.TheVariants as counter
 use Rattle.mlt_commute.specs.AccountTable.{account_class, account_marks}
 use Rattle.mlt_commute.specs.CounterTable.{counter_class, counter_marks}
 use Rattle.mlt_commute.specs.ElementTable.{element_class, element_marks}
+use Rattle.mlt_commute.specs.Sizes.{changes_told, counts}
 use Rattle.mlt_object_locks.specs.declared.classes.Class.{Class}
-use Rattle.mlt_object_locks.specs.declared.classes.Class.TheVariants.{Account, Element, Counter}
+use Rattle.mlt_object_locks.specs.declared.classes.Class.TheVariants.{Account, Element, Counter, Size}
 use Rattle.mlt_object_locks.specs.declared.classes.TheConstants.{CLASSES}
-use Rattle.mlt_object_locks.specs.Classes.{bit_of, class_of, marks, Adds, AreInTheWay, InSet, IsColumn}
-use Rattle.mlt_object_locks.proofs.Bits.{adds_bit, none_in_set}
+use Rattle.mlt_object_locks.specs.Classes.{bit_of, bit_of_item, class_of, marks, size_class, Adds, AreInTheWay, Hinders, InSet, IsColumn}
+use Rattle.mlt_object_locks.specs.Places.{looked_at, place_of_set, places_of, SharesPlace}
+use Rattle.mlt_object_locks.proofs.Bits.{none_in_set}
+use Rattle.mlt_object_locks.proofs.Membership.{contains_first, contains_later, one_of_two, the_one}
 
 -- a class stands at its bit in the list of all
 at_its_bit : (class d : Class) → get_or CLASSES (bit_of class) d ≡ class
@@ -43,6 +50,7 @@ at_its_bit (Element element.Yes) d = refl
 at_its_bit (Element element.No) d = refl
 at_its_bit (Counter counter.Counted) d = refl
 at_its_bit (Counter counter.Read) d = refl
+at_its_bit Size d = refl
 
 -- so no other class has its bit
 pub one_bit : (class other : Class) → bit_of class ≡ bit_of other → class ≡ other
@@ -98,33 +106,116 @@ below class = by (cases_lt (bit_of class) (length CLASSES))
 
 -- once all were seen, it is the column
 pub all_seen : (set : ℕ) (requested : Class) → HasMarked set requested CLASSES → IsColumn set requested
-all_seen set requested h = record {
-  has = λ held m. h.has held (bit_of held, below held, at_its_bit held held) m;
-  only = λ held b. let found = h.only (bit_of held) b in ap (λ d. marks d requested) (sym (one_bit found.0 held found.1)) ∙ found.2;
+all_seen set requested h = record { has = λ held m. h.has held (bit_of held, below held, at_its_bit held held) m; only = h.only }
+
+-- the column of a class has what hinders an operation of it
+pub column_in_the_way : (set : ℕ) (requested : ObjOp × ObjReply) (class : Class) → class_of requested ≡ Some class → IsColumn set class → AreInTheWay set requested
+column_in_the_way set requested class is column = record {
+  has = λ k h.
+      let same : h.1 ≡ class = let a = h.2 in cc in
+      subst (InSet set) h.3 (column.has h.0 (ap (marks h.0) (sym same) ∙ h.4));
+  only = λ k h. let found = column.only k h in (found.0, class, is, found.1, found.2);
 }
 
--- such a set there is
-some_seen : (requested : Class) (n : ℕ) → n ≤ length CLASSES → (set : ℕ) × HasMarked set requested (take n CLASSES)
-some_seen requested zero le = (0, none_seen requested)
-some_seen requested (suc n) le = by (marks class requested) refl (some_seen requested n (omega arith))
+-- and nothing hinders one that has no class
+pub none_in_the_way : (requested : ObjOp × ObjReply) → class_of requested ≡ None → AreInTheWay 0 requested
+none_in_the_way requested is = record {
+  has = λ k h. absurd (let a = h.2 in cc);
+  only = λ k h. absurd (none_in_set k h);
+}
+
+-- ---- sizes that are told
+
+-- a reply tells a size, or has no class as one
+size_cases : (told : ObjReply) → ((n : ℕ) × (told ≡ reply.Is n)) ⊎ ((size_class told ≡ None) × ((class : ElementClass) → changes_told (Some class) told ≡ false))
+size_cases (reply.Is n) = inl (n, refl)
+size_cases reply.Opened = inr (refl, λ c. refl)
+size_cases reply.Exists = inr (refl, λ c. refl)
+size_cases reply.Closed = inr (refl, λ c. refl)
+size_cases reply.NotEmpty = inr (refl, λ c. refl)
+size_cases reply.Done = inr (refl, λ c. refl)
+size_cases reply.Over = inr (refl, λ c. refl)
+size_cases reply.Short = inr (refl, λ c. refl)
+size_cases reply.Missing = inr (refl, λ c. refl)
+size_cases reply.Added = inr (refl, λ c. refl)
+size_cases reply.Present = inr (refl, λ c. refl)
+size_cases reply.Removed = inr (refl, λ c. refl)
+size_cases reply.Absent = inr (refl, λ c. refl)
+size_cases reply.Yes = inr (refl, λ c. refl)
+size_cases reply.No = inr (refl, λ c. refl)
+
+-- a size is changed where the classes are marked, held before it and after it
+changed_before : (class : Option ElementClass) (told : ObjReply) → changes_told class told ≡ marked_classes marks (option_map Element class) (size_class told)
+changed_before None told = refl
+changed_before (Some class) told = by (size_cases told)
   where
-    class : Class
-    class = get_or CLASSES n (Counter counter.Read)
+    by : ((n : ℕ) × (told ≡ reply.Is n)) ⊎ ((size_class told ≡ None) × ((c : ElementClass) → changes_told (Some c) told ≡ false)) → changes_told (Some class) told ≡ marked_classes marks (Some (Element class)) (size_class told)
+    by (inl is) = subst (λ r. changes_told (Some class) r ≡ marked_classes marks (Some (Element class)) (size_class r)) (sym is.1) refl
+    by (inr none) = none.1 class ∙ ap (marked_classes marks (Some (Element class))) (sym none.0)
 
-    more : take (suc n) CLASSES ≡ take n CLASSES ++ class ∷ []
-    more = let next = take_more CLASSES n (Counter counter.Read) (omega arith) in ap (λ k. take k CLASSES) (let e : suc n ≡ n + 1 = omega arith in e) ∙ next
+changed_after : (class : Option ElementClass) (told : ObjReply) → changes_told class told ≡ marked_classes marks (size_class told) (option_map Element class)
+changed_after class told = by class (size_cases told)
+  where
+    by : (class : Option ElementClass) → ((n : ℕ) × (told ≡ reply.Is n)) ⊎ ((size_class told ≡ None) × ((c : ElementClass) → changes_told (Some c) told ≡ false)) → changes_told class told ≡ marked_classes marks (size_class told) (option_map Element class)
+    by (Some c) (inl is) = subst (λ r. changes_told (Some c) r ≡ marked_classes marks (size_class r) (Some (Element c))) (sym is.1) refl
+    by (Some c) (inr none) = none.1 c ∙ ap (λ t. marked_classes marks t (Some (Element c))) (sym none.0)
+    by None (inl is) = subst (λ r. changes_told None r ≡ marked_classes marks (size_class r) None) (sym is.1) refl
+    by None (inr none) = ap (λ t. marked_classes marks t None) (sym none.0)
 
-    by : (b : Bool) → marks class requested ≡ b → (set : ℕ) × HasMarked set requested (take n CLASSES) → (set : ℕ) × HasMarked set requested (take (suc n) CLASSES)
-    by true is so_far =
-        let new = bit_or so_far.0 (1 * 2 ^ bit_of class % 2 ^ 32) in
-        let adds = adds_bit so_far.0 (bit_of class) (let lt = below class in omega arith) in
-        (new, subst (HasMarked new requested) (sym more) (marked_more so_far.0 requested (take n CLASSES) class so_far.1 new adds is))
-    by false is so_far = (so_far.0, subst (HasMarked so_far.0 requested) (sym more) (unmarked_more so_far.0 requested (take n CLASSES) class so_far.1 is))
+-- a class that does not count changes no size
+not_counted : (class : ElementClass) (told : ObjReply) → counts class ≡ false → changes_told (Some class) told ≡ true → ⊥
+not_counted class told uncounted h = by (size_cases told)
+  where
+    by : ((n : ℕ) × (told ≡ reply.Is n)) ⊎ ((size_class told ≡ None) × ((c : ElementClass) → changes_told (Some c) told ≡ false)) → ⊥
+    by (inl is) = true≢false (sym (subst (λ r. changes_told (Some class) r ≡ true) is.1 h) ∙ uncounted)
+    by (inr none) = true≢false (sym h ∙ none.1 class)
 
-some_column : (requested : Class) → (set : ℕ) × IsColumn set requested
-some_column requested = let all = some_seen requested (length CLASSES) (omega arith) in (all.0, all_seen all.0 requested (subst (HasMarked all.0 requested) (take_all (length CLASSES) CLASSES (omega arith)) all.1))
+-- so nothing that asks whether an element is there changes one
+has_changes_none : (answer told : ObjReply) → changes_told (element_class Has answer) told ≡ true → ⊥
+has_changes_none reply.Yes told h = not_counted element.Yes told refl h
+has_changes_none reply.No told h = not_counted element.No told refl h
+has_changes_none (reply.Is n) told h = true≢false (sym h)
+has_changes_none reply.Opened told h = true≢false (sym h)
+has_changes_none reply.Exists told h = true≢false (sym h)
+has_changes_none reply.Closed told h = true≢false (sym h)
+has_changes_none reply.NotEmpty told h = true≢false (sym h)
+has_changes_none reply.Done told h = true≢false (sym h)
+has_changes_none reply.Over told h = true≢false (sym h)
+has_changes_none reply.Short told h = true≢false (sym h)
+has_changes_none reply.Missing told h = true≢false (sym h)
+has_changes_none reply.Added told h = true≢false (sym h)
+has_changes_none reply.Present told h = true≢false (sym h)
+has_changes_none reply.Removed told h = true≢false (sym h)
+has_changes_none reply.Absent told h = true≢false (sym h)
 
--- ---- clashes on one cell
+-- ---- operations that share a place
+
+-- where one stands, and where one looks
+abbrev Stands : ObjOp → ℕ → Type 0
+Stands (op.Element s e x) k = (key_number (cell.Element s e) ≡ k) ⊎ (place_of_set s ≡ k)
+Stands (op.Account a x) k = key_number (cell.Account a) ≡ k
+Stands (op.Counter c x) k = key_number (cell.Counter c) ≡ k
+Stands (op.Size s) k = key_number (cell.Size s) ≡ k
+
+abbrev Looks : ObjOp → ℕ → Type 0
+Looks (op.Element s e x) k = (key_number (cell.Element s e) ≡ k) ⊎ (key_number (cell.Size s) ≡ k)
+Looks (op.Account a x) k = key_number (cell.Account a) ≡ k
+Looks (op.Counter c x) k = key_number (cell.Counter c) ≡ k
+Looks (op.Size s) k = place_of_set s ≡ k
+
+stands_there : (o : ObjOp) (k : ℕ) → Contains (places_of (cell_of o)) k → Stands o k
+stands_there (op.Element s e x) k h = one_of_two (key_number (cell.Element s e)) (place_of_set s) k h
+stands_there (op.Account a x) k h = the_one (key_number (cell.Account a)) k h
+stands_there (op.Counter c x) k h = the_one (key_number (cell.Counter c)) k h
+stands_there (op.Size s) k h = the_one (key_number (cell.Size s)) k h
+
+looks_there : (o : ObjOp) (k : ℕ) → Contains (looked_at o) k → Looks o k
+looks_there (op.Element s e Add) k h = one_of_two (key_number (cell.Element s e)) (key_number (cell.Size s)) k h
+looks_there (op.Element s e Remove) k h = one_of_two (key_number (cell.Element s e)) (key_number (cell.Size s)) k h
+looks_there (op.Element s e Has) k h = inl (the_one (key_number (cell.Element s e)) k h)
+looks_there (op.Account a x) k h = the_one (key_number (cell.Account a)) k h
+looks_there (op.Counter c x) k h = the_one (key_number (cell.Counter c)) k h
+looks_there (op.Size s) k h = the_one (place_of_set s) k h
 
 wrapped : {C : Type 0} (wrap : C → Class) (table : C → C → Bool) → ((c d : C) → marks (wrap c) (wrap d) ≡ table c d) → (x y : Option C) → marked_classes marks (option_map wrap x) (option_map wrap y) ≡ marked_classes table x y
 wrapped wrap table same (Some c) (Some d) = same c d
@@ -132,40 +223,99 @@ wrapped wrap table same (Some c) None = refl
 wrapped wrap table same None (Some d) = refl
 wrapped wrap table same None None = refl
 
--- on one cell the classes alone tell
-by_class : (earlier requested : ObjOp × ObjReply) → cell_of earlier.0 ≡ cell_of requested.0 → clashes earlier requested ≡ marked_classes marks (class_of earlier) (class_of requested)
-by_class (op.Account a x, r) (op.Account b y, q) e =
-    let same : a ≡ b = cc in rw (eq-eqb a b same) (sym (wrapped Account account_marks (λ c d. refl) (account_class x r) (account_class y q)))
-by_class (op.Counter a x, r) (op.Counter b y, q) e =
-    let same : a ≡ b = cc in rw (eq-eqb a b same) (sym (wrapped Counter counter_marks (λ c d. refl) (counter_class x r) (counter_class y q)))
-by_class (op.Element s a x, r) (op.Element t b y, q) e =
-    let set : s ≡ t = cc in let same : a ≡ b = cc in
+-- at one place the classes alone tell
+told_by_class : (earlier requested : ObjOp × ObjReply) (k : ℕ) → IsInRange (cell_of earlier.0) → IsInRange (cell_of requested.0) → Stands earlier.0 k → Looks requested.0 k → clashes earlier requested ≡ marked_classes marks (class_of earlier) (class_of requested)
+told_by_class (op.Account a x, r) (op.Account b y, q) k m n st lk =
+    let same : a ≡ b = omega arith in rw (eq-eqb a b same) (sym (wrapped Account account_marks (λ c d. refl) (account_class x r) (account_class y q)))
+told_by_class (op.Counter a x, r) (op.Counter b y, q) k m n st lk =
+    let same : a ≡ b = omega arith in rw (eq-eqb a b same) (sym (wrapped Counter counter_marks (λ c d. refl) (counter_class x r) (counter_class y q)))
+told_by_class (op.Element s a x, r) (op.Element t b y, q) k m n (inl st) (inl lk) =
+    let set : s ≡ t = omega arith in let same : a ≡ b = omega arith in
     rw (eq-eqb s t set) (rw (eq-eqb a b same) (sym (wrapped Element element_marks (λ c d. refl) (element_class x r) (element_class y q))))
-by_class (op.Account a x, r) (op.Counter b y, q) e = absurd (cc)
-by_class (op.Account a x, r) (op.Element t b y, q) e = absurd (cc)
-by_class (op.Counter a x, r) (op.Account b y, q) e = absurd (cc)
-by_class (op.Counter a x, r) (op.Element t b y, q) e = absurd (cc)
-by_class (op.Element s a x, r) (op.Account b y, q) e = absurd (cc)
-by_class (op.Element s a x, r) (op.Counter b y, q) e = absurd (cc)
+told_by_class (op.Element s a x, r) (op.Size t, q) k m n (inr st) lk =
+    let set : s ≡ t = omega arith in rw (eq-eqb s t set) (changed_before (element_class x r) q)
+told_by_class (op.Size s, r) (op.Element t b y, q) k m n st (inr lk) =
+    let set : s ≡ t = omega arith in rw (eq-eqb s t set) (changed_after (element_class y q) r)
+told_by_class (op.Account a x, r) (op.Counter b y, q) k m n st lk = absurd (omega arith)
+told_by_class (op.Account a x, r) (op.Size t, q) k m n st lk = absurd (omega arith)
+told_by_class (op.Account a x, r) (op.Element t b y, q) k m n st (inl lk) = absurd (omega arith)
+told_by_class (op.Account a x, r) (op.Element t b y, q) k m n st (inr lk) = absurd (omega arith)
+told_by_class (op.Counter a x, r) (op.Account b y, q) k m n st lk = absurd (omega arith)
+told_by_class (op.Counter a x, r) (op.Size t, q) k m n st lk = absurd (omega arith)
+told_by_class (op.Counter a x, r) (op.Element t b y, q) k m n st (inl lk) = absurd (omega arith)
+told_by_class (op.Counter a x, r) (op.Element t b y, q) k m n st (inr lk) = absurd (omega arith)
+told_by_class (op.Element s a x, r) (op.Account b y, q) k m n (inl st) lk = absurd (omega arith)
+told_by_class (op.Element s a x, r) (op.Account b y, q) k m n (inr st) lk = absurd (omega arith)
+told_by_class (op.Element s a x, r) (op.Counter b y, q) k m n (inl st) lk = absurd (omega arith)
+told_by_class (op.Element s a x, r) (op.Counter b y, q) k m n (inr st) lk = absurd (omega arith)
+told_by_class (op.Element s a x, r) (op.Size t, q) k m n (inl st) lk = absurd (omega arith)
+told_by_class (op.Element s a x, r) (op.Element t b y, q) k m n (inl st) (inr lk) = absurd (omega arith)
+told_by_class (op.Element s a x, r) (op.Element t b y, q) k m n (inr st) (inl lk) = absurd (omega arith)
+told_by_class (op.Element s a x, r) (op.Element t b y, q) k m n (inr st) (inr lk) = absurd (omega arith)
+told_by_class (op.Size s, r) (op.Account b y, q) k m n st lk = absurd (omega arith)
+told_by_class (op.Size s, r) (op.Counter b y, q) k m n st lk = absurd (omega arith)
+told_by_class (op.Size s, r) (op.Size t, q) k m n st lk = absurd (omega arith)
+told_by_class (op.Size s, r) (op.Element t b y, q) k m n st (inl lk) = absurd (omega arith)
 
--- operations that clash are on one cell
-pub one_cell : (earlier requested : ObjOp × ObjReply) → clashes earlier requested ≡ true → cell_of earlier.0 ≡ cell_of requested.0
-one_cell (op.Account a x, r) (op.Account b y, q) h = elim (cases_eq a b) [ inl e ↦ ap cell.Account e | inr ne ↦ absurd (true≢false (sym h ∙ rw (ne_eqb a b ne) refl)) ]
-one_cell (op.Counter a x, r) (op.Counter b y, q) h = elim (cases_eq a b) [ inl e ↦ ap cell.Counter e | inr ne ↦ absurd (true≢false (sym h ∙ rw (ne_eqb a b ne) refl)) ]
-one_cell (op.Element s a x, r) (op.Element t b y, q) h =
+pub by_class : (earlier requested : ObjOp × ObjReply) → IsInRange (cell_of earlier.0) → IsInRange (cell_of requested.0) → SharesPlace earlier requested → clashes earlier requested ≡ marked_classes marks (class_of earlier) (class_of requested)
+by_class earlier requested m n shares =
+    told_by_class earlier requested shares.0 m n (stands_there earlier.0 shares.0 shares.1) (looks_there requested.0 shares.0 shares.2)
+
+-- one that asks for a size, and one that may change it, share a place
+looks_at_size : (s t e : ℕ) (x : ElementOp) (answer told : ObjReply) → s ≡ t → changes_told (element_class x answer) told ≡ true → Contains (looked_at (op.Element t e x)) (key_number (cell.Size s))
+looks_at_size s t e Add answer told same h = subst (λ k. Contains (looked_at (op.Element t e Add)) (key_number (cell.Size k))) (sym same) (contains_later (key_number (cell.Element t e)) (key_number (cell.Size t) ∷ []) (key_number (cell.Size t)) (contains_first (key_number (cell.Size t)) []))
+looks_at_size s t e Remove answer told same h = subst (λ k. Contains (looked_at (op.Element t e Remove)) (key_number (cell.Size k))) (sym same) (contains_later (key_number (cell.Element t e)) (key_number (cell.Size t) ∷ []) (key_number (cell.Size t)) (contains_first (key_number (cell.Size t)) []))
+looks_at_size s t e Has answer told same h = absurd (has_changes_none answer told h)
+
+-- operations on one cell share its key's number
+one_cell : (earlier requested : ObjOp × ObjReply) (k : ℕ) (others rest : List ℕ) → places_of (cell_of earlier.0) ≡ k ∷ others → looked_at requested.0 ≡ k ∷ rest → SharesPlace earlier requested
+one_cell earlier requested k others rest stands looks =
+    (k, subst (λ l. Contains l k) (sym stands) (contains_first k others), subst (λ l. Contains l k) (sym looks) (contains_first k rest))
+
+-- operations that clash share a place
+pub share_place : (earlier requested : ObjOp × ObjReply) → clashes earlier requested ≡ true → SharesPlace earlier requested
+share_place (op.Account a x, r) (op.Account b y, q) h =
+    elim (cases_eq a b) [
+      | inl e ↦ one_cell (op.Account a x, r) (op.Account b y, q) (key_number (cell.Account a)) [] [] refl (ap (λ n. key_number (cell.Account n) ∷ []) (sym e))
+      | inr ne ↦ absurd (true≢false (sym h ∙ rw (ne_eqb a b ne) refl))
+    ]
+share_place (op.Counter a x, r) (op.Counter b y, q) h =
+    elim (cases_eq a b) [
+      | inl e ↦ one_cell (op.Counter a x, r) (op.Counter b y, q) (key_number (cell.Counter a)) [] [] refl (ap (λ n. key_number (cell.Counter n) ∷ []) (sym e))
+      | inr ne ↦ absurd (true≢false (sym h ∙ rw (ne_eqb a b ne) refl))
+    ]
+share_place (op.Element s a x, r) (op.Element t b y, q) h =
     elim (cases_eq s t) [
       | inl e ↦ elim (cases_eq a b) [
-        | inl k ↦ (λ i. cell.Element (e i) (k i))
+        | inl k ↦ one_cell (op.Element s a x, r) (op.Element t b y, q) (key_number (cell.Element s a)) (place_of_set s ∷ []) (map key_number (size_cells (op.Element t b y))) refl
+            (λ i. key_number (cell.Element (sym e i) (sym k i)) ∷ map key_number (size_cells (op.Element t b y)))
         | inr ne ↦ absurd (true≢false (sym h ∙ rw (eq-eqb s t e) (rw (ne_eqb a b ne) refl)))
       ]
       | inr ne ↦ absurd (true≢false (sym h ∙ rw (ne_eqb s t ne) refl))
     ]
-one_cell (op.Account a x, r) (op.Counter b y, q) h = absurd (true≢false (sym h))
-one_cell (op.Account a x, r) (op.Element t b y, q) h = absurd (true≢false (sym h))
-one_cell (op.Counter a x, r) (op.Account b y, q) h = absurd (true≢false (sym h))
-one_cell (op.Counter a x, r) (op.Element t b y, q) h = absurd (true≢false (sym h))
-one_cell (op.Element s a x, r) (op.Account b y, q) h = absurd (true≢false (sym h))
-one_cell (op.Element s a x, r) (op.Counter b y, q) h = absurd (true≢false (sym h))
+share_place (op.Element s a x, r) (op.Size t, q) h =
+    elim (cases_eq s t) [
+      | inl e ↦ (place_of_set s, contains_later (key_number (cell.Element s a)) (place_of_set s ∷ []) (place_of_set s) (contains_first (place_of_set s) []), subst (λ n. Contains (place_of_set n ∷ []) (place_of_set s)) e (contains_first (place_of_set s) []))
+      | inr ne ↦ absurd (true≢false (sym h ∙ rw (ne_eqb s t ne) refl))
+    ]
+share_place (op.Size s, r) (op.Element t b y, q) h =
+    elim (cases_eq s t) [
+      | inl e ↦ (key_number (cell.Size s), contains_first (key_number (cell.Size s)) [], looks_at_size s t b y q r e (sym (rw (eq-eqb s t e) refl) ∙ h))
+      | inr ne ↦ absurd (true≢false (sym h ∙ rw (ne_eqb s t ne) refl))
+    ]
+share_place (op.Account a x, r) (op.Counter b y, q) h = absurd (true≢false (sym h))
+share_place (op.Account a x, r) (op.Element t b y, q) h = absurd (true≢false (sym h))
+share_place (op.Account a x, r) (op.Size t, q) h = absurd (true≢false (sym h))
+share_place (op.Counter a x, r) (op.Account b y, q) h = absurd (true≢false (sym h))
+share_place (op.Counter a x, r) (op.Element t b y, q) h = absurd (true≢false (sym h))
+share_place (op.Counter a x, r) (op.Size t, q) h = absurd (true≢false (sym h))
+share_place (op.Element s a x, r) (op.Account b y, q) h = absurd (true≢false (sym h))
+share_place (op.Element s a x, r) (op.Counter b y, q) h = absurd (true≢false (sym h))
+share_place (op.Size s, r) (op.Account b y, q) h = absurd (true≢false (sym h))
+share_place (op.Size s, r) (op.Counter b y, q) h = absurd (true≢false (sym h))
+share_place (op.Size s, r) (op.Size t, q) h = absurd (true≢false (sym h))
+
+-- ---- clashes by bits
 
 both_marked : (held requested : Option Class) → marked_classes marks held requested ≡ true → (one : Class) × (other : Class) × (held ≡ Some one) × (requested ≡ Some other) × (marks one other ≡ true)
 both_marked (Some one) (Some other) h = (one, other, refl, refl, h)
@@ -177,31 +327,16 @@ of_its_bit : (class : Option Class) (k : ℕ) → option_map bit_of class ≡ So
 of_its_bit (Some one) k e = (one, refl, cc)
 of_its_bit None k e = absurd (cc)
 
--- the column of a class is what is in the way of an operation of it
-pub column_in_the_way : (set : ℕ) (requested : ObjOp × ObjReply) (class : Class) → class_of requested ≡ Some class → IsColumn set class → AreInTheWay set requested
-column_in_the_way set requested class is column = record {
-  has = λ earlier h.
-      let m = both_marked (class_of earlier) (class_of requested) (sym (by_class earlier requested (one_cell earlier requested h)) ∙ h) in
-      let same : m.1 ≡ class = let a = m.3 in cc in
-      (bit_of m.0, ap (option_map bit_of) m.2, column.has m.0 (ap (marks m.0) (sym same) ∙ m.4));
-  only = λ earlier k cell bit h.
+module _ (earlier requested : ObjOp × ObjReply) (m : IsInRange (cell_of earlier.0)) (n : IsInRange (cell_of requested.0)) where
+  -- one with which the requested operation clashes has a bit that hinders it
+  pub clash_hinders : clashes earlier requested ≡ true → (k : ℕ) × (bit_of_item earlier ≡ Some k) × Hinders k requested
+  clash_hinders h =
+      let both = both_marked (class_of earlier) (class_of requested) (sym (by_class earlier requested m n (share_place earlier requested h)) ∙ h) in
+      (bit_of both.0, ap (option_map bit_of) both.2, (both.0, both.1, both.3, refl, both.4))
+
+  -- and one that has such a bit clashes with it, where they share a place
+  pub hindered_clash : SharesPlace earlier requested → (k : ℕ) → bit_of_item earlier ≡ Some k → Hinders k requested → clashes earlier requested ≡ true
+  hindered_clash shares k bit h =
       let own = of_its_bit (class_of earlier) k bit in
-      by_class earlier requested cell ∙ ap (λ c. marked_classes marks c (class_of requested)) own.1 ∙ ap (λ c. marked_classes marks (Some own.0) c) is ∙ column.only own.0 (subst (InSet set) (sym own.2) h);
-}
-
--- and nothing is in the way of one that has no class
-pub none_in_the_way : (requested : ObjOp × ObjReply) → class_of requested ≡ None → AreInTheWay 0 requested
-none_in_the_way requested is = record {
-  has = λ earlier h.
-      let m = both_marked (class_of earlier) (class_of requested) (sym (by_class earlier requested (one_cell earlier requested h)) ∙ h) in
-      absurd (let a = m.3 in cc);
-  only = λ earlier k cell bit h. absurd (none_in_set k h);
-}
-
--- of each operation there is a set of what is in its way
-pub some_in_the_way : (requested : ObjOp × ObjReply) → (set : ℕ) × AreInTheWay set requested
-some_in_the_way requested = by (class_of requested) refl
-  where
-    by : (class : Option Class) → class_of requested ≡ class → (set : ℕ) × AreInTheWay set requested
-    by (Some class) is = let column = some_column class in (column.0, column_in_the_way column.0 requested class is column.1)
-    by None is = (0, none_in_the_way requested is)
+      let same : own.0 ≡ h.0 = one_bit own.0 h.0 (own.2 ∙ sym h.3) in
+      by_class earlier requested m n shares ∙ ap (λ c. marked_classes marks c (class_of requested)) own.1 ∙ ap (λ c. marked_classes marks (Some own.0) c) h.2 ∙ ap (λ c. marks c h.1) same ∙ h.4

@@ -7,8 +7,11 @@ use Rattle.std.proofs.lemmas.List.{get_or-set_other, get_or-set_same, get_or_def
 use Rattle.std.proofs.lemmas.List.Elements.{Contains-push, Contains-push_cases, Contains-append_left, Contains-get_or}
 use Rattle.std.proofs.lemmas.List.Quantifiers.{all_pairs_push, position-Some}
 use Rattle.mlt_object_locks.specs.declared.holders.Holder.{Holder}
-use Rattle.mlt_object_locks.specs.Classes.{AddsItem, InSet}
-use Rattle.mlt_object_locks.specs.Holders.{AreOnce, Grants, HasBit, IsHere, IsInTheWay, IsLowestInTheWay, Joins, holder_of, is_of}
+use Rattle.mlt_kinds.specs.declared.operation.ObjOp.{ObjOp}
+use Rattle.mlt_kinds.specs.declared.operation.ObjReply.{ObjReply}
+use Rattle.mlt_object_locks.specs.Locks.{IsLowestOf}
+use Rattle.mlt_object_locks.specs.Classes.{AddsItem, AreInTheWay, InSet}
+use Rattle.mlt_object_locks.specs.Holders.{AreOnce, Grants, HasBit, IsHere, IsInTheWay, Joins, StandsAgainst, holder_of, is_of}
 use Rattle.mlt_object_locks.proofs.Membership.{contains_set, each_passes, named, none_in_empty, none_passes, set_keeps, set_only, some_found}
 
 -- a holder is its transaction with its classes
@@ -51,13 +54,21 @@ joined_once holders holder once none = all_pairs_push (λ one other. one.tx ≢ 
     false_of k e within same =
         none_passes (is_of holder.tx) holders none (get_or holders k e) (Contains-get_or holders k e within) (grind (arith, nat_tests))
 
--- where all are the transaction itself, nobody stands in its way
-pub alone : (holders : List Holder) (tx against : ℕ) → list_all (is_of tx) holders ≡ true → (number : ℕ) → IsInTheWay holders tx against number → ⊥
-alone holders tx against all number h = h.0 (is_it tx (holder_of number h.1.0) (each_passes (is_of tx) holders all (holder_of number h.1.0) h.1.1))
+-- where all are the transaction itself, nobody stands against what it asks for
+pub alone : (holders : List Holder) (tx : ℕ) (requested : ObjOp × ObjReply) → list_all (is_of tx) holders ≡ true → IsLowestOf (StandsAgainst holders tx requested) None
+alone holders tx requested all = λ number h. h.0 (is_it tx (holder_of number h.1.1.0) (each_passes (is_of tx) holders all (holder_of number h.1.1.0) h.1.1.1))
 
 -- nor does anybody where nobody is
-pub nobody : (tx against : ℕ) → IsLowestInTheWay [] tx against None
-nobody tx against = λ number h. none_in_empty (holder_of number h.1.0) h.1.1
+pub nobody : (tx : ℕ) (requested : ObjOp × ObjReply) → IsLowestOf (StandsAgainst [] tx requested) None
+nobody tx requested = λ number h. none_in_empty (holder_of number h.1.1.0) h.1.1.1
+
+-- who is in the way of a class stands against it, and back
+module _ (holders : List Holder) (tx against : ℕ) (requested : ObjOp × ObjReply) (way : AreInTheWay against requested) where
+  pub stands_against : (number : ℕ) → IsInTheWay holders tx against number → StandsAgainst holders tx requested number
+  stands_against number h = (h.0, (h.1.2.0, (h.1.0, h.1.1, h.1.2.1), way.only h.1.2.0 h.1.2.2))
+
+  pub stands_in_the_way : (number : ℕ) → StandsAgainst holders tx requested number → IsInTheWay holders tx against number
+  stands_in_the_way number h = (h.0, (h.1.1.0, h.1.1.1, (h.1.0, h.1.1.2, way.has h.1.0 h.1.2)))
 
 -- one that is there is found
 pub found : (holders : List Holder) (tx : ℕ) → IsHere holders tx → position (is_of tx) holders ≡ None → ⊥

@@ -1,9 +1,9 @@
 -- The lowest number of another transaction that stands in the way, with one more holder.
-use Rattle.std.proofs.Common.{◌≡◌, ◌⊎◌, ℕ, ◌+◌, ◌≤◌, ◌<◌, List, [], ◌∷◌, ◌++◌, Option, None, Some, Contains, length, get_or, take, ap, sym, subst, ◌∙◌, arith, inl, inr}
+use Rattle.std.proofs.Common.{◌≡◌, ◌⊎◌, ℕ, ◌+◌, ◌≤◌, ◌<◌, List, [], ◌∷◌, ◌++◌, Option, None, Some, Contains, length, get_or, take, ap, sym, subst, ◌∙◌, refl, arith, inl, inr}
 use Rattle.std.proofs.lemmas.List.{take_more}
 use Rattle.std.proofs.lemmas.List.Elements.{Contains-append_left, Contains-push, Contains-push_cases}
 use Rattle.mlt_object_locks.specs.declared.holders.Holder.{Holder}
-use Rattle.mlt_object_locks.specs.Locks.{lower_of}
+use Rattle.mlt_object_locks.specs.Locks.{lower_of, IsLowestOf}
 use Rattle.mlt_object_locks.specs.Classes.{Meets}
 use Rattle.mlt_object_locks.specs.Holders.{IsInTheWay, IsLowestInTheWay, StandsIn, holder_of}
 
@@ -15,6 +15,37 @@ lower_right low n = grind arith
 
 lower_either : (low n : ℕ) → (lower_of (Some low) n ≡ low) ⊎ (lower_of (Some low) n ≡ n)
 lower_either low n = grind arith
+
+-- the lowest of one kind is that of another, where each of the one is of the other and back
+pub same_lowest : (P Q : ℕ → Type 0) → ((n : ℕ) → P n → Q n) → ((n : ℕ) → Q n → P n) → (lowest : Option ℕ) → IsLowestOf P lowest → IsLowestOf Q lowest
+same_lowest P Q there back None h = λ n k. h n (back n k)
+same_lowest P Q there back (Some lowest) h = (there lowest h.0, λ n k. h.1 n (back n k))
+
+-- The lowest of those of two kinds, or of more, is the lower of the lowest of each.
+module _ (P Q R : ℕ → Type 0) (of_one : (n : ℕ) → P n → R n) (of_other : (n : ℕ) → Q n → R n) (either : (n : ℕ) → R n → P n ⊎ Q n) where
+  none_else : ((n : ℕ) → Q n → ⊥) → (n : ℕ) → P n ⊎ Q n → P n
+  none_else none n (inl h) = h
+  none_else none n (inr h) = absurd (none n h)
+
+  pub lowest_of_first : (lowest : Option ℕ) → IsLowestOf P lowest → IsLowestOf Q None → IsLowestOf R lowest
+  lowest_of_first lowest h none = same_lowest P R of_one (λ n k. none_else none n (either n k)) lowest h
+
+  lower_is : (low other : ℕ) → R low → R other → (lower_of (Some low) other ≡ low) ⊎ (lower_of (Some low) other ≡ other) → R (lower_of (Some low) other)
+  lower_is low other h k (inl e) = subst R (sym e) h
+  lower_is low other h k (inr e) = subst R (sym e) k
+
+  not_below : (low other : ℕ) → ((n : ℕ) → P n → low ≤ n) → ((n : ℕ) → Q n → other ≤ n) → (n : ℕ) → P n ⊎ Q n → lower_of (Some low) other ≤ n
+  not_below low other h k n (inl c) = let a = h n c in let b = lower_left low other in omega arith
+  not_below low other h k n (inr c) = let a = k n c in let b = lower_right low other in omega arith
+
+  only_other : ((n : ℕ) → P n → ⊥) → (other : ℕ) → ((n : ℕ) → Q n → other ≤ n) → (n : ℕ) → P n ⊎ Q n → other ≤ n
+  only_other none other k n (inl c) = absurd (none n c)
+  only_other none other k n (inr c) = k n c
+
+  pub lowest_of_both : (lowest : Option ℕ) (other : ℕ) → IsLowestOf P lowest → IsLowestOf Q (Some other) → IsLowestOf R (Some (lower_of lowest other))
+  lowest_of_both None other h k = (of_other other k.0, λ n c. only_other h other k.1 n (either n c))
+  lowest_of_both (Some low) other h k =
+      (lower_is low other (of_one low h.0) (of_other other k.0) (lower_either low other), λ n c. not_below low other h.1 k.1 n (either n c))
 
 module _ (holders : List Holder) (holder : Holder) (tx against : ℕ) where
   abbrev Before : ℕ → Type 0
@@ -42,32 +73,15 @@ module _ (holders : List Holder) (holder : Holder) (tx against : ℕ) where
   own_stands : StandsIn holder tx against → After holder.tx
   own_stands s = (s.0, (holder.classes, Contains-push holders holder, s.1))
 
-  first_of_all : ((n : ℕ) → Before n → ⊥) → (n : ℕ) → Before n ⊎ Own n → holder.tx ≤ n
-  first_of_all h n (inl k) = absurd (h n k)
-  first_of_all h n (inr k) = let e = k.0 in omega arith
-
-  below_all : (low : ℕ) → ((n : ℕ) → Before n → low ≤ n) → (n : ℕ) → Before n ⊎ Own n → lower_of (Some low) holder.tx ≤ n
-  below_all low h n (inl k) = let a = h n k in let b = lower_left low holder.tx in omega arith
-  below_all low h n (inr k) = let e = k.0 in let b = lower_right low holder.tx in omega arith
-
-  lower_stands : (low : ℕ) → After low → After holder.tx → (lower_of (Some low) holder.tx ≡ low) ⊎ (lower_of (Some low) holder.tx ≡ holder.tx) → After (lower_of (Some low) holder.tx)
-  lower_stands low h k (inl e) = subst After (sym e) h
-  lower_stands low h k (inr e) = subst After (sym e) k
-
   -- one that stands in the way: the lower of the two
   lowest_with : (lowest : Option ℕ) → IsLowestInTheWay holders tx against lowest → StandsIn holder tx against → IsLowestInTheWay (holders ++ holder ∷ []) tx against (Some (lower_of lowest holder.tx))
-  lowest_with None h s = (own_stands s, λ n k. first_of_all h n (old_or_own n k))
-  lowest_with (Some low) h s =
-      (lower_stands low (still_stands low h.0) (own_stands s) (lower_either low holder.tx), λ n k. below_all low h.1 n (old_or_own n k))
-
-  not_own : (StandsIn holder tx against → ⊥) → (n : ℕ) → Before n ⊎ Own n → Before n
-  not_own s n (inl k) = k
-  not_own s n (inr k) = absurd (s k.1)
+  lowest_with lowest h s =
+      lowest_of_both Before Own After still_stands (λ n own. subst After own.0 (own_stands own.1)) old_or_own lowest holder.tx h ((refl, s), λ n own. let e = own.0 in omega arith)
 
   -- one that does not: as before
   lowest_without : (lowest : Option ℕ) → IsLowestInTheWay holders tx against lowest → (StandsIn holder tx against → ⊥) → IsLowestInTheWay (holders ++ holder ∷ []) tx against lowest
-  lowest_without None h s = λ n k. h n (not_own s n (old_or_own n k))
-  lowest_without (Some low) h s = (still_stands low h.0, λ n k. h.1 n (not_own s n (old_or_own n k)))
+  lowest_without lowest h s =
+      lowest_of_first Before Own After still_stands (λ n own. subst After own.0 (own_stands own.1)) old_or_own lowest h (λ n own. s own.1)
 
 one_more : (holders : List Holder) (i : ℕ) (holder : Holder) → i < length holders → get_or holders i holder ≡ holder → take (i + 1) holders ≡ take i holders ++ holder ∷ []
 one_more holders i holder within is = take_more holders i holder within ∙ ap (λ x. take i holders ++ x ∷ []) is

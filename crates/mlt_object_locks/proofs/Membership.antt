@@ -1,6 +1,6 @@
 -- What a list contains: one more in front, a filter, and a place that is set.
 use Prim.Native.Nat.{zero}
-use Rattle.std.proofs.Common.{◌≡◌, ◌≢◌, ◌⊎◌, ℕ, suc, ◌<◌, List, [], ◌∷◌, Bool, true, false, cond, ◌&&◌, ◌||◌, Some, None, Contains, length, get_or, set, length-set, sym, ap, subst, ◌∙◌, refl, true≢false, inl, inr, arith}
+use Rattle.std.proofs.Common.{◌≡◌, ◌≢◌, ◌⊎◌, ℕ, suc, ◌<◌, List, [], ◌∷◌, Bool, true, false, cond, ◌&&◌, ◌||◌, Some, None, nat_eq, Contains, take, drop, take-append-drop, length, get_or, set, length-set, sym, ap, subst, ◌∙◌, refl, true≢false, inl, inr, arith}
 use Rattle.std.specs.List.{filter, list_all, list_any, position, position_or_len}
 use Rattle.std.specs.List.Retain.{RetainsInTurn}
 use Rattle.std.proofs.lemmas.Bool.{cases_eq}
@@ -29,6 +29,21 @@ module _ {X : Type 0} where
 
   pub contains_later : (x : X) (xs : List X) (y : X) → Contains xs y → Contains (x ∷ xs) y
   contains_later x xs y h = Contains-append_right (x ∷ []) xs y h
+
+  -- a list of one has that one, and a list of two one of them
+  pub the_one : (x y : X) → Contains (x ∷ []) y → x ≡ y
+  the_one x y h = first_cases x y (Contains-push_cases [] x y h)
+
+  pub one_of_two : (x z y : X) → Contains (x ∷ z ∷ []) y → (x ≡ y) ⊎ (z ≡ y)
+  one_of_two x z y h = by (contains_cases x (z ∷ []) y h)
+    where
+      by : (x ≡ y) ⊎ Contains (z ∷ []) y → (x ≡ y) ⊎ (z ≡ y)
+      by (inl e) = inl e
+      by (inr c) = inr (the_one z y c)
+
+  -- what the front of a list has, the list has
+  pub from_front : (xs : List X) (n : ℕ) (y : X) → Contains (take n xs) y → Contains xs y
+  from_front xs n y h = subst (λ l. Contains l y) (take-append-drop n xs) (Contains-append_left (take n xs) (drop n xs) y h)
 
   module _ (p : X → Bool) where
     filtered_first : (x : X) (xs fs : List X) (y : X) (b : Bool) → p x ≡ b → (Contains fs y → Contains xs y × (p y ≡ true)) → Contains (cond b (x ∷ fs) fs) y → Contains (x ∷ xs) y × (p y ≡ true)
@@ -129,6 +144,15 @@ none_passes p (y ∷ xs) h x c passes = by (λ k later. none_passes p xs k x lat
     by rest false is h (inl e) = true≢false (sym passes ∙ ap p (sym e) ∙ is)
     by rest false is h (inr later) = rest h later
 
+-- a number is one of these, or none of them, as the test says
+pub is_among : (xs : List ℕ) (k : ℕ) → list_any (nat_eq k) xs ≡ true → Contains xs k
+is_among xs k h =
+    let found = named (nat_eq k) xs h in
+    subst (Contains xs) (let own = found.2 in let e : found.0 ≡ k = grind (arith, nat_tests) in e) found.1
+
+pub is_not_among : (xs : List ℕ) (k : ℕ) → list_any (nat_eq k) xs ≡ false → Contains xs k → ⊥
+is_not_among xs k h c = none_passes (nat_eq k) xs h k c (grind (arith, nat_tests))
+
 -- where no call of `retain` changes the closure or the element, what passes the test is left
 pub filter-from_retain : {X F : Type 0} (R : F → X → Bool → F → X → Type 0) (test : X → Bool) (f : F) → ((x : X) (b : Bool) (g : F) (y : X) → R f x b g y → (b ≡ test x) × (g ≡ f) × (y ≡ x)) → (xs ys : List X) → RetainsInTurn R f xs ys → ys ≡ filter test xs
 filter-from_retain R test f says [] ys h = h
@@ -137,3 +161,11 @@ filter-from_retain R test f says (x ∷ xs) ys h =
     let later = subst (λ g. RetainsInTurn R g xs h.4) said.1 h.5 in
     let rest = filter-from_retain R test f says xs h.4 later in
     h.6 ∙ (λ i. cond (said.0 i) (said.2 i ∷ rest i) (rest i))
+
+-- one of these, or none of them
+pub among_or_not : (xs : List ℕ) (k : ℕ) → Contains xs k ⊎ (Contains xs k → ⊥)
+among_or_not xs k = by (list_any (nat_eq k) xs) refl
+  where
+    by : (b : Bool) → list_any (nat_eq k) xs ≡ b → Contains xs k ⊎ (Contains xs k → ⊥)
+    by true is = inl (is_among xs k is)
+    by false is = inr (is_not_among xs k is)

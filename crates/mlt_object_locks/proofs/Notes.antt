@@ -1,14 +1,15 @@
--- The cells that are noted of each transaction.
-use Rattle.std.proofs.Common.{◌≡◌, ◌≢◌, ◌⊎◌, ℕ, ◌+◌, ◌≤◌, ◌<◌, List, [], ◌∷◌, ◌++◌, Bool, true, false, cond, not, nat_eq, Contains, length, length-append, sym, ap, subst, refl, ◌∙◌, true≢false, inl, inr, arith}
+-- The places that are noted of each transaction.
+use Rattle.std.proofs.Common.{◌≡◌, ◌≢◌, ◌⊎◌, ℕ, ◌+◌, ◌≤◌, List, [], ◌∷◌, ◌++◌, Bool, true, false, cond, not, nat_eq, Contains, length, length-append, sym, ap, subst, refl, ◌∙◌, true≢false, inl, inr, arith}
 use Rattle.std.specs.List.{filter}
 use Rattle.std.proofs.lemmas.Bool.{cases_eq}
 use Rattle.std.proofs.lemmas.Bool.Decides.{nat_tests}
-use Rattle.std.proofs.lemmas.List.Elements.{Contains-push, Contains-append_left}
+use Rattle.std.proofs.lemmas.List.Elements.{Contains-push, Contains-push_cases, Contains-append_left}
 use Rattle.indexmap.specs.IndexMap.{IndexMap}
 use Rattle.mlt_object_locks.specs.Locks.{Held, is_of_other}
-use Rattle.mlt_object_locks.specs.Noted.{KeepsNoted, KeysWithRoom, NotesAtMost, SameNoted, held_count, is_held_by, noted_of}
+use Rattle.mlt_object_locks.specs.Noted.{KeepsNoted, KeysWithRoom, NotesAtMost, NotesEach, SameNoted, held_count, is_held_by, noted_of}
+use Rattle.mlt_object_locks.proofs.Membership.{none_in_empty}
 
--- a cell more is noted
+-- a place more is noted
 pub notes_one : (old : List ℕ) (new : List ℕ) (key : ℕ) → new ≡ old ++ key ∷ [] → NotesAtMost old new key
 notes_one old new key is = record {
   there = subst (λ l. Contains l key) (sym is) (Contains-push old key);
@@ -19,6 +20,22 @@ notes_one old new key is = record {
 -- or none is
 pub notes_none : (old : List ℕ) (key : ℕ) → Contains old key → NotesAtMost old old key
 notes_none old key there = record { there = there; keeps = λ k h. h; few = omega arith }
+
+-- no place is seen yet
+pub notes_nothing : (old : List ℕ) → NotesEach old old []
+notes_nothing old = record { there = λ k h. absurd (none_in_empty k h); keeps = λ k h. h; few = omega arith }
+
+-- one place more
+pub notes_more : (start old new places : List ℕ) (place : ℕ) → NotesEach start old places → NotesAtMost old new place → NotesEach start new (places ++ place ∷ [])
+notes_more start old new places place so_far more = record {
+  there = λ k h. by k (Contains-push_cases places place k h);
+  keeps = λ k h. more.keeps k (so_far.keeps k h);
+  few = let len = length-append places (place ∷ []) in let before = so_far.few in let after = more.few in omega arith;
+}
+  where
+    by : (k : ℕ) → Contains places k ⊎ (place ≡ k) → Contains new k
+    by k (inl h) = more.keeps k (so_far.there k h)
+    by k (inr e) = subst (Contains new) e more.there
 
 -- ---- how many operations a transaction holds
 
@@ -61,13 +78,13 @@ count_of_others (y ∷ ys) tx u ne = by (not (nat_eq y.0 tx)) refl (count_of_oth
 
 -- ---- what making room leaves
 
-pub keeps_noted : {S : Type 0} (old new : IndexMap ℕ KeysWithRoom S) (tx : ℕ) → SameNoted old new tx → (noted_of new tx).keys ≡ (noted_of old tx).keys → (0 < (noted_of old tx).room → 0 < (noted_of new tx).room) → KeepsNoted old new
+pub keeps_noted : {S : Type 0} (old new : IndexMap ℕ KeysWithRoom S) (tx : ℕ) → SameNoted old new tx → (noted_of new tx).keys ≡ (noted_of old tx).keys → (2 ≤ (noted_of old tx).room → 2 ≤ (noted_of new tx).room) → KeepsNoted old new
 keeps_noted old new tx others keys room = record { keys = λ u. by u (cases_eq u tx); room = λ u h. still u h (cases_eq u tx) }
   where
     by : (u : ℕ) → (u ≡ tx) ⊎ (u ≢ tx) → (noted_of new u).keys ≡ (noted_of old u).keys
     by u (inl e) = ap (λ n. (noted_of new n).keys) e ∙ keys ∙ ap (λ n. (noted_of old n).keys) (sym e)
     by u (inr ne) = ap (λ (n : KeysWithRoom). n.keys) (others u ne)
 
-    still : (u : ℕ) → 0 < (noted_of old u).room → (u ≡ tx) ⊎ (u ≢ tx) → 0 < (noted_of new u).room
-    still u h (inl e) = subst (λ n. 0 < (noted_of new n).room) (sym e) (room (subst (λ n. 0 < (noted_of old n).room) e h))
-    still u h (inr ne) = subst (λ (n : KeysWithRoom). 0 < n.room) (sym (others u ne)) h
+    still : (u : ℕ) → 2 ≤ (noted_of old u).room → (u ≡ tx) ⊎ (u ≢ tx) → 2 ≤ (noted_of new u).room
+    still u h (inl e) = subst (λ n. 2 ≤ (noted_of new n).room) (sym e) (room (subst (λ n. 2 ≤ (noted_of old n).room) e h))
+    still u h (inr ne) = subst (λ (n : KeysWithRoom). 2 ≤ n.room) (sym (others u ne)) h

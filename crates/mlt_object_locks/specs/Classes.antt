@@ -1,32 +1,40 @@
 -- Classes of operations of all kinds, and sets of them as the bits of a number.
-use Rattle.std.specs.Prelude.{ℕ, ◌≡◌, ◌⊎◌, Bool, true, false, Option, Some}
+use Rattle.std.specs.Prelude.{ℕ, ◌≡◌, ◌⊎◌, Bool, true, false, Option, None, Some}
 use Rattle.std.specs.Option.{option_map}
 use Rattle.std.specs.Int.{bit_at}
 use Rattle.mlt_kinds.specs.declared.operation.ObjOp.{ObjOp}
 use Rattle.mlt_kinds.specs.declared.operation.ObjOp.TheVariants as op
 use Rattle.mlt_kinds.specs.declared.operation.ObjReply.{ObjReply}
-use Rattle.mlt_kinds.specs.Operations.{cell_of}
+use Rattle.mlt_kinds.specs.declared.operation.ObjReply.TheVariants as reply
 use Rattle.mlt_commute.specs.declared.accounts.AccountClass.TheVariants as account
 use Rattle.mlt_commute.specs.declared.elements.ElementClass.TheVariants as element
 use Rattle.mlt_commute.specs.declared.counters.CounterClass.TheVariants as counter
 use Rattle.mlt_commute.specs.AccountTable.{account_class, account_marks}
 use Rattle.mlt_commute.specs.CounterTable.{counter_class, counter_marks}
 use Rattle.mlt_commute.specs.ElementTable.{element_class, element_marks}
-use Rattle.mlt_commute.specs.Clashes.{clashes}
+use Rattle.mlt_commute.specs.Sizes.{counts}
 use Rattle.mlt_object_locks.specs.declared.classes.Class.{Class}
-use Rattle.mlt_object_locks.specs.declared.classes.Class.TheVariants.{Account, Element, Counter}
+use Rattle.mlt_object_locks.specs.declared.classes.Class.TheVariants.{Account, Element, Counter, Size}
+
+-- the class of one that asks for the size of a set
+abbrev pub size_class : ObjReply → Option Class
+size_class (reply.Is n) = Some Size
+size_class _ = None
 
 -- the class of an operation with its reply, None where the table of its kind has no such row
 abbrev pub class_of : ObjOp × ObjReply → Option Class
 class_of (op.Account a asked, told) = option_map Account (account_class asked told)
 class_of (op.Element s e asked, told) = option_map Element (element_class asked told)
 class_of (op.Counter c asked, told) = option_map Counter (counter_class asked told)
+class_of (op.Size s, told) = size_class told
 
--- the table of their kind marks the two, held and then requested
+-- The table of their kind marks the two, held and then requested; or the one tells a size, and the other changes it.
 abbrev pub marks : Class → Class → Bool
 marks (Account held) (Account requested) = account_marks held requested
 marks (Element held) (Element requested) = element_marks held requested
 marks (Counter held) (Counter requested) = counter_marks held requested
+marks (Element held) Size = counts held
+marks Size (Element requested) = counts requested
 marks _ _ = false
 
 -- the bit of a class
@@ -49,6 +57,7 @@ bit_of (Element element.Yes) = 14
 bit_of (Element element.No) = 15
 bit_of (Counter counter.Counted) = 16
 bit_of (Counter counter.Read) = 17
+bit_of Size = 18
 
 -- the bit of an operation's class, where it has one
 abbrev pub bit_of_item : ObjOp × ObjReply → Option ℕ
@@ -74,15 +83,17 @@ pub record AddsItem (old new : ℕ) (bit : Option ℕ) : Type 0 where
 abbrev pub Meets : ℕ → ℕ → Type 0
 Meets one other = (k : ℕ) × InSet one k × InSet other k
 
--- the set has the bits of the held classes that the tables mark beside the requested one
+-- the set has the bits of the held classes that are marked beside the requested one, and no others
 pub record IsColumn (set : ℕ) (requested : Class) : Type 0 where
   pub has : (held : Class) → marks held requested ≡ true → InSet set (bit_of held)
-  pub only : (held : Class) → InSet set (bit_of held) → marks held requested ≡ true
+  pub only : (k : ℕ) → InSet set k → (held : Class) × (bit_of held ≡ k) × (marks held requested ≡ true)
 
--- The set has the bit of each operation with which the requested one clashes. Of one on the same cell with which it
--- doesn't clash it has not.
+-- a held class of this bit is marked beside that of the requested operation
+abbrev pub Hinders : ℕ → ObjOp × ObjReply → Type 0
+Hinders bit requested =
+    (held class : Class) × (class_of requested ≡ Some class) × (bit_of held ≡ bit) × (marks held class ≡ true)
+
+-- the set has the bits that hinder the requested operation, and no others
 pub record AreInTheWay (set : ℕ) (requested : ObjOp × ObjReply) : Type 0 where
-  pub has : (earlier : ObjOp × ObjReply) → clashes earlier requested ≡ true
-      → (k : ℕ) × (bit_of_item earlier ≡ Some k) × InSet set k
-  pub only : (earlier : ObjOp × ObjReply) (k : ℕ) → cell_of earlier.0 ≡ cell_of requested.0
-      → bit_of_item earlier ≡ Some k → InSet set k → clashes earlier requested ≡ true
+  pub has : (k : ℕ) → Hinders k requested → InSet set k
+  pub only : (k : ℕ) → InSet set k → Hinders k requested

@@ -1,7 +1,10 @@
--- Those who hold something on one cell, or have reserved it.
-use Rattle.std.specs.Prelude.{ℕ, ◌≡◌, ◌≢◌, ◌≤◌, ◌⊎◌, ◌&&◌, Bool, not, nat_eq, List, Option, None, Some, AllPairs, Contains}
+-- Those who hold something at one place, or have reserved a cell of it.
+use Rattle.std.specs.Prelude.{ℕ, ◌≡◌, ◌≢◌, ◌⊎◌, ◌&&◌, Bool, not, nat_eq, List, Option, Some, AllPairs, Contains}
 use Rattle.mlt_object_locks.specs.declared.holders.Holder.{Holder}
-use Rattle.mlt_object_locks.specs.Classes.{InSet, Meets}
+use Rattle.mlt_kinds.specs.declared.operation.ObjOp.{ObjOp}
+use Rattle.mlt_kinds.specs.declared.operation.ObjReply.{ObjReply}
+use Rattle.mlt_object_locks.specs.Locks.{IsLowestOf}
+use Rattle.mlt_object_locks.specs.Classes.{Hinders, InSet, Meets}
 
 -- a transaction, with the set of the classes that it holds
 abbrev pub holder_of : ℕ → ℕ → Holder
@@ -42,11 +45,13 @@ abbrev pub IsInTheWay : List Holder → ℕ → ℕ → ℕ → Type 0
 IsInTheWay holders tx against number =
     (number ≢ tx) × ((classes : ℕ) × Contains holders (holder_of number classes) × Meets classes against)
 
--- the lowest such number, or none where there is none
+-- one of them, of this number, holds something that hinders the requested operation
+abbrev pub StandsAgainst : List Holder → ℕ → ObjOp × ObjReply → ℕ → Type 0
+StandsAgainst holders tx requested number = (number ≢ tx) × ((bit : ℕ) × HasBit holders number bit × Hinders bit requested)
+
+-- the lowest number of one who is in the way, or none where there is none
 abbrev pub IsLowestInTheWay : List Holder → ℕ → ℕ → Option ℕ → Type 0
-IsLowestInTheWay holders tx against None = (number : ℕ) → IsInTheWay holders tx against number → ⊥
-IsLowestInTheWay holders tx against (Some lowest) =
-    IsInTheWay holders tx against lowest × ((number : ℕ) → IsInTheWay holders tx against number → lowest ≤ number)
+IsLowestInTheWay holders tx against = IsLowestOf (IsInTheWay holders tx against)
 
 -- it is the transaction
 abbrev pub is_of : ℕ → Holder → Bool

@@ -2,4 +2,5 @@ pub mod Locks
 pub mod Classes
 pub mod Holders
 pub mod Noted
+pub mod Places
 pub mod Cells

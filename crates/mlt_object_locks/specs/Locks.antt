@@ -36,10 +36,10 @@ abbrev pub IsLowestClash : List Held → ℕ → ObjOp × ObjReply → ℕ → T
 IsLowestClash held tx requested holder =
     HoldsClash held tx requested holder × ((other : ℕ) → HoldsClash held tx requested other → holder ≤ other)
 
--- the lowest such number, or none where there is none
-abbrev pub IsLowestIfAny : List Held → ℕ → ObjOp × ObjReply → Option ℕ → Type 0
-IsLowestIfAny held tx requested None = (other : ℕ) → HoldsClash held tx requested other → ⊥
-IsLowestIfAny held tx requested (Some holder) = IsLowestClash held tx requested holder
+-- the lowest number of which something holds, or none where there is none
+abbrev pub IsLowestOf : (ℕ → Type 0) → Option ℕ → Type 0
+IsLowestOf Stands None = (number : ℕ) → Stands number → ⊥
+IsLowestOf Stands (Some lowest) = Stands lowest × ((number : ℕ) → Stands number → lowest ≤ number)
 
 -- the lower of two numbers, of which one may be missing
 abbrev pub lower_of : Option ℕ → ℕ → ℕ

@@ -1,15 +1,15 @@
--- The cells at which transactions hold something, and the room to note more.
-use Rattle.std.specs.Prelude.{ℕ, ◌≡◌, ◌≢◌, ◌+◌, ◌<◌, ◌≤◌, nat_eq, Bool, List, [], length, unwrap_or, Contains}
+-- The places at which transactions hold something, and the room to note more.
+use Rattle.std.specs.Prelude.{ℕ, ◌≡◌, ◌≢◌, ◌+◌, ◌≤◌, nat_eq, Bool, List, [], length, unwrap_or, Contains}
 use Rattle.std.specs.List.{filter}
 use Rattle.indexmap.specs.IndexMap.{IndexMap, get}
 use Rattle.mlt_object_locks.specs.Locks.{Held}
 
--- the numbers of the keys of cells, and for how many more there is room
+-- the numbers of places, and for how many more there is room
 pub record KeysWithRoom : Type 0 where
   pub keys : List ℕ
   pub room : ℕ
 
--- no cell, and no room
+-- no place, and no room
 abbrev pub nothing_noted : KeysWithRoom
 nothing_noted = record { keys = []; room = 0 }
 
@@ -21,16 +21,22 @@ noted_of noted tx = unwrap_or (get nat_eq noted tx) nothing_noted
 abbrev pub SameNoted : {S : Type 0} → IndexMap ℕ KeysWithRoom S → IndexMap ℕ KeysWithRoom S → ℕ → Type 0
 SameNoted old new tx = (other : ℕ) → other ≢ tx → noted_of new other ≡ noted_of old other
 
--- the same cells are noted, and where there was room there still is
+-- the same places are noted, and where there was room for those of a cell there still is
 pub record KeepsNoted {S : Type 0} (old new : IndexMap ℕ KeysWithRoom S) : Type 0 where
   pub keys : (tx : ℕ) → (noted_of new tx).keys ≡ (noted_of old tx).keys
-  pub room : (tx : ℕ) → 0 < (noted_of old tx).room → 0 < (noted_of new tx).room
+  pub room : (tx : ℕ) → 2 ≤ (noted_of old tx).room → 2 ≤ (noted_of new tx).room
 
--- the cell of this key is among them, and at most it is new
+-- this place is among them, and at most it is new
 pub record NotesAtMost (old new : List ℕ) (key : ℕ) : Type 0 where
   pub there : Contains new key
   pub keeps : (k : ℕ) → Contains old k → Contains new k
   pub few : length new ≤ length old + 1
+
+-- these places are among them, and at most they are new
+pub record NotesEach (old new places : List ℕ) : Type 0 where
+  pub there : (k : ℕ) → Contains places k → Contains new k
+  pub keeps : (k : ℕ) → Contains old k → Contains new k
+  pub few : length new ≤ length old + length places
 
 -- the transaction holds this
 abbrev pub is_held_by : ℕ → Held → Bool

@@ -4,19 +4,20 @@ ghost use Rattle.std.specs.Prelude.{◌≡◌, ◌↔◌, ◌<◌, IsTrue};
 ghost use Rattle.mlt_object_locks.specs.Classes.{bit_of, bit_of_item, class_of, marks, Adds, AddsItem, AreInTheWay, IsColumn, Meets};
 
 use mlt_commute::{AccountClass, CounterClass, ElementClass, Table};
-use mlt_kinds::{Account, Counter, Done, Element, ObjOp};
+use mlt_kinds::{Account, Counter, Done, Element, ObjOp, ObjReply};
 use std::marker::Model;
 
-/// The class of an operation with its reply, of any kind.
+/// The class of an operation with its reply, of any kind. All that ask for the size of a set are of one.
 #[derive(Clone, Copy)]
 pub(crate) enum Class {
     Account(AccountClass),
     Element(ElementClass),
     Counter(CounterClass),
+    Size,
 }
 
 /// All classes.
-const CLASSES: [Class; 18] = [
+const CLASSES: [Class; 19] = [
     Class::Account(AccountClass::Opened),
     Class::Account(AccountClass::Exists),
     Class::Account(AccountClass::Closed),
@@ -35,6 +36,7 @@ const CLASSES: [Class; 18] = [
     Class::Element(ElementClass::No),
     Class::Counter(CounterClass::Counted),
     Class::Counter(CounterClass::Read),
+    Class::Size,
 ];
 
 /// A set of classes. A contract sees a number with a bit for each class in it.
@@ -95,7 +97,7 @@ impl ClassSet {
     }
 }
 
-/// The classes of the operations on its cell with which a requested one clashes.
+/// The classes of the operations with which a requested one clashes, on its cell, and of sizes and elements on theirs.
 pub(crate) fn in_the_way_of(requested: &Done) -> ClassSet
     ensures { AreInTheWay result requested.now }
 {
@@ -127,6 +129,10 @@ fn class_of(done: &Done) -> Option<Class>
         ObjOp::Account(_, op) => Account::class(&op, &reply).map(Class::Account),
         ObjOp::Element(_, _, op) => Element::class(&op, &reply).map(Class::Element),
         ObjOp::Counter(_, op) => Counter::class(&op, &reply).map(Class::Counter),
+        ObjOp::Size(_) => match reply {
+            ObjReply::Is(_) => Some(Class::Size),
+            _ => None,
+        },
     }
 }
 
@@ -138,6 +144,8 @@ fn are_marked(held: Class, requested: Class) -> bool
         (Class::Account(held), Class::Account(requested)) => Account::conflicts(held, requested),
         (Class::Element(held), Class::Element(requested)) => Element::conflicts(held, requested),
         (Class::Counter(held), Class::Counter(requested)) => Counter::conflicts(held, requested),
+        (Class::Element(held), Class::Size) => held.counts(),
+        (Class::Size, Class::Element(requested)) => requested.counts(),
         _ => false,
     }
 }
@@ -145,19 +153,20 @@ fn are_marked(held: Class, requested: Class) -> bool
 // The bit of a class in a set.
 fn bit_of(class: Class) -> u32
     ensures bit { result ≡ bit_of class }
-    ensures fits { result < 18 }
+    ensures fits { result < 19 }
 {
     match class {
         Class::Account(class) => account_bit(class),
         Class::Element(class) => element_bit(class),
         Class::Counter(CounterClass::Counted) => 16,
         Class::Counter(CounterClass::Read) => 17,
+        Class::Size => 18,
     }
 }
 
 fn account_bit(class: AccountClass) -> u32
     ensures bit { result ≡ bit_of (Class.Account class) }
-    ensures fits { result < 18 }
+    ensures fits { result < 19 }
 {
     match class {
         AccountClass::Opened => 0,
@@ -175,7 +184,7 @@ fn account_bit(class: AccountClass) -> u32
 
 fn element_bit(class: ElementClass) -> u32
     ensures bit { result ≡ bit_of (Class.Element class) }
-    ensures fits { result < 18 }
+    ensures fits { result < 19 }
 {
     match class {
         ElementClass::Added => 10,

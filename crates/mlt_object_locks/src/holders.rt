@@ -1,10 +1,10 @@
-//! Those who hold something on one cell, or have reserved it.
+//! Those who hold something at one place, or have reserved a cell of it.
 
 ghost use Rattle.std.specs.Prelude.{◌≡◌, ◌↔◌, ℕ, [], IsTrue, false, OnOk, OnErr, IfErr, position};
 ghost use Rattle.std.specs.List.{filter, list_all, list_any};
-ghost use Rattle.mlt_object_locks.specs.Locks.{lower_of};
-ghost use Rattle.mlt_object_locks.specs.Classes.{bit_of_item, AreInTheWay};
-ghost use Rattle.mlt_object_locks.specs.Holders.{AreOnce, IsHere, HasBit, Joins, Grants, IsLowestInTheWay, StandsIn, is_of, is_not_of, is_idle_of, is_not_idle_of};
+ghost use Rattle.mlt_object_locks.specs.Locks.{lower_of, IsLowestOf};
+ghost use Rattle.mlt_object_locks.specs.Classes.{bit_of_item};
+ghost use Rattle.mlt_object_locks.specs.Holders.{AreOnce, IsHere, HasBit, Joins, Grants, IsLowestInTheWay, StandsAgainst, StandsIn, is_of, is_not_of, is_idle_of, is_not_idle_of};
 
 use crate::classes::{ClassSet, in_the_way_of};
 use mlt_kinds::Done;
@@ -13,7 +13,7 @@ use smallvec::SmallVec;
 use std::alloc::Global;
 use std::marker::Model;
 
-/// A transaction, with the classes of the operations that it holds on a cell. It is idle where it holds none that has a
+/// A transaction, with the classes of the operations that it holds at a place. It is idle where it holds none that has a
 /// class, as from its reservation up to its first grant.
 #[derive(Clone, Copy)]
 pub(crate) struct Holder {
@@ -30,8 +30,8 @@ impl Default for Holder {
     }
 }
 
-/// The transactions that hold something on one cell, or have reserved it, each once. A contract sees their list. A few take
-/// no memory of their own.
+/// The transactions that hold something at one place, or have reserved a cell of it, each once. A contract sees their list.
+/// A few take no memory of their own.
 #[derive(Drop)]
 pub(crate) struct Holders {
     holders: SmallVec<Holder, 4>,
@@ -86,8 +86,7 @@ impl Holders {
     /// The lowest number of another transaction that holds an operation here with which this one clashes, if there is
     /// one.
     pub fn lowest_clash(&self, tx: TxId, done: &Done) -> Option<TxId>
-        ensures { (against : ℕ) × AreInTheWay against done.now
-            × IsLowestInTheWay self.now tx against result }
+        ensures { IsLowestOf (StandsAgainst self.now tx done.now) result }
     {
         if is_alone(&self.holders, tx) {
             return None;
@@ -183,8 +182,8 @@ fn stands_in(holder: &Holder, tx: TxId, against: &ClassSet) -> bool
     holder.tx != tx && holder.classes.meets(against)
 }
 
-// The lower of two numbers, of which one may be missing.
-fn lower(lowest: Option<TxId>, holder: TxId) -> TxId
+/// The lower of two numbers, of which one may be missing.
+pub(crate) fn lower(lowest: Option<TxId>, holder: TxId) -> TxId
     ensures { result ≡ lower_of lowest holder }
 {
     match lowest {

@@ -11,5 +11,6 @@ mod held;
 mod holders;
 mod locks;
 mod noted;
+mod places;
 
 pub use locks::ObjectLocks;

@@ -1,21 +1,21 @@
-//! The table of object locks, by cells: a request looks at one cell, and a release at those of its transaction.
+//! The table of object locks, by places: a request looks at two of them at most, and a release at those of its transaction.
 
-ghost use Rattle.std.specs.Prelude.{◌≡◌, ◌<◌, ◌^◌, ℕ, [], ◌∷◌, ◌++◌, Some, None, OnOk, OnErr, IfErr};
+ghost use Rattle.std.specs.Prelude.{◌≡◌, ℕ, [], ◌∷◌, ◌++◌, Some, None, OnOk, OnErr, IfErr};
 ghost use Rattle.std.specs.List.{filter};
-ghost use Rattle.std.specs.Option.{option_map};
 ghost use Rattle.mlt_kinds.specs.Operations.{cell_of};
-ghost use Rattle.mlt_types.specs.Cells.{IsInRange, key_number};
-ghost use Rattle.mlt_types.specs.declared.cell.Cell.{Cell};
 ghost use Rattle.mlt_object_locks.specs.Locks.{no_locks, HoldsClash, IsLowestClash, is_of_other, reservation_of, SameReservations};
+ghost use Rattle.mlt_object_locks.specs.Places.{reserved_places};
 
 use crate::cells::{
-    Cells, give_up_earlier, grant, join, lowest_clash, release_noted, release_reserved,
+    Cells, give_up_each, grant_each, join_each, lowest_clash, release_each, release_noted,
 };
 use crate::held::HeldList;
 use crate::noted::{Noted, make_room};
+use crate::places::{Places, is_in_range, looked_at, places_if_any, places_of};
+use arrayvec::ArrayVec;
 use indexmap::IndexMap;
 use mlt_kinds::Done;
-use mlt_types::{Cell, Key, Refusal, TxId};
+use mlt_types::{Cell, Refusal, TxId};
 use std::alloc::Global;
 use std::marker::Model;
 
@@ -55,8 +55,8 @@ impl ObjectLocks {
         }
     }
 
-    /// Makes room for one operation of the transaction, on this cell. Its reservation before this one, if
-    /// there was one, is given up.
+    /// Makes room for one operation of the transaction, on this cell, and where it is an element, on its set. Its
+    /// reservation before this one, if there was one, is given up.
     ///
     /// # Errors
     /// `OutOfMemory`, where a growth was refused; what is held and reserved is then as before.
@@ -67,14 +67,19 @@ impl ObjectLocks {
         ensures err { OnErr result (self.new ≡ self.old) }
         ensures refusal { IfErr result (λ refusal. refusal ≡ Refusal.OutOfMemory) }
     {
-        let key = number_of(cell);
+        let places = places_of(cell);
         self.reserved.reserve(1)?;
         make_room(&mut self.noted, tx)?;
-        join(&mut self.cells, key, tx)?;
+        if let Err(refusal) = join_each(&mut self.cells, places.as_slice(), tx) {
+            let kept = reserved_places(&self.reserved, tx);
+            give_up_each(&mut self.cells, places.as_slice(), kept.as_slice(), tx);
+            return Err(refusal);
+        }
         let Ok(earlier) = self.reserved.insert(tx, *cell) else {
             unreachable!();
         };
-        give_up_earlier(&mut self.cells, key_if_any(earlier), key, tx);
+        let before = places_if_any(earlier);
+        give_up_each(&mut self.cells, before.as_slice(), places.as_slice(), tx);
         Ok(())
     }
 
@@ -94,12 +99,21 @@ impl ObjectLocks {
         ensures lowest { IfErr result (λ holder. IsLowestClash self.old.held tx done.now holder) }
         ensures err { OnErr result (self.new ≡ self.old) }
     {
-        let key = number_of(&done.cell());
-        if let Some(holder) = lowest_clash(&self.cells, key, tx, done) {
+        let cell = done.cell();
+        is_in_range(&cell);
+        let looked = looked_at(&done.op());
+        if let Some(holder) = lowest_clash(&self.cells, looked.as_slice(), tx, done) {
             return Err(holder);
         }
         self.reserved.swap_remove(&tx);
-        grant(&mut self.cells, &mut self.noted, key, tx, done);
+        let places = places_of(&cell);
+        grant_each(
+            &mut self.cells,
+            &mut self.noted,
+            places.as_slice(),
+            tx,
+            done,
+        );
         self.held = self.held.and(&tx, done);
         Ok(())
     }
@@ -110,52 +124,19 @@ impl ObjectLocks {
         ensures released { reservation_of self.new.reserved tx ≡ None }
         ensures others { SameReservations self.old.reserved self.new.reserved tx }
     {
-        let cell = self.reserved.swap_remove(&tx);
-        release_reserved(&mut self.cells, key_if_any(cell), tx);
+        let places = places_if_any(self.reserved.swap_remove(&tx));
+        release_each(&mut self.cells, places.as_slice(), tx);
         release_noted(&mut self.cells, &mut self.noted, tx);
         self.held = self.held.without(&tx);
     }
 }
 
-// The number of the key of a cell, if there is one.
-fn key_if_any(cell: Option<Cell>) -> Option<u64>
-    ensures { result ≡ option_map key_number cell }
+// The places of the cell that the transaction reserved, if it did.
+fn reserved_places(reserved: &IndexMap<TxId, Cell>, tx: TxId) -> Places
+    ensures { result.items ≡ reserved_places reserved.now.entries tx }
 {
-    match cell {
-        Some(cell) => Some(number_of(&cell)),
-        None => None,
+    match reserved.get(&tx) {
+        Some(cell) => places_of(cell),
+        None => ArrayVec::new(),
     }
 }
-
-// The number of a cell's key, which no other cell has.
-fn number_of(cell: &Cell) -> u64
-    ensures number { result ≡ key_number cell.now }
-    ensures range { IsInRange cell.now }
-    ensures apart { (other : Cell) → IsInRange other → key_number other ≡ result
-        → other ≡ cell.now }
-{
-    is_in_range(cell);
-    Key::of(cell).number()
-}
-
-// What the types of its numbers say of a cell.
-fn is_in_range(cell: &Cell)
-    ensures { IsInRange cell.now }
-{
-    match *cell {
-        Cell::Account(account) => has_32_bits(account),
-        Cell::Counter(counter) => has_32_bits(counter),
-        Cell::Element(set, element) => {
-            has_16_bits(set);
-            has_32_bits(element);
-        },
-    }
-}
-
-fn has_16_bits(number: u16)
-    ensures { number < 2 ^ 16 }
-{}
-
-fn has_32_bits(number: u32)
-    ensures { number < 2 ^ 32 }
-{}

@@ -1,71 +1,79 @@
-use Rattle.std.proofs.Common.{◌≡◌, ℕ, Option, sym, ap, subst, ◌∙◌}
-use Rattle.mlt_types.specs.declared.cell.Cell.{Cell}
-use Rattle.mlt_types.specs.Cells.{IsInRange, key_number}
+use Rattle.std.proofs.Common.{◌≡◌, ◌≤◌, ℕ, List, Option, length, sym, ap, subst, ◌∙◌, arith}
+use Rattle.mlt_types.specs.Cells.{IsInRange}
 use Rattle.mlt_kinds.specs.Operations.{cell_of}
-use Rattle.mlt_object_locks.specs.Locks.{Locks, IsLowestIfAny, SameReservations, reservation_of}
+use Rattle.mlt_object_locks.specs.Locks.{HoldsClash, IsLowestOf, Locks, SameReservations, reservation_of}
 use Rattle.mlt_object_locks.specs.Classes.{bit_of_item}
-use Rattle.mlt_object_locks.specs.Holders.{Grants, IsHere, IsLowestInTheWay}
-use Rattle.mlt_object_locks.specs.Noted.{NotesAtMost, noted_of}
-use Rattle.mlt_object_locks.specs.Cells.{ChangesAt, IsSound, list_at}
+use Rattle.mlt_object_locks.specs.Noted.{NotesEach, noted_of}
+use Rattle.mlt_object_locks.specs.Places.{looked_at, places_if_any, places_of}
+use Rattle.mlt_object_locks.specs.Cells.{GrantsAt, IsHereAt, IsSound, StandsAtOne}
 use Rattle.mlt_object_locks.proofs.Entries.{reservation_found, differ}
 use Rattle.mlt_object_locks.proofs.Clashing.{lowest_of_all}
-use Rattle.mlt_object_locks.proofs.Sound.{sound_granted}
+use Rattle.mlt_object_locks.proofs.Sound.{few_places, sound_granted}
 use Rattle.mlt_object_locks.proofs.locks.ObjectLocks.ask.Goals as goal
 
 pub returns-in-Some-clause-lowest : goal.returns-in-Some-clause-lowest
 returns-in-Some-clause-lowest c =
     let s = c.self.inside in
+    let tx = c.args.tx in
     let done = c.args.done.now in
-    let key : c.number_of-key.result ≡ key_number (cell_of done.0) = c.number_of-key.ensures.number ∙ ap key_number c.cell.ensures in
-    let apart : (other : Cell) → IsInRange other → key_number other ≡ key_number (cell_of done.0) → other ≡ cell_of done.0 = λ other range same. c.number_of-key.ensures.apart other range (same ∙ sym key) ∙ c.cell.ensures in
-    let against = c.lowest_clash.ensures.0 in
-    let here = subst (λ k. IsLowestInTheWay (list_at s.cells k) c.args.tx against c.lowest_clash.result) key c.lowest_clash.ensures.2 in
-    let all = lowest_of_all s.cells s.reserved.entries s.noted s.held.operations c.self.invariant c.args.tx against done apart c.lowest_clash.ensures.1 c.lowest_clash.result here in
-    let seen = subst (λ held. IsLowestIfAny held c.args.tx done c.lowest_clash.result) (ap (λ (l : Locks). l.held) c.self.view_is) all in
-    subst (λ lowest. IsLowestIfAny c.args.self.now.held c.args.tx done lowest) c.in-Some.is seen
+    let range = subst IsInRange c.cell-cell.ensures c.is_in_range.ensures in
+    let places : c.as_slice.result.now ≡ looked_at done.0 = c.as_slice.ensures.value ∙ c.looked_at-looked.ensures ∙ ap looked_at c.op.ensures in
+    let here = subst (λ ks. IsLowestOf (StandsAtOne s.cells ks tx done) c.lowest_clash.result) places c.lowest_clash.ensures in
+    let all = lowest_of_all s.cells s.reserved.entries s.noted s.held.operations c.self.invariant tx done range c.lowest_clash.result here in
+    let seen = subst (λ held. IsLowestOf (HoldsClash held tx done) c.lowest_clash.result) (ap (λ (l : Locks). l.held) c.self.view_is) all in
+    subst (λ lowest. IsLowestOf (HoldsClash c.args.self.now.held tx done) lowest) c.in-Some.is seen
 
 pub returns-clause-free : goal.returns-clause-free
 returns-clause-free c =
     let s = c.self.inside in
+    let tx = c.args.tx in
     let done = c.args.done.now in
-    let key : c.number_of-key.result ≡ key_number (cell_of done.0) = c.number_of-key.ensures.number ∙ ap key_number c.cell.ensures in
-    let apart : (other : Cell) → IsInRange other → key_number other ≡ key_number (cell_of done.0) → other ≡ cell_of done.0 = λ other range same. c.number_of-key.ensures.apart other range (same ∙ sym key) ∙ c.cell.ensures in
-    let against = c.lowest_clash.ensures.0 in
-    let here = subst (λ k. IsLowestInTheWay (list_at s.cells k) c.args.tx against c.lowest_clash.result) key c.lowest_clash.ensures.2 in
-    let all = lowest_of_all s.cells s.reserved.entries s.noted s.held.operations c.self.invariant c.args.tx against done apart c.lowest_clash.ensures.1 c.lowest_clash.result here in
-    let seen = subst (λ held. IsLowestIfAny held c.args.tx done c.lowest_clash.result) (ap (λ (l : Locks). l.held) c.self.view_is) all in
-    subst (λ lowest. IsLowestIfAny c.args.self.now.held c.args.tx done lowest) c.in_default.is seen
+    let range = subst IsInRange c.cell-cell.ensures c.is_in_range.ensures in
+    let places : c.as_slice.result.now ≡ looked_at done.0 = c.as_slice.ensures.value ∙ c.looked_at-looked.ensures ∙ ap looked_at c.op.ensures in
+    let here = subst (λ ks. IsLowestOf (StandsAtOne s.cells ks tx done) c.lowest_clash.result) places c.lowest_clash.ensures in
+    let all = lowest_of_all s.cells s.reserved.entries s.noted s.held.operations c.self.invariant tx done range c.lowest_clash.result here in
+    let seen = subst (λ held. IsLowestOf (HoldsClash held tx done) c.lowest_clash.result) (ap (λ (l : Locks). l.held) c.self.view_is) all in
+    subst (λ lowest. IsLowestOf (HoldsClash c.args.self.now.held tx done) lowest) c.in_default.is seen
 
-pub grant-requires-clause-here : goal.grant-requires-clause-here
-grant-requires-clause-here c =
+pub grant_each-requires-clause-here : goal.grant_each-requires-clause-here
+grant_each-requires-clause-here c =
     let s = c.self.inside in
-    let had = ap (λ (l : Locks). reservation_of l.reserved c.args.tx) c.self.view_is ∙ c.requires in
-    let key : c.number_of-key.result ≡ key_number (cell_of c.args.done.now.0) = c.number_of-key.ensures.number ∙ ap key_number c.cell.ensures in
-    subst (λ k. IsHere (list_at s.cells k) c.args.tx) (sym key) (c.self.invariant.opened c.args.tx (cell_of c.args.done.now.0) had)
+    let tx = c.args.tx in
+    let had = ap (λ (l : Locks). reservation_of l.reserved tx) c.self.view_is ∙ c.requires in
+    let places : c.as_slice-2.result.now ≡ places_of (cell_of c.args.done.now.0) = c.as_slice-2.ensures.value ∙ c.places_of-places.ensures ∙ ap places_of c.cell-cell.ensures in
+    let here = subst (λ ks. IsHereAt s.cells ks tx) (ap places_if_any had) (c.self.invariant.opened tx) in
+    subst (λ ks. IsHereAt s.cells ks tx) (sym places) here
 
-pub grant-requires-clause-room : goal.grant-requires-clause-room
-grant-requires-clause-room c = c.self.invariant.room c.args.tx (cell_of c.args.done.now.0) (ap (λ (l : Locks). reservation_of l.reserved c.args.tx) c.self.view_is ∙ c.requires)
+pub grant_each-requires-clause-room : goal.grant_each-requires-clause-room
+grant_each-requires-clause-room c =
+    let s = c.self.inside in
+    let tx = c.args.tx in
+    let cell = cell_of c.args.done.now.0 in
+    let had = ap (λ (l : Locks). reservation_of l.reserved tx) c.self.view_is ∙ c.requires in
+    let places : c.as_slice-2.result.now ≡ places_of cell = c.as_slice-2.ensures.value ∙ c.places_of-places.ensures ∙ ap places_of c.cell-cell.ensures in
+    let room = c.self.invariant.room tx cell had in
+    let few = few_places cell in
+    subst (λ (ks : List ℕ). length ks ≤ (noted_of s.noted tx).room) (sym places) (omega arith)
 
 pub invariant_of-self : goal.invariant_of-self
 invariant_of-self c =
     let s = c.self.inside in
     let tx = c.args.tx in
     let done = c.args.done.now in
-    let now = c.grant.new.cells in
-    let noted = c.grant.new.noted in
+    let now = c.grant_each.new.cells in
+    let noted = c.grant_each.new.noted in
     let after = c.swap_remove.new.self.entries in
     let bit : Option ℕ = bit_of_item done in
     let had = ap (λ (l : Locks). reservation_of l.reserved tx) c.self.view_is ∙ c.requires in
-    let key : c.number_of-key.result ≡ key_number (cell_of done.0) = c.number_of-key.ensures.number ∙ ap key_number c.cell.ensures in
-    let range = subst IsInRange c.cell.ensures c.number_of-key.ensures.range in
-    let changes = subst (ChangesAt s.cells now) key c.grant.ensures.cells in
-    let grants = subst (λ k. Grants (list_at s.cells k) (list_at now k) tx bit) key c.grant.ensures.grants in
-    let notes = subst (NotesAtMost (noted_of s.noted tx).keys (noted_of noted tx).keys) key c.grant.ensures.notes in
+    let places : c.as_slice-2.result.now ≡ places_of (cell_of done.0) = c.as_slice-2.ensures.value ∙ c.places_of-places.ensures ∙ ap places_of c.cell-cell.ensures in
+    let range = subst IsInRange c.cell-cell.ensures c.is_in_range.ensures in
+    let grants = subst (λ ks. GrantsAt s.cells now ks tx bit) places c.grant_each.ensures.grants in
+    let notes = subst (NotesEach (noted_of s.noted tx).keys (noted_of noted tx).keys) places c.grant_each.ensures.notes in
     let own = reservation_found after tx ∙ c.swap_remove.ensures.updates.1 in
     let others : SameReservations s.reserved.entries after tx = λ other ne.
     reservation_found after other ∙ c.swap_remove.ensures.updates.2 other (differ tx other ne) ∙ sym (reservation_found s.reserved.entries other) in
     subst (IsSound now after noted) (sym c.and-self-inside.ensures)
-    (sound_granted s.cells now s.reserved.entries after s.noted noted s.held.operations tx done c.self.invariant had range changes grants own others c.grant.ensures.others notes)
+    (sound_granted s.cells now s.reserved.entries after s.noted noted s.held.operations tx done c.self.invariant had range grants own others c.grant_each.ensures.others notes)
 
 pub returns-clause-used : goal.returns-clause-used
 returns-clause-used c = reservation_found c.swap_remove.new.self.entries c.args.tx ∙ c.swap_remove.ensures.updates.1

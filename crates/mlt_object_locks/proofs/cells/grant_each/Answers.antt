@@ -1,0 +1,32 @@
+use Rattle.std.proofs.Common.{take, sym, subst, ◌∙◌, arith}
+use Rattle.std.proofs.lemmas.List.{take_more}
+use Rattle.mlt_object_locks.specs.Classes.{bit_of_item}
+use Rattle.mlt_object_locks.specs.Cells.{GrantsAt}
+use Rattle.mlt_object_locks.specs.Noted.{NotesEach, noted_of}
+use Rattle.mlt_object_locks.proofs.Changes.{bits_noted_more, granted_more}
+use Rattle.mlt_object_locks.proofs.Notes.{notes_more}
+use Rattle.mlt_object_locks.proofs.cells.grant_each.Goals as goal
+
+pub grant-requires-clause-noted : goal.grant-requires-clause-noted
+grant-requires-clause-noted c =
+    let so_far = c.loop-place.invariant in
+    bits_noted_more c.args.cells.now c.loop-place.cells c.args.noted.now c.loop-place.noted (take c.loop-place.place-index c.args.places.now) c.args.tx (bit_of_item c.args.done.now) c.requires.noted so_far.grants so_far.others so_far.notes
+
+pub loop-place-preserved : goal.loop-place-preserved
+loop-place-preserved c =
+    let at = c.loop-place.place-index in
+    let places = c.args.places.now in
+    let tx = c.args.tx in
+    let bit = bit_of_item c.args.done.now in
+    let so_far = c.loop-place.invariant in
+    let more = sym (take_more places at 0 c.loop-place-test.true) in
+    let start = noted_of c.args.noted.now tx in
+    let mid = noted_of c.loop-place.noted tx in
+    let now = noted_of c.grant.new.noted tx in
+    record {
+      grants = subst (λ ks. GrantsAt c.args.cells.now c.grant.new.cells ks tx bit) more
+          (granted_more c.args.cells.now c.loop-place.cells c.grant.new.cells (take at places) _ tx c.grant.ensures.cells bit so_far.grants c.grant.ensures.grants);
+      others = λ other ne. c.grant.ensures.others other ne ∙ so_far.others other ne;
+      notes = subst (λ ks. NotesEach start.keys now.keys ks) more (notes_more start.keys mid.keys now.keys (take at places) _ so_far.notes c.grant.ensures.notes);
+      room = let before = so_far.room in let after = c.grant.ensures.room in omega arith;
+    }
