@@ -6,20 +6,21 @@ use Rattle.mlt_kinds.specs.declared.account.AccountOp.TheVariants.{Open, Close, 
 use Rattle.mlt_kinds.specs.declared.counter.CounterOp.{CounterOp}
 use Rattle.mlt_kinds.specs.declared.counter.CounterOp.TheVariants.{Up, Down, Read}
 use Rattle.mlt_kinds.specs.declared.operation.ObjOp.{ObjOp}
-use Rattle.mlt_kinds.specs.declared.operation.ObjOp.TheVariants.{Account, Element, Counter}
+use Rattle.mlt_kinds.specs.declared.operation.ObjOp.TheVariants.{Account, Element, Counter, Size}
 use Rattle.mlt_kinds.specs.declared.operation.ObjReply.{ObjReply}
 use Rattle.mlt_kinds.specs.declared.operation.ObjReply.TheVariants as told
 use Rattle.mlt_kinds.specs.Accounts.{AccountStep}
 use Rattle.mlt_kinds.proofs.BaseLaws.{base_one_answer, step_to}
 use Rattle.mlt_kinds.specs.Bases.{Base, Step, empty_base, with_state}
 use Rattle.mlt_kinds.specs.Cells.{CellState, CellStep}
-use Rattle.mlt_kinds.specs.Cells.CellState.{AccountState, ElementState, CounterState}
+use Rattle.mlt_kinds.specs.Cells.CellState.{AccountState, ElementState, CounterState, NoState}
 use Rattle.mlt_kinds.specs.Counters.{CounterStep}
 use Rattle.mlt_kinds.specs.Operations.{cell_of}
 use Rattle.mlt_base.specs.Meaning.{Means}
 use Rattle.mlt_base.specs.Effects.{reply_of}
 use Rattle.mlt_base.specs.Records.{record_after, state_of_record}
 use Rattle.mlt_base.proofs.Meanings.{one_meaning}
+use Rattle.mlt_base.proofs.OperationChanges.{tells_size}
 use Rattle.mlt_commute.proofs.BaseOrder.{base_functional, base_injective}
 use Rattle.mlt_order.specs.Histories.{IsHistory, no_lists}
 use Rattle.mlt_order.proofs.Growing.{follow_to_one}
@@ -53,6 +54,7 @@ step_small : (op : ObjOp) (reply : ObjReply) (s t : CellState) → CellStep s (o
 step_small (Account a op) reply (AccountState s) (AccountState t) step = account_small op reply s t step
 step_small (Element s e op) reply (ElementState p) (ElementState q) step = omega arith
 step_small (Counter c op) reply (CounterState s) (CounterState t) step = counter_small op reply s t step
+step_small (Size s) reply NoState NoState step = omega arith
 step_small _ reply _ _ step = absurd (first_of (cc, grind arith))
 
 module _ (world : World) (op : ObjOp) (h : PagesMeanHistory world) (range : IsInRange (cell_of op)) where
@@ -62,7 +64,7 @@ module _ (world : World) (op : ObjOp) (h : PagesMeanHistory world) (range : IsIn
       let r = reply_of op (record_of world op) in
       let after = state_of_record (cell_of op) (record_after r.1 (record_of world op)) in
       let cell = (reply_steps op (record_of world op) (h.records.means.can_be (cell_of op) range) small).0 in
-      (with_state world.base (cell_of op) after, step_to world.base (op, r.0) after (subst (λ (s : CellState). CellStep s (op, r.0) after) (sym (h.records.means.holds (cell_of op) range)) cell))
+      (with_state world.base (cell_of op) after, step_to world.base (op, r.0) after (subst (λ (s : CellState). CellStep s (op, r.0) after) (sym (h.records.means.holds (cell_of op) range)) cell) (tells_size (live_records world.pages) world.base op h.records.means range))
 
   -- and no other reply is
   pub step_fixes : (reply : ObjReply) (after : Base) → Step world.base (op, reply) after → reply ≡ (reply_of op (record_of world op)).0

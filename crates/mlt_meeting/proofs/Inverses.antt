@@ -1,5 +1,5 @@
 -- The inverse of an operation takes the step of its cell back, by one of four kinds of change.
-use Rattle.std.proofs.Common.{◌≡◌, ℕ, ◌+◌, ◌-◌, ◌%◌, ◌^◌, ◌<◌, ◌≤◌, Bool, true, false, Option, Some, None, is_some, IsSome, refl, sym, subst, ap, arith}
+use Rattle.std.proofs.Common.{◌≡◌, ℕ, ◌+◌, ◌-◌, ◌%◌, ◌^◌, ◌<◌, ◌≤◌, Bool, true, false, Option, Some, None, is_some, refl, sym, subst, ap, arith}
 use Rattle.mlt_kinds.specs.declared.account.AccountOp.{AccountOp}
 use Rattle.mlt_kinds.specs.declared.account.AccountOp.TheVariants.{Open, Close, Deposit, Withdraw}
 use Rattle.mlt_kinds.specs.declared.counter.CounterOp.{CounterOp}
@@ -7,21 +7,22 @@ use Rattle.mlt_kinds.specs.declared.counter.CounterOp.TheVariants.{Up, Down, Rea
 use Rattle.mlt_kinds.specs.declared.element.ElementOp.{ElementOp}
 use Rattle.mlt_kinds.specs.declared.element.ElementOp.TheVariants as element
 use Rattle.mlt_kinds.specs.declared.operation.ObjOp.{ObjOp}
-use Rattle.mlt_kinds.specs.declared.operation.ObjOp.TheVariants.{Account, Element, Counter}
+use Rattle.mlt_kinds.specs.declared.operation.ObjOp.TheVariants.{Account, Element, Counter, Size}
 use Rattle.mlt_kinds.specs.declared.operation.ObjReply.{ObjReply}
 use Rattle.mlt_kinds.specs.declared.operation.ObjReply.TheVariants as told
 use Rattle.mlt_kinds.specs.Accounts.{AccountStep, IsAccount, max_balance}
 use Rattle.mlt_kinds.specs.Cells.{CellState, CellStep}
-use Rattle.mlt_kinds.specs.Cells.CellState.{AccountState, ElementState, CounterState}
+use Rattle.mlt_kinds.specs.Cells.CellState.{AccountState, ElementState, CounterState, NoState}
 use Rattle.mlt_kinds.specs.Counters.{CounterStep}
 use Rattle.mlt_kinds.specs.Elements.{ElementStep}
 use Rattle.mlt_kinds.specs.Operations.{cell_of}
 use Rattle.mlt_base.specs.declared.record.RecChange.{RecChange}
 use Rattle.mlt_base.specs.declared.record.RecChange.TheVariants.{ToGhost, Revive, Plus, Minus}
-use Rattle.mlt_base.specs.Effects.{account_inverse_of, counter_inverse_of, element_inverse_of, inverse_of}
+use Rattle.mlt_base.specs.Effects.{account_inverse_of, counter_inverse_of, element_inverse_of, inverse_of, size_inverse_of}
 use Rattle.mlt_base.specs.Records.{CanChange, HasWhatIsUndone, IsElementRecord, IsRecord, counter_of_record, record_after, state_of_record}
 use Rattle.mlt_ghosts.specs.Operations.{Presence, Added, Removed}
 use Rattle.mlt_meeting.specs.Presences.{account_presence, element_presence, presence_of}
+use Rattle.mlt_meeting.proofs.Replies.{ForResizes}
 
 -- ---- the step that is taken back
 
@@ -80,12 +81,8 @@ pub inverse_back : (item : ObjOp × ObjReply) (before : CellState) (live : Optio
 inverse_back (Account a op, reply) (AccountState s) live can has step = let back = account_back op reply s live can step in (ap AccountState back.0, back.1, back.2)
 inverse_back (Element s e op, reply) (ElementState p) live can has step = let back = element_back op reply p live can step in (ap ElementState back.0, back.1, back.2)
 inverse_back (Counter c op, reply) (CounterState v) live can has step = let back = counter_back op reply v live c can has step in (ap CounterState back.0, back.1, back.2)
-inverse_back (Account a op, reply) (ElementState p) live can has step = absurd step
-inverse_back (Account a op, reply) (CounterState v) live can has step = absurd step
-inverse_back (Element s e op, reply) (AccountState p) live can has step = absurd step
-inverse_back (Element s e op, reply) (CounterState v) live can has step = absurd step
-inverse_back (Counter c op, reply) (AccountState p) live can has step = absurd step
-inverse_back (Counter c op, reply) (ElementState v) live can has step = absurd step
+inverse_back (Size s, reply) NoState live can has step = (refl, can, tt)
+inverse_back _ _ live can has step = absurd (first_of (cc, grind arith))
 
 -- ---- the kinds of changes
 
@@ -118,22 +115,10 @@ pub by_inverse : (item : ObjOp × ObjReply) (F : Option Presence → Option RecC
 by_inverse (Account a op, reply) F each = account_inverses op reply F each
 by_inverse (Element s e op, reply) F each = element_inverses op reply F each
 by_inverse (Counter c op, reply) F each = counter_inverses op reply F each
+by_inverse (Size s, reply) F each = each.stays
 
--- ---- what counters need to be counted back
-
-counter_remains : (op : CounterOp) (reply : ObjReply) (live : Option ℕ) → IsSome live → IsSome (record_after (counter_inverse_of op reply) live)
-counter_remains (Up n) told.Done None some = absurd (cc some)
-counter_remains (Up n) told.Done (Some v) some = refl
-counter_remains (Down n) told.Done None some = absurd (cc some)
-counter_remains (Down n) told.Done (Some v) some = refl
-counter_remains _ _ live some = some
-
-pub inverse_keeps_counters : (held item : ObjOp × ObjReply) (live : Option ℕ) → cell_of held.0 ≡ cell_of item.0 → HasWhatIsUndone held live
-    → HasWhatIsUndone held (record_after (inverse_of item) live)
-inverse_keeps_counters (Account a other, answer) item live same has = tt
-inverse_keeps_counters (Element s e other, answer) item live same has = tt
-inverse_keeps_counters (Counter c (Up n), answer) (Counter d op, reply) live same has = counter_remains op reply live has
-inverse_keeps_counters (Counter c (Down n), answer) (Counter d op, reply) live same has = counter_remains op reply live has
-inverse_keeps_counters (Counter c Read, answer) (Counter d op, reply) live same has = tt
-inverse_keeps_counters (Counter c other, answer) (Account a op, reply) live same has = absurd (cc)
-inverse_keeps_counters (Counter c other, answer) (Element s e op, reply) live same has = absurd (cc)
+-- and one about what undoes a change of the size record of a set
+pub by_size_inverse : (item : ObjOp × ObjReply) (F : Option RecChange → Type 0) → ForResizes F → F (size_inverse_of item)
+by_size_inverse (Element s e element.Add, told.Added) F each = each.lowered
+by_size_inverse (Element s e element.Remove, told.Removed) F each = each.raised
+by_size_inverse _ F each = each.stays

@@ -1,3 +1,4 @@
+pub mod ChangeGhosts
 pub mod DoneGhosts
 pub mod Fixed
 pub mod Inverses
@@ -13,7 +14,9 @@ pub mod SlotGhosts
 pub mod Standings
 pub mod Transactions
 pub mod Transcripts
+pub mod TwoEnds
 pub mod Undoing
 pub mod UndoneGhosts
 pub mod WalkEnds
 pub mod Walks
+pub mod WrittenPages

@@ -15,12 +15,12 @@ use Rattle.mlt_order.specs.Histories.Stage.{Fresh, Running}
 use Rattle.mlt_order.proofs.Growing.{after_entries-push, follow_push}
 use Rattle.mlt_order.proofs.Keeping.{Kept, kept_by_history}
 use Rattle.mlt_base.specs.Meaning.{Means}
-use Rattle.mlt_base.specs.Records.{HasWhatIsUndone}
+use Rattle.mlt_base.specs.Records.{HasSizeToUndo, HasWhatIsUndone}
 use Rattle.mlt_commute.proofs.BaseOrder.{base_functional, base_injective}
 use Rattle.mlt_hash_form.specs.Records.{live_records}
 use Rattle.mlt_meeting.specs.Ends.{KeepsPages}
 use Rattle.mlt_meeting.specs.Presences.{standing_of}
-use Rattle.mlt_meeting.specs.Worlds.{IsFileWithGhosts, PagesMeanHistory, World, ledger_with, lists_in, record_of}
+use Rattle.mlt_meeting.specs.Worlds.{IsFileWithGhosts, PagesMeanHistory, World, ledger_with, lists_in, record_of, size_record_of}
 
 -- what lists ask of the rest
 pub record FitsLists (world : World) (lists : Lists (ObjOp × ObjReply)) : Type 0 where
@@ -29,11 +29,12 @@ pub record FitsLists (world : World) (lists : Lists (ObjOp × ObjReply)) : Type 
   pub fresh : (i : ℕ) → world.begun < i → lists.stage i ≡ Fresh
   pub in_range : (i : ℕ) (item : ObjOp × ObjReply) → Contains (lists.held i) item → IsInRange (cell_of item.0)
   pub counted : (i : ℕ) (item : ObjOp × ObjReply) → Contains (lists.transcripts i) item → HasWhatIsUndone item (record_of world item.0)
+  pub sized : (i : ℕ) (item : ObjOp × ObjReply) → Contains (lists.transcripts i) item → HasSizeToUndo item (size_record_of world item.0)
 
 pub both : (world : World) → Means (live_records world.pages) world.base → IsHistory Step empty_base world.history world.base → FitsLists world (lists_in world) → PagesMeanHistory world
 both world means history fits = record {
   file = fits.file;
-  records = record { means = means; history = history; running = fits.running; fresh = fits.fresh; in_range = fits.in_range; counted = fits.counted };
+  records = record { means = means; history = history; running = fits.running; fresh = fits.fresh; in_range = fits.in_range; counted = fits.counted; sized = fits.sized };
 }
 
 -- a history that has grown by an entry
@@ -62,3 +63,7 @@ lists_kept world h = kept_by_history Step empty_base base_functional base_inject
 -- an open transaction runs
 pub runs : (world : World) → PagesMeanHistory world → (tx : ℕ) → set.contains world.opens tx ≡ true → (lists_in world).stage tx ≡ Running
 runs world h tx is_open = (h.records.running tx).0 is_open
+
+-- what stands is on cells that there can be, as it is held
+pub in_range_there : (world : World) → PagesMeanHistory world → (i : ℕ) (item : ObjOp × ObjReply) → Contains ((lists_in world).transcripts i) item → IsInRange (cell_of item.0)
+in_range_there world h i item there = h.records.in_range i item ((lists_kept world h).covers i item there)

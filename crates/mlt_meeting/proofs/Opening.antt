@@ -6,12 +6,13 @@ use Rattle.std.specs.FinMap as map
 use Rattle.std.specs.FinSet as set
 use Rattle.mlt_types.specs.Cells.{key_number}
 use Rattle.mlt_types.specs.declared.cell.Cell.{Cell}
-use Rattle.mlt_types.specs.declared.cell.Cell.TheVariants.{Account, Element, Counter}
+use Rattle.mlt_types.specs.declared.cell.Cell.TheVariants.{Account, Element, Counter, Size}
 use Rattle.mlt_page.specs.declared.page.Page.{Page}
 use Rattle.mlt_kinds.specs.Bases.{counter_value, element_cmp, empty_base, state_at}
 use Rattle.mlt_kinds.specs.Cells.CellState.{AccountState, ElementState, CounterState}
 use Rattle.mlt_base.specs.Meaning.{Means}
-use Rattle.mlt_base.specs.Records.{IsRecord, state_of_record}
+use Rattle.mlt_kinds.proofs.Sizes.{size_of_empty}
+use Rattle.mlt_base.specs.Records.{IsRecord, counter_of_record, state_of_record}
 use Rattle.mlt_order.specs.Histories.Stage.{Fresh, Running}
 use Rattle.mlt_order.proofs.RunLemmas.{contains-nothing}
 use Rattle.mlt_hash_form.specs.Changes.{IsOpening}
@@ -28,11 +29,13 @@ absent_can_be : (c : Cell) → IsRecord c None
 absent_can_be (Account a) = tt
 absent_can_be (Element s e) = tt
 absent_can_be (Counter c) = omega arith
+absent_can_be (Size s) = omega arith
 
 empty_state : (c : Cell) → state_at empty_base c ≡ state_of_record c None
 empty_state (Account a) = ap AccountState (map.get-empty nat_cmp a)
 empty_state (Element s e) = ap (λ (o : Option (Unit {0})). ElementState (is_some o)) (map.get-empty element_cmp (s, e))
 empty_state (Counter c) = ap (λ (o : Option ℕ). CounterState (counter_value o)) (map.get-empty nat_cmp c)
+empty_state (Size s) = refl
 
 -- no record means the empty base
 pub empty_means : (records : map.FinMap nat_cmp ℕ) → records ≡ map.empty → Means records empty_base
@@ -42,6 +45,7 @@ empty_means records none =
       can_be = λ c is. subst (IsRecord c) (sym (absent (key_number c))) (absent_can_be c);
       holds = λ c is. empty_state c ∙ ap (state_of_record c) (sym (absent (key_number c)));
       elsewhere = λ c not. empty_state c;
+      sized = λ s is. ap counter_of_record (absent (key_number (Size s))) ∙ sym (size_of_empty s);
     }
 
 module _ (bits : ℕ → ℕ) (root max_depth : ℕ) (pages : map.FinMap nat_cmp Page) (undoing : ℕ → Bool) (d n : ℕ) where
@@ -63,5 +67,6 @@ module _ (bits : ℕ → ℕ) (root max_depth : ℕ) (pages : map.FinMap nat_cmp
           fresh = λ i above. refl;
           in_range = λ i item there. absurd (contains-nothing item there);
           counted = λ i item there. absurd (contains-nothing item there);
+          sized = λ i item there. absurd (contains-nothing item there);
         };
       }

@@ -1,21 +1,22 @@
 -- The end of an operation keeps the match.
-use Rattle.std.proofs.Common.{◌≡◌, ℕ, Option, List, [], ◌∷◌, ◌++◌, Contains, refl, sym, subst, ap, ◌∙◌, inl, inr, arith, slice_index_or}
+use Rattle.std.proofs.Common.{◌≡◌, ℕ, List, [], ◌∷◌, ◌++◌, Contains, refl, sym, subst, ap, ◌∙◌, inl, inr, arith, slice_index_or}
 use Rattle.std.proofs.lemmas.Bool.{cases_eq}
 use Rattle.std.proofs.lemmas.List.Elements.{Contains-append_cases}
 use Rattle.std.specs.FinMap as map
 use Rattle.std.specs.Ordering.{nat_cmp}
 use Rattle.mlt_types.specs.Cells.{IsInRange}
-use Rattle.mlt_types.specs.Maps.{with_entry as with_live}
+use Rattle.mlt_types.specs.declared.cell.Cell.{Cell}
 use Rattle.mlt_page.specs.declared.page.Page.{Page}
 use Rattle.mlt_kinds.specs.declared.operation.ObjOp.{ObjOp}
 use Rattle.mlt_kinds.specs.declared.operation.ObjReply.{ObjReply}
 use Rattle.mlt_kinds.specs.Bases.{Base, Step}
 use Rattle.mlt_kinds.specs.Operations.{cell_of}
 use Rattle.mlt_base.specs.declared.record.RecChange.{RecChange}
-use Rattle.mlt_base.specs.Meaning.{Means}
-use Rattle.mlt_base.specs.Effects.{reply_of, changes_on}
-use Rattle.mlt_base.specs.Records.{HasWhatIsUndone, record_after}
-use Rattle.mlt_base.proofs.Meanings.{means_step}
+use Rattle.mlt_base.specs.Meaning.{Means, changes_of, record_in, records_after, size_record_in, told_by}
+use Rattle.mlt_base.specs.Effects.{changes_on}
+use Rattle.mlt_base.specs.Records.{HasSizeToUndo, HasWhatIsUndone}
+use Rattle.mlt_base.proofs.OperationChanges.{means_step}
+use Rattle.mlt_base.proofs.SizeRecords.{has_size_now, has_size_still}
 use Rattle.mlt_commute.proofs.BaseOrder.{did_may_come}
 use Rattle.mlt_order.specs.Histories.{Lists, after_entry}
 use Rattle.mlt_order.specs.Histories.Entry.{Did}
@@ -23,14 +24,14 @@ use Rattle.mlt_order.specs.Tables.{Gains, with_entry}
 use Rattle.mlt_order.proofs.Tables.{changed}
 use Rattle.mlt_hash_form.specs.Records.{live_records}
 use Rattle.mlt_meeting.specs.Ends.{ChangesPages}
-use Rattle.mlt_meeting.specs.Presences.{op_key, presence_of, standing_of}
+use Rattle.mlt_meeting.specs.Presences.{presence_of}
 use Rattle.mlt_meeting.specs.Events.{MayDo, with_done}
-use Rattle.mlt_meeting.specs.Worlds.{PagesMeanHistory, World, lists_in, record_of, stood_in}
+use Rattle.mlt_meeting.specs.Worlds.{PagesMeanHistory, World, lists_in, record_of}
 use Rattle.mlt_meeting.proofs.DoneGhosts.{done_keeps_file}
-use Rattle.mlt_meeting.proofs.Matches.{FitsLists, grown, lists_kept, runs}
+use Rattle.mlt_meeting.proofs.Matches.{FitsLists, grown, in_range_there, runs}
 use Rattle.mlt_meeting.proofs.RecordChanges.{records_become}
-use Rattle.mlt_meeting.proofs.RecordsAfter.{counted_after, record_now}
-use Rattle.mlt_meeting.proofs.Replies.{reply_keeps_counters, reply_leaves_counters, reply_steps}
+use Rattle.mlt_meeting.proofs.RecordsAfter.{KeepsRecord, counted_now, counted_still, done_keeps}
+use Rattle.mlt_meeting.proofs.Replies.{IsCount, StepsByRecord, reply_steps}
 use Rattle.mlt_meeting.proofs.Standings.{gain_says, may_do_unopposed}
 
 only_one : (x y : ObjOp × ObjReply) → Contains (x ∷ []) y → x ≡ y
@@ -53,48 +54,59 @@ listed table tx item F before new i x there =
     ]
 
 module _ (world : World) (tx : ℕ) (op : ObjOp) (pages : map.FinMap nat_cmp Page) (h : PagesMeanHistory world) where
-  abbrev live : Option ℕ
-  live = record_of world op
+  abbrev records : map.FinMap nat_cmp ℕ
+  records = live_records world.pages
 
   abbrev item : ObjOp × ObjReply
-  item = (op, (reply_of op live).0)
+  item = (op, told_by records op)
 
-  abbrev change : Option RecChange
-  change = (reply_of op live).1
+  abbrev changes : List (Cell × RecChange)
+  changes = changes_on op (changes_of records op)
 
   abbrev lists : Lists (ObjOp × ObjReply)
   lists = lists_in world
 
-  module _ (may : MayDo world tx item) (changes : ChangesPages world tx (changes_on op change) pages) where
-    records_are : live_records pages ≡ with_live (live_records world.pages) (op_key op) (record_after change live)
-    records_are = records_become world (stood_in world) h.file tx pages op change changes
+  module _ (may : MayDo world tx item) (changed_by : ChangesPages world tx changes pages) where
+    records_are : live_records pages ≡ records_after records changes
+    records_are = records_become world tx changes pages h.file.bounded h.file.form changed_by
+
+    -- its cell makes its step
+    cell_steps : StepsByRecord op (record_of world op)
+    cell_steps = reply_steps op (record_of world op) (h.records.means.can_be (cell_of op) may.in_range.cell) may.in_range.amount
 
     steps : (after : Base) × Step world.base item after × Means (live_records pages) after
     steps =
         let range = may.in_range.cell in
-        let cell = reply_steps op live (h.records.means.can_be (cell_of op) range) may.in_range.amount in
-        let step = means_step (live_records world.pages) world.base item (record_after change live) h.records.means range cell.1 cell.0 in
-        (step.0, step.1, subst (λ (records : map.FinMap nat_cmp ℕ). Means records step.0) (sym records_are) step.2)
+        let step = means_step records world.base op h.records.means range cell_steps.1 cell_steps.0 in
+        (step.0, step.1, subst (λ (r : map.FinMap nat_cmp ℕ). Means r step.0) (sym records_are) step.2)
 
     gains : Gains lists.transcripts (after_entry lists (Did tx item)).transcripts tx item
     gains = changed lists.transcripts tx (lists.transcripts tx ++ item ∷ [])
 
-    still_counted : (i : ℕ) (x : ObjOp × ObjReply) → Contains (lists.transcripts i) x → HasWhatIsUndone x (map.get (live_records pages) (op_key x.0))
-    still_counted i x there =
-        counted_after world pages (cell_of op) (record_after change live) records_are x (h.records.in_range i x ((lists_kept world h).covers i x there)) may.in_range.cell (h.records.counted i x there)
-        (λ same has. reply_keeps_counters x op live same has)
+    in_range_then : (i : ℕ) (x : ObjOp × ObjReply) → Contains ((after_entry lists (Did tx item)).transcripts i) x → IsInRange (cell_of x.0)
+    in_range_then = listed lists.transcripts tx item (λ x. IsInRange (cell_of x.0)) (in_range_there world h) may.in_range.cell
 
     done_fits : (base : Base) → FitsLists (with_done world tx item pages base) (after_entry lists (Did tx item))
     done_fits base = record {
       running = h.records.running;
       fresh = h.records.fresh;
-      file = done_keeps_file world tx op pages (standing_of (after_entry lists (Did tx item)).transcripts) h may.is_open may.forward may.in_range.cell changes
+      file = done_keeps_file world tx op pages (after_entry lists (Did tx item)).transcripts h may.is_open may.forward may.in_range.cell in_range_then changed_by
           (gain_says lists.transcripts (after_entry lists (Did tx item)).transcripts tx item gains (presence_of item) refl)
           (may_do_unopposed world h tx item may (presence_of item) refl);
       in_range = listed lists.held tx item (λ x. IsInRange (cell_of x.0)) h.records.in_range may.in_range.cell;
-      counted = listed lists.transcripts tx item (λ x. HasWhatIsUndone x (map.get (live_records pages) (op_key x.0))) still_counted
-          (subst (HasWhatIsUndone item) (sym (record_now world pages (cell_of op) (record_after change live) records_are)) (reply_leaves_counters op live));
+      counted = listed lists.transcripts tx item (λ x. HasWhatIsUndone x (record_in (live_records pages) (cell_of x.0)))
+          (λ i x there. then (λ r. HasWhatIsUndone x (record_in r (cell_of x.0))) (counted_still records changes keeps x (in_range_there world h i x there) (h.records.counted i x there)))
+          (then (λ r. HasWhatIsUndone item (record_in r (cell_of op))) (counted_now records op));
+      sized = listed lists.transcripts tx item (λ x. HasSizeToUndo x (size_record_in (live_records pages) x.0))
+          (λ i x there. then (λ r. HasSizeToUndo x (size_record_in r x.0)) (has_size_still records op x may.in_range.cell (in_range_there world h i x there) (h.records.sized i x there)))
+          (then (λ r. HasSizeToUndo item (size_record_in r op)) (has_size_now records world.base op h.records.means may.in_range.cell cell_steps.1 cell_steps.0));
     }
+      where
+        then : (F : map.FinMap nat_cmp ℕ → Type 0) → F (records_after records changes) → F (live_records pages)
+        then F has = subst F (sym records_are) has
+
+        keeps : (c : Cell) → IsCount c → KeepsRecord c changes
+        keeps c on = done_keeps records c op on may.in_range.cell
 
     pub operation_keeps : (base : Base) × Step world.base item base × PagesMeanHistory (with_done world tx item pages base)
     operation_keeps =

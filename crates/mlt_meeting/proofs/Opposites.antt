@@ -6,7 +6,7 @@ use Rattle.mlt_kinds.specs.declared.account.AccountOp.TheVariants.{Open, Close}
 use Rattle.mlt_kinds.specs.declared.element.ElementOp.{ElementOp}
 use Rattle.mlt_kinds.specs.declared.element.ElementOp.TheVariants.{Add, Remove}
 use Rattle.mlt_kinds.specs.declared.operation.ObjOp.{ObjOp}
-use Rattle.mlt_kinds.specs.declared.operation.ObjOp.TheVariants.{Account, Element, Counter}
+use Rattle.mlt_kinds.specs.declared.operation.ObjOp.TheVariants.{Account, Element, Counter, Size}
 use Rattle.mlt_kinds.specs.declared.operation.ObjReply.{ObjReply}
 use Rattle.mlt_kinds.specs.declared.operation.ObjReply.TheVariants as told
 use Rattle.mlt_kinds.specs.Operations.{cell_of}
@@ -62,5 +62,7 @@ opposites_clash (Element s e op, reply) (Element t f other, answer) p q same is 
     rw (eq-eqb s t sets, eq-eqb e f elements, element_class_by op reply p is, element_class_by other answer q are) (element_marked p q differ)
 opposites_clash (Counter c op, reply) item p q same is are differ = absurd (cc)
 opposites_clash held (Counter c op, reply) p q same is are differ = absurd (cc)
+opposites_clash (Size s, reply) item p q same is are differ = absurd (cc)
+opposites_clash held (Size s, reply) p q same is are differ = absurd (cc)
 opposites_clash (Account a op, reply) (Element t f other, answer) p q same is are differ = absurd (cc)
 opposites_clash (Element s e op, reply) (Account b other, answer) p q same is are differ = absurd (cc)

@@ -1,5 +1,5 @@
--- What an operation is told of a record and changes: a step of its cell, by one of five kinds of change.
-use Rattle.std.proofs.Common.{◌≡◌, ℕ, ◌+◌, ◌-◌, ◌%◌, ◌^◌, ◌<◌, ◌≤◌, Bool, true, false, cond, Option, Some, None, is_some, IsSome, nat_eq, nat_lt, refl, arith}
+-- What an operation is told of a record and changes of it: a step of its cell, by one of five kinds of change.
+use Rattle.std.proofs.Common.{◌≡◌, ℕ, ◌+◌, ◌-◌, ◌%◌, ◌^◌, ◌<◌, ◌≤◌, Bool, true, false, cond, Option, Some, None, is_some, nat_eq, nat_lt, refl, sym, subst, arith}
 use Rattle.std.proofs.lemmas.Bool.{eqb-true, ltb-true}
 use Rattle.mlt_types.specs.declared.cell.Cell.{Cell}
 use Rattle.mlt_types.specs.declared.cell.Cell.TheVariants as cell
@@ -10,7 +10,7 @@ use Rattle.mlt_kinds.specs.declared.counter.CounterOp.TheVariants.{Up, Down, Rea
 use Rattle.mlt_kinds.specs.declared.element.ElementOp.{ElementOp}
 use Rattle.mlt_kinds.specs.declared.element.ElementOp.TheVariants as element
 use Rattle.mlt_kinds.specs.declared.operation.ObjOp.{ObjOp}
-use Rattle.mlt_kinds.specs.declared.operation.ObjOp.TheVariants.{Account, Element, Counter}
+use Rattle.mlt_kinds.specs.declared.operation.ObjOp.TheVariants.{Account, Element, Counter, Size}
 use Rattle.mlt_kinds.specs.declared.operation.ObjReply.{ObjReply}
 use Rattle.mlt_kinds.specs.declared.operation.ObjReply.TheVariants as told
 use Rattle.mlt_kinds.specs.Accounts.{AccountStep, IsAccount, max_balance}
@@ -19,8 +19,8 @@ use Rattle.mlt_kinds.specs.Counters.{CounterStep}
 use Rattle.mlt_kinds.specs.Elements.{ElementStep}
 use Rattle.mlt_kinds.specs.Operations.{cell_of}
 use Rattle.mlt_base.specs.declared.record.RecChange.{RecChange}
-use Rattle.mlt_base.specs.declared.record.RecChange.TheVariants.{Add, Set, ToGhost}
-use Rattle.mlt_base.specs.Effects.{account_reply_of, counter_reply_of, element_reply_of, reply_of}
+use Rattle.mlt_base.specs.declared.record.RecChange.TheVariants.{Add, Set, ToGhost, Plus, Minus}
+use Rattle.mlt_base.specs.Effects.{account_reply_of, counter_reply_of, element_reply_of, reply_of, size_change_of, size_reply_of}
 use Rattle.mlt_base.specs.Records.{HasWhatIsUndone, IsElementRecord, IsRecord, counter_of_record, record_after, state_of_record}
 use Rattle.mlt_ghosts.specs.Operations.{Presence, Added, Removed}
 use Rattle.mlt_meeting.specs.Presences.{account_amount, account_presence, amount_of, counter_amount, element_presence, presence_of}
@@ -77,27 +77,41 @@ counter_steps (Down n) (Some v) can small = (((small, can), refl), omega arith)
 counter_steps Read None can small = (((can, refl), refl), can)
 counter_steps Read (Some v) can small = (((can, refl), refl), can)
 
-pub reply_steps : (op : ObjOp) (live : Option ℕ) → IsRecord (cell_of op) live → amount_of op < 2 ^ 64
-    → CellStep (state_of_record (cell_of op) live) (op, (reply_of op live).0) (state_of_record (cell_of op) (record_after (reply_of op live).1 live))
+-- a size is told, and stays
+abbrev StepsSize : ℕ → Option ℕ → ObjReply × Option RecChange → Type 0
+StepsSize s live r = CellStep (state_of_record (cell.Size s) live) (Size s, r.0) (state_of_record (cell.Size s) (record_after r.1 live)) × IsRecord (cell.Size s) (record_after r.1 live)
+
+size_steps : (s : ℕ) (live : Option ℕ) → IsRecord (cell.Size s) live → StepsSize s live (size_reply_of live)
+size_steps s None can = (tt, can)
+size_steps s (Some v) can = (tt, can)
+
+-- an operation that is told its reply makes the step of its cell, and leaves a record that the cell can have
+abbrev pub StepsByRecord : ObjOp → Option ℕ → Type 0
+StepsByRecord op live =
+    CellStep (state_of_record (cell_of op) live) (op, (reply_of op live).0) (state_of_record (cell_of op) (record_after (reply_of op live).1 live))
     × IsRecord (cell_of op) (record_after (reply_of op live).1 live)
+
+pub reply_steps : (op : ObjOp) (live : Option ℕ) → IsRecord (cell_of op) live → amount_of op < 2 ^ 64 → StepsByRecord op live
 reply_steps (Account a op) live can small = account_steps op live can small
 reply_steps (Element s e op) live can small = element_steps op live can
 reply_steps (Counter c op) live can small = counter_steps op live can small
+reply_steps (Size s) live can small = size_steps s live can
 
 -- ---- the kinds of changes
 
--- it is a counter's cell
-abbrev pub IsCounterCell : Cell → Type 0
-IsCounterCell (cell.Account a) = ⊥
-IsCounterCell (cell.Element s e) = ⊥
-IsCounterCell (cell.Counter c) = Unit {0}
+-- it is the cell of a counter, or that of a set's size: their records say a number, and no operation removes them
+abbrev pub IsCount : Cell → Type 0
+IsCount (cell.Account a) = ⊥
+IsCount (cell.Element s e) = ⊥
+IsCount (cell.Counter c) = Unit {0}
+IsCount (cell.Size s) = Unit {0}
 
 -- A fact about what was done to the presence of a key, and to its record, is shown for the five kinds that there are.
 pub record ForReplies (op : ObjOp) (F : Option Presence → Option RecChange → Type 0) : Type 0 where
   pub added : (v : ℕ) → F (Some Added) (Some (Add v))
   pub removed : F (Some Removed) (Some ToGhost)
   pub updated : (v : ℕ) → F None (Some (Set v))
-  pub counted : IsCounterCell (cell_of op) → (v : ℕ) → F None (Some (Add v))
+  pub counted : IsCount (cell_of op) → (v : ℕ) → F None (Some (Add v))
   pub stays : F None None
 
 account_replies : (a : ℕ) (op : AccountOp) (live : Option ℕ) (F : Option Presence → Option RecChange → Type 0) → ForReplies (Account a op) F
@@ -134,34 +148,39 @@ counter_replies c (Down n) (Some v) F each = each.updated ((v + (2 ^ 64 - n)) % 
 counter_replies c Read None F each = each.stays
 counter_replies c Read (Some v) F each = each.stays
 
+size_replies : (s : ℕ) (live : Option ℕ) (F : Option Presence → Option RecChange → Type 0) → ForReplies (Size s) F → F None (size_reply_of live).1
+size_replies s None F each = each.stays
+size_replies s (Some v) F each = each.stays
+
 pub by_reply : (op : ObjOp) (live : Option ℕ) (F : Option Presence → Option RecChange → Type 0) → ForReplies op F
     → F (presence_of (op, (reply_of op live).0)) (reply_of op live).1
 by_reply (Account a op) live F each = account_replies a op live F each
 by_reply (Element s e op) live F each = element_replies s e op (is_some live) F each
 by_reply (Counter c op) live F each = counter_replies c op live F each
+by_reply (Size s) live F each = size_replies s live F each
+
+-- So is a fact about what is done to the size record of a set, for the kinds of that.
+pub record ForResizes (F : Option RecChange → Type 0) : Type 0 where
+  pub raised : F (Some (Plus 1))
+  pub lowered : F (Some (Minus 1))
+  pub stays : F None
+
+pub by_size_change : (item : ObjOp × ObjReply) (found : Option ℕ) (F : Option RecChange → Type 0) → F (Some (Add 1)) → ForResizes F → F (size_change_of item found)
+by_size_change (Element s e element.Add, told.Added) None F made each = made
+by_size_change (Element s e element.Add, told.Added) (Some v) F made each = each.raised
+by_size_change (Element s e element.Remove, told.Removed) found F made each = each.lowered
+by_size_change _ found F made each = each.stays
 
 -- ---- what counters need to be counted back
 
-counter_stays : (op : CounterOp) (live : Option ℕ) → IsSome live → IsSome (record_after (counter_reply_of op live).1 live)
-counter_stays (Up n) None some = absurd (cc)
-counter_stays (Up n) (Some v) some = refl
-counter_stays (Down n) None some = absurd (cc)
-counter_stays (Down n) (Some v) some = refl
-counter_stays Read None some = absurd (cc)
-counter_stays Read (Some v) some = refl
+-- no operation adds or removes a count
+pub count_says_nothing : (item : ObjOp × ObjReply) (c : Cell) → cell_of item.0 ≡ c → IsCount c → presence_of item ≡ None
+count_says_nothing (Counter c op, reply) d same on = refl
+count_says_nothing (Size s, reply) d same on = refl
+count_says_nothing (Account a op, reply) d same on = absurd (subst IsCount (sym same) on)
+count_says_nothing (Element s e op, reply) d same on = absurd (subst IsCount (sym same) on)
 
--- an operation on the same cell leaves what was there,
-pub reply_keeps_counters : (held : ObjOp × ObjReply) (op : ObjOp) (live : Option ℕ) → cell_of held.0 ≡ cell_of op → HasWhatIsUndone held live
-    → HasWhatIsUndone held (record_after (reply_of op live).1 live)
-reply_keeps_counters (Account a other, reply) op live same has = tt
-reply_keeps_counters (Element s e other, reply) op live same has = tt
-reply_keeps_counters (Counter c (Up n), reply) (Counter d op) live same has = counter_stays op live has
-reply_keeps_counters (Counter c (Down n), reply) (Counter d op) live same has = counter_stays op live has
-reply_keeps_counters (Counter c Read, reply) (Counter d op) live same has = tt
-reply_keeps_counters (Counter c other, reply) (Account a op) live same has = absurd (cc)
-reply_keeps_counters (Counter c other, reply) (Element s e op) live same has = absurd (cc)
-
--- and it leaves what it needs itself
+-- an operation that is told its reply leaves what it needs to be counted back
 pub reply_leaves_counters : (op : ObjOp) (live : Option ℕ) → HasWhatIsUndone (op, (reply_of op live).0) (record_after (reply_of op live).1 live)
 reply_leaves_counters (Account a op) live = tt
 reply_leaves_counters (Element s e op) live = tt
@@ -170,3 +189,4 @@ reply_leaves_counters (Counter c (Up n)) (Some v) = refl
 reply_leaves_counters (Counter c (Down n)) None = refl
 reply_leaves_counters (Counter c (Down n)) (Some v) = refl
 reply_leaves_counters (Counter c Read) live = tt
+reply_leaves_counters (Size s) live = tt

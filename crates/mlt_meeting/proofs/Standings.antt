@@ -1,24 +1,22 @@
 -- What items do to the operations that stand, and who else has such on their keys.
-use Rattle.std.proofs.Common.{◌≡◌, ℕ, Option, Some, None, Contains}
+use Rattle.std.proofs.Common.{◌≡◌, ℕ, Option, Some, None, Contains, sym, ◌∙◌}
 use Rattle.std.proofs.lemmas.Bool.{both_ways}
 use Rattle.mlt_types.specs.Cells.{IsInRange, key_number}
 use Rattle.mlt_types.specs.declared.cell.Cell.{Cell}
-use Rattle.mlt_types.specs.declared.cell.Cell.TheVariants as cell
 use Rattle.mlt_kinds.specs.declared.operation.ObjOp.{ObjOp}
-use Rattle.mlt_kinds.specs.declared.operation.ObjOp.TheVariants as op
 use Rattle.mlt_kinds.specs.declared.operation.ObjReply.{ObjReply}
 use Rattle.mlt_kinds.specs.Bases.{Transcript}
 use Rattle.mlt_kinds.specs.Operations.{cell_of}
 use Rattle.mlt_base.proofs.Meanings.{same_cell}
 use Rattle.mlt_order.specs.Tables.{Gains}
 use Rattle.mlt_ghosts.specs.Ledgers.{Ledger, NoOtherLast, last_by}
-use Rattle.mlt_ghosts.specs.Operations.{Appends, Presence, Standing}
+use Rattle.mlt_ghosts.specs.Operations.{Appends, Presence, Standing, last_of}
 use Rattle.mlt_meeting.specs.Presences.{op_key, presence_of, standing_of}
 use Rattle.mlt_meeting.specs.Events.{MayDo}
 use Rattle.mlt_meeting.specs.Worlds.{PagesMeanHistory, World, ledger_of, lists_in}
 use Rattle.mlt_meeting.proofs.Matches.{lists_kept}
 use Rattle.mlt_meeting.proofs.Opposites.{opposites_clash}
-use Rattle.mlt_meeting.proofs.Replies.{IsCounterCell}
+use Rattle.mlt_meeting.proofs.Replies.{IsCount, count_says_nothing}
 use Rattle.mlt_meeting.proofs.Transcripts.{gains_none, gains_presence, last_from}
 
 -- one item more of transaction tx makes of what stands what it did to its key's presence
@@ -52,13 +50,11 @@ module _ (world : World) (h : PagesMeanHistory world) where
       let by = stands_by_item (cell_of item.0) may.in_range.cell other q last in
       both_ways _ (may.free other by.0 others by.1) (opposites_clash by.0 item q p by.2 by.3 is differ)
 
-  counter_says_nothing : (item : ObjOp × ObjReply) (cell : Cell) (p : Presence) → IsCounterCell cell → cell_of item.0 ≡ cell → presence_of item ≡ Some p → ⊥
-  counter_says_nothing (op.Counter c other, reply) (cell.Counter d) p on same is = cc
-  counter_says_nothing (op.Account a other, reply) (cell.Counter d) p on same is = cc
-  counter_says_nothing (op.Element s e other, reply) (cell.Counter d) p on same is = cc
-  counter_says_nothing item (cell.Account a) p on same is = on
-  counter_says_nothing item (cell.Element s e) p on same is = on
-
-  -- of a counter's key nothing stands
-  pub nothing_on_counters : (cell : Cell) → IsCounterCell cell → IsInRange cell → (owner : ℕ) (p : Presence) → last_by (ledger_of world) owner (key_number cell) ≡ Some p → ⊥
-  nothing_on_counters cell on is owner p last = let by = stands_by_item cell is owner p last in counter_says_nothing by.0 cell p on by.2 by.3
+-- of a count's key nothing stands, where what was done is on cells that there can be
+pub nothing_on_counts : (transcripts : ℕ → Transcript) → ((i : ℕ) (item : ObjOp × ObjReply) → Contains (transcripts i) item → IsInRange (cell_of item.0))
+    → (cell : Cell) → IsCount cell → IsInRange cell → (owner : ℕ) (p : Presence) → last_of (standing_of transcripts owner (key_number cell)) ≡ Some p → ⊥
+nothing_on_counts transcripts in_range cell on is owner p last =
+    let from = last_from (key_number cell) (transcripts owner) p last in
+    let same = same_cell (cell_of from.0.0) cell (in_range owner from.0 from.1) is from.2 in
+    let says : Some p ≡ None = sym from.3 ∙ count_says_nothing from.0 cell same on in
+    cc says

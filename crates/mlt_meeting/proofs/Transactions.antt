@@ -76,6 +76,7 @@ module _ (world : World) (undoing : ℕ → Bool) (h : PagesMeanHistory world) (
         record { bounded = h.file.bounded; small = h.file.small; form = h.file.form; shallow = h.file.shallow; ghosts = ghosts };
     in_range = h.records.in_range;
     counted = h.records.counted;
+    sized = h.records.sized;
   }
 
   pub begin_keeps : PagesMeanHistory (with_begun world undoing)
@@ -96,6 +97,7 @@ abort_keeps world undoing h fewer =
           record { bounded = h.file.bounded; small = h.file.small; form = h.file.form; shallow = h.file.shallow; ghosts = ghosts };
       in_range = h.records.in_range;
       counted = h.records.counted;
+      sized = h.records.sized;
     })
 
 -- ---- an end
@@ -143,6 +145,7 @@ module _ (world : World) (tx : ℕ) (undoing : ℕ → Bool) (h : PagesMeanHisto
         record { bounded = h.file.bounded; small = h.file.small; form = h.file.form; shallow = h.file.shallow; ghosts = ghosts };
     in_range = λ i item there. h.records.in_range i item (still old.held i item there);
     counted = λ i item there. h.records.counted i item (still old.transcripts i item there);
+    sized = λ i item there. h.records.sized i item (still old.transcripts i item there);
   }
 
   pub commit_keeps : PagesMeanHistory (with_committed world tx undoing)
@@ -150,11 +153,11 @@ module _ (world : World) (tx : ℕ) (undoing : ℕ → Bool) (h : PagesMeanHisto
       let fits = ended_fits in
       grown (with_committed world tx undoing) world.history (Committed tx) world.base refl
       h.records.means h.records.history (runs world h tx is_open, refl)
-      (record { running = fits.running; fresh = fits.fresh; file = fits.file; in_range = fits.in_range; counted = fits.counted })
+      (record { running = fits.running; fresh = fits.fresh; file = fits.file; in_range = fits.in_range; counted = fits.counted; sized = fits.sized })
 
   pub close_keeps : old.transcripts tx ≡ [] → PagesMeanHistory (with_closed world tx undoing)
   close_keeps none =
       let fits = ended_fits in
       grown (with_closed world tx undoing) world.history (Closed tx) world.base refl
       h.records.means h.records.history (runs world h tx is_open, none, refl)
-      (record { running = fits.running; fresh = fits.fresh; file = fits.file; in_range = fits.in_range; counted = fits.counted })
+      (record { running = fits.running; fresh = fits.fresh; file = fits.file; in_range = fits.in_range; counted = fits.counted; sized = fits.sized })

@@ -1,21 +1,28 @@
 -- The end of an inverse keeps the match, and what it needs is there.
-use Rattle.std.proofs.Common.{◌≡◌, ◌≢◌, ℕ, Option, List, [], ◌∷◌, ◌++◌, Contains, refl, sym, subst, ap, ◌∙◌, inl, inr}
+use Rattle.std.proofs.Common.{◌≡◌, ◌≢◌, ℕ, Option, List, [], ◌∷◌, ◌++◌, Contains, refl, sym, subst, ap, ◌∙◌, inl, inr, arith}
 use Rattle.std.proofs.lemmas.Bool.{cases_eq}
 use Rattle.std.proofs.lemmas.List.Elements.{Contains-append_left, Contains-append_right}
 use Rattle.std.specs.FinMap as map
 use Rattle.std.specs.Ordering.{nat_cmp}
 use Rattle.mlt_types.specs.Cells.{IsInRange}
-use Rattle.mlt_types.specs.Maps.{with_entry as with_live}
+use Rattle.mlt_types.specs.declared.cell.Cell.{Cell}
 use Rattle.mlt_page.specs.declared.page.Page.{Page}
 use Rattle.mlt_kinds.specs.declared.operation.ObjOp.{ObjOp}
+use Rattle.mlt_kinds.specs.declared.operation.ObjOp.TheVariants.{Account, Element, Counter, Size}
 use Rattle.mlt_kinds.specs.declared.operation.ObjReply.{ObjReply}
-use Rattle.mlt_kinds.specs.Bases.{Base, Step, empty_base, state_at}
+use Rattle.mlt_kinds.specs.declared.operation.ObjReply.TheVariants as told
+use Rattle.mlt_kinds.proofs.Sizes.{size_after_step}
+use Rattle.mlt_kinds.specs.Bases.{Base, Step, TellsSize, empty_base, size_at, state_at}
 use Rattle.mlt_kinds.specs.Cells.{CellState, CellStep}
 use Rattle.mlt_kinds.specs.Operations.{cell_of}
-use Rattle.mlt_base.specs.Meaning.{Means}
-use Rattle.mlt_base.specs.Effects.{inverse_of, changes_on}
-use Rattle.mlt_base.specs.Records.{CanChange, IsRecord, record_after, state_of_record}
-use Rattle.mlt_base.proofs.Meanings.{means_step_back}
+use Rattle.mlt_base.specs.declared.record.RecChange.{RecChange}
+use Rattle.mlt_base.specs.Meaning.{Means, changes_back, record_in, records_after, size_record_in}
+use Rattle.mlt_base.specs.Effects.{changes_on, inverse_of}
+use Rattle.mlt_base.specs.Records.{CanChange, HasSizeToUndo, HasWhatIsUndone, IsRecord, record_after, state_of_record}
+use Rattle.mlt_base.specs.Requests.{CanResize}
+use Rattle.mlt_base.specs.declared.request.Request.TheVariants.{TakeBack}
+use Rattle.mlt_base.proofs.OperationChanges.{means_step_back}
+use Rattle.mlt_base.proofs.SizeRecords.{can_resize_back, has_size_still_back}
 use Rattle.mlt_commute.proofs.BaseOrder.{base_functional, base_injective}
 use Rattle.mlt_order.specs.Histories.{Lists, after_entry, but_last}
 use Rattle.mlt_order.specs.Histories.Entry.{TookBack}
@@ -26,19 +33,36 @@ use Rattle.mlt_order.proofs.RunLemmas.{contains-first}
 use Rattle.mlt_order.proofs.Tables.{changed}
 use Rattle.mlt_hash_form.specs.Records.{live_records}
 use Rattle.mlt_meeting.specs.Ends.{ChangesPages}
-use Rattle.mlt_meeting.specs.Presences.{op_key, presence_of, standing_of}
+use Rattle.mlt_meeting.specs.Presences.{presence_of, standing_of}
 use Rattle.mlt_meeting.specs.Events.{MayUndo, with_undone}
-use Rattle.mlt_meeting.specs.Worlds.{PagesMeanHistory, World, lists_in, record_of, stood_in}
-use Rattle.mlt_meeting.proofs.Inverses.{GoesBack, inverse_back, inverse_keeps_counters}
-use Rattle.mlt_meeting.proofs.Matches.{FitsLists, grown, lists_kept}
+use Rattle.mlt_meeting.specs.Worlds.{PagesMeanHistory, World, lists_in, record_of, size_record_of}
+use Rattle.mlt_meeting.proofs.Inverses.{GoesBack, inverse_back}
+use Rattle.mlt_meeting.proofs.Matches.{FitsLists, grown, in_range_there}
 use Rattle.mlt_meeting.proofs.RecordChanges.{records_become}
-use Rattle.mlt_meeting.proofs.RecordsAfter.{counted_after}
+use Rattle.mlt_meeting.proofs.RecordsAfter.{KeepsRecord, counted_still, undone_keeps}
+use Rattle.mlt_meeting.proofs.Replies.{IsCount}
 use Rattle.mlt_meeting.proofs.Standings.{gain_says}
 use Rattle.mlt_meeting.proofs.UndoneGhosts.{undone_keeps_file}
 
+-- a size is as it was told, since the step that tells it changes none
+told_after : (b c : Base) (item : ObjOp × ObjReply) → Step b item c → TellsSize c item
+told_after b c (Size s, reply) step =
+    let same = size_after_step b c (Size s, reply) s step in
+    let sizes : size_at b s ≡ size_at c s = omega (arith, same) in
+    step.2 ∙ ap told.Is sizes
+told_after b c (Account a op, reply) step = tt
+told_after b c (Element t e op, reply) step = tt
+told_after b c (Counter d op, reply) step = tt
+
 module _ (world : World) (tx : ℕ) (item : ObjOp × ObjReply) (h : PagesMeanHistory world) (may : MayUndo world tx item) where
+  abbrev records : map.FinMap nat_cmp ℕ
+  records = live_records world.pages
+
   abbrev live : Option ℕ
   live = record_of world item.0
+
+  abbrev changes : List (Cell × RecChange)
+  changes = changes_on item.0 (changes_back item)
 
   abbrev lists : Lists (ObjOp × ObjReply)
   lists = lists_in world
@@ -47,30 +71,47 @@ module _ (world : World) (tx : ℕ) (item : ObjOp × ObjReply) (h : PagesMeanHis
   is_listed : Contains (lists.transcripts tx) item
   is_listed = subst (λ (l : List (ObjOp × ObjReply)). Contains l item) (sym may.last) (Contains-append_right may.rest (item ∷ []) item (contains-first item []))
 
-  range : IsInRange (cell_of item.0)
-  range = h.records.in_range tx item ((lists_kept world h).covers tx item is_listed)
+  pub undone_in_range : IsInRange (cell_of item.0)
+  undone_in_range = in_range_there world h tx item is_listed
 
-  -- a step of its cell led here, which its inverse takes back
+  -- its step led here,
+  led_here : (before : Base) × Step before item world.base
+  led_here =
+      let goes = last_goes Step empty_base base_functional base_injective world.history world.base tx may.rest item h.records.history may.last in
+      (goes.0, goes.1)
+
+  -- which its inverse takes back
   earlier : (before : CellState) × CellStep before item (state_of_record (cell_of item.0) live)
   earlier =
-      let goes = last_goes Step empty_base base_functional base_injective world.history world.base tx may.rest item h.records.history may.last in
-      (state_at goes.0 (cell_of item.0), subst (CellStep (state_at goes.0 (cell_of item.0)) item) (h.records.means.holds (cell_of item.0) range) goes.1.0)
+      let led = led_here in
+      (state_at led.0 (cell_of item.0), subst (CellStep (state_at led.0 (cell_of item.0)) item) (h.records.means.holds (cell_of item.0) undone_in_range) led.1.0)
 
   back : GoesBack (state_of_record (cell_of item.0)) (IsRecord (cell_of item.0)) earlier.0 (inverse_of item) live
-  back = inverse_back item earlier.0 live (h.records.means.can_be (cell_of item.0) range) (h.records.counted tx item is_listed) earlier.1
+  back = inverse_back item earlier.0 live (h.records.means.can_be (cell_of item.0) undone_in_range) (h.records.counted tx item is_listed) earlier.1
 
   pub inverse_can : CanChange (inverse_of item) live
   inverse_can = back.2
 
-  module _ (pages : map.FinMap nat_cmp Page) (changes : ChangesPages world tx (changes_on item.0 (inverse_of item)) pages) where
-    records_are : live_records pages ≡ with_live (live_records world.pages) (op_key item.0) (record_after (inverse_of item) live)
-    records_are = records_become world (stood_in world) h.file tx pages item.0 (inverse_of item) changes
+  -- the size record is there too,
+  size_to_undo : HasSizeToUndo item (size_record_of world item.0)
+  size_to_undo = h.records.sized tx item is_listed
+
+  cell_back : CellStep (state_of_record (cell_of item.0) (record_after (inverse_of item) live)) item (state_of_record (cell_of item.0) live)
+  cell_back = subst (λ (s : CellState). CellStep s item (state_of_record (cell_of item.0) live)) (sym back.0) earlier.1
+
+  -- and can be changed back
+  pub undone_can_resize : (reply : ObjReply) → CanResize (TakeBack item) reply (size_record_of world item.0)
+  undone_can_resize reply = can_resize_back records world.base item reply h.records.means undone_in_range back.1 cell_back size_to_undo
+
+  module _ (pages : map.FinMap nat_cmp Page) (changed_by : ChangesPages world tx changes pages) where
+    records_are : live_records pages ≡ records_after records changes
+    records_are = records_become world tx changes pages h.file.bounded h.file.form changed_by
 
     step_back : (before : Base) × Step before item world.base × Means (live_records pages) before
     step_back =
-        let cell = subst (λ (s : CellState). CellStep s item (state_of_record (cell_of item.0) live)) (sym back.0) earlier.1 in
-        let step = means_step_back (live_records world.pages) world.base item (record_after (inverse_of item) live) h.records.means range back.1 cell in
-        (step.0, step.1, subst (λ (records : map.FinMap nat_cmp ℕ). Means records step.0) (sym records_are) step.2)
+        let led = led_here in
+        let step = means_step_back records world.base item h.records.means undone_in_range back.1 cell_back size_to_undo (told_after led.0 world.base item led.1) in
+        (step.0, step.1, subst (λ (r : map.FinMap nat_cmp ℕ). Means r step.0) (sym records_are) step.2)
 
     abbrev left : Lists (ObjOp × ObjReply)
     left = after_entry lists (TookBack tx)
@@ -96,14 +137,19 @@ module _ (world : World) (tx : ℕ) (item : ObjOp × ObjReply) (h : PagesMeanHis
     undone_fits base = record {
       running = h.records.running;
       fresh = h.records.fresh;
-      file = undone_keeps_file world tx item.0 pages (standing_of left.transcripts) h may.is_open may.backward item.1 changes
+      file = undone_keeps_file world tx item pages (standing_of left.transcripts) h may.is_open may.backward undone_in_range changed_by
           (gain_says left.transcripts lists.transcripts tx item gains (presence_of item) refl);
       in_range = h.records.in_range;
       counted = λ i x there.
           let was = was_listed i x there in
-          counted_after world pages (cell_of item.0) (record_after (inverse_of item) live) records_are x (h.records.in_range i x ((lists_kept world h).covers i x was)) range (h.records.counted i x was)
-          (λ same has. inverse_keeps_counters x item live same has);
+          subst (λ (r : map.FinMap nat_cmp ℕ). HasWhatIsUndone x (record_in r (cell_of x.0))) (sym records_are) (counted_still records changes keeps x (in_range_there world h i x was) (h.records.counted i x was));
+      sized = λ i x there.
+          let was = was_listed i x there in
+          subst (λ (r : map.FinMap nat_cmp ℕ). HasSizeToUndo x (size_record_in r x.0)) (sym records_are) (has_size_still_back records item x undone_in_range (in_range_there world h i x was) (h.records.sized i x was));
     }
+      where
+        keeps : (c : Cell) → IsCount c → KeepsRecord c changes
+        keeps c on = undone_keeps c item on undone_in_range
 
     pub undoing_keeps : (base : Base) × Step base item world.base × PagesMeanHistory (with_undone world tx pages base)
     undoing_keeps =

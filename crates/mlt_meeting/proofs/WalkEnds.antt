@@ -16,7 +16,7 @@ use Rattle.mlt_hash.specs.Passes.{slot_after, value_after}
 use Rattle.mlt_hash.specs.Walks.{IsChanged, StoodBefore, WalkFields}
 use Rattle.mlt_hash.specs.declared.pass.Change.{Change}
 use Rattle.mlt_ghosts.proofs.Moves.{rearranged_moved}
-use Rattle.mlt_operation.specs.Performing.{Performs}
+use Rattle.mlt_two_records.specs.Performing.{Performs}
 use Rattle.mlt_meeting.specs.Ends.{LeavesChange}
 use Rattle.mlt_meeting.specs.Worlds.{World, basis_of, record_at}
 

@@ -69,6 +69,15 @@ revives_removal item =
       stays = λ e. absurd (cc e);
     })
 
+-- the ghost of a removal that is to be taken back is in the bucket of its key
+pub ghost_there : (world : World) (tx : ℕ) (item : ObjOp × ObjReply) → PagesMeanHistory world → MayUndo world tx item → inverse_of item ≡ Some rec.Revive
+    → (i : ℕ) × (position (is_ghost_of (op_key item.0) tx) (buckets_of (map.get world.pages) (lead_of (map.get world.pages) world.root (world.bits (op_key item.0)))).slots ≡ Some i)
+ghost_there world tx item h may revives =
+    let stood : last_by (ledger_of world) tx (op_key item.0) ≡ Some Removed =
+    ap (λ (t : List (ObjOp × ObjReply)). last_of (presences_on (op_key item.0) t)) may.last ∙ last_is may.rest item Removed (revives_removal item revives)
+    in
+    ((undone_found (ledger_of world) tx (op_key item.0) h.file.ghosts h.file.form may.is_open).1 stood).0
+
 module _ (world : World) (tx : ℕ) (item : ObjOp × ObjReply) (walk : WalkFields) (view : View) (bucket depth : ℕ) (found : Option ℕ)
     (h : PagesMeanHistory world) (may : MayUndo world tx item) (phase : walk.phase ≡ at.AtBucket bucket depth found) (key_is : walk.key ≡ op_key item.0) (stands : IsStanding (basis_of world tx) walk view) (agree : Agrees view.seen (map.get world.pages)) where
   here : IsAtBucket (basis_of world tx) walk view bucket depth found
@@ -82,11 +91,8 @@ module _ (world : World) (tx : ℕ) (item : ObjOp × ObjReply) (walk : WalkField
   own_ghost : inverse_of item ≡ Some rec.Revive → HasOwnGhost tx walk view
   own_ghost revives =
       let pages = map.get world.pages in
-      let stood : last_by (ledger_of world) tx (op_key item.0) ≡ Some Removed =
-      ap (λ (t : List (ObjOp × ObjReply)). last_of (presences_on (op_key item.0) t)) may.last ∙ last_is may.rest item Removed (revives_removal item revives)
-      in
-      let last : last_by (ledger_of world) tx walk.key ≡ Some Removed = ap (last_by (ledger_of world) tx) key_is ∙ stood in
-      let ghost = ((undone_found (ledger_of world) tx walk.key h.file.ghosts h.file.form may.is_open).1 last).0 in
+      let Ghost : ℕ → Type 0 = λ key. (i : ℕ) × (position (is_ghost_of key tx) (buckets_of pages (lead_of pages world.root (world.bits key))).slots ≡ Some i) in
+      let ghost = subst Ghost (sym key_is) (ghost_there world tx item h may revives) in
       let led = led_at pages world.root (world.bits walk.key) here.header here.dir bucket here.fields (path_taken (basis_of world tx) walk view bucket depth found pages here agree) in
       let slots : (buckets_of pages (lead_of pages world.root (world.bits walk.key))).slots ≡ here.fields.slots =
       ap (λ (n : ℕ). (buckets_of pages n).slots) led.0 ∙ ap (λ (b : BucketFields). b.slots) led.1
@@ -98,7 +104,7 @@ module _ (world : World) (tx : ℕ) (item : ObjOp × ObjReply) (walk : WalkField
 
 -- ---- others begin and end
 
-module _ (world : World) (tx : ℕ) (walk : WalkFields) (view : View) (h : PagesMeanHistory world) (stands : IsStanding (basis_of world tx) walk view) (agree : Agrees view.seen (map.get world.pages)) where
+module _ (world : World) (view : View) (h : PagesMeanHistory world) (agree : Agrees view.seen (map.get world.pages)) where
   -- the next number left no ghost
   kept_without_new : (n i : ℕ) (slot : Slot) → slot_at (buckets_of (map.get world.pages)) n i ≡ slot → is_kept (set.insert world.opens (world.begun + 1)) slot ≡ true → is_kept world.opens slot ≡ true
   kept_without_new n i Free is kept = absurd (false≢true kept)
@@ -112,13 +118,18 @@ module _ (world : World) (tx : ℕ) (walk : WalkFields) (view : View) (h : Pages
   kept_by_fewer (Live key value) x kept = refl
   kept_by_fewer (Ghost key value owner) x kept = removed_was world.opens x owner kept
 
-  no_more_by_begin : KeepsNoMore world.opens (set.insert world.opens (world.begun + 1)) view
+  -- on the pages that are seen no more slots are kept than before
+  pub no_more_by_begin : KeepsNoMore world.opens (set.insert world.opens (world.begun + 1)) view
   no_more_by_begin n p sees i kept =
       kept_without_new n i (slice_index_or (bucket_of p).slots i Free) (ap (λ (q : Option Page). slice_index_or (bucket_of q).slots i Free) (agree n p sees)) kept
 
+  pub no_more_by_end : (other : ℕ) → KeepsNoMore world.opens (set.remove world.opens other) view
+  no_more_by_end other n p sees i kept = kept_by_fewer (slice_index_or (bucket_of p).slots i Free) other kept
+
+module _ (world : World) (tx : ℕ) (walk : WalkFields) (view : View) (h : PagesMeanHistory world) (stands : IsStanding (basis_of world tx) walk view) (agree : Agrees view.seen (map.get world.pages)) where
   pub stands_by_begin : IsStanding (record (basis_of world tx) { opens = set.insert world.opens (world.begun + 1) }) walk view
-  stands_by_begin = stands_still (basis_of world tx) (set.insert world.opens (world.begun + 1)) walk view (map.get world.pages) no_more_by_begin agree h.file.form stands
+  stands_by_begin = stands_still (basis_of world tx) (set.insert world.opens (world.begun + 1)) walk view (map.get world.pages) (no_more_by_begin world view h agree) agree h.file.form stands
 
   pub stands_by_end : (other : ℕ) → IsStanding (record (basis_of world tx) { opens = set.remove world.opens other }) walk view
   stands_by_end other =
-      stands_still (basis_of world tx) (set.remove world.opens other) walk view (map.get world.pages) (λ n p sees i kept. kept_by_fewer (slice_index_or (bucket_of p).slots i Free) other kept) agree h.file.form stands
+      stands_still (basis_of world tx) (set.remove world.opens other) walk view (map.get world.pages) (no_more_by_end world view h agree other) agree h.file.form stands

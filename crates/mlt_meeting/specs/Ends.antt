@@ -1,5 +1,5 @@
 -- What the changes of an operation, or of an inverse, leave of the clean pages.
-use Rattle.std.specs.Prelude.{ℕ, ◌≡◌, ◌≤◌, List, [], ◌∷◌}
+use Rattle.std.specs.Prelude.{ℕ, ◌≡◌, ◌≤◌, List, [], ◌∷◌, None}
 use Rattle.std.specs.Ordering.{nat_cmp}
 use Rattle.std.specs.FinMap as map
 use Rattle.mlt_types.specs.declared.cell.Cell.{Cell}
@@ -9,11 +9,13 @@ use Rattle.mlt_page.specs.declared.page.Page.{Page}
 use Rattle.mlt_base.specs.declared.record.RecChange.{RecChange}
 use Rattle.mlt_hash_form.specs.Changes.{ChangesRecord, IsAtHome, Spot, slot_of, slot_change}
 use Rattle.mlt_hash_form.specs.File.{FilePages, depth_of}
+use Rattle.mlt_hash_form.specs.Held.{over}
+use Rattle.mlt_held.specs.Views.{View}
 use Rattle.mlt_hash.specs.Passes.{slot_after, value_after}
 use Rattle.mlt_hash.specs.Walks.{StoodBefore}
 use Rattle.mlt_hash.specs.declared.pass.Change.{Change}
 use Rattle.mlt_ghosts.specs.Moves.{MovesSlots}
-use Rattle.mlt_operation.specs.Performing.{Performs}
+use Rattle.mlt_two_records.specs.Performing.{Performs}
 use Rattle.mlt_meeting.specs.Worlds.{World, basis_of, record_at}
 
 -- Transaction tx has changed the record of a cell, and these are the clean pages then: slots of the pages before were
@@ -37,10 +39,20 @@ pub record LeavesChange (world : World) (tx : ℕ) (cell : Cell) (change : RecCh
 abbrev pub KeepsPages : World → map.FinMap nat_cmp Page → Type 0
 KeepsPages world pages = (q : ℕ) → map.get pages q ≡ map.get world.pages q
 
--- What changes of records leave of the clean pages, one after the other. Where there is none, they stay.
+-- What changes of records leave of the clean pages, one after the other: each is one of the pages that the one before it left,
+-- whose records need mean no base. Where there is none, they stay.
 abbrev pub ChangesPages : World → ℕ → List (Cell × RecChange) → map.FinMap nat_cmp Page → Type 0
 ChangesPages world tx [] pages = KeepsPages world pages
 ChangesPages world tx (change ∷ []) pages = LeavesChange world tx change.0 change.1 pages
 ChangesPages world tx (change ∷ changes) pages =
     (between : map.FinMap nat_cmp Page) × LeavesChange world tx change.0 change.1 between
     × ChangesPages (record world { pages = between }) tx changes pages
+
+-- a page that is not held is not seen
+abbrev pub SeesHeldAlone : View → Type 0
+SeesHeldAlone view = (q : ℕ) → map.get view.modes q ≡ None → view.seen q ≡ None
+
+-- What a transaction that ends, and holds this, has written is clean then.
+pub record EndsWith (world : World) (view : View) (pages : map.FinMap nat_cmp Page) : Type 0 where
+  pub held : SeesHeldAlone view
+  pub ends : (q : ℕ) → map.get pages q ≡ over (map.get world.pages) view.own q

@@ -9,7 +9,7 @@ use Rattle.mlt_kinds.specs.declared.counter.CounterOp.TheVariants.{Up, Down, Rea
 use Rattle.mlt_kinds.specs.declared.element.ElementOp.{ElementOp}
 use Rattle.mlt_kinds.specs.declared.element.ElementOp.TheVariants.{Add, Remove}
 use Rattle.mlt_kinds.specs.declared.operation.ObjOp.{ObjOp}
-use Rattle.mlt_kinds.specs.declared.operation.ObjOp.TheVariants.{Account, Element, Counter}
+use Rattle.mlt_kinds.specs.declared.operation.ObjOp.TheVariants.{Account, Element, Counter, Size}
 use Rattle.mlt_kinds.specs.declared.operation.ObjReply.{ObjReply}
 use Rattle.mlt_kinds.specs.declared.operation.ObjReply.TheVariants as told
 use Rattle.mlt_kinds.specs.Bases.{Transcript}
@@ -17,7 +17,7 @@ use Rattle.mlt_kinds.specs.Operations.{cell_of}
 use Rattle.mlt_ghosts.specs.Operations.{Presence, Added, Removed, Standing}
 
 -- An account that was opened, or an element that was added, has a record since, and one that was closed or removed has
--- none. Counters keep the records that they once have.
+-- none. Counters keep the records that they once have, and so do sizes of sets.
 abbrev pub account_presence : AccountOp → ObjReply → Option Presence
 account_presence Open told.Opened = Some Added
 account_presence Close told.Closed = Some Removed
@@ -33,6 +33,7 @@ abbrev pub presence_of : ObjOp × ObjReply → Option Presence
 presence_of (Account a op, reply) = account_presence op reply
 presence_of (Element s e op, reply) = element_presence op reply
 presence_of (Counter c op, reply) = None
+presence_of (Size s, reply) = None
 
 -- the number of the key that an operation is on
 abbrev pub op_key : ObjOp → ℕ
@@ -65,6 +66,7 @@ abbrev pub amount_of : ObjOp → ℕ
 amount_of (Account a op) = account_amount op
 amount_of (Element s e op) = 0
 amount_of (Counter c op) = counter_amount op
+amount_of (Size s) = 0
 
 -- what every operation of the program is: its cell is in range, and its amount has 64 bits
 pub record IsOpInRange (op : ObjOp) : Type 0 where

@@ -3,7 +3,7 @@ use Rattle.std.specs.Prelude.{ℕ, ◌≡◌, ◌≤◌, ◌<◌, ◌↔◌, Boo
 use Rattle.std.specs.Ordering.{nat_cmp}
 use Rattle.std.specs.FinMap as map
 use Rattle.std.specs.FinSet as set
-use Rattle.mlt_types.specs.Cells.{IsInRange, key_number}
+use Rattle.mlt_types.specs.Cells.{IsInRange}
 use Rattle.mlt_types.specs.declared.cell.Cell.{Cell}
 use Rattle.mlt_page.specs.declared.page.Page.{Page}
 use Rattle.mlt_kinds.specs.Bases.{Base, Step, empty_base}
@@ -12,8 +12,8 @@ use Rattle.mlt_kinds.specs.declared.operation.ObjOp.{ObjOp}
 use Rattle.mlt_kinds.specs.declared.operation.ObjReply.{ObjReply}
 use Rattle.mlt_order.specs.Histories.{Entry, IsHistory, Lists, lists_of}
 use Rattle.mlt_order.specs.Histories.Stage.{Fresh, Running}
-use Rattle.mlt_base.specs.Meaning.{Means}
-use Rattle.mlt_base.specs.Records.{HasWhatIsUndone}
+use Rattle.mlt_base.specs.Meaning.{Means, record_in, size_record_in}
+use Rattle.mlt_base.specs.Records.{HasSizeToUndo, HasWhatIsUndone}
 use Rattle.mlt_hash_form.specs.File.{GivesPseudokeys, HasForm, depth_of}
 use Rattle.mlt_hash_form.specs.Records.{live_records}
 use Rattle.mlt_hash.specs.Walks.{Basis, nothing_before}
@@ -74,11 +74,14 @@ basis_of world tx = record {
 
 -- the record of a cell, on the clean pages
 abbrev pub record_at : World → Cell → Option ℕ
-record_at world cell = map.get (live_records world.pages) (key_number cell)
+record_at world cell = record_in (live_records world.pages) cell
 
--- the record of the cell that an operation is on
+-- the record of the cell that an operation is on, and the size record of the set that it is on
 abbrev pub record_of : World → ObjOp → Option ℕ
 record_of world op = record_at world (cell_of op)
+
+abbrev pub size_record_of : World → ObjOp → Option ℕ
+size_record_of world op = size_record_in (live_records world.pages) op
 
 -- The clean pages are a hash file, its directory is no deeper than it may get, and ghosts are where removals that
 -- stand ask for them. It says nothing of what the records mean: each change of a record keeps it.
@@ -98,10 +101,13 @@ pub record RecordsMeanHistory (world : World) : Type 0 where
   -- the open transactions are those that run, and what was not given out has not begun
   pub running : (i : ℕ) → (set.contains world.opens i ≡ true) ↔ ((lists_in world).stage i ≡ Running)
   pub fresh : (i : ℕ) → world.begun < i → (lists_in world).stage i ≡ Fresh
-  -- all that is held is on cells that there can be, and counters that are to be counted back have their records
+  -- all that is held is on cells that there can be, and counters that are to be counted back have their records, as sets
+  -- have their size records
   pub in_range : (i : ℕ) (item : ObjOp × ObjReply) → Contains ((lists_in world).held i) item → IsInRange (cell_of item.0)
   pub counted : (i : ℕ) (item : ObjOp × ObjReply) → Contains ((lists_in world).transcripts i) item
       → HasWhatIsUndone item (record_of world item.0)
+  pub sized : (i : ℕ) (item : ObjOp × ObjReply) → Contains ((lists_in world).transcripts i) item
+      → HasSizeToUndo item (size_record_of world item.0)
 
 -- The clean pages are a hash file with its ghosts, whose records mean the base to which the history leads.
 pub record PagesMeanHistory (world : World) : Type 0 where

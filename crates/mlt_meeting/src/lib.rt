@@ -4,12 +4,14 @@
 #![tactic(auto)]
 
 mod base_laws;
+mod double_laws;
 mod operation_laws;
 mod range;
 mod transaction_laws;
 mod walk_laws;
 
 pub use base_laws::{pages_and_history_fix_the_base, record_fixes_the_reply};
+pub use double_laws::{both_changes_are_left, what_both_changes_need_is_there};
 pub use operation_laws::{operation_keeps_the_match, undoing_keeps_the_match};
 pub use range::operation_is_in_range;
 pub use transaction_laws::{

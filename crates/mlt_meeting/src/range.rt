@@ -30,6 +30,7 @@ pub fn operation_is_in_range(op: &ObjOp)
             has_16_bits(set);
             has_32_bits(element);
         },
+        ObjOp::Size(set) => has_16_bits(set),
     }
 }
 
