@@ -207,6 +207,65 @@ fn operations_in_order(rt: HostRuntime) -> Result<(), Fail> {
     Ok(())
 }
 
+// Operations in turn, with the replies, and then how many elements sets 4 and 9 have.
+const SIZES: &[(ObjOp, ObjReply, (u64, u64))] = &[
+    (ObjOp::Size(4), ObjReply::Is(0), (0, 0)),
+    (
+        ObjOp::Element(4, 9, ElementOp::Remove),
+        ObjReply::Absent,
+        (0, 0),
+    ),
+    (
+        ObjOp::Element(4, 9, ElementOp::Add),
+        ObjReply::Added,
+        (1, 0),
+    ),
+    (
+        ObjOp::Element(4, u32::MAX, ElementOp::Add),
+        ObjReply::Added,
+        (2, 0),
+    ),
+    (
+        ObjOp::Element(4, 9, ElementOp::Add),
+        ObjReply::Present,
+        (2, 0),
+    ),
+    (ObjOp::Size(4), ObjReply::Is(2), (2, 0)),
+    (ObjOp::Size(9), ObjReply::Is(0), (2, 0)),
+    (
+        ObjOp::Element(9, 9, ElementOp::Add),
+        ObjReply::Added,
+        (2, 1),
+    ),
+    (
+        ObjOp::Element(4, u32::MAX, ElementOp::Remove),
+        ObjReply::Removed,
+        (1, 1),
+    ),
+    (
+        ObjOp::Element(4, 9, ElementOp::Remove),
+        ObjReply::Removed,
+        (0, 1),
+    ),
+    (ObjOp::Size(4), ObjReply::Is(0), (0, 1)),
+    (
+        ObjOp::Element(4, 1, ElementOp::Add),
+        ObjReply::Added,
+        (1, 1),
+    ),
+    (ObjOp::Size(u16::MAX), ObjReply::Is(0), (1, 1)),
+];
+
+#[test]
+fn sizes_of_sets(rt: HostRuntime) -> Result<(), Fail> {
+    let mut base = Base::new(rt.alloc());
+    for (op, reply, sizes) in SIZES {
+        let told = base.apply(op)?;
+        same_at(op, &(told, (base.size(4), base.size(9))), &(*reply, *sizes))?;
+    }
+    Ok(())
+}
+
 // Accounts 2, 10 and 4294967295, made in another order, elements of sets 3 and 20, and counters: 5 is back at 0, and 1
 // and 4294967295 are not.
 const MAKING: &[ObjOp] = &[
