@@ -1,18 +1,19 @@
 -- The holders of one cell: one comes, is granted something, or goes.
-use Rattle.std.proofs.Common.{false, ◌≢◌, ◌≡◌, ◌⊎◌, ℕ, ◌<◌, List, [], ◌∷◌, ◌++◌, true, Option, None, Some, Contains, length, length-set, get_or, set, sym, ap, subst, ◌∙◌, refl, inl, inr, arith}
+use Prim.Native.Nat.{zero}
+use Rattle.std.proofs.Common.{false, suc, ◌≢◌, ◌≡◌, ◌⊎◌, ℕ, ◌<◌, List, [], ◌∷◌, true, Option, None, Some, Contains, length, length-set, get_or, set, sym, ap, subst, ◌∙◌, refl, inl, inr, arith}
 use Rattle.std.specs.List.{list_all, list_any, position}
 use Rattle.std.proofs.lemmas.Bool.{cases_eq}
 use Rattle.std.proofs.lemmas.Bool.Decides.{nat_tests}
 use Rattle.std.proofs.lemmas.List.{get_or-set_other, get_or-set_same, get_or_default}
-use Rattle.std.proofs.lemmas.List.Elements.{Contains-push, Contains-push_cases, Contains-append_left, Contains-get_or}
-use Rattle.std.proofs.lemmas.List.Quantifiers.{all_pairs_push, position-Some}
+use Rattle.std.proofs.lemmas.List.Elements.{Contains-get_or}
+use Rattle.std.proofs.lemmas.List.Quantifiers.{position-Some}
 use Rattle.mlt_object_locks.specs.declared.holders.Holder.{Holder}
 use Rattle.mlt_kinds.specs.declared.operation.ObjOp.{ObjOp}
 use Rattle.mlt_kinds.specs.declared.operation.ObjReply.{ObjReply}
 use Rattle.mlt_object_locks.specs.Locks.{IsLowestOf}
 use Rattle.mlt_object_locks.specs.Classes.{AddsItem, AreInTheWay, InSet}
 use Rattle.mlt_object_locks.specs.Holders.{AreOnce, Grants, HasBit, IsHere, IsInTheWay, Joins, StandsAgainst, holder_of, is_of}
-use Rattle.mlt_object_locks.proofs.Membership.{contains_set, each_passes, named, none_in_empty, none_passes, set_keeps, set_only, some_found}
+use Rattle.mlt_object_locks.proofs.Membership.{contains_cases, contains_first, contains_later, contains_set, each_passes, named, none_in_empty, none_passes, set_keeps, set_only, some_found}
 
 -- a holder is its transaction with its classes
 pub parts : (holder : Holder) → holder ≡ holder_of holder.tx holder.classes
@@ -35,24 +36,27 @@ joins_none holders tx h =
     }
 
 -- or comes
-pub joins_one : (old new : List Holder) (tx : ℕ) → new ≡ old ++ holder_of tx 0 ∷ [] → Joins old new tx
+pub joins_one : (old new : List Holder) (tx : ℕ) → new ≡ holder_of tx 0 ∷ old → Joins old new tx
 joins_one old new tx is = record {
-  here = (0, subst (λ l. Contains l (holder_of tx 0)) (sym is) (Contains-push old (holder_of tx 0)));
-  keeps = λ holder c. subst (λ l. Contains l holder) (sym is) (Contains-append_left old (holder_of tx 0 ∷ []) holder c);
-  only = λ holder c. by holder (Contains-push_cases old (holder_of tx 0) holder (subst (λ l. Contains l holder) is c));
+  here = (0, subst (λ l. Contains l (holder_of tx 0)) (sym is) (contains_first (holder_of tx 0) old));
+  keeps = λ holder c. subst (λ l. Contains l holder) (sym is) (contains_later (holder_of tx 0) old holder c);
+  only = λ holder c. by holder (contains_cases (holder_of tx 0) old holder (subst (λ l. Contains l holder) is c));
 }
   where
-    by : (holder : Holder) → Contains old holder ⊎ (holder_of tx 0 ≡ holder) → Contains old holder ⊎ (holder ≡ holder_of tx 0)
-    by holder (inl c) = inl c
-    by holder (inr e) = inr (sym e)
+    by : (holder : Holder) → (holder_of tx 0 ≡ holder) ⊎ Contains old holder → Contains old holder ⊎ (holder ≡ holder_of tx 0)
+    by holder (inl e) = inr (sym e)
+    by holder (inr c) = inl c
 
 -- each is there once, where the one that comes was not there
-pub joined_once : (holders : List Holder) (holder : Holder) → AreOnce holders → list_any (is_of holder.tx) holders ≡ false → AreOnce (holders ++ holder ∷ [])
-joined_once holders holder once none = all_pairs_push (λ one other. one.tx ≢ other.tx) holders holder once (λ k e within same. absurd (false_of k e within same))
+pub joined_once : (holders : List Holder) (holder : Holder) → AreOnce holders → list_any (is_of holder.tx) holders ≡ false → AreOnce (holder ∷ holders)
+joined_once holders holder once none = by
   where
-    false_of : (k : ℕ) (e : Holder) → k < length holders → (get_or holders k e).tx ≡ holder.tx → ⊥
-    false_of k e within same =
-        none_passes (is_of holder.tx) holders none (get_or holders k e) (Contains-get_or holders k e within) (grind (arith, nat_tests))
+    by : (i j : ℕ) (e : Holder) → i < j → j < length (holder ∷ holders) → (get_or (holder ∷ holders) i e).tx ≢ (get_or (holder ∷ holders) j e).tx
+    by zero zero e lt within = absurd (omega arith)
+    by zero (suc j) e lt within =
+        λ same. none_passes (is_of holder.tx) holders none (get_or holders j e) (Contains-get_or holders j e (omega arith)) (grind (arith, nat_tests))
+    by (suc i) zero e lt within = absurd (omega arith)
+    by (suc i) (suc j) e lt within = once i j e (omega arith) (omega arith)
 
 -- where all are the transaction itself, nobody stands against what it asks for
 pub alone : (holders : List Holder) (tx : ℕ) (requested : ObjOp × ObjReply) → list_all (is_of tx) holders ≡ true → IsLowestOf (StandsAgainst holders tx requested) None

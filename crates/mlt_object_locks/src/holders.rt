@@ -66,7 +66,7 @@ impl Holders {
         self.holders.is_empty()
     }
 
-    /// Adds the transaction, if it is not there.
+    /// Adds the transaction, if it is not there: in front, where it is soon found when it asks, and when it comes again.
     ///
     /// # Errors
     /// `OutOfMemory`, where a growth was refused; the holders are then as before.
@@ -79,7 +79,7 @@ impl Holders {
             return Ok(());
         }
         let classes = ClassSet::new();
-        self.holders.push(Holder { tx, classes })?;
+        self.holders.insert(0, Holder { tx, classes })?;
         Ok(())
     }
 

@@ -1,4 +1,4 @@
-use Rattle.std.proofs.Common.{◌≡◌, false, subst, ◌++◌, ◌∷◌, [], ap, sym, ◌∙◌}
+use Rattle.std.proofs.Common.{◌≡◌, false, subst, ◌∷◌, ap, sym, ◌∙◌}
 use Rattle.std.specs.List.{list_any}
 use Rattle.mlt_object_locks.specs.Holders.{AreOnce, holder_of, is_of}
 use Rattle.mlt_object_locks.proofs.Holding.{joined_once, joins_none, joins_one}
@@ -10,12 +10,12 @@ returns-then-has-clause-joins c =
 
 pub returns-clause-joins : goal.returns-clause-joins
 returns-clause-joins c =
-    joins_one c.args.self.now c.push.new.self.items c.args.tx
-    (c.in_ok-push.ensures.ok ∙ ap (λ l. l ++ holder_of c.args.tx c.new-classes.result ∷ []) c.self.view_is ∙ ap (λ n. c.args.self.now ++ holder_of c.args.tx n ∷ []) c.new-classes.ensures)
+    joins_one c.args.self.now c.insert.new.self.items c.args.tx
+    (c.in_ok-insert.ensures.ok ∙ ap (λ l. holder_of c.args.tx c.new-classes.result ∷ l) c.self.view_is ∙ ap (λ n. holder_of c.args.tx n ∷ c.args.self.now) c.new-classes.ensures)
 
 pub invariant_of-self-2 : goal.invariant_of-self-2
 invariant_of-self-2 c =
     let holders = c.self.inside.holders.items in
     let holder = holder_of c.args.tx c.new-classes.result in
     let none : list_any (is_of c.args.tx) holders ≡ false = ap (list_any (is_of c.args.tx)) (sym c.deref.ensures) ∙ sym c.has.ensures ∙ c.if-has.false in
-    subst AreOnce (sym c.in_ok-push.ensures.ok) (joined_once holders holder c.self.invariant none)
+    subst AreOnce (sym c.in_ok-insert.ensures.ok) (joined_once holders holder c.self.invariant none)
