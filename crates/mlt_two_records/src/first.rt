@@ -2,7 +2,8 @@
 
 ghost use Rattle.std.specs.Prelude.{◌≡◌};
 ghost use Rattle.mlt_held.specs.Moments.{moment};
-ghost use Rattle.mlt_hash.specs.Walks.{Basis, basis_in};
+ghost use Rattle.mlt_pair.specs.Pairs.{FileRoot};
+ghost use Rattle.mlt_hash.specs.Walks.{basis_in};
 ghost use Rattle.mlt_two_records.specs.Doubles.{MayGoOn};
 ghost use Rattle.mlt_two_records.specs.FirstPass.{TellsOfFirst};
 ghost use Rattle.mlt_two_records.specs.AtBuckets.{MayActOnBoth, TellsAtBuckets};
@@ -15,7 +16,7 @@ use mlt_held::LockedStore;
 use mlt_kinds::ObjReply;
 use mlt_pair::{ChangeAnswer, Changes, Pair, PairAnswer};
 use mlt_subtx::Subtx;
-use mlt_types::{OpenSet, PageNo, Pseudo, TxId, Value};
+use mlt_types::{PageNo, Pseudo, TxId, Value};
 
 /// The answer to a step of a first pass, up to the one that finds both keys.
 #[derive(Clone, Copy, Debug, PartialEq, Eq)]
@@ -52,28 +53,30 @@ pub(crate) fn step_first<P: Pseudo>(
         PairAnswer::Going => FirstAnswer::Going,
         PairAnswer::Waiting(page, by) => FirstAnswer::Waiting(page, by),
         PairAnswer::Found(own, size) => {
-            act_on_both(pair, own, size, request, setting.opens, subtx, pages)
+            act_on_both(pair, own, size, request, setting, subtx, pages)
         }
     }
 }
 
-/// At both buckets, where the own key has this value, or none, and the key of the size that one. The ghost is what the pass
-/// goes by.
-fn act_on_both(
+/// At both buckets, where the own key has this value, or none, and the key of the size that one. The ghost is what the pair
+/// reads by.
+fn act_on_both<P: Pseudo>(
     pair: &mut Pair,
     own: Option<Value>,
     size: Option<Value>,
     request: &Request,
-    opens: &OpenSet,
+    setting: &Setting<P>,
     subtx: &mut Subtx,
     pages: &mut LockedStore,
 ) -> FirstAnswer
-    ghost basis: { Basis }
-    requires tx { basis.tx ≡ subtx.old.tx }
-    requires opens { basis.opens ≡ opens.now }
-    requires ready { MayActOnBoth basis
+    ghost read_by: { FileRoot }
+    requires read_by { read_by ≡ record {
+      bits = P.bits_of setting.now.root.now.pseudo;
+      root = setting.now.root.now.page;
+    } }
+    requires ready { MayActOnBoth (basis_in P.bits_of setting.now subtx.old.tx)
         (moment subtx.old pages.old) request.now pair.old own size }
-    ensures tells { TellsAtBuckets basis
+    ensures tells { TellsAtBuckets (basis_in P.bits_of setting.now subtx.old.tx)
         (moment subtx.old pages.old) (moment subtx.new pages.new)
         request.now pair.old pair.new result }
 {
@@ -86,7 +89,7 @@ fn act_on_both(
         left: Some(asked_for(change, own)),
         right: Some(asked_for(resize, size)),
     };
-    match pair.change(&changes, subtx, pages, opens) {
+    match pair.change(&changes, subtx, pages, setting.opens) {
         ChangeAnswer::Changed => FirstAnswer::Told(reply),
         ChangeAnswer::OneLeft => FirstAnswer::OneLeft(reply),
         ChangeAnswer::Full(_) => {

@@ -1,0 +1,6 @@
+pub mod Asking
+pub mod Planning
+pub mod RollingBack
+pub mod FirstChanges
+pub mod FirstBuckets
+pub mod FirstSteps
