@@ -12,12 +12,14 @@ use Rattle.mlt_page_locks.specs.LockTables.{page_count}
 use Rattle.mlt_hash_form.specs.File.{look_up}
 use Rattle.mlt_hash_form.specs.Held.{Agrees}
 use Rattle.mlt_held.specs.Moments.{Moment}
-use Rattle.mlt_held.specs.PageSteps.{Leaves}
+use Rattle.mlt_held.specs.PageSteps.{Leaves, WritesHeldSlot}
 use Rattle.mlt_held.specs.PageTurns.{TakesTurn}
 use Rattle.mlt_held.specs.Views.{IsUnwritten, View, view_of}
 use Rattle.mlt_held.proofs.OwnSteps.{step_keeps_tx}
 use Rattle.mlt_held.proofs.Turns.{same_own_same_pages, step_and_write_turn, step_turns, unwritten_own}
-use Rattle.mlt_held.proofs.Views.{agrees}
+use Rattle.mlt_held.proofs.Views.{agrees, write_writes}
+use Rattle.mlt_record.specs.Plans.{WriteFields}
+use Rattle.mlt_pair.specs.Changes.{HoldsOn}
 use Rattle.mlt_pair.specs.Pairs.{IsFound, PairFields, least_steps, most_steps}
 use Rattle.mlt_pair.specs.Steps.{GoesOn, HasFound, TellsOfStep}
 use Rattle.mlt_pair.specs.Ways.{IsThere, found_of}
@@ -31,8 +33,9 @@ use Rattle.mlt_two_records.specs.declared.first.FirstAnswer.{FirstAnswer}
 use Rattle.mlt_two_records.specs.declared.first.FirstAnswer.TheVariants as answer
 use Rattle.mlt_two_records.specs.AtBuckets.{MayActOnBoth, TellsAtBuckets, Writes}
 use Rattle.mlt_two_records.specs.Doubles.{HasGhostOn, MayGoOn}
-use Rattle.mlt_two_records.specs.FirstPass.{HasKeys, TellsOfFirst, WasLast}
+use Rattle.mlt_two_records.specs.FirstPass.{HasKeys, HasToldFirst, OwesOne, TellsOfFirst, WasLast}
 use Rattle.mlt_two_records.proofs.Asking.{revives_whatever}
+use Rattle.mlt_two_records.proofs.FirstChanges.{owed_made, told_both}
 
 -- few pages are held where a pair's are
 few_pages : (old new : Moment) → new.running.tx ≡ old.running.tx → map.len (view_of new).modes ≤ 5 → page_count new.locks old.running.tx ≤ 300
@@ -139,3 +142,16 @@ module _ (basis : Basis) (old new : Moment) (request : Request) (before after : 
       }
       found_tells answer.Going at_buckets = absurd at_buckets
       found_tells (answer.Waiting page by) at_buckets = absurd at_buckets
+
+-- **The last step of a first pass writes what is owed, and tells the reply.**
+pub owing_tells : (basis : Basis) (old new : Moment) (request : Request) (before after : PairFields) (reply : ObjReply) → OwesOne basis request before reply (view_of old) → Leaves old new
+    → ((write : WriteFields) → before.owed ≡ Some write → WritesHeldSlot old new write.number write.at write.slot) → HoldsOn before (view_of old) (view_of new) → after ≡ record before { owed = None }
+    → TakesTurn old new × HasToldFirst basis request after reply (view_of new)
+owing_tells basis old new request before after reply owes leaves writes holds is =
+    let holding = holds basis.bits basis.root owes.changed.holding in
+    let both = owed_made basis request before reply (view_of old) (view_of new) owes (λ bucket reads. write_writes old new owes.write.number _ (writes owes.write owes.owed bucket reads)) in
+    let told : HasToldFirst basis request (record before { owed = None }) reply (view_of new) = told_both basis request (record before { owed = None }) reply (view_of new) owes.keys owes.changed.found holding
+    (λ q ne ne'. both.size.writes.others q ne' ∙ both.own.writes.others q ne ∙ both.unwritten q) both in (
+      step_turns old new leaves.touches (few_pages old new (step_keeps_tx old new leaves.touches) holding.few),
+      subst (λ p. HasToldFirst basis request p reply (view_of new)) (sym is) told,
+    )

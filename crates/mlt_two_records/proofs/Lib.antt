@@ -4,3 +4,5 @@ pub mod RollingBack
 pub mod FirstChanges
 pub mod FirstBuckets
 pub mod FirstSteps
+pub mod FirstLaws
+pub mod FirstLeaves

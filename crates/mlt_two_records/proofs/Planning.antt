@@ -53,7 +53,7 @@ pub reads_beside_still : (old new : View) (q p : ℕ) (page : Page) (bucket : Bu
 reads_beside_still old new q p page bucket writes ne reads = (reads.0, writes.seen p ∙ reads.1, ap (λ own. own_or own reads.0) (writes.others p ne) ∙ reads.2)
 
 -- and that one as it was written
-reads_written : (old new : View) (q : ℕ) (was is : BucketFields) → WritesPage old new q (page.Bucket is) → ReadsHeldBucket new q was → was ≡ is
+pub reads_written : (old new : View) (q : ℕ) (was is : BucketFields) → WritesPage old new q (page.Bucket is) → ReadsHeldBucket new q was → was ≡ is
 reads_written old new q was is writes reads =
     let pages : Some (page.Bucket is) ≡ Some (page.Bucket was) = sym (ap (λ own. own_or own reads.0) writes.here) ∙ reads.2 in cc
 

@@ -1,9 +1,6 @@
 use Rattle.std.proofs.Common.{arith}
 use Rattle.mlt_pair.proofs.Laws.{starts}
 use Rattle.mlt_two_records.proofs.double_laws.double_starts_without_pages.Goals as goal
-use Rattle.mlt_two_records.proofs.FirstBuckets.{told_changed}
-use Rattle.mlt_two_records.proofs.FirstSteps.{may_act}
-use Rattle.mlt_two_records.proofs.RollingBack.{starts_again}
 
 pub returns : goal.returns
 returns c basis request own size m keys none =
