@@ -5,4 +5,6 @@ pub mod FirstChanges
 pub mod FirstBuckets
 pub mod FirstSteps
 pub mod FirstLaws
-pub mod FirstLeaves
+pub mod WideOwners
+pub mod DoubleLaws
+pub mod LeftRecords

@@ -78,6 +78,7 @@ pub record HasPutOwn (basis : Basis) (request : Request) (view : View) (since : 
   pub then_view : View
   pub bucket : ℕ
   pub done : Change
+  pub phase : walk.phase ≡ at.Changed bucket done
   pub changed : IsChanged (one_key basis) walk then_view bucket done
   pub reply : ObjReply
   pub value : ℕ
