@@ -6,3 +6,5 @@ pub mod FirstBuckets
 pub mod FirstSteps
 pub mod FirstLaws
 pub mod FirstLeaves
+pub mod SplitSteps
+mod DoubleSteps
