@@ -8,3 +8,5 @@ pub mod FirstLaws
 pub mod WideOwners
 pub mod DoubleLaws
 pub mod LeftRecords
+pub mod SplitSteps
+mod DoubleSteps

@@ -80,6 +80,7 @@ pub fn changes_are_left_as_told()
 {}
 
 /// Each step that goes on leaves fewer up to its end, and the step that tells the reply leaves the end alone.
+/// One that has taken none takes at most 1165, its end among them, and those aside that wait.
 pub fn doubles_come_to_an_end()
     ensures fewer { (basis : Basis) (request : Request) (old new : Moment) (before after : Double)
         → basis.max_depth ≤ 16
@@ -87,7 +88,7 @@ pub fn doubles_come_to_an_end()
         → steps_of_double basis.root after (view_of new)
         < steps_of_double basis.root before (view_of old) }
     ensures last { (basis : Basis) (request : Request) (reply : ObjReply) (old new : Moment)
-        (before after : Double) → Stands before basis request (view_of old)
+        (before after : Double)
         → TellsOfDouble basis old new before after request (answer.Told reply)
         → 1 < steps_of_double basis.root before (view_of old) }
     ensures in_all { (root own size : ℕ) (view : View)
