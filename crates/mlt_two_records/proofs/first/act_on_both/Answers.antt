@@ -1,9 +1,8 @@
-use Rattle.std.proofs.Common.{◌≡◌, ◌⊎◌, Option, None, Some, refl, sym, ap, subst, inl, inr}
-use Rattle.mlt_base.specs.declared.record.RecChange.{RecChange}
+use Rattle.std.proofs.Common.{◌≡◌, ◌⊎◌, None, Some, refl, sym, ap, subst, inl, inr}
 use Rattle.mlt_held.specs.Moments.{Moment, moment}
 use Rattle.mlt_held.specs.Views.{view_of}
 use Rattle.mlt_pair.specs.Changes.{HasChanged}
-use Rattle.mlt_pair.specs.Pairs.{FileRoot, IsFinding, PairFields}
+use Rattle.mlt_pair.specs.Pairs.{FileRoot, IsFinding}
 use Rattle.mlt_hash.specs.Walks.{Basis, basis_in}
 use Rattle.mlt_two_records.proofs.FirstBuckets.{asked_fits_both, both_or_none, full_stays, told_changed, told_full, told_nothing, told_one_left}
 use Rattle.mlt_two_records.proofs.RollingBack.{rolls_back}
