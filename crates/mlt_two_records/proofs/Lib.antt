@@ -9,4 +9,4 @@ pub mod WideOwners
 pub mod DoubleLaws
 pub mod LeftRecords
 pub mod SplitSteps
-mod DoubleSteps
+pub mod DoubleSteps
