@@ -1,45 +1,50 @@
--- Where an operation stands, by the steps that are left of its pass; and what its next step makes of that
-use Rattle.std.proofs.Common.{ℕ, ◌≡◌, ◌≤◌, ◌+◌, ◌-◌, ◌⊎◌, Option, None, Some, IsSome, is_some, refl, sym, ap, subst, ◌∙◌, inl, inr, arith}
+-- Where an operation on one record stands, by the steps that are left of its pass; and what its next step makes of that
+use Rattle.std.proofs.Common.{ℕ, ◌≡◌, ◌≤◌, ◌<◌, ◌+◌, ◌-◌, Option, None, Some, IsSome, is_some, refl, sym, ap, subst, ◌∙◌, inl, inr, arith}
 use Rattle.mlt_kinds.specs.declared.operation.ObjOp.{ObjOp}
 use Rattle.mlt_kinds.specs.declared.operation.ObjReply.{ObjReply}
-use Rattle.mlt_held.specs.Moments.{moment}
-use Rattle.mlt_held.specs.Views.{View, view_of}
+use Rattle.mlt_base.specs.declared.request.Request.{Request}
+use Rattle.mlt_base.specs.declared.request.Request.TheVariants.{Do}
+use Rattle.mlt_held.specs.Moments.{Moment, moment}
+use Rattle.mlt_held.specs.Views.{View}
 use Rattle.mlt_split.specs.Splits.{SplitFields}
 use Rattle.mlt_hash.specs.Steps.{steps_to_bucket}
 use Rattle.mlt_hash.specs.StepsLeft.{bucket_depth, depth_after, directory_depth, steps_of_splits, steps_to_put_at, steps_with_split}
 use Rattle.mlt_hash.specs.Walks.{Basis, Stands, WalkFields, one_key}
 use Rattle.mlt_hash.specs.declared.pass.Pass.{Pass}
-use Rattle.mlt_hash.specs.declared.pass.Pass.TheVariants as pass
 use Rattle.mlt_hash.specs.declared.pass.Phase.{Phase}
 use Rattle.mlt_hash.specs.declared.pass.Phase.TheVariants as phase
 use Rattle.mlt_operation.specs.declared.answer.StepAnswer.TheVariants as step
-use Rattle.mlt_operation.specs.declared.request.Request.TheVariants.{Do}
+use Rattle.mlt_operation.specs.declared.course.Course.{Course}
+use Rattle.mlt_operation.specs.declared.course.Course.TheVariants.{One, Two}
 use Rattle.mlt_operation.specs.Answers.{StepsOn, TellsOfStep}
-use Rattle.mlt_operation.specs.Operating.{FitsPhase, OperationFields, steps_left}
-use Rattle.mlt_event.specs.declared.answer.Answer.{Answer}
-use Rattle.mlt_event.specs.declared.answer.Answer.TheVariants as answer
-use Rattle.mlt_transaction.specs.declared.commons.Commons.{Commons}
-use Rattle.mlt_transaction.specs.declared.transaction.At.{At}
+use Rattle.mlt_operation.specs.Operating.{OperationFields, on_one}
+use Rattle.mlt_operation.specs.Walking.{FitsPhase, WalkingFields, steps_of_walk, walking}
 use Rattle.mlt_transaction.specs.declared.transaction.At.TheVariants as at
 use Rattle.mlt_transaction.specs.declared.transaction.Transaction.{Transaction}
-use Rattle.mlt_transaction.specs.Transactions.{StepsPending, TellsAt, TellsOfTransaction}
-use Rattle.mlt_counts.specs.Counts.{IsDoneOrBlocked, IsRefusal}
 use Rattle.mlt_counts.specs.OwnSteps.{OwnStep, basis_at, view_in}
 use Rattle.mlt_counts.proofs.Extra.{one_at_least, one_or_four}
+use Rattle.mlt_counts.proofs.PendingSteps.{Goes}
 
 -- how many steps are left at this phase
 abbrev pub left_at : Phase → ℕ → WalkFields → View → ℕ
 left_at p root walk view = steps_to_bucket p + steps_to_put_at p root walk view + 1
 
 -- a split under way leaves the write of the record at least
-some_behind : (o : Option SplitFields) (split : SplitFields) (d : ℕ) → o ≡ Some split → 1 ≤ steps_with_split o d
+pub some_behind : (o : Option SplitFields) (split : SplitFields) (d : ℕ) → o ≡ Some split → 1 ≤ steps_with_split o d
 some_behind o split d is =
     let some = one_at_least (d - (split.depth + 1)) (split.depth + 1) (depth_after split.depth split.directory_depth) in
     let one : 1 ≤ steps_with_split (Some split) d = omega (arith, some) in
     subst (λ (x : Option SplitFields). 1 ≤ steps_with_split x d) (sym is) one
 
+-- on the way nothing is to be put
+pub put_on_way : (p : Phase) (root : ℕ) (walk : WalkFields) (view : View) → 0 < steps_to_bucket p → steps_to_put_at p root walk view ≡ 0
+put_on_way phase.Start root walk view more = refl
+put_on_way (phase.Headed dir row depth) root walk view more = refl
+put_on_way (phase.Placed bucket depth) root walk view more = refl
+put_on_way other root walk view more = absurd (omega (arith, more))
+
 -- at the last step the reply is told
-pub told_at_last : (p : Phase) (basis : Basis) (o : OperationFields) (view : View) → Stands p (one_key basis) o.walk view → FitsPhase p (one_key basis) o view
+pub told_at_last : (p : Phase) (basis : Basis) (o : WalkingFields) (view : View) → Stands p (one_key basis) o.walk view → FitsPhase p (one_key basis) o view
     → left_at p basis.root o.walk view ≡ 1 → IsSome o.reply
 told_at_last phase.Start basis o view stands fits left = absurd (omega (arith, left))
 told_at_last (phase.Headed dir row depth) basis o view stands fits left = absurd (omega (arith, left))
@@ -55,7 +60,7 @@ told_at_last (phase.Splitting value d) basis o view stands fits left =
 told_at_last (phase.Changed bucket done) basis o view stands fits left = ap is_some fits.told
 
 -- and before it is not
-pub untold_before : (p : Phase) (basis : Basis) (o : OperationFields) (view : View) → FitsPhase p (one_key basis) o view
+pub untold_before : (p : Phase) (basis : Basis) (o : WalkingFields) (view : View) → FitsPhase p (one_key basis) o view
     → 2 ≤ left_at p basis.root o.walk view → o.reply ≡ None
 untold_before phase.Start basis o view fits left = fits
 untold_before (phase.Headed dir row depth) basis o view fits left = fits
@@ -66,127 +71,86 @@ untold_before (phase.Adding value bucket d unsplit) basis o view fits left = fit
 untold_before (phase.Splitting value d) basis o view fits left = fits.0
 untold_before (phase.Changed bucket done) basis o view fits left = absurd (omega (arith, left))
 
+-- one that goes on is on one record still
+still_with : (basis : Basis) (old new : Moment) (o : WalkingFields) (request : Request) (reply : Option ObjReply) (c : Course) → TellsOfStep basis old new (on_one o) (record { request = request; reply = reply; course = c }) step.Going
+    → (w : WalkFields) × (c ≡ One w)
+still_with basis old new o request reply (One w) tells = (w, refl)
+still_with basis old new o request reply (Two double) (inl on) = absurd on.how
+still_with basis old new o request reply (Two double) (inr (inl splits)) = absurd splits.how
+still_with basis old new o request reply (Two double) (inr (inr again)) = absurd again.how
+
+pub still_on_one : (basis : Basis) (old new : Moment) (o : WalkingFields) (next : OperationFields) → TellsOfStep basis old new (on_one o) next step.Going → (w : WalkingFields) × (next ≡ on_one w)
+still_on_one basis old new o next tells =
+    let w = still_with basis old new o next.request next.reply next.course tells in
+    (walking next.request next.reply w.0, λ i. record { request = next.request; reply = next.reply; course = w.1 i })
+
 -- Of the operation that is pending n steps are left of this pass. At the last its reply is told, and not before.
-pub record Stage (basis : Basis) (op : ObjOp) (n : ℕ) (p : Pass) (o : OperationFields) (t : Transaction) (seen : View) : Type 0 where
-  pub pending : t.at ≡ at.Pending o
+pub record Stage (basis : Basis) (op : ObjOp) (n : ℕ) (p : Pass) (o : WalkingFields) (t : Transaction) (seen : View) : Type 0 where
+  pub pending : t.at ≡ at.Pending (on_one o)
   pub asked : o.request ≡ Do op
   pub in_pass : o.walk.pass ≡ p
-  pub left : steps_left basis.root o seen ≡ n
+  pub left : steps_of_walk basis.root o.walk seen ≡ n
   pub told : n ≡ 1 → IsSome o.reply
   pub untold : 2 ≤ n → o.reply ≡ None
 
--- it is told Going
-pub record Goes (basis : Basis) (o : OperationFields) (t : Transaction) (own : OwnStep) : Type 0 where
-  pub going : own.told ≡ answer.Going
-  pub next : OperationFields
-  pub now_at : own.after.at ≡ at.Pending next
-  pub tells : TellsOfStep (basis_at (one_key basis) own) (moment t.subtx own.old.pages) (moment own.after.subtx own.new.pages) o next step.Going
+-- one that is told Going, on one record still
+pub record GoesOnOne (basis : Basis) (o : WalkingFields) (t : Transaction) (own : OwnStep) : Type 0 where
+  pub next : WalkingFields
+  pub now_at : own.after.at ≡ at.Pending (on_one next)
+  pub tells : TellsOfStep (basis_at (one_key basis) own) (moment t.subtx own.old.pages) (moment own.after.subtx own.new.pages) (on_one o) (on_one next) step.Going
 
--- it is told to wait, and stands where it stood
-pub record Stays (basis : Basis) (op : ObjOp) (n : ℕ) (p : Pass) (o : OperationFields) (t : Transaction) (own : OwnStep) : Type 0 where
-  pub page : ℕ
-  pub by : ℕ
-  pub waiting : own.told ≡ answer.Waiting page by
-  pub same : view_in own.after own.new ≡ view_in t own.old
-  pub stage : Stage (one_key basis) op n p o own.after (view_in own.after own.new)
-
--- it is refused, in a later pass than the first
-pub record IsTurnedAway (p : Pass) (own : OwnStep) : Type 0 where
-  pub refused : IsRefusal own.told
-  pub later : p ≡ pass.First → ⊥
-
-abbrev pub Outcome : Basis → ObjOp → ℕ → Pass → OperationFields → Transaction → OwnStep → Type 0
-Outcome basis op n p o t own = Stays (one_key basis) op n p o t own ⊎ Goes (one_key basis) o t own ⊎ IsTurnedAway p own
-
-unready_or : {A : Type 0} (reply : Option ObjReply) (one : ObjReply) → reply ≡ None → reply ≡ Some one → A
-unready_or reply one none some = cc
-
-some_or : {A : Type 0} (reply : Option ObjReply) → IsSome reply → reply ≡ None → A
-some_or None is none = cc
-some_or (Some one) is none = cc
+pub goes_on_one : (basis : Basis) (o : WalkingFields) (t : Transaction) (own : OwnStep) → Goes (one_key basis) (on_one o) t own → GoesOnOne (one_key basis) o t own
+goes_on_one basis o t own goes =
+    let w = still_on_one (basis_at (one_key basis) own) (moment t.subtx own.old.pages) (moment own.after.subtx own.new.pages) o goes.next goes.tells in
+    record {
+      next = w.0;
+      now_at = goes.now_at ∙ ap at.Pending w.1;
+      tells = subst (λ (next : OperationFields). TellsOfStep (basis_at (one_key basis) own) (moment t.subtx own.old.pages) (moment own.after.subtx own.new.pages) (on_one o) next step.Going) w.1 goes.tells;
+    }
 
 -- a step from where n steps are left, within its pass
-module _ (basis : Basis) (n : ℕ) (o next : OperationFields) (t : Transaction) (seen : View) (own : OwnStep) (sees : view_in t own.old ≡ seen) (left : steps_left basis.root o seen ≡ n) where
-  was_left : steps_left basis.root o (view_in t own.old) ≡ n
-  was_left = ap (steps_left basis.root o) sees ∙ left
+module _ (basis : Basis) (n : ℕ) (o next : WalkingFields) (t : Transaction) (seen : View) (own : OwnStep) (sees : view_in t own.old ≡ seen) (left : steps_of_walk basis.root o.walk seen ≡ n) where
+  was_left : steps_of_walk basis.root o.walk (view_in t own.old) ≡ n
+  was_left = ap (steps_of_walk basis.root o.walk) sees ∙ left
 
   -- just one fewer, where there are four at most
-  pub one_fewer_after : n ≤ 4 → StepsOn (basis_at (one_key basis) own) (moment t.subtx own.old.pages) (moment own.after.subtx own.new.pages) o next
-      → steps_left basis.root next (view_in own.after own.new) + 1 ≡ n
-  one_fewer_after few s = elim s.by_one [
-    | inl one ↦ one ∙ was_left
+  pub one_fewer_after : n ≤ 4 → StepsOn (basis_at (one_key basis) own) (moment t.subtx own.old.pages) (moment own.after.subtx own.new.pages) (on_one o) (on_one next)
+      → steps_of_walk basis.root next.walk (view_in own.after own.new) + 1 ≡ n
+  one_fewer_after few s = elim s.how.goes [
+    | inl near ↦
+        let was = was_left in
+        let one = near.by_one in
+        omega (arith, was, one)
     | inr behind ↦
         let was = was_left in
         let k = behind.room_depth - bucket_depth (view_in t own.old) behind.bucket in
         let l = bucket_depth (view_in t own.old) behind.bucket in
         let g = directory_depth (view_in t own.old) basis.root in
-        let before : steps_left basis.root o (view_in t own.old) ≡ 0 + steps_of_splits k l g + 1 = ap (λ (q : Phase). left_at q basis.root o.walk (view_in t own.old)) behind.was in
-        let last : steps_left basis.root next (view_in own.after own.new) ≡ 1 = ap (λ (q : Phase). left_at q basis.root next.walk (view_in own.after own.new)) behind.is in
+        let before : steps_of_walk basis.root o.walk (view_in t own.old) ≡ 0 + steps_of_splits k l g + 1 = ap (λ (q : Phase). left_at q basis.root o.walk (view_in t own.old)) behind.was in
+        let last : steps_of_walk basis.root next.walk (view_in own.after own.new) ≡ 1 = ap (λ (q : Phase). left_at q basis.root next.walk (view_in own.after own.new)) behind.is in
         let one = one_or_four k l g (omega (arith, was, before, few)) in
         omega (arith, was, before, last, one)
   ]
 
-module _ (basis : Basis) (op : ObjOp) (n : ℕ) (p : Pass) (o : OperationFields) (t : Transaction) (seen : View) (own : OwnStep) (stage : Stage (one_key basis) op n p o t seen) (sees : view_in t own.old ≡ seen) where
-  pending_step : TellsOfTransaction (basis_at (one_key basis) own) t own.after own.old own.new own.told → StepsPending (basis_at (one_key basis) own) o t own.after own.old own.new own.told
-  pending_step tells = subst (λ (a : At). TellsAt a (basis_at (one_key basis) own) t own.after own.old own.new own.told) stage.pending tells
+module _ (basis : Basis) (op : ObjOp) (n : ℕ) (p : Pass) (o : WalkingFields) (t : Transaction) (seen : View) (own : OwnStep) (stage : Stage (one_key basis) op n p o t seen) where
+  -- **Where it waits, it is where it was;**
+  pub still_stage : own.after.at ≡ at.Pending (on_one o) → view_in own.after own.new ≡ seen → Stage (one_key basis) op n p o own.after (view_in own.after own.new)
+  still_stage still same = record {
+    pending = still;
+    asked = stage.asked;
+    in_pass = stage.in_pass;
+    left = ap (steps_of_walk basis.root o.walk) same ∙ stage.left;
+    told = stage.told;
+    untold = stage.untold;
+  }
 
-  by_answer : (told : Answer) → own.told ≡ told → 2 ≤ n → StepsPending (basis_at (one_key basis) own) o t own.after own.old own.new told → Outcome (one_key basis) op n p o t own
-  by_answer answer.Going is more s = inr (inl (record {
-    going = is;
-    next = s.next;
-    now_at = s.now_at;
-    tells = subst (λ (c : Commons). TellsOfStep (basis_at (one_key basis) own) (moment t.subtx own.old.pages) (moment own.after.subtx c.pages) o s.next step.Going) (sym s.leaves) s.tells.tells;
-  }))
-  by_answer (answer.Waiting page by) is more s =
-      let unmoved : view_in own.after own.new ≡ view_in t own.old = ap (λ (c : Commons). view_in own.after c) s.leaves ∙ ap view_of s.tells.tells.pages in
-      let same : view_in own.after own.new ≡ seen = unmoved ∙ sees in
-      inl (record {
-        page = page;
-        by = by;
-        waiting = is;
-        same = unmoved;
-        stage = record {
-          pending = s.now_at ∙ ap at.Pending s.tells.tells.stays;
-          asked = stage.asked;
-          in_pass = stage.in_pass;
-          left = ap (steps_left basis.root o) same ∙ stage.left;
-          told = stage.told;
-          untold = stage.untold;
-        };
-      })
-  by_answer (answer.Refused reason) is more s = inr (inr (record {
-    refused = subst IsRefusal (sym is) tt;
-    later = λ first. s.tells.tells.later (stage.in_pass ∙ first);
-  }))
-  by_answer (answer.Done reply) is more s = unready_or o.reply s.tells.reply (stage.untold more) s.tells.ready
-  by_answer (answer.Blocked by) is more s = unready_or o.reply s.tells.0.reply (stage.untold more) s.tells.0.ready
-  by_answer answer.Undone is more s = absurd s.tells
-  by_answer answer.Aborted is more s = absurd s.tells
-
-  -- **A step that is not the last.**
-  pub one_step : 2 ≤ n → TellsOfTransaction (basis_at (one_key basis) own) t own.after own.old own.new own.told → Outcome (one_key basis) op n p o t own
-  one_step more tells = by_answer own.told refl more (pending_step tells)
-
-  last_answer : (told : Answer) → own.told ≡ told → IsSome o.reply → StepsPending (basis_at (one_key basis) own) o t own.after own.old own.new told → IsDoneOrBlocked own.told
-  last_answer answer.Going is ready s = some_or o.reply ready s.tells.unready
-  last_answer (answer.Waiting page by) is ready s = some_or o.reply ready s.tells.unready
-  last_answer (answer.Refused reason) is ready s = some_or o.reply ready s.tells.unready
-  last_answer (answer.Done reply) is ready s = subst IsDoneOrBlocked (sym is) tt
-  last_answer (answer.Blocked by) is ready s = subst IsDoneOrBlocked (sym is) tt
-  last_answer answer.Undone is ready s = absurd s.tells
-  last_answer answer.Aborted is ready s = absurd s.tells
-
-  -- **The last step.**
-  pub last_step : n ≡ 1 → TellsOfTransaction (basis_at (one_key basis) own) t own.after own.old own.new own.told → IsDoneOrBlocked own.told
-  last_step last tells = last_answer own.told refl (stage.told last) (pending_step tells)
-
-  -- **Where it goes on within its pass, fewer steps are left.**
-  pub on_stage : (goes : Goes (one_key basis) o t own) → StepsOn (basis_at (one_key basis) own) (moment t.subtx own.old.pages) (moment own.after.subtx own.new.pages) o goes.next
-      → Stage (one_key basis) op (steps_left basis.root goes.next (view_in own.after own.new)) p goes.next own.after (view_in own.after own.new)
+  -- **and where it goes on within its pass, fewer steps are left.**
+  pub on_stage : (goes : GoesOnOne (one_key basis) o t own) → StepsOn (basis_at (one_key basis) own) (moment t.subtx own.old.pages) (moment own.after.subtx own.new.pages) (on_one o) (on_one goes.next)
+      → Stage (one_key basis) op (steps_of_walk basis.root goes.next.walk (view_in own.after own.new)) p goes.next own.after (view_in own.after own.new)
   on_stage goes s = record {
     pending = goes.now_at;
     asked = s.request ∙ stage.asked;
-    in_pass = s.in_pass ∙ stage.in_pass;
+    in_pass = s.how.in_pass ∙ stage.in_pass;
     left = refl;
     told = told_at_last goes.next.walk.phase (basis_at (one_key basis) own) goes.next (view_in own.after own.new) s.operates.stands s.operates.fits;
     untold = untold_before goes.next.walk.phase (basis_at (one_key basis) own) goes.next (view_in own.after own.new) s.operates.fits;

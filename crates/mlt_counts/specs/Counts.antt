@@ -2,19 +2,19 @@
 use Rattle.std.specs.Prelude.{ℕ, ◌≡◌, ◌<◌, ◌≤◌, ◌+◌, ◌-◌, ◌*◌, ◌⊎◌, List, [], ◌∷◌, ◌++◌, None, IsSome, true}
 use Rattle.mlt_kinds.specs.declared.operation.ObjOp.{ObjOp}
 use Rattle.mlt_kinds.specs.declared.operation.ObjReply.{ObjReply}
+use Rattle.mlt_base.specs.declared.request.Request.{Request}
+use Rattle.mlt_base.specs.declared.request.Request.TheVariants.{Do}
 use Rattle.mlt_base.specs.Effects.{inverse_of}
 use Rattle.mlt_held.specs.Moments.{moment}
 use Rattle.mlt_held.specs.Views.{View}
 use Rattle.mlt_hash.specs.StepsLeft.{bucket_depth, directory_depth}
-use Rattle.mlt_hash.specs.Walks.{Basis}
+use Rattle.mlt_hash.specs.Walks.{Basis, WalkFields}
 use Rattle.mlt_hash.specs.declared.pass.Pass.{Pass}
 use Rattle.mlt_hash.specs.declared.pass.Pass.TheVariants.{First, Narrow, Wide}
 use Rattle.mlt_hash.specs.declared.pass.Phase.TheVariants as phase
-use Rattle.mlt_operation.specs.declared.request.Request.{Request}
-use Rattle.mlt_operation.specs.declared.request.Request.TheVariants.{Do}
-use Rattle.mlt_operation.specs.Answers.{BeginsToSplit, PutsBehindSplits, Restarts}
-use Rattle.mlt_operation.specs.Operating.{OperationFields}
-use Rattle.mlt_operation.specs.Requests.{target_of}
+use Rattle.mlt_operation.specs.Answers.{PutsBehindSplits, Restarts, SplitsFromHere}
+use Rattle.mlt_operation.specs.Operating.{OperationFields, on_one}
+use Rattle.mlt_operation.specs.Walking.{WalkingFields, walk_for, walking}
 use Rattle.mlt_event.specs.declared.answer.Answer.{Answer}
 use Rattle.mlt_event.specs.declared.answer.Answer.TheVariants as answer
 use Rattle.mlt_transaction.specs.declared.transaction.At.TheVariants as at
@@ -22,19 +22,10 @@ use Rattle.mlt_transaction.specs.declared.transaction.Transaction.{Transaction}
 use Rattle.mlt_counts.specs.Extra.{extra_of_splits}
 use Rattle.mlt_counts.specs.OwnSteps.{GoesThen, GoesToTurn, GoesUpTo, OwnStep, answers_of, basis_at, view_in}
 
--- an operation that has taken no step of this pass: one that was called, or told Blocked, has taken none of its first
+-- An operation on one record that has taken no step of this pass: one that was called, or told Blocked, has taken none of its
+-- first.
 abbrev pub started_in : Request → Pass → OperationFields
-started_in request next = record {
-  request = request;
-  reply = None;
-  walk = record {
-    key = (target_of request).0;
-    mode = (target_of request).1;
-    pass = next;
-    phase = phase.Start;
-    split = None;
-  };
-}
+started_in request next = on_one (walking request None (record (walk_for request) { pass = next }))
 
 -- it is told Done or Blocked
 abbrev pub IsDoneOrBlocked : Answer → Type 0
@@ -74,10 +65,10 @@ pub record FindsNoRoom (basis : Basis) (op : ObjOp) (in_pass : Pass)
   pub later : Then next back
 
 -- The bucket is of depth l, in a directory of depth g, and has room once it is split down to depth d.
-pub record IsToSplit (basis : Basis) (seen : View) (o : OperationFields) (l g d : ℕ) : Type 0 where
+pub record IsToSplit (basis : Basis) (seen : View) (walk : WalkFields) (l g d : ℕ) : Type 0 where
   pub value : ℕ
   pub bucket : ℕ
-  pub phase : o.walk.phase ≡ phase.Adding value bucket d true
+  pub phase : walk.phase ≡ phase.Adding value bucket d true
   pub depth : bucket_depth seen bucket ≡ l
   pub directory : directory_depth seen basis.root ≡ g
   pub deeper : l < d
@@ -86,38 +77,45 @@ pub record IsToSplit (basis : Basis) (seen : View) (o : OperationFields) (l g d 
 -- At this step the record is put, in a bucket of depth l: each split has made it one deeper. Done or Blocked comes next.
 pub record PutsRecord (l : ℕ) (before : Transaction) (step : OwnStep) (back : List OwnStep)
     : Type 0 where
-  pub o : OperationFields
-  pub o' : OperationFields
-  pub pending : before.at ≡ at.Pending o
-  pub still : step.after.at ≡ at.Pending o'
-  pub puts : PutsBehindSplits o o'
+  pub o : WalkingFields
+  pub o' : WalkingFields
+  pub pending : before.at ≡ at.Pending (on_one o)
+  pub still : step.after.at ≡ at.Pending (on_one o')
+  pub puts : PutsBehindSplits o.walk o'.walk
   pub depth : bucket_depth (view_in before step.old) puts.bucket ≡ l
   pub ends : GoesThen 0 IsDoneOrBlocked (answers_of back)
 
 -- The bucket of depth l, in a directory of depth g, is split k times: in 3 * k + c steps, told Going, and so at the step that
--- puts the record. Then comes the end.
-pub record SplitsAndPuts (basis : Basis) (l g d : ℕ) (back : List OwnStep) : Type 0 where
+-- puts the record, of which this is so.
+pub record SplitsAndPuts (basis : Basis) (l g d : ℕ)
+    (Puts : ℕ → Transaction → OwnStep → List OwnStep → Type 0) (back : List OwnStep) : Type 0 where
   pub k : ℕ
   pub some : 1 ≤ k
   pub few : l + k ≤ d
-  pub puts : GoesToTurn basis (1 + 3 * k + extra_of_splits k l g) (PutsRecord (l + k)) back
+  pub puts : GoesToTurn basis (1 + 3 * k + extra_of_splits k l g) (Puts (l + k)) back
+
+-- So it is; or it is refused before, told Going so long.
+abbrev pub SplitsAndPutsOrNot : Basis → ℕ → ℕ → ℕ
+    → (ℕ → Transaction → OwnStep → List OwnStep → Type 0) → List OwnStep → Type 0
+SplitsAndPutsOrNot basis l g d Puts back =
+    SplitsAndPuts basis l g d Puts back
+    ⊎ GoesUpTo (1 + 3 * (d - l) + extra_of_splits (d - l) l g) IsRefusal (answers_of back)
 
 -- An addition finds no room in its bucket, and splits it in this pass. With k splits made, and the three steps to the bucket,
 -- Done or Blocked comes at step 5 + 3 * k + c; or it is refused before, told Going so long.
 pub record BeginsSplits (basis : Basis) (before : Transaction) (step : OwnStep)
     (back : List OwnStep) : Type 0 where
-  pub o : OperationFields
-  pub o' : OperationFields
-  pub pending : before.at ≡ at.Pending o
-  pub still : step.after.at ≡ at.Pending o'
-  pub splits : BeginsToSplit (basis_at basis step) (moment before.subtx step.old.pages)
-      (moment step.after.subtx step.new.pages) o o'
+  pub o : WalkingFields
+  pub o' : WalkingFields
+  pub pending : before.at ≡ at.Pending (on_one o)
+  pub still : step.after.at ≡ at.Pending (on_one o')
+  pub splits : SplitsFromHere (basis_at basis step) (moment before.subtx step.old.pages)
+      (moment step.after.subtx step.new.pages) (on_one o) (on_one o')
   pub l : ℕ
   pub g : ℕ
   pub d : ℕ
-  pub plan : IsToSplit basis (view_in step.after step.new) o' l g d
-  pub ends : SplitsAndPuts basis l g d back
-      ⊎ GoesUpTo (1 + 3 * (d - l) + extra_of_splits (d - l) l g) IsRefusal (answers_of back)
+  pub plan : IsToSplit basis (view_in step.after step.new) o'.walk l g d
+  pub ends : SplitsAndPutsOrNot basis l g d PutsRecord back
 
 -- A pass that may split is told Done or Blocked at its fourth step, and Going at the three before it; or it is refused
 -- earlier; or it splits.

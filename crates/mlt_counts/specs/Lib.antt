@@ -1,3 +1,4 @@
 pub mod OwnSteps
 pub mod Extra
 pub mod Counts
+pub mod CountsOfTwo

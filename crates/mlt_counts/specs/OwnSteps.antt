@@ -1,5 +1,5 @@
 -- Steps of one transaction, one after another, and what they are told
-use Rattle.std.specs.Prelude.{ℕ, zero, suc, ◌≡◌, ◌⊎◌, List, [], ◌∷◌, ◌++◌}
+use Rattle.std.specs.Prelude.{ℕ, zero, suc, ◌≡◌, ◌<◌, ◌⊎◌, List, [], ◌∷◌, ◌++◌}
 use Rattle.std.specs.Ordering.{nat_cmp}
 use Rattle.std.specs.FinSet as set
 use Rattle.mlt_held.specs.Moments.{moment}
@@ -67,6 +67,10 @@ abbrev pub GoesUpTo : ℕ → (Answer → Type 0) → List Answer → Type 0
 GoesUpTo n Is [] = Unit {0}
 GoesUpTo zero Is (told ∷ more) = ⊥
 GoesUpTo (suc n) Is (told ∷ more) = Is told ⊎ ((told ≡ answer.Going) × GoesUpTo n Is more)
+
+-- All answers say that it goes on, and there are fewer than n.
+abbrev pub GoesBelow : ℕ → List Answer → Type 0
+GoesBelow n answers = (k : ℕ) × (k < n) × (answers ≡ goings k)
 
 -- The first n answers say that it goes on. Of the step told the last of them, of what the transaction was before it, and of
 -- the steps behind it this is so.

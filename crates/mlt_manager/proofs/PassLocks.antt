@@ -1,29 +1,48 @@
 -- Each transaction holds the page locks of its pass
-use Rattle.std.proofs.Common.{◌≡◌, ℕ, Bool, true, Option, None, Some, is_some, unwrap_or, refl, sym, ap, subst, ◌∙◌}
+use Rattle.std.proofs.Common.{◌≡◌, ◌≢◌, ◌⊎◌, ℕ, Bool, true, false, Option, None, Some, is_some, unwrap_or, slice_index, refl, sym, ap, subst, ◌∙◌, inl, inr, arith}
 use Rattle.std.specs.Ordering.{nat_cmp}
 use Rattle.std.specs.FinMap as map
-use Rattle.std.proofs.lemmas.Bool.{false≢true}
+use Rattle.std.proofs.lemmas.Bool.{cases_Bool, cases_eq, false≢true}
 use Rattle.mlt_types.specs.declared.mode.Mode.{Mode}
-use Rattle.mlt_types.specs.declared.mode.Mode.TheVariants.{Exclusive}
+use Rattle.mlt_types.specs.declared.mode.Mode.TheVariants.{Exclusive, Shared}
+use Rattle.mlt_kinds.specs.declared.operation.ObjReply.{ObjReply}
+use Rattle.mlt_base.specs.declared.request.Request.{Request}
+use Rattle.mlt_base.specs.Requests.{target_of}
 use Rattle.mlt_page.specs.declared.page.Page.{Page}
 use Rattle.mlt_page.specs.declared.page.Page.TheVariants as page
-use Rattle.mlt_page_locks.specs.LockTables.{is_holder, mode_held}
+use Rattle.mlt_page_locks.specs.LockTables.{Modes, is_holder, mode_held}
+use Rattle.mlt_page_locks.specs.Requests.{stronger, with_page}
 use Rattle.mlt_subtx.specs.Images.{Images, image_of}
 use Rattle.mlt_subtx.proofs.ImageLaws.{not_true}
-use Rattle.mlt_hash_form.specs.File.{FilePages, dir_of}
-use Rattle.mlt_hash_form.specs.Held.{Agrees}
+use Rattle.mlt_hash_form.specs.File.{FilePages, dir_of, row_of}
+use Rattle.mlt_hash_form.specs.Held.{Agrees, over}
 use Rattle.mlt_held.specs.Moments.{Moment, page_before}
 use Rattle.mlt_held.specs.Reading.{HasReadPlace}
-use Rattle.mlt_held.specs.Views.{view_of}
-use Rattle.mlt_held.proofs.Views.{holds_exclusively, own_has_image, seen_held}
-use Rattle.mlt_hash.specs.Passes.{MayHoldMore}
-use Rattle.mlt_hash.specs.Walks.{Basis, HasRead, HoldsByPass, IsAtBucket, IsPlaced, Stands, WalkFields, one_key}
+use Rattle.mlt_held.specs.Views.{View, rebased, view_of}
+use Rattle.mlt_held.proofs.Rebased.{rebased_agrees}
+use Rattle.mlt_held.proofs.Views.{holds_exclusively, mode_of_others, mode_of_page, own_has_image, seen_held}
+use Rattle.mlt_pair.specs.Pairs.{HoldsWays, PairFields}
+use Rattle.mlt_pair.specs.Ways as pair_read
+use Rattle.mlt_pair.specs.declared.way.Way.{Way}
+use Rattle.mlt_pair.specs.declared.way.Way.TheVariants as way
+use Rattle.mlt_hash.specs.Changes.{IsChangedPhase}
+use Rattle.mlt_hash.specs.Passes.{MayHoldMore, bucket_mode, directory_held, directory_mode, header_held, header_mode}
+use Rattle.mlt_hash.specs.Splitting.{IsUnderWay}
+use Rattle.mlt_hash.specs.Walks.{Basis, Before, HasRead, HoldsByPass, IsAtBucket, IsHeaded, IsPlaced, IsStanding, Stands, WalkFields, basis_after, nothing_before, one_key}
 use Rattle.mlt_hash.specs.declared.pass.Pass.{Pass}
 use Rattle.mlt_hash.specs.declared.pass.Pass.TheVariants as pass
 use Rattle.mlt_hash.specs.declared.pass.Phase.{Phase}
 use Rattle.mlt_hash.specs.declared.pass.Phase.TheVariants as phase
 use Rattle.mlt_hash.proofs.Passed.{read_at_bucket}
-use Rattle.mlt_operation.specs.Operating.{FitsPhase, OperationFields}
+use Rattle.mlt_two_records.specs.declared.double.Double.{Double}
+use Rattle.mlt_two_records.specs.declared.double.Double.TheVariants.{First, Owing, Wide}
+use Rattle.mlt_two_records.specs.declared.double.Leg.TheVariants as leg
+use Rattle.mlt_two_records.specs.FirstPass.{HasKeys}
+use Rattle.mlt_two_records.specs.WidePass.{HasPutOwn}
+use Rattle.mlt_operation.specs.declared.course.Course.{Course}
+use Rattle.mlt_operation.specs.declared.course.Course.TheVariants.{One, Two}
+use Rattle.mlt_operation.specs.Operating.{OperatesBy, OperationFields, StandsOrTold}
+use Rattle.mlt_operation.specs.Walking.{FitsPhase, WalkingFields, walking}
 use Rattle.mlt_subtx_laws.specs.Running.{clean_of, images_by, moment_of}
 use Rattle.mlt_meeting.specs.Worlds.{basis_of}
 use Rattle.mlt_transaction.specs.declared.transaction.At.{At}
@@ -32,7 +51,7 @@ use Rattle.mlt_transaction.specs.declared.transaction.Transaction.{Transaction}
 use Rattle.mlt_invariant.specs.Sound.{FitsAt, IsSound}
 use Rattle.mlt_invariant.specs.States.{State, all_of, images_kept, world_of}
 use Rattle.mlt_invariant.proofs.Openness.{agrees_in}
-use Rattle.mlt_manager.specs.PassLocks.{HoldsWay, KeysWay, LocksAt, LocksOf, images_at, running_at, running_of}
+use Rattle.mlt_manager.specs.PassLocks.{HoldsBoth, HoldsOver, HoldsPair, HoldsWay, IsOnWay, KeysWay, LocksAt, LocksBy, LocksOf, LocksOfTwo, LocksOverAt, images_at, running_at, running_of}
 
 -- a page that is held is seen as the clean pages have it
 clean_is_seen : (m : Moment) (clean : FilePages) → Agrees (view_of m).seen clean → (q : ℕ) → is_some (map.get (view_of m).modes q) ≡ true → (view_of m).seen q ≡ Some (clean q)
@@ -46,35 +65,39 @@ more_as pass.First seen clean own image same kept more = more
 more_as pass.Narrow seen clean own image same kept more = (sym same ∙ more.0, kept more.1)
 more_as pass.Wide seen clean own image same kept more = kept more
 
+-- what is read of the way to a key is that way, on pages that agree with what was seen
+abbrev keys_way : (basis : Basis) (key : ℕ) (view : View) (pages : FilePages) → Agrees view.seen pages → (dir bucket : ℕ) → HasReadPlace basis.bits basis.root key view dir bucket → KeysWay (one_key basis) pages key
+keys_way basis key view pages agree dir bucket read = record {
+  header = read.header;
+  head = agree basis.root (Some (page.Head read.header)) read.head;
+  dir = dir;
+  dir_is = read.dir_is;
+  entries = read.entries;
+  listed = agree dir (Some (page.Dir read.entries)) read.listed;
+  bucket = bucket;
+  bucket_is = read.bucket_is;
+}
+
+-- what a walk has read that has come to its key's directory page
+abbrev placed_read : (basis : Basis) (walk : WalkFields) (view : View) (bucket depth : ℕ) → (placed : IsPlaced basis walk view bucket depth) → HasReadPlace basis.bits basis.root walk.key view (dir_of placed.header (basis.bits walk.key)) bucket
+placed_read basis walk view bucket depth placed = record { header = placed.header; head = placed.head; dir_is = refl; entries = placed.dir; listed = placed.listed; bucket_is = placed.bucket_is }
+
 -- the locks of a walk on this moment, whose view the clean pages agree with
 module _ (basis : Basis) (walk : WalkFields) (m : Moment) (clean : FilePages) (agree : Agrees (view_of m).seen clean) where
-  -- what is read of its way is the way to the key
-  abbrev way_on : (dir bucket : ℕ) → HasReadPlace basis.bits basis.root walk.key (view_of m) dir bucket → KeysWay (one_key basis) clean walk.key
-  way_on dir bucket read = record {
-    header = read.header;
-    head = agree basis.root (Some (page.Head read.header)) read.head;
-    dir = dir;
-    dir_is = read.dir_is;
-    entries = read.entries;
-    listed = agree dir (Some (page.Dir read.entries)) read.listed;
-    bucket = bucket;
-    bucket_is = read.bucket_is;
-  }
-
   placed_way : (bucket depth : ℕ) → IsPlaced (one_key basis) walk (view_of m) bucket depth → LocksAt (phase.Placed bucket depth) (one_key basis) clean walk m.running.images (view_of m).modes
   placed_way bucket depth placed = (
-    way_on (dir_of placed.header (basis.bits walk.key)) bucket (record { header = placed.header; head = placed.head; dir_is = refl; entries = placed.dir; listed = placed.listed; bucket_is = placed.bucket_is }),
+    keys_way basis walk.key (view_of m) clean agree (dir_of placed.header (basis.bits walk.key)) bucket (placed_read (one_key basis) walk (view_of m) bucket depth placed),
     placed.held,
   )
 
   bucket_way : (bucket depth : ℕ) (found : Option ℕ) → IsAtBucket (one_key basis) walk (view_of m) bucket depth found → LocksAt (phase.AtBucket bucket depth found) (one_key basis) clean walk m.running.images (view_of m).modes
-  bucket_way bucket depth found here = let read = read_at_bucket (one_key basis) walk (view_of m) bucket depth found here in (way_on read.dir bucket read.way.placed, here.held)
+  bucket_way bucket depth found here = let read = read_at_bucket (one_key basis) walk (view_of m) bucket depth found here in (keys_way basis walk.key (view_of m) clean agree read.dir bucket read.way.placed, here.held)
 
   -- a walk that has read its way holds it by its pass
   read_way : (found : Option ℕ) → (read : HasRead (one_key basis) walk.key (view_of m) found) → HoldsByPass map.empty walk.pass walk.mode basis.root read.dir read.bucket (view_of m)
       → (way : KeysWay (one_key basis) clean walk.key) × HoldsWay walk clean m.running.images basis.root way.dir way.bucket (view_of m).modes
   read_way found read holds = (
-    way_on read.dir read.bucket read.way.placed,
+    keys_way basis walk.key (view_of m) clean agree read.dir read.bucket read.way.placed,
     record {
       on_header = holds.on_header;
       on_dir = holds.on_dir;
@@ -85,24 +108,232 @@ module _ (basis : Basis) (walk : WalkFields) (m : Moment) (clean : FilePages) (a
     },
   )
 
+-- a walk between two steps of its pass has not just found its bucket full
+abbrev IsNotFull : Phase → Type 0
+IsNotFull (phase.Full next) = ⊥
+IsNotFull other = Unit {0}
+
+fits_not_full : (p : Phase) (basis : Basis) (o : WalkingFields) (view : View) → FitsPhase p basis o view → IsNotFull p
+fits_not_full (phase.Full next) basis o view fits = absurd fits
+fits_not_full phase.Start basis o view fits = tt
+fits_not_full (phase.Headed dir row depth) basis o view fits = tt
+fits_not_full (phase.Placed bucket depth) basis o view fits = tt
+fits_not_full (phase.AtBucket bucket depth found) basis o view fits = tt
+fits_not_full (phase.Adding value bucket room_depth unsplit) basis o view fits = tt
+fits_not_full (phase.Splitting value room_depth) basis o view fits = tt
+fits_not_full (phase.Changed bucket done) basis o view fits = tt
+
+under_way_not_full : (p : Phase) → IsUnderWay p → IsNotFull p
+under_way_not_full (phase.Full next) under = absurd under
+under_way_not_full phase.Start under = tt
+under_way_not_full (phase.Headed dir row depth) under = tt
+under_way_not_full (phase.Placed bucket depth) under = tt
+under_way_not_full (phase.AtBucket bucket depth found) under = tt
+under_way_not_full (phase.Adding value bucket room_depth unsplit) under = tt
+under_way_not_full (phase.Splitting value room_depth) under = tt
+under_way_not_full (phase.Changed bucket done) under = tt
+
 -- **A walk that stands holds the locks of its pass.**
-locks_at : (p : Phase) (basis : Basis) (o : OperationFields) (m : Moment) (clean : FilePages) → Agrees (view_of m).seen clean → Stands p (one_key basis) o.walk (view_of m) → FitsPhase p (one_key basis) o (view_of m) → LocksAt p (one_key basis) clean o.walk m.running.images (view_of m).modes
-locks_at phase.Start basis o m clean agree stands fits = stands.0.unheld
-locks_at (phase.Headed dir row depth) basis o m clean agree stands fits = stands.held
-locks_at (phase.Placed bucket depth) basis o m clean agree stands fits = placed_way (one_key basis) o.walk m clean agree bucket depth stands
-locks_at (phase.AtBucket bucket depth found) basis o m clean agree stands fits = bucket_way (one_key basis) o.walk m clean agree bucket depth found stands
-locks_at (phase.Full next) basis o m clean agree stands fits = absurd fits
-locks_at (phase.Adding value bucket room_depth unsplit) basis o m clean agree stands fits = read_way (one_key basis) o.walk m clean agree None stands.read stands.holds
-locks_at (phase.Splitting value room_depth) basis o m clean agree stands fits = read_way (one_key basis) o.walk m clean agree None stands.read stands.holds
-locks_at (phase.Changed bucket done) basis o m clean agree stands fits = read_way (one_key basis) o.walk m clean agree stands.found stands.read stands.holds
+locks_at : (p : Phase) (basis : Basis) (walk : WalkFields) (m : Moment) (clean : FilePages) → Agrees (view_of m).seen clean → Stands p (one_key basis) walk (view_of m) → IsNotFull p → LocksAt p (one_key basis) clean walk m.running.images (view_of m).modes
+locks_at phase.Start basis walk m clean agree stands full = stands.0.unheld
+locks_at (phase.Headed dir row depth) basis walk m clean agree stands full = stands.held
+locks_at (phase.Placed bucket depth) basis walk m clean agree stands full = placed_way (one_key basis) walk m clean agree bucket depth stands
+locks_at (phase.AtBucket bucket depth found) basis walk m clean agree stands full = bucket_way (one_key basis) walk m clean agree bucket depth found stands
+locks_at (phase.Full next) basis walk m clean agree stands full = absurd full
+locks_at (phase.Adding value bucket room_depth unsplit) basis walk m clean agree stands full = read_way (one_key basis) walk m clean agree None stands.read stands.holds
+locks_at (phase.Splitting value room_depth) basis walk m clean agree stands full = read_way (one_key basis) walk m clean agree None stands.read stands.holds
+locks_at (phase.Changed bucket done) basis walk m clean agree stands full = read_way (one_key basis) walk m clean agree stands.found stands.read stands.holds
+
+-- ---- two keys
+
+-- the locks of a pair are those of its two ways
+module _ (basis : Basis) (m : Moment) (clean : FilePages) (agree : Agrees (view_of m).seen clean) where
+  pair_way : (key : ℕ) (on : Way) → pair_read.HasRead basis.bits basis.root key (view_of m) on → IsOnWay on (one_key basis) clean key
+  pair_way key way.Start read = tt
+  pair_way key (way.Headed place dir row) read = (read.header, agree basis.root (Some (page.Head read.header)) read.head, read.dir_is)
+  pair_way key (way.Placed dir bucket) read = (keys_way basis key (view_of m) clean agree dir bucket read, refl, refl)
+  pair_way key (way.AtBucket dir bucket found) read = (keys_way basis key (view_of m) clean agree dir bucket read.placed, refl, refl)
+
+  pair_locks : (request : Request) (pair : PairFields) → HasKeys request pair.left pair.right → pair_read.HasRead basis.bits basis.root pair.left (view_of m) pair.left_way → pair_read.HasRead basis.bits basis.root pair.right (view_of m) pair.right_way
+      → HoldsWays basis.root pair.left_way pair.right_way (view_of m) → HoldsPair (one_key basis) clean request pair (view_of m).modes
+  pair_locks request pair keys left right holds = record {
+    keys = keys;
+    own = pair_way pair.left pair.left_way left;
+    size = pair_way pair.right pair.right_way right;
+    locks = holds;
+  }
+
+-- a lock that is asked for exclusively is exclusive then, and so is one that was
+asked_exclusively : (held : Option Mode) → stronger held Exclusive ≡ Exclusive
+asked_exclusively None = refl
+asked_exclusively (Some Shared) = refl
+asked_exclusively (Some Exclusive) = refl
+
+still_exclusive : (modes : Modes) (q : ℕ) (mode : Mode) (p : ℕ) → map.get modes p ≡ Some Exclusive → map.get (with_page modes q mode) p ≡ Some Exclusive
+still_exclusive modes q mode p held =
+    elim (cases_eq p q) [
+      | inl here ↦ ap (map.get (with_page modes q mode)) here ∙ mode_of_page modes q mode ∙ ap (λ o. Some (stronger o mode)) (ap (map.get modes) (sym here) ∙ held)
+      | inr elsewhere ↦ mode_of_others modes q mode p elsewhere ∙ held
+    ]
+
+-- a wide pass that has gone on to the key of the size
+module _ (basis : Basis) (request : Request) (walk : WalkFields) (m : Moment) (clean : FilePages) (agree : Agrees (view_of m).seen clean) (since : Before) (put : HasPutOwn (one_key basis) request (view_of m) since)
+    (wide : walk.pass ≡ pass.Wide) where
+  abbrev read : HasRead (one_key basis) put.walk.key put.then_view put.changed.found
+  read = put.changed.read
+
+  -- what was read of the way to its own key is so still
+  abbrev own_way : KeysWay (one_key basis) clean (target_of request).0
+  own_way = record {
+    header = read.way.placed.header;
+    head = agree basis.root (Some (page.Head read.way.placed.header)) (put.seen basis.root (Some (page.Head read.way.placed.header)) read.way.placed.head);
+    dir = read.dir;
+    dir_is = read.way.placed.dir_is ∙ ap (λ key. dir_of read.way.placed.header (basis.bits key)) put.to_key.key_is;
+    entries = read.way.placed.entries;
+    listed = agree read.dir (Some (page.Dir read.way.placed.entries)) (put.seen read.dir (Some (page.Dir read.way.placed.entries)) read.way.placed.listed);
+    bucket = read.bucket;
+    bucket_is = read.way.placed.bucket_is ∙ ap (λ key. slice_index read.way.placed.entries (row_of read.way.placed.header (basis.bits key))) put.to_key.key_is;
+  }
+
+  was_held : since.held ≡ put.then_view.modes
+  was_held = ap (λ (b : Before). b.held) put.since_is
+
+  was_written : since.written ≡ put.then_view.own
+  was_written = ap (λ (b : Before). b.written) put.since_is
+
+  -- it held the pages of that way exclusively,
+  on_header : map.get since.held basis.root ≡ Some Exclusive
+  on_header = ap (λ (modes : Modes). map.get modes basis.root) was_held ∙ put.changed.holds.on_header ∙ ap (λ p. Some (header_mode p)) put.to_key.wide
+
+  on_dir : map.get since.held read.dir ≡ Some Exclusive
+  on_dir = ap (λ (modes : Modes). map.get modes read.dir) was_held ∙ put.changed.holds.on_dir ∙ ap (λ p. Some (directory_mode p)) put.to_key.wide
+
+  on_bucket : map.get since.held read.bucket ≡ Some Exclusive
+  on_bucket = ap (λ (modes : Modes). map.get modes read.bucket) was_held ∙ put.changed.holds.on_bucket ∙ ap (λ p. Some (bucket_mode p put.walk.mode)) put.to_key.wide
+
+  -- and so the others, each of which it had written
+  on_others : (q : ℕ) → q ≢ basis.root → q ≢ read.dir → q ≢ read.bucket → is_some (map.get since.held q) ≡ true → (map.get since.held q ≡ Some Exclusive) × (is_some (since.written q) ≡ true)
+  on_others q away further last held =
+      let more = put.changed.holds.others q away further last (ap is_some (map.get-empty {X = Mode} nat_cmp q)) (ap (λ (modes : Modes). is_some (map.get modes q)) (sym was_held) ∙ held) in
+      let own : MayHoldMore pass.Wide (put.then_view.seen q) (is_some (put.then_view.own q)) = subst (λ (p : Pass). MayHoldMore p (put.then_view.seen q) (is_some (put.then_view.own q))) put.to_key.wide more.1 in
+      (ap (λ (modes : Modes). map.get modes q) was_held ∙ more.0, ap (λ (own : FilePages). is_some (own q)) was_written ∙ own)
+
+  -- what it had written it keeps first images of
+  has_image : (q : ℕ) → is_some (since.written q) ≡ true → is_some (image_of m.running.images q) ≡ true
+  has_image q some = own_has_image m q (put.written q some).1
+
+  -- with what is locked since
+  both_held : (IsOfSize : ℕ → Type 0) → ((q : ℕ) → map.get since.held q ≡ Some Exclusive → map.get (view_of m).modes q ≡ Some Exclusive) → ((q : ℕ) → IsOfSize q → map.get (view_of m).modes q ≡ Some Exclusive)
+      → ((q : ℕ) → q ≢ basis.root → (IsOfSize q → ⊥) → is_some (map.get since.held q) ≡ false → is_some (map.get (view_of m).modes q) ≡ true → (map.get (view_of m).modes q ≡ Some Exclusive) × (is_some (image_of m.running.images q) ≡ true))
+      → HoldsBoth basis.root read.dir read.bucket IsOfSize m.running.images (view_of m).modes
+  both_held IsOfSize still on_size new = record {
+    on_header = still basis.root on_header;
+    on_dir = still read.dir on_dir;
+    on_bucket = still read.bucket on_bucket;
+    on_size = on_size;
+    others = λ q away further last not held. elim (cases_Bool (is_some (map.get since.held q))) [
+      | inl before ↦ let was = on_others q away further last before in (still q was.0, has_image q was.1)
+      | inr since ↦ new q away not since held
+    ];
+  }
+
+  -- on its way to the size's key
+  headed : (dir row depth : ℕ) → IsHeaded (basis_after since basis) walk (rebased since.written (view_of m)) dir row depth → HoldsBoth basis.root read.dir read.bucket (λ q. ⊥) m.running.images (view_of m).modes
+  headed dir row depth here = both_held (λ q. ⊥)
+      (λ q was. ap (λ (modes : Modes). map.get modes q) here.held ∙ still_exclusive since.held basis.root (header_mode walk.pass) q was)
+      (λ q none. absurd none)
+      (λ q away not none held. absurd (false≢true (sym none ∙ ap is_some (sym (mode_of_others since.held basis.root (header_mode walk.pass) q away)) ∙ ap (λ (modes : Modes). is_some (map.get modes q)) (sym here.held) ∙ held)))
+
+  placed : (bucket depth : ℕ) → (here : IsPlaced (basis_after since basis) walk (rebased since.written (view_of m)) bucket depth)
+      → HoldsBoth basis.root read.dir read.bucket (λ q. q ≡ dir_of here.header (basis.bits walk.key)) m.running.images (view_of m).modes
+  placed bucket depth here =
+      let dir = dir_of here.header (basis.bits walk.key) in
+      let one = header_held since.held walk.pass basis.root in
+      both_held (λ q. q ≡ dir)
+      (λ q was. ap (λ (modes : Modes). map.get modes q) here.held ∙ still_exclusive one dir (directory_mode walk.pass) q (still_exclusive since.held basis.root (header_mode walk.pass) q was))
+      (λ q is. ap (λ (modes : Modes). map.get modes q) here.held ∙ ap (map.get (directory_held since.held walk.pass basis.root dir)) is ∙ mode_of_page one dir (directory_mode walk.pass)
+      ∙ ap (λ p. Some (stronger (map.get one dir) (directory_mode p))) wide ∙ ap Some (asked_exclusively (map.get one dir)))
+      (λ q away not none held. absurd (false≢true (sym none
+      ∙ ap is_some (sym (mode_of_others since.held basis.root (header_mode walk.pass) q away)) ∙ ap is_some (sym (mode_of_others one dir (directory_mode walk.pass) q not))
+      ∙ ap (λ (modes : Modes). is_some (map.get modes q)) (sym here.held) ∙ held)))
+
+  -- from its bucket's step on
+  passed : (found : Option ℕ) → (on : HasRead (basis_after since basis) walk.key (rebased since.written (view_of m)) found) → HoldsByPass since.held walk.pass walk.mode basis.root on.dir on.bucket (rebased since.written (view_of m))
+      → HoldsBoth basis.root read.dir read.bucket (λ q. (q ≡ on.dir) ⊎ (q ≡ on.bucket)) m.running.images (view_of m).modes
+  passed found on holds = both_held (λ q. (q ≡ on.dir) ⊎ (q ≡ on.bucket)) holds.exclusive
+      (λ q which. elim which [
+        | inl is ↦ ap (map.get (view_of m).modes) is ∙ holds.on_dir ∙ ap (λ p. Some (directory_mode p)) wide
+        | inr is ↦ ap (map.get (view_of m).modes) is ∙ holds.on_bucket ∙ ap (λ p. Some (bucket_mode p walk.mode)) wide
+      ])
+      (λ q away not none held.
+      let more = holds.others q away (λ is. not (inl is)) (λ is. not (inr is)) none held in
+      let own : MayHoldMore pass.Wide ((rebased since.written (view_of m)).seen q) (is_some ((view_of m).own q)) = subst (λ (p : Pass). MayHoldMore p ((rebased since.written (view_of m)).seen q) (is_some ((view_of m).own q))) wide more.1 in
+      (more.0, own_has_image m q own))
+
+  -- what is read of the way to the size's key
+  agrees_since : Agrees (rebased since.written (view_of m)).seen (over clean since.written)
+  agrees_since = rebased_agrees since.written (view_of m) clean agree
+
+  passed_way : (found : Option ℕ) → (on : HasRead (basis_after since basis) walk.key (rebased since.written (view_of m)) found) → HoldsByPass since.held walk.pass walk.mode basis.root on.dir on.bucket (rebased since.written (view_of m))
+      → (to : KeysWay (one_key basis) (over clean since.written) walk.key) × HoldsBoth basis.root read.dir read.bucket (λ q. (q ≡ to.dir) ⊎ (q ≡ to.bucket)) m.running.images (view_of m).modes
+  passed_way found on holds = (keys_way basis walk.key (rebased since.written (view_of m)) (over clean since.written) agrees_since on.dir on.bucket on.way.placed, passed found on holds)
+
+  -- it began with some pages
+  not_anew : since ≡ nothing_before → ⊥
+  not_anew none = let both : 17 ≡ 0 = sym (ap (λ (b : Before). b.buckets) put.since_is) ∙ ap (λ (b : Before). b.buckets) none in absurd (omega (arith, both))
+
+  over_at : (p : Phase) → Stands p (basis_after since basis) walk (rebased since.written (view_of m)) → (IsUnderWay p ⊎ IsChangedPhase p)
+      → LocksOverAt p (one_key basis) (over clean since.written) walk.key (λ IsOfSize. HoldsBoth basis.root read.dir read.bucket IsOfSize m.running.images (view_of m).modes)
+  over_at phase.Start stands which = not_anew stands.1
+  over_at (phase.Headed dir row depth) stands which = headed dir row depth stands
+  over_at (phase.Placed bucket depth) stands which = (
+    keys_way basis walk.key (rebased since.written (view_of m)) (over clean since.written) agrees_since (dir_of stands.header (basis.bits walk.key)) bucket (placed_read (basis_after since basis) walk (rebased since.written (view_of m)) bucket depth stands),
+    placed bucket depth stands,
+  )
+  over_at (phase.AtBucket bucket depth found) stands (inl none) = absurd none
+  over_at (phase.AtBucket bucket depth found) stands (inr none) = absurd none
+  over_at (phase.Full next) stands (inl none) = absurd none
+  over_at (phase.Full next) stands (inr none) = absurd none
+  over_at (phase.Adding value bucket room_depth unsplit) stands which = passed_way None stands.read stands.holds
+  over_at (phase.Splitting value room_depth) stands which = passed_way None stands.read stands.holds
+  over_at (phase.Changed bucket done) stands which = passed_way stands.found stands.read stands.holds
+
+  over_locks : HasKeys request (target_of request).0 walk.key → IsStanding (basis_after since basis) walk (rebased since.written (view_of m)) → (IsUnderWay walk.phase ⊎ IsChangedPhase walk.phase)
+      → HoldsOver (one_key basis) clean request walk m.running.images (view_of m).modes
+  over_locks keys stands which = record {
+    keys = keys;
+    own = own_way;
+    written = since.written;
+    kept = has_image;
+    locks = over_at walk.phase stands which;
+  }
+
+-- **An operation on two records holds the locks of its pass.**
+two_locks : (reply : Option ObjReply) (double : Double) (basis : Basis) (request : Request) (m : Moment) (clean : FilePages) → Agrees (view_of m).seen clean → StandsOrTold reply double (one_key basis) request (view_of m)
+    → LocksOfTwo double (one_key basis) clean request m.running.images (view_of m).modes
+two_locks None (First pair) basis request m clean agree s = pair_locks basis m clean agree request pair s.keys s.finding.left s.finding.right s.finding.holds
+two_locks None (Owing pair told) basis request m clean agree s = pair_locks basis m clean agree request pair s.keys s.changed.holding.left s.changed.holding.right s.changed.holding.holds
+two_locks None (Wide leg.Own walk) basis request m clean agree s = locks_at walk.phase basis walk m clean agree s.stands (under_way_not_full walk.phase s.under_way)
+two_locks None (Wide leg.Size walk) basis request m clean agree s = over_locks basis request walk m clean agree s.since s.put s.to_key.wide s.keys s.stands (inl s.under_way)
+two_locks (Some told) (First pair) basis request m clean agree s = pair_locks basis m clean agree request pair s.keys s.holding.left s.holding.right s.holding.holds
+two_locks (Some told) (Owing pair told') basis request m clean agree s = pair_locks basis m clean agree request pair s.keys s.holding.left s.holding.right s.holding.holds
+two_locks (Some told) (Wide leg.Own walk) basis request m clean agree s = locks_at walk.phase basis walk m clean agree s.stands (subst IsNotFull (sym s.at_bucket) tt)
+two_locks (Some told) (Wide leg.Size walk) basis request m clean agree s = over_locks basis request walk m clean agree s.since s.put s.to_key.wide s.keys s.stands (inr (subst IsChangedPhase (sym s.phase) tt))
+
+-- **So does any operation.**
+course_locks : (course : Course) (basis : Basis) (o : OperationFields) (m : Moment) (clean : FilePages) → Agrees (view_of m).seen clean → OperatesBy course (one_key basis) o (view_of m)
+    → LocksBy course (one_key basis) clean o.request m.running.images (view_of m).modes
+course_locks (One walk) basis o m clean agree operates =
+    locks_at walk.phase basis walk m clean agree operates.stands (fits_not_full walk.phase (one_key basis) (walking o.request o.reply walk) (view_of m) operates.fits)
+course_locks (Two double) basis o m clean agree operates = two_locks o.reply double basis o.request m clean agree operates
 
 module _ (s : State) (i : ℕ) where
   -- the locks of an open transaction, by where it is
   fitting_locks : (a : At) (t : Transaction) → Agrees (view_of (moment_of (all_of s) i)).seen (clean_of (all_of s)) → FitsAt a s i t → LocksOf (running_at a) s.commons.pages.locks (basis_of (world_of s) i) (clean_of (all_of s)) (images_by (all_of s) i)
   fitting_locks at.Idle t agree fits = fits.no_locks
-  fitting_locks (at.Pending o) t agree fits = locks_at o.walk.phase (basis_of (world_of s) i) o (moment_of (all_of s) i) (clean_of (all_of s)) agree fits.operates.stands fits.operates.fits
+  fitting_locks (at.Pending o) t agree fits = course_locks o.course (basis_of (world_of s) i) o (moment_of (all_of s) i) (clean_of (all_of s)) agree fits.operates
   fitting_locks (at.Undoing None) t agree fits = fits.0.no_locks
-  fitting_locks (at.Undoing (Some o)) t agree fits = locks_at o.walk.phase (basis_of (world_of s) i) o (moment_of (all_of s) i) (clean_of (all_of s)) agree fits.operates.stands fits.operates.fits
+  fitting_locks (at.Undoing (Some o)) t agree fits = course_locks o.course (basis_of (world_of s) i) o (moment_of (all_of s) i) (clean_of (all_of s)) agree fits.operates
 
   locks_by : IsSound s → (there : Option Transaction) → map.get s.txs i ≡ there → LocksOf (running_of there) s.commons.pages.locks (basis_of (world_of s) i) (clean_of (all_of s)) (images_by (all_of s) i)
   locks_by sound None is = not_true (is_holder s.commons.pages.locks i) (λ holds. false≢true (sym (ap is_some (sound.kept i ∙ ap images_kept is)) ∙ sound.running.holders_open i holds))

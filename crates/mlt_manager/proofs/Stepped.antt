@@ -12,7 +12,7 @@ use Rattle.mlt_trace.specs.declared.item.TraceItem.TheVariants as trace
 use Rattle.mlt_subtx_laws.specs.CleanPages.{RunningImages, clean_pages}
 use Rattle.mlt_hash.specs.Walks.{basis_by}
 use Rattle.mlt_operation.specs.Operating.{OperationFields}
-use Rattle.mlt_operation.specs.declared.request.Request.TheVariants.{Do}
+use Rattle.mlt_base.specs.declared.request.Request.TheVariants.{Do}
 use Rattle.mlt_meeting.specs.Worlds.{basis_of}
 use Rattle.mlt_meeting.proofs.Fixed.{history_fixes}
 use Rattle.mlt_event.specs.declared.answer.Answer.{Answer}

@@ -19,7 +19,7 @@ use Rattle.mlt_event.specs.declared.told.Told.TheVariants as told
 use Rattle.mlt_hash.specs.Walks.{Basis, basis_by}
 use Rattle.mlt_held.specs.Moments.{moment}
 use Rattle.mlt_operation.specs.Operating.{OperationFields}
-use Rattle.mlt_operation.specs.declared.request.Request.TheVariants.{Do}
+use Rattle.mlt_base.specs.declared.request.Request.TheVariants.{Do}
 use Rattle.mlt_transaction.specs.declared.commons.Commons.{Commons}
 use Rattle.mlt_transaction.specs.declared.transaction.At.{At}
 use Rattle.mlt_transaction.specs.declared.transaction.At.TheVariants as at

@@ -1,12 +1,15 @@
 -- The steps of an abort, one after another, come to an end
-use Rattle.std.proofs.Common.{◌≡◌, ◌<◌, ℕ, ◌+◌, ◌*◌, [], ◌∷◌, length, Option, None, Some, refl, sym, ap, subst, ◌∙◌, ◌⊎◌, inl, inr, arith}
+use Rattle.std.proofs.Common.{◌≡◌, ◌<◌, ◌≤◌, ℕ, ◌+◌, ◌*◌, [], ◌∷◌, length, Option, None, Some, refl, sym, ap, subst, ◌∙◌, ◌⊎◌, inl, inr, arith}
 use Rattle.std.specs.FinMap as map
 use Rattle.std.proofs.lemmas.List.{length-append}
 use Rattle.mlt_undo.specs.Undo.{Undo}
 use Rattle.mlt_held.specs.Moments.{moment}
-use Rattle.mlt_held.specs.Views.{view_of}
+use Rattle.mlt_held.specs.Views.{View, view_of}
 use Rattle.mlt_hash.specs.Walks.{Basis, basis_by}
-use Rattle.mlt_operation.specs.Operating.{OperationFields, steps_left}
+use Rattle.mlt_base.specs.declared.request.Request.{Request}
+use Rattle.mlt_base.specs.declared.request.Request.TheVariants.{TakeBack}
+use Rattle.mlt_base.specs.Requests.{size_key_of}
+use Rattle.mlt_operation.specs.Operating.{OperationFields, course_for, started_for, steps_by, steps_left}
 use Rattle.mlt_event.specs.declared.answer.Answer.{Answer}
 use Rattle.mlt_event.specs.declared.answer.Answer.TheVariants as answer
 use Rattle.mlt_transaction.specs.declared.commons.Commons.{Commons}
@@ -20,14 +23,14 @@ use Rattle.mlt_manager.specs.Managers.{ManagerFields}
 use Rattle.mlt_manager.specs.Undoings.{GoesOnBack, StepsBackUpTo, StopsBack}
 use Rattle.mlt_manager.proofs.Chains.{IsUnderWay, found_before, last_taken, one_taken, there_after}
 
--- how many steps an abort still takes at most, those that wait aside: six for each operation, but for what is done of the
--- inverse that runs
+-- How many steps an abort still takes at most, those that wait aside: as many for each operation as one on two records takes
+-- elsewhere, where a wide pass may follow its first one, but for what is done of the inverse that runs.
 abbrev pub left_of : Option OperationFields → ℕ → Transaction → Commons → ℕ
-left_of None root t commons = 5
+left_of None root t commons = 1165
 left_of (Some o) root t commons = steps_left root o (view_of (moment t.subtx commons.pages))
 
 abbrev pub left_at : At → ℕ → Transaction → Commons → ℕ
-left_at (at.Undoing inverting) root t commons = 6 * length t.undo.entries + left_of inverting root t commons
+left_at (at.Undoing inverting) root t commons = 1166 * length t.undo.entries + left_of inverting root t commons
 left_at other root t commons = 0
 
 abbrev pub left_for : Option Transaction → ℕ → Commons → ℕ
@@ -36,6 +39,14 @@ left_for (Some t) root commons = left_at t.at root t commons
 
 abbrev pub back_left : {P : Type 0} → ManagerFields P → ℕ → ℕ
 back_left m tx = left_for (map.get m.txs tx) m.root.page m.commons
+
+-- one that has taken no step has so many left at most
+first_by : (size : Option ℕ) (root : ℕ) (request : Request) (view : View) → steps_by (course_for request size) root None view ≤ 1165
+first_by None root request view = omega arith
+first_by (Some size) root request view = omega arith
+
+first_steps : (root : ℕ) (request : Request) (view : View) → steps_left root (started_for request) view ≤ 1165
+first_steps root request view = first_by (size_key_of request) root request view
 
 undoing_of_at : (a : At) → IsUndoing a → (inverting : Option OperationFields) × (a ≡ at.Undoing inverting)
 undoing_of_at at.Idle none = absurd none
@@ -60,7 +71,7 @@ module _ {P : Type 0} (bits_of : P → ℕ → ℕ) (m m' : ManagerFields P) (tx
   steps_back =
       subst (λ (a : At). TellsAt a (basis_by bits_of m.root m.opens d.steps.changes.before.subtx.tx) d.steps.changes.before d.steps.changes.after m.commons m'.commons told) inverse_at.1 d.steps.tells
 
-  was_left : back_left m tx ≡ 6 * length d.steps.changes.before.undo.entries + left_of inverse_at.0 m.root.page d.steps.changes.before m.commons
+  was_left : back_left m tx ≡ 1166 * length d.steps.changes.before.undo.entries + left_of inverse_at.0 m.root.page d.steps.changes.before m.commons
   was_left = ap (λ (o : Option Transaction). left_for o m.root.page m.commons) d.steps.changes.was ∙ ap (λ (a : At). left_at a m.root.page d.steps.changes.before m.commons) inverse_at.1
 
   -- where it goes on, it is there still
@@ -79,18 +90,19 @@ module _ {P : Type 0} (bits_of : P → ℕ → ℕ) (m m' : ManagerFields P) (tx
   pub still_undoing : GoesOnBack told → IsOpenAt m'.txs tx IsUndoing
   still_undoing goes = record { one = d.steps.changes.after; there = there_now goes; is_at = subst IsUndoing (sym steps_back.now_at) tt }
 
-  now_left : GoesOnBack told → back_left m' tx ≡ 6 * length d.steps.changes.after.undo.entries + left_of steps_back.next m.root.page d.steps.changes.after m'.commons
+  now_left : GoesOnBack told → back_left m' tx ≡ 1166 * length d.steps.changes.after.undo.entries + left_of steps_back.next m.root.page d.steps.changes.after m'.commons
   now_left goes =
       ap (λ (o : Option Transaction). left_for o m'.root.page m'.commons) (there_now goes) ∙ ap (λ (a : At). left_at a m'.root.page d.steps.changes.after m'.commons) steps_back.now_at
-      ∙ ap (λ (n : ManagerFields P). 6 * length d.steps.changes.after.undo.entries + left_of steps_back.next n.root.page d.steps.changes.after m'.commons) d.rest
+      ∙ ap (λ (n : ManagerFields P). 1166 * length d.steps.changes.after.undo.entries + left_of steps_back.next n.root.page d.steps.changes.after m'.commons) d.rest
 
   fewer_by : (inverting next : Option OperationFields) (t : Answer) → TellsOfBack (basis_by bits_of m.root m.opens d.steps.changes.before.subtx.tx) inverting next (workplace_of d.steps.changes.before m.commons) (workplace_of d.steps.changes.after m'.commons) t
-      → GoesOnBack t → 6 * length d.steps.changes.after.undo.entries + left_of next m.root.page d.steps.changes.after m'.commons < 6 * length d.steps.changes.before.undo.entries + left_of inverting m.root.page d.steps.changes.before m.commons
+      → GoesOnBack t → 1166 * length d.steps.changes.after.undo.entries + left_of next m.root.page d.steps.changes.after m'.commons < 1166 * length d.steps.changes.before.undo.entries + left_of inverting m.root.page d.steps.changes.before m.commons
   fewer_by None next answer.Going s goes =
       let same : length d.steps.changes.after.undo.entries ≡ length d.steps.changes.before.undo.entries = ap (λ (u : Undo). length u.entries) s.rest.undo_kept in
       let fewer = s.tells.fewer in
+      let first = first_steps m.root.page (TakeBack s.last) (view_of (moment d.steps.changes.before.subtx m.commons.pages)) in
       let here : left_of next m.root.page d.steps.changes.after m'.commons ≡ left_of (Some s.after) m.root.page d.steps.changes.after m'.commons = ap (λ (o : Option OperationFields). left_of o m.root.page d.steps.changes.after m'.commons) s.is in
-      omega (arith, same, fewer, here)
+      omega (arith, same, fewer, first, here)
   fewer_by (Some o) next answer.Going s goes =
       let same : length d.steps.changes.after.undo.entries ≡ length d.steps.changes.before.undo.entries = ap (λ (u : Undo). length u.entries) s.rest.undo_kept in
       let fewer = s.tells.fewer in
@@ -98,7 +110,7 @@ module _ {P : Type 0} (bits_of : P → ℕ → ℕ) (m m' : ManagerFields P) (tx
       omega (arith, same, fewer, here)
   fewer_by inverting next answer.Undone s goes =
       let off : length d.steps.changes.before.undo.entries ≡ length d.steps.changes.after.undo.entries + 1 = ap length s.takes.off.entries ∙ length-append d.steps.changes.after.undo.entries (s.takes.off.last ∷ []) in
-      let here : left_of next m.root.page d.steps.changes.after m'.commons ≡ 5 = ap (λ (o : Option OperationFields). left_of o m.root.page d.steps.changes.after m'.commons) s.none in
+      let here : left_of next m.root.page d.steps.changes.after m'.commons ≡ 1165 = ap (λ (o : Option OperationFields). left_of o m.root.page d.steps.changes.after m'.commons) s.none in
       omega (arith, off, here)
   fewer_by inverting next (answer.Waiting page by) s none = absurd none
   fewer_by inverting next answer.Aborted s none = absurd none

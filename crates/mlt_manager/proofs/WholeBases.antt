@@ -13,7 +13,7 @@ use Rattle.mlt_trace.specs.declared.item.TraceItem.{TraceItem}
 use Rattle.mlt_trace.specs.declared.item.TraceItem.TheVariants as trace
 use Rattle.mlt_subtx.specs.Images.{Running}
 use Rattle.mlt_subtx_laws.specs.CleanPages.{clean_pages}
-use Rattle.mlt_operation.specs.declared.request.Request.TheVariants.{Do}
+use Rattle.mlt_base.specs.declared.request.Request.TheVariants.{Do}
 use Rattle.mlt_operation.specs.Operating.{OperationFields}
 use Rattle.mlt_event.specs.declared.answer.Answer.{Answer}
 use Rattle.mlt_event.specs.declared.answer.Answer.TheVariants as answer

@@ -1,18 +1,32 @@
 -- Which page locks a transaction holds between two events: those of its operation's pass, or none
-use Rattle.std.specs.Prelude.{ℕ, ◌≡◌, ◌≢◌, true, false, is_some, unwrap_or, List, slice_index}
-use Rattle.std.specs.Prelude.{Option, None, Some}
+use Rattle.std.specs.Prelude.{ℕ, ◌≡◌, ◌≢◌, ◌⊎◌, ◌↔◌, true, false, is_some, unwrap_or, List}
+use Rattle.std.specs.Prelude.{Option, None, Some, slice_index}
 use Rattle.std.specs.FinMap as map
+use Rattle.mlt_types.specs.declared.mode.Mode.{Mode}
 use Rattle.mlt_types.specs.declared.mode.Mode.TheVariants.{Exclusive}
+use Rattle.mlt_base.specs.declared.request.Request.{Request}
+use Rattle.mlt_base.specs.Requests.{target_of}
 use Rattle.mlt_page.specs.declared.page.Page.TheVariants as page
 use Rattle.mlt_page.specs.Values.{HeadFields}
 use Rattle.mlt_page_locks.specs.LockTables.{LockTable, Modes, is_holder, mode_held, pages_of}
 use Rattle.mlt_subtx.specs.Images.{Images, image_of}
 use Rattle.mlt_hash_form.specs.File.{FilePages, dir_of, row_of}
+use Rattle.mlt_hash_form.specs.Held.{over}
+use Rattle.mlt_pair.specs.Pairs.{PairFields}
+use Rattle.mlt_pair.specs.Ways.{IsLocked}
+use Rattle.mlt_pair.specs.declared.way.Way.{Way}
+use Rattle.mlt_pair.specs.declared.way.Way.TheVariants as way
 use Rattle.mlt_hash.specs.Passes.{MayHoldMore, bucket_held, bucket_mode, directory_held}
 use Rattle.mlt_hash.specs.Passes.{directory_mode, header_held, header_mode}
 use Rattle.mlt_hash.specs.Walks.{Basis, WalkFields, basis_by}
 use Rattle.mlt_hash.specs.declared.pass.Phase.{Phase}
 use Rattle.mlt_hash.specs.declared.pass.Phase.TheVariants as phase
+use Rattle.mlt_two_records.specs.declared.double.Double.{Double}
+use Rattle.mlt_two_records.specs.declared.double.Double.TheVariants.{First, Owing, Wide}
+use Rattle.mlt_two_records.specs.declared.double.Leg.TheVariants as leg
+use Rattle.mlt_two_records.specs.FirstPass.{HasKeys}
+use Rattle.mlt_operation.specs.declared.course.Course.{Course}
+use Rattle.mlt_operation.specs.declared.course.Course.TheVariants.{One, Two}
 use Rattle.mlt_operation.specs.Operating.{OperationFields}
 use Rattle.mlt_transaction.specs.declared.transaction.At.{At}
 use Rattle.mlt_transaction.specs.declared.transaction.At.TheVariants as at
@@ -78,12 +92,86 @@ LocksAt later basis clean walk images modes =
     (way : KeysWay basis clean walk.key)
     × HoldsWay walk clean images basis.root way.dir way.bucket modes
 
+-- The way of a key on the clean pages, as far as a first pass to two keys has come on it: none, the
+-- header, the directory page too, the bucket too.
+abbrev pub IsOnWay : Way → Basis → FilePages → ℕ → Type 0
+IsOnWay way.Start basis clean key = Unit {0}
+IsOnWay (way.Headed place dir row) basis clean key =
+    (header : HeadFields) × (clean basis.root ≡ Some (page.Head header))
+    × (dir ≡ dir_of header (basis.bits key))
+IsOnWay (way.Placed dir bucket) basis clean key =
+    (on : KeysWay basis clean key) × (dir ≡ on.dir) × (bucket ≡ on.bucket)
+IsOnWay (way.AtBucket dir bucket found) basis clean key =
+    (on : KeysWay basis clean key) × (dir ≡ on.dir) × (bucket ≡ on.bucket)
+
+-- The page locks of a first pass to two keys, those of the records that the request changes: a page
+-- is held just where it is of one of the two ways as far as they have come, the header and the
+-- directory pages shared, and the buckets exclusively.
+pub record HoldsPair (basis : Basis) (clean : FilePages) (request : Request) (pair : PairFields)
+    (modes : Modes) : Type 0 where
+  pub keys : HasKeys request pair.left pair.right
+  pub own : IsOnWay pair.left_way basis clean pair.left
+  pub size : IsOnWay pair.right_way basis clean pair.right
+  pub locks : (q : ℕ) (mode : Mode) → (map.get modes q ≡ Some mode)
+      ↔ (IsLocked basis.root pair.left_way q mode ⊎ IsLocked basis.root pair.right_way q mode)
+
+-- The page locks of a wide pass that has gone on to the key of a size, all of them exclusive: the
+-- header, the directory page and the bucket of its own key, those pages of the way to the other key
+-- that it has come to, and each other page that it has written or made.
+pub record HoldsBoth (root dir bucket : ℕ) (IsOfSize : ℕ → Type 0) (images : Images)
+    (modes : Modes) : Type 0 where
+  pub on_header : map.get modes root ≡ Some Exclusive
+  pub on_dir : map.get modes dir ≡ Some Exclusive
+  pub on_bucket : map.get modes bucket ≡ Some Exclusive
+  pub on_size : (q : ℕ) → IsOfSize q → map.get modes q ≡ Some Exclusive
+  pub others : (q : ℕ) → q ≢ root → q ≢ dir → q ≢ bucket → (IsOfSize q → ⊥)
+      → is_some (map.get modes q) ≡ true
+      → (map.get modes q ≡ Some Exclusive) × (is_some (image_of images q) ≡ true)
+
+-- By the walk's phase, those pages of the way to the size's key that it has come to, beside the
+-- header, on these pages: none, the directory page, the bucket too.
+abbrev pub LocksOverAt : Phase → Basis → FilePages → ℕ → ((ℕ → Type 0) → Type 0) → Type 0
+LocksOverAt phase.Start basis pages key Holds = ⊥
+LocksOverAt (phase.Headed dir row depth) basis pages key Holds = Holds (λ q. ⊥)
+LocksOverAt (phase.Placed bucket depth) basis pages key Holds =
+    (way : KeysWay basis pages key) × Holds (λ q. q ≡ way.dir)
+LocksOverAt later basis pages key Holds =
+    (way : KeysWay basis pages key) × Holds (λ q. (q ≡ way.dir) ⊎ (q ≡ way.bucket))
+
+-- The way to the size's key is one on the clean pages with what the pass had written when it went on
+-- to that key. Of each page that it had written it keeps the first image.
+pub record HoldsOver (basis : Basis) (clean : FilePages) (request : Request) (walk : WalkFields)
+    (images : Images) (modes : Modes) : Type 0 where
+  pub keys : HasKeys request (target_of request).0 walk.key
+  pub own : KeysWay basis clean (target_of request).0
+  pub written : FilePages
+  pub kept : (q : ℕ) → is_some (written q) ≡ true → is_some (image_of images q) ≡ true
+  pub locks : LocksOverAt walk.phase basis (over clean written) walk.key
+      (λ IsOfSize. HoldsBoth basis.root own.dir own.bucket IsOfSize images modes)
+
+-- the page locks of an operation on two records: of its first pass, or on either leg of its wide one
+abbrev pub LocksOfTwo : Double → Basis → FilePages → Request → Images → Modes → Type 0
+LocksOfTwo (First pair) basis clean request images modes = HoldsPair basis clean request pair modes
+LocksOfTwo (Owing pair reply) basis clean request images modes =
+    HoldsPair basis clean request pair modes
+LocksOfTwo (Wide leg.Own walk) basis clean request images modes =
+    LocksAt walk.phase basis clean walk images modes
+LocksOfTwo (Wide leg.Size walk) basis clean request images modes =
+    HoldsOver basis clean request walk images modes
+
+-- and of any operation
+abbrev pub LocksBy : Course → Basis → FilePages → Request → Images → Modes → Type 0
+LocksBy (One walk) basis clean request images modes =
+    LocksAt walk.phase basis clean walk images modes
+LocksBy (Two double) basis clean request images modes =
+    LocksOfTwo double basis clean request images modes
+
 -- The page locks of a transaction that runs this and keeps these images: none, unless it runs an
--- operation, and then those of its walk. The basis tells whose walk it is.
+-- operation, and then those of its pass. The basis tells whose it is.
 abbrev pub LocksOf : Option OperationFields → LockTable → Basis → FilePages → Images → Type 0
 LocksOf None locks basis clean images = is_holder locks basis.tx ≡ false
 LocksOf (Some o) locks basis clean images =
-    LocksAt o.walk.phase basis clean o.walk images (pages_of locks basis.tx)
+    LocksBy o.course basis clean o.request images (pages_of locks basis.tx)
 
 -- Transaction i holds the page locks of its pass, if it runs an operation, and else none. Each page
 -- that its pass has written or made it holds exclusively.

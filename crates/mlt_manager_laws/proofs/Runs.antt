@@ -22,10 +22,10 @@ use Rattle.mlt_transaction.specs.declared.transaction.Transaction.{Transaction}
 use Rattle.mlt_transaction.specs.Transactions.{TellsOfTransaction}
 use Rattle.mlt_open.specs.Tables.{Table}
 use Rattle.mlt_invariant.proofs.Tables.{inserted_here}
-use Rattle.mlt_counts.specs.Counts.{IsToTakeBack, TakesBackInFour}
+use Rattle.mlt_counts.specs.Counts.{IsToTakeBack}
+use Rattle.mlt_counts.specs.CountsOfTwo.{TakesBackOf}
 use Rattle.mlt_counts.specs.OwnSteps.{AreOwnSteps, view_in, with_answer}
-use Rattle.mlt_counts.proofs.Inverses.{taken_back}
-use Rattle.mlt_counts.proofs.Passes.{first_pass}
+use Rattle.mlt_counts.proofs.PassesOfTwo.{inverse_of_any, pass_of}
 use Rattle.mlt_manager.specs.Answers.{HasStepped, counted, txs_after}
 use Rattle.mlt_manager.specs.Events.{IsRun, Meets}
 use Rattle.mlt_manager.specs.Managers.{IsManager, ManagerFields}
@@ -218,13 +218,13 @@ from_call bits_of tx op events tolds m called new h call only run =
     record {
       t = t;
       there = there;
-      takes = (has, first_pass (basis_by bits_of called.root called.opens tx) op t (view_in t called.commons) has.steps call.calls.tells.pending has.own);
+      takes = (has, pass_of (basis_by bits_of called.root called.opens tx) op t (view_in t called.commons) has.steps call.calls.tells.pending has.own);
     }
 
 -- **From the abort on.**
 pub from_abort : {P : Type 0} (bits_of : P → ℕ → ℕ) (tx : ℕ) (events : List Event) (tolds : List Told) (m new : ManagerFields P) (t : Transaction) (last : ObjOp × ObjReply) → IsManager bits_of m
     → map.get m.txs tx ≡ Some t → IsToTakeBack t last → OnlySteps tx events → IsRun bits_of m events tolds new
-    → TakesOwnSteps (basis_by bits_of m.root m.opens tx) t (view_in t m.commons) tx events tolds (TakesBackInFour last)
+    → TakesOwnSteps (basis_by bits_of m.root m.opens tx) t (view_in t m.commons) tx events tolds (TakesBackOf last)
 from_abort bits_of tx events tolds m new t last h there to only run =
     let has = run_steps bits_of m.root m.opens tx events tolds m new t h there refl only run in
-    (has, taken_back (basis_by bits_of m.root m.opens tx) t last (view_in t m.commons) has.steps to has.own)
+    (has, inverse_of_any (basis_by bits_of m.root m.opens tx) t last (view_in t m.commons) has.steps to has.own)

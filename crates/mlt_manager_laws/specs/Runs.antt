@@ -12,7 +12,7 @@ use Rattle.mlt_event.specs.declared.event.Event.TheVariants as event
 use Rattle.mlt_event.specs.declared.told.Told.{Told}
 use Rattle.mlt_event.specs.declared.told.Told.TheVariants as told
 use Rattle.mlt_transaction.specs.declared.transaction.Transaction.{Transaction}
-use Rattle.mlt_counts.specs.Counts.{TakesFirstPass}
+use Rattle.mlt_counts.specs.CountsOfTwo.{TakesPassOf}
 use Rattle.mlt_counts.specs.OwnSteps.{AreOwnSteps, OwnStep, answers_of, view_in, with_answer}
 use Rattle.mlt_manager.specs.Events.{IsRun}
 use Rattle.mlt_manager.specs.Managers.{ManagerFields}
@@ -94,4 +94,4 @@ pub record TakesPassInRun {P : Type 0} (bits_of : P → ℕ → ℕ) (m : Manage
   pub t : Transaction
   pub there : map.get m.txs tx ≡ Some t
   pub takes : TakesOwnSteps (basis_by bits_of m.root m.opens tx) t (view_in t m.commons) tx
-      events tolds (TakesFirstPass (basis_by bits_of m.root m.opens tx) op)
+      events tolds (TakesPassOf (basis_by bits_of m.root m.opens tx) op)

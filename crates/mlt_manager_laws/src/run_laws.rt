@@ -11,7 +11,8 @@ ghost use Rattle.mlt_event.specs.declared.event.Event.TheVariants as event;
 ghost use Rattle.mlt_event.specs.declared.told.Told.{Told};
 ghost use Rattle.mlt_event.specs.declared.told.Told.TheVariants as told;
 ghost use Rattle.mlt_transaction.specs.declared.transaction.Transaction.{Transaction};
-ghost use Rattle.mlt_counts.specs.Counts.{IsToTakeBack, TakesBackInFour, TakesFirstPass};
+ghost use Rattle.mlt_counts.specs.Counts.{IsToTakeBack};
+ghost use Rattle.mlt_counts.specs.CountsOfTwo.{TakesBackOf};
 ghost use Rattle.mlt_counts.specs.OwnSteps.{view_in};
 ghost use Rattle.mlt_manager.specs.Answers.{counted};
 ghost use Rattle.mlt_manager.specs.Events.{IsRun, Meets};
@@ -46,8 +47,10 @@ pub fn steps_of_a_run_are_own_steps<P: Pseudo>()
         tx events tolds }
 {}
 
-/// From a call on an operation is told Done or Blocked at its fourth step, and Going at the three before it; but for an
-/// addition that finds no room. That one is told Going at its third step too; and then comes a narrow pass or a wide one.
+/// From a call on an operation on one record is told Done or Blocked at its fourth step, and Going at the three before it; but
+/// for an addition that finds no room. That one is told Going at its third step too; and then comes a narrow pass or a wide
+/// one. One on two records is told Done or Blocked at its fourth to seventh step; or finds no room at its third to fifth, and
+/// then comes a wide pass.
 pub fn operations_of_a_run_take_few_steps<P: Pseudo>()
     ensures { (old called new : ManagerFields P) (events : List Event) (tolds : List Told)
         (tx : ℕ) (op : ObjOp)
@@ -58,12 +61,12 @@ pub fn operations_of_a_run_take_few_steps<P: Pseudo>()
 {}
 
 /// The last operation of a transaction whose abort has begun is taken back at the fourth step, told Going at the three
-/// before it; and at the first step, where it has no inverse.
+/// before it, or at the fourth to seventh, where it was on two records; and at the first step, where it has no inverse.
 pub fn aborts_of_a_run_take_few_steps<P: Pseudo>()
     ensures { (old new : ManagerFields P) (events : List Event) (tolds : List Told)
         (tx : ℕ) (t : Transaction) (last : ObjOp × ObjReply)
         → IsReached P.bits_of old → map.get old.txs tx ≡ Some t → IsToTakeBack t last
         → OnlySteps tx events → IsRun P.bits_of old events tolds new
         → TakesOwnSteps (basis_by P.bits_of old.root old.opens tx) t (view_in t old.commons)
-        tx events tolds (TakesBackInFour last) }
+        tx events tolds (TakesBackOf last) }
 {}

@@ -6,7 +6,12 @@ use Rattle.mlt_types.specs.declared.refusal.Refusal.TheVariants as refusal
 use Rattle.mlt_kinds.specs.declared.operation.ObjReply.{ObjReply}
 use Rattle.mlt_held.specs.Moments.{Moment}
 use Rattle.mlt_hash.specs.Walks.{Basis, basis_by}
-use Rattle.mlt_operation.specs.Answers.{IsCauseOf}
+use Rattle.mlt_base.specs.declared.request.Request.{Request}
+use Rattle.mlt_two_records.specs.declared.double.Double.TheVariants.{First, Owing, Wide}
+use Rattle.mlt_two_records.specs.declared.double.Leg.TheVariants as leg
+use Rattle.mlt_operation.specs.declared.course.Course.{Course}
+use Rattle.mlt_operation.specs.declared.course.Course.TheVariants.{One, Two}
+use Rattle.mlt_operation.specs.Answers.{CauseBy, IsCauseOf}
 use Rattle.mlt_operation.specs.Operating.{OperationFields}
 use Rattle.mlt_event.specs.declared.answer.Answer.{Answer}
 use Rattle.mlt_event.specs.declared.answer.Answer.TheVariants as answer
@@ -55,10 +60,17 @@ after_others answer.Aborted txs tx i ne = removed_elsewhere txs tx i ne
 after_others other txs tx i ne = refl
 
 -- why a step may be refused
+can_mark_by : (reason : Refusal) (course : Course) (basis : Basis) (old mid : Moment) (request : Request) → CauseBy course reason basis old mid request → CanMark reason
+can_mark_by refusal.NoRoom course basis old mid request cause = tt
+can_mark_by refusal.OutOfMemory course basis old mid request cause = tt
+can_mark_by other (One walk) basis old mid request none = absurd none
+can_mark_by other (Two (First pair)) basis old mid request none = absurd none
+can_mark_by other (Two (Owing pair reply)) basis old mid request none = absurd none
+can_mark_by other (Two (Wide leg.Own walk)) basis old mid request none = absurd none
+can_mark_by other (Two (Wide leg.Size walk)) basis old mid request (since, put, none) = absurd none
+
 step_can_mark : (reason : Refusal) (basis : Basis) (old mid : Moment) (before : OperationFields) → IsCauseOf reason basis old mid before → CanMark reason
-step_can_mark refusal.NoRoom basis old mid before cause = tt
-step_can_mark refusal.OutOfMemory basis old mid before cause = tt
-step_can_mark other basis old mid before none = absurd none
+step_can_mark reason basis old mid before cause = can_mark_by reason before.course basis old mid before.request cause
 
 -- an operation that is done or refused leaves its transaction at nothing
 done_at : (a : At) (basis : Basis) (before after : Transaction) (old new : Commons) (reply : ObjReply) → TellsAt a basis before after old new (answer.Done reply) → IsIdle after.at
