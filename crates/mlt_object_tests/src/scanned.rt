@@ -1,15 +1,19 @@
 //! The table of object locks beside a plain list that is scanned: both answer alike.
 
 use mlt_commute::clash;
-use mlt_kinds::{AccountOp, Done, ObjOp, ObjReply};
+use mlt_kinds::{AccountOp, Done, ElementOp, ObjOp, ObjReply};
 use mlt_object_locks::ObjectLocks;
 use mlt_test_tools::same_at;
 use mlt_types::{Refusal, TxId};
 use std::test::Fail;
 
-const CALLS: u32 = 2_000;
+const CALLS: u32 = 4_000;
 
 const ACCOUNTS: u64 = 5;
+
+const SETS: u64 = 3;
+
+const ELEMENTS: u64 = 4;
 
 const TRANSACTIONS: u64 = 9;
 
@@ -53,16 +57,41 @@ fn next_number(state: u64) -> u64 {
         .wrapping_add(1_442_695_040_888_963_407)
 }
 
-// One of five operations on one of the accounts.
+// An operation on one of the accounts, on an element of one of the sets, or on the size of one.
 fn chosen(number: u64) -> Done {
-    let account = (number % ACCOUNTS) as u32;
-    let (op, reply) = match number / 8 % 5 {
+    let kind = number / 512;
+    if number % 2 == 0 {
+        on_account((number / 2 % ACCOUNTS) as u32, kind)
+    } else {
+        on_set(
+            (number / 2 % SETS) as u16,
+            (number / 8 % ELEMENTS) as u32,
+            kind,
+        )
+    }
+}
+
+fn on_account(account: u32, kind: u64) -> Done {
+    let (op, reply) = match kind % 5 {
         0 => (AccountOp::Balance, ObjReply::Is(5)),
         1 => (AccountOp::Withdraw(2), ObjReply::Done),
         2 => (AccountOp::Withdraw(7), ObjReply::Short),
         _ => (AccountOp::Deposit(1), ObjReply::Done),
     };
     Done::new(ObjOp::Account(account, op), reply)
+}
+
+fn on_set(set: u16, element: u32, kind: u64) -> Done {
+    let (op, reply) = match kind % 8 {
+        0 => (ElementOp::Add, ObjReply::Added),
+        1 => (ElementOp::Remove, ObjReply::Removed),
+        2 => (ElementOp::Add, ObjReply::Present),
+        3 => (ElementOp::Remove, ObjReply::Absent),
+        4 => (ElementOp::Has, ObjReply::Yes),
+        5 => (ElementOp::Has, ObjReply::No),
+        _ => return Done::new(ObjOp::Size(set), ObjReply::Is(1)),
+    };
+    Done::new(ObjOp::Element(set, element, op), reply)
 }
 
 // Three of four calls ask for an operation. The others release, or reserve and never ask.
