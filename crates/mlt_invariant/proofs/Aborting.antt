@@ -26,14 +26,15 @@ use Rattle.mlt_history.specs.Rooms.{total_room}
 use Rattle.mlt_history.proofs.ItemLaws.{entries_of-append, no_begin, no_commit}
 use Rattle.mlt_history.proofs.RoomLaws.{total_room-remove}
 use Rattle.mlt_subtx_laws.specs.CleanPages.{clean_pages}
-use Rattle.mlt_subtx_laws.specs.Running.{KeepsRunning, after_close, clean_of}
+use Rattle.mlt_held.specs.Views.{view_of}
+use Rattle.mlt_subtx_laws.specs.Running.{KeepsRunning, after_close, clean_of, moment_of}
 use Rattle.mlt_subtx_laws.proofs.AllEvents.{close_clean, close_keeps}
 use Rattle.mlt_meeting.specs.Events.{with_closed, with_undone as world_undone}
 use Rattle.mlt_meeting.specs.Worlds.{PagesMeanHistory, lists_in}
 use Rattle.mlt_meeting.proofs.OpenNumbers.{removed_beside, removed_here as closed_here}
 use Rattle.mlt_meeting.proofs.Transactions.{close_keeps as close_keeps_match}
 use Rattle.mlt_meeting.proofs.Matches.{same_pages_match}
-use Rattle.mlt_meeting.proofs.Walks.{stands_by_end}
+use Rattle.mlt_meeting.proofs.Walks.{no_more_by_end}
 use Rattle.mlt_operation.specs.Operating.{OperationFields}
 use Rattle.mlt_event.specs.declared.answer.Answer.TheVariants as answer
 use Rattle.mlt_transaction.specs.declared.commons.Commons.{Commons}
@@ -45,7 +46,7 @@ use Rattle.mlt_invariant.specs.Undoing.{LedBack, TakesLastBack, with_aborted}
 use Rattle.mlt_invariant.proofs.Closing.{all_of_others, nothing_of, one_after_another}
 use Rattle.mlt_invariant.proofs.InverseEnds.{cleared}
 use Rattle.mlt_invariant.proofs.LastBack.{IsLeft, led_back, left, may_undo, pages_now, room_before}
-use Rattle.mlt_invariant.proofs.Openness.{agrees_in, opens_fits}
+use Rattle.mlt_invariant.proofs.Openness.{agrees_in, keeps_fewer, opens_fits}
 use Rattle.mlt_invariant.proofs.Tables.{removed_elsewhere, removed_here, removed_inserted}
 
 module _ (s : State) (i : ℕ) (inverting : Option OperationFields) (before after : Transaction) (commons : Commons)
@@ -163,8 +164,7 @@ module _ (s : State) (i : ℕ) (inverting : Option OperationFields) (before afte
           other = ne;
           runs = runs;
           basis = refl;
-          agrees = agrees_in s j t sound is;
-          walks = λ walk view stands agree. stands_by_end (world_of s) j walk view sound.match stands agree i;
+          keeps = keeps_fewer s j t now.opens sound is (no_more_by_end (world_of s) (view_of (moment_of (all_of s) j)) sound.match (agrees_in s j t sound is) i);
           reserved = reserved;
           max_ops = refl;
         }) fits.where_at;

@@ -19,14 +19,15 @@ use Rattle.mlt_subtx.specs.Images.{Running}
 use Rattle.mlt_subtx.proofs.ImageLaws.{not_there, not_true}
 use Rattle.mlt_held.specs.declared.locked_store.LockedStore.{LockedStore}
 use Rattle.mlt_subtx_laws.specs.CleanPages.{clean_pages}
-use Rattle.mlt_subtx_laws.specs.Running.{AllRunning, HoldsNothing, KeepsRunning, after_begin, clean_of, is_open}
+use Rattle.mlt_held.specs.Views.{view_of}
+use Rattle.mlt_subtx_laws.specs.Running.{AllRunning, HoldsNothing, KeepsRunning, after_begin, clean_of, is_open, moment_of}
 use Rattle.mlt_subtx_laws.proofs.AllEvents.{begin_clean, begin_keeps, nothing_at_begin}
 use Rattle.mlt_meeting.specs.Events.{with_begun}
 use Rattle.mlt_meeting.specs.Worlds.{PagesMeanHistory, lists_in}
 use Rattle.mlt_meeting.proofs.OpenNumbers as numbers
 use Rattle.mlt_meeting.proofs.Transactions as meeting
 use Rattle.mlt_meeting.proofs.Matches.{lists_kept, same_pages_match}
-use Rattle.mlt_meeting.proofs.Walks.{stands_by_begin}
+use Rattle.mlt_meeting.proofs.Walks.{no_more_by_begin}
 use Rattle.mlt_transaction.specs.declared.commons.Commons.{Commons}
 use Rattle.mlt_transaction.specs.declared.transaction.At.{At}
 use Rattle.mlt_transaction.specs.declared.transaction.Transaction.{Transaction}
@@ -34,7 +35,7 @@ use Rattle.mlt_invariant.specs.Sound.{Fits, FitsAt, IsSound}
 use Rattle.mlt_invariant.specs.States.{State, all_of, images_kept, is_undoing_at, pending_room, room_of, undoing_of, world_of}
 use Rattle.mlt_invariant.specs.Transactions.{Begins, with_next}
 use Rattle.mlt_invariant.proofs.Lengths.{as_many_images}
-use Rattle.mlt_invariant.proofs.Openness.{agrees_in, opens_fits}
+use Rattle.mlt_invariant.proofs.Openness.{agrees_in, keeps_fewer, opens_fits}
 use Rattle.mlt_invariant.proofs.Tables.{inserted_elsewhere, inserted_here}
 
 module _ (s : State) (t : Transaction) (commons : Commons) (sound : IsSound s) (few : map.len s.txs < s.commons.pages.locks.max_open) (k : Begins s t commons) where
@@ -121,8 +122,7 @@ module _ (s : State) (t : Transaction) (commons : Commons) (sound : IsSound s) (
           other = ne;
           runs = keeps;
           basis = refl;
-          agrees = agrees_in s j u sound is;
-          walks = λ walk view stands agree. stands_by_begin (world_of s) j walk view sound.match stands agree;
+          keeps = keeps_fewer s j u now.opens sound is (no_more_by_begin (world_of s) (view_of (moment_of (all_of s) j)) sound.match (agrees_in s j u sound is));
           reserved = λ v differ. ap (λ (o : Locks). reservation_of o.reserved v) k.objects;
           max_ops = refl;
         }) fits.where_at;

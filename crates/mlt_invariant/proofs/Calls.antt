@@ -10,10 +10,10 @@ use Rattle.mlt_held.specs.Moments.{Moment}
 use Rattle.mlt_held.specs.Views.{view_of}
 use Rattle.mlt_subtx_laws.specs.Running.{AllRunning, HoldsNothing, KeepsRunning, after_roll_back, clean_of, images_by, moment_of}
 use Rattle.mlt_subtx_laws.proofs.AllEvents.{nothing_after_roll_back}
-use Rattle.mlt_hash.proofs.Laws.{at_start}
 use Rattle.mlt_meeting.specs.Worlds.{basis_of}
 use Rattle.mlt_operation.specs.Operating.{IsOperating, OperationFields, started_for}
-use Rattle.mlt_operation.specs.declared.request.Request.TheVariants.{Do}
+use Rattle.mlt_base.specs.declared.request.Request.TheVariants.{Do}
+use Rattle.mlt_operation.proofs.Operations.{starts}
 use Rattle.mlt_transaction.specs.declared.commons.Commons.{Commons}
 use Rattle.mlt_transaction.specs.declared.transaction.At.{At}
 use Rattle.mlt_transaction.specs.declared.transaction.At.TheVariants as at
@@ -37,7 +37,8 @@ called_sound s i before after commons sound was c =
     let two : pending_room after.at ≡ 2 = ap pending_room c.pending in
     let none : pending_room before.at ≡ 0 = ap pending_room c.idle in
     let lengths : length after.undo.entries ≡ length before.undo.entries = ap length c.entries in
-    let operates : IsOperating (basis_of (world_of s) i) (started_for (Do c.op)) (view_of (moment_of (all_of s) i)) = record { target = refl; stands = (at_start (moment_of (all_of s) i) (unheld (all_of s) i nothing), refl); fits = refl } in
+    let operates : IsOperating (basis_of (world_of s) i) (started_for (Do c.op)) (view_of (moment_of (all_of s) i)) =
+    starts (basis_of (world_of s) i) (Do c.op) (moment_of (all_of s) i) c.in_range.cell (unheld (all_of s) i nothing) in
     let pending : HasPending (with_transaction s i after commons s.images) i after (started_for (Do c.op)) = record {
       op = c.op;
       asked = refl;

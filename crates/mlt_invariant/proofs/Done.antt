@@ -24,16 +24,17 @@ use Rattle.mlt_subtx.specs.Images.{Running}
 use Rattle.mlt_held.specs.Views.{view_of}
 use Rattle.mlt_subtx_laws.specs.Running.{AllRunning, HoldsNothing, KeepsRunning, after_end, clean_of, is_open, moment_of}
 use Rattle.mlt_subtx_laws.specs.CleanPages.{clean_pages}
-use Rattle.mlt_hash_form.specs.Held.{over}
 use Rattle.mlt_commute.specs.Clashes.{clashes}
 use Rattle.std.specs.List.{Contains}
 use Rattle.mlt_subtx_laws.proofs.AllRunning.{agrees_with_each}
 use Rattle.mlt_subtx_laws.proofs.AllEvents.{end_clean, end_keeps, nothing_at_end}
+use Rattle.mlt_meeting.specs.Ends.{EndsWith}
 use Rattle.mlt_meeting.specs.Events.{MayDo, with_done}
+use Rattle.mlt_meeting.proofs.TwoEnds.{sees_held_alone}
 use Rattle.mlt_meeting.specs.Presences.{IsOpInRange}
 use Rattle.mlt_meeting.specs.Worlds.{PagesMeanHistory, lists_in}
 use Rattle.mlt_meeting.proofs.Operations.{operation_keeps}
-use Rattle.mlt_operation.specs.declared.request.Request.TheVariants.{Do}
+use Rattle.mlt_base.specs.declared.request.Request.TheVariants.{Do}
 use Rattle.mlt_operation.specs.Operating.{OperationFields}
 use Rattle.mlt_transaction.specs.declared.commons.Commons.{Commons}
 use Rattle.mlt_transaction.specs.declared.transaction.At.{At}
@@ -72,13 +73,19 @@ module _ (s : State) (i : ℕ) (o : OperationFields) (before after : Transaction
   pages : map.FinMap nat_cmp Page
   pages = clean_pages (map.insert s.images i map.empty) commons.pages.store.pages
 
-  written : (q : ℕ) → map.get (clean_pages (map.insert s.images i map.empty) commons.pages.store.pages) q ≡ over (clean_of (all_of s)) (view_of (moment_of (all_of s) i)).own q
-  written q = ap (λ (a : AllRunning). clean_of a q) (ended s.base) ∙ ap (λ (f : ℕ → Option Page). f q) (end_clean (all_of s) i sound.running)
+  written : EndsWith (world_of s) (view_of (moment_of (all_of s) i)) (clean_pages (map.insert s.images i map.empty) commons.pages.store.pages)
+  written = record {
+    held = sees_held_alone (moment_of (all_of s) i);
+    ends = λ q. ap (λ (a : AllRunning). clean_of a q) (ended s.base) ∙ ap (λ (f : ℕ → Option Page). f q) (end_clean (all_of s) i sound.running);
+  }
+
+  in_range : IsOpInRange e.ends.op
+  in_range = subst IsOpInRange same_op pending.in_range
 
   answered : IsAnswered (world_of s) i e.ends.op e.ends.reply (clean_pages (map.insert s.images i map.empty) commons.pages.store.pages)
   answered =
       is_answered (world_of s) i o (view_of (moment_of (all_of s) i)) e.ends.op e.ends.reply (clean_pages (map.insert s.images i map.empty) commons.pages.store.pages)
-      sound.match pending.operates e.ends.asked e.ends.ready (agrees_with_each (all_of s) i sound.running is_open_here) written
+      sound.match in_range.cell pending.operates e.ends.asked e.ends.ready (agrees_with_each (all_of s) i sound.running is_open_here) written
 
   free : (j : ℕ) (held : ObjOp × ObjReply) → j ≢ i → Contains ((lists_in (world_of s)).held j) held → clashes held (e.ends.op, e.ends.reply) ≡ false
   free j held ne here =
@@ -90,7 +97,7 @@ module _ (s : State) (i : ℕ) (o : OperationFields) (before after : Transaction
   may_do = record {
     is_open = sound.opened i ∙ ap is_some was;
     forward = ap is_undoing_at was ∙ ap is_undoing e.pending;
-    in_range = subst IsOpInRange same_op pending.in_range;
+    in_range = in_range;
     free = free;
   }
 

@@ -20,14 +20,15 @@ use Rattle.mlt_history.proofs.ItemLaws.{commit_keeps_counted, entries_of-append,
 use Rattle.mlt_history.proofs.RoomLaws.{total_room-remove}
 use Rattle.mlt_held.specs.declared.locked_store.LockedStore.{LockedStore}
 use Rattle.mlt_subtx_laws.specs.CleanPages.{clean_pages}
-use Rattle.mlt_subtx_laws.specs.Running.{AllRunning, HoldsNothing, KeepsRunning, after_close, clean_of}
+use Rattle.mlt_held.specs.Views.{view_of}
+use Rattle.mlt_subtx_laws.specs.Running.{AllRunning, HoldsNothing, KeepsRunning, after_close, clean_of, moment_of}
 use Rattle.mlt_subtx_laws.proofs.AllEvents.{close_clean, close_keeps}
 use Rattle.mlt_meeting.specs.Events.{IsOpenAt}
 use Rattle.mlt_meeting.specs.Worlds.{PagesMeanHistory, World, lists_in}
 use Rattle.mlt_meeting.proofs.OpenNumbers as numbers
 use Rattle.mlt_meeting.proofs.Transactions as meeting
 use Rattle.mlt_meeting.proofs.Matches.{same_pages_match}
-use Rattle.mlt_meeting.proofs.Walks.{stands_by_end}
+use Rattle.mlt_meeting.proofs.Walks.{no_more_by_end}
 use Rattle.mlt_transaction.specs.declared.commons.Commons.{Commons}
 use Rattle.mlt_transaction.specs.declared.transaction.At.{At}
 use Rattle.mlt_transaction.specs.declared.transaction.Transaction.{Transaction}
@@ -35,7 +36,7 @@ use Rattle.mlt_invariant.specs.Sound.{Fits, FitsAt, IsSound}
 use Rattle.mlt_invariant.specs.States.{State, all_of, images_kept, is_undoing_at, room_of, undoing_of, world_of}
 use Rattle.mlt_invariant.specs.Transactions.{Ends, without_transaction}
 use Rattle.mlt_invariant.proofs.Closing.{all_of_others, nothing_of}
-use Rattle.mlt_invariant.proofs.Openness.{agrees_in, opens_fits}
+use Rattle.mlt_invariant.proofs.Openness.{agrees_in, keeps_fewer, opens_fits}
 use Rattle.mlt_invariant.proofs.Tables.{removed_elsewhere, removed_here}
 
 -- the world in which transaction i is open no more, and that has this entry of it
@@ -115,8 +116,7 @@ module _ (s : State) (i : ℕ) (before : Transaction) (commons : Commons) (item 
           other = ne;
           runs = keeps;
           basis = refl;
-          agrees = agrees_in s j u sound is;
-          walks = λ walk view stands agree. stands_by_end (world_of s) j walk view sound.match stands agree i;
+          keeps = keeps_fewer s j u now.opens sound is (no_more_by_end (world_of s) (view_of (moment_of (all_of s) j)) sound.match (agrees_in s j u sound is) i);
           reserved = k.reserved;
           max_ops = refl;
         }) fits.where_at;

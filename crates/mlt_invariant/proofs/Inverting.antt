@@ -10,8 +10,9 @@ use Rattle.mlt_undo.specs.Undo.{Undo}
 use Rattle.mlt_held.specs.Moments.{Moment, moment}
 use Rattle.mlt_held.specs.Views.{view_of}
 use Rattle.mlt_subtx_laws.specs.Running.{AllRunning, moment_of}
-use Rattle.mlt_hash.proofs.Laws.{at_start}
 use Rattle.mlt_meeting.specs.Worlds.{basis_of}
+use Rattle.mlt_base.specs.declared.request.Request.TheVariants.{TakeBack}
+use Rattle.mlt_operation.proofs.Operations.{starts}
 use Rattle.mlt_operation.specs.Answers.{StepsOn, Waits}
 use Rattle.mlt_operation.specs.Operating.{IsOperating, OperationFields}
 use Rattle.mlt_event.specs.declared.answer.Answer.{Answer}
@@ -25,7 +26,7 @@ use Rattle.mlt_transaction.specs.Transactions.{StepsBack}
 use Rattle.mlt_invariant.specs.Events.{KeepsCleanPages, with_transaction}
 use Rattle.mlt_invariant.specs.Sound.{FitsAt, HasInverse, IsSound}
 use Rattle.mlt_invariant.specs.States.{State, all_of, is_undoing, pending_room, room_of, world_of}
-use Rattle.mlt_invariant.proofs.MaySteps.{same_moment, unheld}
+use Rattle.mlt_invariant.proofs.MaySteps.{last_in_range, same_moment, unheld}
 use Rattle.mlt_invariant.proofs.Turning.{moment_now, sound_after, stays_all, turns_all}
 
 module _ (s : State) (i : ℕ) (inverting next : Option OperationFields) (before after : Transaction) (commons : Commons)
@@ -42,11 +43,11 @@ module _ (s : State) (i : ℕ) (inverting next : Option OperationFields) (before
       by (Some o) is fits = subst (λ (x : ObjOp × ObjReply). IsSome (inverse_of x)) (one_last fits.front front fits.last last (sym fits.entries ∙ entries)) fits.has
 
   -- where it stands now
-  now_operates : (last : ObjOp × ObjReply) → IsOperating (basis_of (world_of s) i) (inverse_from inverting last) (view_of (moment before.subtx s.commons.pages))
-  now_operates last = subst (λ (m : Moment). IsOperating (basis_of (world_of s) i) (inverse_from inverting last) (view_of m)) (same_moment s i before sound was) (by inverting here)
+  now_operates : (front : List (ObjOp × ObjReply)) (last : ObjOp × ObjReply) → before.undo.entries ≡ front ++ last ∷ [] → IsOperating (basis_of (world_of s) i) (inverse_from inverting last) (view_of (moment before.subtx s.commons.pages))
+  now_operates front last entries = subst (λ (m : Moment). IsOperating (basis_of (world_of s) i) (inverse_from inverting last) (view_of m)) (same_moment s i before sound was) (by inverting here)
     where
       by : (o : Option OperationFields) → FitsAt (at.Undoing o) s i before → IsOperating (basis_of (world_of s) i) (inverse_from o last) (view_of (moment_of (all_of s) i))
-      by None fits = record { target = refl; stands = (at_start (moment_of (all_of s) i) (unheld (all_of s) i fits.0), refl); fits = refl }
+      by None fits = starts (basis_of (world_of s) i) (TakeBack last) (moment_of (all_of s) i) (last_in_range s i before sound was front last entries) (unheld (all_of s) i fits.0)
       by (Some o) fits = fits.operates
 
   -- the inverse stands after its step
@@ -88,7 +89,7 @@ module _ (s : State) (i : ℕ) (inverting next : Option OperationFields) (before
       let same = step.tells.pages in
       let t = stays_all s i before after commons sound was same in
       let operates : IsOperating (basis_of (world_of s) i) step.after (view_of (moment after.subtx commons.pages)) =
-      subst (λ (m : Moment). IsOperating (basis_of (world_of s) i) step.after (view_of m)) (sym same) (subst (λ (p : OperationFields). IsOperating (basis_of (world_of s) i) p (view_of (moment before.subtx s.commons.pages))) (sym step.tells.stays) (now_operates step.last)) in
+      subst (λ (m : Moment). IsOperating (basis_of (world_of s) i) step.after (view_of m)) (sym same) (subst (λ (p : OperationFields). IsOperating (basis_of (world_of s) i) p (view_of (moment before.subtx s.commons.pages))) (sym step.tells.stays) (now_operates step.front step.last step.entries)) in
       sound_after s i before after commons sound was (all_of s) t.leaves t.same t.own t.number step.rest.undo_kept step.rest.objects (ap (λ (h : ItemsWithRoom). h.items) step.rest.history) (rooms _ step) still_backward
       (goes _ step (all_of s) t.own t.number operates)
 

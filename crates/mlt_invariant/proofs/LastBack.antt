@@ -3,15 +3,17 @@ use Rattle.std.proofs.Common.{◌≡◌, ℕ, ◌+◌, ◌∷◌, [], Option, No
 use Rattle.std.proofs.lemmas.List.{length-append}
 use Rattle.std.specs.FinMap as map
 use Rattle.std.specs.Ordering.{nat_cmp}
+use Rattle.mlt_types.specs.Cells.{IsInRange}
 use Rattle.mlt_page.specs.declared.page.Page.{Page}
 use Rattle.mlt_kinds.specs.Bases.{Base, Step}
 use Rattle.mlt_kinds.specs.declared.operation.ObjOp.{ObjOp}
 use Rattle.mlt_kinds.specs.declared.operation.ObjReply.{ObjReply}
+use Rattle.mlt_kinds.specs.Operations.{cell_of}
 use Rattle.mlt_subtx.specs.Images.{Running}
 use Rattle.mlt_subtx_laws.specs.CleanPages.{clean_pages}
 use Rattle.mlt_meeting.specs.Events.{MayUndo, with_undone}
 use Rattle.mlt_meeting.specs.Worlds.{PagesMeanHistory}
-use Rattle.mlt_meeting.proofs.Undoing.{undoing_keeps}
+use Rattle.mlt_meeting.proofs.Undoing.{undoing_keeps, undone_in_range}
 use Rattle.mlt_operation.specs.Operating.{OperationFields}
 use Rattle.mlt_event.specs.declared.answer.Answer.{Answer}
 use Rattle.mlt_transaction.specs.declared.commons.Commons.{Commons}
@@ -37,6 +39,15 @@ module _ (s : State) (i : ℕ) (before after : Transaction) (commons : Commons) 
   no_images : map.get s.images i ≡ Some map.empty → before.subtx.images ≡ map.empty
   no_images none = same_some _ _ (sym (sound.kept i ∙ ap images_kept was) ∙ none)
 
+  module _ (inverting : Option OperationFields) (takes : TakesLastBack s inverting before after commons told) (off : TakesOff before.subtx.tx before.undo after.undo takes.ends.between commons) where
+    pub may_undo : MayUndo (world_of s) i off.last
+    may_undo = record {
+      is_open = sound.opened i ∙ ap is_some was;
+      backward = ap is_undoing_at was ∙ ap is_undoing takes.was_at;
+      rest = after.undo.entries;
+      last = sym (sound.fits i before was).stands ∙ off.entries;
+    }
+
   left_by : (inverting : Option OperationFields) (takes : TakesLastBack s inverting before after commons told) (off : TakesOff before.subtx.tx before.undo after.undo takes.ends.between commons)
       → FitsAt (at.Undoing inverting) s i before → IsLeft s i after takes.ends.between commons off.last
   left_by None takes off fits =
@@ -51,8 +62,10 @@ module _ (s : State) (i : ℕ) (before after : Transaction) (commons : Commons) 
   left_by (Some o) takes off fits =
       let ended = takes.ends.at_end o refl in
       let last : fits.last ≡ off.last = one_last before.undo.entries fits.front after.undo.entries fits.last off.last fits.entries off.entries in
+      let range = undone_in_range (world_of s) i off.last sound.match (may_undo (Some o) takes off) in
+      let in_range : IsInRange (cell_of fits.last.0) = subst (λ (x : ObjOp × ObjReply). IsInRange (cell_of x.0)) (sym last) range in
       record {
-        cleared = subst (IsCleared s i commons) last (cleared_by_inverse s i before takes.ends.between commons sound was off.pages o fits ended.0 after.subtx ended.1);
+        cleared = subst (IsCleared s i commons) last (cleared_by_inverse s i before takes.ends.between commons sound was off.pages o fits ended.0 after.subtx ended.1 in_range);
         number = ap (λ (r : Running). r.tx) ended.1.running ∙ (sound.fits i before was).number;
         own = ap (λ (r : Running). r.images) ended.1.running;
         objects = ended.2;
@@ -63,20 +76,12 @@ module _ (s : State) (i : ℕ) (before after : Transaction) (commons : Commons) 
     pub left : IsLeft s i after takes.ends.between commons off.last
     left = left_by inverting takes off (subst (λ (a : At). FitsAt a s i before) takes.was_at (sound.fits i before was).where_at)
 
-    pub may_undo : MayUndo (world_of s) i off.last
-    may_undo = record {
-      is_open = sound.opened i ∙ ap is_some was;
-      backward = ap is_undoing_at was ∙ ap is_undoing takes.was_at;
-      rest = after.undo.entries;
-      last = sym (sound.fits i before was).stands ∙ off.entries;
-    }
-
     abbrev pub pages_now : map.FinMap nat_cmp Page
     pages_now = clean_pages (map.insert s.images i map.empty) commons.pages.store.pages
 
     -- **The clean pages mean a base from which the item leads to what it was.**
     pub led_back : (base : Base) × Step base off.last s.base × PagesMeanHistory (with_undone (world_of s) i pages_now base)
-    led_back = undoing_keeps (world_of s) i off.last sound.match may_undo pages_now left.cleared.changes
+    led_back = undoing_keeps (world_of s) i off.last sound.match (may_undo inverting takes off) pages_now left.cleared.changes
 
     pub one_fewer : length before.undo.entries ≡ length after.undo.entries + 1
     one_fewer = ap length off.entries ∙ length-append after.undo.entries (off.last ∷ [])

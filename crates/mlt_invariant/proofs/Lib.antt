@@ -13,6 +13,7 @@ pub mod LastBack
 pub mod Lengths
 pub mod MaySteps
 pub mod Opening
+pub mod OneChange
 pub mod Openness
 pub mod Others
 pub mod Pending

@@ -3,10 +3,13 @@ use Rattle.std.proofs.Common.{◌≡◌, ◌≢◌, ℕ, ◌+◌, ◌≤◌, tru
 use Rattle.std.specs.FinMap as map
 use Rattle.std.proofs.lemmas.Bool.{false≢true}
 use Rattle.std.proofs.lemmas.List.{length-append}
+use Rattle.std.proofs.lemmas.List.Elements.{Contains-append_right}
+use Rattle.std.specs.List.{Contains}
 use Rattle.std.proofs.lemmas.Option.{none-some}
-use Rattle.mlt_held.proofs.Since.{nothing_written}
 use Rattle.mlt_kinds.specs.declared.operation.ObjOp.{ObjOp}
 use Rattle.mlt_kinds.specs.declared.operation.ObjReply.{ObjReply}
+use Rattle.mlt_kinds.specs.Operations.{cell_of}
+use Rattle.mlt_types.specs.Cells.{IsInRange}
 use Rattle.mlt_history.proofs.RoomLaws.{room_within_total}
 use Rattle.mlt_object_locks.specs.Locks.{reservation_of}
 use Rattle.mlt_page_locks.specs.LockTables.{Modes, pages_of}
@@ -15,12 +18,15 @@ use Rattle.mlt_held.specs.Moments.{Moment, moment}
 use Rattle.mlt_held.specs.Views.{view_of}
 use Rattle.mlt_subtx_laws.specs.Running.{AllRunning, HoldsNothing, clean_of, is_open, moment_of}
 use Rattle.mlt_subtx_laws.proofs.AllRunning.{clean_for_each, each_may_step}
-use Rattle.mlt_hash.specs.Walks.{IsStanding, MayWalk, Stands, WalkFields}
-use Rattle.mlt_hash.proofs.Laws.{at_start}
-use Rattle.mlt_operation.specs.declared.request.Request.TheVariants.{TakeBack}
-use Rattle.mlt_operation.specs.Operating.{CanTakeBack, IsOperating, MayOperate, OperationFields, started_for}
+use Rattle.mlt_hash.specs.Walks.{Stands}
+use Rattle.mlt_base.specs.declared.request.Request.TheVariants.{Do, TakeBack}
+use Rattle.mlt_base.specs.Requests.{size_key_of}
+use Rattle.mlt_operation.proofs.Operations.{starts}
+use Rattle.mlt_operation.specs.Operating.{CanDo, CanDoBy, IsOperating, MayOperate, OperationFields, started_for}
 use Rattle.mlt_meeting.specs.Events.{MayUndo}
 use Rattle.mlt_meeting.specs.Worlds.{basis_of}
+use Rattle.mlt_meeting.proofs.Matches.{in_range_there}
+use Rattle.mlt_meeting.proofs.TwoEnds.{can_do_both, can_take_back_both}
 use Rattle.mlt_meeting.proofs.Walks.{undone_is_there}
 use Rattle.mlt_transaction.specs.declared.transaction.At.{At}
 use Rattle.mlt_transaction.specs.declared.transaction.At.TheVariants as at
@@ -61,22 +67,18 @@ module _ (s : State) (i : ℕ) (t : Transaction) (sound : IsSound s) (is : map.g
     store = s.commons.pages.store;
   }
 
-  may_walk : (walk : WalkFields) → IsStanding (basis_of (world_of s) i) walk (view_of (moment_of (all_of s) i)) → MayWalk (basis_of (world_of s) i) (moment_of (all_of s) i) walk
-  may_walk walk stands = record {
-    bounded = sound.match.file.bounded;
-    small = sound.match.file.small;
-    may = each_may_step (all_of s) i sound.running is_open_now;
-    written = nothing_written (view_of (moment_of (all_of s) i));
-    file = record { clean = clean_of (all_of s); is_clean = clean_for_each (all_of s) i sound.running; form = sound.match.file.form };
-    shallow = sound.match.file.shallow;
-    stands = stands;
-  }
-
-  may_operate : (o : OperationFields) → IsOperating (basis_of (world_of s) i) o (view_of (moment_of (all_of s) i)) → CanTakeBack (basis_of (world_of s) i) (clean_of (all_of s)) o.request
+  may_operate : (o : OperationFields) → IsOperating (basis_of (world_of s) i) o (view_of (moment_of (all_of s) i)) → CanDo (basis_of (world_of s) i) (clean_of (all_of s)) o.request
       → MayOperate (basis_of (world_of s) i) (moment t.subtx s.commons.pages) o
-  unfolding may_walk
-  may_operate o operates back =
-      subst (λ (m : Moment). MayOperate (basis_of (world_of s) i) m o) same_moment (record { walks = may_walk o.walk operates.stands; operates = operates; back = back })
+  may_operate o operates can =
+      subst (λ (m : Moment). MayOperate (basis_of (world_of s) i) m o) same_moment (record {
+        bounded = sound.match.file.bounded;
+        small = sound.match.file.small;
+        may = each_may_step (all_of s) i sound.running is_open_now;
+        file = record { clean = clean_of (all_of s); is_clean = clean_for_each (all_of s) i sound.running; form = sound.match.file.form };
+        shallow = sound.match.file.shallow;
+        operates = operates;
+        can = can;
+      })
 
   room_there : room_of t ≤ s.commons.history.room
   room_there = omega (arith, sound.room, room_within_total room_of s.txs i t is)
@@ -84,15 +86,23 @@ module _ (s : State) (i : ℕ) (t : Transaction) (sound : IsSound s) (is : map.g
   there : AreThere t.subtx.images s.commons.pages.store.pages
   there = subst (λ (m : Moment). AreThere m.running.images m.store.pages) same_moment (each_may_step (all_of s) i sound.running is_open_now).images_there
 
+  -- what an operation is to change is there
+  can_do : (op : ObjOp) → IsInRange (cell_of op) → CanDo (basis_of (world_of s) i) (clean_of (all_of s)) (Do op)
+  can_do op range = by (size_key_of (Do op))
+    where
+      by : (key : Option ℕ) → CanDoBy key (basis_of (world_of s) i) (clean_of (all_of s)) (Do op)
+      by None = tt
+      by (Some size) = can_do_both (world_of s) i sound.match op range
+
   may_step_on : (o : OperationFields) → t.at ≡ at.Pending o → MayStepOn (basis_of (world_of s) i) o t.subtx t.undo s.commons × (2 ≤ s.commons.history.room)
   may_step_on o pending_at =
       let pending : HasPending s i t o = subst (λ (a : At). FitsAt a s i t) pending_at own.where_at in
       let two : pending_room t.at ≡ 2 = ap pending_room pending_at in
-      let back : CanTakeBack (basis_of (world_of s) i) (clean_of (all_of s)) o.request = subst (CanTakeBack (basis_of (world_of s) i) (clean_of (all_of s))) (sym pending.asked) tt in (
+      let can : CanDo (basis_of (world_of s) i) (clean_of (all_of s)) o.request = subst (CanDo (basis_of (world_of s) i) (clean_of (all_of s))) (sym pending.asked) (can_do pending.op pending.in_range.cell) in (
         record {
           op = pending.op;
           asked = pending.asked;
-          goes = λ none. may_operate o pending.operates back;
+          goes = λ none. may_operate o pending.operates can;
           ends = λ reply told. record {
             reserved = ap (reservation_of s.commons.objects.reserved) own.number ∙ pending.reserved;
             spare = pending.spare;
@@ -111,17 +121,25 @@ module _ (s : State) (i : ℕ) (t : Transaction) (sound : IsSound s) (is : map.g
     last = sym own.stands ∙ entries;
   }
 
-  can_take_back : (front : List (ObjOp × ObjReply)) (last : ObjOp × ObjReply) → is_undoing t.at ≡ true → t.undo.entries ≡ front ++ last ∷ [] → CanTakeBack (basis_of (world_of s) i) (clean_of (all_of s)) (TakeBack last)
-  can_take_back front last undoing entries walk view bucket depth found key phase here agree =
-      let both = undone_is_there (world_of s) i last walk view bucket depth found sound.match (may_undo front last undoing entries) phase key
-      (subst (λ p. Stands p (basis_of (world_of s) i) walk view) (sym phase) here) agree in
-      record { fits = both.0; ghost = both.1 }
+  pub last_in_range : (front : List (ObjOp × ObjReply)) (last : ObjOp × ObjReply) → t.undo.entries ≡ front ++ last ∷ [] → IsInRange (cell_of last.0)
+  last_in_range front last entries =
+      in_range_there (world_of s) sound.match i last (subst (λ (l : List (ObjOp × ObjReply)). Contains l last) (sym entries ∙ own.stands) (Contains-append_right front (last ∷ []) last (0, omega arith, refl)))
+
+  can_take_back : (front : List (ObjOp × ObjReply)) (last : ObjOp × ObjReply) → is_undoing t.at ≡ true → t.undo.entries ≡ front ++ last ∷ [] → CanDo (basis_of (world_of s) i) (clean_of (all_of s)) (TakeBack last)
+  can_take_back front last undoing entries = by (size_key_of (TakeBack last))
+    where
+      by : (key : Option ℕ) → CanDoBy key (basis_of (world_of s) i) (clean_of (all_of s)) (TakeBack last)
+      by None = λ walk view bucket depth found key phase here agree.
+          let both = undone_is_there (world_of s) i last walk view bucket depth found sound.match (may_undo front last undoing entries) phase key
+          (subst (λ p. Stands p (basis_of (world_of s) i) walk view) (sym phase) here) agree in
+          record { fits = both.0; ghost = both.1 }
+      by (Some size) = can_take_back_both (world_of s) i sound.match last (may_undo front last undoing entries)
 
   -- one that holds nothing is at the start of an inverse
   starts_inverse : (front : List (ObjOp × ObjReply)) (last : ObjOp × ObjReply) → is_undoing t.at ≡ true → t.undo.entries ≡ front ++ last ∷ [] → HoldsNothing (all_of s) i
       → MayOperate (basis_of (world_of s) i) (moment t.subtx s.commons.pages) (started_for (TakeBack last))
   starts_inverse front last undoing entries none =
-      may_operate (started_for (TakeBack last)) (record { target = refl; stands = (at_start (moment_of (all_of s) i) (unheld (all_of s) i none), refl); fits = refl }) (can_take_back front last undoing entries)
+      may_operate (started_for (TakeBack last)) (starts (basis_of (world_of s) i) (TakeBack last) (moment_of (all_of s) i) (last_in_range front last entries) (unheld (all_of s) i none)) (can_take_back front last undoing entries)
 
   may_step_back : (inverting : Option OperationFields) → t.at ≡ at.Undoing inverting → FitsAt (at.Undoing inverting) s i t → MayStepBack (basis_of (world_of s) i) inverting t.subtx t.undo s.commons
   may_step_back None back_at fits =
@@ -141,7 +159,7 @@ module _ (s : State) (i : ℕ) (t : Transaction) (sound : IsSound s) (is : map.g
       let undoing : is_undoing t.at ≡ true = ap is_undoing back_at in
       let longer : length t.undo.entries ≡ length fits.front + 1 = ap length fits.entries ∙ length-append fits.front (fits.last ∷ []) in
       let may : MayOperate (basis_of (world_of s) i) (moment t.subtx s.commons.pages) o =
-      may_operate o fits.operates (subst (CanTakeBack (basis_of (world_of s) i) (clean_of (all_of s))) (sym fits.inverts.asked) (can_take_back fits.front fits.last undoing fits.entries)) in
+      may_operate o fits.operates (subst (CanDo (basis_of (world_of s) i) (clean_of (all_of s))) (sym fits.inverts.asked) (can_take_back fits.front fits.last undoing fits.entries)) in
       record {
         front = fits.front;
         last = fits.last;

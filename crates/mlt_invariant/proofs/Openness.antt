@@ -1,18 +1,17 @@
 -- What is left of another transaction by an event that changes who is open
-use Rattle.std.proofs.Common.{◌≡◌, ◌≢◌, ℕ, Some, sym, subst}
+use Rattle.std.proofs.Common.{◌≡◌, ◌≢◌, ℕ, Some, is_some, sym, ap, subst, ◌∙◌}
 use Rattle.std.specs.Ordering.{nat_cmp}
 use Rattle.std.specs.FinMap as map
 use Rattle.std.specs.FinSet as set
-use Rattle.mlt_hash.specs.Walks.{Basis, IsStanding, WalkFields}
-use Rattle.mlt_hash.specs.declared.pass.Phase.{Phase}
-use Rattle.mlt_hash.specs.declared.pass.Phase.TheVariants as phase
-use Rattle.mlt_hash.proofs.Passed.{read_as}
+use Rattle.mlt_hash.specs.Walks.{Basis}
 use Rattle.mlt_hash_form.specs.Held.{Agrees}
 use Rattle.mlt_held.specs.Views.{View, view_of}
 use Rattle.mlt_object_locks.specs.Locks.{SameReservations}
+use Rattle.mlt_split.specs.Rests.{KeepsNoMore}
 use Rattle.mlt_subtx_laws.specs.Running.{KeepsRunning, clean_of, moment_of}
 use Rattle.mlt_subtx_laws.proofs.AllRunning.{agrees_with_each}
-use Rattle.mlt_operation.specs.Operating.{FitsPhase, IsOperating, OperationFields}
+use Rattle.mlt_operation.proofs.Operations.{KeepsFewer, stands_with}
+use Rattle.mlt_operation.specs.Operating.{IsOperating, OperationFields}
 use Rattle.mlt_meeting.specs.Worlds.{basis_of}
 use Rattle.mlt_transaction.specs.declared.transaction.At.{At}
 use Rattle.mlt_transaction.specs.declared.transaction.Transaction.{Transaction}
@@ -21,43 +20,20 @@ use Rattle.mlt_invariant.specs.States.{State, all_of, world_of}
 use Rattle.mlt_invariant.proofs.InverseEnds.{open_there}
 use Rattle.mlt_invariant.proofs.Others.{fits_with}
 
--- what a walk's phase says of a reply does not name who is open
-fits_for : (p : Phase) (basis : Basis) (opens : set.FinSet nat_cmp) (o : OperationFields) (view : View) → FitsPhase p basis o view → FitsPhase p (record basis { opens = opens }) o view
-fits_for phase.Start basis opens o view fits = fits
-fits_for (phase.Headed dir row depth) basis opens o view fits = fits
-fits_for (phase.Placed bucket depth) basis opens o view fits = fits
-fits_for (phase.AtBucket bucket depth found) basis opens o view fits = fits
-fits_for (phase.Full next) basis opens o view fits = fits
-fits_for (phase.Adding value bucket room_depth unsplit) basis opens o view fits = fits
-fits_for (phase.Splitting value room_depth) basis opens o view fits = fits
-fits_for (phase.Changed bucket done) basis opens o view fits = record {
-  found = fits.found;
-  reply = fits.reply;
-  decided = fits.decided;
-  read = read_as basis opens o.walk.key view fits.found fits.read;
-  told = fits.told;
-  asked = fits.asked;
-  performs = fits.performs;
-}
-
--- what stays between two states for another transaction j, where a walk stands on by those who are open now
+-- what stays between two states for another transaction j, of whose pages no slot's room is kept that was not before
 pub record OpensFor (i j : ℕ) (s s' : State) : Type 0 where
   pub other : j ≢ i
   pub runs : KeepsRunning i (all_of s) (all_of s')
   pub basis : basis_of (world_of s') j ≡ record (basis_of (world_of s) j) { opens = s'.opens }
-  pub agrees : Agrees (view_of (moment_of (all_of s) j)).seen (clean_of (all_of s))
-  pub walks : (walk : WalkFields) (view : View) → IsStanding (basis_of (world_of s) j) walk view → Agrees view.seen (clean_of (all_of s)) → IsStanding (record (basis_of (world_of s) j) { opens = s'.opens }) walk view
+  pub keeps : KeepsFewer (basis_of (world_of s) j) s'.opens (view_of (moment_of (all_of s) j)) (clean_of (all_of s))
   pub reserved : SameReservations s.commons.objects.reserved s'.commons.objects.reserved i
   pub max_ops : s'.max_ops ≡ s.max_ops
 
 operates_on : (i j : ℕ) (s s' : State) (o : OperationFields) → OpensFor i j s s' → IsOperating (basis_of (world_of s) j) o (view_of (moment_of (all_of s) j)) → IsOperating (basis_of (world_of s') j) o (view_of (moment_of (all_of s') j))
 operates_on i j s s' o stays operates =
     let view = view_of (moment_of (all_of s) j) in
-    let here : IsOperating (record (basis_of (world_of s) j) { opens = s'.opens }) o view = record {
-      target = operates.target;
-      stands = stays.walks o.walk view operates.stands stays.agrees;
-      fits = fits_for o.walk.phase (basis_of (world_of s) j) s'.opens o view operates.fits;
-    } in
+    let here : IsOperating (record (basis_of (world_of s) j) { opens = s'.opens }) o view =
+    stands_with (basis_of (world_of s) j) s'.opens o view (clean_of (all_of s)) operates stays.keeps in
     subst (λ (b : Basis). IsOperating b o (view_of (moment_of (all_of s') j))) (sym stays.basis)
     (subst (λ (v : View). IsOperating (record (basis_of (world_of s) j) { opens = s'.opens }) o v) (sym (stays.runs.views j stays.other)) here)
 
@@ -68,3 +44,13 @@ opens_fits a i j s s' t stays = fits_with a i j s s' t stays.other stays.runs st
 -- what an open transaction has read is clean
 pub agrees_in : (s : State) (j : ℕ) (t : Transaction) → IsSound s → map.get s.txs j ≡ Some t → Agrees (view_of (moment_of (all_of s) j)).seen (clean_of (all_of s))
 agrees_in s j t sound is = agrees_with_each (all_of s) j sound.running (open_there s j t sound is)
+
+-- and it keeps its own ghosts
+pub keeps_fewer : (s : State) (j : ℕ) (t : Transaction) (opens : set.FinSet nat_cmp) → IsSound s → map.get s.txs j ≡ Some t → KeepsNoMore s.opens opens (view_of (moment_of (all_of s) j))
+    → KeepsFewer (basis_of (world_of s) j) opens (view_of (moment_of (all_of s) j)) (clean_of (all_of s))
+keeps_fewer s j t opens sound is no_more = record {
+  no_more = no_more;
+  own = sound.opened j ∙ ap is_some is;
+  agree = agrees_in s j t sound is;
+  form = sound.match.file.form;
+}

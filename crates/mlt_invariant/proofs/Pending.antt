@@ -3,6 +3,8 @@ use Rattle.std.proofs.Common.{◌≡◌, ℕ, ◌+◌, ◌≤◌, false, ◌<◌
 use Rattle.std.specs.FinMap as map
 use Rattle.mlt_kinds.specs.declared.operation.ObjOp.{ObjOp}
 use Rattle.mlt_kinds.specs.declared.operation.ObjReply.{ObjReply}
+use Rattle.mlt_types.specs.Cells.{IsInRange}
+use Rattle.mlt_base.specs.declared.request.Request.{Request}
 use Rattle.mlt_page_locks.specs.Requests.{released}
 use Rattle.mlt_object_locks.specs.Locks.{Locks, reservation_of}
 use Rattle.mlt_history.specs.Items.{ItemsWithRoom}
@@ -17,17 +19,16 @@ use Rattle.mlt_subtx_laws.proofs.AllEvents.{nothing_after_roll_back}
 use Rattle.mlt_meeting.specs.Worlds.{basis_of}
 use Rattle.mlt_operation.specs.declared.answer.StepAnswer.TheVariants as step
 use Rattle.mlt_operation.specs.Operating.{IsOperating, OperationFields, started_for}
-use Rattle.mlt_operation.specs.PageTurns.{TakesTurn, TurnsBack}
+use Rattle.mlt_held.specs.PageTurns.{TakesTurn, TurnsBack}
 use Rattle.mlt_event.specs.declared.answer.Answer.{Answer}
 use Rattle.mlt_event.specs.declared.answer.Answer.TheVariants as answer
+use Rattle.mlt_operation.proofs.Operations.{cell_asked, starts}
 use Rattle.mlt_transaction.specs.declared.commons.Commons.{Commons}
 use Rattle.mlt_transaction.specs.declared.transaction.At.{At}
 use Rattle.mlt_transaction.specs.declared.transaction.At.TheVariants as at
 use Rattle.mlt_transaction.specs.declared.transaction.Transaction.{Transaction}
 use Rattle.mlt_transaction.specs.Steps.{KeepsRest, TellsOfPending, Walks}
 use Rattle.mlt_transaction.specs.Endings.{IsBlocked}
-use Rattle.mlt_hash.specs.Walks.{IsAtStart}
-use Rattle.mlt_hash.proofs.Laws.{at_start}
 use Rattle.mlt_transaction.specs.Transactions.{GivesUpRoom, LeavesRoom, StepsPending, pending_after, workplace_of}
 use Rattle.mlt_invariant.specs.Events.{KeepsCleanPages, with_transaction}
 use Rattle.mlt_invariant.specs.Sound.{FitsAt, HasPending, IsSound}
@@ -169,10 +170,12 @@ module _ (s : State) (i : ℕ) (o : OperationFields) (before after : Transaction
       let tx : after.subtx.tx ≡ i = ap (λ (t : Running). t.tx) running in
       let images = (after_roll_back all i).images in
       let nothing : HoldsNothing (all_of (with_transaction s i after commons images)) i = subst (λ (a : AllRunning). HoldsNothing a i) (sym both.0) (nothing_after_roll_back all i) in
-      let starts : IsAtStart (view_of (moment after.subtx commons.pages)) =
-      subst (λ (m : Moment). IsAtStart (view_of m)) (moment_now s i after commons images both.1 tx) (at_start (moment_of (all_of (with_transaction s i after commons images)) i) (unheld (all_of (with_transaction s i after commons images)) i nothing)) in
+      let range : IsInRange (cell_asked o.request) = subst (λ (r : Request). IsInRange (cell_asked r)) (sym pending.asked) pending.in_range.cell in
+      let at_rest : IsOperating (basis_of (world_of s) i) (started_for o.request) (view_of (moment after.subtx commons.pages)) =
+      subst (λ (m : Moment). IsOperating (basis_of (world_of s) i) (started_for o.request) (view_of m)) (moment_now s i after commons images both.1 tx)
+      (starts (basis_of (world_of s) i) o.request (moment_of (all_of (with_transaction s i after commons images)) i) range (unheld (all_of (with_transaction s i after commons images)) i nothing)) in
       let operates : IsOperating (basis_of (world_of s) i) next (view_of (moment after.subtx commons.pages)) =
-      subst (λ (p : OperationFields). IsOperating (basis_of (world_of s) i) p (view_of (moment after.subtx commons.pages))) (sym anew) (record { target = refl; stands = (starts, refl); fits = refl }) in
+      subst (λ (p : OperationFields). IsOperating (basis_of (world_of s) i) p (view_of (moment after.subtx commons.pages))) (sym anew) at_rest in
       sound_after s i before after commons sound was (after_roll_back all i) leaves both.0 both.1 tx b.kept b.objects (ap (λ (h : ItemsWithRoom). h.items) b.history) (same_room next is b.kept b.history) (still_forward (at.Pending next) is refl)
       (subst (λ (a : At). FitsAt a (with_transaction s i after commons images) i after) (sym is) (still images next both.1 tx (ap (λ (p : OperationFields). p.request) anew) operates b.kept b.objects))
 

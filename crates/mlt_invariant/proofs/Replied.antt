@@ -10,9 +10,10 @@ use Rattle.mlt_subtx_laws.specs.CleanPages.{clean_pages}
 use Rattle.mlt_subtx_laws.specs.Running.{is_open, moment_of}
 use Rattle.mlt_subtx_laws.proofs.AllRunning.{agrees_with_each}
 use Rattle.mlt_subtx_laws.proofs.AllEvents.{end_clean}
-use Rattle.mlt_operation.specs.declared.request.Request.TheVariants.{Do}
+use Rattle.mlt_base.specs.declared.request.Request.TheVariants.{Do}
 use Rattle.mlt_operation.specs.Operating.{OperationFields}
 use Rattle.mlt_meeting.proofs.Fixed.{step_there}
+use Rattle.mlt_meeting.proofs.TwoEnds.{sees_held_alone}
 use Rattle.mlt_meeting.specs.Presences.{IsOpInRange}
 use Rattle.mlt_transaction.specs.declared.transaction.At.{At}
 use Rattle.mlt_transaction.specs.declared.transaction.At.TheVariants as at
@@ -29,14 +30,15 @@ module _ (s : State) (i : ℕ) (o : OperationFields) (before : Transaction) (op 
   is_open_here : is_open (all_of s) i ≡ true
   is_open_here = ap is_some (sound.kept i ∙ ap images_kept was)
 
+  in_range : IsOpInRange op
+  in_range = let same : Do pending.op ≡ Do op = sym pending.asked ∙ asked in subst IsOpInRange (let one : pending.op ≡ op = cc in one) pending.in_range
+
   -- what its end would leave
   answered : IsAnswered (world_of s) i op reply (clean_pages (map.insert s.images i map.empty) s.commons.pages.store.pages)
   answered =
       is_answered (world_of s) i o (view_of (moment_of (all_of s) i)) op reply (clean_pages (map.insert s.images i map.empty) s.commons.pages.store.pages)
-      sound.match pending.operates asked told (agrees_with_each (all_of s) i sound.running is_open_here) (λ q. ap (λ (f : ℕ → Option Page). f q) (end_clean (all_of s) i sound.running))
-
-  in_range : IsOpInRange op
-  in_range = let same : Do pending.op ≡ Do op = sym pending.asked ∙ asked in subst IsOpInRange (let one : pending.op ≡ op = cc in one) pending.in_range
+      sound.match in_range.cell pending.operates asked told (agrees_with_each (all_of s) i sound.running is_open_here)
+      (record { held = sees_held_alone (moment_of (all_of s) i); ends = λ q. ap (λ (f : ℕ → Option Page). f q) (end_clean (all_of s) i sound.running) })
 
   -- **The reply is the one with which it is a step of the base.**
   pub reply_is_step : (base : Base) × Step s.base (op, reply) base

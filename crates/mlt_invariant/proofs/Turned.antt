@@ -8,7 +8,7 @@ use Rattle.mlt_held.specs.PageSteps.{TouchesOnePage}
 use Rattle.mlt_held.proofs.OwnSteps.{step_keeps_tx}
 use Rattle.mlt_subtx_laws.specs.Running.{AllMayStep, AllRunning, KeepsRunning, after_roll_back, after_step, clean_of, is_open, moment_of}
 use Rattle.mlt_subtx_laws.proofs.AllEvents.{roll_back_clean, roll_back_keeps, step_leaves_clean, step_leaves_views}
-use Rattle.mlt_operation.specs.PageTurns.{TakesTurn, TurnsBack}
+use Rattle.mlt_held.specs.PageTurns.{TakesTurn, TurnsBack}
 use Rattle.mlt_invariant.proofs.Tables.{inserted_here}
 
 -- two events of one transaction

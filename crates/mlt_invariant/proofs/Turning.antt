@@ -7,7 +7,7 @@ use Rattle.mlt_undo.specs.Undo.{Undo}
 use Rattle.mlt_held.specs.Moments.{Moment, moment}
 use Rattle.mlt_subtx_laws.specs.CleanPages.{RunningImages}
 use Rattle.mlt_subtx_laws.specs.Running.{AllRunning, KeepsRunning, clean_of, moment_of}
-use Rattle.mlt_operation.specs.PageTurns.{TakesTurn}
+use Rattle.mlt_held.specs.PageTurns.{TakesTurn}
 use Rattle.mlt_transaction.specs.declared.commons.Commons.{Commons}
 use Rattle.mlt_transaction.specs.declared.transaction.Transaction.{Transaction}
 use Rattle.mlt_invariant.specs.Events.{KeepsCleanPages, with_transaction}

@@ -5,7 +5,7 @@ use Rattle.mlt_subtx_laws.specs.CleanPages.{RunningImages}
 use Rattle.mlt_kinds.specs.declared.operation.ObjOp.{ObjOp}
 use Rattle.mlt_kinds.specs.Operations.{cell_of}
 use Rattle.mlt_meeting.specs.Presences.{IsOpInRange}
-use Rattle.mlt_operation.specs.declared.request.Request.TheVariants.{Do}
+use Rattle.mlt_base.specs.declared.request.Request.TheVariants.{Do}
 use Rattle.mlt_object_locks.specs.Locks.{SameReservations, reservation_of}
 use Rattle.mlt_kinds.specs.Bases.{Base}
 use Rattle.mlt_kinds.specs.declared.operation.ObjReply.{ObjReply}

@@ -12,7 +12,7 @@ use Rattle.mlt_history.specs.Numbers.{AreBegunInOrder, AreCounted, begin_count}
 use Rattle.mlt_history.specs.Rooms.{total_room}
 use Rattle.mlt_held.specs.Views.{view_of}
 use Rattle.mlt_subtx_laws.specs.Running.{AllMayStep, HoldsNothing, moment_of}
-use Rattle.mlt_operation.specs.declared.request.Request.TheVariants.{Do}
+use Rattle.mlt_base.specs.declared.request.Request.TheVariants.{Do}
 use Rattle.mlt_operation.specs.Operating.{IsOperating, OperationFields}
 use Rattle.mlt_meeting.specs.Presences.{IsOpInRange}
 use Rattle.mlt_meeting.specs.Worlds.{PagesMeanHistory, basis_of, lists_in}

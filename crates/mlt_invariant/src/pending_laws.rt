@@ -6,7 +6,7 @@ ghost use Rattle.mlt_kinds.specs.Bases.{Base, Step};
 ghost use Rattle.mlt_kinds.specs.declared.operation.ObjOp.{ObjOp};
 ghost use Rattle.mlt_kinds.specs.declared.operation.ObjReply.{ObjReply};
 ghost use Rattle.mlt_meeting.specs.Worlds.{basis_of};
-ghost use Rattle.mlt_operation.specs.declared.request.Request.TheVariants.{Do};
+ghost use Rattle.mlt_base.specs.declared.request.Request.TheVariants.{Do};
 ghost use Rattle.mlt_operation.specs.Operating.{OperationFields};
 ghost use Rattle.mlt_event.specs.declared.answer.Answer.{Answer};
 ghost use Rattle.mlt_event.specs.declared.answer.Answer.TheVariants as answer;

@@ -9,10 +9,12 @@ use Rattle.mlt_kinds.specs.declared.operation.ObjReply.{ObjReply}
 use Rattle.mlt_base.specs.declared.record.RecChange.{RecChange}
 use Rattle.mlt_base.specs.declared.record.RecChange.TheVariants.{Add, Revive}
 use Rattle.mlt_base.specs.Records.{CanChange}
+use Rattle.mlt_base.specs.Requests.{decision, size_key_of, target_of}
 use Rattle.mlt_hash_form.specs.File.{look_up}
 use Rattle.mlt_hash_form.specs.Held.{Agrees}
 use Rattle.mlt_held.specs.Moments.{Moment}
 use Rattle.mlt_held.specs.PageSteps.{Leaves}
+use Rattle.mlt_held.specs.PageTurns.{IsRolledBack}
 use Rattle.mlt_held.specs.Views.{View, view_of}
 use Rattle.mlt_page_locks.specs.LockTables.{LockTable, pages_of}
 use Rattle.mlt_page_locks.specs.Requests.{released}
@@ -36,14 +38,13 @@ use Rattle.mlt_hash.proofs.Standings.{found_still}
 use Rattle.mlt_types.specs.declared.refusal.Refusal.{Refusal}
 use Rattle.mlt_types.specs.declared.refusal.Refusal.TheVariants as refusal
 use Rattle.mlt_operation.specs.declared.answer.StepAnswer.TheVariants as step
-use Rattle.mlt_operation.specs.declared.request.Request.{Request}
-use Rattle.mlt_operation.specs.declared.request.Request.TheVariants.{Do, TakeBack}
+use Rattle.mlt_base.specs.declared.request.Request.{Request}
+use Rattle.mlt_base.specs.declared.request.Request.TheVariants.{Do, TakeBack}
 use Rattle.mlt_operation.specs.Answers.{HasToRestart}
 use Rattle.mlt_operation.specs.AtBucket.{BeginsAgain, FindsNoRoom, Finishes, SplitsInPass, IsThereFor, MayDecide, TellsAtBucket}
-use Rattle.mlt_operation.specs.Operating.{AsksToAdd, FitsPhase, HasPerformed, IsToAdd, IsTold, OperationFields}
-use Rattle.mlt_operation.specs.PageTurns.{IsRolledBack}
+use Rattle.mlt_operation.specs.Walking.{FitsPhase, HasPerformed, IsToAdd, IsTold, WalkingFields}
+use Rattle.mlt_two_records.specs.Performing.{AsksToAdd}
 use Rattle.mlt_operation.specs.Performing.{IsMade, OfAddition, TellsOfDecision}
-use Rattle.mlt_operation.specs.Requests.{decision, target_of}
 use Rattle.mlt_operation.proofs.Deciding.{changes_exclusively, never_revives}
 
 -- what was decided on locks the bucket exclusively
@@ -51,7 +52,7 @@ target_exclusive : (request : Request) (found : Option ℕ) (reply : ObjReply) (
 target_exclusive (Do op) found reply change is = changes_exclusively op found reply change is
 target_exclusive (TakeBack done) found reply change is = refl
 
-pub may_change : (basis : Basis) (m : Moment) (o : OperationFields) (found : Option ℕ) (reply : ObjReply) (change : RecChange)
+pub may_change : (basis : Basis) (m : Moment) (o : WalkingFields) (found : Option ℕ) (reply : ObjReply) (change : RecChange)
     → MayDecide (one_key basis) m o found → decision o.request found ≡ (reply, Some change) → MayChange (one_key basis) m o.walk
 may_change basis m o found reply change may is = record {
   walks = may.walks;
@@ -64,13 +65,13 @@ ghost_for : (request : Request) (basis : Basis) (walk : WalkFields) (view : View
 ghost_for (Do op) basis walk view found reply there is = absurd (never_revives op found reply is)
 ghost_for (TakeBack done) basis walk view found reply there is = there.ghost (ap (λ (r : ObjReply × Option RecChange). r.1) is)
 
-pub ghost_is_there : (basis : Basis) (m : Moment) (o : OperationFields) (found : Option ℕ) (reply : ObjReply) (change : RecChange)
+pub ghost_is_there : (basis : Basis) (m : Moment) (o : WalkingFields) (found : Option ℕ) (reply : ObjReply) (change : RecChange)
     → MayDecide (one_key basis) m o found → decision o.request found ≡ (reply, Some change) → change ≡ Revive → HasOwnGhost basis.tx o.walk (view_of m)
 ghost_is_there basis m o found reply change may is revives =
     ghost_for o.request (one_key basis) o.walk (view_of m) found reply may.there (is ∙ ap (λ (c : RecChange). (reply, Some c)) revives)
 
 -- at the bucket, the reply fits what was found, and no step but the end is left
-fits_bucket : (phase : Phase) (basis : Basis) (o : OperationFields) (view : View) (found : Option ℕ) → HasFound phase found → IsTold o found → FitsPhase phase (one_key basis) o view
+fits_bucket : (phase : Phase) (basis : Basis) (o : WalkingFields) (view : View) (found : Option ℕ) → HasFound phase found → IsTold o found → FitsPhase phase (one_key basis) o view
 fits_bucket (at.AtBucket bucket depth f) basis o view found is told = subst (λ (g : Option ℕ). IsTold o g) (sym is) told
 fits_bucket other basis o view found is told = absurd is
 
@@ -79,24 +80,25 @@ last_at_bucket (at.AtBucket bucket depth f) root walk view found is = refl
 last_at_bucket other root walk view found is = absurd is
 
 -- **What asks for no change is told its reply, and all else stays.**
-pub told_finishes : (basis : Basis) (m : Moment) (before after : OperationFields) (found : Option ℕ) (reply : ObjReply)
+pub told_finishes : (basis : Basis) (m : Moment) (before after : WalkingFields) (found : Option ℕ) (reply : ObjReply)
     → MayDecide (one_key basis) m before found → decision before.request found ≡ (reply, None)
     → after ≡ record before { reply = Some reply } → Finishes (one_key basis) m m before after
 told_finishes basis m before after found reply may is same =
-    let told : OperationFields = record before { reply = Some reply } in
+    let told : WalkingFields = record before { reply = Some reply } in
     let finishes : Finishes (one_key basis) m m before told = record {
       leaves = leaves_it m m may.walks.may refl;
       writes = (0, inl refl);
       request = refl;
       in_pass = refl;
       operates = record {
+        alone = may.alone;
         target = may.target;
         stands = may.walks.stands;
         fits = fits_bucket before.walk.phase (one_key basis) told (view_of m) found may.at_bucket (reply, refl, is);
       };
       last = last_at_bucket before.walk.phase basis.root before.walk (view_of m) found may.at_bucket;
     } in
-    subst (λ (o : OperationFields). Finishes (one_key basis) m m before o) (sym same) finishes
+    subst (λ (o : WalkingFields). Finishes (one_key basis) m m before o) (sym same) finishes
 
 -- what the bucket had is what the clean pages have
 found_clean : (phase : Phase) (basis : Basis) (walk : WalkFields) (view : View) (found : Option ℕ) (clean : ℕ → Option Page)
@@ -111,7 +113,7 @@ changed_read basis walk view bucket done found clean changed agree is =
     read_of (one_key basis) walk.key view changed.found found (found_still (one_key basis) walk.key view changed.found clean changed.read agree ∙ is) changed.read
 
 -- **What asks for a change is told its reply, with the change written.**
-pub change_finishes : (basis : Basis) (old new : Moment) (before after : OperationFields) (found : Option ℕ) (reply : ObjReply) (change : RecChange)
+pub change_finishes : (basis : Basis) (old new : Moment) (before after : WalkingFields) (found : Option ℕ) (reply : ObjReply) (change : RecChange)
     → MayDecide (one_key basis) old before found → decision before.request found ≡ (reply, Some change)
     → Leaves old new → WritesIfChanged old new (page_of before.walk.phase) answer.Changed
     → IsMade (one_key basis) new before.walk after.walk change found
@@ -139,6 +141,7 @@ change_finishes basis old new before after found reply change may is leaves writ
       request = request;
       in_pass = made.makes.same.pass;
       operates = record {
+        alone = ap size_key_of request ∙ may.alone;
         target = (λ i. (made.makes.same.key i, made.makes.same.mode i)) ∙ may.target ∙ ap target_of (sym request);
         stands = made.makes.stands;
         fits = subst (λ (p : Phase). FitsPhase p (one_key basis) after (view_of new)) (sym made.makes.phase) performed;
@@ -156,13 +159,13 @@ pub asks_to_add : (request : Request) (found : Option ℕ) (reply : ObjReply) (c
 asks_to_add request found reply (Add value) Is is can of = (value, (reply, subst (λ (f : Option ℕ). decision request f ≡ (reply, Some (Add value))) can is))
 asks_to_add request found reply other Is is can of = absurd of
 
-pub absent_to_add : (basis : Basis) (m : Moment) (o : OperationFields) (found : Option ℕ) (change : RecChange) (Is : ℕ → Type 0) → MayDecide (one_key basis) m o found
+pub absent_to_add : (basis : Basis) (m : Moment) (o : WalkingFields) (found : Option ℕ) (change : RecChange) (Is : ℕ → Type 0) → MayDecide (one_key basis) m o found
     → CanChange (Some change) found → OfAddition change Is → HasFound o.walk.phase None
 absent_to_add basis m o found (Add value) Is may can of = absent_at o.walk.phase found may.at_bucket can
 absent_to_add basis m o found other Is may can of = absurd of
 
 -- an addition that lacks room is to be split for, in a later pass
-splits_for : (basis : Basis) (new : Moment) (before after : OperationFields) (change : RecChange) (found : Option ℕ) (reply : ObjReply)
+splits_for : (basis : Basis) (new : Moment) (before after : WalkingFields) (change : RecChange) (found : Option ℕ) (reply : ObjReply)
     → MayDecide (one_key basis) new before found → decision before.request found ≡ (reply, Some change) → CanChange (Some change) found
     → OfAddition change (λ value. NeedsSplit (one_key basis) new before.walk after.walk value) → (after.walk.pass ≡ pass.First → ⊥)
     → after.request ≡ before.request → after.reply ≡ before.reply → SplitsInPass (one_key basis) new new before after
@@ -175,6 +178,7 @@ splits_for basis new before after (Add value) found reply may is can needs not r
       request = request;
       in_pass = needs.same.pass;
       operates = record {
+        alone = ap size_key_of request ∙ may.alone;
         target = (λ i. (needs.same.key i, needs.same.mode i)) ∙ may.target ∙ ap target_of (sym request);
         stands = needs.stands;
         fits = subst (λ (p : Phase). FitsPhase p (one_key basis) after (view_of new)) (sym adding.1) to_add;
@@ -187,7 +191,7 @@ splits_for basis new before after (Add value) found reply may is can needs not r
 splits_for basis new before after other found reply may is can needs not request same = absurd needs
 
 -- **A later pass whose bucket has no room is to split it.**
-pub splits_in_pass : (basis : Basis) (old new : Moment) (before after : OperationFields) (change : RecChange) (found : Option ℕ) (reply : ObjReply)
+pub splits_in_pass : (basis : Basis) (old new : Moment) (before after : WalkingFields) (change : RecChange) (found : Option ℕ) (reply : ObjReply)
     → MayDecide (one_key basis) old before found → decision before.request found ≡ (reply, Some change) → CanChange (Some change) found
     → new ≡ old → TellsOfDecision (one_key basis) new before.walk after.walk change found answer.NeedSplit → (after.walk.pass ≡ pass.First → ⊥)
     → after.request ≡ before.request → after.reply ≡ before.reply → SplitsInPass (one_key basis) old new before after
@@ -209,7 +213,7 @@ nothing_held old new back =
     ∙ grind (arith, nat_tests, pages_of-released old.locks old.running.tx old.running.tx)
 
 -- **A pass that is rolled back begins again.**
-pub begins_again : (basis : Basis) (old new : Moment) (before after : OperationFields) (found : Option ℕ) (full : WalkFields)
+pub begins_again : (basis : Basis) (old new : Moment) (before after : WalkingFields) (found : Option ℕ) (full : WalkFields)
     → MayDecide (one_key basis) old before found → HasFound before.walk.phase None → (value : ℕ) × AsksToAdd before.request value → IsRolledBack old new → HasToRestart (one_key basis) old before.walk full → IsSameWalk before.walk full
     → after.walk ≡ record full { pass = next_of full.phase; phase = at.Start; split = None }
     → after.request ≡ before.request → after.reply ≡ before.reply → BeginsAgain (one_key basis) old new before after
@@ -220,7 +224,9 @@ begins_again basis old new before after found full may absent adds back restarts
     record {
       back = back;
       request = request;
+      untold = (may.untold, same ∙ may.untold);
       operates = record {
+        alone = ap size_key_of request ∙ may.alone;
         target = (λ i. (key i, mode i)) ∙ may.target ∙ ap target_of (sym request);
         stands = subst (λ (p : Phase). Stands p (one_key basis) after.walk (view_of new)) (sym phase) (at_start new (nothing_held old new back), refl);
         fits = subst (λ (p : Phase). FitsPhase p (one_key basis) after (view_of new)) (sym phase) (same ∙ may.untold);
@@ -244,7 +250,7 @@ narrow_restarts basis m walk full (Add value) widen = (inr widen, widen.same)
 narrow_restarts basis m walk full other widen = absurd widen
 
 -- **Where there is no room at all, all is rolled back.**
-pub finds_no_room : (basis : Basis) (old new : Moment) (before : OperationFields) (change : RecChange) (found : Option ℕ) (reply : ObjReply) (after : WalkFields)
+pub finds_no_room : (basis : Basis) (old new : Moment) (before : WalkingFields) (change : RecChange) (found : Option ℕ) (reply : ObjReply) (after : WalkFields)
     → MayDecide (one_key basis) old before found → decision before.request found ≡ (reply, Some change) → CanChange (Some change) found → OfAddition change (λ value. HasNoRoom (one_key basis) old before.walk after)
     → IsRolledBack old new → FindsNoRoom (one_key basis) old new before
 finds_no_room basis old new before (Add value) found reply after may is can none back = record {
@@ -258,7 +264,7 @@ finds_no_room basis old new before (Add value) found reply after may is can none
 finds_no_room basis old new before other found reply after may is can none back = absurd none
 
 -- what is told where the walk's change is refused
-pub refused_at_bucket : (basis : Basis) (old mid new : Moment) (before after : OperationFields) (change : RecChange) (found : Option ℕ) (reply : ObjReply) (walk : WalkFields) (reason : Refusal)
+pub refused_at_bucket : (basis : Basis) (old mid new : Moment) (before after : WalkingFields) (change : RecChange) (found : Option ℕ) (reply : ObjReply) (walk : WalkFields) (reason : Refusal)
     → MayDecide (one_key basis) old before found → decision before.request found ≡ (reply, Some change) → CanChange (Some change) found → mid ≡ old
     → TellsOfDecision (one_key basis) mid before.walk walk change found (answer.Refused reason) → IsRolledBack old new → TellsAtBucket (one_key basis) old new before after (step.Refused reason)
 refused_at_bucket basis old mid new before after change found reply walk refusal.NoRoom may is can stays tells back =

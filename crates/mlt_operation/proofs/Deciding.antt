@@ -8,7 +8,7 @@ use Rattle.mlt_kinds.specs.declared.account.AccountOp.TheVariants.{Open, Close, 
 use Rattle.mlt_kinds.specs.declared.counter.CounterOp.TheVariants.{Up, Down, Read}
 use Rattle.mlt_kinds.specs.declared.element.ElementOp.TheVariants as element
 use Rattle.mlt_kinds.specs.declared.operation.ObjOp.{ObjOp}
-use Rattle.mlt_kinds.specs.declared.operation.ObjOp.TheVariants.{Account, Element, Counter}
+use Rattle.mlt_kinds.specs.declared.operation.ObjOp.TheVariants.{Account, Element, Counter, Size}
 use Rattle.mlt_kinds.specs.declared.operation.ObjReply.{ObjReply}
 use Rattle.mlt_kinds.specs.declared.operation.ObjReply.TheVariants as told
 use Rattle.mlt_kinds.specs.Accounts.{max_balance}
@@ -52,6 +52,8 @@ never (Counter c (Down n)) None = refl
 never (Counter c (Down n)) (Some v) = refl
 never (Counter c Read) None = refl
 never (Counter c Read) (Some v) = refl
+never (Size s) None = refl
+never (Size s) (Some v) = refl
 
 -- **Only what takes a removal back asks for a revival.**
 pub never_revives : (op : ObjOp) (found : Option ℕ) (reply : ObjReply) → reply_of op found ≡ (reply, Some Revive) → ⊥
@@ -78,6 +80,8 @@ allowed (Counter c (Up n)) found = refl
 allowed (Counter c (Down n)) found = refl
 allowed (Counter c Read) None = refl
 allowed (Counter c Read) (Some v) = refl
+allowed (Size s) None = refl
+allowed (Size s) (Some v) = refl
 
 exclusive_by : (mode : Mode) (change : RecChange) → allows mode (Some change) ≡ true → mode ≡ Exclusive
 exclusive_by Exclusive change may = refl

@@ -1,9 +1,11 @@
 pub mod AtBucket
 pub mod Deciding
 pub mod Depths
+pub mod Doubles
 pub mod Going
 pub mod MostSteps
+pub mod Operations
 pub mod Performing
-pub mod SplitSteps
+pub mod Ready
 pub mod Telling
 pub mod Turns

@@ -10,7 +10,8 @@ use Rattle.mlt_hash.specs.declared.pass.Change.{Change}
 use Rattle.mlt_hash.specs.declared.pass.Change.TheVariants as change
 use Rattle.mlt_hash.specs.declared.answer.WalkAnswer.{WalkAnswer}
 use Rattle.mlt_hash.specs.declared.answer.WalkAnswer.TheVariants as answer
-use Rattle.mlt_operation.specs.Performing.{Performs, TellsOfDecision}
+use Rattle.mlt_two_records.specs.Performing.{Performs}
+use Rattle.mlt_operation.specs.Performing.{TellsOfDecision}
 
 -- an addition
 pub addition_tells : (basis : Basis) (new : Moment) (before after : WalkFields) (value : ℕ) (found : Option ℕ) (told : WalkAnswer)

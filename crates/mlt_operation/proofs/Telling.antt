@@ -5,10 +5,12 @@ use Rattle.mlt_types.specs.declared.mode.Mode.TheVariants.{Exclusive}
 use Rattle.mlt_types.specs.declared.refusal.Refusal.{Refusal}
 use Rattle.mlt_types.specs.declared.refusal.Refusal.TheVariants as refusal
 use Rattle.mlt_page.specs.declared.page.Page.{Page}
+use Rattle.mlt_base.specs.Requests.{size_key_of, target_of}
 use Rattle.mlt_hash_form.specs.Held.{Agrees}
 use Rattle.mlt_held.proofs.Since.{nothing_written}
 use Rattle.mlt_held.specs.Moments.{Moment}
 use Rattle.mlt_held.specs.PageSteps.{HasNoPageLeft, Leaves}
+use Rattle.mlt_held.specs.PageTurns.{IsRolledBack, TakesTurn}
 use Rattle.mlt_held.specs.Views.{IsUnwritten, View, view_of}
 use Rattle.mlt_held.proofs.Views.{agrees}
 use Rattle.mlt_hash.specs.Walks.{Basis, IsAtBucket, MayWalk, Stands, WalkFields, one_key}
@@ -20,51 +22,53 @@ use Rattle.mlt_hash.specs.declared.pass.Phase.{Phase}
 use Rattle.mlt_hash.specs.declared.pass.Phase.TheVariants as at
 use Rattle.mlt_operation.specs.declared.answer.StepAnswer.{StepAnswer}
 use Rattle.mlt_operation.specs.declared.answer.StepAnswer.TheVariants as step
-use Rattle.mlt_operation.specs.declared.request.Request.{Request}
-use Rattle.mlt_operation.specs.declared.request.Request.TheVariants.{Do, TakeBack}
-use Rattle.mlt_operation.specs.Answers.{AsksForAt, IsCauseOf, IsRefused, LacksPage, ReachesBucket, TellsOfStep, Waits}
+use Rattle.mlt_operation.specs.declared.course.Course.TheVariants.{One}
+use Rattle.mlt_base.specs.declared.request.Request.{Request}
+use Rattle.mlt_base.specs.declared.request.Request.TheVariants.{Do, TakeBack}
+use Rattle.mlt_operation.specs.Answers.{CauseAtOne, IsRefused, TellsOfStep, Waits}
+use Rattle.mlt_two_records.specs.Performing.{AsksToAdd}
+use Rattle.mlt_two_records.specs.WalkSteps.{AsksForAt, LacksPage, ReachesBucket, steps_to_change}
 use Rattle.mlt_operation.specs.AtBucket.{IsThereFor, MayDecide, TellsAtBucket}
-use Rattle.mlt_operation.specs.Operating.{AsksToAdd, CanTakeBack, MayOperate, OperationFields, steps_left}
-use Rattle.mlt_operation.specs.PageTurns.{IsRolledBack, TakesTurn}
-use Rattle.mlt_operation.specs.Requests.{target_of}
+use Rattle.mlt_operation.specs.Operating.{on_one}
+use Rattle.mlt_operation.specs.Walking.{CanTakeBackOne, MayWalkOn, WalkingFields}
 use Rattle.mlt_operation.proofs.Going.{put_on_way, same_target, untold_on_way}
 use Rattle.mlt_operation.proofs.Turns.{one_step_turns, two_steps_turn}
 
 -- **Where its walk waits, so does the operation.**
-waits_at : (p : Phase) (basis : Basis) (old new : Moment) (before after : OperationFields) (page by : ℕ) → before.walk.phase ≡ p
+waits_at : (p : Phase) (basis : Basis) (old new : Moment) (before after : WalkingFields) (page by : ℕ) → before.walk.phase ≡ p
     → TellsAt p (one_key basis) old new before.walk after.walk (answer.Waiting page by) → after.request ≡ before.request → after.reply ≡ before.reply
-    → Waits (one_key basis) old new before after page by
+    → Waits (one_key basis) old new (on_one before) (on_one after) page by
 waits_at (at.Adding value bucket depth unsplit) basis old new before after page by is told request same = absurd told
 waits_at (at.Splitting value depth) basis old new before after page by is (next, lowest, pages, walk) request same = record {
   mode = Exclusive;
   asks = subst (λ (p : Phase). AsksForAt p (one_key basis) (view_of old) before.walk page Exclusive) (sym is) (next, refl);
   lowest = lowest;
   pages = pages;
-  stays = λ i. record { request = request i; reply = same i; walk = walk i };
+  stays = λ i. record { request = request i; reply = same i; course = One (walk i) };
 }
 waits_at other basis old new before after page by is (next, lowest, pages, walk) request same = record {
   mode = next_mode before.walk before.walk.phase;
   asks = subst (λ (p : Phase). AsksForAt p (one_key basis) (view_of old) before.walk page (next_mode before.walk before.walk.phase)) (sym is) (next ∙ ap (λ (p : Phase). next_page basis.root p) is, ap (λ (p : Phase). next_mode before.walk p) is);
   lowest = lowest;
   pages = pages;
-  stays = λ i. record { request = request i; reply = same i; walk = walk i };
+  stays = λ i. record { request = request i; reply = same i; course = One (walk i) };
 }
 
-pub waits : (basis : Basis) (old new : Moment) (before after : OperationFields) (page by : ℕ)
+pub waits : (basis : Basis) (old new : Moment) (before after : WalkingFields) (page by : ℕ)
     → TellsAt before.walk.phase (one_key basis) old new before.walk after.walk (answer.Waiting page by) → after.request ≡ before.request → after.reply ≡ before.reply
-    → Waits (one_key basis) old new before after page by
+    → Waits (one_key basis) old new (on_one before) (on_one after) page by
 waits basis old new before after page by told request same = waits_at before.walk.phase (one_key basis) old new before after page by refl told request same
 
 -- what is to be taken back is there, at the bucket
 there_at : (request : Request) (basis : Basis) (clean : ℕ → Option Page) (walk : WalkFields) (view : View) (bucket depth : ℕ) (found : Option ℕ)
-    → CanTakeBack (one_key basis) clean request → walk.key ≡ (target_of request).0 → walk.phase ≡ at.AtBucket bucket depth found
+    → CanTakeBackOne (one_key basis) clean request → walk.key ≡ (target_of request).0 → walk.phase ≡ at.AtBucket bucket depth found
     → IsAtBucket (one_key basis) walk view bucket depth found → Agrees view.seen clean → IsThereFor request (one_key basis) walk view found
 there_at (Do op) basis clean walk view bucket depth found back key phase here agree = tt
 there_at (TakeBack done) basis clean walk view bucket depth found back key phase here agree = back walk view bucket depth found key phase here agree
 
 -- what the walk has found
 found_at : (p : Phase) (basis : Basis) (clean : ℕ → Option Page) (request : Request) (walk : WalkFields) (view : View) (found : Option ℕ)
-    → walk.phase ≡ p → HasFound p found → Stands p (one_key basis) walk view → CanTakeBack (one_key basis) clean request → walk.key ≡ (target_of request).0 → Agrees view.seen clean
+    → walk.phase ≡ p → HasFound p found → Stands p (one_key basis) walk view → CanTakeBackOne (one_key basis) clean request → walk.key ≡ (target_of request).0 → Agrees view.seen clean
     → IsThereFor request (one_key basis) walk view found
 found_at (at.AtBucket bucket depth f) basis clean request walk view found is same here back key agree =
     subst (λ (g : Option ℕ). IsThereFor request (one_key basis) walk view g) same (there_at request (one_key basis) clean walk view bucket depth f back key is here agree)
@@ -99,11 +103,11 @@ walks_on basis old mid walk after may leaves goes = record {
 }
 
 -- the reply is not known on the way
-untold_before : (basis : Basis) (old mid : Moment) (before : OperationFields) (walk : WalkFields) → MayOperate (one_key basis) old before → GoesOn (one_key basis) mid before.walk walk → before.reply ≡ None
+untold_before : (basis : Basis) (old mid : Moment) (before : WalkingFields) (walk : WalkFields) → MayWalkOn (one_key basis) old before → GoesOn (one_key basis) mid before.walk walk → before.reply ≡ None
 untold_before basis old mid before walk may goes = untold_on_way before.walk.phase (one_key basis) before (view_of old) (omega (arith, goes.fewer)) may.operates.fits
 
 -- **An operation that has reached its bucket may decide.**
-pub may_decide : (basis : Basis) (old mid : Moment) (before at : OperationFields) (found : Option ℕ) → MayOperate (one_key basis) old before → Leaves old mid
+pub may_decide : (basis : Basis) (old mid : Moment) (before at : WalkingFields) (found : Option ℕ) → MayWalkOn (one_key basis) old before → Leaves old mid
     → TellsAt before.walk.phase (one_key basis) old mid before.walk at.walk (answer.Found found) → at.request ≡ before.request → at.reply ≡ before.reply
     → MayDecide (one_key basis) mid at found
 may_decide basis old mid before at found may leaves tells request same =
@@ -112,15 +116,16 @@ may_decide basis old mid before at found may leaves tells request same =
     let clean = may.walks.file.clean in
     record {
       walks = walks_on (one_key basis) old mid before.walk at.walk may.walks leaves path.0;
+      alone = ap size_key_of request ∙ may.operates.alone;
       target = target;
       at_bucket = path.1;
       untold = same ∙ untold_before (one_key basis) old mid before at.walk may path.0;
-      there = found_at at.walk.phase (one_key basis) clean at.request at.walk (view_of mid) found refl path.1 path.0.stands (subst (CanTakeBack (one_key basis) clean) (sym request) may.back) (ap (λ (t : ℕ × Mode). t.0) target) (agrees mid clean leaves.may (leaves.clean clean may.walks.file.is_clean));
+      there = found_at at.walk.phase (one_key basis) clean at.request at.walk (view_of mid) found refl path.1 path.0.stands (subst (CanTakeBackOne (one_key basis) clean) (sym request) may.back) (ap (λ (t : ℕ × Mode). t.0) target) (agrees mid clean leaves.may (leaves.clean clean may.walks.file.is_clean));
     }
 
 -- the bucket is reached by the last step of the path
-reaches : (basis : Basis) (mid : Moment) (before : OperationFields) (walk : WalkFields) (found : Option ℕ) → GoesOn (one_key basis) mid before.walk walk → HasFound walk.phase found → HasFound walk.phase None
-    → ReachesBucket (one_key basis) mid before walk
+reaches : (basis : Basis) (mid : Moment) (before : WalkingFields) (walk : WalkFields) (found : Option ℕ) → GoesOn (one_key basis) mid before.walk walk → HasFound walk.phase found → HasFound walk.phase None
+    → ReachesBucket (one_key basis) mid before.walk walk
 reaches basis mid before walk found goes is none = record {
   last = (let left = none_left walk.phase found is in omega (arith, goes.fewer, left));
   same = goes.same;
@@ -129,9 +134,9 @@ reaches basis mid before walk found goes is none = record {
 }
 
 -- **What an operation tells at its bucket is what its step tells.**
-pub found_tells : (basis : Basis) (old mid new : Moment) (before at after : OperationFields) (found : Option ℕ) (told : StepAnswer) → MayOperate (one_key basis) old before → Leaves old mid
+pub found_tells : (basis : Basis) (old mid new : Moment) (before at after : WalkingFields) (found : Option ℕ) (told : StepAnswer) → MayWalkOn (one_key basis) old before → Leaves old mid
     → TellsAt before.walk.phase (one_key basis) old mid before.walk at.walk (answer.Found found) → at.request ≡ before.request → at.reply ≡ before.reply
-    → TellsAtBucket (one_key basis) mid new at after told → TellsOfStep (one_key basis) old new before after told
+    → TellsAtBucket (one_key basis) mid new at after told → TellsOfStep (one_key basis) old new (on_one before) (on_one after) told
 found_tells basis old mid new before at after found told may leaves tells request same at_bucket = by told at_bucket
   where
     path : GoesOn (one_key basis) mid before.walk at.walk × HasFound at.walk.phase found
@@ -140,66 +145,74 @@ found_tells basis old mid new before at after found told may leaves tells reques
     turn : TakesTurn old mid
     turn = one_step_turns (one_key basis) old mid before.walk may.walks leaves
 
-    by : (told : StepAnswer) → TellsAtBucket (one_key basis) mid new at after told → TellsOfStep (one_key basis) old new before after told
+    by : (told : StepAnswer) → TellsAtBucket (one_key basis) mid new at after told → TellsOfStep (one_key basis) old new (on_one before) (on_one after) told
     by step.Going (inl finishes) =
         let was : steps_to_bucket before.walk.phase ≡ 1 = (let left = none_left at.walk.phase found path.1 in omega (arith, path.0.fewer, left)) in
         let put = put_on_way before.walk.phase basis.root before.walk (view_of old) (omega (arith, was)) in
-        let by_one : steps_left basis.root after (view_of new) + 1 ≡ steps_left basis.root before (view_of old) = omega (arith, was, put, finishes.last) in
+        let by_one : steps_to_change basis.root after.walk (view_of new) + 1 ≡ steps_to_change basis.root before.walk (view_of old) = omega (arith, was, put, finishes.last) in
         inl (record {
           turn = two_steps_turn (one_key basis) old mid new before.walk at.walk may.walks leaves (walks_on (one_key basis) old mid before.walk at.walk may.walks leaves path.0)
               (found_unwritten at.walk.phase (one_key basis) at.walk (view_of mid) found path.1 path.0.stands) finishes.leaves finishes.writes;
           request = finishes.request ∙ request;
-          in_pass = finishes.in_pass ∙ path.0.same.pass;
           operates = finishes.operates;
-          nearer = omega (arith, finishes.last);
+          in_first = λ first. finishes.in_pass ∙ path.0.same.pass ∙ first;
           fewer = omega (arith, by_one);
-          by_one = inl by_one;
-          down = inl (omega (arith, was));
+          how = record {
+            in_pass = finishes.in_pass ∙ path.0.same.pass;
+            goes = inl (record { nearer = omega (arith, finishes.last); by_one = by_one; down = inl (omega (arith, was)) });
+          };
         })
     by step.Going (inr (inl splits)) =
         inr (inl (record {
           turn = subst (λ (m : Moment). TakesTurn old m) (sym splits.stays) turn;
           request = splits.request ∙ request;
-          in_pass = splits.in_pass ∙ path.0.same.pass;
           operates = splits.operates;
           later = λ first. splits.later (path.0.same.pass ∙ first);
-          walk = at.walk;
-          reaches = subst (λ (m : Moment). ReachesBucket (one_key basis) m before at.walk) (sym splits.stays) (reaches (one_key basis) mid before at.walk found path.0 path.1 splits.absent);
-          value = splits.value;
-          needs = splits.needs;
-          at_bucket = ap steps_to_bucket (splits.needs.later splits.later).1;
+          how = record {
+            in_pass = splits.in_pass ∙ path.0.same.pass;
+            splits = record {
+              walk = at.walk;
+              reaches = subst (λ (m : Moment). ReachesBucket (one_key basis) m before.walk at.walk) (sym splits.stays) (reaches (one_key basis) mid before at.walk found path.0 path.1 splits.absent);
+              value = splits.value;
+              needs = splits.needs;
+              at_bucket = ap steps_to_bucket (splits.needs.later splits.later).1;
+            };
+          };
         }))
     by step.Going (inr (inr again)) =
         inr (inr (record {
           back = record { mid = mid; turn = turn; back = again.back };
           request = again.request ∙ request;
+          untold = (sym same ∙ again.untold.0, again.untold.1);
           operates = again.operates;
           adds = (again.adds.0, subst (λ (r : Request). AsksToAdd r again.adds.0) request again.adds.1);
-          walk = at.walk;
-          reaches = reaches (one_key basis) mid before at.walk found path.0 path.1 again.absent;
-          full = again.full;
-          restarts = again.restarts;
-          again = again.again;
+          how = record {
+            walk = at.walk;
+            reaches = reaches (one_key basis) mid before at.walk found path.0 path.1 again.absent;
+            full = again.full;
+            restarts = again.restarts;
+            again = again.again;
+          };
         }))
     by (step.Refused refusal.NoRoom) none = record {
       back = record { mid = mid; turn = turn; back = none.back };
       later = λ first. none.later (path.0.same.pass ∙ first);
-      cause = inl (record { adds = (none.adds.0, subst (λ (r : Request). AsksToAdd r none.adds.0) request none.adds.1); walk = at.walk; after = none.walk; reaches = reaches (one_key basis) mid before at.walk found path.0 path.1 none.absent; none = none.none });
+      cause = inl ((none.adds.0, subst (λ (r : Request). AsksToAdd r none.adds.0) request none.adds.1), record { walk = at.walk; after = none.walk; reaches = reaches (one_key basis) mid before at.walk found path.0 path.1 none.absent; none = none.none });
     }
     by other never = absurd never
 
 -- memory is told only where no page is lacked
-no_memory : (p : Phase) (basis : Basis) (old : Moment) (before : OperationFields) → before.walk.phase ≡ p → steps_to_bucket p ≡ 0
+no_memory : (p : Phase) (basis : Basis) (old : Moment) (before : WalkingFields) → before.walk.phase ≡ p → steps_to_bucket p ≡ 0
     → ((answer.Refused refusal.OutOfMemory ≡ answer.Refused refusal.NoRoom) ↔ (HasToMake p (one_key basis) old before.walk × HasNoPageLeft old.store))
-    → (steps_to_bucket before.walk.phase ≡ 0) × (LacksPage (one_key basis) old before → ⊥)
+    → (steps_to_bucket before.walk.phase ≡ 0) × (LacksPage (one_key basis) old before.walk → ⊥)
 no_memory p basis old before is zero_left exact =
     (ap steps_to_bucket is ∙ zero_left, λ lacks. (let same : answer.Refused refusal.OutOfMemory ≡ answer.Refused refusal.NoRoom = exact.1 (subst (λ (q : Phase). HasToMake q (one_key basis) old before.walk) is lacks.makes, lacks.full) in absurd cc))
 
 -- a walk that is refused on its way splits
-refused_at : (p : Phase) (basis : Basis) (old mid : Moment) (before : OperationFields) (after : WalkFields) (reason : Refusal) → before.walk.phase ≡ p
+refused_at : (p : Phase) (basis : Basis) (old mid : Moment) (before : WalkingFields) (after : WalkFields) (reason : Refusal) → before.walk.phase ≡ p
     → Stands p (one_key basis) before.walk (view_of old) → TellsAt p (one_key basis) old mid before.walk after (answer.Refused reason)
     → ((answer.Refused reason ≡ answer.Refused refusal.NoRoom) ↔ (HasToMake p (one_key basis) old before.walk × HasNoPageLeft old.store))
-    → (before.walk.pass ≡ pass.First → ⊥) × IsCauseOf reason (one_key basis) old mid before
+    → (before.walk.pass ≡ pass.First → ⊥) × CauseAtOne reason (one_key basis) old mid before.request before.walk
 refused_at (at.Adding value bucket depth unsplit) basis old mid before after refusal.NoRoom is stands told exact =
     (stands.later, inr (record { makes = subst (λ (p : Phase). HasToMake p (one_key basis) old before.walk) (sym is) told.0; full = told.1 }))
 refused_at (at.Adding value bucket depth unsplit) basis old mid before after refusal.OutOfMemory is stands told exact = (stands.later, no_memory (at.Adding value bucket depth unsplit) (one_key basis) old before is refl exact)
@@ -211,10 +224,10 @@ refused_at (at.Splitting value depth) basis old mid before after other is stands
 refused_at other basis old mid before after reason is stands told exact = absurd told
 
 -- **Where its walk is refused, all is rolled back.**
-pub refused : (basis : Basis) (old mid new : Moment) (before : OperationFields) (after : WalkFields) (reason : Refusal) → MayOperate (one_key basis) old before → Leaves old mid
+pub refused : (basis : Basis) (old mid new : Moment) (before : WalkingFields) (after : WalkFields) (reason : Refusal) → MayWalkOn (one_key basis) old before → Leaves old mid
     → TellsAt before.walk.phase (one_key basis) old mid before.walk after (answer.Refused reason)
     → ((answer.Refused reason ≡ answer.Refused refusal.NoRoom) ↔ (HasToMake before.walk.phase (one_key basis) old before.walk × HasNoPageLeft old.store))
-    → IsRolledBack mid new → IsRefused (one_key basis) old new before reason
+    → IsRolledBack mid new → IsRefused (one_key basis) old new (on_one before) reason
 refused basis old mid new before after reason may leaves told exact back =
     let why = refused_at before.walk.phase (one_key basis) old mid before after reason refl may.walks.stands told exact in
     record {

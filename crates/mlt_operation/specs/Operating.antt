@@ -1,109 +1,92 @@
--- Where an operation stands between two of its steps
-use Rattle.std.specs.Prelude.{ℕ, ◌≡◌, ◌+◌, Option, None, Some}
-use Rattle.mlt_page.specs.declared.page.Page.{Page}
+-- Where an operation stands between two of its steps: on one record, or on two
+use Rattle.std.specs.Prelude.{ℕ, ◌≡◌, ◌≤◌, ◌<◌, ◌^◌, Option, None, Some}
 use Rattle.mlt_kinds.specs.declared.operation.ObjReply.{ObjReply}
-use Rattle.mlt_base.specs.declared.record.RecChange.{RecChange}
-use Rattle.mlt_base.specs.declared.record.RecChange.TheVariants.{Add, Revive}
-use Rattle.mlt_base.specs.Effects.{inverse_of}
-use Rattle.mlt_base.specs.Records.{CanChange}
-use Rattle.mlt_hash_form.specs.Held.{Agrees}
-use Rattle.mlt_held.specs.Moments.{Moment}
+use Rattle.mlt_base.specs.declared.request.Request.{Request}
+use Rattle.mlt_base.specs.Requests.{size_key_of, target_of}
+use Rattle.mlt_hash_form.specs.File.{FilePages, depth_of}
+use Rattle.mlt_held.specs.Moments.{HasCleanFile, MayStep, Moment}
 use Rattle.mlt_held.specs.Views.{View, view_of}
-use Rattle.mlt_hash.specs.Walks.{Basis, HasRead, IsAtBucket, IsStanding, MayWalk, WalkFields}
-use Rattle.mlt_hash.specs.Changes.{HasOwnGhost}
-use Rattle.mlt_hash.specs.Steps.{steps_to_bucket}
-use Rattle.mlt_hash.specs.StepsLeft.{steps_to_put}
-use Rattle.mlt_hash.specs.declared.pass.Change.{Change}
+use Rattle.mlt_hash.specs.Walks.{Basis}
 use Rattle.mlt_hash.specs.declared.pass.Pass.TheVariants as pass
-use Rattle.mlt_hash.specs.declared.pass.Phase.{Phase}
-use Rattle.mlt_hash.specs.declared.pass.Phase.TheVariants as at
-use Rattle.mlt_operation.specs.declared.request.Request.{Request}
-use Rattle.mlt_operation.specs.declared.request.Request.TheVariants.{Do, TakeBack}
-use Rattle.mlt_operation.specs.Performing.{Performs}
-use Rattle.mlt_operation.specs.Requests.{decision, target_of}
+use Rattle.mlt_two_records.specs.Doubles.{CanDoBoth, IsFirst, IsTold, Stands, find_both, steps_of_double}
+use Rattle.mlt_two_records.specs.declared.double.Double.{Double}
+use Rattle.mlt_operation.specs.declared.course.Course.{Course}
+use Rattle.mlt_operation.specs.declared.course.Course.TheVariants.{One, Two}
+use Rattle.mlt_operation.specs.Walking.{CanTakeBackOne, IsWalking, WalkingFields, steps_of_walk, walk_for, walking}
 
--- what a contract sees of an operation: what it is asked, what it is told, once its next step is its end, and its walk
+-- what a contract sees of an operation: what it is asked, what it is told, once its next step is its end, and how it
+-- comes to its records
 pub record OperationFields : Type 0 where
   pub request : Request
   pub reply : Option ObjReply
-  pub walk : WalkFields
+  pub course : Course
+
+-- one on one record, and one on two
+abbrev pub on_one : WalkingFields → OperationFields
+on_one o = record { request = o.request; reply = o.reply; course = One o.walk }
+
+abbrev pub on_two : Request → Option ObjReply → Double → OperationFields
+on_two request reply double = record { request = request; reply = reply; course = Two double }
+
+-- the course of one that has taken no step: to one record, or to the size record of this key too
+abbrev pub course_for : Request → Option ℕ → Course
+course_for request None = One (walk_for request)
+course_for request (Some size) = Two (find_both (target_of request).0 size)
 
 -- one that has taken no step
 abbrev pub started_for : Request → OperationFields
 started_for request = record {
   request = request;
   reply = None;
-  walk = record {
-    key = (target_of request).0;
-    mode = (target_of request).1;
-    pass = pass.First;
-    phase = at.Start;
-    split = None;
-  };
+  course = course_for request (size_key_of request);
 }
 
--- it is told this reply, and what it found asks for no change
-abbrev pub IsTold : OperationFields → Option ℕ → Type 0
-IsTold o found =
-    (reply : ObjReply) × (o.reply ≡ Some reply) × (decision o.request found ≡ (reply, None))
+-- it is in its first pass
+abbrev pub IsInFirst : Course → Type 0
+IsInFirst (One walk) = walk.pass ≡ pass.First
+IsInFirst (Two double) = IsFirst double
 
--- where no record is found, it asks for one of this value
-abbrev pub AsksToAdd : Request → ℕ → Type 0
-AsksToAdd request value = (reply : ObjReply) × (decision request None ≡ (reply, Some (Add value)))
+-- where one on two records stands: on its way, or with its reply told, since all is written
+abbrev pub StandsOrTold : Option ObjReply → Double → Basis → Request → View → Type 0
+StandsOrTold None double basis request view = Stands double basis request view
+StandsOrTold (Some reply) double basis request view = IsTold double basis request reply view
 
--- a record of this value is to be added, since none was found
-abbrev pub IsToAdd : OperationFields → ℕ → Type 0
-IsToAdd o value = (o.reply ≡ None) × AsksToAdd o.request value
+-- It stands where its course is, and its reply fits what was found.
+abbrev pub OperatesBy : Course → Basis → OperationFields → View → Type 0
+OperatesBy (One walk) basis o view = IsWalking basis (walking o.request o.reply walk) view
+OperatesBy (Two double) basis o view = StandsOrTold o.reply double basis o.request view
 
--- what it found asked for the change that is written
-pub record HasPerformed (basis : Basis) (o : OperationFields) (view : View) (done : Change)
-    : Type 0 where
-  pub found : Option ℕ
-  pub reply : ObjReply
-  pub decided : RecChange
-  pub read : HasRead basis o.walk.key view found
-  pub told : o.reply ≡ Some reply
-  pub asked : decision o.request found ≡ (reply, Some decided)
-  pub performs : Performs decided found done
+abbrev pub IsOperating : Basis → OperationFields → View → Type 0
+IsOperating basis o view = OperatesBy o.course basis o view
 
--- what the walk's phase says of the reply
-abbrev pub FitsPhase : Phase → Basis → OperationFields → View → Type 0
-FitsPhase at.Start basis o view = o.reply ≡ None
-FitsPhase (at.Headed dir row depth) basis o view = o.reply ≡ None
-FitsPhase (at.Placed bucket depth) basis o view = o.reply ≡ None
-FitsPhase (at.AtBucket bucket depth found) basis o view = IsTold o found
-FitsPhase (at.Full next) basis o view = ⊥
-FitsPhase (at.Adding value bucket room_depth unsplit) basis o view = IsToAdd o value
-FitsPhase (at.Splitting value room_depth) basis o view = IsToAdd o value
-FitsPhase (at.Changed bucket done) basis o view = HasPerformed basis o view done
+-- what it is to change is there: of one record where it is to be taken back, and both of two
+abbrev pub CanDoBy : Option ℕ → Basis → FilePages → Request → Type 0
+CanDoBy None basis clean request = CanTakeBackOne basis clean request
+CanDoBy (Some size) basis clean request = CanDoBoth basis clean request
 
--- Its walk is one to its key, and stands; and what it is told fits what the walk has found.
-pub record IsOperating (basis : Basis) (o : OperationFields) (view : View) : Type 0 where
-  pub target : (o.walk.key, o.walk.mode) ≡ target_of o.request
-  pub stands : IsStanding basis o.walk view
-  pub fits : FitsPhase o.walk.phase basis o view
+abbrev pub CanDo : Basis → FilePages → Request → Type 0
+CanDo basis clean request = CanDoBy (size_key_of request) basis clean request
 
--- What is to be taken back is there: a walk to its key finds a record, or none, as the inverse needs it, and the
--- transaction's own ghost where that is to be revived.
-pub record IsThere (basis : Basis) (walk : WalkFields) (view : View) (inverse : Option RecChange)
-    (found : Option ℕ) : Type 0 where
-  pub fits : CanChange inverse found
-  pub ghost : inverse ≡ Some Revive → HasOwnGhost basis.tx walk view
-
-abbrev pub CanTakeBack : Basis → (ℕ → Option Page) → Request → Type 0
-CanTakeBack basis clean (Do op) = Unit {0}
-CanTakeBack basis clean (TakeBack done) =
-    (walk : WalkFields) (view : View) (bucket depth : ℕ) (found : Option ℕ)
-    → walk.key ≡ (target_of (TakeBack done)).0 → walk.phase ≡ at.AtBucket bucket depth found
-    → IsAtBucket basis walk view bucket depth found → Agrees view.seen clean
-    → IsThere basis walk view (inverse_of done) found
-
--- What a step of an operation asks: its walk may take a step, it stands, and what it is to take back is there.
+-- What a step of an operation asks: the transaction may step, the clean pages are a hash file, on which it stands, and
+-- what it is to change is there.
 pub record MayOperate (basis : Basis) (m : Moment) (o : OperationFields) : Type 0 where
-  pub walks : MayWalk basis m o.walk
+  pub bounded : (k : ℕ) → basis.bits k < 2 ^ 64
+  pub small : basis.max_depth ≤ 16
+  pub may : MayStep m
+  pub file : HasCleanFile basis.bits basis.root m
+  pub shallow : depth_of file.clean basis.root ≤ basis.max_depth
   pub operates : IsOperating basis o (view_of m)
-  pub back : CanTakeBack basis walks.file.clean o.request
+  pub can : CanDo basis file.clean o.request
 
--- how many steps are left of the pass, its end among them, and those aside that wait
+-- How many steps are left, its end among them, and those aside that wait: of its pass, where it is on one record; and at
+-- most so many of all, where it is on two.
+abbrev pub steps_of_two : Option ObjReply → ℕ → Double → View → ℕ
+steps_of_two None root double view = steps_of_double root double view
+steps_of_two (Some reply) root double view = 1
+
+abbrev pub steps_by : Course → ℕ → Option ObjReply → View → ℕ
+steps_by (One walk) root reply view = steps_of_walk root walk view
+steps_by (Two double) root reply view = steps_of_two reply root double view
+
 abbrev pub steps_left : ℕ → OperationFields → View → ℕ
-steps_left root o view = steps_to_bucket o.walk.phase + steps_to_put root o.walk view + 1
+steps_left root o view = steps_by o.course root o.reply view

@@ -1,5 +1,6 @@
-//! Operations of objects, run on pages: an operation walks to its record, learns there what it is told, and changes the
-//! record in place, one page per step. So does an inverse, which takes an operation back.
+//! Operations of objects, run on pages: an operation goes to its record, learns there what it is told, and changes the
+//! record in place, one page per step. So does an inverse, which takes an operation back. Where an element is added or
+//! removed, or that is taken back, it goes to two records: the element's, and the size of its set.
 //!
 //! An operation is a subtransaction of its transaction (Weikum, ACM TODS 16(1), 1991, section 3). What it is told is
 //! known once the bucket is read; whether it may stand beside what other transactions hold is asked at its end, by the
@@ -7,12 +8,13 @@
 #![tactic(auto)]
 
 mod answer;
+mod course;
 mod end_law;
 mod operation;
 mod perform;
-mod request;
+mod walking;
 
 pub use answer::StepAnswer;
+pub use course::Course;
 pub use end_law::operations_come_to_an_end;
 pub use operation::Operation;
-pub use request::Request;

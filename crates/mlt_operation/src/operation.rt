@@ -1,31 +1,32 @@
 //! Operations.
 
-ghost use Rattle.std.specs.Prelude.{◌≡◌};
+ghost use Rattle.std.specs.Prelude.{◌≡◌, None};
 ghost use Rattle.mlt_held.specs.Moments.{moment};
 ghost use Rattle.mlt_hash.specs.Walks.{basis_in};
-ghost use Rattle.mlt_hash.specs.Splitting.{IsUnderWay};
 ghost use Rattle.mlt_operation.specs.Answers.{TellsOfStep};
-ghost use Rattle.mlt_operation.specs.AtBucket.{MayDecide, TellsAtBucket};
 ghost use Rattle.mlt_operation.specs.Operating.{MayOperate, started_for};
 
 use crate::answer::StepAnswer;
-use crate::perform::perform;
-use crate::request::Request;
-use mlt_hash::{Setting, Walk, WalkAnswer};
+use crate::course::Course;
+use crate::walking::step_walk;
+use mlt_base::Request;
+use mlt_hash::{Setting, Walk};
 use mlt_held::LockedStore;
 use mlt_kinds::ObjReply;
 use mlt_subtx::Subtx;
-use mlt_types::{Pseudo, Value};
+use mlt_two_records::{Double, DoubleAnswer};
+use mlt_types::Pseudo;
 use std::alloc::Global;
 use std::marker::Model;
 
 /// An operation of a transaction that has begun and not ended.
 #[derive(Drop)]
 pub struct Operation {
+    alloc: Global,
     request: Request,
     /// What it is told, once its next step is its end.
     reply: Option<ObjReply>,
-    walk: Walk,
+    course: Course,
 }
 
 impl Model for Operation {
@@ -33,19 +34,24 @@ impl Model for Operation {
 
     ghost Value = { OperationFields };
 
-    ghost view = { λ o. record { request = o.request; reply = o.reply; walk = o.walk } };
+    ghost view = { λ o. record { request = o.request; reply = o.reply; course = o.course } };
 }
 
 impl Operation {
-    /// An operation that has taken no step. Only a pass that splits its bucket takes memory.
+    /// An operation that has taken no step. Only a pass that splits a bucket takes memory, or writes a third page.
     pub fn start(alloc: Global, request: Request) -> Operation
         ensures { result ≡ started_for request }
     {
         let (key, mode) = request.target();
+        let course = match request.size_key() {
+            None => Course::One(Walk::find(alloc, key, mode)),
+            Some(size) => Course::Two(Double::find(key, size)),
+        };
         Operation {
+            alloc,
             request,
             reply: None,
-            walk: Walk::find(alloc, key, mode),
+            course,
         }
     }
 
@@ -63,9 +69,7 @@ impl Operation {
         self.reply
     }
 
-    /// One step, up to the one before its end: on the way to its bucket it locks a page and reads it. At the bucket it
-    /// learns what it is told, and makes its change there. Where there is no room, the pass is rolled back and another
-    /// begins, which splits the bucket, one page a step.
+    /// One step, up to the one before its end: of its walk to its record, or on its way to two.
     ///
     /// It takes memory in a later pass than the first alone. Where it is refused all is rolled back.
     pub fn step<P: Pseudo>(
@@ -74,62 +78,27 @@ impl Operation {
         subtx: &mut Subtx,
         pages: &mut LockedStore,
     ) -> StepAnswer
-        requires under_way { IsUnderWay self.old.walk.phase }
+        requires untold { self.old.reply ≡ None }
         requires ready { MayOperate (basis_in P.bits_of setting.now subtx.old.tx)
             (moment subtx.old pages.old) self.old }
         ensures tells { TellsOfStep (basis_in P.bits_of setting.now subtx.old.tx)
             (moment subtx.old pages.old) (moment subtx.new pages.new) self.old self.new result }
     {
-        match self.walk.advance(setting, subtx, pages) {
-            WalkAnswer::Going => StepAnswer::Going,
-            WalkAnswer::Waiting(page, by) => StepAnswer::Waiting(page, by),
-            WalkAnswer::Found(found) => self.act_on(found, setting, subtx, pages),
-            WalkAnswer::Changed => {
-                self.reply = Some(self.request.decide(None).0);
-                StepAnswer::Going
+        match &mut self.course {
+            Course::One(walk) => {
+                step_walk(walk, &self.request, &mut self.reply, setting, subtx, pages)
             }
-            WalkAnswer::Refused(refusal) => {
-                subtx.roll_back(&mut pages.store, &mut pages.locks);
-                StepAnswer::Refused(refusal)
+            Course::Two(double) => {
+                match double.step(self.alloc, &self.request, setting, subtx, pages) {
+                    DoubleAnswer::Going => StepAnswer::Going,
+                    DoubleAnswer::Waiting(page, by) => StepAnswer::Waiting(page, by),
+                    DoubleAnswer::Told(reply) => {
+                        self.reply = Some(reply);
+                        StepAnswer::Going
+                    }
+                    DoubleAnswer::Refused(reason) => StepAnswer::Refused(reason),
+                }
             }
-            WalkAnswer::NeedSplit | WalkAnswer::Widen => unreachable!(),
-        }
-    }
-
-    /// At the bucket, where the key has this value, or none.
-    fn act_on<P: Pseudo>(
-        &mut self,
-        found: Option<Value>,
-        setting: &Setting<P>,
-        subtx: &mut Subtx,
-        pages: &mut LockedStore,
-    ) -> StepAnswer
-        requires ready { MayDecide (basis_in P.bits_of setting.now subtx.old.tx)
-            (moment subtx.old pages.old) self.old found }
-        ensures tells { TellsAtBucket (basis_in P.bits_of setting.now subtx.old.tx)
-            (moment subtx.old pages.old) (moment subtx.new pages.new) self.old self.new result }
-    {
-        let (reply, decided) = self.request.decide(found);
-        let Some(change) = decided else {
-            self.reply = Some(reply);
-            return StepAnswer::Going;
-        };
-        match perform(&mut self.walk, change, found, setting, subtx, pages) {
-            WalkAnswer::Changed => {
-                self.reply = Some(reply);
-                StepAnswer::Going
-            }
-            WalkAnswer::NeedSplit if !self.walk.is_first() => StepAnswer::Going,
-            WalkAnswer::NeedSplit | WalkAnswer::Widen => {
-                subtx.roll_back(&mut pages.store, &mut pages.locks);
-                self.walk.again();
-                StepAnswer::Going
-            }
-            WalkAnswer::Refused(reason) => {
-                subtx.roll_back(&mut pages.store, &mut pages.locks);
-                StepAnswer::Refused(reason)
-            }
-            WalkAnswer::Going | WalkAnswer::Waiting(_, _) | WalkAnswer::Found(_) => unreachable!(),
         }
     }
 }

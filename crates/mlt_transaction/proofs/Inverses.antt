@@ -5,20 +5,21 @@ use Rattle.mlt_kinds.specs.declared.account.AccountOp.TheVariants.{Open, Close, 
 use Rattle.mlt_kinds.specs.declared.counter.CounterOp.TheVariants.{Up, Down}
 use Rattle.mlt_kinds.specs.declared.element.ElementOp.TheVariants as element
 use Rattle.mlt_kinds.specs.declared.operation.ObjOp.{ObjOp}
-use Rattle.mlt_kinds.specs.declared.operation.ObjOp.TheVariants.{Account, Element, Counter}
+use Rattle.mlt_kinds.specs.declared.operation.ObjOp.TheVariants.{Account, Element, Counter, Size}
 use Rattle.mlt_kinds.specs.declared.operation.ObjReply.{ObjReply}
 use Rattle.mlt_kinds.specs.declared.operation.ObjReply.TheVariants as told
 use Rattle.mlt_base.specs.declared.record.RecChange.{RecChange}
 use Rattle.mlt_base.specs.declared.record.RecChange.TheVariants.{Add}
+use Rattle.mlt_base.specs.declared.request.Request.{Request}
+use Rattle.mlt_base.specs.declared.request.Request.TheVariants.{TakeBack}
 use Rattle.mlt_base.specs.Effects.{inverse_of}
+use Rattle.mlt_base.specs.Requests.{decision}
 use Rattle.mlt_held.specs.Moments.{Moment}
 use Rattle.mlt_hash.specs.Walks.{Basis}
 use Rattle.mlt_operation.specs.declared.answer.StepAnswer.TheVariants as step
-use Rattle.mlt_operation.specs.declared.request.Request.{Request}
-use Rattle.mlt_operation.specs.declared.request.Request.TheVariants.{TakeBack}
 use Rattle.mlt_operation.specs.Answers.{StepsOn, TellsOfStep}
-use Rattle.mlt_operation.specs.Operating.{AsksToAdd, OperationFields}
-use Rattle.mlt_operation.specs.Requests.{decision}
+use Rattle.mlt_operation.specs.Operating.{OperationFields}
+use Rattle.mlt_two_records.specs.Performing.{AsksToAdd}
 use Rattle.mlt_transaction.specs.Steps.{IsInverting}
 
 abbrev is_addition : Option RecChange → Bool
@@ -37,6 +38,7 @@ never_adds (Element s e op, other) = refl
 never_adds (Counter c (Up n), told.Done) = refl
 never_adds (Counter c (Down n), told.Done) = refl
 never_adds (Counter c op, other) = refl
+never_adds (Size s, other) = refl
 
 no_addition : (item : ObjOp × ObjReply) (request : Request) (value : ℕ) → request ≡ TakeBack item → AsksToAdd request value → ⊥
 no_addition item request value is adds =
@@ -45,6 +47,6 @@ no_addition item request value is adds =
 -- **An inverse that goes on stays in its pass.**
 pub inverse_goes_on : (basis : Basis) (old new : Moment) (item : ObjOp × ObjReply) (before after : OperationFields) → IsInverting item before
     → TellsOfStep basis old new before after step.Going → StepsOn basis old new before after × IsInverting item after
-inverse_goes_on basis old new item before after is (inl goes) = (goes, record { asked = goes.request ∙ is.asked; first = goes.in_pass ∙ is.first })
+inverse_goes_on basis old new item before after is (inl goes) = (goes, record { asked = goes.request ∙ is.asked; first = goes.in_first is.first })
 inverse_goes_on basis old new item before after is (inr (inl splits)) = absurd (splits.later is.first)
 inverse_goes_on basis old new item before after is (inr (inr again)) = absurd (no_addition item before.request again.adds.0 is.asked again.adds.1)

@@ -1,4 +1,3 @@
 pub mod Backing
 pub mod Inverses
 pub mod Pending
-pub mod Ready

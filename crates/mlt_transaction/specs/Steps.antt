@@ -4,18 +4,17 @@ use Rattle.std.specs.List.{filter}
 use Rattle.mlt_kinds.specs.declared.operation.ObjOp.{ObjOp}
 use Rattle.mlt_kinds.specs.declared.operation.ObjReply.{ObjReply}
 use Rattle.mlt_kinds.specs.Operations.{cell_of}
+use Rattle.mlt_base.specs.declared.request.Request.TheVariants.{Do, TakeBack}
 use Rattle.mlt_base.specs.Effects.{inverse_of}
 use Rattle.mlt_subtx.specs.Images.{AreThere, Running}
 use Rattle.mlt_undo.specs.Undo.{Undo}
 use Rattle.mlt_object_locks.specs.Locks.{SameReservations, is_of_other, reservation_of}
 use Rattle.mlt_held.specs.Moments.{Moment, moment}
 use Rattle.mlt_hash.specs.Walks.{Basis}
-use Rattle.mlt_hash.specs.declared.pass.Pass.TheVariants as pass
 use Rattle.mlt_operation.specs.declared.answer.StepAnswer.{StepAnswer}
 use Rattle.mlt_operation.specs.declared.answer.StepAnswer.TheVariants as step
-use Rattle.mlt_operation.specs.declared.request.Request.TheVariants.{Do, TakeBack}
 use Rattle.mlt_operation.specs.Answers.{StepsOn, TellsOfStep, Waits}
-use Rattle.mlt_operation.specs.Operating.{MayOperate, OperationFields, started_for}
+use Rattle.mlt_operation.specs.Operating.{IsInFirst, MayOperate, OperationFields, started_for}
 use Rattle.mlt_trace.specs.declared.item.TraceItem.TheVariants as trace
 use Rattle.mlt_event.specs.declared.answer.Answer.{Answer}
 use Rattle.mlt_event.specs.declared.answer.Answer.TheVariants as answer
@@ -110,7 +109,7 @@ TakesBack tx undo undo' old new other = ⊥
 -- an inverse that runs: it takes the item back, in its first pass
 pub record IsInverting (item : ObjOp × ObjReply) (o : OperationFields) : Type 0 where
   pub asked : o.request ≡ TakeBack item
-  pub first : o.walk.pass ≡ pass.First
+  pub first : IsInFirst o.course
 
 -- What a step of an abort asks: something is left to take back, the last of which the inverse that runs takes back, or is
 -- to; and its walk may go on.

@@ -11,11 +11,11 @@ ghost use Rattle.mlt_transaction.specs.Steps.{KeepsObjects, MayStepBack, MayStep
 
 use crate::commons::Commons;
 use crate::ending::finish;
-use mlt_base::inverse;
+use mlt_base::{Request, inverse};
 use mlt_event::Answer;
 use mlt_hash::Setting;
 use mlt_kinds::Done;
-use mlt_operation::{Operation, Request, StepAnswer};
+use mlt_operation::{Operation, StepAnswer};
 use mlt_subtx::Subtx;
 use mlt_trace::TraceItem;
 use mlt_types::{Pseudo, TxId};

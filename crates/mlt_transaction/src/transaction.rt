@@ -7,10 +7,11 @@ ghost use Rattle.mlt_transaction.specs.Transactions.{IsNotCalled, IsPending, May
 
 use crate::commons::Commons;
 use crate::stepping::{step_back, step_on};
+use mlt_base::Request;
 use mlt_event::Answer;
 use mlt_hash::Setting;
 use mlt_kinds::ObjOp;
-use mlt_operation::{Operation, Request};
+use mlt_operation::Operation;
 use mlt_subtx::Subtx;
 use mlt_types::{Pseudo, Refusal, TxId};
 use mlt_undo::UndoList;

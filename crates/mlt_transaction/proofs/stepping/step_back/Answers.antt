@@ -4,25 +4,18 @@ use Rattle.mlt_kinds.specs.declared.operation.ObjOp.{ObjOp}
 use Rattle.mlt_kinds.specs.declared.operation.ObjReply.{ObjReply}
 use Rattle.mlt_base.specs.Effects.{inverse_of}
 use Rattle.mlt_held.specs.Moments.{Moment, moment}
-use Rattle.mlt_held.specs.Views.{view_of}
 use Rattle.mlt_hash.specs.Walks.{Basis, basis_in}
-use Rattle.mlt_operation.specs.declared.request.Request.TheVariants.{TakeBack}
+use Rattle.mlt_base.specs.declared.request.Request.TheVariants.{TakeBack}
 use Rattle.mlt_operation.specs.Operating.{MayOperate, OperationFields, started_for}
 use Rattle.mlt_transaction.specs.declared.commons.Commons.{Commons}
 use Rattle.mlt_subtx.specs.Images.{Running}
 use Rattle.mlt_undo.specs.Undo.{IsLast}
 use Rattle.mlt_transaction.specs.Steps.{TakesBack}
 use Rattle.mlt_transaction.proofs.Backing.{end_tells, one_last, same_some}
-use Rattle.mlt_transaction.proofs.Ready.{under_way}
 use Rattle.mlt_transaction.proofs.stepping.step_back.Goals as goal
 
-pub step-requires-clause-under_way : goal.step-requires-clause-under_way
-step-requires-clause-under_way g c =
-    let basis : Basis = basis_in g.P.Pseudo.bits_of c.args.setting.now c.args.subtx.now.tx in
-    let m : Moment = moment c.args.subtx.now c.args.commons.now.pages in
-    let o : OperationFields = c.in-Some.operation in
-    let none : o.reply ≡ None = sym c.reply.ensures ∙ c.in-None-reply.is in
-    under_way o.walk.phase basis o (view_of m) (c.requires.ready.goes o c.in-Some.is none).operates.fits none
+pub step-requires-clause-untold : goal.step-requires-clause-untold
+step-requires-clause-untold g c = sym c.reply.ensures ∙ c.in-None-reply.is
 
 pub step-requires-clause-ready : goal.step-requires-clause-ready
 step-requires-clause-ready g c = c.requires.ready.goes c.in-Some.operation c.in-Some.is (sym c.reply.ensures ∙ c.in-None-reply.is)

@@ -1,4 +1,4 @@
--- An operation whose reply is not known has a next step
+-- An operation on one record whose reply is not known has a next step
 use Rattle.std.proofs.Common.{◌≡◌, None, sym, ◌∙◌}
 use Rattle.std.proofs.lemmas.Option.{none-some}
 use Rattle.mlt_held.specs.Views.{View}
@@ -6,9 +6,9 @@ use Rattle.mlt_hash.specs.Splitting.{IsUnderWay}
 use Rattle.mlt_hash.specs.Walks.{Basis}
 use Rattle.mlt_hash.specs.declared.pass.Phase.{Phase}
 use Rattle.mlt_hash.specs.declared.pass.Phase.TheVariants as at
-use Rattle.mlt_operation.specs.Operating.{FitsPhase, OperationFields}
+use Rattle.mlt_operation.specs.Walking.{FitsPhase, WalkingFields}
 
-pub under_way : (p : Phase) (basis : Basis) (o : OperationFields) (view : View) → FitsPhase p basis o view → o.reply ≡ None → IsUnderWay p
+pub under_way : (p : Phase) (basis : Basis) (o : WalkingFields) (view : View) → FitsPhase p basis o view → o.reply ≡ None → IsUnderWay p
 under_way at.Start basis o view fits none = tt
 under_way (at.Headed dir row depth) basis o view fits none = tt
 under_way (at.Placed bucket depth) basis o view fits none = tt
