@@ -10,3 +10,14 @@ pub mod DoubleLaws
 pub mod LeftRecords
 pub mod SplitSteps
 pub mod DoubleSteps
+pub mod WideDeciding
+pub mod WideDepths
+pub mod WideGoing
+pub mod WideOver
+pub mod WideOwn
+pub mod WideOwnSteps
+pub mod WideRaise
+pub mod WideSize
+pub mod WideSizeSteps
+pub mod WideTelling
+pub mod WideTurns

@@ -1,27 +1,31 @@
 -- What a wide pass does at the bucket of either key
-use Rattle.std.specs.Prelude.{ℕ, ◌≡◌, None, Option}
+use Rattle.std.specs.Prelude.{ℕ, ◌≡◌, None, Option, Some}
 use Rattle.mlt_types.specs.declared.refusal.Refusal.{Refusal}
 use Rattle.mlt_types.specs.declared.refusal.Refusal.TheVariants as refusal
 use Rattle.mlt_kinds.specs.declared.operation.ObjReply.{ObjReply}
-use Rattle.mlt_base.specs.declared.record.RecChange.TheVariants.{Add}
+use Rattle.mlt_base.specs.declared.record.RecChange.{RecChange}
+use Rattle.mlt_base.specs.declared.record.RecChange.TheVariants.{Add, Plus}
 use Rattle.mlt_base.specs.declared.request.Request.{Request}
 use Rattle.mlt_base.specs.Requests.{target_of}
 use Rattle.mlt_held.specs.Moments.{Moment}
 use Rattle.mlt_held.specs.PageTurns.{IsRolledBack}
 use Rattle.mlt_held.specs.Views.{view_of}
-use Rattle.mlt_hash.specs.Changes.{HasNoRoom, NeedsSplit}
+use Rattle.mlt_hash.specs.Changes.{HasNoRoom, Makes, NeedsSplit}
+use Rattle.mlt_hash.specs.Splitting.{IsUnderWay}
 use Rattle.mlt_hash.specs.Steps.{HasFound, steps_to_bucket}
 use Rattle.mlt_hash.specs.Walks.{Basis, Before, MayWalk, WalkFields, basis_after, one_key}
+use Rattle.mlt_hash.specs.declared.answer.WalkAnswer.{WalkAnswer}
+use Rattle.mlt_hash.specs.declared.answer.WalkAnswer.TheVariants as answer
 use Rattle.mlt_hash.specs.declared.pass.Change.{Change}
 use Rattle.mlt_hash.specs.declared.pass.Phase.TheVariants as at
 use Rattle.mlt_two_records.specs.declared.answer.DoubleAnswer.{DoubleAnswer}
-use Rattle.mlt_two_records.specs.declared.answer.DoubleAnswer.TheVariants as answer
+use Rattle.mlt_two_records.specs.declared.answer.DoubleAnswer.TheVariants as told
 use Rattle.mlt_two_records.specs.declared.wide.OwnAnswer.{OwnAnswer}
 use Rattle.mlt_two_records.specs.declared.wide.OwnAnswer.TheVariants as own
 use Rattle.mlt_two_records.specs.AtBuckets.{Writes}
 use Rattle.mlt_two_records.specs.FirstPass.{HasKeys}
 use Rattle.mlt_two_records.specs.Performing.{AddsElement, Performs}
-use Rattle.mlt_two_records.specs.WidePass.{HasPutOwn, HasToldBoth, HasToldPresent, IsGoingToOwn, IsGoingToSize, IsWideTo, PutsOwn}
+use Rattle.mlt_two_records.specs.WidePass.{HasPutOwn, HasToldBoth, HasToldPresent, IsGoingToOwn, IsGoingToSize, IsWideTo, PutsOwn, PutsSize, PutsThen}
 
 -- A walk of a wide pass to its own key, which may go on.
 pub record MayWalkToOwn (basis : Basis) (m : Moment) (request : Request) (walk : WalkFields)
@@ -77,23 +81,59 @@ TellsAtOwn basis old new request before after (own.Refused refusal.NoRoom) =
     IsRolledBack old new × HasNoRoomThere (one_key basis) old before
 TellsAtOwn basis old new request before after other = ⊥
 
--- A walk of a wide pass to the size's key, over what it wrote for the own one, which is at its bucket, and has found this there.
-pub record MayActOnSize (basis : Basis) (m : Moment) (request : Request) (walk : WalkFields)
-    (found : Option ℕ) : Type 0 where
+-- A walk of a wide pass to the size's key, over what it wrote for the own one, which may go on. What the pass did before is a
+-- parameter here, since the walk goes by it.
+pub record MayWalkToSize (basis : Basis) (m : Moment) (request : Request) (walk : WalkFields)
+    (since : Before) : Type 0 where
   pub adds : AddsElement request
-  pub since : Before
   pub put : HasPutOwn basis request (view_of m) since
   pub keys : HasKeys request (target_of request).0 walk.key
   pub to_key : IsWideTo walk walk.key
   pub walks : MayWalk (basis_after since basis) m walk
+
+-- It has a next step.
+pub record MayStepToSize (basis : Basis) (m : Moment) (request : Request) (walk : WalkFields)
+    (since : Before) : Type 0 where
+  pub may : MayWalkToSize basis m request walk since
+  pub under_way : IsUnderWay walk.phase
+  pub puts : PutsThen walk.phase (PutsSize request may.put.reply)
+
+-- It is at its bucket, and has found this there.
+pub record MayActOnSize (basis : Basis) (m : Moment) (request : Request) (walk : WalkFields)
+    (found : Option ℕ) (since : Before) : Type 0 where
+  pub may : MayWalkToSize basis m request walk since
   pub at_bucket : HasFound walk.phase found
 
--- The bucket of the size is to be split.
-pub record SizeIsToSplit (basis : Basis) (old new : Moment) (request : Request)
-    (before after : WalkFields) : Type 0 where
-  pub since : Before
-  pub put : HasPutOwn basis request (view_of old) since
-  pub splits : IsToSplit (basis_after since basis) old new before after
+-- A size is raised: its record is added where there was none.
+abbrev pub Raises : Option ℕ → RecChange → Type 0
+Raises None (Add value) = Unit {0}
+Raises (Some value) (Plus amount) = Unit {0}
+Raises found other = ⊥
+
+-- The change that was decided on is made.
+pub record IsMade (basis : Basis) (new : Moment) (before after : WalkFields) (decided : RecChange)
+    (found : Option ℕ) : Type 0 where
+  pub done : Change
+  pub makes : Makes basis new before after done
+  pub performs : Performs decided found done
+
+-- what is so of the value, where a record is added
+abbrev pub OfAddition : RecChange → (ℕ → Type 0) → Type 0
+OfAddition (Add value) Is = Is value
+OfAddition other Is = ⊥
+
+-- what a change tells that raises the size: only where the record is added may there be no room
+abbrev pub TellsOfRaise : Basis → Moment → WalkFields → WalkFields → RecChange → Option ℕ
+    → WalkAnswer → Type 0
+TellsOfRaise basis new before after decided found answer.Changed =
+    IsMade basis new before after decided found
+TellsOfRaise basis new before after decided found answer.NeedSplit =
+    OfAddition decided (λ value. NeedsSplit basis new before after value)
+TellsOfRaise basis new before after decided found (answer.Refused refusal.NoRoom) =
+    OfAddition decided (λ value. HasNoRoom basis new before after)
+TellsOfRaise basis new before after decided found (answer.Refused reason) =
+    reason ≡ refusal.OutOfMemory
+TellsOfRaise basis new before after decided found other = ⊥
 
 -- It is refused there: there is no room at any depth, or memory was refused to keep the page as it was.
 abbrev pub RefusesAt : Refusal → Basis → Moment → WalkFields → Type 0
@@ -101,20 +141,13 @@ RefusesAt refusal.NoRoom basis old before = HasNoRoomThere basis old before
 RefusesAt refusal.OutOfMemory basis old before = Unit {0}
 RefusesAt other basis old before = ⊥
 
-pub record SizeRefusedThere (basis : Basis) (old new : Moment) (request : Request)
-    (before : WalkFields) (reason : Refusal) : Type 0 where
-  pub back : IsRolledBack old new
-  pub since : Before
-  pub put : HasPutOwn basis request (view_of old) since
-  pub refuses : RefusesAt reason (basis_after since basis) old before
-
-abbrev pub TellsAtSize : Basis → Moment → Moment → Request → WalkFields → WalkFields → DoubleAnswer
-    → Type 0
-TellsAtSize basis old new request before after answer.Going =
-    SizeIsToSplit basis old new request before after
+abbrev pub TellsAtSize : Basis → Before → Moment → Moment → Request → WalkFields → WalkFields
+    → DoubleAnswer → Type 0
+TellsAtSize basis since old new request before after told.Going =
+    IsToSplit (basis_after since basis) old new before after
     × IsGoingToSize basis request after (view_of new)
-TellsAtSize basis old new request before after (answer.Told reply) =
+TellsAtSize basis since old new request before after (told.Told reply) =
     Writes old new × HasToldBoth basis request after reply (view_of new)
-TellsAtSize basis old new request before after (answer.Refused reason) =
-    SizeRefusedThere basis old new request before reason
-TellsAtSize basis old new request before after other = ⊥
+TellsAtSize basis since old new request before after (told.Refused reason) =
+    IsRolledBack old new × RefusesAt reason (basis_after since basis) old before
+TellsAtSize basis since old new request before after other = ⊥

@@ -1,16 +1,18 @@
 //! The wide pass.
 
-ghost use Rattle.std.specs.Prelude.{◌≡◌, ◌≢◌, None, Some};
-ghost use Rattle.mlt_base.specs.Requests.{size_key_of};
+ghost use Rattle.std.specs.Prelude.{◌≡◌};
 ghost use Rattle.mlt_held.specs.Moments.{moment};
 ghost use Rattle.mlt_held.specs.Views.{view_of};
-ghost use Rattle.mlt_hash.specs.Walks.{Basis, basis_in};
+ghost use Rattle.mlt_held.specs.PageSteps.{Leaves};
+ghost use Rattle.mlt_hash.specs.Changes.{MayChange, WritesIfChanged, page_of};
+ghost use Rattle.mlt_hash.specs.Steps.{HasFound, steps_to_bucket};
+ghost use Rattle.mlt_hash.specs.Walks.{Basis, Before, basis_after, basis_in};
+ghost use Rattle.mlt_hash.specs.declared.pass.Pass.TheVariants as pass;
 ghost use Rattle.mlt_two_records.specs.Doubles.{MayGoOn};
-ghost use Rattle.mlt_two_records.specs.AtWideBuckets.{HasJustPut, MayActOnOwn, MayActOnSize, TellsAtOwn, TellsAtSize};
+ghost use Rattle.mlt_two_records.specs.AtWideBuckets.{HasJustPut, MayActOnOwn, MayActOnSize, MayStepToSize, Raises, TellsAtOwn, TellsAtSize, TellsOfRaise};
 ghost use Rattle.mlt_two_records.specs.WidePass.{IsGoingToSize, TellsOfOwn, TellsOfSize};
 ghost use Rattle.mlt_two_records.specs.declared.double.Double.TheVariants.{Wide};
 ghost use Rattle.mlt_two_records.specs.declared.double.Leg.TheVariants as leg;
-ghost use Rattle.mlt_hash.specs.Steps.{steps_to_bucket};
 
 use crate::answer::DoubleAnswer;
 use mlt_base::{RecChange, Request};
@@ -82,10 +84,11 @@ fn act_on_own<P: Pseudo>(
         request.now walk.old walk.new result }
 {
     let (reply, change) = request.decide(found);
-    let value = match change {
-        None => return OwnAnswer::Told(reply),
-        Some(RecChange::Add(value)) => value,
-        Some(_) => unreachable!(),
+    let Some(change) = change else {
+        return OwnAnswer::Told(reply);
+    };
+    let RecChange::Add(value) = change else {
+        unreachable!()
     };
     match walk.insert(value, setting, subtx, pages) {
         WalkAnswer::Changed => {
@@ -101,7 +104,7 @@ fn act_on_own<P: Pseudo>(
     }
 }
 
-/// Goes on to the key of the size, once the own record is put. It is no step.
+/// Goes on to the key of the size, once the own record is put. It is no step. The ghost is what the walk goes by.
 fn go_over<P: Pseudo>(
     walk: &mut Walk,
     request: &Request,
@@ -109,9 +112,10 @@ fn go_over<P: Pseudo>(
     subtx: &Subtx,
     pages: &LockedStore,
 )
-    requires ready { HasJustPut (basis_in P.bits_of setting.now subtx.now.tx)
-        (moment subtx.now pages.now) request.now walk.old }
-    ensures goes { IsGoingToSize (basis_in P.bits_of setting.now subtx.now.tx)
+    ghost basis: { Basis }
+    requires basis { basis_in P.bits_of setting.now subtx.now.tx ≡ basis }
+    requires ready { HasJustPut basis (moment subtx.now pages.now) request.now walk.old }
+    ensures goes { IsGoingToSize basis
         request.now walk.new (view_of (moment subtx.now pages.now)) }
     ensures steps { steps_to_bucket walk.new.phase ≡ 2 }
 {
@@ -131,6 +135,24 @@ pub(crate) fn step_size<P: Pseudo>(
 ) -> DoubleAnswer
     requires ready { MayGoOn (basis_in P.bits_of setting.now subtx.old.tx)
         (moment subtx.old pages.old) request.now (Wide leg.Size walk.old) }
+    ensures tells { TellsOfSize (basis_in P.bits_of setting.now subtx.old.tx)
+        (moment subtx.old pages.old) (moment subtx.new pages.new)
+        request.now walk.old walk.new result }
+{
+    walk_to_size(walk, request, setting, subtx, pages)
+}
+
+/// The same, where the ghost is what the pass did before it went on to this key.
+fn walk_to_size<P: Pseudo>(
+    walk: &mut Walk,
+    request: &Request,
+    setting: &Setting<P>,
+    subtx: &mut Subtx,
+    pages: &mut LockedStore,
+) -> DoubleAnswer
+    ghost since: { Before }
+    requires ready { MayStepToSize (basis_in P.bits_of setting.now subtx.old.tx)
+        (moment subtx.old pages.old) request.now walk.old since }
     ensures tells { TellsOfSize (basis_in P.bits_of setting.now subtx.old.tx)
         (moment subtx.old pages.old) (moment subtx.new pages.new)
         request.now walk.old walk.new result }
@@ -157,21 +179,18 @@ fn act_on_size<P: Pseudo>(
     subtx: &mut Subtx,
     pages: &mut LockedStore,
 ) -> DoubleAnswer
+    ghost since: { Before }
     requires ready { MayActOnSize (basis_in P.bits_of setting.now subtx.old.tx)
-        (moment subtx.old pages.old) request.now walk.old found }
-    ensures tells { TellsAtSize (basis_in P.bits_of setting.now subtx.old.tx)
+        (moment subtx.old pages.old) request.now walk.old found since }
+    ensures tells { TellsAtSize (basis_in P.bits_of setting.now subtx.old.tx) since
         (moment subtx.old pages.old) (moment subtx.new pages.new)
         request.now walk.old walk.new result }
 {
     let (reply, _) = request.decide(None);
-    let answer = match (request.resize(reply, found), found) {
-        (Some(RecChange::Add(value)), _) => walk.insert(value, setting, subtx, pages),
-        (Some(RecChange::Plus(amount)), Some(value)) => {
-            walk.update(value.wrapping_add(amount), subtx, pages)
-        }
-        _ => unreachable!(),
+    let Some(raise) = request.resize(reply, found) else {
+        unreachable!()
     };
-    match answer {
+    match raise_size(walk, raise, found, setting, subtx, pages) {
         WalkAnswer::Changed => DoubleAnswer::Told(reply),
         WalkAnswer::NeedSplit => DoubleAnswer::Going,
         WalkAnswer::Refused(reason) => {
@@ -179,5 +198,42 @@ fn act_on_size<P: Pseudo>(
             DoubleAnswer::Refused(reason)
         }
         _ => unreachable!(),
+    }
+}
+
+/// Makes the change that raises the size: adds its record where none was found, and else adds to its value.
+fn raise_size<P: Pseudo>(
+    walk: &mut Walk,
+    raise: RecChange,
+    found: Option<Value>,
+    setting: &Setting<P>,
+    subtx: &mut Subtx,
+    pages: &mut LockedStore,
+) -> WalkAnswer
+    ghost since: { Before }
+    requires ready { MayChange (basis_after since (basis_in P.bits_of setting.now subtx.old.tx))
+        (moment subtx.old pages.old) walk.old }
+    requires wide { walk.old.pass ≡ pass.Wide }
+    requires found { HasFound walk.old.phase found }
+    requires raises { Raises found raise }
+    ensures writes { WritesIfChanged (moment subtx.old pages.old) (moment subtx.new pages.new)
+        (page_of walk.old.phase) result }
+    ensures leaves { Leaves (moment subtx.old pages.old) (moment subtx.new pages.new) }
+    ensures tells { TellsOfRaise (basis_after since (basis_in P.bits_of setting.now subtx.old.tx))
+        (moment subtx.new pages.new) walk.old walk.new raise found result }
+{
+    match found {
+        None => {
+            let RecChange::Add(value) = raise else {
+                unreachable!()
+            };
+            walk.insert(value, setting, subtx, pages)
+        }
+        Some(value) => {
+            let RecChange::Plus(amount) = raise else {
+                unreachable!()
+            };
+            walk.update(value.wrapping_add(amount), subtx, pages)
+        }
     }
 }
