@@ -469,7 +469,8 @@ undo 2 > aborted
 commit 1 > committed 2
 counter 7 3
 depth 0"""),
-    # What is committed in one kind of cell is told by rising number, and a counter at 0 is not told.
+    # What is committed in one kind of cell is told by rising number, and a counter at 0 is not told. Ten keys, two of sizes
+    # among them, have low pseudokeys below 16, which are alike up to the 13th bit.
     "base-in-order": Schedule("""
 begin > begun 1
 whole 1 up 9 1 > done done
@@ -494,7 +495,7 @@ element 4 10
 element 65535 0
 counter 3 5
 counter 9 1
-depth 1""", LOW),
+depth 13""", LOW),
     # A set's size waits for additions of others, each to its commit.
     "size-waits-for-adds": Schedule("""
 begin > begun 1
