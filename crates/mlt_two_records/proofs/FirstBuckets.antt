@@ -1,11 +1,9 @@
 -- What a first pass does once it has found both keys
-use Rattle.std.proofs.Common.{◌≡◌, ◌≢◌, ◌⊎◌, ℕ, Bool, true, false, Option, None, Some, is_some, refl, sym, ap, subst, ◌∙◌, inl, inr}
+use Rattle.std.proofs.Common.{◌≡◌, ◌⊎◌, ℕ, Option, None, Some, is_some, refl, sym, ap, subst, ◌∙◌, inl, inr}
 use Rattle.std.specs.Prelude.{IsSome, position}
 use Rattle.std.proofs.lemmas.Bool.{false≢true}
 use Rattle.std.proofs.lemmas.Option.{none-some}
 use Rattle.mlt_page.specs.Slots.{is_ghost_of}
-use Rattle.mlt_page.specs.declared.page.Page.{Page}
-use Rattle.mlt_page.specs.declared.page.Page.TheVariants as page
 use Rattle.mlt_page.specs.Values.{BucketFields}
 use Rattle.mlt_kinds.specs.declared.operation.ObjReply.{ObjReply}
 use Rattle.mlt_base.specs.declared.record.RecChange.{RecChange}
@@ -16,12 +14,10 @@ use Rattle.mlt_base.specs.Requests.{decision, size_decision, size_key_of}
 use Rattle.mlt_hash_form.specs.File.{FilePages, bucket_of, lead_of}
 use Rattle.mlt_hash_form.specs.Held.{Agrees, over, own_or}
 use Rattle.mlt_held.specs.Moments.{Moment}
-use Rattle.mlt_held.specs.PageSteps.{Leaves, WritesAtMost}
 use Rattle.mlt_held.specs.PageTurns.{IsRolledBack}
-use Rattle.mlt_held.specs.Views.{ReadsHeldBucket, View, view_of}
+use Rattle.mlt_held.specs.Views.{ReadsHeldBucket, view_of}
 use Rattle.mlt_held.proofs.Leaving.{leaves_it}
 use Rattle.mlt_held.proofs.Views.{agrees}
-use Rattle.mlt_record.specs.Plans.{WriteFields}
 use Rattle.mlt_pair.specs.Changes.{FitsBoth, HasChanged, IsFull, IsFullBehind, LeavesLeft, LeavesRight, MakesBoth, TellsOfTwo, task_of}
 use Rattle.mlt_pair.specs.Pairs.{PairFields}
 use Rattle.mlt_pair.specs.Plans.{FitsFound, HasNoPlan}

@@ -1,12 +1,10 @@
 -- What a first pass knows, whatever other transactions do
-use Rattle.std.proofs.Common.{◌≡◌, ◌≢◌, ◌⊎◌, ℕ, ◌<◌, ◌≤◌, Bool, true, false, List, length, Option, None, Some, refl, sym, ap, subst, ◌∙◌, inl, inr, slice_index_or, slice_set}
+use Rattle.std.proofs.Common.{◌≡◌, ℕ, true, List, length, None, Some, refl, sym, ap, subst, ◌∙◌, inl, inr, slice_index_or, slice_set}
 use Rattle.std.specs.Ordering.{nat_cmp}
-use Rattle.std.specs.FinMap as map
 use Rattle.std.specs.FinSet as set
 use Rattle.std.proofs.lemmas.Bool.{cases_eq, cases_lt, false≢true}
 use Rattle.std.proofs.lemmas.List.{get_or-set_other, get_or-set_same, set_past}
 use Rattle.mlt_page.specs.Slots.{is_kept}
-use Rattle.mlt_page.specs.declared.page.Page.{Page}
 use Rattle.mlt_page.specs.declared.page.Page.TheVariants as page
 use Rattle.mlt_page.specs.declared.slot.Slot.{Slot}
 use Rattle.mlt_page.specs.declared.slot.Slot.TheVariants.{Free}
@@ -15,8 +13,8 @@ use Rattle.mlt_kinds.specs.declared.operation.ObjReply.{ObjReply}
 use Rattle.mlt_base.specs.declared.request.Request.{Request}
 use Rattle.mlt_hash_form.specs.File.{bucket_of}
 use Rattle.mlt_hash_form.specs.Held.{own_or}
-use Rattle.mlt_held.specs.Views.{IsUnwritten, ReadsHeldBucket, View, WritesPage}
-use Rattle.mlt_record.specs.Plans.{WriteFields, planned_page}
+use Rattle.mlt_held.specs.Views.{ReadsHeldBucket, View}
+use Rattle.mlt_record.specs.Plans.{WriteFields}
 use Rattle.mlt_split.specs.Rests.{KeepsNoMore}
 use Rattle.mlt_subtx.proofs.ImageLaws.{not_true}
 use Rattle.mlt_pair.specs.Pairs.{PairFields}
@@ -26,7 +24,7 @@ use Rattle.mlt_hash.specs.Passes.{slot_after}
 use Rattle.mlt_hash.specs.Walks.{Basis, StoodBefore}
 use Rattle.mlt_hash.specs.declared.pass.Change.{Change}
 use Rattle.mlt_hash.specs.declared.pass.Change.TheVariants as change
-use Rattle.mlt_two_records.specs.FirstPass.{ChangesBoth, ChangesNone, HasToldFirst, OwesEither, OwesOne}
+use Rattle.mlt_two_records.specs.FirstPass.{ChangesBoth, HasToldFirst, OwesEither, OwesOne}
 use Rattle.mlt_two_records.specs.Records.{PlansRecord, WritesRecord}
 use Rattle.mlt_two_records.proofs.Planning.{reads_written}
 

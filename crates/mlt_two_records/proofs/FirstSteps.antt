@@ -1,10 +1,7 @@
 -- The steps of a first pass, up to its last one
-use Rattle.std.proofs.Common.{◌≡◌, ℕ, ◌≤◌, ◌+◌, Option, None, Some, refl, sym, ap, subst, ◌∙◌, inl, inr, arith}
+use Rattle.std.proofs.Common.{◌≡◌, ℕ, ◌≤◌, Option, None, Some, refl, sym, ap, subst, ◌∙◌, arith}
 use Rattle.std.specs.FinMap as map
-use Rattle.mlt_page.specs.declared.page.Page.{Page}
 use Rattle.mlt_kinds.specs.declared.operation.ObjReply.{ObjReply}
-use Rattle.mlt_base.specs.declared.record.RecChange.{RecChange}
-use Rattle.mlt_base.specs.declared.record.RecChange.TheVariants.{Revive}
 use Rattle.mlt_base.specs.declared.request.Request.{Request}
 use Rattle.mlt_base.specs.Records.{CanChange}
 use Rattle.mlt_base.specs.Requests.{IsPossible, decision, size_decision, target_of}
@@ -14,7 +11,7 @@ use Rattle.mlt_hash_form.specs.Held.{Agrees}
 use Rattle.mlt_held.specs.Moments.{Moment}
 use Rattle.mlt_held.specs.PageSteps.{Leaves, WritesHeldSlot}
 use Rattle.mlt_held.specs.PageTurns.{TakesTurn}
-use Rattle.mlt_held.specs.Views.{IsUnwritten, View, view_of}
+use Rattle.mlt_held.specs.Views.{view_of}
 use Rattle.mlt_held.proofs.OwnSteps.{step_keeps_tx}
 use Rattle.mlt_held.proofs.Turns.{same_own_same_pages, step_and_write_turn, step_turns, unwritten_own}
 use Rattle.mlt_held.proofs.Views.{agrees, write_writes}

@@ -1,6 +1,6 @@
 -- What a pair plans and makes, as the change of a slot
-use Rattle.std.proofs.Common.{◌≡◌, ◌≢◌, ℕ, ◌<◌, Bool, true, false, not, List, Option, None, Some, refl, sym, ap, subst, ◌∙◌, inl, inr, slice_index_or, slice_set}
-use Rattle.std.specs.Prelude.{IsSome, position}
+use Rattle.std.proofs.Common.{◌≡◌, ◌≢◌, ℕ, ◌<◌, Bool, true, false, Option, None, Some, refl, sym, ap, subst, ◌∙◌, inl, inr, slice_index_or}
+use Rattle.std.specs.Prelude.{position}
 use Rattle.std.specs.Option.{option_map}
 use Rattle.std.specs.Ordering.{nat_cmp}
 use Rattle.std.specs.FinSet as set
@@ -34,7 +34,6 @@ use Rattle.mlt_hash.specs.declared.pass.Change.TheVariants as change
 use Rattle.mlt_hash.proofs.Additions.{nowhere_found}
 use Rattle.mlt_two_records.specs.Performing.{Performs, asked_of}
 use Rattle.mlt_two_records.specs.Records.{PlansRecord, WritesRecord}
-use Rattle.mlt_two_records.proofs.Asking.{asked_fits}
 
 -- what is asked of a key's record fits its bucket, as that reads
 abbrev pub FitsThere : Option RecordChange → ℕ → ℕ → View → Type 0

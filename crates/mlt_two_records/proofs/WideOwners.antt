@@ -1,10 +1,9 @@
 -- Owners of ghosts close while the wide pass of an operation on two records stands
-use Rattle.std.proofs.Common.{◌≡◌, ℕ, true, Option, Some, sym, ap, subst, ◌∙◌}
+use Rattle.std.proofs.Common.{◌≡◌, true, sym, subst}
 use Rattle.std.specs.Ordering.{nat_cmp}
 use Rattle.std.specs.FinSet as set
 use Rattle.mlt_kinds.specs.declared.operation.ObjReply.{ObjReply}
 use Rattle.mlt_base.specs.declared.request.Request.{Request}
-use Rattle.mlt_page.specs.declared.page.Page.{Page}
 use Rattle.mlt_hash_form.specs.File.{FilePages, HasForm}
 use Rattle.mlt_hash_form.specs.Held.{Agrees, over}
 use Rattle.mlt_held.specs.Views.{View, rebased}

@@ -9,7 +9,7 @@ use Rattle.mlt_hash_form.specs.File.{GivesPseudokeys}
 use Rattle.mlt_held.specs.Moments.{HasCleanFile, MayStep, Moment}
 use Rattle.mlt_held.specs.PageSteps.{Leaves, WritesAtMost}
 use Rattle.mlt_held.specs.PageTurns.{IsRolledBack}
-use Rattle.mlt_held.specs.Views.{View, view_of}
+use Rattle.mlt_held.specs.Views.{view_of}
 use Rattle.mlt_pair.specs.Pairs.{IsFinding, IsFound, PairFields}
 use Rattle.mlt_pair.specs.Ways.{found_of}
 use Rattle.mlt_hash.specs.Walks.{Basis, IsAtStart}

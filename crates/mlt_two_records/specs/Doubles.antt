@@ -1,5 +1,5 @@
 -- Where an operation on two records stands, and what a step of it asks
-use Rattle.std.specs.Prelude.{ℕ, ◌≡◌, ◌≤◌, ◌<◌, ◌+◌, ◌^◌, nat_eq, if◌then◌else◌, position, Option, None, Some}
+use Rattle.std.specs.Prelude.{ℕ, ◌≡◌, ◌≤◌, ◌<◌, ◌+◌, ◌^◌, nat_eq, if◌then◌else◌, position, None, Some}
 use Rattle.mlt_page.specs.Slots.{is_ghost_of}
 use Rattle.mlt_kinds.specs.declared.operation.ObjReply.{ObjReply}
 use Rattle.mlt_base.specs.declared.record.RecChange.TheVariants.{Revive}
@@ -9,7 +9,7 @@ use Rattle.mlt_base.specs.Requests.{IsPossible, decision, size_decision, size_ke
 use Rattle.mlt_hash_form.specs.File.{FilePages, buckets_of, depth_of, lead_of, look_up}
 use Rattle.mlt_held.specs.Moments.{HasCleanFile, MayStep, Moment}
 use Rattle.mlt_held.specs.Views.{View, view_of}
-use Rattle.mlt_pair.specs.Pairs.{find_by, least_steps, most_steps}
+use Rattle.mlt_pair.specs.Pairs.{find_by, most_steps}
 use Rattle.mlt_hash.specs.Steps.{steps_to_bucket}
 use Rattle.mlt_hash.specs.StepsLeft.{steps_to_put}
 use Rattle.mlt_hash.specs.Walks.{Basis, WalkFields}

@@ -6,7 +6,7 @@ use Rattle.mlt_kinds.specs.declared.operation.ObjReply.{ObjReply}
 use Rattle.mlt_base.specs.declared.record.RecChange.{RecChange}
 use Rattle.mlt_base.specs.declared.record.RecChange.TheVariants.{Add, Set, ToGhost, Revive, Plus, Minus}
 use Rattle.mlt_base.specs.declared.request.Request.{Request}
-use Rattle.mlt_base.specs.declared.request.Request.TheVariants.{Do, TakeBack}
+use Rattle.mlt_base.specs.declared.request.Request.TheVariants.{Do}
 use Rattle.mlt_base.specs.Records.{counter_of_record}
 use Rattle.mlt_base.specs.Requests.{decision}
 use Rattle.mlt_pair.specs.declared.asked.RecordChange.{RecordChange}

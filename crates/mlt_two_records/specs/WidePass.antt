@@ -1,5 +1,5 @@
 -- The wide pass of an operation on two records, which adds an element to a set: where it stands, and what its steps tell
-use Rattle.std.specs.Prelude.{ℕ, ◌≡◌, ◌≢◌, ◌≤◌, ◌⊎◌, false, Option, None, Some}
+use Rattle.std.specs.Prelude.{ℕ, ◌≡◌, ◌≤◌, ◌⊎◌, false, Option, None, Some}
 use Rattle.mlt_types.specs.declared.mode.Mode.TheVariants.{Exclusive}
 use Rattle.mlt_types.specs.declared.refusal.Refusal.{Refusal}
 use Rattle.mlt_types.specs.declared.refusal.Refusal.TheVariants as refusal
@@ -8,7 +8,7 @@ use Rattle.mlt_kinds.specs.declared.operation.ObjReply.{ObjReply}
 use Rattle.mlt_base.specs.declared.record.RecChange.{RecChange}
 use Rattle.mlt_base.specs.declared.record.RecChange.TheVariants.{Add}
 use Rattle.mlt_base.specs.declared.request.Request.{Request}
-use Rattle.mlt_base.specs.Requests.{decision, size_decision, size_key_of, target_of}
+use Rattle.mlt_base.specs.Requests.{decision, size_decision, target_of}
 use Rattle.mlt_held.specs.Moments.{Moment}
 use Rattle.mlt_held.specs.PageTurns.{TakesTurn, TurnsBack}
 use Rattle.mlt_held.specs.Views.{HasWritten, View, rebased, view_of}

@@ -5,7 +5,6 @@ use Rattle.mlt_hash.specs.Walks.{Basis, WalkFields, basis_in}
 use Rattle.mlt_two_records.specs.declared.double.Double.{Double}
 use Rattle.mlt_two_records.specs.declared.double.Double.TheVariants.{Owing, Wide}
 use Rattle.mlt_two_records.specs.declared.double.Leg.{Leg}
-use Rattle.mlt_two_records.specs.declared.double.Leg.TheVariants as leg
 use Rattle.mlt_two_records.specs.Answers.{GoesOnBy, TellsLast}
 use Rattle.mlt_two_records.specs.Doubles.{Stands}
 use Rattle.mlt_two_records.specs.FirstPass.{OwesOne}
