@@ -1,5 +1,5 @@
 -- An inverse adds no record, so it splits nothing, stays in its first pass, and is never refused
-use Rattle.std.proofs.Common.{◌≡◌, ℕ, Bool, true, false, None, Option, Some, refl, sym, ap, ◌∙◌, inl, inr}
+use Rattle.std.proofs.Common.{◌≡◌, ℕ, Bool, true, false, None, Option, Some, refl, sym, ap, subst, ◌∙◌, inl, inr}
 use Rattle.std.proofs.lemmas.Bool.{false≢true}
 use Rattle.mlt_kinds.specs.declared.account.AccountOp.TheVariants.{Open, Close, Deposit, Withdraw}
 use Rattle.mlt_kinds.specs.declared.counter.CounterOp.TheVariants.{Up, Down}
@@ -13,14 +13,15 @@ use Rattle.mlt_base.specs.declared.record.RecChange.TheVariants.{Add}
 use Rattle.mlt_base.specs.declared.request.Request.{Request}
 use Rattle.mlt_base.specs.declared.request.Request.TheVariants.{TakeBack}
 use Rattle.mlt_base.specs.Effects.{inverse_of}
-use Rattle.mlt_base.specs.Requests.{decision}
+use Rattle.mlt_base.specs.Requests.{decision, size_key_of}
 use Rattle.mlt_held.specs.Moments.{Moment}
 use Rattle.mlt_hash.specs.Walks.{Basis}
+use Rattle.mlt_operation.specs.declared.answer.StepAnswer.{StepAnswer}
 use Rattle.mlt_operation.specs.declared.answer.StepAnswer.TheVariants as step
-use Rattle.mlt_operation.specs.Answers.{StepsOn, TellsOfStep}
-use Rattle.mlt_operation.specs.Operating.{OperationFields}
+use Rattle.mlt_operation.specs.Answers.{StepsOn, TellsOfStep, Waits}
+use Rattle.mlt_operation.specs.Operating.{IsInFirst, OperationFields, course_for, started_for}
 use Rattle.mlt_two_records.specs.Performing.{AsksToAdd}
-use Rattle.mlt_transaction.specs.Steps.{IsInverting}
+use Rattle.mlt_transaction.specs.Steps.{IsInverting, TellsOfStart, answer_of}
 
 abbrev is_addition : Option RecChange → Bool
 is_addition (Some (Add v)) = true
@@ -50,3 +51,25 @@ pub inverse_goes_on : (basis : Basis) (old new : Moment) (item : ObjOp × ObjRep
 inverse_goes_on basis old new item before after is (inl goes) = (goes, record { asked = goes.request ∙ is.asked; first = goes.in_first is.first })
 inverse_goes_on basis old new item before after is (inr (inl splits)) = absurd (splits.later is.first)
 inverse_goes_on basis old new item before after is (inr (inr again)) = absurd (no_addition item before.request again.adds.0 is.asked again.adds.1)
+
+-- one that has taken no step is in its first pass
+starts_first : (size : Option ℕ) (request : Request) → IsInFirst (course_for request size)
+starts_first None request = refl
+starts_first (Some key) request = tt
+
+starts_inverting : (item : ObjOp × ObjReply) → IsInverting item (started_for (TakeBack item))
+starts_inverting item = record { asked = refl; first = starts_first (size_key_of (TakeBack item)) (TakeBack item) }
+
+-- **The first step of an inverse.**
+pub start_tells : (basis : Basis) (old new : Moment) (item : ObjOp × ObjReply) (before after : OperationFields) (told : StepAnswer) → before ≡ started_for (TakeBack item) → TellsOfStep basis old new before after told
+    → TellsOfStart basis item (Some after) old new (answer_of told)
+start_tells basis old new item before after step.Going is tells =
+    let goes = inverse_goes_on basis old new item (started_for (TakeBack item)) after (starts_inverting item) (subst (λ (o : OperationFields). TellsOfStep basis old new o after step.Going) is tells) in
+    record { after = after; is = refl; inverts = goes.1; tells = goes.0 }
+start_tells basis old new item before after (step.Waiting page by) is tells = record {
+  after = after;
+  is = refl;
+  inverts = subst (IsInverting item) (sym (tells.stays ∙ is)) (starts_inverting item);
+  tells = subst (λ (o : OperationFields). Waits basis old new o after page by) is tells;
+}
+start_tells basis old new item before after (step.Refused reason) is tells = absurd (tells.later (subst (λ (o : OperationFields). IsInFirst o.course) (sym is) (starts_inverting item).first))
