@@ -80,7 +80,7 @@ done_at (at.Undoing inverting) basis before after old new reply s = absurd s.tel
 
 refused_at : (a : At) (basis : Basis) (before after : Transaction) (old new : Commons) (reason : Refusal) → TellsAt a basis before after old new (answer.Refused reason) → IsIdle after.at × CanMark reason
 refused_at at.Idle basis before after old new reason none = absurd none
-refused_at (at.Pending o) basis before after old new reason s = (subst IsIdle (sym s.now_at) tt, step_can_mark reason _ _ _ _ s.tells.tells.cause)
+refused_at (at.Pending o) basis before after old new reason s = (subst IsIdle (sym s.now_at) tt, step_can_mark reason _ _ _ o s.tells.tells.cause)
 refused_at (at.Undoing inverting) basis before after old new reason s = absurd s.tells
 
 -- one step
