@@ -21,6 +21,8 @@ ONE = ((1,), ((4, 9),), (7,))
 FEW = ((1, 2, 3), ((4, 9), (4, 10)), (7, 8))
 WIDE = ((*range(0, 65_536, 4_096), *range(9), 65_536), ((1, 0), (2, 0), (2, 20_000)), (0, 1, 50_000))
 CROWD = (tuple(65_536 * place for place in range(11)), ((0, 0), (0, 65_536), (4, 1)), (2,))
+# SETS are three sets, of which each has elements with the low pseudokeys of its size or of another's.
+SETS = ((1, 2), tuple((s, e) for s in (0, 4, 32_768) for e in (0, 1, 4, 20_000, 32_768, 40_000, 65_536)), (7,))
 AMOUNTS = (0, 0, 1, 1, 2, 3, 5, 10**18 - 3, 10**18, 2**64 - 1)
 
 
@@ -406,19 +408,22 @@ def next_events(dice, cells, calls, t, guess):
     return [*dice.choice(([], [("step", t, 9)], [("cancel", t)])), ("commit", t)], "ended"
 
 
+# The hash function, the cells, how many of 75 operations are by single steps, and how many schedules.
 SCHEDULES = {
-    "random-schedules-of-whole-operations": ("mult", ONE, 2),
-    "random-schedules-over-few-cells": ("mult", FEW, 40),
-    "random-schedules-that-split-buckets": ("low", WIDE, 40),
-    "random-schedules-with-full-buckets": ("low", CROWD, 40),
+    "random-schedules-of-whole-operations": ("mult", ONE, 2, 200),
+    "random-schedules-over-few-cells": ("mult", FEW, 40, 200),
+    "random-schedules-that-split-buckets": ("low", WIDE, 40, 200),
+    "random-schedules-with-full-buckets": ("low", CROWD, 40, 200),
+    "random-schedules-over-three-sets": ("mult", SETS, 40, 1_000),
+    "random-schedules-over-three-sets-that-split-buckets": ("low", SETS, 40, 1_000),
 }
 
 
 @each(SCHEDULES, seconds=6)
 def random_schedules(mltx, case):
     """Each event is told what the tables and the locks allow, and what committed is serial in commit order."""
-    hash_name, cells, calls = case
-    for number in range(200 * harness.CASES):
+    hash_name, cells, calls, many = case
+    for number in range(many * harness.CASES):
         dice = dice_of(f"schedules {case}", number)
         events = random_schedule(dice, cells, calls, dice.randint(1, 120))
         text = "".join(show(event) + "\n" for event in events)
