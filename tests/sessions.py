@@ -15,6 +15,9 @@ from harness import same, test
 # How long to listen for an answer that must not come, in seconds.
 SILENCE = 0.2
 
+# Counters whose low pseudokeys are one, and one that is apart from them at the 16th bit alone.
+APART = (*range(0, 8 * 65536, 65536), 1)
+
 
 @dataclasses.dataclass(frozen=True)
 class Talk:
@@ -46,12 +49,10 @@ ROWS = {
     ),
     # By `low` the last key is apart from the others, which are one, at the 16th bit alone.
     "sixteen-splits-in-a-session": Talk(
-        lines("begin|" + "|".join(f"add {number} 0" for number in range(8)) + "|up 1 1|commit"),
-        lines("begun 1|" + "added|" * 8 + "done|committed 1"),
-        lines(
-            "begin 1|" + "|".join(f"op 1 add {number} 0 added" for number in range(8)) + "|op 1 up 1 1 done|commit 1 1"
-        ),
-        lines("serial 1|" + "|".join(f"element {number} 0" for number in range(8)) + "|counter 1 1"),
+        lines("begin|" + "|".join(f"up {counter} 1" for counter in APART) + "|commit"),
+        lines("begun 1|" + "done|" * 9 + "committed 1"),
+        lines("begin 1|" + "|".join(f"op 1 up {counter} 1 done" for counter in APART) + "|commit 1 1"),
+        lines("serial 1|" + "|".join(f"counter {counter} 1" for counter in sorted(APART))),
     ),
     "session-of-no-bytes": Talk("", "", ""),
     "session-of-a-cut-line-alone": Talk("begin", "", ""),

@@ -144,7 +144,7 @@ def reads_until(ended, peer):
 
 
 # By `low` the last key is apart from the eight others, which are one, at the 16th bit alone.
-ADDITIONS = [f"add {number} 0" for number in range(8)] + ["up 1 1"]
+ADDITIONS = [f"up {counter} 1" for counter in (*range(0, 8 * 65536, 65536), 1)]
 
 
 @test(seconds=2)
