@@ -1,3 +1,4 @@
 pub mod BaseLaws
+mod Packings
 pub mod PassingLaws
 pub mod Sizes

@@ -7,6 +7,7 @@ pub mod Counters
 pub mod ElementLaws
 pub mod Elements
 pub mod Operations
+pub mod Packing
 pub mod Passing
 pub mod Sizes
 pub mod Texts

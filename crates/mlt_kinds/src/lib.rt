@@ -6,14 +6,18 @@
 
 mod account;
 mod counter;
+mod done;
 mod element;
 mod kind;
 mod laws;
 mod operation;
+mod packed;
 
 pub use account::{Account, AccountOp, MAX_BALANCE};
 pub use counter::{Counter, CounterOp};
+pub use done::Done;
 pub use element::{Element, ElementOp};
 pub use kind::Kind;
 pub use laws::{sizes_follow_steps, steps_of_bases_are_fixed, steps_of_bases_pass};
-pub use operation::{Done, ObjOp, ObjReply};
+pub use operation::{ObjOp, ObjReply};
+pub use packed::{OpKind, Packed, ReplyKind};

@@ -1,6 +1,6 @@
 //! Operations with the cells that they are on, replies, and the texts of both.
 
-ghost use Rattle.std.specs.Prelude.{◌≡◌, Some};
+ghost use Rattle.std.specs.Prelude.{◌≡◌};
 ghost use Rattle.mlt_kinds.specs.Operations.{cell_of};
 
 use crate::account::AccountOp;
@@ -8,7 +8,6 @@ use crate::counter::CounterOp;
 use crate::element::ElementOp;
 use mlt_types::Cell;
 use std::fmt;
-use std::marker::Model;
 
 /// An operation on a cell.
 #[derive(Clone, Copy, Debug, PartialEq, Eq)]
@@ -72,54 +71,6 @@ impl ObjOp {
     }
 }
 
-/// An operation that was done, with its reply. A contract sees the pair of the two.
-#[derive(Clone, Copy, Debug, PartialEq, Eq)]
-pub struct Done {
-    op: ObjOp,
-    reply: ObjReply,
-}
-
-impl Model for Done {
-    ghost use Rattle.mlt_kinds.specs.declared.operation.ObjOp.{ObjOp};
-    ghost use Rattle.mlt_kinds.specs.declared.operation.ObjReply.{ObjReply};
-
-    ghost Value = { ObjOp × ObjReply };
-
-    ghost view = { λ d. (d.op, d.reply) };
-
-    ghost inverse = { λ p. record { op = p.0; reply = p.1 } };
-}
-
-impl Done {
-    /// An operation with its reply.
-    pub fn new(op: ObjOp, reply: ObjReply) -> Done
-        ensures { result ≡ (op, reply) }
-    {
-        Done { op, reply }
-    }
-
-    /// The cell that the operation is on.
-    pub fn cell(&self) -> Cell
-        ensures { result ≡ cell_of self.now.0 }
-    {
-        self.op.cell()
-    }
-
-    /// The operation.
-    pub fn op(&self) -> ObjOp
-        ensures { result ≡ self.now.0 }
-    {
-        self.op
-    }
-
-    /// What the operation was told.
-    pub fn reply(&self) -> ObjReply
-        ensures { result ≡ self.now.1 }
-    {
-        self.reply
-    }
-}
-
 impl fmt::Display for ObjOp {
     ghost use Rattle.std.specs.Prelude.{Some};
     ghost use Rattle.mlt_kinds.specs.Texts.{op_text};
@@ -174,18 +125,5 @@ impl fmt::Display for ObjReply {
             ObjReply::No => write!(f, "no"),
             ObjReply::Is(value) => write!(f, "is {value}"),
         }
-    }
-}
-
-impl fmt::Display for Done {
-    ghost use Rattle.std.specs.Prelude.{Some};
-    ghost use Rattle.mlt_kinds.specs.Texts.{done_text};
-
-    ghost output = { λ done. Some (done_text done) };
-
-    fn fmt<W: fmt::Write>(&self, f: &mut fmt::Formatter<W>) -> fmt::Result {
-        let op = self.op;
-        let reply = self.reply;
-        write!(f, "{op} {reply}")
     }
 }
