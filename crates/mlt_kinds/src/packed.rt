@@ -39,23 +39,38 @@ pub enum OpKind {
     Size,
 }
 
-/// What kind of reply it is: each is named as the reply.
+/// What kind of reply it is.
 #[derive(Clone, Copy, Debug, PartialEq, Eq)]
 pub enum ReplyKind {
+    /// `ObjReply::Opened`.
     Opened,
+    /// `ObjReply::Exists`.
     Exists,
+    /// `ObjReply::Closed`.
     Closed,
+    /// `ObjReply::NotEmpty`.
     NotEmpty,
+    /// `ObjReply::Done`.
     Done,
+    /// `ObjReply::Over`.
     Over,
+    /// `ObjReply::Short`.
     Short,
+    /// `ObjReply::Missing`.
     Missing,
+    /// `ObjReply::Added`.
     Added,
+    /// `ObjReply::Present`.
     Present,
+    /// `ObjReply::Removed`.
     Removed,
+    /// `ObjReply::Absent`.
     Absent,
+    /// `ObjReply::Yes`.
     Yes,
+    /// `ObjReply::No`.
     No,
+    /// `ObjReply::Is`.
     Is,
 }
 
