@@ -66,7 +66,7 @@ fn run_transaction<D: Desk>(desk: &mut D, script: &Script, done: &mut Vec<Done>)
 }
 
 /// Runs a script, which has this number within its client, in a transaction of its own: what it was told is what the desk
-/// answered. There is room for all its replies before it begins, so that none is lost; this is all the memory that it takes.
+/// answered. There is room for all its replies before it begins, so that none is lost; it needs no other memory.
 ///
 /// # Errors
 /// `OutOfMemory`, where there is no such room. Nothing was asked then.

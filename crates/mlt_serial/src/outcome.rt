@@ -27,10 +27,12 @@ impl Model for Transcript {
 }
 
 impl Transcript {
-    /// The transcript of what was done, in order.
+    /// The transcript of what was done, in order. Room beyond it is given back, since transcripts are kept.
     pub fn new(done: Vec<Done>) -> Transcript
         ensures { result ≡ done.items }
     {
+        let mut done = done;
+        done.shrink_to_fit();
         Transcript { done }
     }
 
