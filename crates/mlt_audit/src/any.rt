@@ -5,14 +5,15 @@ ghost use Rattle.mlt_history.specs.Numbers.{begun_txs};
 ghost use Rattle.mlt_audit.specs.Agreement.{AreOfHistory, IsOfBegunTx, IsOnce, NumbersAgree, count_of};
 ghost use Rattle.mlt_audit.specs.Receipts.{HasNothing, IsOfHistory};
 
-use crate::stories::{is_told, place_behind, tx_of};
+use crate::stories::{is_told, item_at, place_behind, tx_of};
 use mlt_serial::Outcome;
-use mlt_trace::TraceItem;
+use mlt_trace::{Kept, TraceItem};
 
-fn is_begun(tx: u64, history: &[TraceItem]) -> bool
+fn is_begun(tx: u64, history: &[Kept]) -> bool
     ensures { IsTrue result ↔ Contains (begun_txs history.now) tx }
 {
     for item in history {
+        let item = item.get();
         if let TraceItem::Begin(own) = item {
             if own.0 == tx {
                 return true;
@@ -22,14 +23,14 @@ fn is_begun(tx: u64, history: &[TraceItem]) -> bool
     false
 }
 
-fn may_have_tx(receipt: &Outcome, history: &[TraceItem]) -> bool
+fn may_have_tx(receipt: &Outcome, history: &[Kept]) -> bool
     ensures { IsTrue result ↔ IsOfBegunTx history.now receipt.now }
 {
     receipt.tx == 0 || is_begun(receipt.tx, history)
 }
 
 /// Whether the numbers of the receipts, but for 0, are begun.
-fn are_begun(receipts: &[Outcome], history: &[TraceItem]) -> bool
+fn are_begun(receipts: &[Outcome], history: &[Kept]) -> bool
     ensures { IsTrue result ↔ All (IsOfBegunTx history.now) receipts.now }
 {
     for receipt in receipts {
@@ -60,11 +61,12 @@ fn is_once(tx: u64, receipts: &[Outcome]) -> bool
 }
 
 /// Whether each number begun stands in one of the receipts.
-fn are_once(receipts: &[Outcome], history: &[TraceItem]) -> bool
+fn are_once(receipts: &[Outcome], history: &[Kept]) -> bool
     ensures { IsTrue result
         ↔ ((tx : ℕ) → Contains (begun_txs history.now) tx → IsOnce receipts.now tx) }
 {
     for item in history {
+        let item = item.get();
         if let TraceItem::Begin(tx) = item {
             if !is_once(tx.0, receipts) {
                 return false;
@@ -75,13 +77,13 @@ fn are_once(receipts: &[Outcome], history: &[TraceItem]) -> bool
 }
 
 /// Whether the items from this place on have nothing of the transaction.
-fn has_nothing(history: &[TraceItem], from: usize, tx: u64) -> bool
+fn has_nothing(history: &[Kept], from: usize, tx: u64) -> bool
     requires { from ≤ length history.now }
     ensures { IsTrue result ↔ HasNothing tx (drop from history.now) }
 {
     for i in from..history.len() {
-        let item = &history[i];
-        if is_told(item) && tx_of(item) == tx {
+        let item = item_at(history, i);
+        if is_told(&item) && tx_of(&item) == tx {
             return false;
         }
     }
@@ -89,7 +91,7 @@ fn has_nothing(history: &[TraceItem], from: usize, tx: u64) -> bool
 }
 
 /// Whether the receipt tells what the history has of its transaction.
-fn is_of_history(receipt: &Outcome, history: &[TraceItem]) -> bool
+fn is_of_history(receipt: &Outcome, history: &[Kept]) -> bool
     ensures { IsTrue result ↔ IsOfHistory history.now receipt.now }
 {
     if receipt.tx == 0 {
@@ -102,7 +104,7 @@ fn is_of_history(receipt: &Outcome, history: &[TraceItem]) -> bool
 }
 
 /// Whether each of the receipts tells what the history has of its transaction.
-fn are_each_of_history(receipts: &[Outcome], history: &[TraceItem]) -> bool
+fn are_each_of_history(receipts: &[Outcome], history: &[Kept]) -> bool
     ensures { IsTrue result ↔ All (IsOfHistory history.now) receipts.now }
 {
     for receipt in receipts {
@@ -113,14 +115,14 @@ fn are_each_of_history(receipts: &[Outcome], history: &[TraceItem]) -> bool
     true
 }
 
-fn numbers_agree(receipts: &[Outcome], history: &[TraceItem]) -> bool
+fn numbers_agree(receipts: &[Outcome], history: &[Kept]) -> bool
     ensures { IsTrue result ↔ NumbersAgree receipts.now history.now }
 {
     are_begun(receipts, history) && are_once(receipts, history)
 }
 
 /// Whether the receipts tell just what the history has of each transaction begun.
-pub(crate) fn are_of_any(receipts: &[Outcome], history: &[TraceItem]) -> bool
+pub(crate) fn are_of_any(receipts: &[Outcome], history: &[Kept]) -> bool
     ensures { IsTrue result ↔ AreOfHistory receipts.now history.now }
 {
     numbers_agree(receipts, history) && are_each_of_history(receipts, history)

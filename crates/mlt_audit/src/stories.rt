@@ -6,7 +6,7 @@ ghost use Rattle.mlt_audit.specs.Receipts.{Closing, IsClosedBefore, IsClosedSo, 
 
 use mlt_kinds::Done;
 use mlt_serial::{End, Outcome};
-use mlt_trace::TraceItem;
+use mlt_trace::{Kept, TraceItem};
 
 /// Whether the end is a commit of this number.
 fn is_commit_of(end: End, number: u64) -> bool
@@ -56,6 +56,14 @@ pub(crate) fn tx_of(item: &TraceItem) -> u64
     }
 }
 
+/// The item at this place.
+pub(crate) fn item_at(history: &[Kept], place: usize) -> TraceItem
+    requires { place < length history.now }
+    ensures { result ≡ slice_index_or history.now place result }
+{
+    history[place].get()
+}
+
 /// Whether receipts tell of the item: it is an operation, or a close.
 pub(crate) fn is_told(item: &TraceItem) -> bool
     ensures { result ≡ is_told item.now }
@@ -69,7 +77,7 @@ pub(crate) fn is_told(item: &TraceItem) -> bool
 /// Goes over the items from this place on, until they have these operations of the transaction and its close, as the end
 /// says. It answers the place behind; or nothing, where the items do not have just these of it.
 pub(crate) fn place_behind(
-    history: &[TraceItem],
+    history: &[Kept],
     from: usize,
     tx: u64,
     done: &[Done],
@@ -84,9 +92,9 @@ pub(crate) fn place_behind(
     let mut count = 0;
     let mut closed = false;
     for i in from..history.len() {
-        let item = &history[i];
-        if tx_of(item) == tx {
-            match item {
+        let item = item_at(history, i);
+        if tx_of(&item) == tx {
+            match &item {
                 TraceItem::Op(_, one) => {
                     if !stands_at(done, count, one) {
                         return None;

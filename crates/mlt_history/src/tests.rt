@@ -16,8 +16,10 @@ fn items_come_in_reserved_room(rt: HostRuntime) -> Result<(), Refusal> {
     history.push(TraceItem::Begin(TxId(1)));
     history.push(TraceItem::Commit(TxId(1), 1));
     history.release(1);
-    let items = [TraceItem::Begin(TxId(1)), TraceItem::Commit(TxId(1), 1)];
-    assert!(rt; history.items() == items.as_slice());
+    let items = history.items();
+    assert!(rt; items.len() == 2);
+    assert!(rt; items[0].get() == TraceItem::Begin(TxId(1)));
+    assert!(rt; items[1].get() == TraceItem::Commit(TxId(1), 1));
     Ok(())
 }
 

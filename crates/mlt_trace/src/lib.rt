@@ -2,7 +2,9 @@
 #![tactic(auto)]
 
 mod item;
+mod kept;
 mod trace;
 
 pub use item::TraceItem;
+pub use kept::Kept;
 pub use trace::write_trace;

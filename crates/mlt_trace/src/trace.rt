@@ -6,13 +6,13 @@ ghost use Rattle.std.specs.String.{string_bytes};
 ghost use Rattle.mlt_text.specs.Texts.{AppendsFront};
 ghost use Rattle.mlt_trace.specs.Items.{trace_text};
 
-use crate::item::TraceItem;
+use crate::kept::Kept;
 use mlt_text::write_text;
 use mlt_types::Refusal;
 use std::alloc::{AllocError, Global};
 use std::io::Write;
 
-fn text_of(alloc: Global, items: &[TraceItem]) -> Result<String, AllocError>
+fn text_of(alloc: Global, items: &[Kept]) -> Result<String, AllocError>
     ensures { IfOk result (λ text. string_bytes text ≡ trace_text items.now) }
 {
     let mut text = String::new(alloc);
@@ -28,11 +28,7 @@ fn text_of(alloc: Global, items: &[TraceItem]) -> Result<String, AllocError>
 /// # Errors
 /// `OutOfMemory`, where a growth was refused; nothing was written. `Io`, where a write failed; then a
 /// front of the text was written.
-pub fn write_trace<W: Write>(
-    alloc: Global,
-    items: &[TraceItem],
-    writer: &mut W,
-) -> Result<(), Refusal>
+pub fn write_trace<W: Write>(alloc: Global, items: &[Kept], writer: &mut W) -> Result<(), Refusal>
     ensures ok { OnOk result
         (Appends (W.contents writer.old) (W.contents writer.new) (trace_text items.now)) }
     ensures memory { IsErrOf result Refusal.OutOfMemory

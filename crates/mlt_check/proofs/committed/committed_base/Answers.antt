@@ -14,7 +14,7 @@ returns-in_err-take-clause-refused c =
     let p = err_from_is_err_and c.from_residual.result c.from_residual.ensures.1 in
     let l = c.loop-item in
     rw (p.1, p.2) (refused_at l.checker c.take.new.self l.line c.args.items.now l.item-index c.item-item.result c.loop-item-test.true c.item-item.is l.invariant
-    c.in_err-take.field-0.0 c.in_err-take.ensures)
+    c.in_err-take.field-0.0 (rw c.get.ensures at c.in_err-take.ensures))
 
 pub returns-in_err-take-clause-no_fault : goal.returns-in_err-take-clause-no_fault
 returns-in_err-take-clause-no_fault c = λ base all. only_memory_in c.from_residual.result c.args.items.now base all (returns-in_err-take-clause-refused c)
@@ -22,7 +22,8 @@ returns-in_err-take-clause-no_fault c = λ base all. only_memory_in c.from_resid
 pub loop-item-preserved : goal.loop-item-preserved
 loop-item-preserved c =
     let l = c.loop-item in
-    went_over_one l.checker c.take.new.self l.line c.args.items.now l.item-index c.item-item.result c.loop-item-test.true c.item-item.is l.invariant c.in_ok-take.ensures
+    went_over_one l.checker c.take.new.self l.line c.args.items.now l.item-index c.item-item.result c.loop-item-test.true c.item-item.is l.invariant
+    (rw c.get.ensures at c.in_ok-take.ensures)
 
 pub returns-clause-accepted : goal.returns-clause-accepted
 returns-clause-accepted c =

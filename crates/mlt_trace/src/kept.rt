@@ -1,0 +1,144 @@
+//! Items as a history keeps them.
+
+ghost use Rattle.std.specs.Prelude.{◌≡◌, ℕ};
+ghost use Rattle.mlt_kinds.specs.Packing.{op_in, reply_in};
+ghost use Rattle.mlt_trace.specs.Keeping.{item_in};
+
+use crate::item::TraceItem;
+use mlt_kinds::{Done, OpKind, Packed, ReplyKind};
+use mlt_types::TxId;
+use std::fmt;
+use std::marker::Model;
+
+// What an item has beside its transaction. It takes 24 bytes: so that there is room beside an operation to say that it
+// is one, the parts of it are here in two forms.
+#[derive(Clone, Copy, Debug)]
+enum Form {
+    Begin,
+    // An operation whose set is 0: its kind, the kind of its reply, its number, its amount and the value told.
+    Op(OpKind, ReplyKind, u32, u64, u64),
+    // An operation whose amount is 0: its kind, the kind of its reply, its set, its number and the value told.
+    OfSet(OpKind, ReplyKind, u16, u32, u64),
+    Back,
+    Commit(u64),
+    Abort,
+}
+
+/// An item as a history keeps it, in 32 bytes: a `TraceItem` takes 40, and histories are what fills memory. A contract
+/// sees the item.
+#[derive(Debug, Drop)]
+pub struct Kept {
+    tx: TxId,
+    form: Form,
+}
+
+impl Model for Kept {
+    ghost use Rattle.mlt_trace.specs.declared.item.TraceItem.{TraceItem};
+
+    ghost Value = { TraceItem };
+
+    ghost use Rattle.mlt_trace.specs.Keeping.{item_in};
+
+    ghost view = { λ kept. item_in kept.tx kept.form };
+}
+
+impl Kept {
+    /// The item, to be kept.
+    pub fn of(item: TraceItem) -> Kept
+        ensures { result ≡ item }
+    {
+        match item {
+            TraceItem::Begin(tx) => Kept {
+                tx,
+                form: Form::Begin,
+            },
+            TraceItem::Op(tx, done) => Kept {
+                tx,
+                form: form_of(done),
+            },
+            TraceItem::Back(tx) => Kept {
+                tx,
+                form: Form::Back,
+            },
+            TraceItem::Commit(tx, number) => Kept {
+                tx,
+                form: Form::Commit(number),
+            },
+            TraceItem::Abort(tx) => Kept {
+                tx,
+                form: Form::Abort,
+            },
+        }
+    }
+
+    /// The item that is kept.
+    pub fn get(&self) -> TraceItem
+        ensures { result ≡ self.now }
+    {
+        let tx = self.tx;
+        match self.form {
+            Form::Begin => TraceItem::Begin(tx),
+            Form::Op(op, reply, number, amount, told) => TraceItem::Op(
+                tx,
+                done_of(Packed {
+                    op,
+                    reply,
+                    set: 0,
+                    number,
+                    amount,
+                    told,
+                }),
+            ),
+            Form::OfSet(op, reply, set, number, told) => TraceItem::Op(
+                tx,
+                done_of(Packed {
+                    op,
+                    reply,
+                    set,
+                    number,
+                    amount: 0,
+                    told,
+                }),
+            ),
+            Form::Back => TraceItem::Back(tx),
+            Form::Commit(number) => TraceItem::Commit(tx, number),
+            Form::Abort => TraceItem::Abort(tx),
+        }
+    }
+}
+
+// An operation that has a set has no amount.
+fn form_of(done: Done) -> Form
+    ensures { (tx : ℕ) → item_in tx result ≡ TraceItem.Op tx done }
+{
+    let Packed {
+        op,
+        reply,
+        set,
+        number,
+        amount,
+        told,
+    } = done.packed();
+    match set {
+        0 => Form::Op(op, reply, number, amount, told),
+        _ => Form::OfSet(op, reply, set, number, told),
+    }
+}
+
+fn done_of(parts: Packed) -> Done
+    ensures { result ≡ (op_in parts, reply_in parts) }
+{
+    Done::new(parts.op(), parts.reply())
+}
+
+impl fmt::Display for Kept {
+    ghost use Rattle.std.specs.Prelude.{Some};
+    ghost use Rattle.mlt_trace.specs.Items.{item_text};
+
+    ghost output = { λ item. Some (item_text item) };
+
+    fn fmt<W: fmt::Write>(&self, f: &mut fmt::Formatter<W>) -> fmt::Result {
+        let item = self.get();
+        write!(f, "{item}")
+    }
+}
