@@ -175,6 +175,33 @@ def writes_fail(mltx, case):
     same(writes, len(text + trace), f"{job}: writes that fail, of a byte each")
 
 
+# Transactions of an operation that is written with the longest words and numbers, and their trace, of many pieces.
+MANY, LONGEST = 1_000, f"withdraw {2**32 - 1} {2**64 - 1}"
+LONG_TEXT = f"begin\n{LONGEST}\ncommit\n" * MANY
+LONG_TOLD = "".join(f"missing\ncommitted {n}\n" for n in range(1, MANY + 1))
+LONG_TRACE = "".join(f"begin {n}\nop {n} {LONGEST} missing\ncommit {n} {n}\n" for n in range(1, MANY + 1))
+
+
+@each({f"each-write-of-a-long-trace-{name}": fault for name, fault in WRITE_FAULTS.items()})
+def long_trace_fails(mltx, fault):
+    """A trace of many pieces is whole, and where a write fails that is 13, and what went out before is a front of it."""
+    trace, text, lefts = mltx.folder / "trace", mltx.file("text", LONG_TEXT), []
+    expect(mltx.run("solo", "--trace", trace, text), out=LONG_TOLD)
+    same(trace.read_text(), LONG_TRACE, "a long trace")
+    number = len(LONG_TOLD) // 5_000 + 2
+    while True:
+        ran = mltx.run("solo", "--trace", trace, text, env=mltx.shim(FAIL=f"write {number} {fault} 5000"))
+        if mltx.counted()[1] < number:
+            break
+        what = f"a long trace, whose write {number} fails by {errno.errorcode.get(fault, 'taking nothing')}"
+        expect(ran, status=1, out=LONG_TOLD, err=FAULT, what=what)
+        lefts.append(trace.read_text())
+        holds(LONG_TRACE.startswith(lefts[-1]), f"{what}: what is left is no front of it")
+        number += 1
+    holds(len(lefts) > len(LONG_TRACE) // 5_000, f"only {len(lefts)} writes of a long trace")
+    same(sorted(set(lefts), key=len), lefts, "what is left of a long trace, which grows with each write")
+
+
 @each({"one-byte-writer": None})
 def one_byte_writer(mltx, _case):
     """A writer of one byte per write that fails at its sixth."""

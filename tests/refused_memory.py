@@ -135,11 +135,9 @@ class Runs:
         return ran.out.count(b"serial "), base
 
 
-def is_given_up(came, ample):
-    """All of the run is refused, and that is told. Nothing is written then, and no trace made; or all but the trace."""
-    if (came.status, came.err) != (1, WANT.decode()):
-        return False
-    return (came.out, came.trace) in (("", None), (ample.out, ""))
+def is_given_up(came):
+    """All of the run is refused, and that is told. Nothing is written then, and no trace made."""
+    return came == Came(1, "", WANT.decode())
 
 
 def parts(text, start):
@@ -185,7 +183,7 @@ def steps(mltx, case):
     same(ample.out, tells or ample.out, "steps with ample memory")
     ways = set()
     for what, came in runs.one_refused(lambda number: runs.run(as_text(events), first=number)):
-        if is_given_up(came, ample):
+        if is_given_up(came):
             ways.add("given up")
             continue
         told = came.out.splitlines()
@@ -245,7 +243,7 @@ def solo(mltx, case):
     same(ample.out, tells or ample.out, "solo with ample memory")
     ways = set()
     for what, came in runs.one_refused(lambda number: runs.run(text, first=number)):
-        if is_given_up(came, ample):
+        if is_given_up(came):
             ways.add("given up")
             continue
         before, mark, after = came.out.partition(f"{REFUSED}\naborted\n")
@@ -279,12 +277,11 @@ def committed(written):
 
 def is_serial(runs, came, what):
     """The committed scripts, run by one client in the order of commits, are told the same and leave this base. So says
-    the trace, where it is not refused."""
+    the trace."""
     found, base = committed(came.out)
     told = "".join(f"client 1 script {number}\n{told}" for number, _script, told in found)
     same(told + base, runs.ample("".join(script for _number, script, _told in found)).out, what)
-    if came.trace:
-        same(runs.serial(came.trace), (len(found), base), f"{what}: the trace")
+    same(runs.serial(came.trace), (len(found), base), f"{what}: the trace")
 
 
 RUNS = {
@@ -300,15 +297,14 @@ def run(mltx, case):
     alone = Runs(mltx, "run", "--hash", hashing, "--workers", "1", traced=False)
     ways = set()
     for what, came in runs.one_refused(lambda number: runs.run(SCRIPTS, first=number)):
-        if came.status:
+        if is_given_up(came):
             ways.add("given up")
-            same((came.status, came.err), (1, WANT.decode()), what)
-            same(came.trace, "" if came.out else None, f"{what}: the trace")
-        if came.out:
-            is_serial(alone, came, what)
-            refusals = came.out.splitlines().count(REFUSED)
-            holds(refusals <= 1 and came.out.count(" Out") == refusals, f"{what}: {came}")
-            ways |= {"told"} if refusals else set()
+            continue
+        same((came.status, came.err), (0, ""), what)
+        is_serial(alone, came, what)
+        refusals = came.out.splitlines().count(REFUSED)
+        holds(refusals <= 1 and came.out.count(" Out") == refusals, f"{what}: {came}")
+        ways |= {"told"} if refusals else set()
     holds(ways >= {"given up", "told"}, f"only this came: {ways}")
 
 
@@ -325,7 +321,7 @@ def later_script(mltx, workers):
     ample = runs.ample(LATER_SCRIPT)
     same(ample.out, lines(wanted[0]), "run with ample memory")
     for what, came in runs.one_refused(lambda number: runs.run(LATER_SCRIPT, first=number)):
-        if not is_given_up(came, ample):
+        if not is_given_up(came):
             same((came.status, came.err), (0, ""), what)
             holds(came.out in map(lines, wanted), f"{what}: {came.out!r}, which is none of {wanted}")
 
@@ -380,9 +376,9 @@ def for_good(mltx, case):
     """Where all requests from one on are refused, the run is given up."""
     job, options, text = case
     runs = Runs(mltx, job, *options, traced=job != "check")
-    ample = runs.ample(text)
+    runs.ample(text)
     for what, came in runs.one_refused(lambda number: runs.run(text, first=number, last=LAST), step=3):
-        holds(is_given_up(came, ample), f"{what}, and all after it: {came}")
+        holds(is_given_up(came), f"{what}, and all after it: {came}")
 
 
 LARGE = {
@@ -399,7 +395,7 @@ def large(mltx, case):
     job, options, text, least = case
     runs = Runs(mltx, job, *options)
     ample, came = runs.ample(text), runs.run(text, first=1, last=LAST, least=least)
-    if is_given_up(came, ample):
+    if is_given_up(came):
         return
     what = f"{job} with requests of {least} bytes and more refused: {came}"
     same((came.status, came.err), (0, ""), what)
@@ -432,7 +428,7 @@ def threads(mltx, workers):
     """A run that gets no thread does all by itself, or is given up."""
     runs = Runs(mltx, "run", "--workers", workers)
     came = runs.run(SCRIPTS, threads=True)
-    if not is_given_up(came, Came(0, "", "")):
+    if not is_given_up(came):
         what = f"no thread for {workers} workers: {came}"
         same((came.status, came.err, came.out.count("committed ")), (0, "", 4), what)
         is_serial(Runs(mltx, "run", "--workers", "1", traced=False), came, what)
@@ -486,6 +482,6 @@ def serve_for_good(mltx, _case):
     runs = Runs(mltx, "serve")
     for what, (ended, heard) in runs.one_refused(lambda number: talk(runs, said, first=number, last=LAST), step=3):
         same((ended.status, ended.err), (1, WANT.decode()), f"{what}, and all after it: {ended}")
-        holds((ended.out, ended.trace) in (("", None), ("served 1\n", "")), f"{what}, and all after it: {ended}")
+        same((ended.out, ended.trace), ("", None), f"{what}, and all after it: what the server leaves")
         before = heard[: heard.index(ERROR)] if ERROR in heard else heard
         holds(before == tells[: len(before)], f"{what}, and all after it: {heard}, which is no front of {tells}")

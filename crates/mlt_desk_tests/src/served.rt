@@ -23,7 +23,7 @@ fn text_of(alloc: Global, outcomes: Outcomes, manager: &Manager<Mult>) -> Result
     let mut text = Vec::new(alloc);
     write_report(alloc, &report, Form::Run, &mut text)?;
     let mut trace = Vec::new(alloc);
-    write_trace(alloc, manager.history(), &mut trace)?;
+    write_trace(manager.history(), &mut trace)?;
     text.extend_from_slice(trace.as_slice())?;
     check_trace(alloc, &mut trace.as_slice(), &mut text)?;
     Ok(text)

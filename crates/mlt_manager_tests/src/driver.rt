@@ -131,6 +131,6 @@ fn has_base<P: Pseudo>(alloc: Global, manager: &Manager<P>, wanted: &str) -> Res
 
 fn has_trace<P: Pseudo>(alloc: Global, manager: &Manager<P>, wanted: &str) -> Result<(), Fail> {
     let mut text = Vec::new(alloc);
-    write_trace(alloc, manager.history(), &mut text)?;
+    write_trace(manager.history(), &mut text)?;
     same(&text.as_slice(), &wanted.as_bytes())
 }

@@ -203,7 +203,7 @@ fn write_served(rt: &HostRuntime, serve: &Serve, items: &[Kept]) -> Result<(), R
 fn write_history(rt: &HostRuntime, items: &[Kept], run: &Run) -> Result<(), Refusal> {
     match &run.trace {
         Some(file) => match File::create(rt, file.as_str()) {
-            Ok(mut created) => write_trace(rt.alloc(), items, &mut created),
+            Ok(mut created) => write_trace(items, &mut created),
             Err(_) => Err(Refusal::Io),
         },
         None => Ok(()),
