@@ -4,7 +4,10 @@ use Rattle.std.specs.Ordering.{nat_cmp}
 use Rattle.std.specs.FinMap as finmap
 use Rattle.std.specs.Map.{lookup}
 use Rattle.std.specs.BTreeMap.{is_at}
-use Rattle.mlt_kinds.specs.Accounts.{IsAccount}
+use Rattle.mlt_types.specs.Maps.{with_entry}
+use Rattle.mlt_kinds.specs.declared.account.AccountOp.{AccountOp}
+use Rattle.mlt_kinds.specs.declared.operation.ObjReply.{ObjReply}
+use Rattle.mlt_kinds.specs.Accounts.{AccountStep, IsAccount}
 use Rattle.mlt_kinds.specs.Bases.{Base, element_cmp, size_at}
 
 -- the base of these accounts, elements and counters
@@ -14,6 +17,11 @@ base_of accounts elements counters = record { accounts = accounts; elements = el
 -- every balance is in range
 abbrev pub AreBalances : List (ℕ × ℕ) → Type 0
 AreBalances entries = (account : ℕ) → IsAccount (lookup (is_at (nat_cmp account)) entries)
+
+-- from some balances to others: the operation on this account is told the reply, and no other account changes
+abbrev pub DoesAt : finmap.FinMap nat_cmp ℕ → ℕ → AccountOp → ObjReply → finmap.FinMap nat_cmp ℕ → Type 0
+DoesAt old account op reply new =
+    (after : Option ℕ) × AccountStep (finmap.get old account) op reply after × (new ≡ with_entry old account after)
 
 -- nothing, or a number other than 0
 abbrev pub IsNotZero : Option ℕ → Type 0

@@ -1,17 +1,35 @@
 //! The accounts of a base, in an ordered map.
 
-ghost use Rattle.std.specs.Prelude.{◌≡◌, ◌++◌, None, IfErr, IfOk, OnErr, OnOk, IsSome};
+ghost use Rattle.std.specs.Prelude.{◌≡◌, ◌++◌, None, Some, IfErr, IfNone, IfOk, IfSome, OnErr, OnOk};
 ghost use Rattle.std.specs.FinMap as map;
 ghost use Rattle.std.specs.String.{string_bytes};
-ghost use Rattle.mlt_types.specs.Maps.{with_entry};
 ghost use Rattle.mlt_base.specs.BaseText.{account_lines};
-ghost use Rattle.mlt_kinds.specs.Accounts.{IsAccount};
+ghost use Rattle.mlt_base.specs.Kept.{DoesAt};
+ghost use Rattle.mlt_kinds.specs.Accounts.{AccountStep, IsAccount};
 
 use crate::text::push_accounts;
+use mlt_kinds::{Account, AccountOp, Kind, ObjReply};
 use mlt_types::Refusal;
 use std::alloc::Global;
 use std::collections::BTreeMap;
 use std::marker::Model;
+
+// Does an operation on a balance that is kept, and answers what it is told; `None` where that is Closed, and nothing is
+// done.
+fn change(balance: &mut u64, op: &AccountOp) -> Option<ObjReply>
+    requires { IsAccount (Some balance.old) }
+    ensures some { IfSome result
+        (λ reply. AccountStep (Some balance.old) op.now reply (Some balance.new)) }
+    ensures none { IfNone result (AccountStep (Some balance.old) op.now ObjReply.Closed None) }
+{
+    match Account::apply(&Some(*balance), op) {
+        (Some(changed), reply) => {
+            *balance = changed;
+            Some(reply)
+        }
+        (None, _) => None,
+    }
+}
 
 // The balances of the accounts that there are, by their numbers. A contract sees a finite map.
 #[derive(Drop)]
@@ -52,23 +70,37 @@ impl Accounts {
         self.balances.get(&account).copied()
     }
 
-    // The account has the balance from now on; with `None` there is none.
-    pub(crate) fn set(&mut self, account: u32, state: Option<u64>) -> Result<(), Refusal>
-        requires { IsAccount state }
-        ensures set { OnOk result (self.new ≡ with_entry self.old account state) }
+    // Does an operation on an account that there is not, and answers what it is told.
+    fn open(&mut self, account: u32, op: &AccountOp) -> Result<ObjReply, Refusal>
+        requires { map.get self.old account ≡ None }
+        ensures done { IfOk result (λ reply. DoesAt self.old account op.now reply self.new) }
         ensures err { OnErr result (self.new ≡ self.old) }
-        ensures growth { OnErr result ((map.get self.old account ≡ None) × IsSome state) }
+        ensures growth { OnErr result (op.now ≡ AccountOp.Open) }
         ensures refusal { IfErr result (λ refusal. refusal ≡ Refusal.OutOfMemory) }
     {
-        match state {
-            Some(balance) => {
-                self.balances.insert(account, balance)?;
-            }
-            None => {
-                self.balances.remove(&account);
-            }
+        let (after, reply) = Account::apply(&None, op);
+        if let Some(balance) = after {
+            self.balances.insert(account, balance)?;
         }
-        Ok(())
+        Ok(reply)
+    }
+
+    // Does an operation, and answers what it is told. Where there is the account, it is searched for once, but to close it.
+    pub(crate) fn apply(&mut self, account: u32, op: &AccountOp) -> Result<ObjReply, Refusal>
+        ensures done { IfOk result (λ reply. DoesAt self.old account op.now reply self.new) }
+        ensures err { OnErr result (self.new ≡ self.old) }
+        ensures growth { OnErr result
+            ((map.get self.old account ≡ None) × (op.now ≡ AccountOp.Open)) }
+        ensures refusal { IfErr result (λ refusal. refusal ≡ Refusal.OutOfMemory) }
+    {
+        let Some(balance) = self.balances.get_mut(&account) else {
+            return self.open(account, op);
+        };
+        if let Some(reply) = change(balance, op) {
+            return Ok(reply);
+        }
+        self.balances.remove(&account);
+        Ok(ObjReply::Closed)
     }
 
     // Appends a line `account A b` for each account, by rising number.

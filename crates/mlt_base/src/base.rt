@@ -10,9 +10,7 @@ ghost use Rattle.mlt_kinds.specs.Bases.{account_at, counter_at, element_at, empt
 use crate::accounts::Accounts;
 use crate::counters::Counters;
 use crate::elements::Elements;
-use mlt_kinds::{
-    Account, AccountOp, Counter, CounterOp, Element, ElementOp, Kind, ObjOp, ObjReply,
-};
+use mlt_kinds::{AccountOp, Counter, CounterOp, Element, ElementOp, Kind, ObjOp, ObjReply};
 use mlt_types::Refusal;
 use std::alloc::Global;
 use std::marker::Model;
@@ -106,11 +104,7 @@ impl Base {
         ensures growth { OnErr result (MakesObject self.old (ObjOp.Account account op)) }
         ensures refusal { IfErr result (λ refusal. refusal ≡ Refusal.OutOfMemory) }
     {
-        let before = self.accounts.balance(account);
-        let (after, reply) = Account::apply(&before, &op);
-        if after != before {
-            self.accounts.set(account, after)?;
-        }
+        let reply = self.accounts.apply(account, &op)?;
         Ok(reply)
     }
 
