@@ -70,10 +70,11 @@ impl Parser {
         }
         let OpenScript {
             client,
-            lines,
+            mut lines,
             count: _,
             ifs: _,
         } = script;
+        lines.shrink_to_fit();
         self.scripts.push(Script::new(client, lines, ending))?;
         self.begun = None;
         Ok(())
