@@ -104,6 +104,16 @@ fn put_bucket(place: &mut Option<Page>, bucket: &Bucket)
 {
     match place {
         Some(Page::Bucket(old)) => *old = *bucket,
-        _ => *place = Some(Page::Bucket(*bucket)),
+        _ => put_first_bucket(place, bucket),
     }
+}
+
+// Puts a bucket where none stood. It stands apart, so that no room for a page is cleared where a bucket takes the place of
+// another.
+#[cold]
+#[inline(never)]
+fn put_first_bucket(place: &mut Option<Page>, bucket: &Bucket)
+    ensures { place.new ≡ Some (Page.Bucket bucket.now) }
+{
+    *place = Some(Page::Bucket(*bucket));
 }
