@@ -3,6 +3,7 @@ pub mod Bits
 pub mod ClassLaws
 pub mod Lowest
 pub mod Holding
+pub mod Reservations
 pub mod Entries
 pub mod Notes
 pub mod Changes

@@ -12,5 +12,6 @@ mod holders;
 mod locks;
 mod noted;
 mod places;
+mod reserved;
 
 pub use locks::ObjectLocks;

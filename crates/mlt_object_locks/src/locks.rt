@@ -4,15 +4,14 @@ ghost use Rattle.std.specs.Prelude.{◌≡◌, ℕ, [], ◌∷◌, ◌++◌, Som
 ghost use Rattle.std.specs.List.{filter};
 ghost use Rattle.mlt_kinds.specs.Operations.{cell_of};
 ghost use Rattle.mlt_object_locks.specs.Locks.{no_locks, HoldsClash, IsLowestClash, is_of_other, reservation_of, SameReservations};
-ghost use Rattle.mlt_object_locks.specs.Places.{reserved_places};
 
 use crate::cells::{
     Cells, give_up_each, grant_each, join_each, lowest_clash, release_each, release_noted,
 };
 use crate::held::HeldList;
 use crate::noted::{Noted, make_room};
-use crate::places::{Places, is_in_range, looked_at, places_if_any, places_of};
-use arrayvec::ArrayVec;
+use crate::places::{is_in_range, looked_at, places_if_any, places_of};
+use crate::reserved::{Reserved, reserve_cell, reserved_cell, take_reservation};
 use indexmap::IndexMap;
 use mlt_kinds::Done;
 use mlt_types::{Cell, Refusal, TxId};
@@ -25,7 +24,7 @@ use std::marker::Model;
 #[derive(Drop)]
 pub struct ObjectLocks {
     cells: Cells,
-    reserved: IndexMap<TxId, Cell>,
+    reserved: Reserved,
     noted: Noted,
     held: HeldList,
 }
@@ -36,10 +35,10 @@ impl Model for ObjectLocks {
 
     ghost Value = { Locks };
 
-    ghost view = { λ locks. record { held = locks.held.operations; reserved = locks.reserved.entries } };
+    ghost view = { λ locks. record { held = locks.held.operations; reserved = locks.reserved.items } };
 
     ghost invariant = { λ locks.
-        IsSound locks.cells locks.reserved.entries locks.noted locks.held.operations };
+        IsSound locks.cells locks.reserved.items locks.noted locks.held.operations };
 }
 
 impl ObjectLocks {
@@ -49,7 +48,7 @@ impl ObjectLocks {
     {
         ObjectLocks {
             cells: IndexMap::new(alloc),
-            reserved: IndexMap::new(alloc),
+            reserved: Vec::new(alloc),
             noted: IndexMap::new(alloc),
             held: HeldList::new(),
         }
@@ -71,14 +70,11 @@ impl ObjectLocks {
         self.reserved.reserve(1)?;
         make_room(&mut self.noted, tx)?;
         if let Err(refusal) = join_each(&mut self.cells, places.as_slice(), tx) {
-            let kept = reserved_places(&self.reserved, tx);
+            let kept = places_if_any(reserved_cell(&self.reserved, tx));
             give_up_each(&mut self.cells, places.as_slice(), kept.as_slice(), tx);
             return Err(refusal);
         }
-        let Ok(earlier) = self.reserved.insert(tx, *cell) else {
-            unreachable!();
-        };
-        let before = places_if_any(earlier);
+        let before = places_if_any(reserve_cell(&mut self.reserved, tx, *cell));
         give_up_each(&mut self.cells, before.as_slice(), places.as_slice(), tx);
         Ok(())
     }
@@ -105,7 +101,7 @@ impl ObjectLocks {
         if let Some(holder) = lowest_clash(&self.cells, looked.as_slice(), tx, done) {
             return Err(holder);
         }
-        self.reserved.swap_remove(&tx);
+        take_reservation(&mut self.reserved, tx);
         let places = places_of(&cell);
         grant_each(
             &mut self.cells,
@@ -124,19 +120,9 @@ impl ObjectLocks {
         ensures released { reservation_of self.new.reserved tx ≡ None }
         ensures others { SameReservations self.old.reserved self.new.reserved tx }
     {
-        let places = places_if_any(self.reserved.swap_remove(&tx));
+        let places = places_if_any(take_reservation(&mut self.reserved, tx));
         release_each(&mut self.cells, places.as_slice(), tx);
         release_noted(&mut self.cells, &mut self.noted, tx);
         self.held = self.held.without(&tx);
-    }
-}
-
-// The places of the cell that the transaction reserved, if it did.
-fn reserved_places(reserved: &IndexMap<TxId, Cell>, tx: TxId) -> Places
-    ensures { result.items ≡ reserved_places reserved.now.entries tx }
-{
-    match reserved.get(&tx) {
-        Some(cell) => places_of(cell),
-        None => ArrayVec::new(),
     }
 }

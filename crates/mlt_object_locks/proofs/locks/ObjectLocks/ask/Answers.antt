@@ -1,12 +1,11 @@
 use Rattle.std.proofs.Common.{◌≡◌, ◌≤◌, ℕ, List, Option, length, sym, ap, subst, ◌∙◌, arith}
 use Rattle.mlt_types.specs.Cells.{IsInRange}
 use Rattle.mlt_kinds.specs.Operations.{cell_of}
-use Rattle.mlt_object_locks.specs.Locks.{HoldsClash, IsLowestOf, Locks, SameReservations, reservation_of}
+use Rattle.mlt_object_locks.specs.Locks.{HoldsClash, IsLowestOf, Locks, reservation_of}
 use Rattle.mlt_object_locks.specs.Classes.{bit_of_item}
 use Rattle.mlt_object_locks.specs.Noted.{NotesEach, noted_of}
 use Rattle.mlt_object_locks.specs.Places.{looked_at, places_if_any, places_of}
 use Rattle.mlt_object_locks.specs.Cells.{GrantsAt, IsHereAt, IsSound, StandsAtOne}
-use Rattle.mlt_object_locks.proofs.Entries.{reservation_found, differ}
 use Rattle.mlt_object_locks.proofs.Clashing.{lowest_of_all}
 use Rattle.mlt_object_locks.proofs.Sound.{few_places, sound_granted}
 use Rattle.mlt_object_locks.proofs.locks.ObjectLocks.ask.Goals as goal
@@ -19,7 +18,7 @@ returns-in-Some-clause-lowest c =
     let range = subst IsInRange c.cell-cell.ensures c.is_in_range.ensures in
     let places : c.as_slice.result.now ≡ looked_at done.0 = c.as_slice.ensures.value ∙ c.looked_at-looked.ensures ∙ ap looked_at c.op.ensures in
     let here = subst (λ ks. IsLowestOf (StandsAtOne s.cells ks tx done) c.lowest_clash.result) places c.lowest_clash.ensures in
-    let all = lowest_of_all s.cells s.reserved.entries s.noted s.held.operations c.self.invariant tx done range c.lowest_clash.result here in
+    let all = lowest_of_all s.cells s.reserved.items s.noted s.held.operations c.self.invariant tx done range c.lowest_clash.result here in
     let seen = subst (λ held. IsLowestOf (HoldsClash held tx done) c.lowest_clash.result) (ap (λ (l : Locks). l.held) c.self.view_is) all in
     subst (λ lowest. IsLowestOf (HoldsClash c.args.self.now.held tx done) lowest) c.in-Some.is seen
 
@@ -31,7 +30,7 @@ returns-clause-free c =
     let range = subst IsInRange c.cell-cell.ensures c.is_in_range.ensures in
     let places : c.as_slice.result.now ≡ looked_at done.0 = c.as_slice.ensures.value ∙ c.looked_at-looked.ensures ∙ ap looked_at c.op.ensures in
     let here = subst (λ ks. IsLowestOf (StandsAtOne s.cells ks tx done) c.lowest_clash.result) places c.lowest_clash.ensures in
-    let all = lowest_of_all s.cells s.reserved.entries s.noted s.held.operations c.self.invariant tx done range c.lowest_clash.result here in
+    let all = lowest_of_all s.cells s.reserved.items s.noted s.held.operations c.self.invariant tx done range c.lowest_clash.result here in
     let seen = subst (λ held. IsLowestOf (HoldsClash held tx done) c.lowest_clash.result) (ap (λ (l : Locks). l.held) c.self.view_is) all in
     subst (λ lowest. IsLowestOf (HoldsClash c.args.self.now.held tx done) lowest) c.in_default.is seen
 
@@ -62,23 +61,16 @@ invariant_of-self c =
     let done = c.args.done.now in
     let now = c.grant_each.new.cells in
     let noted = c.grant_each.new.noted in
-    let after = c.swap_remove.new.self.entries in
+    let after = c.take_reservation.new.reserved.items in
     let bit : Option ℕ = bit_of_item done in
     let had = ap (λ (l : Locks). reservation_of l.reserved tx) c.self.view_is ∙ c.requires in
     let places : c.as_slice-2.result.now ≡ places_of (cell_of done.0) = c.as_slice-2.ensures.value ∙ c.places_of-places.ensures ∙ ap places_of c.cell-cell.ensures in
     let range = subst IsInRange c.cell-cell.ensures c.is_in_range.ensures in
     let grants = subst (λ ks. GrantsAt s.cells now ks tx bit) places c.grant_each.ensures.grants in
     let notes = subst (NotesEach (noted_of s.noted tx).keys (noted_of noted tx).keys) places c.grant_each.ensures.notes in
-    let own = reservation_found after tx ∙ c.swap_remove.ensures.updates.1 in
-    let others : SameReservations s.reserved.entries after tx = λ other ne.
-    reservation_found after other ∙ c.swap_remove.ensures.updates.2 other (differ tx other ne) ∙ sym (reservation_found s.reserved.entries other) in
     subst (IsSound now after noted) (sym c.and-self-inside.ensures)
-    (sound_granted s.cells now s.reserved.entries after s.noted noted s.held.operations tx done c.self.invariant had range grants own others c.grant_each.ensures.others notes)
-
-pub returns-clause-used : goal.returns-clause-used
-returns-clause-used c = reservation_found c.swap_remove.new.self.entries c.args.tx ∙ c.swap_remove.ensures.updates.1
+    (sound_granted s.cells now s.reserved.items after s.noted noted s.held.operations tx done c.self.invariant had range grants c.take_reservation.ensures.taken c.take_reservation.ensures.others c.grant_each.ensures.others notes)
 
 pub returns-clause-others : goal.returns-clause-others
 returns-clause-others c = λ other ne.
-    reservation_found c.swap_remove.new.self.entries other ∙ c.swap_remove.ensures.updates.2 other (differ c.args.tx other ne)
-    ∙ sym (reservation_found c.self.inside.reserved.entries other) ∙ ap (λ (l : Locks). reservation_of l.reserved other) c.self.view_is
+    c.take_reservation.ensures.others other ne ∙ ap (λ (l : Locks). reservation_of l.reserved other) c.self.view_is

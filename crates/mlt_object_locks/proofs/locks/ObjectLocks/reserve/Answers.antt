@@ -3,7 +3,6 @@ use Rattle.mlt_object_locks.specs.Locks.{Locks, reservation_of, SameReservations
 use Rattle.mlt_object_locks.specs.Places.{places_if_any, places_of, reserved_places}
 use Rattle.mlt_object_locks.specs.Holders.{holder_of}
 use Rattle.mlt_object_locks.specs.Cells.{GivesUp, IsHereAt, IsSound, JoinsAt}
-use Rattle.mlt_object_locks.proofs.Entries.{reservation_found, differ}
 use Rattle.mlt_object_locks.proofs.Notes.{keeps_noted}
 use Rattle.mlt_object_locks.proofs.Sound.{sound_unchanged, sound_reserved}
 use Rattle.mlt_object_locks.proofs.locks.ObjectLocks.reserve.Goals as goal
@@ -13,8 +12,8 @@ invariant_of-self-in_err-make_room c =
     let s = c.self.inside in
     let more = c.make_room.new.noted in
     let kept = keeps_noted s.noted more c.args.tx c.make_room.ensures.others c.make_room.ensures.keys (λ had. subst (λ n. 2 ≤ n) (sym c.in_err-make_room.ensures.err) had) in
-    subst (λ reserved. IsSound s.cells reserved more s.held.operations) (sym c.reserve.ensures.entries)
-    (sound_unchanged s.cells s.cells s.reserved.entries s.noted more s.held.operations c.self.invariant (λ k. refl) c.self.invariant.unique kept)
+    subst (λ reserved. IsSound s.cells reserved more s.held.operations) (sym c.reserve.ensures.items)
+    (sound_unchanged s.cells s.cells s.reserved.items s.noted more s.held.operations c.self.invariant (λ k. refl) c.self.invariant.unique kept)
 
 pub invariant_of-self-in-Err : goal.invariant_of-self-in-Err
 invariant_of-self-in-Err c =
@@ -23,14 +22,14 @@ invariant_of-self-in-Err c =
     let more = c.make_room.new.noted in
     let mid = c.join_each.new.cells in
     let now = c.give_up_each.new.cells in
-    let entries = s.reserved.entries in
+    let entries = s.reserved.items in
     let places = places_of c.args.cell.now in
     let kept = keeps_noted s.noted more tx c.make_room.ensures.others c.make_room.ensures.keys (λ had. c.in_ok-make_room.ensures.room) in
     let joins = subst (λ ks. JoinsAt s.cells mid ks tx) (c.as_slice.ensures.value ∙ c.places_of-places.ensures) c.join_each.ensures.joins in
-    let had : c.as_slice-in-Err-2.result.now ≡ reserved_places entries tx = c.as_slice-in-Err-2.ensures.value ∙ c.reserved_places-kept.ensures ∙ ap (λ reserved. reserved_places reserved tx) c.reserve.ensures.entries in
+    let had : c.as_slice-in-Err-2.result.now ≡ reserved_places entries tx = c.as_slice-in-Err-2.ensures.value ∙ c.places_if_any-kept.ensures ∙ ap places_if_any (c.reserved_cell.ensures ∙ ap (λ reserved. reservation_of reserved tx) (c.deref.ensures.value ∙ c.reserve.ensures.items)) in
     let gives = subst (λ ks. GivesUp mid now places ks tx) had (subst (λ ks. GivesUp mid now ks c.as_slice-in-Err-2.result.now tx) (c.as_slice-in-Err.ensures.value ∙ c.places_of-places.ensures) c.give_up_each.ensures) in
     let here : IsHereAt mid (reserved_places entries tx) tx = λ k h. let there = c.self.invariant.opened tx k h in (there.0, joins.keeps k (holder_of tx there.0) there.1) in
-    subst (λ reserved. IsSound now reserved more s.held.operations) (sym c.reserve.ensures.entries)
+    subst (λ reserved. IsSound now reserved more s.held.operations) (sym c.reserve.ensures.items)
     (sound_reserved s.cells mid now entries entries s.noted more s.held.operations tx places places c.self.invariant joins gives here (λ k h. inl h) (λ k h. inr h) (λ u ne. refl) kept (λ cell e. c.in_ok-make_room.ensures.room))
 
 pub invariant_of-self-2 : goal.invariant_of-self-2
@@ -38,32 +37,27 @@ invariant_of-self-2 c =
     let s = c.self.inside in
     let tx = c.args.tx in
     let more = c.make_room.new.noted in
-    let after = c.insert.new.self.entries in
+    let after = c.reserve_cell.new.reserved.items in
     let mid = c.join_each.new.cells in
     let now = c.give_up_each-2.new.cells in
-    let entries = s.reserved.entries in
+    let entries = s.reserved.items in
     let places = places_of c.args.cell.now in
     let kept = keeps_noted s.noted more tx c.make_room.ensures.others c.make_room.ensures.keys (λ had. c.in_ok-make_room.ensures.room) in
-    let own : reservation_of after tx ≡ Some c.args.cell.now = reservation_found after tx ∙ c.in-Ok.ensures.updates.1 in
+    let own : reservation_of after tx ≡ Some c.args.cell.now = c.reserve_cell.ensures.reserved in
     let own_places : reserved_places after tx ≡ places = ap places_if_any own in
     let others : SameReservations entries after tx = λ other ne.
-    reservation_found after other ∙ c.in-Ok.ensures.updates.2 other (differ tx other ne)
-    ∙ sym (reservation_found c.reserve.new.self.entries other) ∙ ap (λ reserved. reservation_of reserved other) c.reserve.ensures.entries in
+    c.reserve_cell.ensures.others other ne ∙ ap (λ reserved. reservation_of reserved other) c.reserve.ensures.items in
     let came : c.as_slice.result.now ≡ places = c.as_slice.ensures.value ∙ c.places_of-places.ensures in
     let joins = subst (λ ks. JoinsAt s.cells mid ks tx) came c.join_each.ensures.joins in
     let here = subst (λ ks. IsHereAt mid ks tx) (came ∙ sym own_places) c.in_default.ensures.here in
     let before : c.as_slice-2.result.now ≡ reserved_places entries tx = c.as_slice-2.ensures.value ∙ c.places_if_any-before.ensures
-    ∙ ap places_if_any (c.in-Ok.ensures.old ∙ sym (reservation_found c.reserve.new.self.entries tx) ∙ ap (λ reserved. reservation_of reserved tx) c.reserve.ensures.entries) in
+    ∙ ap places_if_any (c.reserve_cell.ensures.before ∙ ap (λ reserved. reservation_of reserved tx) c.reserve.ensures.items) in
     let gives = subst (λ ks. GivesUp mid now (reserved_places entries tx) ks tx) (c.as_slice-3.ensures.value ∙ c.places_of-places.ensures ∙ sym own_places)
     (subst (λ ks. GivesUp mid now ks c.as_slice-3.result.now tx) before c.give_up_each-2.ensures) in
     sound_reserved s.cells mid now entries after s.noted more s.held.operations tx places (reserved_places entries tx) c.self.invariant joins gives here (λ k h. inr (subst (λ ks. Contains ks k) (sym own_places) h)) (λ k h. inl h) others kept
     (λ cell e. c.in_ok-make_room.ensures.room)
 
-pub returns-clause-reserved : goal.returns-clause-reserved
-returns-clause-reserved c = reservation_found c.insert.new.self.entries c.args.tx ∙ c.in-Ok.ensures.updates.1
-
 pub returns-clause-others : goal.returns-clause-others
 returns-clause-others c = λ other ne.
-    reservation_found c.insert.new.self.entries other ∙ c.in-Ok.ensures.updates.2 other (differ c.args.tx other ne)
-    ∙ sym (reservation_found c.reserve.new.self.entries other) ∙ ap (λ entries. reservation_of entries other) c.reserve.ensures.entries
+    c.reserve_cell.ensures.others other ne ∙ ap (λ entries. reservation_of entries other) c.reserve.ensures.items
     ∙ ap (λ (l : Locks). reservation_of l.reserved other) c.self.view_is
