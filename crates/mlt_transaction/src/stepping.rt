@@ -14,12 +14,13 @@ use crate::ending::finish;
 use mlt_base::{Request, inverse};
 use mlt_event::Answer;
 use mlt_hash::Setting;
-use mlt_kinds::Done;
+use mlt_kinds::{Done, ObjOp};
 use mlt_operation::{Operation, StepAnswer};
 use mlt_subtx::Subtx;
 use mlt_trace::TraceItem;
 use mlt_types::{Pseudo, TxId};
 use mlt_undo::UndoList;
+use std::alloc::Global;
 
 fn answer_of(told: StepAnswer) -> Answer
     ensures { result ≡ answer_of told }
@@ -51,12 +52,22 @@ pub(crate) fn step_on<P: Pseudo>(
         (Request::Do(op), Some(reply)) => {
             let answer = finish(Done::new(op, reply), subtx, undo, commons);
             if let Answer::Blocked { .. } = answer {
-                *operation = Operation::start(commons.alloc, Request::Do(op));
+                start_anew(operation, commons.alloc, op);
             }
             answer
         }
         (Request::TakeBack(_), Some(_)) => unreachable!(),
     }
+}
+
+/// Puts a pending operation back to its start. It stands apart, so that no room for an operation is cleared in a step that
+/// starts none.
+#[cold]
+#[inline(never)]
+fn start_anew(operation: &mut Operation, alloc: Global, op: ObjOp)
+    ensures { operation.new ≡ started_for (Request.Do op) }
+{
+    *operation = Operation::start(alloc, Request::Do(op));
 }
 
 /// Takes the last operation off, once its inverse is done, or where it has none.
