@@ -104,33 +104,3 @@ impl Berth {
         self.transaction.at = at;
     }
 }
-
-/// A berth with a transaction of this number that has done nothing: one that was left, where there is one.
-///
-/// # Errors
-/// A growth was refused.
-pub(crate) fn take_berth(
-    left: &mut Vec<Berth>,
-    alloc: Global,
-    tx: TxId,
-) -> Result<Berth, AllocError>
-    ensures { IfOk result (HasDoneNothing tx) }
-{
-    match left.pop() {
-        Some(mut berth) => {
-            berth.restart(alloc, tx);
-            Ok(berth)
-        }
-        None => Berth::new(alloc, tx),
-    }
-}
-
-/// Leaves the berth, if there is one, for a transaction to come. It takes no memory: where there is no room, the berth is
-/// given back.
-pub(crate) fn leave_berth(left: &mut Vec<Berth>, berth: Option<Berth>) {
-    if let Some(berth) = berth {
-        if left.len() < left.capacity() {
-            left.push_reserved(berth);
-        }
-    }
-}

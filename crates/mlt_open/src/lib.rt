@@ -2,6 +2,7 @@
 #![tactic(auto)]
 
 mod berth;
+mod seat;
 mod table;
 
 pub use table::OpenTransactions;

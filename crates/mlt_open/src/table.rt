@@ -9,7 +9,8 @@ ghost use Rattle.mlt_transaction.specs.declared.transaction.Transaction.{Transac
 ghost use Rattle.mlt_transaction.specs.Transactions.{IsPending, MayStepIn};
 ghost use Rattle.mlt_open.specs.Tables.{BeginsOne, CallsNone, CallsOne, CancelsOne, KeepsImage, KeepsNoImage, PutsOneAt, StepsOne};
 
-use crate::berth::{Berth, leave_berth, take_berth};
+use crate::berth::Berth;
+use crate::seat::{Seat, free_seat, image_in, seat_of};
 use mlt_event::Answer;
 use mlt_hash::Setting;
 use mlt_kinds::ObjOp;
@@ -17,17 +18,18 @@ use mlt_page::Page;
 use mlt_transaction::{At, Commons, Transaction};
 use mlt_types::{PageNo, Pseudo, Refusal, TxId};
 use std::alloc::Global;
-use std::collections::BTreeMap;
 use std::marker::Model;
 
 /// The open transactions. A contract sees a finite map from their numbers.
 ///
-/// The berth of a transaction that has ended is used again, with the room of its undo list.
+/// There are so few at a time that the seat of one is found by going through all. That of a transaction that has ended is used
+/// again, with its berth and the room of its undo list.
 #[derive(Drop)]
 pub struct OpenTransactions {
     alloc: Global,
-    txs: BTreeMap<u64, Berth>,
-    left: Vec<Berth>,
+    seats: Vec<Seat>,
+    /// How many seats are taken.
+    taken: usize,
 }
 
 impl Model for OpenTransactions {
@@ -36,15 +38,17 @@ impl Model for OpenTransactions {
     ghost use Rattle.std.specs.Coded.{coded_ℕ};
     ghost use Rattle.mlt_transaction.specs.declared.transaction.Transaction.{Transaction};
     ghost use Rattle.mlt_transaction.specs.contracts.transaction.Transaction.{the_row};
+    ghost use Rattle.mlt_open.specs.Seats.{AreSeated, table_of};
 
     ghost Value = { map.FinMap nat_cmp Transaction };
 
     ghost coded = { map.code coded_ℕ the_row.coded };
 
-    ghost view = { λ table. map.from_entries table.txs.entries };
+    ghost view = { λ table. table_of table.seats.items };
+
+    ghost invariant = { λ table. AreSeated table.seats.items table.taken };
 }
 
-#[tactic(auto, using(crate::proofs::Tables::entry_in_map, crate::proofs::Tables::entries_updated))]
 impl OpenTransactions {
     /// No transaction. It takes no memory.
     pub fn new(alloc: Global) -> OpenTransactions
@@ -52,8 +56,8 @@ impl OpenTransactions {
     {
         OpenTransactions {
             alloc,
-            txs: BTreeMap::new(alloc),
-            left: Vec::new(alloc),
+            seats: Vec::new(alloc),
+            taken: 0,
         }
     }
 
@@ -61,15 +65,15 @@ impl OpenTransactions {
     pub fn len(&self) -> usize
         ensures { result ≡ map.len self.now }
     {
-        self.txs.len()
+        self.taken
     }
 
     /// The transaction of a number, if it is open.
     pub fn get(&self, tx: TxId) -> Option<&Transaction>
         ensures { option_copied result ≡ map.get self.now tx }
     {
-        let berth = self.txs.get(&tx.0)?;
-        Some(berth.get())
+        let place = seat_of(&self.seats, tx)?;
+        Some(self.seats[place].berth.get())
     }
 
     /// The first image of a page that an open transaction keeps, if one does. It takes no memory.
@@ -77,13 +81,7 @@ impl OpenTransactions {
         ensures kept { IfSome result (λ first. KeepsImage self.now page first.now) }
         ensures none { IfNone result (KeepsNoImage self.now page) }
     {
-        for (_, transaction) in &self.txs {
-            let first = transaction.first_image(page);
-            if first.is_some() {
-                return first;
-            }
-        }
-        None
+        image_in(&self.seats, page)
     }
 
     /// Opens a transaction of a number, which has done nothing.
@@ -95,10 +93,18 @@ impl OpenTransactions {
         ensures err { OnErr result (self.new ≡ self.old) }
         ensures refusal { IfErr result (λ refusal. refusal ≡ Refusal.OutOfMemory) }
     {
-        // Room for all berths, so that none is taken when a transaction ends.
-        self.left.reserve(self.txs.len().saturating_add(1))?;
-        let berth = take_berth(&mut self.left, self.alloc, tx)?;
-        self.txs.insert(tx.0, berth)?;
+        if let Some(place) = seat_of(&self.seats, tx) {
+            self.seats[place].berth.restart(self.alloc, tx);
+            return Ok(());
+        }
+        if let Some(place) = free_seat(&self.seats) {
+            self.seats[place].give_to(self.alloc, tx);
+            self.taken += 1;
+            return Ok(());
+        }
+        let seat = Seat::new(self.alloc, tx)?;
+        self.seats.push(seat)?;
+        self.taken += 1;
         Ok(())
     }
 
@@ -106,8 +112,10 @@ impl OpenTransactions {
     pub fn remove(&mut self, tx: TxId)
         ensures { self.new ≡ with_entry self.old tx None }
     {
-        let berth = self.txs.remove(&tx.0);
-        leave_berth(&mut self.left, berth);
+        if let Some(place) = seat_of(&self.seats, tx) {
+            self.seats[place].is_free = true;
+            self.taken -= 1;
+        }
     }
 
     /// Calls the transaction of a number, which is open and at nothing, with an operation.
@@ -121,10 +129,10 @@ impl OpenTransactions {
         ensures err { OnErr result (CallsNone tx self.old self.new commons.old commons.new) }
         ensures refusal { IfErr result (λ refusal. refusal ≡ Refusal.OutOfMemory) }
     {
-        let Some(transaction) = self.txs.get_mut(&tx.0) else {
+        let Some(place) = seat_of(&self.seats, tx) else {
             unreachable!()
         };
-        transaction.call(commons, op)
+        self.seats[place].berth.call(commons, op)
     }
 
     /// One step of the transaction of a number, which is open and not idle.
@@ -139,8 +147,8 @@ impl OpenTransactions {
         ensures steps { StepsOne (basis_in P.bits_of setting.now) tx self.old self.new
             commons.old commons.new result }
     {
-        match self.txs.get_mut(&tx.0) {
-            Some(transaction) => transaction.step(commons, setting),
+        match seat_of(&self.seats, tx) {
+            Some(place) => self.seats[place].berth.step(commons, setting),
             None => unreachable!(),
         }
     }
@@ -152,10 +160,10 @@ impl OpenTransactions {
             × (2 ≤ commons.old.history.room) }
         ensures cancels { CancelsOne tx self.old self.new commons.old commons.new }
     {
-        let Some(transaction) = self.txs.get_mut(&tx.0) else {
+        let Some(place) = seat_of(&self.seats, tx) else {
             unreachable!()
         };
-        transaction.cancel(commons);
+        self.seats[place].berth.cancel(commons);
     }
 
     /// Puts the transaction of a number, which is open, at something else: at an operation that it is called with, or at
@@ -164,9 +172,9 @@ impl OpenTransactions {
         requires is_open { IsSome (map.get self.old tx) }
         ensures puts { PutsOneAt tx at self.old self.new }
     {
-        let Some(transaction) = self.txs.get_mut(&tx.0) else {
+        let Some(place) = seat_of(&self.seats, tx) else {
             unreachable!()
         };
-        transaction.put_at(at);
+        self.seats[place].berth.put_at(at);
     }
 }

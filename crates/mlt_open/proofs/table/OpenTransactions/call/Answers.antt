@@ -1,21 +1,20 @@
-use Rattle.std.proofs.Common.{◌≡◌, Some, IsSome, refl, sym, ap, subst, ◌∙◌}
-use Rattle.std.specs.BTreeMap.{get_by}
-use Rattle.std.specs.Option.{option_copied_mut}
-use Rattle.std.specs.Ordering.{nat_cmp}
+use Rattle.std.proofs.Common.{sym, ap, ◌∙◌}
 use Rattle.std.proofs.lemmas.Result.{on_err_weaker, on_ok_weaker}
 use Rattle.mlt_transaction.specs.declared.transaction.Transaction.{Transaction}
-use Rattle.mlt_open.proofs.Tables.{one_is_changed}
+use Rattle.mlt_open.proofs.Seats.{berth_changed, it_sits, not_open, one_changes}
 use Rattle.mlt_open.proofs.table.OpenTransactions.call.Goals as goal
 
-pub returns : goal.returns
-returns c =
-    let before : Transaction = c.in-Some.transaction.now in
-    let after : Transaction = c.call.new.self in
-    let there : Some before ≡ get_by (nat_cmp c.tx.inside.0) c.self.inside.txs = sym (ap option_copied_mut c.in-Some.is) ∙ c.get_mut.ensures.value in
-    let updates = (c.get_mut.follows.holds after).3 (subst IsSome there refl) in
-    let changes = one_is_changed c.self.inside.txs.entries (c.get_mut.follows.lender after).entries before after c.self.view_is c.tx.view_is there updates.0 in
-    record {
-      calls = on_ok_weaker c.call.result (λ tells. record { changes = changes; tells = tells }) c.call.ensures.calls;
-      err = on_err_weaker c.call.result (λ tells. record { changes = changes; tells = tells }) c.call.ensures.err;
-      refusal = c.call.ensures.refusal;
-    }
+pub unreachable-requires : goal.unreachable-requires
+unreachable-requires c = not_open c.self.inside.seats.items c.deref.result.now c.args.self.now c.args.tx c.requires.is_open.0 c.self.view_is c.deref.ensures.value (sym c.in_default.is ∙ c.seat_of.ensures) c.requires.is_open.1
+
+pub invariant_of-self : goal.invariant_of-self
+invariant_of-self c = (berth_changed c.self.inside.seats.items c.deref.result.now c.self.inside.taken c.args.tx c.in-Some.place c.index_mut.result.now c.call.new.self c.self.invariant c.deref.ensures.value c.in-Some.ensures c.index_mut.ensures.value).seated
+
+pub call-requires : goal.call-requires
+call-requires c = record { idle = ap (λ (t : Transaction). t.at) (it_sits c.self.inside.seats.items c.deref.result.now c.args.self.now c.args.tx c.in-Some.place c.index_mut.result.now c.requires.is_open.0 c.self.view_is c.deref.ensures.value c.in-Some.ensures c.index_mut.ensures.value c.requires.is_open.1) ∙ c.requires.is_open.2 }
+
+pub returns-clause-calls : goal.returns-clause-calls
+returns-clause-calls c = on_ok_weaker c.call.result (λ tells. record { changes = one_changes c.self.inside.seats.items c.deref.result.now c.args.self.now c.self.inside.taken c.args.tx c.in-Some.place c.index_mut.result.now c.call.new.self c.self.invariant c.self.view_is c.deref.ensures.value c.in-Some.ensures c.index_mut.ensures.value; tells = tells }) c.call.ensures.calls
+
+pub returns-clause-err : goal.returns-clause-err
+returns-clause-err c = on_err_weaker c.call.result (λ tells. record { changes = one_changes c.self.inside.seats.items c.deref.result.now c.args.self.now c.self.inside.taken c.args.tx c.in-Some.place c.index_mut.result.now c.call.new.self c.self.invariant c.self.view_is c.deref.ensures.value c.in-Some.ensures c.index_mut.ensures.value; tells = tells }) c.call.ensures.err

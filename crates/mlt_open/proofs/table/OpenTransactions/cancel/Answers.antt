@@ -1,20 +1,18 @@
-use Rattle.std.proofs.Common.{◌≡◌, Some, IsSome, refl, sym, ap, subst, ◌∙◌}
-use Rattle.std.specs.BTreeMap.{get_by}
-use Rattle.std.specs.Option.{option_copied_mut}
-use Rattle.std.specs.Ordering.{nat_cmp}
-use Rattle.mlt_transaction.specs.declared.transaction.Transaction.{Transaction}
-use Rattle.mlt_open.proofs.Tables.{one_is_changed}
+use Rattle.std.proofs.Common.{sym, ◌∙◌}
+use Rattle.mlt_open.proofs.Seats.{berth_changed, it_sits, not_open, one_changes}
 use Rattle.mlt_open.proofs.table.OpenTransactions.cancel.Goals as goal
 
+pub unreachable-requires : goal.unreachable-requires
+unreachable-requires c = not_open c.self.inside.seats.items c.deref.result.now c.args.self.now c.args.tx c.requires.is_open.0 c.self.view_is c.deref.ensures.value (sym c.in_default.is ∙ c.seat_of.ensures) c.requires.is_open.1
+
+pub invariant_of-self : goal.invariant_of-self
+invariant_of-self c = (berth_changed c.self.inside.seats.items c.deref.result.now c.self.inside.taken c.args.tx c.in-Some.place c.index_mut.result.now c.cancel.new.self c.self.invariant c.deref.ensures.value c.in-Some.ensures c.index_mut.ensures.value).seated
+
+pub cancel-requires-clause-pending : goal.cancel-requires-clause-pending
+cancel-requires-clause-pending c = rw (it_sits c.self.inside.seats.items c.deref.result.now c.args.self.now c.args.tx c.in-Some.place c.index_mut.result.now c.requires.is_open.0 c.self.view_is c.deref.ensures.value c.in-Some.ensures c.index_mut.ensures.value c.requires.is_open.1) c.requires.is_open.2
+
+pub cancel-requires-clause-there : goal.cancel-requires-clause-there
+cancel-requires-clause-there c = rw (it_sits c.self.inside.seats.items c.deref.result.now c.args.self.now c.args.tx c.in-Some.place c.index_mut.result.now c.requires.is_open.0 c.self.view_is c.deref.ensures.value c.in-Some.ensures c.index_mut.ensures.value c.requires.is_open.1) c.requires.is_open.3
+
 pub returns : goal.returns
-returns c =
-    let before : Transaction = c.in-Some.transaction.now in
-    let after : Transaction = c.cancel.new.self in
-    let there : Some before ≡ get_by (nat_cmp c.tx.inside.0) c.self.inside.txs = sym (ap option_copied_mut c.in-Some.is) ∙ c.get_mut.ensures.value in
-    let updates = (c.get_mut.follows.holds after).3 (subst IsSome there refl) in
-    record {
-      cancels = record {
-        changes = one_is_changed c.self.inside.txs.entries (c.get_mut.follows.lender after).entries before after c.self.view_is c.tx.view_is there updates.0;
-        tells = c.cancel.ensures.tells;
-      };
-    }
+returns c = record { cancels = record { changes = one_changes c.self.inside.seats.items c.deref.result.now c.args.self.now c.self.inside.taken c.args.tx c.in-Some.place c.index_mut.result.now c.cancel.new.self c.self.invariant c.self.view_is c.deref.ensures.value c.in-Some.ensures c.index_mut.ensures.value; tells = c.cancel.ensures.tells } }

@@ -1,9 +1,29 @@
-use Rattle.std.proofs.Common.{None, ◌∙◌}
-use Rattle.mlt_types.specs.Maps.{with_entry}
-use Rattle.mlt_open.proofs.Tables.{entries_updated}
+use Rattle.std.proofs.Common.{◌≡◌, ◌+◌, ◌-◌, true, sym, ap, ◌∙◌, refl, arith}
+use Rattle.std.specs.FinMap as map
+use Rattle.mlt_open.specs.Tables.{Table}
+use Rattle.mlt_open.proofs.Seats.{freed_seat, none_freed, some_taken}
 use Rattle.mlt_open.proofs.table.OpenTransactions.remove.Goals as goal
 
-pub returns : goal.returns
-returns c =
-    entries_updated c.self.inside.txs.entries c.remove-berth.new.self.entries c.tx.inside.0 None c.remove-berth.ensures.updates.0
-    ∙ (λ i. with_entry (c.self.view_is i) (c.tx.view_is i) None)
+pub overflow_sub-self : goal.overflow_sub-self
+overflow_sub-self c =
+    let more = some_taken c.self.inside.seats.items c.deref.result.now c.args.tx c.in-Some.place c.index_mut.result.now c.deref.ensures.value c.in-Some.ensures in
+    let counted = c.self.invariant.counted in
+    omega arith
+
+pub invariant_of-self : goal.invariant_of-self
+invariant_of-self c =
+    let more = some_taken c.self.inside.seats.items c.deref.result.now c.args.tx c.in-Some.place c.index_mut.result.now c.deref.ensures.value c.in-Some.ensures in
+    let counted = c.self.invariant.counted in
+    let less : c.self.inside.taken - 1 + 1 ≡ c.self.inside.taken = omega arith in
+    (freed_seat c.self.inside.seats.items c.deref.result.now c.self.inside.taken (c.self.inside.taken - 1) c.args.tx c.in-Some.place c.index_mut.result.now (record { tx = c.index_mut.result.now.tx; is_free = true; berth = c.index_mut.result.now.berth }) c.self.invariant c.deref.ensures.value c.in-Some.ensures refl less).seated
+
+pub returns-in-Some : goal.returns-in-Some
+returns-in-Some c =
+    let more = some_taken c.self.inside.seats.items c.deref.result.now c.args.tx c.in-Some.place c.index_mut.result.now c.deref.ensures.value c.in-Some.ensures in
+    let counted = c.self.invariant.counted in
+    let less : c.self.inside.taken - 1 + 1 ≡ c.self.inside.taken = omega arith in
+    (freed_seat c.self.inside.seats.items c.deref.result.now c.self.inside.taken (c.self.inside.taken - 1) c.args.tx c.in-Some.place c.index_mut.result.now (record { tx = c.index_mut.result.now.tx; is_free = true; berth = c.index_mut.result.now.berth }) c.self.invariant c.deref.ensures.value c.in-Some.ensures refl less).makes ∙ ap (λ (t : Table). map.remove t c.args.tx) c.self.view_is
+
+pub returns-in_default : goal.returns-in_default
+returns-in_default c =
+    sym c.self.view_is ∙ none_freed c.self.inside.seats.items c.deref.result.now c.args.tx c.deref.ensures.value (sym c.in_default.is ∙ c.seat_of.ensures) ∙ ap (λ (t : Table). map.remove t c.args.tx) c.self.view_is

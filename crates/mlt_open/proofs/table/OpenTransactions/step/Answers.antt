@@ -1,20 +1,15 @@
-use Rattle.std.proofs.Common.{◌≡◌, Some, IsSome, refl, sym, ap, subst, ◌∙◌}
-use Rattle.std.specs.BTreeMap.{get_by}
-use Rattle.std.specs.Option.{option_copied_mut}
-use Rattle.std.specs.Ordering.{nat_cmp}
-use Rattle.mlt_transaction.specs.declared.transaction.Transaction.{Transaction}
-use Rattle.mlt_open.proofs.Tables.{one_is_changed}
+use Rattle.std.proofs.Common.{sym, ◌∙◌}
+use Rattle.mlt_open.proofs.Seats.{berth_changed, it_sits, not_open, one_changes}
 use Rattle.mlt_open.proofs.table.OpenTransactions.step.Goals as goal
 
+pub unreachable-requires : goal.unreachable-requires
+unreachable-requires g c = not_open c.self.inside.seats.items c.deref.result.now c.args.self.now c.args.tx c.requires.is_open.0 c.self.view_is c.deref.ensures.value (sym c.in-None.is ∙ c.seat_of.ensures) c.requires.is_open.1
+
+pub invariant_of-self : goal.invariant_of-self
+invariant_of-self g c = (berth_changed c.self.inside.seats.items c.deref.result.now c.self.inside.taken c.args.tx c.in-Some.place c.index_mut.result.now c.step.new.self c.self.invariant c.deref.ensures.value c.in-Some.ensures c.index_mut.ensures.value).seated
+
+pub step-requires : goal.step-requires
+step-requires g c = record { ready = rw (it_sits c.self.inside.seats.items c.deref.result.now c.args.self.now c.args.tx c.in-Some.place c.index_mut.result.now c.requires.is_open.0 c.self.view_is c.deref.ensures.value c.in-Some.ensures c.index_mut.ensures.value c.requires.is_open.1) c.requires.is_open.2 }
+
 pub returns : goal.returns
-returns g c =
-    let before : Transaction = c.in-Some.transaction.now in
-    let after : Transaction = c.step.new.self in
-    let there : Some before ≡ get_by (nat_cmp c.tx.inside.0) c.self.inside.txs = sym (ap option_copied_mut c.in-Some.is) ∙ c.get_mut.ensures.value in
-    let updates = (c.get_mut.follows.holds after).3 (subst IsSome there refl) in
-    record {
-      steps = record {
-        changes = one_is_changed c.self.inside.txs.entries (c.get_mut.follows.lender after).entries before after c.self.view_is c.tx.view_is there updates.0;
-        tells = c.step.ensures.tells;
-      };
-    }
+returns g c = record { steps = record { changes = one_changes c.self.inside.seats.items c.deref.result.now c.args.self.now c.self.inside.taken c.args.tx c.in-Some.place c.index_mut.result.now c.step.new.self c.self.invariant c.self.view_is c.deref.ensures.value c.in-Some.ensures c.index_mut.ensures.value; tells = c.step.ensures.tells } }
