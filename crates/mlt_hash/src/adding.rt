@@ -28,6 +28,8 @@ use mlt_subtx::Subtx;
 use mlt_types::{OpenSet, PageNo, Pseudo, Refusal, Value};
 
 /// Puts the record where its bucket has room now, or begins to split the bucket. The first split follows in any case.
+#[cold]
+#[inline(never)]
 pub(crate) fn add_or_split<P: Pseudo>(
     walk: &mut Walk,
     value: Value,
@@ -109,6 +111,8 @@ fn keep_split(walk: &mut Walk, value: Value, room_depth: u8, split: Split) -> Wa
 }
 
 /// Goes on with the split.
+#[cold]
+#[inline(never)]
 pub(crate) fn go_on_splitting<P: Pseudo>(
     walk: &mut Walk,
     value: Value,

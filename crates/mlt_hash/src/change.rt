@@ -170,6 +170,8 @@ pub(crate) fn write_change(
 }
 
 /// What an addition does whose bucket has no room.
+#[cold]
+#[inline(never)]
 fn without_room<P: Pseudo>(
     walk: &mut Walk,
     value: Value,

@@ -116,6 +116,7 @@ impl Walk {
 
     /// One step: on the way to the bucket it locks a page and reads it; where the bucket had no room it splits the bucket,
     /// one page written or made, until there is room, and puts the record. The ghost is what the walk goes by.
+    #[inline(always)]
     pub fn advance<P: Pseudo>(
         &mut self,
         setting: &Setting<P>,
