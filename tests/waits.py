@@ -1,12 +1,13 @@
 """What ends a wait, and what it costs: sessions that wait for one another, a deadlock, and many over few objects."""
 import os
 import random
+import socket
 import threading
 import time
 from concurrent.futures import ThreadPoolExecutor
 
 from harness import each, expect, holds, lines, same, test
-from sessions import says_nothing
+from sessions import says_nothing, send_and_hear_nothing
 
 # Within so many seconds an answer comes that need wait for nobody, on a slow machine too.
 SOON = 10
@@ -54,6 +55,40 @@ def session_that_waits_uses_no_processor(mltx):
             same([holder.ask("abort"), waiter.line()], ["aborted", "is 0"])
         expect(server.end(), out="served 2\n")
     holds(used < 0.1, f"a session waited half a second and used {used} seconds of a processor")
+
+
+@test(seconds=1)
+def sessions_that_wait_keep_nobody_from_work(mltx):
+    """Four are blocked, four have said half a line, and four take no answers; meanwhile another one commits."""
+    with mltx.serve("--sessions", 14, limit=14) as server, server.connect() as holder, server.connect() as worker:
+        same([holder.ask("begin"), holder.ask("up 1 1")], ["begun 1", "done"])
+        blocked, halted, deaf = ([server.connect() for _ in range(4)] for _ in range(3))
+        same([peer.ask("begin") for peer in blocked], [f"begun {number}" for number in range(2, 6)])
+        for peer in blocked:
+            peer.send("read 1\n")
+        for peer in halted:
+            peer.send("foo\nbeg")
+            same(peer.line(), "error 10 ScriptFault")
+        sending = [threading.Thread(target=send_and_hear_nothing, args=(peer, "foo\n" * 1_000_000)) for peer in deaf]
+        for one in sending:
+            one.start()
+        worker.socket.settimeout(SOON)
+        for number in range(1, 201):
+            told = [worker.ask(line) for line in ("begin", "up 2 1", "commit")]
+            same(told[1:], ["done", f"committed {number}"])
+        for peer in blocked:
+            says_nothing(peer, "the counter is held")
+        same(holder.ask("commit"), "committed 201")
+        same([peer.line() for peer in blocked], ["is 1"] * 4)
+        for peer in deaf:
+            peer.socket.shutdown(socket.SHUT_RDWR)
+        for one in sending:
+            one.join()
+        for peer in (*deaf, *halted, *blocked):
+            peer.socket.close()
+        holder.end()
+        worker.end()
+        expect(server.end(), out="served 14\n")
 
 
 @each({f"circle-of-{count}-sessions-ends-at-once": count for count in (2, 3, 8)})

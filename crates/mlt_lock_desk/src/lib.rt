@@ -14,3 +14,4 @@ pub use gate::{Gate, NoGate};
 pub use hall::Hall;
 pub use lock_desk::{LockDesk, Tries};
 pub use shared::{Patience, Shared};
+pub use turn::is_to_wait;

@@ -64,7 +64,7 @@ fn given_back_by_step(tx: TxId, answer: &Answer) -> GivenBack
 }
 
 /// Whether one that was told this is to wait.
-pub(crate) fn is_to_wait(told: &Told) -> bool
+pub fn is_to_wait(told: &Told) -> bool
     ensures { result ≡ is_to_wait told.now }
 {
     matches!(

@@ -4,7 +4,7 @@ ghost use Rattle.std.specs.Prelude.{◌≡◌, ◌<◌, vec_len};
 
 use crate::accepting::{Accepting, accept_all};
 use crate::desk_work::Served;
-use mlt_lock_desk::Shared;
+use crate::service::Service;
 use mlt_types::Pseudo;
 use std::alloc::Global;
 use std::net::TcpListener;
@@ -13,7 +13,7 @@ use std::sync::atomic::AtomicBool;
 use std::sync::ledger::Ledger;
 use std::thread;
 use std::thread::Threads;
-use std::time::{Clock, Duration};
+use std::time::Clock;
 
 /// Accepts connections in one thread and serves them in others, or in this one where they are refused. All threads are
 /// joined. Where the channel or the thread that accepts is refused, nothing is accepted.
@@ -25,11 +25,9 @@ pub(crate) fn serve_connections<
     rt: &R,
     alloc: Global,
     listener: &TcpListener,
-    shared: &Shared<P, L>,
+    service: &Service<'_, P, L>,
     crew: &mut Vec<Served<L>>,
     limit: u32,
-    tries: u64,
-    idle: Option<Duration>,
 ) -> Accepting
     requires { 0 < vec_len crew.old }
     ensures { vec_len crew.new ≡ vec_len crew.old }
@@ -57,7 +55,7 @@ pub(crate) fn serve_connections<
                 all,
                 threads,
                 &|_, served: &mut Served<L>| {
-                    served.serve_all(rt, alloc, shared, tries, idle, visits, is_short)
+                    served.serve_all(rt, alloc, service, visits, is_short)
                 },
             );
             accepting.join(rt)

@@ -5,16 +5,18 @@ ghost use Rattle.mlt_serve.specs.Clients.{GrowsFor};
 
 use crate::accepting::Visit;
 use crate::parting::part;
+use crate::passage::Passage;
+use crate::service::Service;
 use crate::talking::talk;
 use crossbeam_channel::Receiver;
-use mlt_lock_desk::{LockDesk, NoGate, Shared, Tries};
+use mlt_lock_desk::{LockDesk, Tries};
 use mlt_serial::Outcome;
 use mlt_types::Pseudo;
 use std::alloc::Global;
 use std::sync::Wait;
 use std::sync::atomic::{AtomicBool, Ordering};
 use std::sync::ledger::{Ledger, Share};
-use std::time::{Clock, Duration};
+use std::time::Clock;
 
 /// What a thread has served so far. Its share of the ledger has two parts: one for itself, and one for the desk that it is
 /// at work at.
@@ -57,9 +59,7 @@ impl<L: Ledger> Served<L> {
         &mut self,
         rt: &R,
         alloc: Global,
-        shared: &Shared<P, L>,
-        tries: u64,
-        idle: Option<Duration>,
+        service: &Service<'_, P, L>,
         visit: Visit,
     ) -> bool
         ensures receipts { GrowsFor visit.client
@@ -77,9 +77,12 @@ impl<L: Ledger> Served<L> {
         } = self;
         let Visit { client, stream } = visit;
         let mine = share.split_off(1, 0);
-        let mut desk = LockDesk::new(rt, shared, &NoGate, mine, Tries::PerOperation(tries));
+        let passage = Passage::new(rt, service.turnstile);
+        let tries = Tries::PerOperation(service.tries);
+        let mut desk = LockDesk::new(rt, service.shared, &passage, mine, tries);
         desk.serve(client);
-        let refused = talk(alloc, &stream, idle, &mut desk, client, receipts);
+        let idle = service.idle;
+        let refused = talk(alloc, &stream, &passage, idle, &mut desk, client, receipts);
         let (mine, more) = desk.close();
         part(rt, &stream);
         share.merge(mine);
@@ -94,9 +97,7 @@ impl<L: Ledger> Served<L> {
         &mut self,
         rt: &R,
         alloc: Global,
-        shared: &Shared<P, L>,
-        tries: u64,
-        idle: Option<Duration>,
+        service: &Service<'_, P, L>,
         visits: &Receiver<Visit, Global>,
         is_short: &AtomicBool,
     ) {
@@ -104,7 +105,7 @@ impl<L: Ledger> Served<L> {
             let Ok(visit) = visits.recv(rt) else {
                 return;
             };
-            if self.serve(rt, alloc, shared, tries, idle, visit) {
+            if self.serve(rt, alloc, service, visit) {
                 is_short.store(true, Ordering::SeqCst);
             }
         }

@@ -6,8 +6,11 @@ mod crew;
 mod desk_work;
 mod gathering;
 mod parting;
+mod passage;
 mod reporting;
+mod service;
 mod serving;
 mod talking;
+mod turnstile;
 
 pub use serving::serve_on;

@@ -7,6 +7,8 @@ ghost use Rattle.mlt_serve.specs.Clients.{AreOfClients};
 use crate::crew::serve_connections;
 use crate::gathering::{gather, new_crew};
 use crate::reporting::receipts_of;
+use crate::service::Service;
+use crate::turnstile::Turnstile;
 use mlt_lock_desk::{Hall, Patience, Shared};
 use mlt_manager::Manager;
 use mlt_serial::Outcomes;
@@ -47,7 +49,14 @@ fn serve_with<L: Ledger + Send + Sync, P: Pseudo + Drop + Send, R: Threads + Wai
     let mut crew = new_crew(alloc, &mut all, sessions)?;
     let manager = Manager::new(alloc, limits, pseudo)?;
     let shared = Shared::new(Patience::Brief, Hall::new(manager, book));
-    let accepting = serve_connections(rt, alloc, listener, &shared, &mut crew, limit, tries, idle);
+    let turnstile = Turnstile::new();
+    let service = Service {
+        shared: &shared,
+        turnstile: &turnstile,
+        tries,
+        idle,
+    };
+    let accepting = serve_connections(rt, alloc, listener, &service, &mut crew, limit);
     let gathered = gather(alloc, &mut all, crew);
     let events = gathered.events;
     let manager = shared.close(&mut all);

@@ -1,0 +1,106 @@
+//! The way of one session through the turnstile.
+
+use crate::turnstile::Turnstile;
+use mlt_event::{Answer, Told};
+use mlt_lock_desk::{Gate, is_to_wait};
+use std::cell::Cell;
+use std::io;
+use std::io::{Read, Write};
+use std::net::TcpStream;
+use std::sync::Wait;
+
+// After so many events, which take some 30 microseconds, a session goes to the end of the queue: so one with many lines does not
+// keep the others waiting.
+const MOST_EVENTS: u32 = 64;
+
+/// Where a session is. It comes inside with the lines that it has read, and leaves before it writes their answers, before it
+/// reads on, and where an operation is to wait: one that sleeps keeps nobody from work. Once awake it goes on outside, since it
+/// may have locks for which others wait.
+#[derive(Drop)]
+pub(crate) struct Passage<'a, R: Wait> {
+    rt: &'a R,
+    turnstile: &'a Turnstile,
+    is_inside: Cell<bool>,
+    /// How many events it has made since it came.
+    events: Cell<u32>,
+}
+
+impl<'a, R: Wait> Passage<'a, R> {
+    /// A session that is outside.
+    pub(crate) fn new(rt: &'a R, turnstile: &'a Turnstile) -> Passage<'a, R> {
+        Passage {
+            rt,
+            turnstile,
+            is_inside: Cell::new(false),
+            events: Cell::new(0),
+        }
+    }
+
+    fn enter(&self) {
+        if !self.is_inside.replace(true) {
+            self.turnstile.enter(self.rt);
+            self.events.set(0);
+        }
+    }
+
+    /// Leaves, if it is inside.
+    pub(crate) fn leave(&self) {
+        if self.is_inside.replace(false) {
+            self.turnstile.leave(self.rt);
+        }
+    }
+}
+
+impl<R: Wait> Gate for Passage<'_, R> {
+    fn pause(&self, _client: u32, told: &Told) {
+        let events = self.events.get().saturating_add(1);
+        self.events.set(events);
+        if is_to_wait(told) {
+            self.leave();
+        } else if events >= MOST_EVENTS && holds_no_page(told) {
+            self.leave();
+            self.enter();
+        }
+    }
+}
+
+// Whether one that was told this, and is not to wait, is in no operation, so that nobody waits for its pages.
+fn holds_no_page(told: &Told) -> bool {
+    !matches!(told, Told::Called | Told::Answered(Answer::Going))
+}
+
+/// A connection whose reads and writes wait outside.
+#[derive(Drop)]
+pub(crate) struct Outside<'a, R: Wait> {
+    stream: &'a TcpStream,
+    passage: &'a Passage<'a, R>,
+}
+
+impl<'a, R: Wait> Outside<'a, R> {
+    /// The connection of the session that has this passage.
+    pub(crate) fn new(stream: &'a TcpStream, passage: &'a Passage<'a, R>) -> Outside<'a, R> {
+        Outside { stream, passage }
+    }
+}
+
+impl<R: Wait> Read for Outside<'_, R> {
+    fn read(&mut self, buf: &mut [u8]) -> io::Result<usize> {
+        self.passage.leave();
+        let count = self.stream.read(buf)?;
+        if count > 0 {
+            self.passage.enter();
+        }
+        Ok(count)
+    }
+}
+
+impl<R: Wait> Write for Outside<'_, R> {
+    fn write(&mut self, buf: &[u8]) -> io::Result<usize> {
+        self.passage.leave();
+        self.stream.write(buf)
+    }
+
+    fn flush(&mut self) -> io::Result<()> {
+        self.stream.flush()
+    }
+}

@@ -1,0 +1,18 @@
+//! What the sessions of a server have in common.
+
+use crate::turnstile::Turnstile;
+use mlt_lock_desk::Shared;
+use mlt_types::Pseudo;
+use std::sync::ledger::Ledger;
+use std::time::Duration;
+
+/// What all sessions work with.
+#[derive(Drop)]
+pub(crate) struct Service<'a, P: Pseudo, L: Ledger> {
+    pub(crate) shared: &'a Shared<P, L>,
+    pub(crate) turnstile: &'a Turnstile,
+    /// How often an operation may be told to wait, from 1 to 1,000,000.
+    pub(crate) tries: u64,
+    /// For how long a connection may give or take nothing, if that has an end.
+    pub(crate) idle: Option<Duration>,
+}
