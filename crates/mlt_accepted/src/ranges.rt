@@ -7,7 +7,7 @@ ghost use Rattle.mlt_accepted.specs.Writable.{AllFit, AreWritable, FitsDone, Fit
 
 use mlt_kinds::Done;
 use mlt_print::{op_fits, reply_fits};
-use mlt_trace::{Kept, TraceItem};
+use mlt_trace::{KeptItem, TraceItem};
 use mlt_types::TxId;
 
 fn number_fits(_number: u64)
@@ -40,7 +40,7 @@ fn item_fits(item: &TraceItem)
 }
 
 /// The numbers of all items are those of their types. It goes over the items, and changes nothing.
-pub fn items_fit(items: &[Kept])
+pub fn items_fit(items: &[KeptItem])
     ensures { AllFit items.now }
 {
     for item in items {

@@ -7,9 +7,9 @@ ghost use Rattle.mlt_audit.specs.Receipts.{HasNothing, IsOfHistory};
 
 use crate::stories::{is_told, item_at, place_behind, tx_of};
 use mlt_serial::Outcome;
-use mlt_trace::{Kept, TraceItem};
+use mlt_trace::{KeptItem, TraceItem};
 
-fn is_begun(tx: u64, history: &[Kept]) -> bool
+fn is_begun(tx: u64, history: &[KeptItem]) -> bool
     ensures { IsTrue result ↔ Contains (begun_txs history.now) tx }
 {
     for item in history {
@@ -23,14 +23,14 @@ fn is_begun(tx: u64, history: &[Kept]) -> bool
     false
 }
 
-fn may_have_tx(receipt: &Outcome, history: &[Kept]) -> bool
+fn may_have_tx(receipt: &Outcome, history: &[KeptItem]) -> bool
     ensures { IsTrue result ↔ IsOfBegunTx history.now receipt.now }
 {
     receipt.tx == 0 || is_begun(receipt.tx, history)
 }
 
 /// Whether the numbers of the receipts, but for 0, are begun.
-fn are_begun(receipts: &[Outcome], history: &[Kept]) -> bool
+fn are_begun(receipts: &[Outcome], history: &[KeptItem]) -> bool
     ensures { IsTrue result ↔ All (IsOfBegunTx history.now) receipts.now }
 {
     for receipt in receipts {
@@ -61,7 +61,7 @@ fn is_once(tx: u64, receipts: &[Outcome]) -> bool
 }
 
 /// Whether each number begun stands in one of the receipts.
-fn are_once(receipts: &[Outcome], history: &[Kept]) -> bool
+fn are_once(receipts: &[Outcome], history: &[KeptItem]) -> bool
     ensures { IsTrue result
         ↔ ((tx : ℕ) → Contains (begun_txs history.now) tx → IsOnce receipts.now tx) }
 {
@@ -77,7 +77,7 @@ fn are_once(receipts: &[Outcome], history: &[Kept]) -> bool
 }
 
 /// Whether the items from this place on have nothing of the transaction.
-fn has_nothing(history: &[Kept], from: usize, tx: u64) -> bool
+fn has_nothing(history: &[KeptItem], from: usize, tx: u64) -> bool
     requires { from ≤ length history.now }
     ensures { IsTrue result ↔ HasNothing tx (drop from history.now) }
 {
@@ -91,7 +91,7 @@ fn has_nothing(history: &[Kept], from: usize, tx: u64) -> bool
 }
 
 /// Whether the receipt tells what the history has of its transaction.
-fn is_of_history(receipt: &Outcome, history: &[Kept]) -> bool
+fn is_of_history(receipt: &Outcome, history: &[KeptItem]) -> bool
     ensures { IsTrue result ↔ IsOfHistory history.now receipt.now }
 {
     if receipt.tx == 0 {
@@ -104,7 +104,7 @@ fn is_of_history(receipt: &Outcome, history: &[Kept]) -> bool
 }
 
 /// Whether each of the receipts tells what the history has of its transaction.
-fn are_each_of_history(receipts: &[Outcome], history: &[Kept]) -> bool
+fn are_each_of_history(receipts: &[Outcome], history: &[KeptItem]) -> bool
     ensures { IsTrue result ↔ All (IsOfHistory history.now) receipts.now }
 {
     for receipt in receipts {
@@ -115,14 +115,14 @@ fn are_each_of_history(receipts: &[Outcome], history: &[Kept]) -> bool
     true
 }
 
-fn numbers_agree(receipts: &[Outcome], history: &[Kept]) -> bool
+fn numbers_agree(receipts: &[Outcome], history: &[KeptItem]) -> bool
     ensures { IsTrue result ↔ NumbersAgree receipts.now history.now }
 {
     are_begun(receipts, history) && are_once(receipts, history)
 }
 
 /// Whether the receipts tell just what the history has of each transaction begun.
-pub(crate) fn are_of_any(receipts: &[Outcome], history: &[Kept]) -> bool
+pub(crate) fn are_of_any(receipts: &[Outcome], history: &[KeptItem]) -> bool
     ensures { IsTrue result ↔ AreOfHistory receipts.now history.now }
 {
     numbers_agree(receipts, history) && are_each_of_history(receipts, history)

@@ -8,12 +8,12 @@ use crate::ordered::{are_of_ordered, count_ordered};
 use crate::rising::commits_rise;
 use crate::stories::are_refused_without_tx;
 use mlt_serial::Outcome;
-use mlt_trace::Kept;
+use mlt_trace::KeptItem;
 use mlt_types::Refusal;
 
 /// Whether the receipts tell just what the history has of each transaction begun. Where transactions begin in order, it
 /// goes over the history about once; of any other history, once for each receipt.
-fn are_of_history(receipts: &[Outcome], history: &[Kept]) -> bool
+fn are_of_history(receipts: &[Outcome], history: &[KeptItem]) -> bool
     ensures { IsTrue result ↔ AreOfHistory receipts.now history.now }
 {
     match count_ordered(history) {
@@ -28,7 +28,7 @@ fn are_of_history(receipts: &[Outcome], history: &[Kept]) -> bool
 ///
 /// # Errors
 /// `Audit`, exactly where they are not.
-pub fn audit(receipts: &[Outcome], history: &[Kept]) -> Result<(), Refusal>
+pub fn audit(receipts: &[Outcome], history: &[KeptItem]) -> Result<(), Refusal>
     ensures ok { OnOk result (Agrees receipts.now history.now) }
     ensures err { OnErr result (Agrees receipts.now history.now → ⊥) }
     ensures refusal { IfErr result (λ refusal. refusal ≡ Refusal.Audit) }

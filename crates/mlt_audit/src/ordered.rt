@@ -10,7 +10,7 @@ ghost use Rattle.mlt_audit.specs.Receipts.{HasNothing, IsClosedBefore, IsClosedS
 use crate::numbers::{are_at_most, are_each_once};
 use crate::stories::{is_told, item_at, place_behind, tx_of};
 use mlt_serial::Outcome;
-use mlt_trace::{Kept, TraceItem};
+use mlt_trace::{KeptItem, TraceItem};
 use mlt_types::TxId;
 
 /// Whether the item stands behind so many begins in order.
@@ -25,7 +25,7 @@ fn stands_behind(begun: u64, item: &TraceItem) -> bool
 }
 
 /// How many transactions were begun, if the items are in order.
-pub(crate) fn count_ordered(history: &[Kept]) -> Option<u64>
+pub(crate) fn count_ordered(history: &[KeptItem]) -> Option<u64>
     ensures ordered { IfSome result (λ _. AreOrdered history.now) }
     ensures count { IfSome result (λ count. count ≡ begin_count history.now) }
 {
@@ -43,7 +43,7 @@ pub(crate) fn count_ordered(history: &[Kept]) -> Option<u64>
 }
 
 /// How many operations and closes there are.
-fn count_told(history: &[Kept]) -> usize
+fn count_told(history: &[KeptItem]) -> usize
     ensures { result ≡ told_count history.now }
 {
     let mut count = 0;
@@ -56,7 +56,7 @@ fn count_told(history: &[Kept]) -> usize
 }
 
 /// The first begin of a transaction at these places, with its number.
-fn next_begin(history: &[Kept], from: usize, to: usize) -> Option<(usize, u64)>
+fn next_begin(history: &[KeptItem], from: usize, to: usize) -> Option<(usize, u64)>
     requires { to ≤ length history.now }
     ensures { IfSome result (λ found. (from ≤ found.0) × (found.0 < to)
         × (slice_get history.now found.0 ≡ Some (TraceItem.Begin found.1))) }
@@ -72,7 +72,7 @@ fn next_begin(history: &[Kept], from: usize, to: usize) -> Option<(usize, u64)>
 
 /// A place before which there is nothing of the transaction: that of its begin, if there is one. It is found by
 /// halves, since the numbers begun rise.
-fn place_of_begin(history: &[Kept], tx: u64) -> usize
+fn place_of_begin(history: &[KeptItem], tx: u64) -> usize
     requires ordered { AreOrdered history.now }
     requires some { 0 < tx }
     ensures within { result ≤ length history.now }
@@ -101,7 +101,7 @@ fn place_of_begin(history: &[Kept], tx: u64) -> usize
 
 /// Whether the history has what the receipt tells of its transaction, and then what it may. Of the history it goes over
 /// those items that stand between the transaction's begin and its close.
-fn is_closed_before(receipt: &Outcome, history: &[Kept]) -> bool
+fn is_closed_before(receipt: &Outcome, history: &[KeptItem]) -> bool
     requires ordered { AreOrdered history.now }
     requires some { 0 < receipt.now.tx }
     ensures yes { IsTrue result → (rest : List ItemForm)
@@ -121,7 +121,7 @@ fn is_closed_before(receipt: &Outcome, history: &[Kept]) -> bool
 }
 
 /// Whether the numbers of the receipts, but for 0, are those from 1 to the last, each once.
-fn numbers_agree(receipts: &[Outcome], history: &[Kept], last: u64) -> bool
+fn numbers_agree(receipts: &[Outcome], history: &[KeptItem], last: u64) -> bool
     requires ordered { AreOrdered history.now }
     requires last { last ≡ begin_count history.now }
     ensures { IsTrue result ↔ NumbersAgree receipts.now history.now }
@@ -131,7 +131,7 @@ fn numbers_agree(receipts: &[Outcome], history: &[Kept], last: u64) -> bool
 
 /// Whether each of the receipts tells what the history has of its transaction. That it has no more of one is found by
 /// counting: the receipts tell as many operations and closes as the history has.
-fn are_each_of_ordered(receipts: &[Outcome], history: &[Kept]) -> bool
+fn are_each_of_ordered(receipts: &[Outcome], history: &[KeptItem]) -> bool
     requires ordered { AreOrdered history.now }
     requires numbers { NumbersAgree receipts.now history.now }
     ensures { IsTrue result ↔ All (IsOfHistory history.now) receipts.now }
@@ -150,7 +150,7 @@ fn are_each_of_ordered(receipts: &[Outcome], history: &[Kept]) -> bool
 }
 
 /// Whether the receipts tell just what the history has of each transaction begun, of which the last has this number.
-pub(crate) fn are_of_ordered(receipts: &[Outcome], history: &[Kept], last: u64) -> bool
+pub(crate) fn are_of_ordered(receipts: &[Outcome], history: &[KeptItem], last: u64) -> bool
     requires ordered { AreOrdered history.now }
     requires last { last ≡ begin_count history.now }
     ensures { IsTrue result ↔ AreOfHistory receipts.now history.now }

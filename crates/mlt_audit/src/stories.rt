@@ -6,7 +6,7 @@ ghost use Rattle.mlt_audit.specs.Receipts.{Closing, IsClosedBefore, IsClosedSo, 
 
 use mlt_kinds::Done;
 use mlt_serial::{End, Outcome};
-use mlt_trace::{Kept, TraceItem};
+use mlt_trace::{KeptItem, TraceItem};
 
 /// Whether the end is a commit of this number.
 fn is_commit_of(end: End, number: u64) -> bool
@@ -57,7 +57,7 @@ pub(crate) fn tx_of(item: &TraceItem) -> u64
 }
 
 /// The item at this place.
-pub(crate) fn item_at(history: &[Kept], place: usize) -> TraceItem
+pub(crate) fn item_at(history: &[KeptItem], place: usize) -> TraceItem
     requires { place < length history.now }
     ensures { result ≡ slice_index_or history.now place result }
 {
@@ -77,7 +77,7 @@ pub(crate) fn is_told(item: &TraceItem) -> bool
 /// Goes over the items from this place on, until they have these operations of the transaction and its close, as the end
 /// says. It answers the place behind; or nothing, where the items do not have just these of it.
 pub(crate) fn place_behind(
-    history: &[Kept],
+    history: &[KeptItem],
     from: usize,
     tx: u64,
     done: &[Done],

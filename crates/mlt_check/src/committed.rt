@@ -6,7 +6,7 @@ ghost use Rattle.mlt_check.specs.AcceptedItems.{AreAccepted, MayRefuse};
 
 use crate::checker::Checker;
 use mlt_base::Base;
-use mlt_trace::Kept;
+use mlt_trace::KeptItem;
 use mlt_types::Refusal;
 use std::alloc::Global;
 
@@ -16,7 +16,7 @@ use std::alloc::Global;
 /// # Errors
 /// `TraceFault` for items that are not accepted, with their first fault, and the number of an item, from 1 on,
 /// for its line; `OutOfMemory` where a growth was refused.
-pub fn committed_base(alloc: Global, items: &[Kept]) -> Result<Base, Refusal>
+pub fn committed_base(alloc: Global, items: &[KeptItem]) -> Result<Base, Refusal>
     ensures accepted { IfOk result (λ base. AreAccepted items.now base) }
     ensures refused { IfErr result (λ refusal. MayRefuse refusal items.now) }
     // of accepted items there is no other base, and they have no fault

@@ -2,7 +2,7 @@
 
 ghost use Rattle.std.specs.Prelude.{◌≡◌, ◌≤◌, ◌+◌, [], ◌∷◌, ◌++◌, OnOk, OnErr, IfErr};
 
-use mlt_trace::{Kept, TraceItem};
+use mlt_trace::{KeptItem, TraceItem};
 use mlt_types::Refusal;
 use std::alloc::Global;
 use std::marker::Model;
@@ -11,7 +11,7 @@ use std::marker::Model;
 /// items memory is reserved.
 #[derive(Debug, Drop)]
 pub struct History {
-    items: Vec<Kept>,
+    items: Vec<KeptItem>,
     room: usize,
 }
 
@@ -65,7 +65,7 @@ impl History {
         ensures room { self.new.room + 1 ≡ self.old.room }
     {
         self.room -= 1;
-        self.items.push_reserved(Kept::of(item));
+        self.items.push_reserved(KeptItem::of(item));
     }
 
     /// Gives up room for `count` items that won't come.
@@ -78,7 +78,7 @@ impl History {
     }
 
     /// The items, in order.
-    pub fn items(&self) -> &[Kept]
+    pub fn items(&self) -> &[KeptItem]
         ensures { result.now ≡ self.now.items }
     {
         self.items.as_slice()

@@ -19,7 +19,7 @@ use mlt_event::{Answer, Event, Told};
 use mlt_hash_form::form_is_extendible_hashing;
 use mlt_kinds::ObjOp;
 use mlt_store::Store;
-use mlt_trace::Kept;
+use mlt_trace::KeptItem;
 use mlt_types::{Limits, Pseudo, Refusal, TxId};
 use std::alloc::Global;
 use std::marker::Model;
@@ -227,7 +227,7 @@ impl<P: Pseudo> Manager<P> {
     }
 
     /// What transactions did, in order.
-    pub fn history(&self) -> &[Kept]
+    pub fn history(&self) -> &[KeptItem]
         ensures { result.now ≡ self.now.commons.history.items }
     {
         self.parts.commons.history.items()

@@ -27,12 +27,12 @@ enum Form {
 /// An item as a history keeps it, in 32 bytes: a `TraceItem` takes 40, and histories are what fills memory. A contract
 /// sees the item.
 #[derive(Debug, Drop)]
-pub struct Kept {
+pub struct KeptItem {
     tx: TxId,
     form: Form,
 }
 
-impl Model for Kept {
+impl Model for KeptItem {
     ghost use Rattle.mlt_trace.specs.declared.item.TraceItem.{TraceItem};
 
     ghost Value = { TraceItem };
@@ -42,29 +42,29 @@ impl Model for Kept {
     ghost view = { λ kept. item_in kept.tx kept.form };
 }
 
-impl Kept {
+impl KeptItem {
     /// The item, to be kept.
-    pub fn of(item: TraceItem) -> Kept
+    pub fn of(item: TraceItem) -> KeptItem
         ensures { result ≡ item }
     {
         match item {
-            TraceItem::Begin(tx) => Kept {
+            TraceItem::Begin(tx) => KeptItem {
                 tx,
                 form: Form::Begin,
             },
-            TraceItem::Op(tx, done) => Kept {
+            TraceItem::Op(tx, done) => KeptItem {
                 tx,
                 form: form_of(done),
             },
-            TraceItem::Back(tx) => Kept {
+            TraceItem::Back(tx) => KeptItem {
                 tx,
                 form: Form::Back,
             },
-            TraceItem::Commit(tx, number) => Kept {
+            TraceItem::Commit(tx, number) => KeptItem {
                 tx,
                 form: Form::Commit(number),
             },
-            TraceItem::Abort(tx) => Kept {
+            TraceItem::Abort(tx) => KeptItem {
                 tx,
                 form: Form::Abort,
             },
@@ -131,7 +131,7 @@ fn done_of(parts: Packed) -> Done
     Done::new(parts.op(), parts.reply())
 }
 
-impl fmt::Display for Kept {
+impl fmt::Display for KeptItem {
     ghost use Rattle.std.specs.Prelude.{Some};
     ghost use Rattle.mlt_trace.specs.Items.{item_text};
 

@@ -6,5 +6,5 @@ mod kept;
 mod trace;
 
 pub use item::TraceItem;
-pub use kept::Kept;
+pub use kept::KeptItem;
 pub use trace::write_trace;

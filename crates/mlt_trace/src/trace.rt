@@ -5,7 +5,7 @@ ghost use Rattle.std.specs.Io.KnownBytes.{Appends};
 ghost use Rattle.mlt_text.specs.Texts.{AppendsFront};
 ghost use Rattle.mlt_trace.specs.Items.{item_line, trace_text};
 
-use crate::kept::Kept;
+use crate::kept::KeptItem;
 use arrayvec::ArrayString;
 use mlt_text::write_text;
 use mlt_types::Refusal;
@@ -23,7 +23,7 @@ const LINE: usize = 96;
 ///
 /// # Errors
 /// `Io`, where a write failed; then a front of the text was written.
-pub fn write_trace<W: Write>(items: &[Kept], writer: &mut W) -> Result<(), Refusal>
+pub fn write_trace<W: Write>(items: &[KeptItem], writer: &mut W) -> Result<(), Refusal>
     ensures ok { OnOk result
         (Appends (W.contents writer.old) (W.contents writer.new) (trace_text items.now)) }
     ensures err { OnErr result
@@ -55,7 +55,7 @@ fn make_room<W: Write>(piece: &mut ArrayString<PIECE>, writer: &mut W) -> Result
 }
 
 // Adds the line of the item.
-fn add_line(piece: &mut ArrayString<PIECE>, item: &Kept) -> Result<(), Refusal>
+fn add_line(piece: &mut ArrayString<PIECE>, item: &KeptItem) -> Result<(), Refusal>
     ensures ok { OnOk result (piece.new.bytes ≡ piece.old.bytes ++ item_line item.now) }
     ensures refusal { IfErr result (λ refusal. refusal ≡ Refusal.Io) }
 {

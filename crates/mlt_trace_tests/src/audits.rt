@@ -7,7 +7,7 @@ use mlt_kinds::{AccountOp, CounterOp, Done, ObjOp, ObjReply};
 use mlt_serial::End::{Aborted, Committed, Refused};
 use mlt_serial::{End, Outcome, Transcript};
 use mlt_test_tools::same_at;
-use mlt_trace::{Kept, TraceItem};
+use mlt_trace::{KeptItem, TraceItem};
 use mlt_types::{Refusal, TxId};
 use std::alloc::Global;
 use std::test::Fail;
@@ -41,10 +41,10 @@ fn item_of(item: Item) -> TraceItem {
     }
 }
 
-fn history_of(alloc: Global, items: &[Item]) -> Result<Vec<Kept>, Refusal> {
+fn history_of(alloc: Global, items: &[Item]) -> Result<Vec<KeptItem>, Refusal> {
     let mut history = Vec::new(alloc);
     for item in items {
-        history.push(Kept::of(item_of(*item)))?;
+        history.push(KeptItem::of(item_of(*item)))?;
     }
     Ok(history)
 }

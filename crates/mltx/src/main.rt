@@ -20,7 +20,7 @@ use mlt_serve::serve_on;
 use mlt_solo::solo;
 use mlt_steps::steps;
 use mlt_text::write_text;
-use mlt_trace::{Kept, write_trace};
+use mlt_trace::{KeptItem, write_trace};
 use mlt_types::{Limits, Low, Mult, Pseudo, Refusal};
 use std::fs::File;
 use std::io::ErrorKind;
@@ -191,7 +191,7 @@ fn report_address(rt: &HostRuntime, listener: &TcpListener) -> Result<(), Refusa
 }
 
 // Writes how many connections were served, and then the trace.
-fn write_served(rt: &HostRuntime, serve: &Serve, items: &[Kept]) -> Result<(), Refusal> {
+fn write_served(rt: &HostRuntime, serve: &Serve, items: &[KeptItem]) -> Result<(), Refusal> {
     let limit = serve.limit;
     let mut text = String::new(rt.alloc());
     writeln!(text, "served {limit}")?;
@@ -200,7 +200,7 @@ fn write_served(rt: &HostRuntime, serve: &Serve, items: &[Kept]) -> Result<(), R
 }
 
 // Writes the trace of what the transactions did, where a file for it is named.
-fn write_history(rt: &HostRuntime, items: &[Kept], run: &Run) -> Result<(), Refusal> {
+fn write_history(rt: &HostRuntime, items: &[KeptItem], run: &Run) -> Result<(), Refusal> {
     match &run.trace {
         Some(file) => match File::create(rt, file.as_str()) {
             Ok(mut created) => write_trace(items, &mut created),
