@@ -25,10 +25,10 @@ const LOOKS_OF_BEGUN: u32 = 50;
 const LOOKS_OF_FIRST: u32 = 20;
 
 // A brief wait between two looks is so many pauses of the processor: some 3 microseconds, in which who has the lock takes it for
-// some ten events. A long one is so many microseconds of sleep, in which who has it runs some thirty scripts.
+// some ten events. A long one is so many microseconds of sleep, in which who has it runs some hundred scripts.
 const PAUSES: u32 = 256;
 
-const NAP: u64 = 100;
+const NAP: u64 = 400;
 
 /// How long a thread waits that finds the lock taken. It changes nothing that is done.
 #[derive(Clone, Copy, Debug, PartialEq, Eq)]
