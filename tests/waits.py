@@ -67,8 +67,8 @@ def sessions_that_wait_keep_nobody_from_work(mltx):
         for peer in blocked:
             peer.send("read 1\n")
         for peer in halted:
-            peer.send("foo\nbeg")
-            same(peer.line(), "error 10 ScriptFault")
+            same(peer.ask("foo"), "error 10 ScriptFault")
+            peer.send("beg")
         sending = [threading.Thread(target=send_and_hear_nothing, args=(peer, "foo\n" * 1_000_000)) for peer in deaf]
         for one in sending:
             one.start()

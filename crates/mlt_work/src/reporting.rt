@@ -1,19 +1,55 @@
 //! The report, once all workers have given back what they have.
 
-ghost use Rattle.std.specs.Prelude.{◌≡◌, ◌⊎◌, IfErr, IfOk};
+ghost use Rattle.std.specs.Prelude.{◌≡◌, ◌⊎◌, IfErr, IfOk, OnOk};
 ghost use Rattle.mlt_audit.specs.Agreement.{Agrees};
 ghost use Rattle.mlt_audit.specs.Committed.{IsBaseOfReceipts};
+ghost use Rattle.mlt_manager.specs.Promises.{IsCommittedBaseOf};
 
 use mlt_audit::{audit, committed_receipts_are_the_committed_list};
+use mlt_base::Base;
 use mlt_manager::Manager;
-use mlt_serial::{Outcomes, Report};
+use mlt_serial::{Outcome, Outcomes, Report};
 use mlt_types::{Pseudo, Refusal};
+use std::thread;
+use std::thread::Threads;
+
+// What the audit of the receipts answers, and the base. Neither needs the other: where there are several workers, two threads
+// find them side by side.
+fn audit_and_base<P: Pseudo, R: Threads>(
+    rt: &R,
+    workers: usize,
+    receipts: &[Outcome],
+    manager: &Manager<P>,
+) -> (Result<(), Refusal>, Result<Base, Refusal>)
+    ensures agrees { OnOk result.0 (Agrees receipts.now manager.now.commons.history.items) }
+    ensures differs { IfErr result.0 (λ refusal. refusal ≡ Refusal.Audit) }
+    ensures base { IfOk result.1 (λ base. IsCommittedBaseOf manager.now base) }
+    ensures refusal { IfErr result.1 (λ refusal. refusal ≡ Refusal.OutOfMemory) }
+{
+    let history = manager.history();
+    if workers == 1 {
+        return (audit(receipts, history), manager.base());
+    }
+    thread::join(
+        rt,
+        || -> Result<(), Refusal>
+            ensures { OnOk result (Agrees receipts.entry.now history.entry.now)
+                × IfErr result (λ refusal. refusal ≡ Refusal.Audit) }
+        { audit(receipts, history) },
+        || -> Result<Base, Refusal>
+            ensures { IfOk result (λ base. IsCommittedBaseOf manager.entry.now base)
+                × IfErr result (λ refusal. refusal ≡ Refusal.OutOfMemory) }
+        { manager.base() },
+    )
+}
 
 /// The report of these outcomes, where they agree with the manager's history.
 ///
 /// # Errors
 /// `Audit`, where they do not agree; `OutOfMemory`, where the base is refused its memory.
-pub(crate) fn report_of<P: Pseudo>(
+pub(crate) fn report_of<P: Pseudo, R: Threads>(
+    rt: &R,
+    workers: usize,
     outcomes: Outcomes,
     events: u64,
     manager: &Manager<P>,
@@ -28,8 +64,9 @@ pub(crate) fn report_of<P: Pseudo>(
 {
     manager.keeps_a_placed_history();
     committed_receipts_are_the_committed_list();
-    audit(outcomes.as_slice(), manager.history())?;
-    let base = manager.base()?;
+    let (audited, base) = audit_and_base(rt, workers, outcomes.as_slice(), manager);
+    audited?;
+    let base = base?;
     Ok(Report {
         outcomes,
         events,
