@@ -2,7 +2,7 @@
 #![tactic(auto)]
 
 mod berth;
-mod seat;
+mod mooring;
 mod table;
 
 pub use table::OpenTransactions;

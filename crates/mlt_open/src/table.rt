@@ -10,7 +10,7 @@ ghost use Rattle.mlt_transaction.specs.Transactions.{IsPending, MayStepIn};
 ghost use Rattle.mlt_open.specs.Tables.{BeginsOne, CallsNone, CallsOne, CancelsOne, KeepsImage, KeepsNoImage, PutsOneAt, StepsOne};
 
 use crate::berth::Berth;
-use crate::seat::{Seat, free_seat, image_in, seat_of};
+use crate::mooring::{Mooring, free_mooring, image_in, mooring_of};
 use mlt_event::Answer;
 use mlt_hash::Setting;
 use mlt_kinds::ObjOp;
@@ -22,13 +22,13 @@ use std::marker::Model;
 
 /// The open transactions. A contract sees a finite map from their numbers.
 ///
-/// There are so few at a time that the seat of one is found by going through all. That of a transaction that has ended is used
+/// There are so few at a time that the mooring of one is found by going through all. That of a transaction that has ended is used
 /// again, with its berth and the room of its undo list.
 #[derive(Drop)]
 pub struct OpenTransactions {
     alloc: Global,
-    seats: Vec<Seat>,
-    /// How many seats are taken.
+    moorings: Vec<Mooring>,
+    /// How many moorings are taken.
     taken: usize,
 }
 
@@ -38,15 +38,15 @@ impl Model for OpenTransactions {
     ghost use Rattle.std.specs.Coded.{coded_ℕ};
     ghost use Rattle.mlt_transaction.specs.declared.transaction.Transaction.{Transaction};
     ghost use Rattle.mlt_transaction.specs.contracts.transaction.Transaction.{the_row};
-    ghost use Rattle.mlt_open.specs.Seats.{AreSeated, table_of};
+    ghost use Rattle.mlt_open.specs.Moorings.{AreMoored, table_of};
 
     ghost Value = { map.FinMap nat_cmp Transaction };
 
     ghost coded = { map.code coded_ℕ the_row.coded };
 
-    ghost view = { λ table. table_of table.seats.items };
+    ghost view = { λ table. table_of table.moorings.items };
 
-    ghost invariant = { λ table. AreSeated table.seats.items table.taken };
+    ghost invariant = { λ table. AreMoored table.moorings.items table.taken };
 }
 
 impl OpenTransactions {
@@ -56,7 +56,7 @@ impl OpenTransactions {
     {
         OpenTransactions {
             alloc,
-            seats: Vec::new(alloc),
+            moorings: Vec::new(alloc),
             taken: 0,
         }
     }
@@ -72,8 +72,8 @@ impl OpenTransactions {
     pub fn get(&self, tx: TxId) -> Option<&Transaction>
         ensures { option_copied result ≡ map.get self.now tx }
     {
-        let place = seat_of(&self.seats, tx)?;
-        Some(self.seats[place].berth.get())
+        let place = mooring_of(&self.moorings, tx)?;
+        Some(self.moorings[place].berth.get())
     }
 
     /// The first image of a page that an open transaction keeps, if one does. It takes no memory.
@@ -81,7 +81,7 @@ impl OpenTransactions {
         ensures kept { IfSome result (λ first. KeepsImage self.now page first.now) }
         ensures none { IfNone result (KeepsNoImage self.now page) }
     {
-        image_in(&self.seats, page)
+        image_in(&self.moorings, page)
     }
 
     /// Opens a transaction of a number, which has done nothing.
@@ -93,17 +93,17 @@ impl OpenTransactions {
         ensures err { OnErr result (self.new ≡ self.old) }
         ensures refusal { IfErr result (λ refusal. refusal ≡ Refusal.OutOfMemory) }
     {
-        if let Some(place) = seat_of(&self.seats, tx) {
-            self.seats[place].berth.restart(self.alloc, tx);
+        if let Some(place) = mooring_of(&self.moorings, tx) {
+            self.moorings[place].berth.restart(self.alloc, tx);
             return Ok(());
         }
-        if let Some(place) = free_seat(&self.seats) {
-            self.seats[place].give_to(self.alloc, tx);
+        if let Some(place) = free_mooring(&self.moorings) {
+            self.moorings[place].give_to(self.alloc, tx);
             self.taken += 1;
             return Ok(());
         }
-        let seat = Seat::new(self.alloc, tx)?;
-        self.seats.push(seat)?;
+        let mooring = Mooring::new(self.alloc, tx)?;
+        self.moorings.push(mooring)?;
         self.taken += 1;
         Ok(())
     }
@@ -112,8 +112,8 @@ impl OpenTransactions {
     pub fn remove(&mut self, tx: TxId)
         ensures { self.new ≡ with_entry self.old tx None }
     {
-        if let Some(place) = seat_of(&self.seats, tx) {
-            self.seats[place].is_free = true;
+        if let Some(place) = mooring_of(&self.moorings, tx) {
+            self.moorings[place].is_free = true;
             self.taken -= 1;
         }
     }
@@ -129,10 +129,10 @@ impl OpenTransactions {
         ensures err { OnErr result (CallsNone tx self.old self.new commons.old commons.new) }
         ensures refusal { IfErr result (λ refusal. refusal ≡ Refusal.OutOfMemory) }
     {
-        let Some(place) = seat_of(&self.seats, tx) else {
+        let Some(place) = mooring_of(&self.moorings, tx) else {
             unreachable!()
         };
-        self.seats[place].berth.call(commons, op)
+        self.moorings[place].berth.call(commons, op)
     }
 
     /// One step of the transaction of a number, which is open and not idle.
@@ -147,8 +147,8 @@ impl OpenTransactions {
         ensures steps { StepsOne (basis_in P.bits_of setting.now) tx self.old self.new
             commons.old commons.new result }
     {
-        match seat_of(&self.seats, tx) {
-            Some(place) => self.seats[place].berth.step(commons, setting),
+        match mooring_of(&self.moorings, tx) {
+            Some(place) => self.moorings[place].berth.step(commons, setting),
             None => unreachable!(),
         }
     }
@@ -160,10 +160,10 @@ impl OpenTransactions {
             × (2 ≤ commons.old.history.room) }
         ensures cancels { CancelsOne tx self.old self.new commons.old commons.new }
     {
-        let Some(place) = seat_of(&self.seats, tx) else {
+        let Some(place) = mooring_of(&self.moorings, tx) else {
             unreachable!()
         };
-        self.seats[place].berth.cancel(commons);
+        self.moorings[place].berth.cancel(commons);
     }
 
     /// Puts the transaction of a number, which is open, at something else: at an operation that it is called with, or at
@@ -172,9 +172,9 @@ impl OpenTransactions {
         requires is_open { IsSome (map.get self.old tx) }
         ensures puts { PutsOneAt tx at self.old self.new }
     {
-        let Some(place) = seat_of(&self.seats, tx) else {
+        let Some(place) = mooring_of(&self.moorings, tx) else {
             unreachable!()
         };
-        self.seats[place].berth.put_at(at);
+        self.moorings[place].berth.put_at(at);
     }
 }
