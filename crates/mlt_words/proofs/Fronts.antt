@@ -1,5 +1,5 @@
 -- Digits at the front of a text.
-use Rattle.std.proofs.Common.{◌≡◌, ℕ, ◌+◌, ◌-◌, ◌^◌, ◌<◌, ◌≤◌, List, [], ◌∷◌, ◌++◌, length, take, drop, map, true, false, Some, refl, sym, ap, ◌∙◌, append_assoc, arith}
+use Rattle.std.proofs.Common.{◌≡◌, ℕ, suc, zero, ◌+◌, ◌-◌, ◌^◌, ◌<◌, ◌≤◌, List, [], ◌∷◌, ◌++◌, length, take, drop, map, true, false, Some, refl, sym, ap, ◌∙◌, append_assoc, arith}
 use Rattle.std.specs.List.{list_all}
 use Rattle.std.specs.Char.{digit_value}
 use Rattle.std.specs.Str.Parse.{AllDigits, digits_value}
@@ -54,6 +54,21 @@ number_before text end value p l f d v s =
     let few : length (take end text) ≤ 19 = omega (arith, n, f) in
     let w : number_of (take end text) ≡ Some value = number_few (take end text) value some few d v in
     rw (to_the_end text end) (take end text, sym (take-append-drop end text), d, w, (some, few), λ h. n ∙ s h)
+
+-- where a digit stands there is no end
+pub digit_there : (text : List ℕ) (i : ℕ) → begins_with_digit (drop i text) ≡ true → i < length text
+digit_there [] zero h = absurd (cc h)
+digit_there [] (suc i) h = absurd (cc h)
+digit_there (b ∷ bs) zero h = omega arith
+digit_there (b ∷ bs) (suc i) h = let l = digit_there bs i h in omega (arith, l)
+
+-- where digits go on behind the first n bytes, and not within these, all n are digits
+pub all_of_few : (text : List ℕ) (n i : ℕ) → begins_with_digit (drop i (take n text)) ≡ false → begins_with_digit (drop i text) ≡ true → n ≤ i
+all_of_few [] n zero f t = absurd (cc t)
+all_of_few [] n (suc i) f t = absurd (cc t)
+all_of_few (b ∷ bs) zero i f t = omega arith
+all_of_few (b ∷ bs) (suc n) zero f t = absurd (let e : false ≡ true = sym f ∙ t in cc e)
+all_of_few (b ∷ bs) (suc n) (suc i) f t = let l = all_of_few bs n i f t in omega (arith, l)
 
 -- digits that write a number are its word
 pub number_words : (text rest : List ℕ) (n : ℕ) → BeginsWithNumber text n rest → BeginsWithWords text (Number n ∷ []) 20 rest

@@ -14,6 +14,28 @@ pub fn after<'a>(text: &'a [u8], bytes: &[u8]) -> Option<&'a [u8]>
     text.strip_prefix(bytes)
 }
 
+// The number that the digits at the front of a text write, and how many these are. The text has 19 bytes at most, so that
+// no number of it is too great.
+fn digits_of_few(text: &[u8]) -> (u64, usize)
+    requires { length text.now ≤ 19 }
+    ensures length { result.1 ≤ length text.now }
+    ensures digits { list_all is_digit (take result.1 text.now) ≡ true }
+    ensures value { result.0 ≡ digits_value 10 (take result.1 text.now) }
+    ensures stop { begins_with_digit (drop result.1 text.now) ≡ false }
+{
+    let mut value = 0u64;
+    let mut end = 0;
+    for byte in text {
+        let digit = byte.wrapping_sub(b'0');
+        if digit > 9 {
+            return (value, end);
+        }
+        value = value * 10 + u64::from(digit);
+        end += 1;
+    }
+    (value, end)
+}
+
 // The number that the digits at the front of a text write, all of them or the first 19, and how many these are.
 fn few_digits(text: &[u8]) -> (u64, usize)
     ensures length { result.1 ≤ length text.now }
@@ -22,16 +44,8 @@ fn few_digits(text: &[u8]) -> (u64, usize)
     ensures value { result.0 ≡ digits_value 10 (take result.1 text.now) }
     ensures stop { begins_with_digit (drop result.1 text.now) ≡ true → result.1 ≡ 19 }
 {
-    let mut value = 0u64;
-    let mut end = 0;
-    for byte in text {
-        if *byte < b'0' || *byte > b'9' || end == 19 {
-            return (value, end);
-        }
-        value = value * 10 + u64::from(*byte - b'0');
-        end += 1;
-    }
-    (value, end)
+    let few = text.len().min(19);
+    digits_of_few(&text[..few])
 }
 
 /// The number that the digits at the front of a text write, below 10^19, and the text behind them. Of more than 19
