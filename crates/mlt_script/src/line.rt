@@ -7,7 +7,7 @@ ghost use Rattle.mlt_script.specs.Readings.{reading, said_by, Judges};
 ghost use Rattle.mlt_words.specs.Words.{words_of};
 
 use crate::forms::{LineForm, line_form};
-use crate::plain::plain_line;
+use crate::plain::frame_line;
 use mlt_types::ScriptCause;
 use mlt_words::{
     first_line, first_printable_line, has_word, is_allowed_line, is_comment_line, trimmed,
@@ -91,14 +91,14 @@ fn judge_first(text: &[u8]) -> (Result<&[u8], Unread>, &[u8])
     (judge(bytes, ended), rest)
 }
 
-/// What the first line of a text is, and the text after it.
+/// What the first line of a text is, and the text after it. A plain operation is read faster by `op_line`.
 pub fn read_first(text: &[u8]) -> (Reading, &[u8])
     requires { 0 < length text.now }
     ensures first { (raw : Raw) × (lines text.now ≡ raw ∷ lines result.1.now)
         × (result.0 ≡ reading raw) }
     ensures less { length result.1.now < length text.now }
 {
-    if let Some((form, rest)) = plain_line(text) {
+    if let Some((form, rest)) = frame_line(text) {
         return (Reading::Form(form), rest);
     }
     let (judged, rest) = judge_first(text);

@@ -13,6 +13,23 @@ use mlt_tree::{Asking, Line, Statement, Wanted};
 use mlt_types::ScriptCause;
 use std::alloc::{AllocError, Global};
 
+// Up to so many lines their list grows as any vector does.
+const FEW: usize = 4;
+
+// So many lines a script without ifs may have.
+const MOST: usize = 256;
+
+// Makes room for one more line. Behind a few lines it is room for as many as most scripts have, so that these are not moved again
+// and again. What is left of it is given back as the script ends.
+fn make_room(lines: &mut Vec<Line>) -> Result<(), AllocError>
+    ensures { lines.new.items ≡ lines.old.items }
+{
+    if lines.len() == lines.capacity() && lines.len() >= FEW {
+        lines.reserve(MOST)?;
+    }
+    Ok(())
+}
+
 /// A script that is read up to somewhere: its lines so far, the operations on the longest path to here, and the ifs
 /// that are open, the innermost last.
 #[derive(Drop)]
@@ -97,6 +114,7 @@ impl OpenScript {
             ≡ one_more (open_of self.old.lines.items) (Line.Plain statement)) }
         ensures err { OnErr result (self.new.lines.items ≡ self.old.lines.items) }
     {
+        make_room(&mut self.lines)?;
         self.lines.push(Line::Plain(statement))?;
         self.count += 1;
         Ok(())

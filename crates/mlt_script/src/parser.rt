@@ -12,7 +12,8 @@ ghost use Rattle.mlt_tree.specs.Scripts.{ScriptForm, open_of};
 use crate::forms::LineForm;
 use crate::line::{Reading, read_first};
 use crate::open_script::OpenScript;
-use mlt_tree::{Ending, Line, Script, Statement};
+use crate::plain::op_line;
+use mlt_tree::{Asking, Ending, Line, Script, Statement};
 use mlt_types::{Refusal, ScriptCause};
 use std::alloc::Global;
 
@@ -165,8 +166,13 @@ fn read_lines(alloc: Global, text: &[u8]) -> Result<Vec<Script>, Refusal>
     let mut rest = text;
     let mut line = 0u64;
     while !rest.is_empty() {
-        let (reading, after) = read_first(rest);
         line += 1;
+        if let Some((op, after)) = op_line(rest) {
+            parser.ask(line, Statement::Ask(Asking::Fixed(op)))?;
+            rest = after;
+            continue;
+        }
+        let (reading, after) = read_first(rest);
         parser.read(alloc, line, reading)?;
         rest = after;
     }

@@ -227,8 +227,20 @@ pub fn front_reply(text: &[u8]) -> Option<(ObjReply, &[u8])>
     Some((reply, rest))
 }
 
-// The first line, where it is `begin`, `begin K` or `commit`, and the text after it.
-fn frame_line(text: &[u8]) -> Option<(LineForm, &[u8])>
+/// The operation of the first line of a text, where one space stands between words and an LF directly behind, and the text
+/// after it. `None` also where the line has another form: then it is read in the general way.
+pub fn op_line(text: &[u8]) -> Option<(ObjOp, &[u8])>
+    ensures { IfSome result (λ x. BeginsWithForm text.now
+        (LineForm.Says (Line.Plain (Statement.Ask (Asking.Fixed x.0)))) x.1.now) }
+{
+    let (op, rest) = front_op(text)?;
+    let rest = after(rest, b"\n")?;
+    Some((op, rest))
+}
+
+/// The form of the first line of a text, where it is `begin`, `begin K` or `commit` with an LF directly behind, and the
+/// text after it. `None` also where it has another form.
+pub fn frame_line(text: &[u8]) -> Option<(LineForm, &[u8])>
     ensures { IfSome result (λ x. BeginsWithForm text.now x.0 x.1.now) }
 {
     if let Some(rest) = after(text, b"begin\n") {
@@ -243,21 +255,5 @@ fn frame_line(text: &[u8]) -> Option<(LineForm, &[u8])>
             Some((LineForm::Begins(client as u16), rest))
         }
         _ => None,
-    }
-}
-
-/// The form of the first line of a text, where it is an operation, `begin` or `commit` with one space between words and
-/// an LF directly behind, and the text after it. `None` also where it has another form: then the line is read in the
-/// general way.
-pub fn plain_line(text: &[u8]) -> Option<(LineForm, &[u8])>
-    ensures { IfSome result (λ x. BeginsWithForm text.now x.0 x.1.now) }
-{
-    match front_op(text) {
-        Some((op, rest)) => {
-            let rest = after(rest, b"\n")?;
-            let asking = Asking::Fixed(op);
-            Some((LineForm::Says(Line::Plain(Statement::Ask(asking))), rest))
-        }
-        None => frame_line(text),
     }
 }

@@ -14,14 +14,33 @@ read-requires c =
     let f = c.read_first-reading.ensures.first in
     subst IsReading (sym f.2) (readings f.0)
 
+pub returns-in_err-ask : goal.returns-in_err-ask
+returns-in_err-ask c =
+    let p = err_from_is_err_and c.from_residual.result c.from_residual.ensures.1 in
+    let l = c.loop-rest in
+    let f = c.in-Some.ensures in
+    let told = subst (λ x. Advances (Err c.in_err-ask.field-0.0) (l.line + 1) (advance (state_of l.parser) x) (state_of c.ask.new.self)) f.2 c.in_err-ask.ensures in
+    rw (p.1, p.2) (exits c.in_err-ask.field-0.0 (state_of l.parser) (state_of c.ask.new.self) l.line l.rest.now c.in-Some.after.now f.0
+    (scan (Outside []) 0 (lines c.args.text.now)) f.1 told l.invariant.same)
+
 pub returns-in_err-read : goal.returns-in_err-read
 returns-in_err-read c =
-    let p = err_from_is_err_and c.from_residual.result c.from_residual.ensures.1 in
+    let p = err_from_is_err_and c.from_residual-in_err-read.result c.from_residual-in_err-read.ensures.1 in
     let l = c.loop-rest in
     let f = c.read_first-reading.ensures.first in
     let told = subst (λ x. Advances (Err c.in_err-read.field-0.0) (l.line + 1) (advance (state_of l.parser) x) (state_of c.read.new.self)) f.2 c.in_err-read.ensures in
     rw (p.1, p.2) (exits c.in_err-read.field-0.0 (state_of l.parser) (state_of c.read.new.self) l.line l.rest.now c.read_first-reading.result.1.now f.0
     (scan (Outside []) 0 (lines c.args.text.now)) f.1 told l.invariant.same)
+
+pub loop-rest-preserved-in-Some : goal.loop-rest-preserved-in-Some
+loop-rest-preserved-in-Some c =
+    let l = c.loop-rest in
+    let f = c.in-Some.ensures in
+    record {
+      counted = let b = l.invariant.counted in let s = f.3 in omega (arith, b, s);
+      same = goes_on (state_of l.parser) (state_of c.ask.new.self) l.line l.rest.now c.in-Some.after.now f.0
+          (scan (Outside []) 0 (lines c.args.text.now)) f.1 (ap (advance (state_of l.parser)) (sym f.2) ∙ c.in_ok-ask.ensures) l.invariant.same;
+    }
 
 pub loop-rest-preserved : goal.loop-rest-preserved
 loop-rest-preserved c =
