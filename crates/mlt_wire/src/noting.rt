@@ -1,6 +1,6 @@
 //! Noting what a session was told.
 
-ghost use Rattle.std.specs.Prelude.{◌≡◌, ◌<◌, ◌+◌, ◌^◌, [], ◌∷◌, ◌++◌, ℕ, None, Some, vec_len};
+ghost use Rattle.std.specs.Prelude.{◌≡◌, ◌<◌, ◌+◌, ◌^◌, [], ◌∷◌, ◌++◌, ℕ, IfOk, None, Some, vec_len};
 ghost use Rattle.std.specs.Vec.{vec_capacity};
 ghost use Rattle.mlt_wire.specs.Noting.{receipts_in};
 ghost use Rattle.mlt_wire.specs.Receipts.{outcome_of};
@@ -8,9 +8,10 @@ ghost use Rattle.mlt_wire.specs.Talks.{ends, is_long};
 ghost use Rattle.mlt_wire.specs.Turns.{after_line, start};
 
 use crate::notes::{Notes, Progress};
+use mlt_kinds::Done;
 use mlt_request::{Line, Request};
 use mlt_serial::{End, Outcome, Transcript};
-use std::alloc::Global;
+use std::alloc::{AllocError, Global};
 use std::mem;
 
 fn ends(line: Line) -> bool
@@ -28,6 +29,25 @@ fn is_long(line: Line) -> bool
     match line {
         Line::TooLong => true,
         Line::Says(_) => false,
+    }
+}
+
+fn copy_of(alloc: Global, done: &[Done]) -> Result<Vec<Done>, AllocError>
+    ensures { IfOk result (λ copy. copy.items ≡ done.now) }
+{
+    let mut copy = Vec::with_capacity(alloc, done.len())?;
+    copy.extend_from_slice(done)?;
+    Ok(copy)
+}
+
+/// What was done, in a list with no more room than that where there is memory for one, since receipts are kept. The list in
+/// which a session notes it then keeps its room for the next transaction.
+fn noted(alloc: Global, done: &mut Vec<Done>) -> Vec<Done>
+    ensures { result.items ≡ done.old.items }
+{
+    match copy_of(alloc, done.as_slice()) {
+        Ok(copy) => copy,
+        Err(_) => mem::replace(done, Vec::new(alloc)),
     }
 }
 
@@ -73,7 +93,7 @@ impl Notes {
         ensures receipts { self.new.receipts.items ≡ self.old.receipts.items
             ++ outcome_of client self.old.progress.begun tx self.old.done.items end ∷ [] }
     {
-        let done = mem::replace(&mut self.done, Vec::new(self.alloc));
+        let done = noted(self.alloc, &mut self.done);
         self.receipts.push_reserved(Outcome {
             client,
             number: self.progress.begun,
