@@ -14,7 +14,6 @@ use std::io::ErrorKind;
 use std::sync::Wait;
 use std::test::Fail;
 use std::thread::Threads;
-use std::time::Clock;
 
 struct Sessions;
 
@@ -70,7 +69,7 @@ fn session_withstands_failures(rt: HostRuntime) -> Result<(), Fail> {
 
 // The number of the refusal of a run by two workers, where one comes. An impl of `Engine` for a handle cannot say that the
 // handle is `Sync`, so these runs have drivers of their own.
-fn refusal_of<T: Threads + Wait + Clock + Sync>(
+fn refusal_of<T: Threads + Wait + Sync>(
     rt: &T,
     alloc: Global,
     reader: &mut FaultyReader,
@@ -97,7 +96,7 @@ const BOTH_RUN: &str =
 const MOST_CALLS: usize = 1_000;
 
 // The first read fails, then the second, and so on, until a run meets no failure. Before that nothing is written.
-fn reads_fail<T: Threads + Wait + Clock + Sync>(
+fn reads_fail<T: Threads + Wait + Sync>(
     rt: &T,
     alloc: Global,
     kind: ErrorKind,
@@ -123,7 +122,7 @@ fn reads_fail<T: Threads + Wait + Clock + Sync>(
 }
 
 // The first write fails, then the second, and so on. A write takes this many bytes at most.
-fn writes_fail<T: Threads + Wait + Clock + Sync>(
+fn writes_fail<T: Threads + Wait + Sync>(
     rt: &T,
     alloc: Global,
     kind: ErrorKind,
@@ -143,7 +142,7 @@ fn writes_fail<T: Threads + Wait + Clock + Sync>(
     Err(Fail::new("too many writes"))
 }
 
-fn flushes_fail<T: Threads + Wait + Clock + Sync>(
+fn flushes_fail<T: Threads + Wait + Sync>(
     rt: &T,
     alloc: Global,
     kind: ErrorKind,
@@ -156,7 +155,7 @@ fn flushes_fail<T: Threads + Wait + Clock + Sync>(
 }
 
 // Scripts are right where they end with a commit, also without its LF. Of other fronts a fault is told.
-fn input_ends<T: Threads + Wait + Clock + Sync>(rt: &T, alloc: Global) -> Result<(), Fail> {
+fn input_ends<T: Threads + Wait + Sync>(rt: &T, alloc: Global) -> Result<(), Fail> {
     for len in 0..SCRIPTS.len() {
         let mut reader = FaultyReader::new(SCRIPTS.get(..len).unwrap_or(SCRIPTS));
         let mut writer = FaultyWriter::new(alloc);

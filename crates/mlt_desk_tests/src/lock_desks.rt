@@ -6,7 +6,7 @@ use crate::sessions::{LINES, OF_LINES};
 use crate::talks::{Receipt, Talk, Wanted, talk_at};
 use mlt_audit::audit;
 use mlt_kinds::{AccountOp, CounterOp, ObjOp, ObjReply};
-use mlt_lock_desk::{Hall, LockDesk, NoGate, Patience, Shared, Tries};
+use mlt_lock_desk::{Hall, LockDesk, NoGate, Shared, Tries};
 use mlt_manager::Manager;
 use mlt_serial::End;
 use mlt_test_tools::{FaultyReader, FaultyWriter, same};
@@ -17,7 +17,6 @@ use std::marker::Brand;
 use std::sync::Wait;
 use std::sync::ledger::{Blank, Ledger};
 use std::test::Fail;
-use std::time::Clock;
 
 /// A session over a manager, and what is wanted of it.
 struct Session {
@@ -62,7 +61,7 @@ fn begins(manager: &mut Manager<Mult>, ops: &[ObjOp]) -> Result<(), Refusal> {
 
 // What came of a session at a desk over this manager, and the manager.
 fn talk_over<L: Ledger>(
-    rt: &(impl Wait + Clock),
+    rt: &impl Wait,
     alloc: Global,
     blank: Blank,
     manager: Manager<Mult>,
@@ -74,7 +73,7 @@ fn talk_over<L: Ledger>(
 {
     let (book, mut all) = blank.open::<L>();
     let share = all.split_off(1, 0);
-    let shared = Shared::new(Patience::Brief, Hall::of(manager, book, &mut all));
+    let shared = Shared::new(Hall::of(manager, book, &mut all));
     let mut desk = LockDesk::new(rt, &shared, &NoGate, share, Tries::PerOperation(3));
     let talk = talk_at(alloc, &mut desk, reader, FaultyWriter::new(alloc));
     let (share, _events) = desk.close();
@@ -84,7 +83,7 @@ fn talk_over<L: Ledger>(
 
 // The same, with a new ledger.
 fn talk_over_manager(
-    rt: &(impl Wait + Clock),
+    rt: &impl Wait,
     alloc: Global,
     manager: Manager<Mult>,
     reader: FaultyReader,
@@ -103,11 +102,7 @@ fn is(talk: &Talk, manager: &Manager<Mult>, session: &Session) -> Result<(), Fai
     Ok(())
 }
 
-fn are_over_managers(
-    rt: &(impl Wait + Clock),
-    alloc: Global,
-    sessions: &[Session],
-) -> Result<(), Fail> {
+fn are_over_managers(rt: &impl Wait, alloc: Global, sessions: &[Session]) -> Result<(), Fail> {
     for session in sessions {
         let (open, ids, pages, depth, ops) = session.bounds;
         let limits = Limits::checked(open, ids, pages, depth, ops)?;

@@ -11,10 +11,9 @@ use std::alloc::Global;
 use std::sync::Wait;
 use std::test::Fail;
 use std::thread::Threads;
-use std::time::Clock;
 
 // What is written of these scripts, run by that many workers, with that many tries for each script.
-fn text_of<T: Threads + Wait + Clock + Sync, G: Gate + Sync>(
+fn text_of<T: Threads + Wait + Sync, G: Gate + Sync>(
     rt: &T,
     alloc: Global,
     scripts: &[u8],
@@ -79,7 +78,7 @@ fn two_workers_at_once(rt: HostRuntime) -> Result<(), Fail> {
 }
 
 // Client 2 asks for the balance while client 1 has the lock, and goes on once it has come so far.
-fn second_meets_lock<T: Threads + Wait + Clock + Sync>(
+fn second_meets_lock<T: Threads + Wait + Sync>(
     rt: &T,
     alloc: Global,
     until: Until,

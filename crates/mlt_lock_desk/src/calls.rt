@@ -5,7 +5,7 @@ ghost use Rattle.mlt_lock_desk.specs.Holds.{IsToldTo, MayAnswerOperation};
 
 use crate::gate::Gate;
 use crate::lock_desk::{LockDesk, Tries};
-use crate::shared::{Errand, Shared};
+use crate::shared::Shared;
 use crate::turn::{Sleeper, Turn, is_to_wait};
 use mlt_cursor::Answering;
 use mlt_desk::Desk;
@@ -15,12 +15,11 @@ use mlt_types::{Pseudo, Refusal, TxId};
 use mlt_waits_for::{Bell, Bells};
 use std::sync::Wait;
 use std::sync::ledger::{Ledger, Share};
-use std::time::Clock;
 
 // An operation that has waited so often is let pass.
 const PATIENCE: u64 = 8;
 
-impl<'a, P: Pseudo, L: Ledger, R: Wait + Clock, G: Gate> LockDesk<'a, P, L, R, G> {
+impl<'a, P: Pseudo, L: Ledger, R: Wait, G: Gate> LockDesk<'a, P, L, R, G> {
     /// A desk that has made no event yet.
     pub fn new(
         rt: &'a R,
@@ -32,7 +31,7 @@ impl<'a, P: Pseudo, L: Ledger, R: Wait + Clock, G: Gate> LockDesk<'a, P, L, R, G
         requires part { share.parts ≡ 1 }
         requires amount { share.amount ≡ 0 }
     {
-        let bell = shared.lock(rt, Errand::Other).desks.enter();
+        let bell = shared.lock(rt).desks.enter();
         LockDesk {
             rt,
             shared,
@@ -72,7 +71,7 @@ impl<'a, P: Pseudo, L: Ledger, R: Wait + Clock, G: Gate> LockDesk<'a, P, L, R, G
             events,
         } = self;
         let mut bells = Bells::new();
-        shared.lock(rt, Errand::Other).desks.leave(bell, &mut bells);
+        shared.lock(rt).desks.leave(bell, &mut bells);
         shared.ring(&bells);
         (share, events)
     }
@@ -93,7 +92,7 @@ impl<'a, P: Pseudo, L: Ledger, R: Wait + Clock, G: Gate> LockDesk<'a, P, L, R, G
             ..
         } = self;
         let mut bells = Bells::new();
-        let mut hall = shared.enter(*rt, errand_of(&event), *asleep, caller(&event, *bell));
+        let mut hall = shared.enter(*rt, *asleep, caller(&event, *bell));
         let next = sleeper;
         let (told, turn) = hall.act(event, share, next, &mut bells);
         drop(hall);
@@ -185,7 +184,7 @@ impl<'a, P: Pseudo, L: Ledger, R: Wait + Clock, G: Gate> LockDesk<'a, P, L, R, G
     }
 }
 
-impl<'a, P: Pseudo, L: Ledger, R: Wait + Clock, G: Gate> Answering for LockDesk<'a, P, L, R, G> {
+impl<'a, P: Pseudo, L: Ledger, R: Wait, G: Gate> Answering for LockDesk<'a, P, L, R, G> {
     ghost use Rattle.mlt_lock_desk.specs.Holds.{MayAnswerOperation};
 
     ghost answers = { λ _ tx _ answer _. MayAnswerOperation P.bits_of tx answer };
@@ -204,7 +203,7 @@ impl<'a, P: Pseudo, L: Ledger, R: Wait + Clock, G: Gate> Answering for LockDesk<
     }
 }
 
-impl<'a, P: Pseudo, L: Ledger, R: Wait + Clock, G: Gate> Desk for LockDesk<'a, P, L, R, G> {
+impl<'a, P: Pseudo, L: Ledger, R: Wait, G: Gate> Desk for LockDesk<'a, P, L, R, G> {
     ghost use Rattle.mlt_lock_desk.specs.Holds.{MayAnswerBegin, MayAnswerCommit};
 
     ghost begins = { λ _ answer _. MayAnswerBegin P.bits_of answer };
@@ -217,6 +216,7 @@ impl<'a, P: Pseudo, L: Ledger, R: Wait + Clock, G: Gate> Desk for LockDesk<'a, P
         if let Tries::PerScript(tries) = self.tries {
             self.left = tries;
         }
+        self.gate.begin(self.client);
         let (told, _) = self.hold(Event::Begin, None);
         match told {
             Told::Begun(tx) => Ok(tx),
@@ -240,14 +240,6 @@ impl<'a, P: Pseudo, L: Ledger, R: Wait + Clock, G: Gate> Desk for LockDesk<'a, P
             self.waited = 0;
             self.undo(tx);
         }
-    }
-}
-
-// What a desk wants the hall for that is to make this event.
-fn errand_of(event: &Event) -> Errand {
-    match event {
-        Event::Begin => Errand::Begin,
-        _ => Errand::Other,
     }
 }
 

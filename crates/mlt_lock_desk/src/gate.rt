@@ -1,10 +1,13 @@
-//! What is told of each event.
+//! What is told before each transaction, and of each event.
 
 use mlt_event::Told;
 
-/// Is told of each event of a client, with the lock free.
+/// Is told what a client does, with the lock free. The client goes on once it returns.
 pub trait Gate {
-    /// The event of this client was told this. The client goes on once it returns.
+    /// The client is to begin a transaction, and has none. Most gates have nothing to do then.
+    fn begin(&self, _client: u32) {}
+
+    /// The event of this client was told this.
     fn pause(&self, client: u32, told: &Told);
 }
 

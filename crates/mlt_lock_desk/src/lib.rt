@@ -13,5 +13,5 @@ mod turn;
 pub use gate::{Gate, NoGate};
 pub use hall::Hall;
 pub use lock_desk::{LockDesk, Tries};
-pub use shared::{Patience, Shared};
+pub use shared::Shared;
 pub use turn::is_to_wait;

@@ -9,7 +9,6 @@ use mlt_types::Pseudo;
 use mlt_waits_for::Bell;
 use std::sync::Wait;
 use std::sync::ledger::{Ledger, Share};
-use std::time::Clock;
 
 /// How many tries there are. Each answer that a desk is to wait, or is blocked, spends one.
 #[derive(Clone, Copy, Debug, PartialEq, Eq)]
@@ -22,7 +21,7 @@ pub enum Tries {
 
 /// A desk over a shared manager. It counts its events in its share. It is counted as a desk until it is closed, so it can't
 /// be dropped.
-pub struct LockDesk<'a, P: Pseudo, L: Ledger, R: Wait + Clock, G: Gate> {
+pub struct LockDesk<'a, P: Pseudo, L: Ledger, R: Wait, G: Gate> {
     pub(crate) rt: &'a R,
     pub(crate) shared: &'a Shared<P, L>,
     pub(crate) gate: &'a G,

@@ -20,7 +20,6 @@ use std::alloc::Global;
 use std::io::{Read, Write};
 use std::sync::Wait;
 use std::thread::Threads;
-use std::time::Clock;
 
 /// Reads scripts to the end of the input, runs those of each client one after another and the clients side by side on a
 /// new manager with these limits, and writes for each script its client, its number, the texts of its replies and how it
@@ -35,7 +34,7 @@ pub fn run_scripts<
     R: Read,
     W: Write,
     P: Pseudo + Drop + Send,
-    T: Threads + Wait + Clock + Sync,
+    T: Threads + Wait + Sync,
     G: Gate + Sync,
 >(
     rt: &T,

@@ -14,8 +14,8 @@ use std::sync::Wait;
 const MOST_EVENTS: u32 = 64;
 
 /// Where a session is. It comes inside with the lines that it has read, and leaves before it writes their answers, before it
-/// reads on, and where an operation is to wait: one that sleeps keeps nobody from work. Once awake it goes on outside, since it
-/// may have locks for which others wait.
+/// reads on, and where an operation is to wait, which so keeps nobody from work. Once awake it goes on outside, since it may have
+/// locks for which others wait. One that is held back before a call, so that another is let pass, sleeps in its place.
 #[derive(Drop)]
 pub(crate) struct Passage<'a, R: Wait> {
     rt: &'a R,

@@ -9,7 +9,7 @@ use crate::gathering::{gather, new_crew};
 use crate::reporting::receipts_of;
 use crate::service::Service;
 use crate::turnstile::Turnstile;
-use mlt_lock_desk::{Hall, Patience, Shared};
+use mlt_lock_desk::{Hall, Shared};
 use mlt_manager::Manager;
 use mlt_serial::Outcomes;
 use mlt_types::{Limits, Pseudo, Refusal};
@@ -48,7 +48,7 @@ fn serve_with<L: Ledger + Send + Sync, P: Pseudo + Drop + Send, R: Threads + Wai
     let (book, mut all) = blank.open::<L>();
     let mut crew = new_crew(alloc, &mut all, sessions)?;
     let manager = Manager::new(alloc, limits, pseudo)?;
-    let shared = Shared::new(Patience::Brief, Hall::new(manager, book));
+    let shared = Shared::new(Hall::new(manager, book));
     let turnstile = Turnstile::new();
     let service = Service {
         shared: &shared,

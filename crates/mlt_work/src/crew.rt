@@ -15,7 +15,6 @@ use std::sync::Wait;
 use std::sync::ledger::Ledger;
 use std::thread;
 use std::thread::Threads;
-use std::time::Clock;
 
 /// Does each job in a thread of its own, or in this one where a thread is refused, and joins them all.
 ///
@@ -24,7 +23,7 @@ use std::time::Clock;
 pub(crate) fn work_all<
     P: Pseudo + Send,
     L: Ledger + Send + Sync,
-    R: Threads + Wait + Clock + Sync,
+    R: Threads + Wait + Sync,
     G: Gate + Sync,
 >(
     rt: &R,

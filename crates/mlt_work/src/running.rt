@@ -7,7 +7,7 @@ ghost use Rattle.mlt_work.specs.Runs.{HasRunAll};
 use crate::crew::work_all;
 use crate::reporting::report_of;
 use mlt_claims::Counter;
-use mlt_lock_desk::{Gate, Hall, Patience, Shared};
+use mlt_lock_desk::{Gate, Hall, Shared};
 use mlt_manager::Manager;
 use mlt_places::{collect, empty_slots, jobs_for};
 use mlt_serial::Report;
@@ -18,12 +18,11 @@ use std::marker::Brand;
 use std::sync::Wait;
 use std::sync::ledger::{Blank, Ledger};
 use std::thread::Threads;
-use std::time::Clock;
 
 fn run_with<
     L: Ledger + Send + Sync,
     P: Pseudo + Drop + Send,
-    R: Threads + Wait + Clock + Sync,
+    R: Threads + Wait + Sync,
     G: Gate + Sync,
 >(
     rt: &R,
@@ -58,7 +57,7 @@ fn run_with<
         workers,
     )?;
     let manager = Manager::new(alloc, limits, pseudo)?;
-    let shared = Shared::new(Patience::Long, Hall::new(manager, book));
+    let shared = Shared::new(Hall::new(manager, book));
     let results = match work_all(rt, alloc, &shared, gate, &counter, clients, tries, jobs) {
         Ok(results) => results,
         Err(_) => {
@@ -92,7 +91,7 @@ fn run_with<
 /// # Errors
 /// `OutOfMemory`, where a growth was refused outside a script. `Audit`, where the outcomes do not agree with the manager's
 /// history. All threads are joined.
-pub fn run<P: Pseudo + Drop + Send, R: Threads + Wait + Clock + Sync, G: Gate + Sync>(
+pub fn run<P: Pseudo + Drop + Send, R: Threads + Wait + Sync, G: Gate + Sync>(
     rt: &R,
     alloc: Global,
     limits: Limits,

@@ -13,11 +13,10 @@ use mlt_types::Pseudo;
 use std::alloc::Global;
 use std::sync::Wait;
 use std::sync::ledger::Ledger;
-use std::time::Clock;
 
 /// Claims clients until none is left, and runs the scripts of each at the desk. It answers whether a growth was refused.
 /// There is room for a client's outcomes before anything is asked for it.
-fn run_claimed<P: Pseudo, L: Ledger, R: Wait + Clock, G: Gate>(
+fn run_claimed<P: Pseudo, L: Ledger, R: Wait, G: Gate>(
     rt: &R,
     alloc: Global,
     desk: &mut LockDesk<'_, P, L, R, G>,
@@ -53,7 +52,7 @@ fn run_claimed<P: Pseudo, L: Ledger, R: Wait + Clock, G: Gate>(
 }
 
 /// Does a job: claims clients until none is left, and runs the scripts of each.
-pub(crate) fn work<P: Pseudo, L: Ledger, R: Wait + Clock, G: Gate>(
+pub(crate) fn work<P: Pseudo, L: Ledger, R: Wait, G: Gate>(
     rt: &R,
     alloc: Global,
     shared: &Shared<P, L>,
