@@ -4,6 +4,8 @@
 mod crew;
 mod reporting;
 mod running;
+mod shift;
 mod worker;
 
 pub use running::run;
+pub use shift::Shift;

@@ -10,7 +10,6 @@ use input::Input;
 use mlt_check_text::check_trace;
 use mlt_command_line::{Hash, Job, Run, Serve, Work, read_words, report_command_line};
 use mlt_fault_line::{report_fault, status};
-use mlt_lock_desk::NoGate;
 use mlt_manager_laws::{
     aborts_of_a_run_take_few_steps, managers_of_a_run_keep_their_promises,
     operations_of_a_run_take_few_steps,
@@ -22,6 +21,7 @@ use mlt_steps::steps;
 use mlt_text::write_text;
 use mlt_trace::{KeptItem, write_trace};
 use mlt_types::{Limits, Low, Mult, Pseudo, Refusal};
+use mlt_work::Shift;
 use std::fs::File;
 use std::io::ErrorKind;
 use std::net::TcpListener;
@@ -138,7 +138,7 @@ fn run_work<P: Pseudo + Drop + Send, T: Threads + Wait + Clock + Sync>(
         pseudo,
         work.workers,
         work.tries,
-        &NoGate,
+        &Shift::new(threads),
     )?;
     let written = write_history(rt, manager.history(), &work.run);
     manager.close();
