@@ -55,9 +55,10 @@ def run_counted(workers, counters, bench, program):
 
 def workers_works():
     for counters in (3, 50_000):
-        for workers in (1, 2, 4, 8):
-            what = f"96,000 scripts on {counters:,} counters, {workers} worker{'s' * (workers > 1)}"
-            yield Work("workers", what, "s", (Side("mltx", partial(run_counted, workers, counters)),))
+        one = Side("one worker", partial(run_counted, 1, counters))
+        for workers in (2, 4, 8):
+            sides = (Side("mltx", partial(run_counted, workers, counters)), one)
+            yield Work("workers", f"96,000 scripts on {counters:,} counters, {workers} workers", "s", sides)
 
 
 def instructions(words_of, bench, program):
@@ -115,7 +116,7 @@ def records_works():
 GROUPS = {
     "solo": ("transfers by scripts, with reading and printing, against SQLite in memory", solo_works),
     "records": ("how long an operation takes with 100 to 100,000 accounts", records_works),
-    "workers": ("scripts side by side, by 1 to 8 workers", workers_works),
+    "workers": ("scripts side by side by 2, 4 and 8 workers, against one", workers_works),
     "instructions": ("instructions an operation, against SQLite", instructions_works),
     "texts": ("how fast traces are checked and scripts are parsed", texts_works),
 }
