@@ -78,6 +78,7 @@ impl<'a, P: Pseudo, L: Ledger, R: Wait, G: Gate> LockDesk<'a, P, L, R, G> {
 
     /// One event, in one hold of the lock, which counts in the share. The desk may sleep before it; and where it is to wait it
     /// sleeps after it as this sleeper, if it is given one and the turn is so.
+    #[inline(always)]
     fn event(&mut self, event: Event, sleeper: Option<Sleeper>) -> (Told, Turn)
         ensures told { IsToldTo P.bits_of event result.0 }
         ensures one { self.new.share.amount ≡ self.old.share.amount + 1 }
@@ -103,6 +104,7 @@ impl<'a, P: Pseudo, L: Ledger, R: Wait, G: Gate> LockDesk<'a, P, L, R, G> {
     }
 
     /// One event, in one hold of the lock. The gate is told its answer, with the lock free.
+    #[inline(always)]
     fn hold(&mut self, event: Event, sleeper: Option<Sleeper>) -> (Told, Turn)
         ensures told { IsToldTo P.bits_of event result.0 }
         ensures one { self.new.share.amount ≡ self.old.share.amount + 1 }

@@ -70,6 +70,7 @@ impl Desks {
     }
 
     /// Locks were given back: who waits for them is awake, and its bell is to ring.
+    #[inline(always)]
     #[tactic(auto, using(crate::proofs::Fewer::fewer_wait, crate::proofs::Fewer::nobody_left))]
     pub(crate) fn give_back(&mut self, given: GivenBack, bells: &mut Bells)
         requires { bells.old.items ≡ [] }
@@ -92,6 +93,7 @@ impl Desks {
     }
 
     /// What a desk does that is to wait so, if it is to.
+    #[inline(always)]
     pub(crate) fn turn(&mut self, to_wait: Option<(Awaited, Waiting)>, bells: &mut Bells) -> Turn
         requires { length bells.old.items ≤ 128 }
         ensures turns { TurnsIfWaits self.old.count to_wait self.old.waits result self.new.waits }

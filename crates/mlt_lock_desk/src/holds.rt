@@ -45,6 +45,7 @@ impl<P: Pseudo, L: Ledger> Hall<P, L> {
 
     /// One event of a desk that may sleep as this sleeper, which counts in the share. Whoever waits for what it gave back is
     /// awake then, and its bell is to ring. It answers what was told, and what the desk does next.
+    #[inline(always)]
     pub(crate) fn act(
         &mut self,
         event: Event,

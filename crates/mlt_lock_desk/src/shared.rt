@@ -68,6 +68,7 @@ impl<P: Pseudo, L: Ledger> Shared<P, L> {
 
     /// The hall for a desk's next event, once nobody else has it and the desk is awake, if it sleeps. One that is to call an
     /// operation then lets pass whom others let pass.
+    #[inline(always)]
     pub(crate) fn enter<R: Wait>(
         &self,
         rt: &R,

@@ -164,6 +164,7 @@ impl<P: Pseudo> Manager<P> {
     }
 
     /// One event: what is asked, and what it is told. Each event is one of the calls above.
+    #[inline(always)]
     pub fn act(&mut self, event: Event) -> Told
         ensures meets { Meets P.bits_of event result (counted self.old) self.new }
     {

@@ -13,9 +13,13 @@ use std::sync::Wait;
 // keep the others waiting.
 const MOST_EVENTS: u32 = 64;
 
-/// Where a session is. It comes inside with the lines that it has read, and leaves before it writes their answers, before it
-/// reads on, and where an operation is to wait, which so keeps nobody from work. Once awake it goes on outside, since it may have
-/// locks for which others wait. One that is held back before a call, so that another is let pass, sleeps in its place.
+// So many bytes are a line or two, which take about a microsecond: to queue for them would take longer.
+const FEW_BYTES: usize = 24;
+
+/// Where a session is. It comes inside with the lines that it has read, unless they are few, and leaves before it writes their
+/// answers, before it reads on, and where an operation is to wait, which so keeps nobody from work. Once awake it goes on outside,
+/// since it may have locks for which others wait. One that is held back before a call, so that another is let pass, sleeps in its
+/// place.
 #[derive(Drop)]
 pub(crate) struct Passage<'a, R: Wait> {
     rt: &'a R,
@@ -36,10 +40,17 @@ impl<'a, R: Wait> Passage<'a, R> {
         }
     }
 
+    /// Goes on with lines of so many bytes.
+    fn go_on(&self, bytes: usize) {
+        if bytes > FEW_BYTES {
+            self.enter();
+        }
+        self.events.set(0);
+    }
+
     fn enter(&self) {
         if !self.is_inside.replace(true) {
             self.turnstile.enter(self.rt);
-            self.events.set(0);
         }
     }
 
@@ -60,6 +71,7 @@ impl<R: Wait> Gate for Passage<'_, R> {
         } else if events >= MOST_EVENTS && holds_no_page(told) {
             self.leave();
             self.enter();
+            self.events.set(0);
         }
     }
 }
@@ -87,9 +99,7 @@ impl<R: Wait> Read for Outside<'_, R> {
     fn read(&mut self, buf: &mut [u8]) -> io::Result<usize> {
         self.passage.leave();
         let count = self.stream.read(buf)?;
-        if count > 0 {
-            self.passage.enter();
-        }
+        self.passage.go_on(count);
         Ok(count)
     }
 }
