@@ -1,83 +1,89 @@
 //! A turnstile, which lets few sessions be at work at a time.
 
-ghost use Rattle.std.specs.Prelude.{◌≡◌, ◌+◌, ◌-◌, ◌^◌, ◌<◌, ◌↔◌, IsTrue, min};
-
 use std::array;
+use std::hint::spin_loop;
+use std::sync::atomic::{AtomicU64, Ordering};
 use std::sync::{Condvar, Mutex, Wait};
 
 // How many are inside at a time. While one has the lock over the manager, the other reads its lines or makes its answers.
 const MOST_INSIDE: u64 = 2;
 
+// How many of those who come next are awake: to wake a thread takes as long as one inside is at work.
+const MOST_AWAKE: u64 = 1;
+
+// How often one that is awake looks whether it is let in before it sleeps, with a pause of the processor after each look: some
+// microseconds, up to twenty.
+const LOOKS: u32 = 400;
+
 /// Lets sessions inside in the order in which they come, so that few are at work at a time and the others sleep. With more at
-/// work than there are processors, whoever has the lock over the manager may not be running, and all others wait for it.
+/// work than there are processors, whoever has the lock over the manager may not be running, and all others wait for it. The first
+/// who is not inside is awake and looks, so that nobody has to wake up first once there is room.
 #[derive(Drop)]
 pub(crate) struct Turnstile {
-    queue: Mutex<Queue>,
+    /// How many have come. Who comes has this number, from 0; numbers do not run out: at a million a second they last for half a
+    /// million years.
+    come: AtomicU64,
+    /// How many have left. It grows under the lock, so that nobody falls asleep meanwhile.
+    left: AtomicU64,
+    lock: Mutex<()>,
     bells: [Condvar; 64],
-}
-
-// Who comes draws the next number, from 0. It is let in once so many have left that there is room.
-#[derive(Drop)]
-struct Queue {
-    drawn: u64,
-    left: u64,
-}
-
-impl Queue {
-    // Draws a number. They do not run out: at a million a second they last for half a million years.
-    fn draw(&mut self) -> u64
-        ensures number { result ≡ self.old.drawn }
-        ensures drawn { self.new.drawn ≡ min (self.old.drawn + 1) (2 ^ 64 - 1) }
-        ensures left { self.new.left ≡ self.old.left }
-    {
-        let number = self.drawn;
-        self.drawn = number.saturating_add(1);
-        number
-    }
-
-    // The first number that is not let in yet.
-    fn next(&self) -> u64
-        ensures { result ≡ min (self.now.left + 2) (2 ^ 64 - 1) }
-    {
-        self.left.saturating_add(MOST_INSIDE)
-    }
-
-    // Lets in the next number, and answers it.
-    fn leave(&mut self) -> u64
-        ensures next { result ≡ min (self.old.left + 2) (2 ^ 64 - 1) }
-        ensures left { self.new.left ≡ min (self.old.left + 1) (2 ^ 64 - 1) }
-        ensures drawn { self.new.drawn ≡ self.old.drawn }
-    {
-        let next = self.next();
-        self.left = self.left.saturating_add(1);
-        next
-    }
 }
 
 impl Turnstile {
     /// A turnstile with nobody inside.
     pub(crate) fn new() -> Turnstile {
         Turnstile {
-            queue: Mutex::new(Queue { drawn: 0, left: 0 }),
+            come: AtomicU64::new(0),
+            left: AtomicU64::new(0),
+            lock: Mutex::new(()),
             bells: array::from_fn(|_| Condvar::new()),
         }
     }
 
     /// Comes inside, once there is room and all who came before are inside or have left.
     pub(crate) fn enter<R: Wait>(&self, rt: &R) {
-        let mut queue = self.queue.lock(rt);
-        let number = queue.draw();
-        let _inside = self
-            .bell(number)
-            .wait_while(rt, queue, |queue| queue.next() <= number);
+        let number = self.come.fetch_add(1, Ordering::SeqCst);
+        self.sleep(rt, number, MOST_INSIDE + MOST_AWAKE);
+        if !self.is_let_in_soon(number) {
+            self.sleep(rt, number, MOST_INSIDE);
+        }
     }
 
-    /// Leaves, and lets in the next one that waits.
+    /// Leaves, lets in the next one that waits, and wakes the one behind it.
     pub(crate) fn leave<R: Wait>(&self, rt: &R) {
-        let mut queue = self.queue.lock(rt);
-        let next = queue.leave();
-        drop(queue);
+        let lock = self.lock.lock(rt);
+        let left = self.left.fetch_add(1, Ordering::SeqCst);
+        drop(lock);
+        let next = left.saturating_add(MOST_INSIDE);
         self.bell(next).notify_all();
+        self.bell(next.saturating_add(MOST_AWAKE)).notify_all();
+    }
+
+    // Whether the one of this number is among the first so many who have not left.
+    fn is_among(&self, number: u64, first: u64) -> bool {
+        number < self.left.load(Ordering::SeqCst).saturating_add(first)
+    }
+
+    // Looks for a while whether the one of this number is let in.
+    fn is_let_in_soon(&self, number: u64) -> bool {
+        for _ in 0..LOOKS {
+            if self.is_among(number, MOST_INSIDE) {
+                return true;
+            }
+            spin_loop();
+        }
+        false
+    }
+
+    // Sleeps until the one of this number is among the first so many who have not left.
+    fn sleep<R: Wait>(&self, rt: &R, number: u64, first: u64) {
+        if self.is_among(number, first) {
+            return;
+        }
+        let lock = self.lock.lock(rt);
+        let _woken = self
+            .bell(number)
+            .wait_while(rt, lock, |_| !self.is_among(number, first));
     }
 
     // What wakes the one of this number. No more than 64 sessions wait, and their numbers follow one another.
