@@ -1,16 +1,19 @@
-/* The load generator: clients of a server that runs transactions, each over a connection of its own, all in one thread.
+/* The load generator: clients of a server that runs transactions, each over a connection of its own, in one thread or several.
 
        load [OPTIONS] LINE ..
 
    Each client sends the lines of a transaction over and over; a `?` in a line is a counter drawn anew. By default it sends a
    line once the one before is answered, with --whole all of them in one write. A transaction that is refused an operation is
    aborted and run again. At the end one line tells how many transactions ended, in how many seconds, the median and the 99th
-   percentile of how long they took, in microseconds, and how many were refused. What can't go on ends with status 1. */
+   percentile of how long they took, in microseconds, and how many were refused. What can't go on ends with status 1.
+
+   With --threads N the connections are shared out among so many threads, and so is the number of transactions. */
 #define _GNU_SOURCE
 #include <arpa/inet.h>
 #include <getopt.h>
 #include <netinet/tcp.h>
 #include <poll.h>
+#include <pthread.h>
 #include <stdbool.h>
 #include <string.h>
 #include <sys/socket.h>
@@ -26,7 +29,7 @@ enum { MOST_GIVEN = 32, MOST_LINE = 1 << 10, MOST_TEXT = 1 << 18 };
 enum { MOST_SENT = 16777216 };
 
 struct options {
-    int port, connections;
+    int port, connections, threads;
     bool redis, whole;
     double seconds;
     unsigned long transactions, counters, seed;
@@ -44,13 +47,23 @@ struct connection {
     char heard[32];     /* the first of them */
 };
 
-static struct options options = {.connections = 1, .seconds = 1, .transactions = MOST_LATENCIES, .counters = 1, .seed = 1};
+/* What the clients of one thread have seen. */
+struct seen {
+    float *latencies;
+    size_t ended, refusals;
+    double seconds;
+};
+
+static struct options options = {
+    .connections = 1, .threads = 1, .seconds = 1, .transactions = MOST_LATENCIES, .counters = 1, .seed = 1};
 static char **lines;
 static int line_count;
 static struct connection connections[MOST_CONNECTIONS];
-static float *latencies;
-static size_t ended, refusals;
-static double started;
+static struct seen seen_by[MOST_CONNECTIONS];
+/* Those of this thread. */
+static _Thread_local struct seen *seen;
+static _Thread_local unsigned long random_state;
+static _Thread_local double started;
 
 static double now(void)
 {
@@ -62,13 +75,10 @@ static double now(void)
 /* The next number of a xorshift generator, below the number of counters. */
 static unsigned long some_counter(void)
 {
-    static unsigned long state;
-    if (state == 0)
-        state = options.seed * 0x9E3779B97F4A7C15UL + 1;
-    state ^= state << 13;
-    state ^= state >> 7;
-    state ^= state << 17;
-    return (state >> 16) % options.counters;
+    random_state ^= random_state << 13;
+    random_state ^= random_state >> 7;
+    random_state ^= random_state << 17;
+    return (random_state >> 16) % options.counters;
 }
 
 /* A line with a counter for each `?`: how many bytes it has. */
@@ -134,7 +144,7 @@ static void open_connection(struct connection *it)
 
 static void send_lines(struct connection *it, int count)
 {
-    static char text[MOST_TEXT];
+    static _Thread_local char text[MOST_TEXT];
     size_t length = 0;
     for (int line = it->next; line < it->next + count; line++)
         length += put(text + length, lines[line]);
@@ -146,8 +156,8 @@ static void send_lines(struct connection *it, int count)
 static void end_transaction(struct connection *it)
 {
     double time = now();
-    if (ended < MOST_LATENCIES)
-        latencies[ended++] = (float)((time - it->began) * 1e6);
+    if (seen->ended < MOST_LATENCIES)
+        seen->latencies[seen->ended++] = (float)((time - it->began) * 1e6);
     it->began = time;
 }
 
@@ -156,7 +166,7 @@ static void run_again(struct connection *it)
 {
     char text[MOST_LINE];
     size_t length = put(text, options.redis ? "DISCARD" : "abort");
-    refusals++;
+    seen->refusals++;
     it->refused = false;
     it->next = 0;
     it->awaited = 1;
@@ -172,7 +182,7 @@ static void go_on(struct connection *it)
     }
     if (it->next == line_count) {
         if (it->refused)
-            refusals++;
+            seen->refusals++;
         else
             end_transaction(it);
         it->refused = false;
@@ -222,28 +232,28 @@ static void receive(struct connection *it)
 
 static bool is_over(void)
 {
-    return ended >= options.transactions || now() - started >= options.seconds;
+    return seen->ended >= options.transactions / (unsigned long)options.threads || now() - started >= options.seconds;
 }
 
-static void start_all(struct pollfd *polled)
+static void start_all(struct connection *first, int count, struct pollfd *polled)
 {
     started = now();
-    for (int number = 0; number < options.connections; number++) {
-        open_connection(&connections[number]);
-        polled[number] = (struct pollfd){.fd = connections[number].socket, .events = POLLIN};
-        connections[number].began = now();
-        go_on(&connections[number]);
+    for (int number = 0; number < count; number++) {
+        open_connection(&first[number]);
+        polled[number] = (struct pollfd){.fd = first[number].socket, .events = POLLIN};
+        first[number].began = now();
+        go_on(&first[number]);
     }
 }
 
-static void run(void)
+static void run(struct connection *first, int count)
 {
     struct pollfd polled[MOST_CONNECTIONS];
-    start_all(polled);
+    start_all(first, count, polled);
     while (!is_over()) {
-        must(poll(polled, (nfds_t)options.connections, 50), "load: poll");
-        for (int number = 0; number < options.connections; number++) {
-            struct connection *it = &connections[number];
+        must(poll(polled, (nfds_t)count, 50), "load: poll");
+        for (int number = 0; number < count; number++) {
+            struct connection *it = &first[number];
             if (polled[number].revents == 0)
                 continue;
             receive(it);
@@ -252,6 +262,53 @@ static void run(void)
             polled[number].fd = it->socket;
         }
     }
+    seen->seconds = now() - started;
+}
+
+/* The connections of the thread of this number follow those of the threads before. */
+static int first_of(int thread)
+{
+    return options.connections * thread / options.threads;
+}
+
+static void *run_thread(void *given)
+{
+    int thread = (int)(long)given, first = first_of(thread);
+    seen = &seen_by[thread];
+    seen->latencies = calloc(MOST_LATENCIES, sizeof *seen->latencies);
+    if (seen->latencies == NULL)
+        give_up("load: calloc");
+    random_state = (options.seed + (unsigned long)thread * 1000003) * 0x9E3779B97F4A7C15UL + 1;
+    run(&connections[first], first_of(thread + 1) - first);
+    return NULL;
+}
+
+/* Runs all threads, the first of them in this one. */
+static void run_all(void)
+{
+    pthread_t threads[MOST_CONNECTIONS];
+    for (int thread = 1; thread < options.threads; thread++) {
+        if (pthread_create(&threads[thread], NULL, run_thread, (void *)(long)thread) != 0)
+            give_up("load: pthread_create");
+    }
+    run_thread(NULL);
+    for (int thread = 1; thread < options.threads; thread++)
+        pthread_join(threads[thread], NULL);
+}
+
+/* What all threads have seen, put together. */
+static struct seen gathered(void)
+{
+    struct seen all = seen_by[0];
+    for (int thread = 1; thread < options.threads; thread++) {
+        struct seen *one = &seen_by[thread];
+        size_t room = MOST_LATENCIES - all.ended, taken = one->ended < room ? one->ended : room;
+        memcpy(all.latencies + all.ended, one->latencies, taken * sizeof *all.latencies);
+        all.ended += taken;
+        all.refusals += one->refusals;
+        all.seconds = one->seconds > all.seconds ? one->seconds : all.seconds;
+    }
+    return all;
 }
 
 static int compare(const void *left, const void *right)
@@ -261,17 +318,17 @@ static int compare(const void *left, const void *right)
 }
 
 /* So that so many in a hundred are not above it. */
-static double percentile(size_t hundredth)
+static double percentile(const struct seen *all, size_t hundredth)
 {
-    return ended == 0 ? 0 : latencies[(ended - 1) * hundredth / 100];
+    return all->ended == 0 ? 0 : all->latencies[(all->ended - 1) * hundredth / 100];
 }
 
 static void report(void)
 {
-    double seconds = now() - started;
-    qsort(latencies, ended, sizeof *latencies, compare);
-    printf("transactions %zu seconds %.6f median %.2f ninety_ninth %.2f refused %zu\n", ended, seconds, percentile(50),
-           percentile(99), refusals);
+    struct seen all = gathered();
+    qsort(all.latencies, all.ended, sizeof *all.latencies, compare);
+    printf("transactions %zu seconds %.6f median %.2f ninety_ninth %.2f refused %zu\n", all.ended, all.seconds,
+           percentile(&all, 50), percentile(&all, 99), all.refusals);
 }
 
 static void read_options(int count, char **words)
@@ -281,7 +338,7 @@ static void read_options(int count, char **words)
         {"redis", no_argument, NULL, 'r'},              {"whole", no_argument, NULL, 'w'},
         {"seconds", required_argument, NULL, 's'},      {"counters", required_argument, NULL, 'k'},
         {"transactions", required_argument, NULL, 't'}, {"seed", required_argument, NULL, 'd'},
-        {NULL, 0, NULL, 0},
+        {"threads", required_argument, NULL, 'h'},      {NULL, 0, NULL, 0},
     };
     for (int option; (option = getopt_long(count, words, "", known, NULL)) != -1;) {
         switch (option) {
@@ -293,6 +350,7 @@ static void read_options(int count, char **words)
         case 'k': options.counters = strtoul(optarg, NULL, 10); break;
         case 't': options.transactions = strtoul(optarg, NULL, 10); break;
         case 'd': options.seed = strtoul(optarg, NULL, 10); break;
+        case 'h': options.threads = atoi(optarg); break;
         default: exit(2);
         }
     }
@@ -305,7 +363,8 @@ static bool options_are_lawful(void)
     bool fits = line_count > 0 && line_count * MOST_LINE <= MOST_TEXT;
     for (int line = 0; line < line_count; line++)
         fits = fits && strlen(lines[line]) < MOST_GIVEN;
-    return fits && options.connections > 0 && options.connections <= MOST_CONNECTIONS && options.counters > 0;
+    fits = fits && options.connections > 0 && options.connections <= MOST_CONNECTIONS && options.counters > 0;
+    return fits && options.threads > 0 && options.threads <= options.connections;
 }
 
 int main(int count, char **words)
@@ -315,10 +374,7 @@ int main(int count, char **words)
         fputs("load: an option is out of its range, or the lines are too many or too long\n", stderr);
         return 2;
     }
-    latencies = calloc(MOST_LATENCIES, sizeof *latencies);
-    if (latencies == NULL)
-        give_up("load: calloc");
-    run();
+    run_all();
     report();
     return 0;
 }

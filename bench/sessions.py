@@ -1,4 +1,5 @@
 """What is measured over sessions: loads of many clients, and sessions that hold something."""
+import os
 import statistics
 import sys
 import time
@@ -18,18 +19,21 @@ __all__ = ["GROUPS", "MltxError"]
 BEGIN, COMMIT, GAVE_UP = "begin", "commit", "error 14 GaveUp"
 # How many sessions a server holds at once.
 SESSIONS = 64
+# In how many threads clients are where one can't keep a server busy: as many as there are processors, at most eight.
+CLIENT_THREADS = max(2, min(8, os.cpu_count() or 1))
 
 # Loads.
 
 
 @dataclass(frozen=True)
 class Load:
-    """What clients send: the lines of a transaction, from how many connections, and whether in one write."""
+    """What clients send: the lines of a transaction, from how many connections, whether in one write, and in how many threads."""
 
     lines: tuple[str, ...]
     connections: int = 1
     whole: bool = False
     counters: int = 1
+    threads: int = 1
     redis: bool = False
 
     def for_redis(self):
@@ -45,7 +49,7 @@ def transaction(*operations):
 def loading(bench, port, load, seconds, transactions=None):
     """The load generator, as long as a block lasts. It ends after so many seconds, or after so many transactions."""
     words = [bench.tools.paths["load"], "--port", port, "--connections", load.connections, "--counters", load.counters]
-    words += ["--seed", bench.seed, "--seconds", seconds]
+    words += ["--seed", bench.seed, "--seconds", seconds, "--threads", load.threads]
     words += ["--transactions", transactions] if transactions else []
     words += [*["--whole"] * load.whole, *["--redis"] * load.redis, "--", *load.lines]
     return started(words, **PIPES)
@@ -115,20 +119,25 @@ WAYS = {False: "a line a round trip", True: "a transaction a write"}
 THREE = transaction(*["up ? 1"] * 3)
 
 
+def named(connections, threads):
+    """The words for so many connections, in so many threads where these are several."""
+    words = f"{connections} connection{'s' * (connections > 1)}"
+    return f"{words} of {threads} threads" if threads > 1 else words
+
+
 def serve_works():
-    for connections in (8, 1):
+    for connections, threads in ((8, 1), (8, CLIENT_THREADS), (1, 1)):
         for whole, way in WAYS.items():
-            load = Load(THREE, connections, whole, counters=50_000)
-            clients = f"{connections} connection{'s' * (connections > 1)}"
-            others = ("Redis", "echo") if whole else ("Redis", "echo", "PostgreSQL")
-            yield Work("serve", f"{clients}, {way}", "transactions/s", sides_of(load, *others))
+            load = Load(THREE, connections, whole, counters=50_000, threads=threads)
+            others = ("Redis", "echo") if whole or threads > 1 else ("Redis", "echo", "PostgreSQL")
+            yield Work("serve", f"{named(connections, threads)}, {way}", "transactions/s", sides_of(load, *others))
 
 
 def connections_works():
     for connections in (1, 2, 4, 8, 16, 32, SESSIONS):
-        load = Load(THREE, connections, counters=50_000)
-        clients = f"{connections} connection{'s' * (connections > 1)}"
-        yield Work("connections", f"{clients}, a line a round trip", "transactions/s", sides_of(load, "Redis"))
+        threads = min(connections, CLIENT_THREADS)
+        load = Load(THREE, connections, counters=50_000, threads=threads)
+        yield Work("connections", f"{named(connections, threads)}, a line a round trip", "transactions/s", sides_of(load, "Redis"))
 
 
 def with_tail(side, beside):
