@@ -13,13 +13,22 @@ use mlt_manager::Manager;
 use mlt_script::parse;
 use mlt_serial::{Form, write_report};
 use mlt_text::read_input;
-use mlt_tree::by_client;
+use mlt_tree::{Script, by_client};
 use mlt_types::{Limits, Pseudo, Refusal};
 use mlt_work::run;
 use std::alloc::Global;
 use std::io::{Read, Write};
 use std::sync::Wait;
-use std::thread::Threads;
+use std::thread;
+use std::thread::{JoinHandle, Threads};
+
+/// Frees the memory of the scripts, where there are several workers in a thread of its own, whose handle it answers.
+fn free<T: Threads>(rt: &T, workers: usize, clients: Vec<Vec<Script>>) -> Option<JoinHandle<()>> {
+    if workers == 1 {
+        return None;
+    }
+    thread::spawn(rt, move || drop(clients)).ok()
+}
 
 /// Reads scripts to the end of the input, runs those of each client one after another and the clients side by side on a
 /// new manager with these limits, and writes for each script its client, its number, the texts of its replies and how it
@@ -76,7 +85,12 @@ pub fn run_scripts<
         tries,
         gate,
     )?;
-    match write_report(alloc, &report, Form::Run, writer) {
+    let freeing = free(rt, workers, clients);
+    let written = write_report(alloc, &report, Form::Run, writer);
+    if let Some(freeing) = freeing {
+        freeing.join(rt);
+    }
+    match written {
         Ok(()) => Ok(manager),
         Err(refusal) => {
             manager.close();
