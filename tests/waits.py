@@ -57,24 +57,30 @@ def session_that_waits_uses_no_processor(mltx):
     holds(used < 0.1, f"a session waited half a second and used {used} seconds of a processor")
 
 
+def long(line):
+    """The line with so many spaces behind it that a session which reads it does not go on at once, but comes to its turn."""
+    return f"{line:<64}"
+
+
 @test(seconds=1)
 def sessions_that_wait_keep_nobody_from_work(mltx):
-    """Four are blocked, four have said half a line, and four take no answers; meanwhile another one commits."""
+    """Four are blocked, four have said half a line, and four take no answers; meanwhile another one commits. All lines are so
+    long that who sends one has to queue."""
     with mltx.serve("--sessions", 14, limit=14) as server, server.connect() as holder, server.connect() as worker:
         same([holder.ask("begin"), holder.ask("up 1 1")], ["begun 1", "done"])
         blocked, halted, deaf = ([server.connect() for _ in range(4)] for _ in range(3))
         same([peer.ask("begin") for peer in blocked], [f"begun {number}" for number in range(2, 6)])
         for peer in blocked:
-            peer.send("read 1\n")
+            peer.send(long("read 1") + "\n")
         for peer in halted:
-            same(peer.ask("foo"), "error 10 ScriptFault")
-            peer.send("beg")
+            same(peer.ask(long("foo")), "error 10 ScriptFault")
+            peer.send(long("begin"))
         sending = [threading.Thread(target=send_and_hear_nothing, args=(peer, "foo\n" * 1_000_000)) for peer in deaf]
         for one in sending:
             one.start()
         worker.socket.settimeout(SOON)
         for number in range(1, 201):
-            told = [worker.ask(line) for line in ("begin", "up 2 1", "commit")]
+            told = [worker.ask(long(line)) for line in ("begin", "up 2 1", "commit")]
             same(told[1:], ["done", f"committed {number}"])
         for peer in blocked:
             says_nothing(peer, "the counter is held")
