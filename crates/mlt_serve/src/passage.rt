@@ -16,15 +16,26 @@ const MOST_EVENTS: u32 = 64;
 // So many bytes are a line or two, which take about a microsecond: to queue for them would take longer.
 const FEW_BYTES: usize = 24;
 
-/// Where a session is. It comes inside with the lines that it has read, unless they are few, and leaves before it writes their
-/// answers, before it reads on, and where an operation is to wait, which so keeps nobody from work. Once awake it goes on outside,
-/// since it may have locks for which others wait. One that is held back before a call, so that another is let pass, sleeps in its
-/// place.
+/// Where a session is.
+#[derive(Clone, Copy, Debug, PartialEq, Eq)]
+enum Place {
+    /// Not at work.
+    Outside,
+    /// At work, past the queue.
+    Passing,
+    /// At work, in its turn.
+    Inside,
+}
+
+/// The way of a session. It comes inside with the lines that it has read, past the queue where they are few, and leaves before it
+/// writes their answers, before it reads on, and where an operation is to wait, which so keeps nobody from work. Once awake it goes
+/// on outside, since it may have locks for which others wait. One that is held back before a call, so that another is let pass,
+/// sleeps in its place.
 #[derive(Drop)]
 pub(crate) struct Passage<'a, R: Wait> {
     rt: &'a R,
     turnstile: &'a Turnstile,
-    is_inside: Cell<bool>,
+    place: Cell<Place>,
     /// How many events it has made since it came.
     events: Cell<u32>,
 }
@@ -35,29 +46,32 @@ impl<'a, R: Wait> Passage<'a, R> {
         Passage {
             rt,
             turnstile,
-            is_inside: Cell::new(false),
+            place: Cell::new(Place::Outside),
             events: Cell::new(0),
         }
     }
 
     /// Goes on with lines of so many bytes.
     fn go_on(&self, bytes: usize) {
-        if bytes > FEW_BYTES {
+        self.events.set(0);
+        if bytes <= FEW_BYTES && self.turnstile.pass() {
+            self.place.set(Place::Passing);
+        } else {
             self.enter();
         }
-        self.events.set(0);
     }
 
     fn enter(&self) {
-        if !self.is_inside.replace(true) {
-            self.turnstile.enter(self.rt);
-        }
+        self.turnstile.enter(self.rt);
+        self.place.set(Place::Inside);
     }
 
-    /// Leaves, if it is inside.
+    /// Leaves, if it is at work.
     pub(crate) fn leave(&self) {
-        if self.is_inside.replace(false) {
-            self.turnstile.leave(self.rt);
+        match self.place.replace(Place::Outside) {
+            Place::Outside => (),
+            Place::Passing => self.turnstile.has_passed(),
+            Place::Inside => self.turnstile.leave(self.rt),
         }
     }
 }
@@ -99,7 +113,9 @@ impl<R: Wait> Read for Outside<'_, R> {
     fn read(&mut self, buf: &mut [u8]) -> io::Result<usize> {
         self.passage.leave();
         let count = self.stream.read(buf)?;
-        self.passage.go_on(count);
+        if count > 0 {
+            self.passage.go_on(count);
+        }
         Ok(count)
     }
 }

@@ -11,6 +11,9 @@ const MOST_INSIDE: u64 = 2;
 // How many of those who come next are awake: to wake a thread takes as long as one inside is at work.
 const MOST_AWAKE: u64 = 1;
 
+// How many who have little to do go past the queue at a time.
+const MOST_PASSING: u64 = 4;
+
 // How often one that is awake looks whether it is let in before it sleeps, with a pause of the processor after each look: some
 // microseconds, up to twenty.
 const LOOKS: u32 = 400;
@@ -27,6 +30,8 @@ pub(crate) struct Turnstile {
     left: AtomicU64,
     lock: Mutex<()>,
     bells: [Condvar; 64],
+    /// How many are at work who have not queued.
+    passing: AtomicU64,
 }
 
 impl Turnstile {
@@ -37,7 +42,22 @@ impl Turnstile {
             left: AtomicU64::new(0),
             lock: Mutex::new(()),
             bells: array::from_fn(|_| Condvar::new()),
+            passing: AtomicU64::new(0),
         }
+    }
+
+    /// Goes past the queue, where few do so at the moment. It answers whether it does.
+    pub(crate) fn pass(&self) -> bool {
+        let passes = self.passing.fetch_add(1, Ordering::SeqCst) < MOST_PASSING;
+        if !passes {
+            self.has_passed();
+        }
+        passes
+    }
+
+    /// One who has gone past the queue is at work no more.
+    pub(crate) fn has_passed(&self) {
+        self.passing.fetch_sub(1, Ordering::SeqCst);
     }
 
     /// Comes inside, once there is room and all who came before are inside or have left.

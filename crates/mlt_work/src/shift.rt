@@ -14,6 +14,9 @@ const NAP: u64 = 200;
 // The most naps that it takes before it begins all the same: together a tenth part of a second.
 const MOST_NAPS: u32 = 512;
 
+// Up to so many naps, which the eighth takes, their number grows slowly.
+const FEW_NAPS: u32 = 40;
+
 // So often one looks for a gap, with a pause of the processor after each look: some microseconds, in which a worker comes from one
 // transaction to the next, and a short one ends.
 const LOOKS: u32 = 128;
@@ -23,8 +26,9 @@ const LOOKS: u32 = 128;
 /// al., The End of an Architectural Era, VLDB 2007, section 3.1). It changes nothing that is done, only when.
 ///
 /// A worker that has begun a transaction is never held. Others queue before they begin one. The first of them begins where none is
-/// open for some time; and else after some naps, half as many again as the one before it took, so that a short run is shared by
-/// all, and in a long one work seldom moves. Who was at work then ends its transaction beside it, and queues.
+/// open for some time; and else after some naps: half as many again as the one before it took, so that a short run is shared by
+/// all eight, and then four times as many, so that in a long one work seldom moves. Who was at work then ends its transaction
+/// beside it, and queues.
 #[derive(Drop)]
 pub struct Shift<'a, R: Wait + Clock> {
     rt: &'a R,
@@ -108,5 +112,10 @@ impl<R: Wait + Clock> Gate for Shift<'_, R> {
 }
 
 fn more_naps(naps: u32) -> u32 {
-    naps.saturating_add(naps / 2 + 1).min(MOST_NAPS)
+    let more = if naps < FEW_NAPS {
+        naps / 2 + 1
+    } else {
+        naps.saturating_mul(3)
+    };
+    naps.saturating_add(more).min(MOST_NAPS)
 }
