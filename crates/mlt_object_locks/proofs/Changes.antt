@@ -213,7 +213,7 @@ module _ {S : Type 0} where
       gone_by k holder h own unkept (inr e) = absurd (unkept (subst (Contains kept) e there))
 
   -- where a place is noted of each that has a class there, so it is once more is granted and noted
-  pub bits_noted_more : {S' : Type 0} (old new : IndexMap ℕ (List Holder) S) (noted more : IndexMap ℕ KeysWithRoom S') (places : List ℕ) (tx : ℕ) (bit : Option ℕ) → AreBitsNoted old noted → GrantsAt old new places tx bit → SameNoted noted more tx → NotesEach (noted_of noted tx).keys (noted_of more tx).keys places → AreBitsNoted new more
+  pub bits_noted_more : (old new : IndexMap ℕ (List Holder) S) (noted more : List (ℕ × KeysWithRoom)) (places : List ℕ) (tx : ℕ) (bit : Option ℕ) → AreBitsNoted old noted → GrantsAt old new places tx bit → SameNoted noted more tx → NotesEach (noted_of noted tx).keys (noted_of more tx).keys places → AreBitsNoted new more
   bits_noted_more old new noted more places tx bit are grants same notes = λ k u n h. by k u n (grants.only k u n h) (cases_eq u tx)
     where
       by : (k u n : ℕ) → HasBit (list_at old k) u n ⊎ (Contains places k × (u ≡ tx) × (bit ≡ Some n)) → (u ≡ tx) ⊎ (u ≡ tx → ⊥) → Contains (noted_of more u).keys k

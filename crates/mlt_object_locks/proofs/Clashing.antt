@@ -16,7 +16,7 @@ use Rattle.mlt_object_locks.specs.Places.{looked_at}
 use Rattle.mlt_object_locks.proofs.ClassLaws.{clash_hinders, hindered_clash, share_place}
 use Rattle.mlt_object_locks.proofs.Lowest.{lowest_of_both, lowest_of_first, same_lowest}
 
-module _ {S S' : Type 0} (cells : IndexMap ℕ (List Holder) S) (reserved : List (ℕ × Cell)) (noted : IndexMap ℕ KeysWithRoom S') (held : List Held) (is : IsSound cells reserved noted held) (tx : ℕ) (requested : ObjOp × ObjReply) (range : IsInRange (cell_of requested.0)) where
+module _ {S : Type 0} (cells : IndexMap ℕ (List Holder) S) (reserved : List (ℕ × Cell)) (noted : List (ℕ × KeysWithRoom)) (held : List Held) (is : IsSound cells reserved noted held) (tx : ℕ) (requested : ObjOp × ObjReply) (range : IsInRange (cell_of requested.0)) where
   abbrev Here : ℕ → Type 0
   Here = StandsAtOne cells (looked_at requested.0) tx requested
 

@@ -1,6 +1,146 @@
--- Numbers of transactions, as maps compare them.
-use Rattle.std.proofs.Common.{◌≡◌, ◌≢◌, ℕ, false, nat_eq, arith}
+-- Lists of entries, each of a transaction.
+use Prim.Native.Nat.{zero}
+use Rattle.std.proofs.Common.{◌≡◌, ◌≢◌, ℕ, suc, ◌<◌, List, [], ◌∷◌, ◌++◌, false, None, Some, nat_eq, length, get_or, set, sym, subst, ◌∙◌, refl, arith}
 use Rattle.std.proofs.lemmas.Bool.Decides.{nat_tests}
+use Rattle.std.proofs.lemmas.List.Elements.{Contains-get_or}
+use Rattle.std.proofs.lemmas.List.Quantifiers.{position-Some}
+use Rattle.std.specs.List.{position, remove}
+use Rattle.mlt_object_locks.specs.Locks.{HasEachOnce, is_entry_of, value_of}
+use Rattle.mlt_object_locks.proofs.Membership.{some_found}
 
 pub differ : (a b : ℕ) → b ≢ a → nat_eq a b ≡ false
 differ a b ne = grind (arith, nat_tests)
+
+module _ {X : Type 0} where
+  -- where the transaction is not found, it has nothing
+  pub nothing_found : (entries : List (ℕ × X)) (tx : ℕ) → position (is_entry_of tx) entries ≡ None → value_of entries tx ≡ None
+  nothing_found entries tx is = by entries (λ k d lt. not_there k d lt)
+    where
+      not_there : (k : ℕ) (d : ℕ × X) → k < length entries → (get_or entries k d).0 ≢ tx
+      not_there k d lt own = some_found (is_entry_of tx) entries (get_or entries k d) (Contains-get_or entries k d lt) (grind (arith, nat_tests)) is
+
+      by : (list : List (ℕ × X)) → ((k : ℕ) (d : ℕ × X) → k < length list → (get_or list k d).0 ≢ tx) → value_of list tx ≡ None
+      by [] none = refl
+      by (entry ∷ list) none = let own = none 0 entry (omega arith) in let rest = by list (λ k d lt. none (suc k) d (omega arith)) in grind (arith, nat_tests)
+
+  -- ---- one that had nothing comes
+
+  pub pushed_own : (entries : List (ℕ × X)) (tx : ℕ) (x : X) → value_of entries tx ≡ None → value_of (entries ++ (tx, x) ∷ []) tx ≡ Some x
+  pushed_own [] tx x none = grind (arith, nat_tests)
+  pushed_own (entry ∷ entries) tx x none = let rest = pushed_own entries tx x in grind (arith, nat_tests)
+
+  pub pushed_other : (entries : List (ℕ × X)) (tx : ℕ) (x : X) (u : ℕ) → u ≢ tx → value_of (entries ++ (tx, x) ∷ []) u ≡ value_of entries u
+  pushed_other [] tx x u ne = grind (arith, nat_tests)
+  pushed_other (entry ∷ entries) tx x u ne = let rest = pushed_other entries tx x u ne in grind (arith, nat_tests)
+
+  pub pushed_once : (entries : List (ℕ × X)) (tx : ℕ) (x : X) → value_of entries tx ≡ None → HasEachOnce entries → HasEachOnce (entries ++ (tx, x) ∷ [])
+  pushed_once [] tx x none once = (refl, once)
+  pushed_once (entry ∷ entries) tx x none once =
+      let other : entry.0 ≢ tx = λ e. (let same = e in grind (arith, nat_tests)) in
+      (pushed_other entries tx x entry.0 other ∙ once.0, pushed_once entries tx x (grind (arith, nat_tests)) once.1)
+
+  -- ---- one that is found
+
+  -- the entry at this index is the first of the transaction
+  record IsFirstOf (entries : List (ℕ × X)) (tx at : ℕ) (d : ℕ × X) : Type 0 where
+    within : at < length entries
+    own : (get_or entries at d).0 ≡ tx
+    before : (k : ℕ) → k < at → (get_or entries k d).0 ≢ tx
+
+  is_first : (entries : List (ℕ × X)) (tx at : ℕ) (d : ℕ × X) → position (is_entry_of tx) entries ≡ Some at → IsFirstOf entries tx at d
+  is_first entries tx at d is =
+      let p = position-Some (is_entry_of tx) entries at d is in
+      record {
+        within = p.0;
+        own = let test = p.1 in grind (arith, nat_tests);
+        before = λ k lt e. let test = p.2 k lt in grind (arith, nat_tests);
+      }
+
+  module _ (tx : ℕ) (d : ℕ × X) where
+    next : (entry : ℕ × X) (entries : List (ℕ × X)) (at : ℕ) → IsFirstOf (entry ∷ entries) tx (suc at) d → IsFirstOf entries tx at d
+    next entry entries at first = record {
+      within = let lt = first.within in omega arith;
+      own = first.own;
+      before = λ k lt. first.before (suc k) (omega arith);
+    }
+
+    not_yet : (entry : ℕ × X) (entries : List (ℕ × X)) (at : ℕ) → IsFirstOf (entry ∷ entries) tx (suc at) d → entry.0 ≢ tx
+    not_yet entry entries at first = first.before 0 (omega arith)
+
+    value_first : (entries : List (ℕ × X)) (at : ℕ) → IsFirstOf entries tx at d → value_of entries tx ≡ Some (get_or entries at d).1
+    value_first [] at first = let lt = first.within in absurd (omega arith)
+    value_first (entry ∷ entries) zero first = let own : entry.0 ≡ tx = first.own in grind (arith, nat_tests)
+    value_first (entry ∷ entries) (suc at) first =
+        let rest = value_first entries at (next entry entries at first) in let other = not_yet entry entries at first in grind (arith, nat_tests)
+
+    removed_none : (u : ℕ) (entries : List (ℕ × X)) (at : ℕ) → at < length entries → value_of entries u ≡ None → value_of (remove entries at) u ≡ None
+    removed_none u [] at lt none = absurd (omega arith)
+    removed_none u (entry ∷ entries) zero lt none = grind (arith, nat_tests)
+    removed_none u (entry ∷ entries) (suc at) lt none = let rest = removed_none u entries at (omega arith) in grind (arith, nat_tests)
+
+    removed_once : (entries : List (ℕ × X)) (at : ℕ) → at < length entries → HasEachOnce entries → HasEachOnce (remove entries at)
+    removed_once [] at lt once = absurd (omega arith)
+    removed_once (entry ∷ entries) zero lt once = once.1
+    removed_once (entry ∷ entries) (suc at) lt once = (removed_none entry.0 entries at (omega arith) once.0, removed_once entries at (omega arith) once.1)
+
+    removed_own : (entries : List (ℕ × X)) (at : ℕ) → HasEachOnce entries → IsFirstOf entries tx at d → value_of (remove entries at) tx ≡ None
+    removed_own [] at once first = let lt = first.within in absurd (omega arith)
+    removed_own (entry ∷ entries) zero once first = subst (λ u. value_of entries u ≡ None) first.own once.0
+    removed_own (entry ∷ entries) (suc at) once first =
+        let rest = removed_own entries at once.1 (next entry entries at first) in let other = not_yet entry entries at first in grind (arith, nat_tests)
+
+    removed_other : (u : ℕ) → u ≢ tx → (entries : List (ℕ × X)) (at : ℕ) → IsFirstOf entries tx at d → value_of (remove entries at) u ≡ value_of entries u
+    removed_other u ne [] at first = let lt = first.within in absurd (omega arith)
+    removed_other u ne (entry ∷ entries) zero first = let own : entry.0 ≡ tx = first.own in grind (arith, nat_tests)
+    removed_other u ne (entry ∷ entries) (suc at) first = let rest = removed_other u ne entries at (next entry entries at first) in grind (arith, nat_tests)
+
+    -- another entry of the transaction in its place
+    module _ (new : ℕ × X) (same : new.0 ≡ tx) where
+      set_own : (entries : List (ℕ × X)) (at : ℕ) → IsFirstOf entries tx at d → value_of (set entries at new) tx ≡ Some new.1
+      set_own [] at first = let lt = first.within in absurd (omega arith)
+      set_own (entry ∷ entries) zero first = grind (arith, nat_tests)
+      set_own (entry ∷ entries) (suc at) first =
+          let rest = set_own entries at (next entry entries at first) in let other = not_yet entry entries at first in grind (arith, nat_tests)
+
+      set_other : (u : ℕ) → u ≢ tx → (entries : List (ℕ × X)) (at : ℕ) → IsFirstOf entries tx at d → value_of (set entries at new) u ≡ value_of entries u
+      set_other u ne [] at first = let lt = first.within in absurd (omega arith)
+      set_other u ne (entry ∷ entries) zero first = let own : entry.0 ≡ tx = first.own in grind (arith, nat_tests)
+      set_other u ne (entry ∷ entries) (suc at) first = let rest = set_other u ne entries at (next entry entries at first) in grind (arith, nat_tests)
+
+      set_none : (u : ℕ) (entries : List (ℕ × X)) (at : ℕ) → IsFirstOf entries tx at d → value_of entries u ≡ None → value_of (set entries at new) u ≡ None
+      set_none u [] at first none = let lt = first.within in absurd (omega arith)
+      set_none u (entry ∷ entries) zero first none = let own : entry.0 ≡ tx = first.own in grind (arith, nat_tests)
+      set_none u (entry ∷ entries) (suc at) first none = let rest = set_none u entries at (next entry entries at first) in grind (arith, nat_tests)
+
+      set_once : (entries : List (ℕ × X)) (at : ℕ) → IsFirstOf entries tx at d → HasEachOnce entries → HasEachOnce (set entries at new)
+      set_once [] at first once = let lt = first.within in absurd (omega arith)
+      set_once (entry ∷ entries) zero first once = (subst (λ u. value_of entries u ≡ None) (first.own ∙ sym same) once.0, once.1)
+      set_once (entry ∷ entries) (suc at) first once =
+          let rest = next entry entries at first in (set_none entry.0 entries at rest once.0, set_once entries at rest once.1)
+
+  module _ (entries : List (ℕ × X)) (tx at : ℕ) (d : ℕ × X) (is : position (is_entry_of tx) entries ≡ Some at) where
+    pub found_own : (get_or entries at d).0 ≡ tx
+    found_own = (is_first entries tx at d is).own
+
+    pub found_value : value_of entries tx ≡ Some (get_or entries at d).1
+    found_value = value_first tx d entries at (is_first entries tx at d is)
+
+    -- what it has is taken away
+    pub taken_own : HasEachOnce entries → value_of (remove entries at) tx ≡ None
+    taken_own once = removed_own tx d entries at once (is_first entries tx at d is)
+
+    pub taken_other : (u : ℕ) → u ≢ tx → value_of (remove entries at) u ≡ value_of entries u
+    taken_other u ne = removed_other tx d u ne entries at (is_first entries tx at d is)
+
+    pub taken_once : HasEachOnce entries → HasEachOnce (remove entries at)
+    taken_once once = removed_once tx d entries at (is_first entries tx at d is).within once
+
+    -- or it gets another value
+    pub changed_own : (new : ℕ × X) → new.0 ≡ tx → value_of (set entries at new) tx ≡ Some new.1
+    changed_own new same = set_own tx d new same entries at (is_first entries tx at d is)
+
+    pub changed_other : (new : ℕ × X) → new.0 ≡ tx → (u : ℕ) → u ≢ tx → value_of (set entries at new) u ≡ value_of entries u
+    changed_other new same u ne = set_other tx d new same u ne entries at (is_first entries tx at d is)
+
+    pub changed_once : (new : ℕ × X) → new.0 ≡ tx → HasEachOnce entries → HasEachOnce (set entries at new)
+    changed_once new same once = set_once tx d new same entries at (is_first entries tx at d is) once

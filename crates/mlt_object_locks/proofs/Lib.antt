@@ -5,6 +5,7 @@ pub mod Lowest
 pub mod Holding
 pub mod Reservations
 pub mod Entries
+pub mod Found
 pub mod Notes
 pub mod Changes
 pub mod Released

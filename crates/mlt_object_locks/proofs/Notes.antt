@@ -4,7 +4,6 @@ use Rattle.std.specs.List.{filter}
 use Rattle.std.proofs.lemmas.Bool.{cases_eq}
 use Rattle.std.proofs.lemmas.Bool.Decides.{nat_tests}
 use Rattle.std.proofs.lemmas.List.Elements.{Contains-push, Contains-push_cases, Contains-append_left}
-use Rattle.indexmap.specs.IndexMap.{IndexMap}
 use Rattle.mlt_object_locks.specs.Locks.{Held, is_of_other}
 use Rattle.mlt_object_locks.specs.Noted.{KeepsNoted, KeysWithRoom, NotesAtMost, NotesEach, SameNoted, held_count, is_held_by, noted_of}
 use Rattle.mlt_object_locks.proofs.Membership.{none_in_empty}
@@ -78,7 +77,7 @@ count_of_others (y ∷ ys) tx u ne = by (not (nat_eq y.0 tx)) refl (count_of_oth
 
 -- ---- what making room leaves
 
-pub keeps_noted : {S : Type 0} (old new : IndexMap ℕ KeysWithRoom S) (tx : ℕ) → SameNoted old new tx → (noted_of new tx).keys ≡ (noted_of old tx).keys → (2 ≤ (noted_of old tx).room → 2 ≤ (noted_of new tx).room) → KeepsNoted old new
+pub keeps_noted : (old new : List (ℕ × KeysWithRoom)) (tx : ℕ) → SameNoted old new tx → (noted_of new tx).keys ≡ (noted_of old tx).keys → (2 ≤ (noted_of old tx).room → 2 ≤ (noted_of new tx).room) → KeepsNoted old new
 keeps_noted old new tx others keys room = record { keys = λ u. by u (cases_eq u tx); room = λ u h. still u h (cases_eq u tx) }
   where
     by : (u : ℕ) → (u ≡ tx) ⊎ (u ≢ tx) → (noted_of new u).keys ≡ (noted_of old u).keys

@@ -3,12 +3,12 @@ use Rattle.std.proofs.Common.{◌≡◌, ◌≢◌, ◌⊎◌, ℕ, List, [], �
 use Rattle.std.specs.List.{filter}
 use Rattle.std.proofs.lemmas.Bool.{cases_eq}
 use Rattle.std.proofs.lemmas.Bool.Decides.{nat_tests}
-use Rattle.std.proofs.lemmas.List.Elements.{Contains-push_cases}
+use Rattle.std.proofs.lemmas.List.Elements.{Contains-append_left, Contains-push, Contains-push_cases}
 use Rattle.indexmap.specs.IndexMap.{IndexMap, IsUnique}
 use Rattle.mlt_object_locks.specs.declared.holders.Holder.{Holder}
 use Rattle.mlt_object_locks.specs.Holders.{is_not_of}
 use Rattle.mlt_object_locks.specs.Cells.{list_at, ChangesAt, ReleasesAt}
-use Rattle.mlt_object_locks.proofs.Membership.{none_in_empty, contains_filtered, filter_contains}
+use Rattle.mlt_object_locks.proofs.Membership.{contains_cases, none_in_empty, contains_filtered, filter_contains}
 
 module _ {S : Type 0} where
   -- no cell is seen yet
@@ -18,6 +18,15 @@ module _ {S : Type 0} where
     gone = λ key holder h. absurd (none_in_empty key h);
     keeps = λ key holder other h. h;
     unique = unique;
+  }
+
+  -- of fewer places the same is true
+  pub releases_also : (start now : IndexMap ℕ (List Holder) S) (keys fewer : List ℕ) (tx : ℕ) → ((k : ℕ) → Contains fewer k → Contains keys k) → ReleasesAt start now keys tx → ReleasesAt start now fewer tx
+  releases_also start now keys fewer tx among releases = record {
+    only = releases.only;
+    gone = λ key holder h. releases.gone key holder (among key h);
+    keeps = releases.keeps;
+    unique = releases.unique;
   }
 
   module _ (start old new : IndexMap ℕ (List Holder) S) (keys : List ℕ) (key tx : ℕ) (so_far : ReleasesAt start old keys tx) (changes : ChangesAt old new key)
@@ -54,3 +63,11 @@ module _ {S : Type 0} where
       keeps = λ k holder other h. kept k holder other (so_far.keeps k holder other h) (cases_eq k key);
       unique = changes.unique;
     }
+
+    among_all : (k : ℕ) → (key ≡ k) ⊎ Contains keys k → Contains (keys ++ key ∷ []) k
+    among_all k (inl e) = subst (Contains (keys ++ key ∷ [])) e (Contains-push keys key)
+    among_all k (inr h) = Contains-append_left keys (key ∷ []) k h
+
+    -- the same in front of the others
+    pub release_sooner : ReleasesAt start new (key ∷ keys) tx
+    release_sooner = releases_also start new (keys ++ key ∷ []) (key ∷ keys) tx (λ k h. among_all k (contains_cases key keys k h)) release_more

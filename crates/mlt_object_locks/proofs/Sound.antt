@@ -24,7 +24,7 @@ use Rattle.mlt_object_locks.proofs.Membership.{among_or_not, contains_filtered, 
 use Rattle.mlt_object_locks.proofs.Notes.{count_of_others, count_pushed_le, count_pushed_same}
 
 -- what is noted, where at least as much is noted
-pub still_noted : {S S' : Type 0} (old : IndexMap ℕ KeysWithRoom S) (new : IndexMap ℕ KeysWithRoom S') (u k : ℕ) → (noted_of new u).keys ≡ (noted_of old u).keys → Contains (noted_of old u).keys k → Contains (noted_of new u).keys k
+pub still_noted : (old : List (ℕ × KeysWithRoom)) (new : List (ℕ × KeysWithRoom)) (u k : ℕ) → (noted_of new u).keys ≡ (noted_of old u).keys → Contains (noted_of old u).keys k → Contains (noted_of new u).keys k
 still_noted old new u k same h = subst (λ ks. Contains ks k) (sym same) h
 
 -- an operation stands at two places at most
@@ -38,9 +38,9 @@ few_places (Size s) = omega arith
 no_bit : (c : ℕ) → c ≡ 0 → (n : ℕ) → InSet c n → ⊥
 no_bit c e n h = none_in_set n (subst (λ m. InSet m n) e h)
 
-module _ {S S' : Type 0} where
+module _ {S : Type 0} where
   -- nothing changed but the room
-  pub sound_unchanged : (old new : IndexMap ℕ (List Holder) S) (reserved : List (ℕ × Cell)) (noted more : IndexMap ℕ KeysWithRoom S') (held : List Held) → IsSound old reserved noted held → ((k : ℕ) → list_at new k ≡ list_at old k) → IsUnique nat_eq new → KeepsNoted noted more
+  pub sound_unchanged : (old new : IndexMap ℕ (List Holder) S) (reserved : List (ℕ × Cell)) (noted more : List (ℕ × KeysWithRoom)) (held : List Held) → IsSound old reserved noted held → ((k : ℕ) → list_at new k ≡ list_at old k) → IsUnique nat_eq new → KeepsNoted noted more
       → IsSound new reserved more held
   sound_unchanged old new reserved noted more held is same unique kept = record {
     unique = unique;
@@ -60,7 +60,7 @@ module _ {S S' : Type 0} where
 
   -- A transaction came at some places, and gave up what is none of its reservation now: after it reserved a cell, or where it
   -- could not and has the reservation that it had.
-  module _ (old mid new : IndexMap ℕ (List Holder) S) (reserved after : List (ℕ × Cell)) (noted more : IndexMap ℕ KeysWithRoom S') (held : List Held) (tx : ℕ) (came from : List ℕ) (is : IsSound old reserved noted held)
+  module _ (old mid new : IndexMap ℕ (List Holder) S) (reserved after : List (ℕ × Cell)) (noted more : List (ℕ × KeysWithRoom)) (held : List Held) (tx : ℕ) (came from : List ℕ) (is : IsSound old reserved noted held)
       (joins : JoinsAt old mid came tx) (gives : GivesUp mid new from (reserved_places after tx) tx) (here : IsHereAt mid (reserved_places after tx) tx)
       (came_by : (k : ℕ) → Contains came k → Contains from k ⊎ Contains (reserved_places after tx) k) (had_by : (k : ℕ) → Contains (reserved_places reserved tx) k → Contains from k ⊎ Contains (reserved_places after tx) k)
       (others : SameReservations reserved after tx) (kept : KeepsNoted noted more) (room : (cell : Cell) → reservation_of after tx ≡ Some cell → 2 ≤ (noted_of more tx).room) where
@@ -143,7 +143,7 @@ module _ {S S' : Type 0} where
     }
 
   -- an operation was granted on the reserved cell
-  module _ (old new : IndexMap ℕ (List Holder) S) (reserved after : List (ℕ × Cell)) (noted more : IndexMap ℕ KeysWithRoom S') (held : List Held) (tx : ℕ) (done : ObjOp × ObjReply) (is : IsSound old reserved noted held)
+  module _ (old new : IndexMap ℕ (List Holder) S) (reserved after : List (ℕ × Cell)) (noted more : List (ℕ × KeysWithRoom)) (held : List Held) (tx : ℕ) (done : ObjOp × ObjReply) (is : IsSound old reserved noted held)
       (had : reservation_of reserved tx ≡ Some (cell_of done.0)) (range : IsInRange (cell_of done.0)) (grants : GrantsAt old new (places_of (cell_of done.0)) tx (bit_of_item done))
       (own : reservation_of after tx ≡ None) (others : SameReservations reserved after tx) (same : SameNoted noted more tx) (notes : NotesEach (noted_of noted tx).keys (noted_of more tx).keys (places_of (cell_of done.0))) where
     abbrev there : List ℕ
@@ -209,7 +209,7 @@ module _ {S S' : Type 0} where
     }
 
   -- a transaction was released
-  module _ (old mid new : IndexMap ℕ (List Holder) S) (reserved after : List (ℕ × Cell)) (noted more : IndexMap ℕ KeysWithRoom S') (held : List Held) (tx : ℕ) (is : IsSound old reserved noted held)
+  module _ (old mid new : IndexMap ℕ (List Holder) S) (reserved after : List (ℕ × Cell)) (noted more : List (ℕ × KeysWithRoom)) (held : List Held) (tx : ℕ) (is : IsSound old reserved noted held)
       (first : ReleasesAt old mid (reserved_places reserved tx) tx) (second : ReleasesAt mid new (noted_of noted tx).keys tx)
       (own : reservation_of after tx ≡ None) (others : SameReservations reserved after tx) (same : SameNoted noted more tx) (none : (noted_of more tx).keys ≡ []) where
     abbrev left : List Held

@@ -76,7 +76,7 @@ pub record ReleasesAt {S : Type 0} (old new : IndexMap ℕ (List Holder) S) (key
   pub unique : IsUnique nat_eq new
 
 -- a place is noted of a transaction that has a class there
-abbrev pub AreBitsNoted : {S S' : Type 0} → IndexMap ℕ (List Holder) S → IndexMap ℕ KeysWithRoom S' → Type 0
+abbrev pub AreBitsNoted : {S : Type 0} → IndexMap ℕ (List Holder) S → List (ℕ × KeysWithRoom) → Type 0
 AreBitsNoted cells noted =
     (key tx bit : ℕ) → HasBit (list_at cells key) tx bit → Contains (noted_of noted tx).keys key
 
@@ -88,8 +88,8 @@ HoldsBit held key tx bit =
 -- Each place has the classes of what is held there. Each transaction that reserved a cell is one of the holders at each of
 -- its places, with room for these to be noted; and where one is a holder, it reserved a cell of that place, or the place is
 -- noted of it. No more places are noted of a transaction than two for each operation that it holds.
-pub record IsSound {S S' : Type 0} (cells : IndexMap ℕ (List Holder) S)
-    (reserved : List (ℕ × Cell)) (noted : IndexMap ℕ KeysWithRoom S') (held : List Held)
+pub record IsSound {S : Type 0} (cells : IndexMap ℕ (List Holder) S)
+    (reserved : List (ℕ × Cell)) (noted : List (ℕ × KeysWithRoom)) (held : List Held)
     : Type 0 where
   pub unique : IsUnique nat_eq cells
   pub in_range : (tx : ℕ) (done : ObjOp × ObjReply) → Contains held (tx, done) → IsInRange (cell_of done.0)

@@ -1,8 +1,7 @@
 -- The places at which transactions hold something, and the room to note more.
 use Rattle.std.specs.Prelude.{ℕ, ◌≡◌, ◌≢◌, ◌+◌, ◌≤◌, nat_eq, Bool, List, [], length, unwrap_or, Contains}
 use Rattle.std.specs.List.{filter}
-use Rattle.indexmap.specs.IndexMap.{IndexMap, get}
-use Rattle.mlt_object_locks.specs.Locks.{Held}
+use Rattle.mlt_object_locks.specs.Locks.{Held, value_of}
 
 -- the numbers of places, and for how many more there is room
 pub record KeysWithRoom : Type 0 where
@@ -14,15 +13,15 @@ abbrev pub nothing_noted : KeysWithRoom
 nothing_noted = record { keys = []; room = 0 }
 
 -- what is noted of the transaction
-abbrev pub noted_of : {S : Type 0} → IndexMap ℕ KeysWithRoom S → ℕ → KeysWithRoom
-noted_of noted tx = unwrap_or (get nat_eq noted tx) nothing_noted
+abbrev pub noted_of : List (ℕ × KeysWithRoom) → ℕ → KeysWithRoom
+noted_of noted tx = unwrap_or (value_of noted tx) nothing_noted
 
 -- of all other transactions the same is noted
-abbrev pub SameNoted : {S : Type 0} → IndexMap ℕ KeysWithRoom S → IndexMap ℕ KeysWithRoom S → ℕ → Type 0
+abbrev pub SameNoted : List (ℕ × KeysWithRoom) → List (ℕ × KeysWithRoom) → ℕ → Type 0
 SameNoted old new tx = (other : ℕ) → other ≢ tx → noted_of new other ≡ noted_of old other
 
 -- the same places are noted, and where there was room for those of a cell there still is
-pub record KeepsNoted {S : Type 0} (old new : IndexMap ℕ KeysWithRoom S) : Type 0 where
+pub record KeepsNoted (old new : List (ℕ × KeysWithRoom)) : Type 0 where
   pub keys : (tx : ℕ) → (noted_of new tx).keys ≡ (noted_of old tx).keys
   pub room : (tx : ℕ) → 2 ≤ (noted_of old tx).room → 2 ≤ (noted_of new tx).room
 

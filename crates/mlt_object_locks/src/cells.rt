@@ -1,65 +1,102 @@
 //! The holders at all places, by the numbers of the places.
 
-ghost use Rattle.std.specs.Prelude.{◌≡◌, ◌<◌, ◌≤◌, ◌+◌, ℕ, OnOk, OnErr, IfErr, [], false, nat_eq, length};
+ghost use Rattle.std.specs.Prelude.{◌≡◌, ◌<◌, ◌≤◌, ◌+◌, ℕ, None, Some, OnOk, OnErr, IfErr, IfNone, IfSome, [], false, nat_eq, length, slice_get};
 ghost use Rattle.std.specs.List.{filter, list_any};
-ghost use Rattle.indexmap.specs.IndexMap.{IsUnique};
+ghost use Rattle.indexmap.specs.IndexMap.{IsUnique, get};
 ghost use Rattle.mlt_object_locks.specs.Locks.{IsLowestOf};
 ghost use Rattle.mlt_object_locks.specs.Classes.{bit_of_item};
 ghost use Rattle.mlt_object_locks.specs.Holders.{IsHere, HasBit, Joins, Grants, StandsAgainst, is_not_of, is_not_idle_of};
 ghost use Rattle.mlt_object_locks.specs.Cells.{list_at, AreBitsNoted, ChangesAt, GivesUp, GrantsAt, HasHolderIfThere, IsHereAt, JoinsAt, ReleasesAt, StandsAtOne};
+ghost use Rattle.mlt_object_locks.specs.Places.{places_if_any};
 ghost use Rattle.mlt_object_locks.specs.Noted.{noted_of, NotesAtMost, NotesEach, SameNoted};
 
 use crate::holders::{Holders, lower};
-use crate::noted::{Noted, note};
+use crate::noted::Noted;
+use crate::places::places_of;
 use indexmap::IndexMap;
+use indexmap::map::Entry;
 use mlt_kinds::Done;
-use mlt_types::{Refusal, TxId};
+use mlt_types::{Cell, Refusal, TxId};
 
 /// The places that have a holder, each by its number.
 pub(crate) type Cells = IndexMap<u64, Holders>;
 
-/// Adds the transaction to the holders at these places, where it is not there.
+// Where a place is in the map. It is looked for at an index first at which it mostly is: to look it up takes longer.
+fn place_of(cells: &Cells, key: u64, likely: usize) -> Option<usize>
+    ensures found { IfSome result (λ at.
+        slice_get cells.now.entries at ≡ Some (key, list_at cells.now key)) }
+    ensures none { IfNone result (get nat_eq cells.now key ≡ None) }
+{
+    match cells.get_index(likely) {
+        Some((other, _)) if *other == key => Some(likely),
+        _ => look_up(cells, key),
+    }
+}
+
+// The same without a guess.
+fn look_up(cells: &Cells, key: u64) -> Option<usize>
+    ensures found { IfSome result (λ at.
+        slice_get cells.now.entries at ≡ Some (key, list_at cells.now key)) }
+    ensures none { IfNone result (get nat_eq cells.now key ≡ None) }
+{
+    match cells.get_full(&key) {
+        Some((at, _, _)) => Some(at),
+        None => None,
+    }
+}
+
+/// Adds the transaction to the holders at these places, where it is not there. Answers where the last of them is in the map.
 ///
 /// # Errors
 /// `OutOfMemory`, where a growth was refused; the transaction may have come at some of the places.
-pub(crate) fn join_each(cells: &mut Cells, places: &[u64], tx: TxId) -> Result<(), Refusal>
+pub(crate) fn join_each(cells: &mut Cells, places: &[u64], tx: TxId) -> Result<usize, Refusal>
     requires { IsUnique nat_eq cells.old }
     ensures joins { JoinsAt cells.old cells.new places.now tx }
     ensures here { OnOk result (IsHereAt cells.new places.now tx) }
     ensures refusal { IfErr result (λ refusal. refusal ≡ Refusal.OutOfMemory) }
 {
+    let mut last = 0;
     for place in places {
-        join(cells, *place, tx)?;
+        last = join(cells, *place, tx)?;
     }
-    Ok(())
+    Ok(last)
 }
 
-// Adds the transaction to the holders at a place, if it is not there.
-fn join(cells: &mut Cells, key: u64, tx: TxId) -> Result<(), Refusal>
+// Adds the transaction to the holders at a place, if it is not there. Answers where the place is in the map.
+fn join(cells: &mut Cells, key: u64, tx: TxId) -> Result<usize, Refusal>
     ensures others { ChangesAt cells.old cells.new key }
     ensures joins { OnOk result (Joins (list_at cells.old key) (list_at cells.new key) tx) }
     ensures err { OnErr result (list_at cells.new key ≡ list_at cells.old key) }
     ensures refusal { IfErr result (λ refusal. refusal ≡ Refusal.OutOfMemory) }
 {
     let alloc = *cells.allocator();
-    match cells.get_mut(&key) {
-        Some(holders) => holders.join(tx),
-        None => {
-            let mut holders = Holders::new(alloc);
-            holders.join(tx)?;
-            cells.insert(key, holders)?;
-            Ok(())
-        }
+    match cells.entry(key)? {
+        Entry::Occupied(entry) => {
+            let at = entry.index();
+            entry.into_mut().join(tx)?;
+            Ok(at)
+        },
+        Entry::Vacant(entry) => {
+            let at = entry.index();
+            entry.insert(Holders::of(alloc, tx));
+            Ok(at)
+        },
     }
 }
 
 /// The lowest number of another transaction that holds a clashing operation at one of these places, if there is one.
-pub(crate) fn lowest_clash(cells: &Cells, places: &[u64], tx: TxId, done: &Done) -> Option<TxId>
+pub(crate) fn lowest_clash(
+    cells: &Cells,
+    places: &[u64],
+    likely: usize,
+    tx: TxId,
+    done: &Done,
+) -> Option<TxId>
     ensures { IsLowestOf (StandsAtOne cells.now places.now tx done.now) result }
 {
     let mut lowest = None;
     for place in places {
-        if let Some(holder) = lowest_clash_at(cells, *place, tx, done) {
+        if let Some(holder) = lowest_clash_at(cells, *place, likely, tx, done) {
             lowest = Some(lower(lowest, holder));
         }
     }
@@ -67,11 +104,11 @@ pub(crate) fn lowest_clash(cells: &Cells, places: &[u64], tx: TxId, done: &Done)
 }
 
 // The same at one place.
-fn lowest_clash_at(cells: &Cells, key: u64, tx: TxId, done: &Done) -> Option<TxId>
+fn lowest_clash_at(cells: &Cells, key: u64, likely: usize, tx: TxId, done: &Done) -> Option<TxId>
     ensures { IsLowestOf (StandsAgainst (list_at cells.now key) tx done.now) result }
 {
-    let holders = cells.get(&key)?;
-    holders.lowest_clash(tx, done)
+    let at = place_of(cells, key, likely)?;
+    cells[at].lowest_clash(tx, done)
 }
 
 /// The transaction, which is one of the holders at these places, holds one operation more there. A place is noted, where it
@@ -80,6 +117,7 @@ pub(crate) fn grant_each(
     cells: &mut Cells,
     noted: &mut Noted,
     places: &[u64],
+    likely: usize,
     tx: TxId,
     done: &Done,
 )
@@ -92,13 +130,13 @@ pub(crate) fn grant_each(
     ensures notes { NotesEach (noted_of noted.old tx).keys (noted_of noted.new tx).keys places.now }
 {
     for place in places {
-        grant(cells, noted, *place, tx, done);
+        grant(cells, noted, *place, likely, tx, done);
     }
 }
 
 // The transaction, which is one of the holders at a place, holds one operation more there. The place is noted, where it
 // was idle.
-fn grant(cells: &mut Cells, noted: &mut Noted, key: u64, tx: TxId, done: &Done)
+fn grant(cells: &mut Cells, noted: &mut Noted, key: u64, likely: usize, tx: TxId, done: &Done)
     requires here { IsHere (list_at cells.old key) tx }
     requires room { 0 < (noted_of noted.old tx).room }
     requires noted { AreBitsNoted cells.old noted.old }
@@ -109,21 +147,21 @@ fn grant(cells: &mut Cells, noted: &mut Noted, key: u64, tx: TxId, done: &Done)
     ensures room { (noted_of noted.old tx).room ≤ (noted_of noted.new tx).room + 1 }
     ensures notes { NotesAtMost (noted_of noted.old tx).keys (noted_of noted.new tx).keys key }
 {
-    if grant_at(cells, key, tx, done) {
-        note(noted, tx, key);
+    if grant_at(cells, key, likely, tx, done) {
+        noted.note(tx, key);
     }
 }
 
 // The transaction holds one operation more at a place. Whether it was idle there.
-fn grant_at(cells: &mut Cells, key: u64, tx: TxId, done: &Done) -> bool
+fn grant_at(cells: &mut Cells, key: u64, likely: usize, tx: TxId, done: &Done) -> bool
     requires { IsHere (list_at cells.old key) tx }
     ensures others { ChangesAt cells.old cells.new key }
     ensures grants { let bit = bit_of_item done.now in
         Grants (list_at cells.old key) (list_at cells.new key) tx bit }
     ensures idle { result ≡ false → (bit : ℕ) × HasBit (list_at cells.old key) tx bit }
 {
-    match cells.get_mut(&key) {
-        Some(holders) => holders.grant(tx, done),
+    match place_of(cells, key, likely) {
+        Some(at) => cells.pair_mut(at).1.grant(tx, done),
         None => unreachable!(),
     }
 }
@@ -137,6 +175,16 @@ pub(crate) fn give_up_each(cells: &mut Cells, places: &[u64], kept: &[u64], tx: 
         if !is_among(kept, *place) {
             give_up(cells, *place, tx);
         }
+    }
+}
+
+/// The same at the places of a cell, if there is one.
+pub(crate) fn give_up_cell(cells: &mut Cells, cell: Option<Cell>, kept: &[u64], tx: TxId)
+    requires { IsUnique nat_eq cells.old }
+    ensures { GivesUp cells.old cells.new (places_if_any cell) kept.now tx }
+{
+    if let Some(cell) = cell {
+        give_up_each(cells, places_of(&cell).as_slice(), kept, tx);
     }
 }
 
@@ -163,18 +211,20 @@ fn give_up(cells: &mut Cells, key: u64, tx: TxId)
     }
 }
 
-// Takes the transaction away at a place.
+// Takes the transaction away at a place, which is mostly the last in the map.
 fn release(cells: &mut Cells, key: u64, tx: TxId)
     ensures others { ChangesAt cells.old cells.new key }
     ensures released { list_at cells.new key ≡ filter (is_not_of tx) (list_at cells.old key) }
     ensures gone { HasHolderIfThere cells.new key }
 {
-    let Some(holders) = cells.get_mut(&key) else {
+    let last = cells.len().saturating_sub(1);
+    let Some(at) = place_of(cells, key, last) else {
         return;
     };
-    holders.release(tx);
-    if holders.is_empty() {
-        cells.swap_remove(&key);
+    if cells[at].is_alone(tx) {
+        cells.swap_remove_index(at);
+    } else {
+        cells[at].release(tx);
     }
 }
 
@@ -185,17 +235,17 @@ pub(crate) fn release_noted(cells: &mut Cells, noted: &mut Noted, tx: TxId)
     ensures others { SameNoted noted.old noted.new tx }
     ensures none { (noted_of noted.new tx).keys ≡ [] }
 {
-    if let Some(keys) = noted.swap_remove(&tx) {
+    if let Some(keys) = noted.take(tx) {
         release_each(cells, keys.as_slice(), tx);
     }
 }
 
-/// Takes the transaction away at these places.
+/// Takes the transaction away at these places: first at the last, which came last to the map.
 pub(crate) fn release_each(cells: &mut Cells, keys: &[u64], tx: TxId)
     requires { IsUnique nat_eq cells.old }
     ensures { ReleasesAt cells.old cells.new keys.now tx }
 {
-    for key in keys {
-        release(cells, *key, tx);
+    for later in 0..keys.len() {
+        release(cells, keys[keys.len() - 1 - later], tx);
     }
 }

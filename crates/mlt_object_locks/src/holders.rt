@@ -50,13 +50,14 @@ impl Model for Holders {
 }
 
 impl Holders {
-    /// Nobody. It takes no memory.
-    pub fn new(alloc: Global) -> Holders
-        ensures { result ≡ [] }
+    /// The transaction alone. It takes no memory.
+    pub fn of(alloc: Global, tx: TxId) -> Holders
+        ensures { Joins [] result tx }
     {
-        Holders {
-            holders: SmallVec::new(alloc),
-        }
+        let classes = ClassSet::new();
+        let mut holders = SmallVec::new(alloc);
+        holders.push_reserved(Holder { tx, classes });
+        Holders { holders }
     }
 
     /// Whether there is nobody.
@@ -83,12 +84,19 @@ impl Holders {
         Ok(())
     }
 
+    /// Whether nobody else is there.
+    pub fn is_alone(&self, tx: TxId) -> bool
+        ensures { result ≡ list_all (is_of tx) self.now }
+    {
+        is_alone(&self.holders, tx)
+    }
+
     /// The lowest number of another transaction that holds an operation here with which this one clashes, if there is
     /// one.
     pub fn lowest_clash(&self, tx: TxId, done: &Done) -> Option<TxId>
         ensures { IsLowestOf (StandsAgainst self.now tx done.now) result }
     {
-        if is_alone(&self.holders, tx) {
+        if self.is_alone(tx) {
             return None;
         }
         lowest_in_the_way(&self.holders, tx, &in_the_way_of(done))

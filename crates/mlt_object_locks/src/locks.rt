@@ -6,12 +6,13 @@ ghost use Rattle.mlt_kinds.specs.Operations.{cell_of};
 ghost use Rattle.mlt_object_locks.specs.Locks.{no_locks, HoldsClash, IsLowestClash, is_of_other, reservation_of, SameReservations};
 
 use crate::cells::{
-    Cells, give_up_each, grant_each, join_each, lowest_clash, release_each, release_noted,
+    Cells, give_up_cell, give_up_each, grant_each, join_each, lowest_clash, release_each,
+    release_noted,
 };
 use crate::held::HeldList;
-use crate::noted::{Noted, make_room};
+use crate::noted::Noted;
 use crate::places::{is_in_range, looked_at, places_if_any, places_of};
-use crate::reserved::{Reserved, reserve_cell, reserved_cell, take_reservation};
+use crate::reserved::Reserved;
 use indexmap::IndexMap;
 use mlt_kinds::Done;
 use mlt_types::{Cell, Refusal, TxId};
@@ -24,6 +25,8 @@ use std::marker::Model;
 #[derive(Drop)]
 pub struct ObjectLocks {
     cells: Cells,
+    // Where the place that a reservation came to last is in the map, unless others went since then.
+    latest: usize,
     reserved: Reserved,
     noted: Noted,
     held: HeldList,
@@ -48,8 +51,9 @@ impl ObjectLocks {
     {
         ObjectLocks {
             cells: IndexMap::new(alloc),
-            reserved: Vec::new(alloc),
-            noted: IndexMap::new(alloc),
+            latest: 0,
+            reserved: Reserved::new(alloc),
+            noted: Noted::new(alloc),
             held: HeldList::new(),
         }
     }
@@ -67,15 +71,18 @@ impl ObjectLocks {
         ensures refusal { IfErr result (λ refusal. refusal ≡ Refusal.OutOfMemory) }
     {
         let places = places_of(cell);
-        self.reserved.reserve(1)?;
-        make_room(&mut self.noted, tx)?;
-        if let Err(refusal) = join_each(&mut self.cells, places.as_slice(), tx) {
-            let kept = places_if_any(reserved_cell(&self.reserved, tx));
-            give_up_each(&mut self.cells, places.as_slice(), kept.as_slice(), tx);
-            return Err(refusal);
+        self.reserved.make_room()?;
+        self.noted.make_room(tx)?;
+        match join_each(&mut self.cells, places.as_slice(), tx) {
+            Ok(latest) => self.latest = latest,
+            Err(refusal) => {
+                let kept = places_if_any(self.reserved.cell_of(tx));
+                give_up_each(&mut self.cells, places.as_slice(), kept.as_slice(), tx);
+                return Err(refusal);
+            },
         }
-        let before = places_if_any(reserve_cell(&mut self.reserved, tx, *cell));
-        give_up_each(&mut self.cells, before.as_slice(), places.as_slice(), tx);
+        let before = self.reserved.put(tx, *cell);
+        give_up_cell(&mut self.cells, before, places.as_slice(), tx);
         Ok(())
     }
 
@@ -98,15 +105,16 @@ impl ObjectLocks {
         let cell = done.cell();
         is_in_range(&cell);
         let looked = looked_at(&done.op());
-        if let Some(holder) = lowest_clash(&self.cells, looked.as_slice(), tx, done) {
+        if let Some(holder) = lowest_clash(&self.cells, looked.as_slice(), self.latest, tx, done) {
             return Err(holder);
         }
-        take_reservation(&mut self.reserved, tx);
+        self.reserved.take(tx);
         let places = places_of(&cell);
         grant_each(
             &mut self.cells,
             &mut self.noted,
             places.as_slice(),
+            self.latest,
             tx,
             done,
         );
@@ -120,7 +128,7 @@ impl ObjectLocks {
         ensures released { reservation_of self.new.reserved tx ≡ None }
         ensures others { SameReservations self.old.reserved self.new.reserved tx }
     {
-        let places = places_if_any(take_reservation(&mut self.reserved, tx));
+        let places = places_if_any(self.reserved.take(tx));
         release_each(&mut self.cells, places.as_slice(), tx);
         release_noted(&mut self.cells, &mut self.noted, tx);
         self.held = self.held.without(&tx);

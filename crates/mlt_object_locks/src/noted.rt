@@ -2,11 +2,14 @@
 //!
 //! A place is noted when an operation that stands there is granted, in room that the reservation made. So no more places
 //! are noted of a transaction than two for each operation that it holds, however many cells it has reserved.
+//!
+//! Few transactions hold something at a time, and to go through a list of them takes less than to keep a table.
 
-ghost use Rattle.std.specs.Prelude.{◌≡◌, ◌<◌, ◌≤◌, ◌+◌, ◌++◌, ◌∷◌, [], OnOk, OnErr, IfErr};
+ghost use Rattle.std.specs.Prelude.{◌≡◌, ◌<◌, ◌≤◌, ◌+◌, ◌++◌, ◌∷◌, [], None, Some, OnOk, OnErr, IfErr, position};
+ghost use Rattle.std.specs.Option.{option_map_or};
+ghost use Rattle.mlt_object_locks.specs.Locks.{is_entry_of};
 ghost use Rattle.mlt_object_locks.specs.Noted.{noted_of, SameNoted};
 
-use indexmap::IndexMap;
 use mlt_types::{Refusal, TxId};
 use smallvec::SmallVec;
 use std::alloc::Global;
@@ -52,6 +55,20 @@ impl CellKeys {
         ensures err { OnErr result (self.new ≡ self.old) }
         ensures refusal { IfErr result (λ refusal. refusal ≡ Refusal.OutOfMemory) }
     {
+        if self.keys.capacity() - self.keys.len() >= 2 {
+            return Ok(());
+        }
+        self.grow()
+    }
+
+    // The same by a growth.
+    #[inline(never)]
+    fn grow(&mut self) -> Result<(), Refusal>
+        ensures keys { self.new.keys ≡ self.old.keys }
+        ensures room { OnOk result (2 ≤ self.new.room) }
+        ensures err { OnErr result (self.new ≡ self.old) }
+        ensures refusal { IfErr result (λ refusal. refusal ≡ Refusal.OutOfMemory) }
+    {
         self.keys.reserve(2)?;
         Ok(())
     }
@@ -73,41 +90,96 @@ impl CellKeys {
     }
 }
 
-/// The places of each transaction.
-pub(crate) type Noted = IndexMap<TxId, CellKeys>;
+/// The places of each transaction. A contract sees the list of the transactions with their places, each transaction once.
+#[derive(Drop)]
+pub(crate) struct Noted {
+    entries: Vec<(TxId, CellKeys)>,
+}
 
-/// Makes room for two more places of the transaction, where there is less.
-///
-/// # Errors
-/// `OutOfMemory`, where a growth was refused; there is then as much room as before.
-pub(crate) fn make_room(noted: &mut Noted, tx: TxId) -> Result<(), Refusal>
-    ensures others { SameNoted noted.old noted.new tx }
-    ensures keys { (noted_of noted.new tx).keys ≡ (noted_of noted.old tx).keys }
-    ensures room { OnOk result (2 ≤ (noted_of noted.new tx).room) }
-    ensures err { OnErr result ((noted_of noted.new tx).room ≡ (noted_of noted.old tx).room) }
-    ensures refusal { IfErr result (λ refusal. refusal ≡ Refusal.OutOfMemory) }
-{
-    let alloc = *noted.allocator();
-    match noted.get_mut(&tx) {
-        Some(keys) => keys.reserve(),
-        None => {
-            let mut keys = CellKeys::new(alloc);
-            keys.reserve()?;
-            noted.insert(tx, keys)?;
-            Ok(())
+impl Model for Noted {
+    ghost use Rattle.std.specs.Prelude.{ℕ, List};
+    ghost use Rattle.mlt_object_locks.specs.Locks.{HasEachOnce};
+    ghost use Rattle.mlt_object_locks.specs.Noted.{KeysWithRoom};
+
+    ghost Value = { List (ℕ × KeysWithRoom) };
+
+    ghost view = { λ noted. noted.entries.items };
+
+    ghost invariant = { λ noted. HasEachOnce noted.entries.items };
+}
+
+impl Noted {
+    /// Nothing of any transaction. It takes no memory.
+    pub fn new(alloc: Global) -> Noted
+        ensures { result ≡ [] }
+    {
+        Noted {
+            entries: Vec::new(alloc),
+        }
+    }
+
+    /// Makes room for two more places of the transaction, where there is less.
+    ///
+    /// # Errors
+    /// `OutOfMemory`, where a growth was refused; there is then as much room as before.
+    pub fn make_room(&mut self, tx: TxId) -> Result<(), Refusal>
+        ensures others { SameNoted self.old self.new tx }
+        ensures keys { (noted_of self.new tx).keys ≡ (noted_of self.old tx).keys }
+        ensures room { OnOk result (2 ≤ (noted_of self.new tx).room) }
+        ensures err { OnErr result ((noted_of self.new tx).room ≡ (noted_of self.old tx).room) }
+        ensures refusal { IfErr result (λ refusal. refusal ≡ Refusal.OutOfMemory) }
+    {
+        match place_of(&self.entries, tx) {
+            Some(at) => self.entries[at].1.reserve(),
+            None => self.begin(tx),
+        }
+    }
+
+    // The same of a transaction of which nothing is noted yet.
+    #[inline(never)]
+    fn begin(&mut self, tx: TxId) -> Result<(), Refusal>
+        requires { position (is_entry_of tx) self.old ≡ None }
+        ensures others { SameNoted self.old self.new tx }
+        ensures keys { (noted_of self.new tx).keys ≡ (noted_of self.old tx).keys }
+        ensures room { OnOk result (2 ≤ (noted_of self.new tx).room) }
+        ensures err { OnErr result ((noted_of self.new tx).room ≡ (noted_of self.old tx).room) }
+        ensures refusal { IfErr result (λ refusal. refusal ≡ Refusal.OutOfMemory) }
+    {
+        let mut keys = CellKeys::new(*self.entries.allocator());
+        keys.reserve()?;
+        self.entries.push((tx, keys))?;
+        Ok(())
+    }
+
+    /// Notes a place of the transaction, in room that was made. It takes no memory.
+    pub fn note(&mut self, tx: TxId, key: u64)
+        requires { 0 < (noted_of self.old tx).room }
+        ensures others { SameNoted self.old self.new tx }
+        ensures added { (noted_of self.new tx).keys ≡ (noted_of self.old tx).keys ++ key ∷ [] }
+        ensures room { (noted_of self.old tx).room ≤ (noted_of self.new tx).room + 1 }
+    {
+        match place_of(&self.entries, tx) {
+            Some(at) => self.entries[at].1.add(key),
+            None => unreachable!(),
+        }
+    }
+
+    /// Takes away what is noted of the transaction, and answers it, if it is anything.
+    pub fn take(&mut self, tx: TxId) -> Option<CellKeys>
+        ensures keys { option_map_or (λ places. places.keys) result [] ≡ (noted_of self.old tx).keys }
+        ensures others { SameNoted self.old self.new tx }
+        ensures none { (noted_of self.new tx).keys ≡ [] }
+    {
+        match place_of(&self.entries, tx) {
+            Some(at) => Some(self.entries.remove(at).1),
+            None => None,
         }
     }
 }
 
-/// Notes a place of the transaction, in room that was made. It takes no memory.
-pub(crate) fn note(noted: &mut Noted, tx: TxId, key: u64)
-    requires { 0 < (noted_of noted.old tx).room }
-    ensures others { SameNoted noted.old noted.new tx }
-    ensures added { (noted_of noted.new tx).keys ≡ (noted_of noted.old tx).keys ++ key ∷ [] }
-    ensures room { (noted_of noted.old tx).room ≤ (noted_of noted.new tx).room + 1 }
+// Where the transaction is in the list, if it is there.
+fn place_of(entries: &[(TxId, CellKeys)], tx: TxId) -> Option<usize>
+    ensures { result ≡ position (is_entry_of tx) entries.now }
 {
-    match noted.get_mut(&tx) {
-        Some(keys) => keys.add(key),
-        None => unreachable!(),
-    }
+    entries.iter().position(|entry| entry.0 == tx)
 }

@@ -3,55 +3,97 @@
 //! A transaction has one at most, and a grant uses it up. So few stand at a time, and to go through a list of them takes less
 //! than to keep a table.
 
-ghost use Rattle.std.specs.Prelude.{◌≡◌, ◌==◌, ◌<◌, None, Some, find, option_copied};
-ghost use Rattle.std.specs.Vec.{vec_capacity, vec_len};
-ghost use Rattle.mlt_object_locks.specs.Locks.{SameReservations, reservation_of};
+ghost use Rattle.std.specs.Prelude.{◌≡◌, ◌<◌, ℕ, [], None, Some, OnOk, OnErr, IfErr, position};
+ghost use Rattle.mlt_object_locks.specs.Locks.{SameReservations, is_entry_of, reservation_of};
 
-use mlt_types::{Cell, TxId};
+use mlt_types::{Cell, Refusal, TxId};
+use std::alloc::Global;
+use std::marker::Model;
 
-/// The cells that are reserved, each with its transaction.
-pub(crate) type Reserved = Vec<(TxId, Cell)>;
+/// The cells that are reserved, each with its transaction. A contract sees their list, in which each transaction is once, and
+/// for how many more there is room.
+#[derive(Drop)]
+pub(crate) struct Reserved {
+    entries: Vec<(TxId, Cell)>,
+}
 
-/// The cell that the transaction reserved, if it did.
-pub(crate) fn reserved_cell(reserved: &[(TxId, Cell)], tx: TxId) -> Option<Cell>
-    ensures { result ≡ reservation_of reserved.now tx }
-{
-    match entry_of(reserved, tx) {
-        Some(entry) => Some(entry.1),
-        None => None,
+impl Model for Reserved {
+    ghost use Rattle.std.specs.Prelude.{◌-◌};
+    ghost use Rattle.std.specs.Vec.{vec_capacity, vec_len};
+    ghost use Rattle.mlt_object_locks.specs.Locks.{HasEachOnce, CellsWithRoom};
+
+    ghost Value = { CellsWithRoom };
+
+    ghost view = { λ reserved. record {
+      items = reserved.entries.items;
+      room = vec_capacity reserved.entries - vec_len reserved.entries;
+    } };
+
+    ghost invariant = { λ reserved. HasEachOnce reserved.entries.items };
+}
+
+impl Reserved {
+    /// No cell. It takes no memory.
+    pub fn new(alloc: Global) -> Reserved
+        ensures { result.items ≡ [] }
+    {
+        Reserved {
+            entries: Vec::new(alloc),
+        }
+    }
+
+    /// Makes room for one more.
+    ///
+    /// # Errors
+    /// `OutOfMemory`, where a growth was refused.
+    pub fn make_room(&mut self) -> Result<(), Refusal>
+        ensures items { self.new.items ≡ self.old.items }
+        ensures room { OnOk result (0 < self.new.room) }
+        ensures refusal { IfErr result (λ refusal. refusal ≡ Refusal.OutOfMemory) }
+    {
+        self.entries.reserve(1)?;
+        Ok(())
+    }
+
+    /// The cell that the transaction reserved, if it did.
+    pub fn cell_of(&self, tx: TxId) -> Option<Cell>
+        ensures { result ≡ reservation_of self.now.items tx }
+    {
+        match place_of(&self.entries, tx) {
+            Some(at) => Some(self.entries[at].1),
+            None => None,
+        }
+    }
+
+    /// Takes the reservation of the transaction away, and answers its cell, if there was one.
+    pub fn take(&mut self, tx: TxId) -> Option<Cell>
+        ensures cell { result ≡ reservation_of self.old.items tx }
+        ensures taken { reservation_of self.new.items tx ≡ None }
+        ensures others { SameReservations self.old.items self.new.items tx }
+        ensures room { 0 < self.old.room → 0 < self.new.room }
+    {
+        match place_of(&self.entries, tx) {
+            Some(at) => Some(self.entries.remove(at).1),
+            None => None,
+        }
+    }
+
+    /// Reserves a cell for the transaction, in room that was made, and answers the one that it had reserved before, if any.
+    pub fn put(&mut self, tx: TxId, cell: Cell) -> Option<Cell>
+        requires room { 0 < self.old.room }
+        ensures before { result ≡ reservation_of self.old.items tx }
+        ensures reserved { reservation_of self.new.items tx ≡ Some cell }
+        ensures others { SameReservations self.old.items self.new.items tx }
+    {
+        let before = self.take(tx);
+        self.entries.push_reserved((tx, cell));
+        before
     }
 }
 
-// The first entry of the transaction, if it has one.
-fn entry_of(reserved: &[(TxId, Cell)], tx: TxId) -> Option<&(TxId, Cell)>
-    ensures { option_copied result ≡ find (λ entry. entry.0 == tx) reserved.now }
+// Where the transaction is in the list, if it is there.
+fn place_of(entries: &[(TxId, Cell)], tx: TxId) -> Option<usize>
+    ensures { result ≡ position (is_entry_of tx) entries.now }
 {
-    reserved.iter().find(|entry| entry.0 == tx)
-}
-
-/// Takes the reservation of the transaction away, and answers its cell, if there was one.
-pub(crate) fn take_reservation(reserved: &mut Reserved, tx: TxId) -> Option<Cell>
-    ensures cell { result ≡ reservation_of reserved.old.items tx }
-    ensures taken { reservation_of reserved.new.items tx ≡ None }
-    ensures others { SameReservations reserved.old.items reserved.new.items tx }
-    ensures room { vec_len reserved.old < vec_capacity reserved.old
-        → vec_len reserved.new < vec_capacity reserved.new }
-{
-    let cell = reserved_cell(reserved, tx);
-    if cell.is_some() {
-        reserved.retain(|entry| entry.0 != tx);
-    }
-    cell
-}
-
-/// Reserves a cell for the transaction, in room that was made, and answers the one that it had reserved before, if any.
-pub(crate) fn reserve_cell(reserved: &mut Reserved, tx: TxId, cell: Cell) -> Option<Cell>
-    requires room { vec_len reserved.old < vec_capacity reserved.old }
-    ensures before { result ≡ reservation_of reserved.old.items tx }
-    ensures reserved { reservation_of reserved.new.items tx ≡ Some cell }
-    ensures others { SameReservations reserved.old.items reserved.new.items tx }
-{
-    let before = take_reservation(reserved, tx);
-    reserved.push_reserved((tx, cell));
-    before
+    entries.iter().position(|entry| entry.0 == tx)
 }

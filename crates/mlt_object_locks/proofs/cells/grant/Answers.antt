@@ -4,7 +4,7 @@ use Rattle.mlt_object_locks.proofs.cells.grant.Goals as goal
 
 pub returns-then-grant_at-clause-notes : goal.returns-then-grant_at-clause-notes
 returns-then-grant_at-clause-notes c =
-    notes_one (noted_of c.args.noted.now c.args.tx).keys (noted_of c.note.new.noted c.args.tx).keys c.args.key c.note.ensures.added
+    notes_one (noted_of c.args.noted.now c.args.tx).keys (noted_of c.note.new.self c.args.tx).keys c.args.key c.note.ensures.added
 
 pub returns-else-grant_at-clause-notes : goal.returns-else-grant_at-clause-notes
 returns-else-grant_at-clause-notes c =

@@ -61,7 +61,7 @@ invariant_of-self c =
     let done = c.args.done.now in
     let now = c.grant_each.new.cells in
     let noted = c.grant_each.new.noted in
-    let after = c.take_reservation.new.reserved.items in
+    let after = c.take.new.self.items in
     let bit : Option ℕ = bit_of_item done in
     let had = ap (λ (l : Locks). reservation_of l.reserved tx) c.self.view_is ∙ c.requires in
     let places : c.as_slice-2.result.now ≡ places_of (cell_of done.0) = c.as_slice-2.ensures.value ∙ c.places_of-places.ensures ∙ ap places_of c.cell-cell.ensures in
@@ -69,8 +69,8 @@ invariant_of-self c =
     let grants = subst (λ ks. GrantsAt s.cells now ks tx bit) places c.grant_each.ensures.grants in
     let notes = subst (NotesEach (noted_of s.noted tx).keys (noted_of noted tx).keys) places c.grant_each.ensures.notes in
     subst (IsSound now after noted) (sym c.and-self-inside.ensures)
-    (sound_granted s.cells now s.reserved.items after s.noted noted s.held.operations tx done c.self.invariant had range grants c.take_reservation.ensures.taken c.take_reservation.ensures.others c.grant_each.ensures.others notes)
+    (sound_granted s.cells now s.reserved.items after s.noted noted s.held.operations tx done c.self.invariant had range grants c.take.ensures.taken c.take.ensures.others c.grant_each.ensures.others notes)
 
 pub returns-clause-others : goal.returns-clause-others
 returns-clause-others c = λ other ne.
-    c.take_reservation.ensures.others other ne ∙ ap (λ (l : Locks). reservation_of l.reserved other) c.self.view_is
+    c.take.ensures.others other ne ∙ ap (λ (l : Locks). reservation_of l.reserved other) c.self.view_is

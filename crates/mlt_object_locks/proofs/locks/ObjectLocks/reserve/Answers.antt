@@ -7,57 +7,56 @@ use Rattle.mlt_object_locks.proofs.Notes.{keeps_noted}
 use Rattle.mlt_object_locks.proofs.Sound.{sound_unchanged, sound_reserved}
 use Rattle.mlt_object_locks.proofs.locks.ObjectLocks.reserve.Goals as goal
 
-pub invariant_of-self-in_err-make_room : goal.invariant_of-self-in_err-make_room
-invariant_of-self-in_err-make_room c =
+pub invariant_of-self-in_err-make_room-2 : goal.invariant_of-self-in_err-make_room-2
+invariant_of-self-in_err-make_room-2 c =
     let s = c.self.inside in
-    let more = c.make_room.new.noted in
-    let kept = keeps_noted s.noted more c.args.tx c.make_room.ensures.others c.make_room.ensures.keys (λ had. subst (λ n. 2 ≤ n) (sym c.in_err-make_room.ensures.err) had) in
-    subst (λ reserved. IsSound s.cells reserved more s.held.operations) (sym c.reserve.ensures.items)
+    let more = c.make_room-2.new.self in
+    let kept = keeps_noted s.noted more c.args.tx c.make_room-2.ensures.others c.make_room-2.ensures.keys (λ had. subst (λ n. 2 ≤ n) (sym c.in_err-make_room-2.ensures.err) had) in
+    subst (λ reserved. IsSound s.cells reserved more s.held.operations) (sym c.make_room.ensures.items)
     (sound_unchanged s.cells s.cells s.reserved.items s.noted more s.held.operations c.self.invariant (λ k. refl) c.self.invariant.unique kept)
 
 pub invariant_of-self-in-Err : goal.invariant_of-self-in-Err
 invariant_of-self-in-Err c =
     let s = c.self.inside in
     let tx = c.args.tx in
-    let more = c.make_room.new.noted in
+    let more = c.make_room-2.new.self in
     let mid = c.join_each.new.cells in
     let now = c.give_up_each.new.cells in
     let entries = s.reserved.items in
     let places = places_of c.args.cell.now in
-    let kept = keeps_noted s.noted more tx c.make_room.ensures.others c.make_room.ensures.keys (λ had. c.in_ok-make_room.ensures.room) in
+    let kept = keeps_noted s.noted more tx c.make_room-2.ensures.others c.make_room-2.ensures.keys (λ had. c.in_ok-make_room-2.ensures.room) in
     let joins = subst (λ ks. JoinsAt s.cells mid ks tx) (c.as_slice.ensures.value ∙ c.places_of-places.ensures) c.join_each.ensures.joins in
-    let had : c.as_slice-in-Err-2.result.now ≡ reserved_places entries tx = c.as_slice-in-Err-2.ensures.value ∙ c.places_if_any-kept.ensures ∙ ap places_if_any (c.reserved_cell.ensures ∙ ap (λ reserved. reservation_of reserved tx) (c.deref.ensures.value ∙ c.reserve.ensures.items)) in
+    let had : c.as_slice-in-Err-2.result.now ≡ reserved_places entries tx = c.as_slice-in-Err-2.ensures.value ∙ c.places_if_any-kept.ensures ∙ ap places_if_any (c.cell_of.ensures ∙ ap (λ reserved. reservation_of reserved tx) c.make_room.ensures.items) in
     let gives = subst (λ ks. GivesUp mid now places ks tx) had (subst (λ ks. GivesUp mid now ks c.as_slice-in-Err-2.result.now tx) (c.as_slice-in-Err.ensures.value ∙ c.places_of-places.ensures) c.give_up_each.ensures) in
     let here : IsHereAt mid (reserved_places entries tx) tx = λ k h. let there = c.self.invariant.opened tx k h in (there.0, joins.keeps k (holder_of tx there.0) there.1) in
-    subst (λ reserved. IsSound now reserved more s.held.operations) (sym c.reserve.ensures.items)
-    (sound_reserved s.cells mid now entries entries s.noted more s.held.operations tx places places c.self.invariant joins gives here (λ k h. inl h) (λ k h. inr h) (λ u ne. refl) kept (λ cell e. c.in_ok-make_room.ensures.room))
+    subst (λ reserved. IsSound now reserved more s.held.operations) (sym c.make_room.ensures.items)
+    (sound_reserved s.cells mid now entries entries s.noted more s.held.operations tx places places c.self.invariant joins gives here (λ k h. inl h) (λ k h. inr h) (λ u ne. refl) kept (λ cell e. c.in_ok-make_room-2.ensures.room))
 
 pub invariant_of-self-2 : goal.invariant_of-self-2
 invariant_of-self-2 c =
     let s = c.self.inside in
     let tx = c.args.tx in
-    let more = c.make_room.new.noted in
-    let after = c.reserve_cell.new.reserved.items in
+    let more = c.make_room-2.new.self in
+    let after = c.put-before.new.self.items in
     let mid = c.join_each.new.cells in
-    let now = c.give_up_each-2.new.cells in
+    let now = c.give_up_cell.new.cells in
     let entries = s.reserved.items in
     let places = places_of c.args.cell.now in
-    let kept = keeps_noted s.noted more tx c.make_room.ensures.others c.make_room.ensures.keys (λ had. c.in_ok-make_room.ensures.room) in
-    let own : reservation_of after tx ≡ Some c.args.cell.now = c.reserve_cell.ensures.reserved in
+    let kept = keeps_noted s.noted more tx c.make_room-2.ensures.others c.make_room-2.ensures.keys (λ had. c.in_ok-make_room-2.ensures.room) in
+    let own : reservation_of after tx ≡ Some c.args.cell.now = c.put-before.ensures.reserved in
     let own_places : reserved_places after tx ≡ places = ap places_if_any own in
     let others : SameReservations entries after tx = λ other ne.
-    c.reserve_cell.ensures.others other ne ∙ ap (λ reserved. reservation_of reserved other) c.reserve.ensures.items in
+    c.put-before.ensures.others other ne ∙ ap (λ reserved. reservation_of reserved other) c.make_room.ensures.items in
     let came : c.as_slice.result.now ≡ places = c.as_slice.ensures.value ∙ c.places_of-places.ensures in
     let joins = subst (λ ks. JoinsAt s.cells mid ks tx) came c.join_each.ensures.joins in
-    let here = subst (λ ks. IsHereAt mid ks tx) (came ∙ sym own_places) c.in_default.ensures.here in
-    let before : c.as_slice-2.result.now ≡ reserved_places entries tx = c.as_slice-2.ensures.value ∙ c.places_if_any-before.ensures
-    ∙ ap places_if_any (c.reserve_cell.ensures.before ∙ ap (λ reserved. reservation_of reserved tx) c.reserve.ensures.items) in
-    let gives = subst (λ ks. GivesUp mid now (reserved_places entries tx) ks tx) (c.as_slice-3.ensures.value ∙ c.places_of-places.ensures ∙ sym own_places)
-    (subst (λ ks. GivesUp mid now ks c.as_slice-3.result.now tx) before c.give_up_each-2.ensures) in
+    let here = subst (λ ks. IsHereAt mid ks tx) (came ∙ sym own_places) c.in-Ok.ensures.here in
+    let before : c.put-before.result ≡ reservation_of entries tx = c.put-before.ensures.before ∙ ap (λ reserved. reservation_of reserved tx) c.make_room.ensures.items in
+    let gives = subst (λ ks. GivesUp mid now (reserved_places entries tx) ks tx) (c.as_slice-2.ensures.value ∙ c.places_of-places.ensures ∙ sym own_places)
+    (subst (λ cell. GivesUp mid now (places_if_any cell) c.as_slice-2.result.now tx) before c.give_up_cell.ensures) in
     sound_reserved s.cells mid now entries after s.noted more s.held.operations tx places (reserved_places entries tx) c.self.invariant joins gives here (λ k h. inr (subst (λ ks. Contains ks k) (sym own_places) h)) (λ k h. inl h) others kept
-    (λ cell e. c.in_ok-make_room.ensures.room)
+    (λ cell e. c.in_ok-make_room-2.ensures.room)
 
 pub returns-clause-others : goal.returns-clause-others
 returns-clause-others c = λ other ne.
-    c.reserve_cell.ensures.others other ne ∙ ap (λ entries. reservation_of entries other) c.reserve.ensures.items
+    c.put-before.ensures.others other ne ∙ ap (λ entries. reservation_of entries other) c.make_room.ensures.items
     ∙ ap (λ (l : Locks). reservation_of l.reserved other) c.self.view_is
