@@ -1,6 +1,7 @@
 -- Lists of entries, each of a transaction.
 use Prim.Native.Nat.{zero}
-use Rattle.std.proofs.Common.{◌≡◌, ◌≢◌, ℕ, suc, ◌<◌, List, [], ◌∷◌, ◌++◌, false, None, Some, nat_eq, length, get_or, set, sym, subst, ◌∙◌, refl, arith}
+use Rattle.std.proofs.Common.{◌≡◌, ◌≢◌, ℕ, suc, ◌-◌, ◌<◌, List, [], ◌∷◌, ◌++◌, false, None, Some, nat_eq, length, length-append, slice_get, get_or, set, sym, ap, subst, ◌∙◌, refl, arith}
+use Rattle.std.specs.Prelude.{unwrap_or}
 use Rattle.std.proofs.lemmas.Bool.Decides.{nat_tests}
 use Rattle.std.proofs.lemmas.List.Elements.{Contains-get_or}
 use Rattle.std.proofs.lemmas.List.Quantifiers.{position-Some}
@@ -38,6 +39,45 @@ module _ {X : Type 0} where
   pushed_once (entry ∷ entries) tx x none once =
       let other : entry.0 ≢ tx = λ e. (let same = e in grind (arith, nat_tests)) in
       (pushed_other entries tx x entry.0 other ∙ once.0, pushed_once entries tx x (grind (arith, nat_tests)) once.1)
+
+  -- ---- the last goes
+
+  at_end : (rest : List (ℕ × X)) (last : ℕ × X) → slice_get (rest ++ last ∷ []) (length rest) ≡ Some last
+  at_end [] last = refl
+  at_end (entry ∷ rest) last = at_end rest last
+
+  before_last : (rest : List (ℕ × X)) (last : ℕ × X) → HasEachOnce (rest ++ last ∷ []) → (value_of rest last.0 ≡ None) × HasEachOnce rest
+  before_last [] last once = (refl, once.1)
+  before_last (entry ∷ rest) last once =
+      let before = before_last rest last once.1 in
+      let own = pushed_own rest last.0 last.1 before.0 in
+      let other : entry.0 ≢ last.0 = λ e. (let none = once.0 in let same = e in grind (arith, nat_tests)) in
+      let still = sym (pushed_other rest last.0 last.1 entry.0 other) ∙ once.0 in
+      (grind (arith, nat_tests), (still, before.1))
+
+  module _ (entries rest : List (ℕ × X)) (last : ℕ × X) (is : entries ≡ rest ++ last ∷ []) where
+    pub last_is : (found : ℕ × X) → slice_get entries (length entries - 1) ≡ Some found → found ≡ last
+    last_is found there =
+        let len = ap length is in
+        let longer = length-append rest (last ∷ []) in
+        let end : length entries - 1 ≡ length rest = omega arith in
+        ap (λ o. unwrap_or o last) (sym there ∙ (λ j. slice_get (is j) (end j)) ∙ at_end rest last)
+
+    module _ (tx : ℕ) (own : last.0 ≡ tx) (once : HasEachOnce entries) where
+      before : (value_of rest last.0 ≡ None) × HasEachOnce rest
+      before = before_last rest last (subst HasEachOnce is once)
+
+      pub popped_value : value_of entries tx ≡ Some last.1
+      popped_value = (λ j. value_of (is j) (sym own j)) ∙ pushed_own rest last.0 last.1 before.0
+
+      pub popped_own : value_of rest tx ≡ None
+      popped_own = ap (value_of rest) (sym own) ∙ before.0
+
+      pub popped_other : (u : ℕ) → u ≢ tx → value_of rest u ≡ value_of entries u
+      popped_other u ne = sym (pushed_other rest last.0 last.1 u (λ e. ne (e ∙ own))) ∙ ap (λ l. value_of l u) (sym is)
+
+      pub popped_once : HasEachOnce rest
+      popped_once = before.1
 
   -- ---- one that is found
 

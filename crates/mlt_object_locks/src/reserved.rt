@@ -70,7 +70,21 @@ impl Reserved {
         ensures cell { result ≡ reservation_of self.old.items tx }
         ensures taken { reservation_of self.new.items tx ≡ None }
         ensures others { SameReservations self.old.items self.new.items tx }
-        ensures room { 0 < self.old.room → 0 < self.new.room }
+    {
+        match self.entries.last() {
+            // It is mostly the last that came.
+            Some(entry) if entry.0 == tx => Some(self.entries.pop().unwrap().1),
+            _ => self.take_within(tx),
+        }
+    }
+
+    // The same, wherever it is.
+    #[cold]
+    #[inline(never)]
+    fn take_within(&mut self, tx: TxId) -> Option<Cell>
+        ensures cell { result ≡ reservation_of self.old.items tx }
+        ensures taken { reservation_of self.new.items tx ≡ None }
+        ensures others { SameReservations self.old.items self.new.items tx }
     {
         match place_of(&self.entries, tx) {
             Some(at) => Some(self.entries.remove(at).1),
@@ -85,9 +99,17 @@ impl Reserved {
         ensures reserved { reservation_of self.new.items tx ≡ Some cell }
         ensures others { SameReservations self.old.items self.new.items tx }
     {
-        let before = self.take(tx);
-        self.entries.push_reserved((tx, cell));
-        before
+        match place_of(&self.entries, tx) {
+            Some(at) => {
+                let before = self.entries[at].1;
+                self.entries[at] = (tx, cell);
+                Some(before)
+            },
+            None => {
+                self.entries.push_reserved((tx, cell));
+                None
+            },
+        }
     }
 }
 

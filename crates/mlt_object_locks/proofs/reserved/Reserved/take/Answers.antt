@@ -1,40 +1,41 @@
-use Rattle.std.proofs.Common.{◌≡◌, None, Some, position, ap, sym, subst, ◌∙◌}
-use Rattle.mlt_object_locks.specs.Locks.{CellsWithRoom, HasEachOnce, is_entry_of, reservation_of}
-use Rattle.mlt_object_locks.proofs.Entries.{found_value, nothing_found, taken_once, taken_other, taken_own}
+use Rattle.std.proofs.Common.{◌≡◌, ◌-◌, ◌++◌, ◌∷◌, [], true, nat_eq, length, slice_get, ap, sym, ◌∙◌, arith}
+use Rattle.std.specs.Option.{option_to_list}
+use Rattle.std.proofs.lemmas.Bool.Decides.{nat_tests}
+use Rattle.mlt_object_locks.specs.Locks.{CellsWithRoom, reservation_of}
+use Rattle.mlt_object_locks.proofs.Entries.{last_is, popped_once, popped_other, popped_own, popped_value}
 use Rattle.mlt_object_locks.proofs.Reservations.{reservation_found}
 use Rattle.mlt_object_locks.proofs.reserved.Reserved.take.Goals as goal
 
-found : (c : goal.After-remove) → position (is_entry_of c.args.tx) c.self.inside.entries.items ≡ Some c.in-Some.at
-found c = ap (position (is_entry_of c.args.tx)) (sym c.deref.ensures.value) ∙ sym c.place_of.ensures ∙ c.in-Some.is
+-- the last goes
+goes : (c : goal.After-unwrap) → c.self.inside.entries.items ≡ c.pop.new.self.items ++ c.unwrap.result ∷ []
+goes c = c.pop.ensures.items ∙ ap (λ o. c.pop.new.self.items ++ option_to_list o) c.unwrap.ensures
 
-nothing : (c : goal.In-None) → None ≡ reservation_of c.args.self.now.items c.args.tx
-nothing c =
-    let none = nothing_found c.self.inside.entries.items c.args.tx (ap (position (is_entry_of c.args.tx)) (sym c.deref.ensures.value) ∙ sym c.place_of.ensures ∙ c.in-None.is) in
-    sym (ap (λ (r : CellsWithRoom). reservation_of r.items c.args.tx) (sym c.self.view_is) ∙ reservation_found c.self.inside.entries.items c.args.tx ∙ none)
+-- and is of the transaction
+own : (c : goal.After-unwrap) → c.unwrap.result.0 ≡ c.args.tx
+own c =
+    let seen = ap (λ l. slice_get l (length l - 1)) (sym c.deref.ensures.value) ∙ sym c.in-Some.ensures.value in
+    let same = last_is c.self.inside.entries.items c.pop.new.self.items c.unwrap.result (goes c) c.in-Some.entry.now seen in
+    let test : true ≡ nat_eq c.in-Some.entry.now.0 c.args.tx = c.if-eq.ensures in
+    let is : c.in-Some.entry.now.0 ≡ c.args.tx = grind (arith, nat_tests) in
+    ap (λ e. e.0) (sym same) ∙ is
 
 pub invariant_of-self : goal.invariant_of-self
-invariant_of-self c = subst HasEachOnce (sym c.remove.ensures.items) (taken_once c.self.inside.entries.items c.args.tx c.in-Some.at c.remove.result (found c) c.self.invariant)
+invariant_of-self c = popped_once c.self.inside.entries.items c.pop.new.self.items c.unwrap.result (goes c) c.args.tx (own c) c.self.invariant
 
 pub returns-in-Some-clause-cell : goal.returns-in-Some-clause-cell
 returns-in-Some-clause-cell c =
-    let had = found_value c.self.inside.entries.items c.args.tx c.in-Some.at c.remove.result (found c) in
-    ap (λ e. Some e.1) c.remove.ensures.value ∙ sym had ∙ sym (reservation_found c.self.inside.entries.items c.args.tx)
+    sym (popped_value c.self.inside.entries.items c.pop.new.self.items c.unwrap.result (goes c) c.args.tx (own c) c.self.invariant)
+    ∙ sym (reservation_found c.self.inside.entries.items c.args.tx)
     ∙ ap (λ (r : CellsWithRoom). reservation_of r.items c.args.tx) c.self.view_is
 
 pub returns-in-Some-clause-taken : goal.returns-in-Some-clause-taken
 returns-in-Some-clause-taken c =
-    ap (λ l. reservation_of l c.args.tx) c.remove.ensures.items ∙ reservation_found _ c.args.tx
-    ∙ taken_own c.self.inside.entries.items c.args.tx c.in-Some.at c.remove.result (found c) c.self.invariant
+    reservation_found c.pop.new.self.items c.args.tx
+    ∙ popped_own c.self.inside.entries.items c.pop.new.self.items c.unwrap.result (goes c) c.args.tx (own c) c.self.invariant
 
 pub returns-in-Some-clause-others : goal.returns-in-Some-clause-others
 returns-in-Some-clause-others c = λ other ne.
-    ap (λ l. reservation_of l other) c.remove.ensures.items ∙ reservation_found _ other
-    ∙ taken_other c.self.inside.entries.items c.args.tx c.in-Some.at c.remove.result (found c) other ne
+    reservation_found c.pop.new.self.items other
+    ∙ popped_other c.self.inside.entries.items c.pop.new.self.items c.unwrap.result (goes c) c.args.tx (own c) c.self.invariant other ne
     ∙ sym (reservation_found c.self.inside.entries.items other)
     ∙ ap (λ (r : CellsWithRoom). reservation_of r.items other) c.self.view_is
-
-pub returns-in-None-clause-cell : goal.returns-in-None-clause-cell
-returns-in-None-clause-cell c = nothing c
-
-pub returns-in-None-clause-taken : goal.returns-in-None-clause-taken
-returns-in-None-clause-taken c = sym (nothing c)
