@@ -6,7 +6,7 @@ use Rattle.std.proofs.lemmas.Bool.Decides.{nat_tests}
 use Rattle.std.proofs.lemmas.List.Elements.{Contains-get_or}
 use Rattle.std.proofs.lemmas.List.Quantifiers.{position-Some}
 use Rattle.std.specs.List.{position, remove}
-use Rattle.mlt_object_locks.specs.Locks.{HasEachOnce, is_entry_of, value_of}
+use Rattle.mlt_object_locks.specs.Entries.{HasEachOnce, is_entry_of, value_of}
 use Rattle.mlt_object_locks.proofs.Membership.{some_found}
 
 pub differ : (a b : ℕ) → b ≢ a → nat_eq a b ≡ false

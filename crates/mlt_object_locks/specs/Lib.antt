@@ -1,4 +1,5 @@
 pub mod Locks
+pub mod Entries
 pub mod Classes
 pub mod Holders
 pub mod Noted

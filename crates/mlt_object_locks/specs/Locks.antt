@@ -1,5 +1,5 @@
 -- What is held and reserved, and who stands in the way of whom.
-use Rattle.std.specs.Prelude.{Bool, not, nat_eq, nat_lt, ◌≡◌, ◌≢◌, ℕ, ◌≤◌, List, [], ◌∷◌, Option, None, Some, IsTrue, Contains, if◌then◌else◌, ◌==◌, ⊤}
+use Rattle.std.specs.Prelude.{Bool, not, nat_eq, nat_lt, ◌≡◌, ◌≢◌, ℕ, ◌≤◌, List, [], ◌∷◌, Option, None, Some, IsTrue, Contains, if◌then◌else◌, ◌==◌}
 use Rattle.mlt_types.specs.declared.cell.Cell.{Cell}
 use Rattle.mlt_kinds.specs.declared.operation.ObjOp.{ObjOp}
 use Rattle.mlt_kinds.specs.declared.operation.ObjReply.{ObjReply}
@@ -21,25 +21,6 @@ no_locks = record { held = []; reserved = [] }
 abbrev pub reservation_of : List (ℕ × Cell) → ℕ → Option Cell
 reservation_of [] tx = None
 reservation_of (entry ∷ entries) tx = if entry.0 == tx then Some entry.1 else reservation_of entries tx
-
--- what the transaction of a number has in a list, where it is the first there
-abbrev pub value_of : {X : Type 0} → List (ℕ × X) → ℕ → Option X
-value_of [] tx = None
-value_of (entry ∷ entries) tx = if entry.0 == tx then Some entry.1 else value_of entries tx
-
--- no transaction is there twice
-abbrev pub HasEachOnce : {X : Type 0} → List (ℕ × X) → Type 0
-HasEachOnce [] = ⊤
-HasEachOnce (entry ∷ entries) = (value_of entries entry.0 ≡ None) × HasEachOnce entries
-
--- the entry is of the transaction of this number
-abbrev pub is_entry_of : {X : Type 0} → ℕ → ℕ × X → Bool
-is_entry_of tx entry = nat_eq entry.0 tx
-
--- the cells that are reserved, each with its transaction's number, and for how many more there is room
-pub record CellsWithRoom : Type 0 where
-  pub items : List (ℕ × Cell)
-  pub room : ℕ
 
 -- all other transactions have the same reservations
 abbrev pub SameReservations : List (ℕ × Cell) → List (ℕ × Cell) → ℕ → Type 0

@@ -7,7 +7,7 @@
 
 ghost use Rattle.std.specs.Prelude.{◌≡◌, ◌<◌, ◌≤◌, ◌+◌, ◌++◌, ◌∷◌, [], None, Some, OnOk, OnErr, IfErr, position};
 ghost use Rattle.std.specs.Option.{option_map_or};
-ghost use Rattle.mlt_object_locks.specs.Locks.{is_entry_of};
+ghost use Rattle.mlt_object_locks.specs.Entries.{is_entry_of};
 ghost use Rattle.mlt_object_locks.specs.Noted.{noted_of, SameNoted};
 
 use mlt_types::{Refusal, TxId};
@@ -98,7 +98,7 @@ pub(crate) struct Noted {
 
 impl Model for Noted {
     ghost use Rattle.std.specs.Prelude.{ℕ, List};
-    ghost use Rattle.mlt_object_locks.specs.Locks.{HasEachOnce};
+    ghost use Rattle.mlt_object_locks.specs.Entries.{HasEachOnce};
     ghost use Rattle.mlt_object_locks.specs.Noted.{KeysWithRoom};
 
     ghost Value = { List (ℕ × KeysWithRoom) };

@@ -4,7 +4,8 @@
 //! than to keep a table.
 
 ghost use Rattle.std.specs.Prelude.{◌≡◌, ◌<◌, ℕ, [], None, Some, OnOk, OnErr, IfErr, position};
-ghost use Rattle.mlt_object_locks.specs.Locks.{SameReservations, is_entry_of, reservation_of};
+ghost use Rattle.mlt_object_locks.specs.Locks.{SameReservations, reservation_of};
+ghost use Rattle.mlt_object_locks.specs.Entries.{is_entry_of};
 
 use mlt_types::{Cell, Refusal, TxId};
 use std::alloc::Global;
@@ -20,7 +21,7 @@ pub(crate) struct Reserved {
 impl Model for Reserved {
     ghost use Rattle.std.specs.Prelude.{◌-◌};
     ghost use Rattle.std.specs.Vec.{vec_capacity, vec_len};
-    ghost use Rattle.mlt_object_locks.specs.Locks.{HasEachOnce, CellsWithRoom};
+    ghost use Rattle.mlt_object_locks.specs.Entries.{HasEachOnce, CellsWithRoom};
 
     ghost Value = { CellsWithRoom };
 
