@@ -21,7 +21,7 @@ use mlt_types::{Cell, Refusal, TxId};
 /// The places that have a holder, each by its number.
 pub(crate) type Cells = IndexMap<u64, Holders>;
 
-// Where a place is in the map. It is looked for at an index first at which it mostly is: to look it up takes longer.
+// Where a place is in the map. It is looked for first at an index at which it mostly is, since to look it up takes longer.
 fn place_of(cells: &Cells, key: u64, likely: usize) -> Option<usize>
     ensures found { IfSome result (λ at.
         slice_get cells.now.entries at ≡ Some (key, list_at cells.now key)) }
@@ -45,7 +45,8 @@ fn look_up(cells: &Cells, key: u64) -> Option<usize>
     }
 }
 
-/// Adds the transaction to the holders at these places, where it is not there. Answers where the last of them is in the map.
+/// Adds the transaction to the holders at these places, where it is not there. Answers where the first of them is in the map,
+/// which is that of a cell itself.
 ///
 /// # Errors
 /// `OutOfMemory`, where a growth was refused; the transaction may have come at some of the places.
@@ -55,11 +56,12 @@ pub(crate) fn join_each(cells: &mut Cells, places: &[u64], tx: TxId) -> Result<u
     ensures here { OnOk result (IsHereAt cells.new places.now tx) }
     ensures refusal { IfErr result (λ refusal. refusal ≡ Refusal.OutOfMemory) }
 {
-    let mut last = 0;
+    let mut first = None;
     for place in places {
-        last = join(cells, *place, tx)?;
+        let at = join(cells, *place, tx)?;
+        first = first.or(Some(at));
     }
-    Ok(last)
+    Ok(first.unwrap_or(0))
 }
 
 // Adds the transaction to the holders at a place, if it is not there. Answers where the place is in the map.

@@ -25,7 +25,7 @@ use std::marker::Model;
 #[derive(Drop)]
 pub struct ObjectLocks {
     cells: Cells,
-    // Where the place that a reservation came to last is in the map, unless others went since then.
+    // Where the cell that was reserved last is in the map, unless another place went from there since then.
     latest: usize,
     reserved: Reserved,
     noted: Noted,

@@ -62,6 +62,7 @@ impl CellKeys {
     }
 
     // The same by a growth.
+    #[cold]
     #[inline(never)]
     fn grow(&mut self) -> Result<(), Refusal>
         ensures keys { self.new.keys ≡ self.old.keys }
