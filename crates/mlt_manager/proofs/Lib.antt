@@ -1,5 +1,6 @@
 pub mod Called
 pub mod Chains
+mod ClosedBases
 pub mod Counts
 pub mod Depths
 pub mod EachOpen

@@ -18,6 +18,7 @@ use mlt_check::committed_base;
 use mlt_event::{Answer, Event, Told};
 use mlt_hash_form::form_is_extendible_hashing;
 use mlt_kinds::ObjOp;
+use mlt_page_base::base_of_pages;
 use mlt_store::Store;
 use mlt_trace::KeptItem;
 use mlt_types::{Limits, Pseudo, Refusal, TxId};
@@ -252,7 +253,8 @@ impl<P: Pseudo> Manager<P> {
     }
 
     /// The base to which the committed transactions lead, run alone in commit order: what the pages mean, once running
-    /// operations are put back and open transactions are taken back.
+    /// operations are put back and open transactions are taken back. Where nobody is open, it is read from the pages; else
+    /// the committed operations are done anew.
     ///
     /// # Errors
     /// `OutOfMemory`, where a growth was refused.
@@ -260,7 +262,13 @@ impl<P: Pseudo> Manager<P> {
         ensures base { IfOk result (λ base. IsCommittedBaseOf self.now base) }
         ensures refusal { IfErr result (λ refusal. refusal ≡ Refusal.OutOfMemory) }
     {
-        committed_base(self.parts.commons.alloc, self.parts.commons.history.items())
+        let commons = &self.parts.commons;
+        let items = commons.history.items();
+        if self.parts.opens.is_empty() {
+            base_of_pages(commons.alloc, &commons.pages.store, &self.parts.root, items)
+        } else {
+            committed_base(commons.alloc, items)
+        }
     }
 
     /// What is promised of every manager, between any two events.
