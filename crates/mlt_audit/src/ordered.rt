@@ -1,6 +1,6 @@
 //! Receipts against a history in which transactions begin in order. It goes over the history about once.
 
-ghost use Rattle.std.specs.Prelude.{◌≡◌, ◌≤◌, ◌<◌, ◌↔◌, IsTrue, IsFalse, IfSome, All, List, Some, slice_get, length, take};
+ghost use Rattle.std.specs.Prelude.{◌≡◌, ◌≤◌, ◌<◌, ◌↔◌, IsTrue, IfNone, IfSome, All, List, Some, slice_get, length, take};
 ghost use Rattle.mlt_trace.specs.declared.item.TraceItem.{TraceItem as ItemForm};
 ghost use Rattle.mlt_history.specs.Numbers.{begin_count};
 ghost use Rattle.mlt_audit.specs.Agreement.{AreOfHistory, NumbersAgree};
@@ -12,6 +12,9 @@ use crate::stories::{is_told, item_at, place_behind, tx_of};
 use mlt_serial::Outcome;
 use mlt_trace::{KeptItem, TraceItem};
 use mlt_types::TxId;
+
+// How many items behind one close the next begin is looked for.
+const NEAR: usize = 16;
 
 /// Whether the item stands behind so many begins in order.
 fn stands_behind(begun: u64, item: &TraceItem) -> bool
@@ -70,14 +73,31 @@ fn next_begin(history: &[KeptItem], from: usize, to: usize) -> Option<(usize, u6
     None
 }
 
-/// A place before which there is nothing of the transaction: that of its begin, if there is one. It is found by
-/// halves, since the numbers begun rise.
-fn place_of_begin(history: &[KeptItem], tx: u64) -> usize
+/// The begin of the transaction, if it is one of the next items from this place on.
+fn begin_near(history: &[KeptItem], from: usize, tx: u64) -> Option<usize>
+    ensures { IfSome result (λ place. slice_get history.now place ≡ Some (TraceItem.Begin tx)) }
+{
+    let to = from.saturating_add(NEAR).min(history.len());
+    for i in from..to {
+        match item_at(history, i) {
+            TraceItem::Begin(TxId(begun)) if begun == tx => return Some(i),
+            _ => (),
+        }
+    }
+    None
+}
+
+/// A place before which there is nothing of the transaction: that of its begin, if there is one. Where it does not stand
+/// near the place given, it is found by halves, since the numbers begun rise.
+fn place_of_begin(history: &[KeptItem], tx: u64, near: usize) -> usize
     requires ordered { AreOrdered history.now }
     requires some { 0 < tx }
     ensures within { result ≤ length history.now }
     ensures nothing { HasNothing tx (take result history.now) }
 {
+    if let Some(place) = begin_near(history, near, tx) {
+        return place;
+    }
     let mut low = 0;
     let mut high = history.len();
     while low < high {
@@ -99,17 +119,17 @@ fn place_of_begin(history: &[KeptItem], tx: u64) -> usize
     low
 }
 
-/// Whether the history has what the receipt tells of its transaction, and then what it may. Of the history it goes over
-/// those items that stand between the transaction's begin and its close.
-fn is_closed_before(receipt: &Outcome, history: &[KeptItem]) -> bool
+/// Whether the history has what the receipt tells of its transaction, and then what it may: the place behind that. Of the
+/// history it goes over those items that stand between the transaction's begin and its close.
+fn place_behind_close(receipt: &Outcome, history: &[KeptItem], near: usize) -> Option<usize>
     requires ordered { AreOrdered history.now }
     requires some { 0 < receipt.now.tx }
-    ensures yes { IsTrue result → (rest : List ItemForm)
-        × IsClosedBefore rest receipt.now.tx receipt.now.done receipt.now.end history.now }
-    ensures no { IsFalse result
-        → IsClosedSo receipt.now.tx receipt.now.done receipt.now.end history.now → ⊥ }
+    ensures some { IfSome result (λ _. (rest : List ItemForm)
+        × IsClosedBefore rest receipt.now.tx receipt.now.done receipt.now.end history.now) }
+    ensures none { IfNone result
+        (IsClosedSo receipt.now.tx receipt.now.done receipt.now.end history.now → ⊥) }
 {
-    let from = place_of_begin(history, receipt.tx);
+    let from = place_of_begin(history, receipt.tx, near);
     place_behind(
         history,
         from,
@@ -117,7 +137,6 @@ fn is_closed_before(receipt: &Outcome, history: &[KeptItem]) -> bool
         receipt.done.as_slice(),
         receipt.end,
     )
-    .is_some()
 }
 
 /// Whether the numbers of the receipts, but for 0, are those from 1 to the last, each once.
@@ -137,13 +156,18 @@ fn are_each_of_ordered(receipts: &[Outcome], history: &[KeptItem]) -> bool
     ensures { IsTrue result ↔ All (IsOfHistory history.now) receipts.now }
 {
     let mut left = count_told(history);
+    let mut behind = 0;
     for receipt in receipts {
         if receipt.tx != 0 {
             let own = receipt.done.as_slice().len();
-            if left <= own || !is_closed_before(receipt, history) {
+            if left <= own {
                 return false;
             }
+            let Some(place) = place_behind_close(receipt, history, behind) else {
+                return false;
+            };
             left -= own + 1;
+            behind = place;
         }
     }
     left == 0

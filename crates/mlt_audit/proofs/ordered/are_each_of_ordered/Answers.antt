@@ -7,7 +7,7 @@ use Rattle.mlt_audit.specs.Receipts.{IsOfHistory}
 use Rattle.mlt_audit.proofs.Loops.{at_end, in_all, one_more}
 use Rattle.mlt_audit.proofs.Shares.{IsStarted, all_told, size, size_more, size_none, size_some, sizes_counted}
 use Rattle.mlt_audit.proofs.ordered.are_each_of_ordered.Goals as goal
-use Rattle.mlt_audit.proofs.ordered.are_each_of_ordered.Goals.{then-left-own-via-then-left-own, then-left-own-via-else-left-own+then-not-is_closed_before, then-receipt-ne0+else-left-own+else-not-is_closed_before, else-receipt-ne0}
+use Rattle.mlt_audit.proofs.ordered.are_each_of_ordered.Goals.{then-receipt-ne0+else-left-own+in-Some, else-receipt-ne0}
 
 pub returns-then-left-own : goal.returns-then-left-own
 returns-then-left-own c =
@@ -16,18 +16,22 @@ returns-then-left-own c =
     let history = c.args.history.now in
     let receipts = c.args.receipts.now in (
       λ no. absurd (cc no),
-      λ all. absurd (elim c.then-left-own.branch [
-        | then-left-own-via-then-left-own w ↦
-            let whole = sizes_counted receipts history c.requires.ordered c.requires.numbers all in
-            let front = sum_by-take-le size receipts (l.receipt-index + 1) in
-            let more = size_more receipts l.receipt-index o c.loop-receipt-test.true c.receipt-item.is in
-            let own = size_some receipts history c.requires.ordered c.requires.numbers o c.if-receipt-ne0.true in
-            let long = ap length c.as_slice-own.ensures in
-            let few = w.if-left-own.true in
-            omega (arith, whole, front, more, own, long, few, l.invariant.counted)
-        | then-left-own-via-else-left-own+then-not-is_closed_before w ↦
-            w.is_closed_before.ensures.no w.if-not-is_closed_before.true (in_all (IsOfHistory history) receipts l.receipt-index o c.loop-receipt-test.true c.receipt-item.is all c.if-receipt-ne0.true)
-      ]),
+      λ all. absurd (
+          let whole = sizes_counted receipts history c.requires.ordered c.requires.numbers all in
+          let front = sum_by-take-le size receipts (l.receipt-index + 1) in
+          let more = size_more receipts l.receipt-index o c.loop-receipt-test.true c.receipt-item.is in
+          let own = size_some receipts history c.requires.ordered c.requires.numbers o c.if-receipt-ne0.true in
+          let long = ap length c.as_slice-own.ensures in
+          let few = c.if-left-own.true in
+          omega (arith, whole, front, more, own, long, few, l.invariant.counted)
+          ),
+    )
+
+pub returns-in_default : goal.returns-in_default
+returns-in_default c =
+    let l = c.loop-receipt in (
+      λ no. absurd (cc no),
+      λ all. absurd (c.in_default.ensures.none (in_all (IsOfHistory c.args.history.now) c.args.receipts.now l.receipt-index c.receipt-item.result c.loop-receipt-test.true c.receipt-item.is all c.if-receipt-ne0.true)),
     )
 
 pub loop-receipt-preserved : goal.loop-receipt-preserved
@@ -38,12 +42,12 @@ loop-receipt-preserved c =
     let receipts = c.args.receipts.now in
     let more = size_more receipts l.receipt-index o c.loop-receipt-test.true c.receipt-item.is in
     elim c.if-receipt-ne0.branch [
-      | then-receipt-ne0+else-left-own+else-not-is_closed_before w ↦
+      | then-receipt-ne0+else-left-own+in-Some w ↦
           let own = size_some receipts history c.requires.ordered c.requires.numbers o w.if-receipt-ne0.true in
           let long = ap length w.as_slice-own.ensures in
           record {
             counted = omega (arith, more, own, long, w.if-left-own.false, w.left-is, l.invariant.counted);
-            started = one_more (IsStarted history) receipts l.receipt-index o c.loop-receipt-test.true c.receipt-item.is l.invariant.started (λ some. w.is_closed_before.ensures.yes w.if-not-is_closed_before.false);
+            started = one_more (IsStarted history) receipts l.receipt-index o c.loop-receipt-test.true c.receipt-item.is l.invariant.started (λ some. w.in-Some.ensures.some);
           }
       | else-receipt-ne0 w ↦
           let none = size_none receipts history c.requires.ordered c.requires.numbers o w.if-receipt-ne0.false in
