@@ -1,4 +1,5 @@
 pub mod Loops
+mod Parts
 pub mod Placed
 pub mod Apart
 pub mod Begun

@@ -28,11 +28,18 @@ fn is_no_commit(end: End) -> bool
     }
 }
 
-// What `==` of two of these answers is not known here, since a contract sees them as pairs.
+// What `==` of two of these answers is not known here, since a contract sees them as pairs; so their parts are compared.
 fn is_same(one: &Done, other: &Done) -> bool
     ensures { IsTrue result ↔ (one.now ≡ other.now) }
 {
-    one.op() == other.op() && one.reply() == other.reply()
+    let one = one.packed();
+    let other = other.packed();
+    one.op == other.op
+        && one.reply == other.reply
+        && one.set == other.set
+        && one.number == other.number
+        && one.amount == other.amount
+        && one.told == other.told
 }
 
 /// Whether what was done stands at this place of the list.
