@@ -27,7 +27,7 @@ len_changed m k x some = grind (arith, some, map.len-insert nat_cmp_total m k x)
 pub len_removed : {X : Type 0} (m : map.FinMap nat_cmp X) (k : ℕ) → is_some (map.get m k) ≡ true → map.len (map.remove m k) ≡ map.len m - 1
 len_removed m k some = grind (arith, some, map.len-remove nat_cmp_total m k)
 
-nobody : {X : Type 0} (m : map.FinMap nat_cmp X) (k : ℕ) → is_some (map.get m k) ≡ true → map.len m ≡ 0 → ⊥
+pub nobody : {X : Type 0} (m : map.FinMap nat_cmp X) (k : ℕ) → is_some (map.get m k) ≡ true → map.len m ≡ 0 → ⊥
 nobody {X} m k some is =
     let empty : m ≡ map.empty = map.empty_of_len m is in
     false≢true (sym (ap is_some (ap (λ (t : map.FinMap nat_cmp X). map.get t k) empty ∙ map.get-empty {X = X} nat_cmp k)) ∙ some)

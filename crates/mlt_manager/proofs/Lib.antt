@@ -1,3 +1,4 @@
+pub mod AtOnce
 pub mod Called
 pub mod Chains
 mod ClosedBases

@@ -1,7 +1,8 @@
 //! The parts of a manager, and what each event does to them.
 
 ghost use Rattle.std.specs.Prelude.{◌≡◌, ◌≤◌, ◌+◌, IfErr, IfOk, OnOk, option_copied};
-ghost use Rattle.mlt_manager.specs.Answers.{AnswersAbort, AnswersBegin, AnswersCall, AnswersCancel, AnswersCommit, AnswersStep, HasEnded, HasStepped, IsBusy, IsCauseAtCancel, IsCauseAtStep, IsIdleWith, IsNotIdle, IsOpenAt, IsUndoing, counted};
+ghost use Rattle.std.specs.FinMap as map;
+ghost use Rattle.mlt_manager.specs.Answers.{AnswersAbort, AnswersBegin, AnswersCall, AnswersCancel, AnswersCommit, AnswersStep, HasEnded, HasStepped, IsBusy, IsCauseAtCall, IsCauseAtCancel, IsCauseAtStep, IsIdleWith, IsNotIdle, IsOpenAt, IsUndoing, MayCall, counted};
 ghost use Rattle.mlt_manager.specs.Bases.{HasCleanPage, HasDepth};
 ghost use Rattle.mlt_manager.specs.Wholes.{AnswersWhole, RunsToEnd, StandsIn, StepsOnUpTo};
 ghost use Rattle.mlt_manager.specs.Undoings.{AnswersWholeUndo, IsCauseAtUndo, StepsBackUpTo};
@@ -213,12 +214,25 @@ impl<P: Pseudo> Parts<P> {
         Ok(tx)
     }
 
-    pub(crate) fn call(&mut self, tx: TxId, op: ObjOp) -> Result<(), Refusal>
-        ensures answers { AnswersCall (fields_of self.old) (fields_of self.new) tx op result }
+    /// That a transaction may be called with an operation.
+    ///
+    /// # Errors
+    /// `NoSuchTx`, where it is not open; `Undoing`, where its abort has begun; `Running`, where an operation is pending; `LogFull`,
+    /// where it has as many operations as it may have.
+    fn may_call(&self, tx: TxId) -> Result<(), Refusal>
+        ensures may { OnOk result (MayCall (fields_of self.now) tx) }
+        ensures refusal { IfErr result (λ reason. IsCauseAtCall reason (fields_of self.now) tx) }
     {
         if self.idle(tx)? >= self.limits.max_ops as usize {
             return Err(Refusal::LogFull);
         }
+        Ok(())
+    }
+
+    pub(crate) fn call(&mut self, tx: TxId, op: ObjOp) -> Result<(), Refusal>
+        ensures answers { AnswersCall (fields_of self.old) (fields_of self.new) tx op result }
+    {
+        self.may_call(tx)?;
         operation_is_in_range(&op);
         self.txs.call(tx, &mut self.commons, op)
     }
@@ -253,8 +267,30 @@ impl<P: Pseudo> Parts<P> {
         requires sound { IsManager P.bits_of (fields_of self.old) }
         ensures answers { AnswersWhole P.bits_of (fields_of self.old) (fields_of self.new) tx op result }
     {
+        if self.txs.len() <= 1 {
+            return self.whole_alone(tx, op);
+        }
         self.call(tx, op)?;
         Ok(self.run(tx))
+    }
+
+    /// A whole operation, where no other transaction is open, so that nobody holds a page: its steps are taken at once, if they
+    /// can be.
+    fn whole_alone(&mut self, tx: TxId, op: ObjOp) -> Result<Answer, Refusal>
+        requires sound { IsManager P.bits_of (fields_of self.old) }
+        requires alone { map.len self.old.txs ≤ 1 }
+        ensures answers { AnswersWhole P.bits_of (fields_of self.old) (fields_of self.new) tx op result }
+    {
+        self.may_call(tx)?;
+        operation_is_in_range(&op);
+        let setting = Setting {
+            root: &self.root,
+            opens: &self.opens,
+        };
+        match self.txs.call_at_once(tx, &mut self.commons, op, &setting)? {
+            Some(reply) => Ok(Answer::Done(reply)),
+            None => Ok(self.run(tx)),
+        }
     }
 
     /// The steps of a pending operation, which is dropped if it waits or is blocked.

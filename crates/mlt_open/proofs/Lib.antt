@@ -1,2 +1,3 @@
+pub mod AtOnce
 pub mod Moorings
 pub mod Images

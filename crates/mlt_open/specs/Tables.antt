@@ -6,8 +6,10 @@ use Rattle.mlt_types.specs.Maps.{with_entry}
 use Rattle.mlt_page.specs.declared.page.Page.{Page}
 use Rattle.mlt_subtx.specs.Images.{image_of, started}
 use Rattle.mlt_kinds.specs.declared.operation.ObjOp.{ObjOp}
+use Rattle.mlt_kinds.specs.declared.operation.ObjReply.{ObjReply}
 use Rattle.mlt_hash.specs.Walks.{Basis}
 use Rattle.mlt_event.specs.declared.answer.Answer.{Answer}
+use Rattle.mlt_event.specs.declared.answer.Answer.TheVariants as answer
 use Rattle.mlt_transaction.specs.declared.commons.Commons.{Commons}
 use Rattle.mlt_transaction.specs.declared.transaction.At.{At}
 use Rattle.mlt_transaction.specs.declared.transaction.At.TheVariants.{Idle}
@@ -54,6 +56,35 @@ pub record StepsOne (basis : ℕ → Basis) (tx : ℕ) (old new : Table) (common
   pub changes : ChangesOne tx old new
   pub tells : TellsOfTransaction (basis changes.before.subtx.tx)
       changes.before changes.after commons commons' told
+
+-- it takes four steps one after another, the last of which tells this reply
+pub record StepsOneAtOnce (basis : ℕ → Basis) (tx : ℕ) (old new : Table) (commons commons' : Commons)
+    (reply : ObjReply) : Type 0 where
+  pub headed : Table
+  pub placed : Table
+  pub told : Table
+  pub with_header : Commons
+  pub with_directory : Commons
+  pub with_bucket : Commons
+  pub first : StepsOne basis tx old headed commons with_header answer.Going
+  pub second : StepsOne basis tx headed placed with_header with_directory answer.Going
+  pub third : StepsOne basis tx placed told with_directory with_bucket answer.Going
+  pub ends : StepsOne basis tx told new with_bucket commons' (answer.Done reply)
+
+-- it is called, and takes its four steps
+pub record DoesOneAtOnce (basis : ℕ → Basis) (tx : ℕ) (op : ObjOp) (old new : Table)
+    (commons commons' : Commons) (reply : ObjReply) : Type 0 where
+  pub called : Table
+  pub with_room : Commons
+  pub calls : CallsOne tx op old called commons with_room
+  pub steps : StepsOneAtOnce basis tx called new with_room commons' reply
+
+-- the transaction of this number is called with an operation, which is done at once, or pending
+abbrev pub CallsOneAtOnce : Option ObjReply → (ℕ → Basis) → ℕ → ObjOp → Table → Table → Commons
+    → Commons → Type 0
+CallsOneAtOnce None basis tx op old new commons commons' = CallsOne tx op old new commons commons'
+CallsOneAtOnce (Some reply) basis tx op old new commons commons' =
+    DoesOneAtOnce basis tx op old new commons commons' reply
 
 -- the pending operation of the transaction of this number is dropped
 pub record CancelsOne (tx : ℕ) (old new : Table) (commons commons' : Commons) : Type 0 where

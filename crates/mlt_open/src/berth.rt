@@ -4,11 +4,12 @@ ghost use Rattle.std.specs.Prelude.{◌≡◌, ◌≤◌, None, Some, OnOk, OnEr
 ghost use Rattle.mlt_subtx.specs.Images.{AreThere, image_of};
 ghost use Rattle.mlt_hash.specs.Walks.{basis_in};
 ghost use Rattle.mlt_open.specs.Tables.{HasDoneNothing};
+ghost use Rattle.mlt_transaction.specs.AtOnce.{CallsAtOnce, MayCallAtOnce};
 ghost use Rattle.mlt_transaction.specs.Transactions.{IsNotCalled, IsPending, MayStepIn, TellsOfCall, TellsOfCancel, TellsOfTransaction};
 
 use mlt_event::Answer;
 use mlt_hash::Setting;
-use mlt_kinds::ObjOp;
+use mlt_kinds::{ObjOp, ObjReply};
 use mlt_page::Page;
 use mlt_transaction::{At, Commons, Transaction};
 use mlt_types::{PageNo, Pseudo, Refusal, TxId};
@@ -85,6 +86,24 @@ impl Berth {
             self.old self.new commons.old commons.new result }
     {
         self.transaction.step(commons, setting)
+    }
+
+    /// [`Transaction::call_at_once`].
+    pub(crate) fn call_at_once<P: Pseudo>(
+        &mut self,
+        commons: &mut Commons,
+        op: ObjOp,
+        setting: &Setting<P>,
+    ) -> Result<Option<ObjReply>, Refusal>
+        requires ready { MayCallAtOnce (basis_in P.bits_of setting.now self.old.subtx.tx) op
+            self.old commons.old }
+        ensures calls { IfOk result (λ told. CallsAtOnce told
+            (basis_in P.bits_of setting.now self.old.subtx.tx) op
+            self.old self.new commons.old commons.new) }
+        ensures err { OnErr result (IsNotCalled self.old self.new commons.old commons.new) }
+        ensures refusal { IfErr result (λ refusal. refusal ≡ Refusal.OutOfMemory) }
+    {
+        self.transaction.call_at_once(commons, op, setting)
     }
 
     /// [`Transaction::cancel`].

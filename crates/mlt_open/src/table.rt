@@ -1,19 +1,20 @@
 //! The table of open transactions.
 
-ghost use Rattle.std.specs.Prelude.{◌≡◌, ◌≤◌, None, Some, IsSome, OnOk, OnErr, IfErr, IfSome, IfNone, option_copied};
+ghost use Rattle.std.specs.Prelude.{◌≡◌, ◌≤◌, None, Some, IsSome, OnOk, OnErr, IfErr, IfOk, IfSome, IfNone, option_copied};
 ghost use Rattle.std.specs.FinMap as map;
 ghost use Rattle.mlt_types.specs.Maps.{with_entry};
 ghost use Rattle.mlt_subtx.specs.Images.{AreThere};
 ghost use Rattle.mlt_hash.specs.Walks.{basis_in};
 ghost use Rattle.mlt_transaction.specs.declared.transaction.Transaction.{Transaction as TransactionFields};
+ghost use Rattle.mlt_transaction.specs.AtOnce.{MayCallAtOnce};
 ghost use Rattle.mlt_transaction.specs.Transactions.{IsPending, MayStepIn};
-ghost use Rattle.mlt_open.specs.Tables.{BeginsOne, CallsNone, CallsOne, CancelsOne, KeepsImage, KeepsNoImage, PutsOneAt, StepsOne};
+ghost use Rattle.mlt_open.specs.Tables.{BeginsOne, CallsNone, CallsOne, CallsOneAtOnce, CancelsOne, KeepsImage, KeepsNoImage, PutsOneAt, StepsOne};
 
 use crate::berth::Berth;
 use crate::mooring::{Mooring, free_mooring, image_in, mooring_of};
 use mlt_event::Answer;
 use mlt_hash::Setting;
-use mlt_kinds::ObjOp;
+use mlt_kinds::{ObjOp, ObjReply};
 use mlt_page::Page;
 use mlt_transaction::{At, Commons, Transaction};
 use mlt_types::{PageNo, Pseudo, Refusal, TxId};
@@ -133,6 +134,33 @@ impl OpenTransactions {
             unreachable!()
         };
         self.moorings[place].berth.call(commons, op)
+    }
+
+    /// Calls the transaction of a number, which is open and at nothing, with an operation, and takes all its steps at once, while
+    /// nobody holds a page. It answers the reply, if the operation is done; else the operation is pending.
+    ///
+    /// # Errors
+    /// `OutOfMemory`, where a growth was refused; the transaction is then still at nothing.
+    pub fn call_at_once<P: Pseudo>(
+        &mut self,
+        tx: TxId,
+        commons: &mut Commons,
+        op: ObjOp,
+        setting: &Setting<P>,
+    ) -> Result<Option<ObjReply>, Refusal>
+        requires is_open { (t : TransactionFields) × (map.get self.old tx ≡ Some t)
+            × MayCallAtOnce (basis_in P.bits_of setting.now t.subtx.tx) op t commons.old }
+        ensures calls { IfOk result (λ told. CallsOneAtOnce told (basis_in P.bits_of setting.now)
+            tx op self.old self.new commons.old commons.new) }
+        ensures err { OnErr result (CallsNone tx self.old self.new commons.old commons.new) }
+        ensures refusal { IfErr result (λ refusal. refusal ≡ Refusal.OutOfMemory) }
+    {
+        let Some(place) = mooring_of(&self.moorings, tx) else {
+            unreachable!()
+        };
+        self.moorings[place]
+            .berth
+            .call_at_once(commons, op, setting)
     }
 
     /// One step of the transaction of a number, which is open and not idle.

@@ -1,3 +1,4 @@
+pub mod AtOnce
 pub mod Backing
 pub mod Inverses
 pub mod Pending

@@ -1,3 +1,4 @@
+pub mod AtOnce
 pub mod Endings
 pub mod Steps
 pub mod Transactions

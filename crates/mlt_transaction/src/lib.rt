@@ -2,6 +2,7 @@
 //! the pages, the object locks and the history, which all transactions share.
 #![tactic(auto)]
 
+mod at_once;
 mod commons;
 mod ending;
 mod stepping;

@@ -3,6 +3,7 @@
 ghost use Rattle.std.specs.Prelude.{◌≡◌, ◌≤◌, ◌+◌, [], None, OnOk, OnErr, IfErr};
 ghost use Rattle.mlt_hash.specs.Walks.{basis_in};
 ghost use Rattle.mlt_subtx.specs.Images.{AreThere, started};
+ghost use Rattle.mlt_transaction.specs.AtOnce.{HasRoomFor};
 ghost use Rattle.mlt_transaction.specs.Transactions.{IsNotCalled, IsPending, MayStepIn, TellsOfCall, TellsOfCancel, TellsOfTransaction};
 
 use crate::commons::Commons;
@@ -76,10 +77,23 @@ impl Transaction {
         ensures err { OnErr result (IsNotCalled self.old self.new commons.old commons.new) }
         ensures refusal { IfErr result (λ refusal. refusal ≡ Refusal.OutOfMemory) }
     {
+        self.make_room(commons, op)?;
+        self.at = At::Pending(Operation::start(commons.alloc, Request::Do(op)));
+        Ok(())
+    }
+
+    /// Makes room for the undo entry of an operation, its object lock, and its two items of the history.
+    ///
+    /// # Errors
+    /// `OutOfMemory`, where a growth was refused.
+    pub(crate) fn make_room(&mut self, commons: &mut Commons, op: ObjOp) -> Result<(), Refusal>
+        ensures room { OnOk result (HasRoomFor op self.old self.new commons.old commons.new) }
+        ensures err { OnErr result (IsNotCalled self.old self.new commons.old commons.new) }
+        ensures refusal { IfErr result (λ refusal. refusal ≡ Refusal.OutOfMemory) }
+    {
         self.undo.reserve()?;
         commons.objects.reserve(self.subtx.tx(), &op.cell())?;
         commons.history.reserve(2)?;
-        self.at = At::Pending(Operation::start(commons.alloc, Request::Do(op)));
         Ok(())
     }
 

@@ -1,0 +1,214 @@
+-- A whole operation whose steps are taken at once
+use Rattle.std.proofs.Common.{◌≡◌, ℕ, ◌≤◌, ◌+◌, List, [], ◌∷◌, false, true, Err, None, Option, Some, is_some, refl, sym, ap, subst, ◌∙◌, inl, inr, arith}
+use Rattle.std.specs.Ordering.{nat_cmp}
+use Rattle.std.specs.FinMap as map
+use Rattle.std.proofs.lemmas.Bool.{cases_eq, false≢true}
+use Rattle.std.proofs.lemmas.Bool.Decides.{nat_tests}
+use Rattle.mlt_types.specs.declared.cell.Cell.{Cell}
+use Rattle.mlt_types.specs.declared.refusal.Refusal.{Refusal}
+use Rattle.mlt_types.specs.declared.refusal.Refusal.TheVariants as refusal
+use Rattle.mlt_kinds.specs.declared.operation.ObjOp.{ObjOp}
+use Rattle.mlt_kinds.specs.declared.operation.ObjReply.{ObjReply}
+use Rattle.mlt_kinds.specs.Operations.{cell_of}
+use Rattle.mlt_base.specs.declared.request.Request.TheVariants.{Do}
+use Rattle.mlt_object_locks.specs.Locks.{SameReservations, reservation_of}
+use Rattle.mlt_page_locks.specs.LockTables.{is_holder}
+use Rattle.mlt_page_locks.proofs.Maps.{get_removed}
+use Rattle.mlt_subtx.proofs.ImageLaws.{not_true}
+use Rattle.mlt_subtx_laws.specs.Running.{HoldsNothing}
+use Rattle.mlt_held.specs.Moments.{moment}
+use Rattle.mlt_hash.specs.Walks.{Basis, basis_by}
+use Rattle.mlt_operation.specs.Operating.{MayOperate, started_for}
+use Rattle.mlt_at_once.specs.AtOnce.{NobodyHolds}
+use Rattle.mlt_meeting.specs.Presences.{IsOpInRange}
+use Rattle.mlt_event.specs.declared.answer.Answer.{Answer}
+use Rattle.mlt_event.specs.declared.answer.Answer.TheVariants as answer
+use Rattle.mlt_transaction.specs.AtOnce.{MayCallAtOnce}
+use Rattle.mlt_transaction.specs.Transactions.{MayStepAt, TellsAt}
+use Rattle.mlt_transaction.specs.declared.commons.Commons.{Commons}
+use Rattle.mlt_transaction.specs.declared.transaction.At.{At}
+use Rattle.mlt_transaction.specs.declared.transaction.At.TheVariants as at
+use Rattle.mlt_transaction.specs.declared.transaction.Transaction.{Transaction}
+use Rattle.mlt_open.specs.Tables.{CallsOneAtOnce, DoesOneAtOnce, StepsOne, StepsOneAtOnce, Table}
+use Rattle.mlt_invariant.proofs.MaySteps.{may_step}
+use Rattle.mlt_invariant.proofs.Tables.{inserted_here}
+use Rattle.mlt_invariant.specs.Sound.{FitsAt}
+use Rattle.mlt_invariant.specs.States.{all_of, images_kept}
+use Rattle.mlt_manager.specs.Answers.{AnswersCall, HasCalled, HasStepped, IsBusy, IsCauseAtCall, IsOpenAt, MayCall}
+use Rattle.mlt_manager.specs.Managers.{IsManager, ManagerFields, state_of}
+use Rattle.mlt_manager.specs.Wholes.{HasRun, StepsOnUpTo}
+use Rattle.mlt_manager.proofs.Called.{called_keeps}
+use Rattle.mlt_manager.proofs.Keeping.{len_removed, nobody}
+use Rattle.mlt_manager.proofs.Stepping.{stepped_on}
+
+-- ---- who is open alone
+
+-- where a map has one entry, each key in it is the same
+only_one : {X : Type 0} (m : map.FinMap nat_cmp X) (a b : ℕ) → map.len m ≤ 1 → is_some (map.get m a) ≡ true → is_some (map.get m b) ≡ true → b ≡ a
+only_one m a b few has also =
+    elim (cases_eq b a) [
+      | inl same ↦ same
+      | inr other ↦
+          let left : is_some (map.get (map.remove m a) b) ≡ true = ap is_some (grind (arith, nat_tests, get_removed m a b, other)) ∙ also in
+          absurd (nobody (map.remove m a) b left (omega (arith, len_removed m a has, few)))
+    ]
+
+open_if : (t : Option Transaction) → is_some (images_kept t) ≡ true → is_some t ≡ true
+open_if None is = is
+open_if (Some t) is = refl
+
+reserves : (reserved : List (ℕ × Cell)) (tx : ℕ) (cell : Cell) → reservation_of ((tx, cell) ∷ reserved) tx ≡ Some cell
+reserves reserved tx cell = grind (arith, nat_tests)
+
+reserves_no_other : (reserved : List (ℕ × Cell)) (tx : ℕ) (cell : Cell) → SameReservations reserved ((tx, cell) ∷ reserved) tx
+reserves_no_other reserved tx cell other ne = grind (arith, nat_tests, ne)
+
+-- A transaction that may be called with this operation, by itself: what is so of it, before it is.
+module _ {P : Type 0} (bits_of : P → ℕ → ℕ) (m : ManagerFields P) (tx : ℕ) (op : ObjOp) (h : IsManager bits_of m) (may : MayCall m tx) (range : IsOpInRange op) where
+  abbrev t : Transaction
+  t = may.1.one
+
+  number : t.subtx.tx ≡ tx
+  number = (h.sound.fits tx t may.1.there).number
+
+  held_nothing : HoldsNothing (all_of (state_of bits_of m h.images h.base)) tx
+  held_nothing = subst (λ (a : At). FitsAt a (state_of bits_of m h.images h.base) tx t) may.1.idle (h.sound.fits tx t may.1.there).where_at
+
+  no_images : t.subtx.images ≡ map.empty
+  no_images =
+      let both : Some t.subtx.images ≡ Some map.empty = sym (h.sound.kept tx ∙ ap images_kept may.1.there) ∙ held_nothing.no_images in
+      cc
+
+  -- whoever holds a page is open, so where tx alone is open nobody holds one
+  nobody_holds : map.len m.txs ≤ 1 → NobodyHolds m.commons.pages.locks
+  nobody_holds alone u =
+      not_true (is_holder m.commons.pages.locks u) (λ holds.
+      let open_u : is_some (map.get m.txs u) ≡ true = open_if (map.get m.txs u) (ap is_some (sym (h.sound.kept u)) ∙ h.sound.running.holders_open u holds) in
+      let own : u ≡ tx = only_one m.txs tx u alone (ap is_some may.1.there) open_u in
+      false≢true (sym held_nothing.no_locks ∙ subst (λ n. is_holder m.commons.pages.locks n ≡ true) own holds))
+
+  -- what a call would make of it, and of what all share
+  abbrev called : Transaction
+  called = record { subtx = t.subtx; undo = record { entries = t.undo.entries; spare = 1 }; at = at.Pending (started_for (Do op)) }
+
+  abbrev with_room : Commons
+  with_room = record m.commons {
+    objects = record { held = m.commons.objects.held; reserved = (t.subtx.tx, cell_of op) ∷ m.commons.objects.reserved };
+    history = record { items = m.commons.history.items; room = m.commons.history.room + 2 };
+  }
+
+  abbrev were_called : ManagerFields P
+  were_called = record m { commons = with_room; txs = map.insert m.txs tx called }
+
+  would_call : HasCalled m were_called tx op
+  would_call = record {
+    may = may;
+    in_range = range;
+    calls = record {
+      changes = record { before = t; after = called; was = may.1.there; is = refl };
+      tells = record {
+        makes = record {
+          subtx_kept = refl;
+          entries = refl;
+          pages = refl;
+          held = refl;
+          others = reserves_no_other m.commons.objects.reserved t.subtx.tx (cell_of op);
+          items = refl;
+        };
+        pending = refl;
+        spare = omega arith;
+        reserved = reserves m.commons.objects.reserved t.subtx.tx (cell_of op);
+        room = refl;
+      };
+    };
+    rest = refl;
+  }
+
+  -- so it might take its steps
+  may_operate : MayOperate (basis_by bits_of m.root m.opens t.subtx.tx) (moment t.subtx m.commons.pages) (started_for (Do op))
+  may_operate =
+      let then : IsManager bits_of were_called = called_keeps bits_of m h tx were_called refl op would_call in
+      let steps : MayStepAt (at.Pending (started_for (Do op))) (basis_by bits_of m.root m.opens tx) called with_room =
+      may_step (state_of bits_of were_called then.images then.base) tx called then.sound (inserted_here m.txs tx called) (λ is. subst IsBusy is tt) in
+      subst (λ (n : ℕ). MayOperate (basis_by bits_of m.root m.opens n) (moment t.subtx m.commons.pages) (started_for (Do op))) (sym number) (steps.0.goes refl)
+
+  -- **It may be called at once, where it alone is open.**
+  pub may_call_at_once : map.len m.txs ≤ 1 → (one : Transaction) × (map.get m.txs tx ≡ Some one) × MayCallAtOnce (basis_by bits_of m.root m.opens one.subtx.tx) op one m.commons
+  may_call_at_once alone = (
+    t,
+    may.1.there,
+    record {
+      idle = may.1.idle;
+      fresh = λ i. record { tx = t.subtx.tx; images = no_images i };
+      free = nobody_holds alone;
+      may = may_operate;
+    },
+  )
+
+-- ---- what its steps come to
+
+busy_by : (a : At) (basis : Basis) (t u : Transaction) (old new : Commons) (told : Answer) → TellsAt a basis t u old new told → IsBusy a
+busy_by at.Idle basis t u old new told none = absurd none
+busy_by (at.Pending o) basis t u old new told tells = tt
+busy_by (at.Undoing inverting) basis t u old new told tells = tt
+
+-- a step in the table of open transactions is one of the manager
+one_step : {P : Type 0} (bits_of : P → ℕ → ℕ) (m : ManagerFields P) (tx : ℕ) (txs : Table) (commons : Commons) (told : Answer) → (told ≡ answer.Aborted → ⊥)
+    → StepsOne (basis_by bits_of m.root m.opens) tx m.txs txs m.commons commons told → HasStepped bits_of m (record m { commons = commons; txs = txs }) tx told
+one_step bits_of m tx txs commons told not steps =
+    let before = steps.changes.before in
+    let busy : IsOpenAt m.txs tx IsBusy = record {
+      one = before;
+      there = steps.changes.was;
+      is_at = busy_by before.at (basis_by bits_of m.root m.opens before.subtx.tx) before steps.changes.after m.commons commons told steps.tells;
+    } in
+    stepped_on bits_of m tx commons txs busy told not steps
+
+-- **Steps at once are steps one after another, up to the end.**
+pub at_once_up_to : {P : Type 0} (bits_of : P → ℕ → ℕ) (m : ManagerFields P) (tx : ℕ) (txs : Table) (commons : Commons) (reply : ObjReply)
+    → StepsOneAtOnce (basis_by bits_of m.root m.opens) tx m.txs txs m.commons commons reply → StepsOnUpTo bits_of m (record m { commons = commons; txs = txs }) tx (answer.Done reply)
+at_once_up_to bits_of m tx txs commons reply steps =
+    let headed : ManagerFields _ = record m { commons = steps.with_header; txs = steps.headed } in
+    let placed : ManagerFields _ = record m { commons = steps.with_directory; txs = steps.placed } in
+    let told : ManagerFields _ = record m { commons = steps.with_bucket; txs = steps.told } in
+    record {
+      steps = (headed, answer.Going) ∷ (placed, answer.Going) ∷ (told, answer.Going) ∷ [];
+      before = told;
+      goes = (
+        one_step bits_of m tx steps.headed steps.with_header answer.Going (λ is. absurd cc) steps.first,
+        tt,
+        (
+          one_step bits_of headed tx steps.placed steps.with_directory answer.Going (λ is. absurd cc) steps.second,
+          tt,
+          (one_step bits_of placed tx steps.told steps.with_bucket answer.Going (λ is. absurd cc) steps.third, tt, refl),
+        ),
+      );
+      ends = one_step bits_of told tx txs commons (answer.Done reply) (λ is. absurd cc) steps.ends;
+      stops = tt;
+    }
+
+-- **An operation that is done at once was called, and took its steps.**
+pub done_at_once : {P : Type 0} (bits_of : P → ℕ → ℕ) (m : ManagerFields P) (tx : ℕ) (op : ObjOp) (txs : Table) (commons : Commons) (reply : ObjReply) → MayCall m tx → IsOpInRange op
+    → DoesOneAtOnce (basis_by bits_of m.root m.opens) tx op m.txs txs m.commons commons reply → HasRun bits_of m (record m { commons = commons; txs = txs }) tx op (answer.Done reply)
+done_at_once bits_of m tx op txs commons reply may range does =
+    let called : ManagerFields _ = record m { commons = does.with_room; txs = does.called } in
+    record {
+      called = called;
+      calls = record { may = may; in_range = range; calls = does.calls; rest = refl };
+      runs = record {
+        stopped = record m { commons = commons; txs = txs };
+        steps = at_once_up_to bits_of called tx txs commons reply does.steps;
+        drops = refl;
+      };
+    }
+
+-- one that is not done at once was called
+pub called_at_once : {P : Type 0} (bits_of : P → ℕ → ℕ) (m : ManagerFields P) (tx : ℕ) (op : ObjOp) (txs : Table) (commons : Commons) (told : Option ObjReply) → told ≡ None → MayCall m tx → IsOpInRange op
+    → CallsOneAtOnce told (basis_by bits_of m.root m.opens) tx op m.txs txs m.commons commons → HasCalled m (record m { commons = commons; txs = txs }) tx op
+called_at_once bits_of m tx op txs commons None is may range calls = record { may = may; in_range = range; calls = calls; rest = refl }
+called_at_once bits_of m tx op txs commons (Some reply) is may range calls = absurd cc
+
+-- why a call is refused that does not come to its own
+pub refused_at_call : {P : Type 0} (reason : Refusal) (m m' : ManagerFields P) (tx : ℕ) (op : ObjOp) → m' ≡ m → IsCauseAtCall reason m tx → AnswersCall m m' tx op (Err reason)
+refused_at_call refusal.OutOfMemory m m' tx op same why = absurd why
+refused_at_call other m m' tx op same why = (why, same)

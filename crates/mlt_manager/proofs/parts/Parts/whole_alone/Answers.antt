@@ -1,0 +1,48 @@
+use Rattle.std.proofs.Common.{Option, refl, subst}
+use Rattle.mlt_kinds.specs.declared.operation.ObjReply.{ObjReply}
+use Rattle.mlt_hash.specs.Walks.{basis_by}
+use Rattle.mlt_open.specs.Tables.{CallsOneAtOnce}
+use Rattle.mlt_manager.specs.Managers.{ManagerFields}
+use Rattle.mlt_manager.specs.Parts.{fields_of}
+use Rattle.mlt_manager.proofs.AtOnce.{called_at_once, done_at_once, may_call_at_once}
+use Rattle.mlt_manager.proofs.Called.{called_keeps}
+use Rattle.mlt_manager.proofs.RunningOn.{called_is_pending}
+use Rattle.mlt_manager.proofs.parts.Parts.whole_alone.Goals as goal
+
+pub call_at_once-requires : goal.call_at_once-requires
+call_at_once-requires g c = record {
+  is_open = may_call_at_once g.P.Pseudo.bits_of (fields_of c.args.self.now) c.args.tx c.args.op c.requires.sound c.in_ok-may_call.ensures.may c.operation_is_in_range.ensures c.requires.alone;
+}
+
+pub run-requires-clause-sound : goal.run-requires-clause-sound
+run-requires-clause-sound g c =
+    called_keeps g.P.Pseudo.bits_of (fields_of c.args.self.now) c.requires.sound c.args.tx _ refl c.args.op
+    (called_at_once g.P.Pseudo.bits_of (fields_of c.args.self.now) c.args.tx c.args.op c.call_at_once.new.self c.call_at_once.new.commons c.in_ok-reply.field-0 c.in-None.is c.in_ok-may_call.ensures.may c.operation_is_in_range.ensures
+    c.in_ok-reply.ensures.calls)
+
+pub run-requires-clause-pending : goal.run-requires-clause-pending
+run-requires-clause-pending g c =
+    called_is_pending (fields_of c.args.self.now) _ c.args.tx c.args.op
+    (called_at_once g.P.Pseudo.bits_of (fields_of c.args.self.now) c.args.tx c.args.op c.call_at_once.new.self c.call_at_once.new.commons c.in_ok-reply.field-0 c.in-None.is c.in_ok-may_call.ensures.may c.operation_is_in_range.ensures
+    c.in_ok-reply.ensures.calls)
+
+pub returns-in-Some : goal.returns-in-Some
+returns-in-Some g c =
+    let m : ManagerFields _ = fields_of c.args.self.now in
+    record {
+      answers =
+          done_at_once g.P.Pseudo.bits_of m c.args.tx c.args.op c.call_at_once.new.self c.call_at_once.new.commons c.in-Some.reply c.in_ok-may_call.ensures.may c.operation_is_in_range.ensures
+          (subst (λ (told : Option ObjReply). CallsOneAtOnce told (basis_by g.P.Pseudo.bits_of m.root m.opens) c.args.tx c.args.op m.txs c.call_at_once.new.self m.commons c.call_at_once.new.commons) c.in-Some.is
+          c.in_ok-reply.ensures.calls);
+    }
+
+pub returns-in-None : goal.returns-in-None
+returns-in-None g c = record {
+  answers = record {
+    called = _;
+    calls =
+        called_at_once g.P.Pseudo.bits_of (fields_of c.args.self.now) c.args.tx c.args.op c.call_at_once.new.self c.call_at_once.new.commons c.in_ok-reply.field-0 c.in-None.is c.in_ok-may_call.ensures.may c.operation_is_in_range.ensures
+        c.in_ok-reply.ensures.calls;
+    runs = c.run.ensures.runs;
+  };
+}
