@@ -432,6 +432,19 @@ def end_is_heard_behind_too_many_bytes(mltx):
         expect(server.end(), out="served 1\n")
 
 
+@test(seconds=3)
+def client_that_hears_late_hears_all(mltx):
+    """A client that sends many lines at once and reads nothing for half a second hears every answer: the server waits for it."""
+    count = 600_000
+    with mltx.serve() as server, server.connect() as peer:
+        sending = threading.Thread(target=send_and_hear_nothing, args=(peer, "foo\n" * count + "quit\n"))
+        sending.start()
+        time.sleep(0.5)
+        same(peer.rest() == b"error 10 ScriptFault\n" * count + b"bye\n", True, f"whether it hears {count} answers and the end")
+        sending.join()
+        expect(server.end(), out="served 1\n")
+
+
 def send_for_ever(peer, text, pause):
     """Sends a text again and again, until the server breaks the connection off."""
     with may_break_off():

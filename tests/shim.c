@@ -88,7 +88,15 @@ ssize_t write(int file, const void *bytes, size_t size) {
     return fails("write", &size) ? -!!fault : NEXT(write_some, "write")(file, bytes, size);
 }
 
+/* Whether nothing is there, in a mode in which nobody waits for it: such a look is no receipt, and is not counted. */
+static int looks_in_vain(int peer) {
+    char byte;
+    return fcntl(peer, F_GETFL) & O_NONBLOCK
+        && NEXT(receive, "recv")(peer, &byte, 1, MSG_PEEK | MSG_DONTWAIT) < 0 && errno == EAGAIN;
+}
+
 ssize_t recv(int peer, void *bytes, size_t size, int how) {
+    if (looks_in_vain(peer)) return -1;
     return fails("recv", &size) ? -!!fault : NEXT(receive, "recv")(peer, bytes, size, how);
 }
 

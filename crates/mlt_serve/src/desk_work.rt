@@ -4,6 +4,7 @@ ghost use Rattle.std.specs.Prelude.{◌≡◌, ◌+◌, ◌-◌, ◌^◌, [], fa
 ghost use Rattle.mlt_serve.specs.Clients.{GrowsFor};
 
 use crate::accepting::Visit;
+use crate::line::Line;
 use crate::parting::part;
 use crate::passage::Passage;
 use crate::service::Service;
@@ -81,8 +82,9 @@ impl<L: Ledger> Served<L> {
         let tries = Tries::PerOperation(service.tries);
         let mut desk = LockDesk::new(rt, service.shared, &passage, mine, tries);
         desk.serve(client);
-        let idle = service.idle;
-        let refused = talk(alloc, &stream, &passage, idle, &mut desk, client, receipts);
+        let line = Line::new(&stream, service.lookout, service.idle);
+        let refused = talk(alloc, &line, &passage, &mut desk, client, receipts);
+        line.close();
         let (mine, more) = desk.close();
         part(rt, &stream);
         share.merge(mine);

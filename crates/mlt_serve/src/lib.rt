@@ -5,6 +5,8 @@ mod accepting;
 mod crew;
 mod desk_work;
 mod gathering;
+mod line;
+mod lookout;
 mod parting;
 mod passage;
 mod reporting;

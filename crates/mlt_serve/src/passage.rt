@@ -1,12 +1,12 @@
 //! The way of one session through the turnstile.
 
+use crate::line::Line;
 use crate::turnstile::Turnstile;
 use mlt_event::{Answer, Told};
 use mlt_lock_desk::{Gate, is_to_wait};
 use std::cell::Cell;
 use std::io;
 use std::io::{Read, Write};
-use std::net::TcpStream;
 use std::sync::Wait;
 
 // After so many events, which take some 30 microseconds, a session goes to the end of the queue: so one with many lines does not
@@ -98,21 +98,21 @@ fn holds_no_page(told: &Told) -> bool {
 /// A connection whose reads and writes wait outside.
 #[derive(Drop)]
 pub(crate) struct Outside<'a, R: Wait> {
-    stream: &'a TcpStream,
+    line: &'a Line<'a>,
     passage: &'a Passage<'a, R>,
 }
 
 impl<'a, R: Wait> Outside<'a, R> {
     /// The connection of the session that has this passage.
-    pub(crate) fn new(stream: &'a TcpStream, passage: &'a Passage<'a, R>) -> Outside<'a, R> {
-        Outside { stream, passage }
+    pub(crate) fn new(line: &'a Line<'a>, passage: &'a Passage<'a, R>) -> Outside<'a, R> {
+        Outside { line, passage }
     }
 }
 
 impl<R: Wait> Read for Outside<'_, R> {
     fn read(&mut self, buf: &mut [u8]) -> io::Result<usize> {
         self.passage.leave();
-        let count = self.stream.read(buf)?;
+        let count = self.line.read(buf)?;
         if count > 0 {
             self.passage.go_on(count);
         }
@@ -123,10 +123,10 @@ impl<R: Wait> Read for Outside<'_, R> {
 impl<R: Wait> Write for Outside<'_, R> {
     fn write(&mut self, buf: &[u8]) -> io::Result<usize> {
         self.passage.leave();
-        self.stream.write(buf)
+        self.line.write(buf)
     }
 
     fn flush(&mut self) -> io::Result<()> {
-        self.stream.flush()
+        Ok(())
     }
 }

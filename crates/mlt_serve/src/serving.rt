@@ -6,6 +6,7 @@ ghost use Rattle.mlt_serve.specs.Clients.{AreOfClients};
 
 use crate::crew::serve_connections;
 use crate::gathering::{gather, new_crew};
+use crate::lookout::Lookout;
 use crate::reporting::receipts_of;
 use crate::service::Service;
 use crate::turnstile::Turnstile;
@@ -50,9 +51,11 @@ fn serve_with<L: Ledger + Send + Sync, P: Pseudo + Drop + Send, R: Threads + Wai
     let manager = Manager::new(alloc, limits, pseudo)?;
     let shared = Shared::new(Hall::new(manager, book));
     let turnstile = Turnstile::new();
+    let lookout = Lookout::new(rt);
     let service = Service {
         shared: &shared,
         turnstile: &turnstile,
+        lookout: &lookout,
         tries,
         idle,
     };
