@@ -73,7 +73,7 @@ impl<'a> Line<'a> {
         Ok(())
     }
 
-    /// Whether the next read is to look.
+    /// Counts a read, and answers whether it is to look.
     fn is_to_look(&self) -> bool {
         let rest = self.rest.get();
         self.rest.set(rest.saturating_sub(1));
