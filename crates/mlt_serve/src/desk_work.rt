@@ -4,10 +4,10 @@ ghost use Rattle.std.specs.Prelude.{◌≡◌, ◌+◌, ◌-◌, ◌^◌, [], fa
 ghost use Rattle.mlt_serve.specs.Clients.{GrowsFor};
 
 use crate::accepting::Visit;
-use crate::line::Line;
 use crate::parting::part;
 use crate::passage::Passage;
 use crate::service::Service;
+use crate::socket::Socket;
 use crate::talking::talk;
 use crossbeam_channel::Receiver;
 use mlt_lock_desk::{LockDesk, Tries};
@@ -82,9 +82,9 @@ impl<L: Ledger> Served<L> {
         let tries = Tries::PerOperation(service.tries);
         let mut desk = LockDesk::new(rt, service.shared, &passage, mine, tries);
         desk.serve(client);
-        let line = Line::new(&stream, service.lookout, service.idle);
-        let refused = talk(alloc, &line, &passage, &mut desk, client, receipts);
-        line.close();
+        let socket = Socket::new(&stream, service.lookout, service.idle);
+        let refused = talk(alloc, &socket, &passage, &mut desk, client, receipts);
+        socket.close();
         let (mine, more) = desk.close();
         part(rt, &stream);
         share.merge(mine);

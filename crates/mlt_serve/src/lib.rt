@@ -5,13 +5,13 @@ mod accepting;
 mod crew;
 mod desk_work;
 mod gathering;
-mod line;
 mod lookout;
 mod parting;
 mod passage;
 mod reporting;
 mod service;
 mod serving;
+mod socket;
 mod talking;
 mod turnstile;
 

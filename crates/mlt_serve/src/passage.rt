@@ -1,6 +1,6 @@
 //! The way of one session through the turnstile.
 
-use crate::line::Line;
+use crate::socket::Socket;
 use crate::turnstile::Turnstile;
 use mlt_event::{Answer, Told};
 use mlt_lock_desk::{Gate, is_to_wait};
@@ -98,21 +98,21 @@ fn holds_no_page(told: &Told) -> bool {
 /// A connection whose reads and writes wait outside.
 #[derive(Drop)]
 pub(crate) struct Outside<'a, R: Wait> {
-    line: &'a Line<'a>,
+    socket: &'a Socket<'a>,
     passage: &'a Passage<'a, R>,
 }
 
 impl<'a, R: Wait> Outside<'a, R> {
     /// The connection of the session that has this passage.
-    pub(crate) fn new(line: &'a Line<'a>, passage: &'a Passage<'a, R>) -> Outside<'a, R> {
-        Outside { line, passage }
+    pub(crate) fn new(socket: &'a Socket<'a>, passage: &'a Passage<'a, R>) -> Outside<'a, R> {
+        Outside { socket, passage }
     }
 }
 
 impl<R: Wait> Read for Outside<'_, R> {
     fn read(&mut self, buf: &mut [u8]) -> io::Result<usize> {
         self.passage.leave();
-        let count = self.line.read(buf)?;
+        let count = self.socket.read(buf)?;
         if count > 0 {
             self.passage.go_on(count);
         }
@@ -123,10 +123,11 @@ impl<R: Wait> Read for Outside<'_, R> {
 impl<R: Wait> Write for Outside<'_, R> {
     fn write(&mut self, buf: &[u8]) -> io::Result<usize> {
         self.passage.leave();
-        self.line.write(buf)
+        self.socket.write(buf)
     }
 
     fn flush(&mut self) -> io::Result<()> {
+        // A socket keeps nothing back.
         Ok(())
     }
 }

@@ -2,8 +2,8 @@
 
 ghost use Rattle.mlt_serve.specs.Clients.{GrowsFor};
 
-use crate::line::Line;
 use crate::passage::{Outside, Passage};
+use crate::socket::Socket;
 use mlt_desk::Desk;
 use mlt_serial::Outcome;
 use mlt_types::Refusal;
@@ -11,11 +11,12 @@ use mlt_wire::session;
 use std::alloc::Global;
 use std::sync::Wait;
 
-/// Talks over a line by a session at the desk, which adds receipts of this client alone. It answers whether the session was
-/// refused a growth; any other end of it is an end of this connection alone. While it waits for the client it is outside of the turnstile, and at the end too.
+/// Talks over a socket by a session at the desk, which adds receipts of this client alone. It answers whether the session was
+/// refused a growth; any other end of it is an end of this connection alone. While it waits for the client it is outside of the
+/// turnstile, and at the end too.
 pub(crate) fn talk<R: Wait, D: Desk>(
     alloc: Global,
-    line: &Line<'_>,
+    socket: &Socket<'_>,
     passage: &Passage<'_, R>,
     desk: &mut D,
     client: u32,
@@ -23,8 +24,8 @@ pub(crate) fn talk<R: Wait, D: Desk>(
 ) -> bool
     ensures { GrowsFor client receipts.old.items receipts.new.items }
 {
-    let mut reader = Outside::new(line, passage);
-    let mut writer = Outside::new(line, passage);
+    let mut reader = Outside::new(socket, passage);
+    let mut writer = Outside::new(socket, passage);
     let ended = session(alloc, &mut reader, &mut writer, desk, client, receipts);
     passage.leave();
     matches!(ended, Err(Refusal::OutOfMemory))

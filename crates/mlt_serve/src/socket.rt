@@ -1,4 +1,4 @@
-//! The line to one client.
+//! The socket of one client.
 
 ghost use Rattle.std.specs.Prelude.{IfSome};
 ghost use Rattle.std.specs.Io.{ReadsAtMost, WritesAtMost};
@@ -24,7 +24,7 @@ const MOST_GAP: u32 = 64;
 /// as many a client needs for its next line. It looks while sessions are few, and ever more seldom where it was in vain, so that a
 /// client that is slow or far away costs hardly more than where nobody looks.
 #[derive(Drop)]
-pub(crate) struct Line<'a> {
+pub(crate) struct Socket<'a> {
     stream: &'a TcpStream,
     lookout: &'a Lookout,
     /// Whether a read or a write that can't go on at once waits until it can.
@@ -35,20 +35,20 @@ pub(crate) struct Line<'a> {
     gap: Cell<u32>,
 }
 
-impl<'a> Line<'a> {
-    /// The line to a client whose session begins. A read or a write that waits longer than the idle time fails, if there is one.
+impl<'a> Socket<'a> {
+    /// The socket of a client whose session begins. A read or a write that waits longer than the idle time fails, if there is one.
     pub(crate) fn new(
         stream: &'a TcpStream,
         lookout: &'a Lookout,
         idle: Option<Duration>,
-    ) -> Line<'a> {
+    ) -> Socket<'a> {
         // Without this an answer may be held back; where it fails it still comes.
         let _ = stream.set_nodelay(true);
         // Where these fail, a wait has no end; an open socket takes them.
         let _ = stream.set_read_timeout(idle);
         let _ = stream.set_write_timeout(idle);
         lookout.enter();
-        Line {
+        Socket {
             stream,
             lookout,
             waits: Cell::new(true),
