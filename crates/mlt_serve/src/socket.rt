@@ -11,8 +11,7 @@ use std::io::{ErrorKind, Read, Write};
 use std::net::TcpStream;
 use std::time::Duration;
 
-// How often a read looks for bytes before it sleeps, each time by a call of the system: in some 20 microseconds, in which many a
-// client sends its next line.
+// How often a read looks for bytes before it sleeps, each time by a call of the system: in some ten microseconds.
 const LOOKS: u32 = 50;
 
 // Where a look was in vain so many reads do not look, or twice as many as the time before, up to the most.
@@ -20,9 +19,9 @@ const FIRST_GAP: u32 = 1;
 
 const MOST_GAP: u32 = 64;
 
-/// A connection on which a read first looks for bytes for some microseconds: to put a thread to sleep and wake it takes about as long
-/// as many a client needs for its next line. It looks while sessions are few, and ever more seldom where it was in vain, so that a
-/// client that is slow or far away costs hardly more than where nobody looks.
+/// A connection on which a read first looks for bytes for some microseconds, so that a client that sends its next line at once finds
+/// its session awake. It looks while sessions are few, and ever more seldom where it was in vain, as for a client that is slow or far
+/// away.
 #[derive(Drop)]
 pub(crate) struct Socket<'a> {
     stream: &'a TcpStream,
