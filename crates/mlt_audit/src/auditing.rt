@@ -1,6 +1,6 @@
 //! Receipts against a history.
 
-ghost use Rattle.std.specs.Prelude.{◌≡◌, ◌↔◌, IsTrue, OnOk, OnErr, IfErr};
+ghost use Rattle.std.specs.Prelude.{◌↔◌, IsTrue, OnOk, OnErr, IsOkUnless};
 ghost use Rattle.mlt_audit.specs.Agreement.{Agrees, AreOfHistory};
 
 use crate::any::are_of_any;
@@ -31,7 +31,7 @@ fn are_of_history(receipts: &[Outcome], history: &[KeptItem]) -> bool
 pub fn audit(receipts: &[Outcome], history: &[KeptItem]) -> Result<(), Refusal>
     ensures ok { OnOk result (Agrees receipts.now history.now) }
     ensures err { OnErr result (Agrees receipts.now history.now → ⊥) }
-    ensures refusal { IfErr result (λ refusal. refusal ≡ Refusal.Audit) }
+    ensures refusal { IsOkUnless result Refusal.Audit }
 {
     if are_of_history(receipts, history)
         && are_refused_without_tx(receipts)

@@ -1,6 +1,6 @@
 //! The accounts of a base, in an ordered map.
 
-ghost use Rattle.std.specs.Prelude.{◌≡◌, ◌++◌, None, Some, IfErr, IfNone, IfOk, IfSome, OnErr, OnOk};
+ghost use Rattle.std.specs.Prelude.{◌≡◌, ◌++◌, None, Some, IsOkUnless, IfNone, IfOk, IfSome, OnErr, OnOk};
 ghost use Rattle.std.specs.FinMap as map;
 ghost use Rattle.std.specs.String.{string_bytes};
 ghost use Rattle.mlt_base.specs.BaseText.{account_lines};
@@ -76,7 +76,7 @@ impl Accounts {
         ensures done { IfOk result (λ reply. DoesAt self.old account op.now reply self.new) }
         ensures err { OnErr result (self.new ≡ self.old) }
         ensures growth { OnErr result (op.now ≡ AccountOp.Open) }
-        ensures refusal { IfErr result (λ refusal. refusal ≡ Refusal.OutOfMemory) }
+        ensures refusal { IsOkUnless result Refusal.OutOfMemory }
     {
         let (after, reply) = Account::apply(&None, op);
         if let Some(balance) = after {
@@ -91,7 +91,7 @@ impl Accounts {
         ensures err { OnErr result (self.new ≡ self.old) }
         ensures growth { OnErr result
             ((map.get self.old account ≡ None) × (op.now ≡ AccountOp.Open)) }
-        ensures refusal { IfErr result (λ refusal. refusal ≡ Refusal.OutOfMemory) }
+        ensures refusal { IsOkUnless result Refusal.OutOfMemory }
     {
         let Some(balance) = self.balances.get_mut(&account) else {
             return self.open(account, op);
@@ -107,7 +107,7 @@ impl Accounts {
     pub(crate) fn push_text(&self, text: &mut String) -> Result<(), Refusal>
         ensures text { OnOk result
             (string_bytes text.new ≡ string_bytes text.old ++ account_lines self.now) }
-        ensures refusal { IfErr result (λ refusal. refusal ≡ Refusal.OutOfMemory) }
+        ensures refusal { IsOkUnless result Refusal.OutOfMemory }
     {
         push_accounts(text, &self.balances)
     }

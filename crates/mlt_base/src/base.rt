@@ -1,6 +1,6 @@
 //! The base of all objects, in maps and a set.
 
-ghost use Rattle.std.specs.Prelude.{◌≡◌, IfOk, OnOk, OnErr, IfErr};
+ghost use Rattle.std.specs.Prelude.{◌≡◌, IfOk, OnOk, OnErr, IsOkUnless};
 ghost use Rattle.std.specs.String.{string_bytes};
 ghost use Rattle.mlt_base.specs.BaseText.{base_text};
 ghost use Rattle.mlt_base.specs.Growth.{MakesObject};
@@ -87,7 +87,7 @@ impl Base {
         ensures step { IfOk result (λ reply. Step self.old (op.now, reply) self.new) }
         ensures err { OnErr result (self.new ≡ self.old) }
         ensures growth { OnErr result (MakesObject self.old op.now) }
-        ensures refusal { IfErr result (λ refusal. refusal ≡ Refusal.OutOfMemory) }
+        ensures refusal { IsOkUnless result Refusal.OutOfMemory }
     {
         match *op {
             ObjOp::Account(account, op) => self.apply_account(account, op),
@@ -102,7 +102,7 @@ impl Base {
             (λ reply. Step self.old (ObjOp.Account account op, reply) self.new) }
         ensures err { OnErr result (self.new ≡ self.old) }
         ensures growth { OnErr result (MakesObject self.old (ObjOp.Account account op)) }
-        ensures refusal { IfErr result (λ refusal. refusal ≡ Refusal.OutOfMemory) }
+        ensures refusal { IsOkUnless result Refusal.OutOfMemory }
     {
         let reply = self.accounts.apply(account, &op)?;
         Ok(reply)
@@ -113,7 +113,7 @@ impl Base {
             (λ reply. Step self.old (ObjOp.Element set element op, reply) self.new) }
         ensures err { OnErr result (self.new ≡ self.old) }
         ensures growth { OnErr result (MakesObject self.old (ObjOp.Element set element op)) }
-        ensures refusal { IfErr result (λ refusal. refusal ≡ Refusal.OutOfMemory) }
+        ensures refusal { IsOkUnless result Refusal.OutOfMemory }
     {
         let before = self.elements.has(set, element);
         let (after, reply) = Element::apply(&before, &op);
@@ -130,7 +130,7 @@ impl Base {
             (λ reply. Step self.old (ObjOp.Counter counter op, reply) self.new) }
         ensures err { OnErr result (self.new ≡ self.old) }
         ensures growth { OnErr result (MakesObject self.old (ObjOp.Counter counter op)) }
-        ensures refusal { IfErr result (λ refusal. refusal ≡ Refusal.OutOfMemory) }
+        ensures refusal { IsOkUnless result Refusal.OutOfMemory }
     {
         let before = self.counters.value(counter);
         let (after, reply) = Counter::apply(&before, &op);
@@ -143,7 +143,7 @@ impl Base {
     // The text of the base, as `write_base` writes it. `OutOfMemory` is a growth that was refused.
     pub(crate) fn text(&self) -> Result<String, Refusal>
         ensures text { IfOk result (λ text. string_bytes text ≡ base_text self.now) }
-        ensures refusal { IfErr result (λ refusal. refusal ≡ Refusal.OutOfMemory) }
+        ensures refusal { IsOkUnless result Refusal.OutOfMemory }
     {
         let mut text = String::new(self.alloc);
         self.accounts.push_text(&mut text)?;

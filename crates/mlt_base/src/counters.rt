@@ -1,6 +1,6 @@
 //! The counters of a base that are not 0, in an ordered map.
 
-ghost use Rattle.std.specs.Prelude.{◌≡◌, ◌≢◌, ◌++◌, None, IfErr, IfOk, OnErr, OnOk};
+ghost use Rattle.std.specs.Prelude.{◌≡◌, ◌≢◌, ◌++◌, None, IsOkUnless, IfOk, OnErr, OnOk};
 ghost use Rattle.std.specs.FinMap as map;
 ghost use Rattle.std.specs.String.{string_bytes};
 ghost use Rattle.mlt_types.specs.Maps.{with_entry};
@@ -56,7 +56,7 @@ impl Counters {
         ensures set { OnOk result (self.new ≡ with_entry self.old counter (counter_entry value)) }
         ensures err { OnErr result (self.new ≡ self.old) }
         ensures growth { OnErr result ((map.get self.old counter ≡ None) × (value ≢ 0)) }
-        ensures refusal { IfErr result (λ refusal. refusal ≡ Refusal.OutOfMemory) }
+        ensures refusal { IsOkUnless result Refusal.OutOfMemory }
     {
         if value == 0 {
             self.values.remove(&counter);
@@ -70,7 +70,7 @@ impl Counters {
     pub(crate) fn push_text(&self, text: &mut String) -> Result<(), Refusal>
         ensures text { OnOk result
             (string_bytes text.new ≡ string_bytes text.old ++ counter_lines self.now) }
-        ensures refusal { IfErr result (λ refusal. refusal ≡ Refusal.OutOfMemory) }
+        ensures refusal { IsOkUnless result Refusal.OutOfMemory }
     {
         push_counters(text, &self.values)
     }

@@ -1,6 +1,6 @@
 //! The elements of the sets of a base, in an ordered set, and how many each set has.
 
-ghost use Rattle.std.specs.Prelude.{◌≡◌, ◌++◌, false, true, IfErr, IfOk, OnErr, OnOk, is_some};
+ghost use Rattle.std.specs.Prelude.{◌≡◌, ◌++◌, false, true, IsOkUnless, IfOk, OnErr, OnOk, is_some};
 ghost use Rattle.std.specs.FinMap as map;
 ghost use Rattle.std.specs.String.{string_bytes};
 ghost use Rattle.mlt_types.specs.Maps.{with_entry};
@@ -69,7 +69,7 @@ impl Elements {
         ensures set { OnOk result
             (self.new ≡ with_entry self.old (set, element) (element_entry true)) }
         ensures err { OnErr result (self.new ≡ self.old) }
-        ensures refusal { IfErr result (λ refusal. refusal ≡ Refusal.OutOfMemory) }
+        ensures refusal { IsOkUnless result Refusal.OutOfMemory }
     {
         take_room(&mut self.sizes, set)?;
         self.keys.insert((set, element))?;
@@ -90,7 +90,7 @@ impl Elements {
     pub(crate) fn push_text(&self, text: &mut String) -> Result<(), Refusal>
         ensures text { OnOk result
             (string_bytes text.new ≡ string_bytes text.old ++ element_lines self.now) }
-        ensures refusal { IfErr result (λ refusal. refusal ≡ Refusal.OutOfMemory) }
+        ensures refusal { IsOkUnless result Refusal.OutOfMemory }
     {
         push_elements(text, &self.keys)
     }

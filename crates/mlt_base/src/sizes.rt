@@ -1,6 +1,6 @@
 //! How many elements each set of a base has, in an ordered map. A set that is not there has none.
 
-ghost use Rattle.std.specs.Prelude.{◌≡◌, ◌≢◌, ℕ, ◌+◌, ◌<◌, ◌^◌, IfErr, OnOk, IsSome};
+ghost use Rattle.std.specs.Prelude.{◌≡◌, ◌≢◌, ℕ, ◌+◌, ◌<◌, ◌^◌, IsOkUnless, OnOk, IsSome};
 ghost use Rattle.std.specs.BTreeMap.{get};
 ghost use Rattle.std.specs.Ordering.{nat_cmp};
 ghost use Rattle.mlt_base.specs.Kept.{kept_size};
@@ -25,7 +25,7 @@ pub(crate) fn size_of(sizes: &Sizes, set: u16) -> u64
 pub(crate) fn take_room(sizes: &mut Sizes, set: u16) -> Result<(), Refusal>
     ensures same { (s : ℕ) → kept_size sizes.new.entries s ≡ kept_size sizes.old.entries s }
     ensures there { OnOk result (IsSome (get nat_cmp sizes.new set)) }
-    ensures refusal { IfErr result (λ refusal. refusal ≡ Refusal.OutOfMemory) }
+    ensures refusal { IsOkUnless result Refusal.OutOfMemory }
 {
     let size = size_of(sizes, set);
     sizes.insert(set, size)?;

@@ -1,6 +1,6 @@
 //! The text of a base.
 
-ghost use Rattle.std.specs.Prelude.{◌≡◌, ◌⊎◌, ◌++◌, IfErr, OnOk, IsErrOf};
+ghost use Rattle.std.specs.Prelude.{◌≡◌, ◌⊎◌, ◌++◌, IfErr, IsOkUnless, OnOk, IsErrOf};
 ghost use Rattle.std.specs.BTreeMap as tree;
 ghost use Rattle.std.specs.BTreeSet as sorted;
 ghost use Rattle.std.specs.Io.KnownBytes.{Appends, Keeps};
@@ -23,7 +23,7 @@ pub(crate) fn push_accounts(text: &mut String, balances: &BTreeMap<u32, u64>) ->
         (string_bytes text.new
         ≡ string_bytes text.old ++ flat_map account_line balances.now.entries) }
     ensures by_number { OnOk result (tree.IsOrdered nat_cmp balances.now) }
-    ensures refusal { IfErr result (λ refusal. refusal ≡ Refusal.OutOfMemory) }
+    ensures refusal { IsOkUnless result Refusal.OutOfMemory }
 {
     for (account, balance) in balances {
         writeln!(text, "account {account} {balance}")?;
@@ -36,7 +36,7 @@ pub(crate) fn push_elements(text: &mut String, keys: &BTreeSet<(u16, u32)>) -> R
     ensures text { OnOk result
         (string_bytes text.new ≡ string_bytes text.old ++ flat_map key_line keys.now.keys) }
     ensures by_key { OnOk result (sorted.IsOrdered element_cmp keys.now) }
-    ensures refusal { IfErr result (λ refusal. refusal ≡ Refusal.OutOfMemory) }
+    ensures refusal { IsOkUnless result Refusal.OutOfMemory }
 {
     for key in keys {
         let (set, element) = *key;
@@ -50,7 +50,7 @@ pub(crate) fn push_counters(text: &mut String, values: &BTreeMap<u32, u64>) -> R
     ensures text { OnOk result
         (string_bytes text.new ≡ string_bytes text.old ++ flat_map value_line values.now.entries) }
     ensures by_number { OnOk result (tree.IsOrdered nat_cmp values.now) }
-    ensures refusal { IfErr result (λ refusal. refusal ≡ Refusal.OutOfMemory) }
+    ensures refusal { IsOkUnless result Refusal.OutOfMemory }
 {
     for (counter, value) in values {
         writeln!(text, "counter {counter} {value}")?;

@@ -1,6 +1,6 @@
 //! The base of items, without a text of them.
 
-ghost use Rattle.std.specs.Prelude.{◌≡◌, IfErr, IfOk};
+ghost use Rattle.std.specs.Prelude.{◌≡◌, IfErr, IsOkUnless, IfOk};
 ghost use Rattle.mlt_kinds.specs.Bases.{Base as ObjectBase};
 ghost use Rattle.mlt_check.specs.AcceptedItems.{AreAccepted, MayRefuse};
 
@@ -23,7 +23,7 @@ pub fn committed_base(alloc: Global, items: &[KeptItem]) -> Result<Base, Refusal
     ensures one_base { (base : ObjectBase) → AreAccepted items.now base
         → IfOk result (λ answer. answer ≡ base) }
     ensures no_fault { (base : ObjectBase) → AreAccepted items.now base
-        → IfErr result (λ refusal. refusal ≡ Refusal.OutOfMemory) }
+        → IsOkUnless result Refusal.OutOfMemory }
 {
     let mut checker = Checker::new(alloc);
     let mut line = 0u64;

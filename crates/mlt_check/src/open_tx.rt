@@ -1,6 +1,6 @@
 //! The transactions of a trace that are running.
 
-ghost use Rattle.std.specs.Prelude.{◌≡◌, ◌≢◌, ◌++◌, ◌∷◌, [], ℕ, IfErr, OnOk, None, Some};
+ghost use Rattle.std.specs.Prelude.{◌≡◌, ◌≢◌, ◌++◌, ◌∷◌, [], ℕ, IsOkUnless, OnOk, None, Some};
 ghost use Rattle.std.specs.BTreeMap as tree;
 ghost use Rattle.std.specs.Ordering.{nat_cmp};
 
@@ -21,7 +21,7 @@ impl OpenTx {
     pub(crate) fn push(&mut self, line: u64, done: Done) -> Result<(), Refusal>
         ensures ops { OnOk result (self.new.ops.items ≡ self.old.ops.items ++ (line, done) ∷ []) }
         ensures undoing { OnOk result (self.new.undoing ≡ self.old.undoing) }
-        ensures refusal { IfErr result (λ refusal. refusal ≡ Refusal.OutOfMemory) }
+        ensures refusal { IsOkUnless result Refusal.OutOfMemory }
     {
         self.ops.push((line, done))?;
         Ok(())
@@ -47,7 +47,7 @@ pub(crate) fn put_tx(
     ensures there { OnOk result (tree.get nat_cmp running.new tx ≡ Some one) }
     ensures others { OnOk result ((other : ℕ) → other ≢ tx
         → tree.get nat_cmp running.new other ≡ tree.get nat_cmp running.old other) }
-    ensures refusal { IfErr result (λ refusal. refusal ≡ Refusal.OutOfMemory) }
+    ensures refusal { IsOkUnless result Refusal.OutOfMemory }
 {
     running.insert(tx, one)?;
     Ok(())

@@ -1,6 +1,6 @@
 //! A trace from a reader, and what the check says of it to a writer.
 
-ghost use Rattle.std.specs.Prelude.{◌≡◌, ◌⊎◌, ℕ, List, Err, IfErr, IfOk, IsErrAnd, MatchResult, OnOk, Some};
+ghost use Rattle.std.specs.Prelude.{◌≡◌, ◌⊎◌, ℕ, List, Err, IfErr, IsOkUnless, IfOk, IsErrAnd, MatchResult, OnOk, Some};
 ghost use Rattle.std.specs.Io.KnownBytes.{Appends};
 ghost use Rattle.std.specs.String.{string_bytes};
 ghost use Rattle.mlt_types.specs.declared.refusal.TraceCause.{TraceCause};
@@ -31,7 +31,7 @@ fn text_of_txs(alloc: Global, txs: &[TxId]) -> Result<String, AllocError>
 fn text_of(alloc: Global, order: &Order) -> Result<Vec<u8>, Refusal>
     ensures text { IfOk result
         (λ text. text.items ≡ order_text order.now.txs.items order.now.base) }
-    ensures refusal { IfErr result (λ refusal. refusal ≡ Refusal.OutOfMemory) }
+    ensures refusal { IsOkUnless result Refusal.OutOfMemory }
 {
     let mut text = text_of_txs(alloc, order.txs.as_slice())?.into_bytes();
     // A vector fails to take bytes only where a growth was refused.

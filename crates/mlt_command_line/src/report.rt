@@ -1,6 +1,6 @@
 //! What is said where the words of the command line give no job, and the status.
 
-ghost use Rattle.std.specs.Prelude.{◌≡◌, ◌≢◌, ◌⊎◌, IfOk, IfErr, Err};
+ghost use Rattle.std.specs.Prelude.{◌≡◌, ◌≢◌, ◌⊎◌, IfOk, IfErr, IsOkUnless, Err};
 ghost use Rattle.std.specs.Io.KnownBytes.{Keeps};
 ghost use Rattle.clap.specs.Words.{kind_of};
 ghost use Rattle.mlt_command_line.specs.CommandLine.{words_status};
@@ -63,7 +63,7 @@ pub fn report_command_line<O: Write, E: Write>(
 }
 
 fn write_error<W: Write>(error: &Error, writer: &mut W) -> Result<(), Refusal>
-    ensures { IfErr result (λ refusal. refusal ≡ Refusal.Io) }
+    ensures { IsOkUnless result Refusal.Io }
 {
     match write!(writer, "{error}") {
         Ok(()) => flush(writer),

@@ -1,6 +1,6 @@
 //! The scripts of a client at a desk.
 
-ghost use Rattle.std.specs.Prelude.{◌≡◌, IfErr, IfOk, OnErr};
+ghost use Rattle.std.specs.Prelude.{◌≡◌, IsOkUnless, IfOk, OnErr};
 ghost use Rattle.mlt_desk.specs.Clients.{AreOutcomes, AreRunsAt, IsServedAt};
 ghost use Rattle.mlt_desk.specs.Runs.{HasEndedAs};
 
@@ -46,7 +46,7 @@ pub fn run_client<D: Desk>(
     ensures runs { IfOk result (λ outcomes.
         AreRunsAt D.begins D.answers D.commits D.aborts scripts.now
         desk.old outcomes.items desk.new) }
-    ensures refusal { IfErr result (λ refusal. refusal ≡ Refusal.OutOfMemory) }
+    ensures refusal { IsOkUnless result Refusal.OutOfMemory }
     ensures unasked { OnErr result (desk.new ≡ desk.old) }
 {
     let mut outcomes = Vec::with_capacity(alloc, scripts.len())?;

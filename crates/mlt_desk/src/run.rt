@@ -1,6 +1,6 @@
 //! One script at a desk.
 
-ghost use Rattle.std.specs.Prelude.{◌≡◌, [], IfErr, IfOk, OnErr, vec_capacity};
+ghost use Rattle.std.specs.Prelude.{◌≡◌, [], IsOkUnless, IfOk, OnErr, vec_capacity};
 ghost use Rattle.mlt_cursor.specs.Follows.{AsksAtMost, questions_of_script};
 ghost use Rattle.mlt_desk.specs.Runs.{ClosesAs, HasEndedAs, IsRunAt, refusal_of_script};
 
@@ -82,7 +82,7 @@ pub fn run_script<D: Desk>(
     ensures run { IfOk result (λ outcome.
         IsRunAt D.begins D.answers D.commits D.aborts script.now
         desk.old outcome.tx outcome.done outcome.end desk.new) }
-    ensures refusal { IfErr result (λ refusal. refusal ≡ Refusal.OutOfMemory) }
+    ensures refusal { IsOkUnless result Refusal.OutOfMemory }
     ensures unasked { OnErr result (desk.new ≡ desk.old) }
 {
     let mut done = Vec::with_capacity(alloc, most_asked(script))?;

@@ -1,6 +1,6 @@
 //! The text of what events are told.
 
-ghost use Rattle.std.specs.Prelude.{◌≡◌, IfErr, IfOk};
+ghost use Rattle.std.specs.Prelude.{◌≡◌, IsOkUnless, IfOk};
 ghost use Rattle.std.specs.String.{string_bytes};
 ghost use Rattle.mlt_event_text.specs.TellTexts.{told_text};
 
@@ -14,7 +14,7 @@ use std::alloc::Global;
 /// `OutOfMemory`, where a growth was refused.
 pub fn told_text(alloc: Global, tells: &[Told]) -> Result<String, Refusal>
     ensures text { IfOk result (λ text. string_bytes text ≡ told_text tells.now) }
-    ensures refusal { IfErr result (λ refusal. refusal ≡ Refusal.OutOfMemory) }
+    ensures refusal { IsOkUnless result Refusal.OutOfMemory }
 {
     let mut text = String::new(alloc);
     for told in tells {

@@ -1,6 +1,6 @@
 //! What is said of a fault.
 
-ghost use Rattle.std.specs.Prelude.{◌≡◌, IfErr, OnErr, OnOk};
+ghost use Rattle.std.specs.Prelude.{◌≡◌, IsOkUnless, OnErr, OnOk};
 ghost use Rattle.std.specs.Io.KnownBytes.{Appends};
 ghost use Rattle.mlt_text.specs.Texts.{AppendsFront};
 ghost use Rattle.mlt_fault_line.specs.Faults.{fault_text, status_of};
@@ -53,7 +53,7 @@ pub fn report_fault<W: Write>(refusal: &Refusal, errors: &mut W) -> Result<(), R
         (fault_text refusal.now)) }
     ensures err { OnErr result (AppendsFront (W.contents errors.old) (W.contents errors.new)
         (fault_text refusal.now)) }
-    ensures refusal { IfErr result (λ again. again ≡ Refusal.Io) }
+    ensures refusal { IsOkUnless result Refusal.Io }
 {
     let mut line = ArrayString::<ROOM>::new();
     match write!(line, "{}", FaultLine(*refusal)) {

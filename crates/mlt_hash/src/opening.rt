@@ -1,6 +1,6 @@
 //! A hash file as it is opened.
 
-ghost use Rattle.std.specs.Prelude.{◌≡◌, ◌≤◌, ℕ, IfErr, IfOk, OnOk};
+ghost use Rattle.std.specs.Prelude.{◌≡◌, ◌≤◌, ℕ, IsOkUnless, IfOk, OnOk};
 ghost use Rattle.std.specs.FinMap as map;
 ghost use Rattle.mlt_store.specs.Stores.{page_at};
 ghost use Rattle.mlt_hash_form.specs.Changes.{IsOpening};
@@ -21,7 +21,7 @@ pub fn open_file(store: &mut Store) -> Result<PageNo, Refusal>
         (dir : ℕ) × (bucket : ℕ) × IsOpening (page_at store.new.pages) root dir bucket) }
     ensures pages { OnOk result (map.len store.new.pages ≡ 3) }
     ensures limit { store.new.max_pages ≡ store.old.max_pages }
-    ensures refusal { IfErr result (λ refusal. refusal ≡ Refusal.OutOfMemory) }
+    ensures refusal { IsOkUnless result Refusal.OutOfMemory }
 {
     let bucket = store.grow(Page::Bucket(Bucket::empty(0)))?;
     let dir = store.grow(Page::Dir(DirPage::new(bucket)))?;

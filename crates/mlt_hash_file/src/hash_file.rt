@@ -1,6 +1,6 @@
 //! A hash file alone.
 
-ghost use Rattle.std.specs.Prelude.{◌≡◌, IfErr, IfOk, IsSome, None, OnErr, OnOk, true};
+ghost use Rattle.std.specs.Prelude.{◌≡◌, IfErr, IsOkUnless, IfOk, IsSome, None, OnErr, OnOk, true};
 ghost use Rattle.std.specs.FinMap as map;
 ghost use Rattle.mlt_store.specs.Stores.{page_at};
 ghost use Rattle.mlt_hash_form.specs.File.{depth_of};
@@ -67,7 +67,7 @@ impl<P: Pseudo> HashFile<P> {
         ensures limits { IfOk result (λ file. (file.max_depth ≡ limits.now.max_depth)
             × (file.max_pages ≡ limits.now.max_pages) × (file.pseudo ≡ pseudo)) }
         ensures file { IfOk result (λ file. IsFileOf P.bits_of file) }
-        ensures refusal { IfErr result (λ refusal. refusal ≡ Refusal.OutOfMemory) }
+        ensures refusal { IsOkUnless result Refusal.OutOfMemory }
     {
         let mut store = Store::new(alloc, limits);
         let page = open_file(&mut store)?;

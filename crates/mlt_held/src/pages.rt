@@ -1,6 +1,6 @@
 //! Steps on one page.
 
-ghost use Rattle.std.specs.Prelude.{◌≡◌, ◌<◌, ◌≤◌, ◌⊎◌, ◌↔◌, Err, IfErr, IfOk, None, OnErr, OnOk, Some, is_some, true};
+ghost use Rattle.std.specs.Prelude.{◌≡◌, ◌<◌, ◌≤◌, ◌⊎◌, ◌↔◌, Err, IfErr, IsOkUnless, IfOk, None, OnErr, OnOk, Some, is_some, true};
 ghost use Rattle.std.specs.FinMap as map;
 ghost use Rattle.mlt_page.specs.Values.{BucketFields};
 ghost use Rattle.mlt_store.specs.Stores.{page_at};
@@ -74,7 +74,7 @@ pub fn write_held(
     ensures err { OnErr result ((subtx.new ≡ subtx.old) × (pages.new ≡ pages.old)) }
     ensures third { OnErr result
         ((2 ≤ map.len subtx.old.images) × (image_of subtx.old.images number ≡ None)) }
-    ensures refusal { IfErr result (λ refusal. refusal ≡ Refusal.OutOfMemory) }
+    ensures refusal { IsOkUnless result Refusal.OutOfMemory }
 {
     subtx.write(&mut pages.store, number, page)
 }
@@ -104,7 +104,7 @@ pub fn write_slot(
     ensures err { OnErr result ((subtx.new ≡ subtx.old) × (pages.new ≡ pages.old)) }
     ensures third { OnErr result
         ((2 ≤ map.len subtx.old.images) × (image_of subtx.old.images number ≡ None)) }
-    ensures refusal { IfErr result (λ refusal. refusal ≡ Refusal.OutOfMemory) }
+    ensures refusal { IsOkUnless result Refusal.OutOfMemory }
 {
     subtx.write_slot(&mut pages.store, number, at, slot)
 }

@@ -1,6 +1,6 @@
 //! A history, with room.
 
-ghost use Rattle.std.specs.Prelude.{◌≡◌, ◌≤◌, ◌+◌, [], ◌∷◌, ◌++◌, OnOk, OnErr, IfErr};
+ghost use Rattle.std.specs.Prelude.{◌≡◌, ◌≤◌, ◌+◌, [], ◌∷◌, ◌++◌, OnOk, OnErr, IsOkUnless};
 
 use mlt_trace::{KeptItem, TraceItem};
 use mlt_types::Refusal;
@@ -48,7 +48,7 @@ impl History {
         ensures items { self.new.items ≡ self.old.items }
         ensures room { OnOk result (self.new.room ≡ self.old.room + count) }
         ensures err { OnErr result (self.new ≡ self.old) }
-        ensures refusal { IfErr result (λ refusal. refusal ≡ Refusal.OutOfMemory) }
+        ensures refusal { IsOkUnless result Refusal.OutOfMemory }
     {
         let Some(room) = self.room.checked_add(count) else {
             return Err(Refusal::OutOfMemory);

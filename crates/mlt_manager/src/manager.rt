@@ -1,6 +1,6 @@
 //! The manager of transactions.
 
-ghost use Rattle.std.specs.Prelude.{◌≡◌, ◌≤◌, IfErr, IfOk, OnOk};
+ghost use Rattle.std.specs.Prelude.{◌≡◌, ◌≤◌, IsOkUnless, IfOk, OnOk};
 ghost use Rattle.mlt_check.specs.Traces.{ArePlaced};
 ghost use Rattle.mlt_history.specs.Numbers.{AreBegunInOrder};
 ghost use Rattle.mlt_manager.specs.Answers.{AnswersAbort, AnswersBegin, AnswersCall, AnswersCancel, AnswersCommit, AnswersStep, IsByAnother, counted};
@@ -53,7 +53,7 @@ impl<P: Pseudo> Manager<P> {
     where
         P: Drop,
         ensures opening { IfOk result (λ manager. IsNew manager limits pseudo) }
-        ensures refusal { IfErr result (λ refusal. refusal ≡ Refusal.OutOfMemory) }
+        ensures refusal { IsOkUnless result Refusal.OutOfMemory }
     {
         Ok(Manager {
             parts: Parts::new(alloc, limits, pseudo)?,
@@ -214,7 +214,7 @@ impl<P: Pseudo> Manager<P> {
         // among whole events nobody waits
         ensures whole { AreWholeEvents events.now
             → IfOk result (λ played. NoneWaits played.1.items) }
-        ensures refusal { IfErr result (λ refusal. refusal ≡ Refusal.OutOfMemory) }
+        ensures refusal { IsOkUnless result Refusal.OutOfMemory }
     {
         let mut tolds = Vec::with_capacity(alloc, events.len())?;
         let mut manager = Manager::new(alloc, limits, pseudo)?;
@@ -260,7 +260,7 @@ impl<P: Pseudo> Manager<P> {
     /// `OutOfMemory`, where a growth was refused.
     pub fn base(&self) -> Result<Base, Refusal>
         ensures base { IfOk result (λ base. IsCommittedBaseOf self.now base) }
-        ensures refusal { IfErr result (λ refusal. refusal ≡ Refusal.OutOfMemory) }
+        ensures refusal { IsOkUnless result Refusal.OutOfMemory }
     {
         let commons = &self.parts.commons;
         let items = commons.history.items();

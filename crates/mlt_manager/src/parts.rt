@@ -1,6 +1,6 @@
 //! The parts of a manager, and what each event does to them.
 
-ghost use Rattle.std.specs.Prelude.{◌≡◌, ◌≤◌, ◌+◌, IfErr, IfOk, OnOk, option_copied};
+ghost use Rattle.std.specs.Prelude.{◌≡◌, ◌≤◌, ◌+◌, IfErr, IsOkUnless, IfOk, OnOk, option_copied};
 ghost use Rattle.std.specs.FinMap as map;
 ghost use Rattle.mlt_manager.specs.Answers.{AnswersAbort, AnswersBegin, AnswersCall, AnswersCancel, AnswersCommit, AnswersStep, HasEnded, HasStepped, IsBusy, IsCauseAtCall, IsCauseAtCancel, IsCauseAtStep, IsIdleWith, IsNotIdle, IsOpenAt, IsUndoing, MayCall, counted};
 ghost use Rattle.mlt_manager.specs.Bases.{HasCleanPage, HasDepth};
@@ -55,7 +55,7 @@ impl<P: Pseudo> Parts<P> {
     where
         P: Drop,
         ensures opening { IfOk result (λ parts. IsNew (fields_of parts) limits pseudo) }
-        ensures refusal { IfErr result (λ refusal. refusal ≡ Refusal.OutOfMemory) }
+        ensures refusal { IsOkUnless result Refusal.OutOfMemory }
     {
         let mut store = Store::new(alloc, &limits);
         let page = open_file(&mut store)?;

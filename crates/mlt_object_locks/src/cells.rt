@@ -1,6 +1,6 @@
 //! The holders at all places, by the numbers of the places.
 
-ghost use Rattle.std.specs.Prelude.{◌≡◌, ◌<◌, ◌≤◌, ◌+◌, ℕ, None, Some, OnOk, OnErr, IfErr, IfNone, IfSome, [], false, nat_eq, length, slice_get};
+ghost use Rattle.std.specs.Prelude.{◌≡◌, ◌<◌, ◌≤◌, ◌+◌, ℕ, None, Some, OnOk, OnErr, IsOkUnless, IfNone, IfSome, [], false, nat_eq, length, slice_get};
 ghost use Rattle.std.specs.List.{filter, list_any};
 ghost use Rattle.indexmap.specs.IndexMap.{IsUnique, get};
 ghost use Rattle.mlt_object_locks.specs.Locks.{IsLowestOf};
@@ -54,7 +54,7 @@ pub(crate) fn join_each(cells: &mut Cells, places: &[u64], tx: TxId) -> Result<u
     requires { IsUnique nat_eq cells.old }
     ensures joins { JoinsAt cells.old cells.new places.now tx }
     ensures here { OnOk result (IsHereAt cells.new places.now tx) }
-    ensures refusal { IfErr result (λ refusal. refusal ≡ Refusal.OutOfMemory) }
+    ensures refusal { IsOkUnless result Refusal.OutOfMemory }
 {
     let mut first = None;
     for place in places {
@@ -69,7 +69,7 @@ fn join(cells: &mut Cells, key: u64, tx: TxId) -> Result<usize, Refusal>
     ensures others { ChangesAt cells.old cells.new key }
     ensures joins { OnOk result (Joins (list_at cells.old key) (list_at cells.new key) tx) }
     ensures err { OnErr result (list_at cells.new key ≡ list_at cells.old key) }
-    ensures refusal { IfErr result (λ refusal. refusal ≡ Refusal.OutOfMemory) }
+    ensures refusal { IsOkUnless result Refusal.OutOfMemory }
 {
     let alloc = *cells.allocator();
     match cells.entry(key)? {

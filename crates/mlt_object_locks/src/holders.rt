@@ -1,6 +1,6 @@
 //! Those who hold something at one place, or have reserved a cell of it.
 
-ghost use Rattle.std.specs.Prelude.{◌≡◌, ◌↔◌, ℕ, [], IsTrue, false, OnOk, OnErr, IfErr, position};
+ghost use Rattle.std.specs.Prelude.{◌≡◌, ◌↔◌, ℕ, [], IsTrue, false, OnOk, OnErr, IsOkUnless, position};
 ghost use Rattle.std.specs.List.{filter, list_all, list_any};
 ghost use Rattle.mlt_object_locks.specs.Locks.{lower_of, IsLowestOf};
 ghost use Rattle.mlt_object_locks.specs.Classes.{bit_of_item};
@@ -74,7 +74,7 @@ impl Holders {
     pub fn join(&mut self, tx: TxId) -> Result<(), Refusal>
         ensures joins { OnOk result (Joins self.old self.new tx) }
         ensures err { OnErr result (self.new ≡ self.old) }
-        ensures refusal { IfErr result (λ refusal. refusal ≡ Refusal.OutOfMemory) }
+        ensures refusal { IsOkUnless result Refusal.OutOfMemory }
     {
         if has(&self.holders, tx) {
             return Ok(());

@@ -1,6 +1,6 @@
 //! The table of object locks, by places: a request looks at two of them at most, and a release at those of its transaction.
 
-ghost use Rattle.std.specs.Prelude.{◌≡◌, ℕ, [], ◌∷◌, ◌++◌, Some, None, OnOk, OnErr, IfErr};
+ghost use Rattle.std.specs.Prelude.{◌≡◌, ℕ, [], ◌∷◌, ◌++◌, Some, None, OnOk, OnErr, IfErr, IsOkUnless};
 ghost use Rattle.std.specs.List.{filter};
 ghost use Rattle.mlt_kinds.specs.Operations.{cell_of};
 ghost use Rattle.mlt_object_locks.specs.Locks.{no_locks, HoldsClash, IsLowestClash, is_of_other, reservation_of, SameReservations};
@@ -68,7 +68,7 @@ impl ObjectLocks {
         ensures reserved { OnOk result (reservation_of self.new.reserved tx ≡ Some cell.now) }
         ensures others { SameReservations self.old.reserved self.new.reserved tx }
         ensures err { OnErr result (self.new ≡ self.old) }
-        ensures refusal { IfErr result (λ refusal. refusal ≡ Refusal.OutOfMemory) }
+        ensures refusal { IsOkUnless result Refusal.OutOfMemory }
     {
         let places = places_of(cell);
         self.reserved.make_room()?;

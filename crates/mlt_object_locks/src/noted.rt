@@ -5,7 +5,7 @@
 //!
 //! Few transactions hold something at a time, and to go through a list of them takes less than to keep a table.
 
-ghost use Rattle.std.specs.Prelude.{◌≡◌, ◌<◌, ◌≤◌, ◌+◌, ◌++◌, ◌∷◌, [], None, Some, OnOk, OnErr, IfErr, position};
+ghost use Rattle.std.specs.Prelude.{◌≡◌, ◌<◌, ◌≤◌, ◌+◌, ◌++◌, ◌∷◌, [], None, Some, OnOk, OnErr, IsOkUnless, position};
 ghost use Rattle.std.specs.Option.{option_map_or};
 ghost use Rattle.mlt_object_locks.specs.Entries.{is_entry_of};
 ghost use Rattle.mlt_object_locks.specs.Noted.{noted_of, SameNoted};
@@ -53,7 +53,7 @@ impl CellKeys {
         ensures keys { self.new.keys ≡ self.old.keys }
         ensures room { OnOk result (2 ≤ self.new.room) }
         ensures err { OnErr result (self.new ≡ self.old) }
-        ensures refusal { IfErr result (λ refusal. refusal ≡ Refusal.OutOfMemory) }
+        ensures refusal { IsOkUnless result Refusal.OutOfMemory }
     {
         if self.keys.capacity() - self.keys.len() >= 2 {
             return Ok(());
@@ -68,7 +68,7 @@ impl CellKeys {
         ensures keys { self.new.keys ≡ self.old.keys }
         ensures room { OnOk result (2 ≤ self.new.room) }
         ensures err { OnErr result (self.new ≡ self.old) }
-        ensures refusal { IfErr result (λ refusal. refusal ≡ Refusal.OutOfMemory) }
+        ensures refusal { IsOkUnless result Refusal.OutOfMemory }
     {
         self.keys.reserve(2)?;
         Ok(())
@@ -128,7 +128,7 @@ impl Noted {
         ensures keys { (noted_of self.new tx).keys ≡ (noted_of self.old tx).keys }
         ensures room { OnOk result (2 ≤ (noted_of self.new tx).room) }
         ensures err { OnErr result ((noted_of self.new tx).room ≡ (noted_of self.old tx).room) }
-        ensures refusal { IfErr result (λ refusal. refusal ≡ Refusal.OutOfMemory) }
+        ensures refusal { IsOkUnless result Refusal.OutOfMemory }
     {
         match place_of(&self.entries, tx) {
             Some(at) => self.entries[at].1.reserve(),
@@ -144,7 +144,7 @@ impl Noted {
         ensures keys { (noted_of self.new tx).keys ≡ (noted_of self.old tx).keys }
         ensures room { OnOk result (2 ≤ (noted_of self.new tx).room) }
         ensures err { OnErr result ((noted_of self.new tx).room ≡ (noted_of self.old tx).room) }
-        ensures refusal { IfErr result (λ refusal. refusal ≡ Refusal.OutOfMemory) }
+        ensures refusal { IsOkUnless result Refusal.OutOfMemory }
     {
         let mut keys = CellKeys::new(*self.entries.allocator());
         keys.reserve()?;

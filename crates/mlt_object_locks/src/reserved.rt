@@ -3,7 +3,7 @@
 //! A transaction has one at most, and a grant uses it up. So few stand at a time, and to go through a list of them takes less
 //! than to keep a table.
 
-ghost use Rattle.std.specs.Prelude.{◌≡◌, ◌<◌, ℕ, [], None, Some, OnOk, OnErr, IfErr, position};
+ghost use Rattle.std.specs.Prelude.{◌≡◌, ◌<◌, ℕ, [], None, Some, OnOk, OnErr, IsOkUnless, position};
 ghost use Rattle.mlt_object_locks.specs.Locks.{SameReservations, reservation_of};
 ghost use Rattle.mlt_object_locks.specs.Entries.{is_entry_of};
 
@@ -50,7 +50,7 @@ impl Reserved {
     pub fn make_room(&mut self) -> Result<(), Refusal>
         ensures items { self.new.items ≡ self.old.items }
         ensures room { OnOk result (0 < self.new.room) }
-        ensures refusal { IfErr result (λ refusal. refusal ≡ Refusal.OutOfMemory) }
+        ensures refusal { IsOkUnless result Refusal.OutOfMemory }
     {
         self.entries.reserve(1)?;
         Ok(())

@@ -1,6 +1,6 @@
 //! The berth of one open transaction: the memory in which it lies.
 
-ghost use Rattle.std.specs.Prelude.{◌≡◌, ◌≤◌, None, Some, OnOk, OnErr, IfOk, IfErr, option_copied};
+ghost use Rattle.std.specs.Prelude.{◌≡◌, ◌≤◌, None, Some, OnOk, OnErr, IfOk, IsOkUnless, option_copied};
 ghost use Rattle.mlt_subtx.specs.Images.{AreThere, image_of};
 ghost use Rattle.mlt_hash.specs.Walks.{basis_in};
 ghost use Rattle.mlt_open.specs.Tables.{HasDoneNothing};
@@ -73,7 +73,7 @@ impl Berth {
         requires idle { self.old.at ≡ At.Idle }
         ensures calls { OnOk result (TellsOfCall op self.old self.new commons.old commons.new) }
         ensures err { OnErr result (IsNotCalled self.old self.new commons.old commons.new) }
-        ensures refusal { IfErr result (λ refusal. refusal ≡ Refusal.OutOfMemory) }
+        ensures refusal { IsOkUnless result Refusal.OutOfMemory }
     {
         self.transaction.call(commons, op)
     }
@@ -101,7 +101,7 @@ impl Berth {
             (basis_in P.bits_of setting.now self.old.subtx.tx) op
             self.old self.new commons.old commons.new) }
         ensures err { OnErr result (IsNotCalled self.old self.new commons.old commons.new) }
-        ensures refusal { IfErr result (λ refusal. refusal ≡ Refusal.OutOfMemory) }
+        ensures refusal { IsOkUnless result Refusal.OutOfMemory }
     {
         self.transaction.call_at_once(commons, op, setting)
     }

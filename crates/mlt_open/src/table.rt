@@ -1,6 +1,6 @@
 //! The table of open transactions.
 
-ghost use Rattle.std.specs.Prelude.{◌≡◌, ◌≤◌, None, Some, IsSome, OnOk, OnErr, IfErr, IfOk, IfSome, IfNone, option_copied};
+ghost use Rattle.std.specs.Prelude.{◌≡◌, ◌≤◌, None, Some, IsSome, OnOk, OnErr, IsOkUnless, IfOk, IfSome, IfNone, option_copied};
 ghost use Rattle.std.specs.FinMap as map;
 ghost use Rattle.mlt_types.specs.Maps.{with_entry};
 ghost use Rattle.mlt_subtx.specs.Images.{AreThere};
@@ -92,7 +92,7 @@ impl OpenTransactions {
     pub fn begin(&mut self, tx: TxId) -> Result<(), Refusal>
         ensures begins { OnOk result (BeginsOne tx self.old self.new) }
         ensures err { OnErr result (self.new ≡ self.old) }
-        ensures refusal { IfErr result (λ refusal. refusal ≡ Refusal.OutOfMemory) }
+        ensures refusal { IsOkUnless result Refusal.OutOfMemory }
     {
         if let Some(place) = mooring_of(&self.moorings, tx) {
             self.moorings[place].berth.restart(self.alloc, tx);
@@ -128,7 +128,7 @@ impl OpenTransactions {
             × (t.at ≡ At.Idle) }
         ensures calls { OnOk result (CallsOne tx op self.old self.new commons.old commons.new) }
         ensures err { OnErr result (CallsNone tx self.old self.new commons.old commons.new) }
-        ensures refusal { IfErr result (λ refusal. refusal ≡ Refusal.OutOfMemory) }
+        ensures refusal { IsOkUnless result Refusal.OutOfMemory }
     {
         let Some(place) = mooring_of(&self.moorings, tx) else {
             unreachable!()
@@ -153,7 +153,7 @@ impl OpenTransactions {
         ensures calls { IfOk result (λ told. CallsOneAtOnce told (basis_in P.bits_of setting.now)
             tx op self.old self.new commons.old commons.new) }
         ensures err { OnErr result (CallsNone tx self.old self.new commons.old commons.new) }
-        ensures refusal { IfErr result (λ refusal. refusal ≡ Refusal.OutOfMemory) }
+        ensures refusal { IsOkUnless result Refusal.OutOfMemory }
     {
         let Some(place) = mooring_of(&self.moorings, tx) else {
             unreachable!()

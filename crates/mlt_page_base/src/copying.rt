@@ -1,6 +1,6 @@
 //! Cells of a base that get what their records mean.
 
-ghost use Rattle.std.specs.Prelude.{◌≡◌, ◌≢◌, ◌⊎◌, IfErr, None, OnOk, Some, false, true};
+ghost use Rattle.std.specs.Prelude.{◌≡◌, ◌≢◌, ◌⊎◌, IsOkUnless, None, OnOk, Some, false, true};
 ghost use Rattle.mlt_base.specs.Records.{IsRecord, state_of_record};
 ghost use Rattle.mlt_kinds.specs.Accounts.{IsAccount};
 ghost use Rattle.mlt_kinds.specs.Bases.{SameBut, account_at, counter_at, element_at, state_at};
@@ -16,7 +16,7 @@ fn copy_account(base: &mut Base, account: u32, balance: u64) -> Result<(), Refus
         ⊎ (account_at base.old account ≡ None) }
     ensures holds { OnOk result (account_at base.new account ≡ Some balance) }
     ensures others { OnOk result (SameBut base.old base.new (Cell.Account account)) }
-    ensures refusal { IfErr result (λ refusal. refusal ≡ Refusal.OutOfMemory) }
+    ensures refusal { IsOkUnless result Refusal.OutOfMemory }
 {
     if base.apply(&ObjOp::Account(account, AccountOp::Open))? == ObjReply::Opened {
         base.apply(&ObjOp::Account(account, AccountOp::Deposit(balance)))?;
@@ -27,7 +27,7 @@ fn copy_account(base: &mut Base, account: u32, balance: u64) -> Result<(), Refus
 fn copy_element(base: &mut Base, set: u16, element: u32) -> Result<(), Refusal>
     ensures holds { OnOk result (element_at base.new set element ≡ true) }
     ensures others { OnOk result (SameBut base.old base.new (Cell.Element set element)) }
-    ensures refusal { IfErr result (λ refusal. refusal ≡ Refusal.OutOfMemory) }
+    ensures refusal { IsOkUnless result Refusal.OutOfMemory }
 {
     base.apply(&ObjOp::Element(set, element, ElementOp::Add))?;
     Ok(())
@@ -38,7 +38,7 @@ fn copy_counter(base: &mut Base, counter: u32, value: u64) -> Result<(), Refusal
     requires before { (counter_at base.old counter ≡ value) ⊎ (counter_at base.old counter ≡ 0) }
     ensures holds { OnOk result (counter_at base.new counter ≡ value) }
     ensures others { OnOk result (SameBut base.old base.new (Cell.Counter counter)) }
-    ensures refusal { IfErr result (λ refusal. refusal ≡ Refusal.OutOfMemory) }
+    ensures refusal { IsOkUnless result Refusal.OutOfMemory }
 {
     if base.value(counter) == 0 {
         base.apply(&ObjOp::Counter(counter, CounterOp::Up(value)))?;
@@ -56,7 +56,7 @@ pub(crate) fn copy_cell(base: &mut Base, cell: &Cell, live: Option<Value>) -> Re
         ⊎ (state_at base.old cell.now ≡ state_of_record cell.now None) }
     ensures holds { OnOk result (state_at base.new cell.now ≡ state_of_record cell.now live) }
     ensures others { OnOk result (SameBut base.old base.new cell.now) }
-    ensures refusal { IfErr result (λ refusal. refusal ≡ Refusal.OutOfMemory) }
+    ensures refusal { IsOkUnless result Refusal.OutOfMemory }
 {
     let Some(value) = live else {
         return Ok(());

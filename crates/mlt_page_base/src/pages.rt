@@ -1,6 +1,6 @@
 //! The base that pages mean.
 
-ghost use Rattle.std.specs.Prelude.{◌≡◌, IfErr, IfOk};
+ghost use Rattle.std.specs.Prelude.{◌≡◌, IsOkUnless, IfOk};
 ghost use Rattle.mlt_base.specs.Meaning.{Means};
 ghost use Rattle.mlt_check.specs.AcceptedItems.{AreAccepted};
 ghost use Rattle.mlt_hash_form.specs.File.{HasForm};
@@ -57,7 +57,7 @@ pub fn base_of_pages<P: Pseudo>(
         × AreAccepted items.now base }
     ensures means { IfOk result (λ base. Means (live_records store.now.pages) base) }
     ensures accepted { IfOk result (λ base. AreAccepted items.now base) }
-    ensures refusal { IfErr result (λ refusal. refusal ≡ Refusal.OutOfMemory) }
+    ensures refusal { IsOkUnless result Refusal.OutOfMemory }
 {
     let mut base = Base::new(alloc);
     for item in items {

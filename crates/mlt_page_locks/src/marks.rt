@@ -1,6 +1,6 @@
 //! Marks of places by numbers: where to look, and where not.
 
-ghost use Rattle.std.specs.Prelude.{◌≡◌, ◌<◌, ◌≤◌, ℕ, length, IfErr, MatchOption};
+ghost use Rattle.std.specs.Prelude.{◌≡◌, ◌<◌, ◌≤◌, ℕ, length, IsOkUnless, MatchOption};
 ghost use Rattle.mlt_page_locks.specs.Marks.{mask_of, row_of, IsMarked, KeepsOthers, IsUnmarked, IsNextPlace};
 
 use mlt_types::Refusal;
@@ -30,7 +30,7 @@ impl Marks {
     /// `OutOfMemory`, where a growth was refused.
     pub fn new(alloc: Global, count: usize) -> Result<Marks, Refusal>
         requires { 0 < count }
-        ensures refusal { IfErr result (λ refusal. refusal ≡ Refusal.OutOfMemory) }
+        ensures refusal { IsOkUnless result Refusal.OutOfMemory }
     {
         let masks = vec![in alloc; 0; count]?;
         Ok(Marks { masks })

@@ -1,6 +1,6 @@
 //! Page locks of all transactions.
 
-ghost use Rattle.std.specs.Prelude.{◌≡◌, ◌==◌, ◌≤◌, ◌<◌, ◌&&◌, ℕ, not, true, length, IfOk, IfErr, MatchOption, min, unwrap_or, position};
+ghost use Rattle.std.specs.Prelude.{◌≡◌, ◌==◌, ◌≤◌, ◌<◌, ◌&&◌, ℕ, not, true, length, IfOk, IsOkUnless, MatchOption, min, unwrap_or, position};
 ghost use Rattle.std.specs.FinMap as map;
 ghost use Rattle.mlt_page_locks.specs.LockTables.{no_locks, mode_held, AreCompatible, HasRoom};
 ghost use Rattle.mlt_page_locks.specs.Requests.{granted, released, conflicts, with_page, is_against, Answers, IsLowest, IsNobody};
@@ -60,7 +60,7 @@ impl PageLocks {
     /// `OutOfMemory`, where a growth was refused.
     pub fn new(alloc: Global, limits: &Limits) -> Result<PageLocks, Refusal>
         ensures empty { IfOk result (λ locks. locks ≡ no_locks limits.now.max_open) }
-        ensures refusal { IfErr result (λ refusal. refusal ≡ Refusal.OutOfMemory) }
+        ensures refusal { IsOkUnless result Refusal.OutOfMemory }
     {
         let mut lists = Vec::with_capacity(alloc, limits.max_open as usize)?;
         for _ in 0..limits.max_open {

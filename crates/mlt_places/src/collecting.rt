@@ -1,6 +1,6 @@
 //! What the workers give back, put together.
 
-ghost use Rattle.std.specs.Prelude.{◌≡◌, ◌+◌, ◌-◌, ◌^◌, ◌<◌, ◌≤◌, All, IfErr, IfOk, [], None, false, length, min, replicate, vec_len};
+ghost use Rattle.std.specs.Prelude.{◌≡◌, ◌+◌, ◌-◌, ◌^◌, ◌<◌, ◌≤◌, All, IsOkUnless, IfOk, [], None, false, length, min, replicate, vec_len};
 ghost use Rattle.mlt_claims.specs.Claims.{HasAll};
 ghost use Rattle.mlt_claims.specs.Seats.{IsOf, view_of};
 ghost use Rattle.mlt_places.specs.Places.{AreAllOutcomes, HaveRuns, AllHaveRuns, AreInPlace, scripts_of_clients};
@@ -129,7 +129,7 @@ pub fn collect<L: Ledger>(
         (λ got. AreAllOutcomes (scripts_of_clients clients.now) got.0) }
     ensures events { IfOk result (λ got. got.1 ≡ min all.new.amount (2 ^ 64 - 1)) }
     ensures share { all.new.parts ≡ 9 }
-    ensures refusal { IfErr result (λ refusal. refusal ≡ Refusal.OutOfMemory) }
+    ensures refusal { IsOkUnless result Refusal.OutOfMemory }
 {
     let mut first = first;
     let mut slots = slots;

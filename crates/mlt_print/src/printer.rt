@@ -1,6 +1,6 @@
 //! Scripts as texts.
 
-ghost use Rattle.std.specs.Prelude.{◌≡◌, ◌++◌, ◌<◌, IfOk, IfErr, OnOk, Some};
+ghost use Rattle.std.specs.Prelude.{◌≡◌, ◌++◌, ◌<◌, IfOk, IsOkUnless, OnOk, Some};
 ghost use Rattle.std.specs.String.{string_bytes};
 ghost use Rattle.mlt_print.specs.Again.{IsReadAgain, AreReadAgain, IsScriptAgain};
 ghost use Rattle.mlt_script.specs.Grammar.{Spells};
@@ -98,7 +98,7 @@ fn push_script(text: &mut String, script: &Script) -> Result<(), AllocError>
 pub fn print(alloc: Global, scripts: &[Script]) -> Result<String, Refusal>
     ensures text { IfOk result (λ text. string_bytes text ≡ scripts_text scripts.now) }
     ensures spells { IfOk result (λ text. Spells (string_bytes text) scripts.now) }
-    ensures refusal { IfErr result (λ refusal. refusal ≡ Refusal.OutOfMemory) }
+    ensures refusal { IsOkUnless result Refusal.OutOfMemory }
 {
     let mut text = String::new(alloc);
     for script in scripts {

@@ -1,6 +1,6 @@
 //! The report of what became of scripts, and its text.
 
-ghost use Rattle.std.specs.Prelude.{◌≡◌, ◌⊎◌, ◌++◌, IfErr, IfOk, IsErrOf, OnOk};
+ghost use Rattle.std.specs.Prelude.{◌≡◌, ◌⊎◌, ◌++◌, IfErr, IsOkUnless, IfOk, IsErrOf, OnOk};
 ghost use Rattle.std.specs.Io.KnownBytes.{Appends, Keeps};
 ghost use Rattle.std.specs.List.{flat_map};
 ghost use Rattle.std.specs.String.{string_bytes};
@@ -94,7 +94,7 @@ fn run_text(alloc: Global, outcomes: &[Outcome]) -> Result<String, AllocError>
 fn text_of(alloc: Global, report: &Report, form: Form) -> Result<Vec<u8>, Refusal>
     ensures text { IfOk result
         (λ text. text.items ≡ report_text form report.now.outcomes report.now.base) }
-    ensures refusal { IfErr result (λ refusal. refusal ≡ Refusal.OutOfMemory) }
+    ensures refusal { IsOkUnless result Refusal.OutOfMemory }
 {
     let outcomes = report.outcomes.as_slice();
     match form {

@@ -1,6 +1,6 @@
 //! Scripts that run one after another on a base.
 
-ghost use Rattle.std.specs.Prelude.{◌≡◌, ◌+◌, ◌<◌, ◌^◌, ℕ, List, [], map, Option, Ok, IfOk, IfErr, replicate, vec_capacity};
+ghost use Rattle.std.specs.Prelude.{◌≡◌, ◌+◌, ◌<◌, ◌^◌, ℕ, List, [], map, Option, Ok, IfOk, IsOkUnless, replicate, vec_capacity};
 ghost use Rattle.mlt_types.specs.declared.refusal.Refusal.{Refusal as RefusalForm};
 ghost use Rattle.mlt_kinds.specs.Bases.{Base as ObjectBase};
 ghost use Rattle.mlt_cursor.specs.Follows.{AsksAtMost, questions_of_script};
@@ -40,7 +40,7 @@ fn attempt(
         (commits_after commits end)) }
     ensures mark { (refusal : RefusalForm) → result ≡ Ok (End.Refused refusal)
         → refusal ≡ Refusal.OutOfMemory }
-    ensures refusal { IfErr result (λ refusal. refusal ≡ Refusal.OutOfMemory) }
+    ensures refusal { IsOkUnless result Refusal.OutOfMemory }
 {
     let end = match play(desk, NO_TX, script, done) {
         Ok(Ending::Commit) => return Ok(End::Committed(commits + 1)),
@@ -72,7 +72,7 @@ fn run_alone(
     ensures mark { IfOk result
         (λ outcome. (refusal : RefusalForm) → outcome.end ≡ End.Refused refusal
         → refusal ≡ Refusal.OutOfMemory) }
-    ensures refusal { IfErr result (λ refusal. refusal ≡ Refusal.OutOfMemory) }
+    ensures refusal { IsOkUnless result Refusal.OutOfMemory }
 {
     let mut done = Vec::with_capacity(alloc, most_asked(script))?;
     let end = attempt(script, desk, commits, &mut done)?;
@@ -116,7 +116,7 @@ pub fn serial_with_marks(alloc: Global, scripts: &[Script]) -> Result<Report, Re
     ensures numbered { IfOk result (λ report. AreNumbered [] scripts.now report.outcomes) }
     ensures without_manager { IfOk result
         (λ report. (report.events ≡ 0) × AreWithoutTx report.outcomes) }
-    ensures refusal { IfErr result (λ refusal. refusal ≡ Refusal.OutOfMemory) }
+    ensures refusal { IsOkUnless result Refusal.OutOfMemory }
 {
     let mut desk = BaseDesk {
         base: Base::new(alloc),
@@ -149,7 +149,7 @@ pub fn serial(alloc: Global, scripts: &[Script]) -> Result<Report, Refusal>
     ensures numbered { IfOk result (λ report. AreNumbered [] scripts.now report.outcomes) }
     ensures without_manager { IfOk result
         (λ report. (report.events ≡ 0) × AreWithoutTx report.outcomes) }
-    ensures refusal { IfErr result (λ refusal. refusal ≡ Refusal.OutOfMemory) }
+    ensures refusal { IsOkUnless result Refusal.OutOfMemory }
 {
     let report = serial_with_marks(alloc, scripts)?;
     for outcome in report.outcomes.as_slice() {

@@ -1,6 +1,6 @@
 //! Operations that take others back.
 
-ghost use Rattle.std.specs.Prelude.{◌≡◌, OnOk, IfErr};
+ghost use Rattle.std.specs.Prelude.{◌≡◌, OnOk, IsOkUnless};
 ghost use Rattle.mlt_kinds.specs.Bases.{Base as ObjectBase, Runs};
 ghost use Rattle.mlt_serial.specs.TakingBack.{opposite_of};
 
@@ -48,7 +48,7 @@ fn opposite(done: &Done) -> Option<ObjOp>
 pub fn take_back(base: &mut Base, done: &[Done]) -> Result<(), Refusal>
     ensures ok { OnOk result
         ((before : ObjectBase) → Runs before done.now base.old → base.new ≡ before) }
-    ensures refusal { IfErr result (λ refusal. refusal ≡ Refusal.OutOfMemory) }
+    ensures refusal { IsOkUnless result Refusal.OutOfMemory }
 {
     let mut left = done.len();
     while left > 0 {

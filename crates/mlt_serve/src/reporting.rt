@@ -1,6 +1,6 @@
 //! The receipts, once all connections are served.
 
-ghost use Rattle.std.specs.Prelude.{◌≡◌, ◌↔◌, IfErr, IfOk, IsPermutation, IsTrue, Err, true, false};
+ghost use Rattle.std.specs.Prelude.{◌≡◌, ◌↔◌, IfErr, IsOkUnless, IfOk, IsPermutation, IsTrue, Err, true, false};
 ghost use Rattle.mlt_audit.specs.Agreement.{Agrees};
 ghost use Rattle.mlt_serve.specs.Clients.{AreOfClients, IsOfClient};
 ghost use Rattle.mlt_serve.specs.Endings.{outcome_of};
@@ -59,7 +59,7 @@ pub(crate) fn receipts_of<P: Pseudo>(
     ensures short { accepting ≡ Accepting.Done → gathered.is_short ≡ true
         → result ≡ Err Refusal.OutOfMemory }
     ensures audit { accepting ≡ Accepting.Done → gathered.is_short ≡ false
-        → IfErr result (λ refusal. refusal ≡ Refusal.Audit) }
+        → IsOkUnless result Refusal.Audit }
 {
     accepting.result()?;
     if gathered.is_short {

@@ -1,6 +1,6 @@
 //! Scripts that run one after another through a manager.
 
-ghost use Rattle.std.specs.Prelude.{◌≡◌, IfErr, IfOk, replicate};
+ghost use Rattle.std.specs.Prelude.{◌≡◌, IsOkUnless, IfOk, replicate};
 ghost use Rattle.mlt_solo.specs.Alone.{IsAtRest};
 ghost use Rattle.mlt_solo.specs.Asking.{HasRunAll};
 
@@ -31,7 +31,7 @@ pub(crate) fn run_all<P: Pseudo>(
     requires rest { IsAtRest P.bits_of desk.old.manager }
     ensures run { IfOk result (λ outcomes.
         HasRunAll P.bits_of scripts.now desk.old.manager desk.new.manager outcomes) }
-    ensures refusal { IfErr result (λ refusal. refusal ≡ Refusal.OutOfMemory) }
+    ensures refusal { IsOkUnless result Refusal.OutOfMemory }
 {
     let mut outcomes = Outcomes::new(alloc);
     let mut numbers = no_scripts();

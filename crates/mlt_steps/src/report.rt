@@ -1,6 +1,6 @@
 //! The text of what events were told, and of where the manager that played them is then.
 
-ghost use Rattle.std.specs.Prelude.{◌≡◌, ◌⊎◌, ◌++◌, List, ℕ, IfErr, IfOk, IsErrOf, OnOk};
+ghost use Rattle.std.specs.Prelude.{◌≡◌, ◌⊎◌, ◌++◌, List, ℕ, IfErr, IsOkUnless, IfOk, IsErrOf, OnOk};
 ghost use Rattle.std.specs.Io.KnownBytes.{Appends, Keeps};
 ghost use Rattle.mlt_text.specs.Texts.{AppendsFront};
 ghost use Rattle.mlt_steps.specs.Steps.{IsTextOf, depth_line};
@@ -16,7 +16,7 @@ use std::io::Write;
 
 fn push_depth(alloc: Global, text: &mut Vec<u8>, depth: u8) -> Result<(), Refusal>
     ensures text { OnOk result (text.new.items ≡ text.old.items ++ depth_line depth) }
-    ensures refusal { IfErr result (λ refusal. refusal ≡ Refusal.OutOfMemory) }
+    ensures refusal { IsOkUnless result Refusal.OutOfMemory }
 {
     let line = format!(in alloc; "depth {depth}\n")?;
     text.extend_from_slice(line.as_bytes())?;
@@ -29,7 +29,7 @@ fn text_of<P: Pseudo>(
     manager: &Manager<P>,
 ) -> Result<Vec<u8>, Refusal>
     ensures text { IfOk result (λ text. IsTextOf tolds.now manager.now text.items) }
-    ensures refusal { IfErr result (λ refusal. refusal ≡ Refusal.OutOfMemory) }
+    ensures refusal { IsOkUnless result Refusal.OutOfMemory }
 {
     let mut text = told_text(alloc, tolds)?.into_bytes();
     let base = manager.base()?;

@@ -1,6 +1,6 @@
 //! Subtransactions.
 
-ghost use Rattle.std.specs.Prelude.{◌≡◌, ◌≤◌, ◌<◌, ◌+◌, ◌==◌, ◌++◌, [], ◌∷◌, ◌⊎◌, ◌↔◌, ℕ, length, true, false, is_some, None, Some, Err, IfOk, IfErr, OnOk, OnErr, option_copied};
+ghost use Rattle.std.specs.Prelude.{◌≡◌, ◌≤◌, ◌<◌, ◌+◌, ◌==◌, ◌++◌, [], ◌∷◌, ◌⊎◌, ◌↔◌, ℕ, length, true, false, is_some, None, Some, Err, IfOk, IfErr, IsOkUnless, OnOk, OnErr, option_copied};
 ghost use Rattle.std.specs.FinMap as map;
 ghost use Rattle.mlt_types.specs.declared.mode.Mode.TheVariants.{Exclusive};
 ghost use Rattle.mlt_store.specs.Stores.{HasBucketAt, SetsSlot, page_at};
@@ -101,7 +101,7 @@ impl Subtx {
         ensures err { OnErr result ((self.new ≡ self.old) × (store.new ≡ store.old)) }
         ensures third { OnErr result
             ((2 ≤ map.len self.old.images) × (image_of self.old.images number ≡ None)) }
-        ensures refusal { IfErr result (λ refusal. refusal ≡ Refusal.OutOfMemory) }
+        ensures refusal { IsOkUnless result Refusal.OutOfMemory }
     {
         self.keep_first(store, number)?;
         store.write(number, page);
@@ -130,7 +130,7 @@ impl Subtx {
         ensures err { OnErr result ((self.new ≡ self.old) × (store.new ≡ store.old)) }
         ensures third { OnErr result
             ((2 ≤ map.len self.old.images) × (image_of self.old.images number ≡ None)) }
-        ensures refusal { IfErr result (λ refusal. refusal ≡ Refusal.OutOfMemory) }
+        ensures refusal { IsOkUnless result Refusal.OutOfMemory }
     {
         self.keep_first(store, number)?;
         store.set_slot(number, at, slot);
@@ -225,7 +225,7 @@ impl Subtx {
         ensures err { OnErr result (self.new ≡ self.old) }
         ensures third { OnErr result
             ((2 ≤ map.len self.old.images) × (image_of self.old.images number ≡ None)) }
-        ensures refusal { IfErr result (λ refusal. refusal ≡ Refusal.OutOfMemory) }
+        ensures refusal { IsOkUnless result Refusal.OutOfMemory }
     {
         if !self.has_image(number) {
             let first = self.read(store, number);
@@ -241,7 +241,7 @@ impl Subtx {
             OnOk result (self.new ≡ record self.old { images = images }) }
         ensures err { OnErr result (self.new ≡ self.old) }
         ensures third { OnErr result (2 ≤ map.len self.old.images) }
-        ensures refusal { IfErr result (λ refusal. refusal ≡ Refusal.OutOfMemory) }
+        ensures refusal { IsOkUnless result Refusal.OutOfMemory }
     {
         if self.near.is_full() {
             self.far.insert(page, first.copied())?;

@@ -1,6 +1,6 @@
 //! All that a reader has.
 
-ghost use Rattle.std.specs.Prelude.{◌≡◌, ◌≤◌, ◌<◌, ◌⊎◌, ℕ, List, length, IfOk, IfErr, OnErr, IfSome, IsErr, take, vec_len, true, [], ◌++◌, ◌+◌};
+ghost use Rattle.std.specs.Prelude.{◌≡◌, ◌≤◌, ◌<◌, ◌⊎◌, ℕ, List, length, IfOk, IfErr, IsOkUnless, OnErr, IfSome, IsErr, take, vec_len, true, [], ◌++◌, ◌+◌};
 ghost use Rattle.std.specs.Io.{ReadsAtMost};
 ghost use Rattle.std.specs.Io.KnownBytes.{Consumes, IsAtEnd, Keeps, ReadConsumes};
 ghost use Rattle.mlt_text.specs.Failures.{IsWant, ReadsWithinLimit, RefusesLong};
@@ -43,7 +43,7 @@ pub fn read_input<R: Read>(alloc: Global, reader: &mut R) -> Result<Vec<u8>, Ref
 // So many zeros.
 fn zeros(alloc: Global, count: usize) -> Result<Vec<u8>, Refusal>
     ensures length { IfOk result (λ zeros. vec_len zeros ≡ count) }
-    ensures refusal { IfErr result (λ refusal. refusal ≡ Refusal.OutOfMemory) }
+    ensures refusal { IsOkUnless result Refusal.OutOfMemory }
 {
     Ok(vec![in alloc; 0; count]?)
 }
@@ -81,7 +81,7 @@ pub fn read_some<R: Read>(reader: &mut R, buffer: &mut [u8]) -> Result<usize, Re
     ensures bound { ReadsAtMost result buffer.new }
     ensures bytes { ReadConsumes (R.remaining reader.old)
         (R.remaining reader.new) result buffer.new }
-    ensures refusal { IfErr result (λ refusal. refusal ≡ Refusal.Io) }
+    ensures refusal { IsOkUnless result Refusal.Io }
 {
     match reader.read(buffer) {
         Ok(count) => Ok(count),

@@ -1,6 +1,6 @@
 //! A text to a writer.
 
-ghost use Rattle.std.specs.Prelude.{◌≡◌, ◌≤◌, ◌<◌, length, IfOk, IfErr, OnOk, OnErr, take};
+ghost use Rattle.std.specs.Prelude.{◌≤◌, ◌<◌, length, IfOk, IsOkUnless, OnOk, OnErr, take};
 ghost use Rattle.std.specs.Io.KnownBytes.{Appends, Keeps};
 ghost use Rattle.mlt_text.specs.Texts.{AppendsFront};
 
@@ -16,7 +16,7 @@ pub fn write_text<W: Write>(writer: &mut W, text: &[u8]) -> Result<(), Refusal>
     ensures ok { OnOk result (Appends (W.contents writer.old) (W.contents writer.new) text.now) }
     ensures err { OnErr result
         (AppendsFront (W.contents writer.old) (W.contents writer.new) text.now) }
-    ensures refusal { IfErr result (λ refusal. refusal ≡ Refusal.Io) }
+    ensures refusal { IsOkUnless result Refusal.Io }
 {
     let mut at = 0;
     while at < text.len() {
@@ -32,7 +32,7 @@ fn write_some<W: Write>(writer: &mut W, text: &[u8]) -> Result<usize, Refusal>
     ensures ok { IfOk result
         (λ count. Appends (W.contents writer.old) (W.contents writer.new) (take count text.now)) }
     ensures err { OnErr result (Keeps (W.contents writer.old) (W.contents writer.new)) }
-    ensures refusal { IfErr result (λ refusal. refusal ≡ Refusal.Io) }
+    ensures refusal { IsOkUnless result Refusal.Io }
 {
     match writer.write(text) {
         Ok(0) | Err(_) => Err(Refusal::Io),
@@ -46,7 +46,7 @@ fn write_some<W: Write>(writer: &mut W, text: &[u8]) -> Result<usize, Refusal>
 /// `Io` where the flush fails, for whatever reason.
 pub fn flush<W: Write>(writer: &mut W) -> Result<(), Refusal>
     ensures bytes { Keeps (W.contents writer.old) (W.contents writer.new) }
-    ensures refusal { IfErr result (λ refusal. refusal ≡ Refusal.Io) }
+    ensures refusal { IsOkUnless result Refusal.Io }
 {
     match writer.flush() {
         Ok(()) => Ok(()),

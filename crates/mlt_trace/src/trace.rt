@@ -1,6 +1,6 @@
 //! The text of a trace.
 
-ghost use Rattle.std.specs.Prelude.{◌≡◌, ◌++◌, ℕ, List, IfErr, OnErr, OnOk};
+ghost use Rattle.std.specs.Prelude.{◌≡◌, ◌++◌, ℕ, List, IsOkUnless, OnErr, OnOk};
 ghost use Rattle.std.specs.Io.KnownBytes.{Appends};
 ghost use Rattle.mlt_text.specs.Texts.{AppendsFront};
 ghost use Rattle.mlt_trace.specs.Items.{item_line, trace_text};
@@ -28,7 +28,7 @@ pub fn write_trace<W: Write>(items: &[KeptItem], writer: &mut W) -> Result<(), R
         (Appends (W.contents writer.old) (W.contents writer.new) (trace_text items.now)) }
     ensures err { OnErr result
         (AppendsFront (W.contents writer.old) (W.contents writer.new) (trace_text items.now)) }
-    ensures refusal { IfErr result (λ refusal. refusal ≡ Refusal.Io) }
+    ensures refusal { IsOkUnless result Refusal.Io }
 {
     let mut piece = ArrayString::<PIECE>::new();
     for item in items {
@@ -45,7 +45,7 @@ fn make_room<W: Write>(piece: &mut ArrayString<PIECE>, writer: &mut W) -> Result
         × Appends (W.contents writer.old) (W.contents writer.new) out) }
     ensures err { OnErr result
         (AppendsFront (W.contents writer.old) (W.contents writer.new) piece.old.bytes) }
-    ensures refusal { IfErr result (λ refusal. refusal ≡ Refusal.Io) }
+    ensures refusal { IsOkUnless result Refusal.Io }
 {
     if piece.remaining_capacity() < LINE {
         write_text(writer, piece.as_str().as_bytes())?;
@@ -57,7 +57,7 @@ fn make_room<W: Write>(piece: &mut ArrayString<PIECE>, writer: &mut W) -> Result
 // Adds the line of the item.
 fn add_line(piece: &mut ArrayString<PIECE>, item: &KeptItem) -> Result<(), Refusal>
     ensures ok { OnOk result (piece.new.bytes ≡ piece.old.bytes ++ item_line item.now) }
-    ensures refusal { IfErr result (λ refusal. refusal ≡ Refusal.Io) }
+    ensures refusal { IsOkUnless result Refusal.Io }
 {
     match writeln!(piece, "{item}") {
         Ok(()) => Ok(()),

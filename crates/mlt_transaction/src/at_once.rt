@@ -1,6 +1,6 @@
 //! Operations that take all of their steps at once.
 
-ghost use Rattle.std.specs.Prelude.{◌≡◌, ◌≤◌, IfErr, IfNone, IfOk, IfSome, OnErr, Some};
+ghost use Rattle.std.specs.Prelude.{◌≡◌, ◌≤◌, IsOkUnless, IfNone, IfOk, IfSome, OnErr, Some};
 ghost use Rattle.mlt_kinds.specs.Operations.{cell_of};
 ghost use Rattle.mlt_object_locks.specs.Locks.{reservation_of};
 ghost use Rattle.mlt_hash.specs.Walks.{basis_in};
@@ -36,7 +36,7 @@ impl Transaction {
             (basis_in P.bits_of setting.now self.old.subtx.tx) op
             self.old self.new commons.old commons.new) }
         ensures err { OnErr result (IsNotCalled self.old self.new commons.old commons.new) }
-        ensures refusal { IfErr result (λ refusal. refusal ≡ Refusal.OutOfMemory) }
+        ensures refusal { IsOkUnless result Refusal.OutOfMemory }
     {
         self.make_room(commons, op)?;
         if let Some(reply) = self.step_at_once(op, commons, setting) {

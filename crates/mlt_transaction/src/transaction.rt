@@ -1,6 +1,6 @@
 //! Transactions.
 
-ghost use Rattle.std.specs.Prelude.{◌≡◌, ◌≤◌, ◌+◌, [], None, OnOk, OnErr, IfErr};
+ghost use Rattle.std.specs.Prelude.{◌≡◌, ◌≤◌, ◌+◌, [], None, OnOk, OnErr, IsOkUnless};
 ghost use Rattle.mlt_hash.specs.Walks.{basis_in};
 ghost use Rattle.mlt_subtx.specs.Images.{AreThere, started};
 ghost use Rattle.mlt_transaction.specs.AtOnce.{HasRoomFor};
@@ -75,7 +75,7 @@ impl Transaction {
         requires idle { self.old.at ≡ At.Idle }
         ensures calls { OnOk result (TellsOfCall op self.old self.new commons.old commons.new) }
         ensures err { OnErr result (IsNotCalled self.old self.new commons.old commons.new) }
-        ensures refusal { IfErr result (λ refusal. refusal ≡ Refusal.OutOfMemory) }
+        ensures refusal { IsOkUnless result Refusal.OutOfMemory }
     {
         self.make_room(commons, op)?;
         self.at = At::Pending(Operation::start(commons.alloc, Request::Do(op)));
@@ -89,7 +89,7 @@ impl Transaction {
     pub(crate) fn make_room(&mut self, commons: &mut Commons, op: ObjOp) -> Result<(), Refusal>
         ensures room { OnOk result (HasRoomFor op self.old self.new commons.old commons.new) }
         ensures err { OnErr result (IsNotCalled self.old self.new commons.old commons.new) }
-        ensures refusal { IfErr result (λ refusal. refusal ≡ Refusal.OutOfMemory) }
+        ensures refusal { IsOkUnless result Refusal.OutOfMemory }
     {
         self.undo.reserve()?;
         commons.objects.reserve(self.subtx.tx(), &op.cell())?;

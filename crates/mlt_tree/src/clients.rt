@@ -1,6 +1,6 @@
 //! Scripts by their clients.
 
-ghost use Rattle.std.specs.Prelude.{◌≡◌, ◌<◌, ◌++◌, [], map, reverse, replicate, IfOk, IfErr, OnOk};
+ghost use Rattle.std.specs.Prelude.{◌≡◌, ◌<◌, ◌++◌, [], map, reverse, replicate, IfOk, IsOkUnless, OnOk};
 ghost use Rattle.mlt_tree.specs.Clients.{AreFilled, if_any, parts_of};
 
 use crate::script::Script;
@@ -53,7 +53,7 @@ fn push_part(parts: &mut Vec<Vec<Script>>, part: Vec<Script>) -> Result<(), Allo
 pub fn by_client(alloc: Global, scripts: Vec<Script>) -> Result<Vec<Vec<Script>>, Refusal>
     ensures parts { IfOk result
         (λ parts. map (λ part. part.items) parts.items ≡ parts_of scripts.items) }
-    ensures refusal { IfErr result (λ refusal. refusal ≡ Refusal.OutOfMemory) }
+    ensures refusal { IsOkUnless result Refusal.OutOfMemory }
 {
     let mut table = empty_table(alloc)?;
     fill(&mut table, scripts)?;

@@ -1,6 +1,6 @@
 //! How much a manager may hold.
 
-ghost use Rattle.std.specs.Prelude.{◌≡◌, ◌≢◌, ◌↔◌, IsOk, IfOk, IfErr, ◌≤◌, ◌^◌};
+ghost use Rattle.std.specs.Prelude.{◌≡◌, ◌≢◌, ◌↔◌, IsOk, IfOk, IsOkUnless, ◌≤◌, ◌^◌};
 ghost use Rattle.mlt_types.specs.Limits.{AreInRange};
 
 use crate::refusal::Refusal;
@@ -38,7 +38,7 @@ impl Limits {
             (λ limits. (limits.max_open ≡ max_open) × (limits.max_ids ≡ max_ids)
             × (limits.max_pages ≡ max_pages) × (limits.max_depth ≡ max_depth)
             × (limits.max_ops ≡ max_ops)) }
-        ensures refusal { IfErr result (λ refusal. refusal ≡ Refusal.BadLimits) }
+        ensures refusal { IsOkUnless result Refusal.BadLimits }
     {
         let in_range = (1..=64).contains(&max_open)
             && (1..=1 << 32).contains(&max_ids)

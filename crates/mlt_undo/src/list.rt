@@ -1,6 +1,6 @@
 //! The undo list.
 
-ghost use Rattle.std.specs.Prelude.{◌≡◌, ◌≤◌, ◌+◌, [], ◌∷◌, ◌++◌, length, Some, None, OnOk, OnErr, IfErr};
+ghost use Rattle.std.specs.Prelude.{◌≡◌, ◌≤◌, ◌+◌, [], ◌∷◌, ◌++◌, length, Some, None, OnOk, OnErr, IsOkUnless};
 ghost use Rattle.mlt_undo.specs.Undo.{IsLast, IsPopped};
 
 use mlt_kinds::Done;
@@ -45,7 +45,7 @@ impl UndoList {
         ensures entries { self.new.entries ≡ self.old.entries }
         ensures room { OnOk result (1 ≤ self.new.spare) }
         ensures err { OnErr result ((self.new ≡ self.old) × (self.old.spare ≡ 0)) }
-        ensures refusal { IfErr result (λ refusal. refusal ≡ Refusal.OutOfMemory) }
+        ensures refusal { IsOkUnless result Refusal.OutOfMemory }
     {
         self.done.reserve(1)?;
         Ok(())

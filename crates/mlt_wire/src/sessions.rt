@@ -1,6 +1,6 @@
 //! Sessions over a reader and a writer.
 
-ghost use Rattle.std.specs.Prelude.{◌≡◌, ◌<◌, ◌≤◌, ◌+◌, ◌-◌, ◌^◌, ◌⊎◌, ℕ, List, false, None, length, take, drop, vec_len, IfOk, IfErr, OnOk, OnErr, IsErrOf, ◌++◌};
+ghost use Rattle.std.specs.Prelude.{◌≡◌, ◌<◌, ◌≤◌, ◌+◌, ◌-◌, ◌^◌, ◌⊎◌, ℕ, List, false, None, length, take, drop, vec_len, IfOk, IfErr, IsOkUnless, OnOk, OnErr, IsErrOf, ◌++◌};
 ghost use Rattle.std.specs.Io.KnownBytes.{Consumes, IsAtEnd, Keeps};
 ghost use Rattle.mlt_wire.specs.Batches.{front};
 ghost use Rattle.mlt_wire.specs.Desks.{Answers, moves};
@@ -39,7 +39,7 @@ fn fill<R: Read>(
         × Consumes (R.remaining reader.old) (R.remaining reader.new) piece
         × (count ≡ 0 → IsAtEnd (R.remaining reader.new))) }
     ensures err { OnErr result (Keeps (R.remaining reader.old) (R.remaining reader.new)) }
-    ensures refusal { IfErr result (λ refusal. refusal ≡ Refusal.Io) }
+    ensures refusal { IsOkUnless result Refusal.Io }
 {
     let room = most.min(buffer.len() - held);
     read_some(reader, &mut buffer[held..held + room])
@@ -214,7 +214,7 @@ fn converse<R: Read, W: Write, D: Desk>(
 // So many zeros.
 fn zeros(alloc: Global, count: usize) -> Result<Vec<u8>, Refusal>
     ensures length { IfOk result (λ zeros. vec_len zeros ≡ count) }
-    ensures refusal { IfErr result (λ refusal. refusal ≡ Refusal.OutOfMemory) }
+    ensures refusal { IsOkUnless result Refusal.OutOfMemory }
 {
     Ok(vec![in alloc; 0; count]?)
 }

@@ -1,6 +1,6 @@
 //! The report, once all workers have given back what they have.
 
-ghost use Rattle.std.specs.Prelude.{◌≡◌, ◌⊎◌, IfErr, IfOk, OnOk};
+ghost use Rattle.std.specs.Prelude.{◌≡◌, ◌⊎◌, IfErr, IsOkUnless, IfOk, OnOk};
 ghost use Rattle.mlt_audit.specs.Agreement.{Agrees};
 ghost use Rattle.mlt_audit.specs.Committed.{IsBaseOfReceipts};
 ghost use Rattle.mlt_manager.specs.Promises.{IsCommittedBaseOf};
@@ -22,9 +22,9 @@ fn audit_and_base<P: Pseudo, R: Threads>(
     manager: &Manager<P>,
 ) -> (Result<(), Refusal>, Result<Base, Refusal>)
     ensures agrees { OnOk result.0 (Agrees receipts.now manager.now.commons.history.items) }
-    ensures differs { IfErr result.0 (λ refusal. refusal ≡ Refusal.Audit) }
+    ensures differs { IsOkUnless result.0 Refusal.Audit }
     ensures base { IfOk result.1 (λ base. IsCommittedBaseOf manager.now base) }
-    ensures refusal { IfErr result.1 (λ refusal. refusal ≡ Refusal.OutOfMemory) }
+    ensures refusal { IsOkUnless result.1 Refusal.OutOfMemory }
 {
     let history = manager.history();
     if workers == 1 {
@@ -34,11 +34,11 @@ fn audit_and_base<P: Pseudo, R: Threads>(
         rt,
         || -> Result<(), Refusal>
             ensures { OnOk result (Agrees receipts.entry.now history.entry.now)
-                × IfErr result (λ refusal. refusal ≡ Refusal.Audit) }
+                × IsOkUnless result Refusal.Audit }
         { audit(receipts, history) },
         || -> Result<Base, Refusal>
             ensures { IfOk result (λ base. IsCommittedBaseOf manager.entry.now base)
-                × IfErr result (λ refusal. refusal ≡ Refusal.OutOfMemory) }
+                × IsOkUnless result Refusal.OutOfMemory }
         { manager.base() },
     )
 }
