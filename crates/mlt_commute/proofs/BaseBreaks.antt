@@ -1,5 +1,5 @@
 -- What breaks on one cell breaks over whole bases.
-use Rattle.std.proofs.Common.{◌≡◌, ◌⊎◌, ℕ, Bool, true, false, cond, Option, None, Some, nat_eq, refl, sym, ap, subst, ◌∙◌, inl, inr}
+use Rattle.std.proofs.Common.{◌≡◌, ◌⊎◌, ℕ, Bool, true, false, ◌&&◌, Option, None, Some, nat_eq, refl, sym, ap, subst, ◌∙◌, inl, inr}
 use Rattle.std.proofs.lemmas.Bool.{cases_eq, ne_eqb}
 use Rattle.mlt_types.specs.declared.cell.Cell.{Cell}
 use Rattle.mlt_types.specs.declared.cell.Cell.TheVariants as cell
@@ -151,7 +151,7 @@ counter_conflict : (p q : _) → counter_marks p q ≡ true → ClassesConflict 
 counter_conflict p q e = rw e at (counter_exact p q)
 
 -- a test that holds, held
-held_test : (b c : Bool) → cond b c false ≡ true → (b ≡ true) × (c ≡ true)
+held_test : (b c : Bool) → (b && c) ≡ true → (b ≡ true) × (c ≡ true)
 held_test true c e = (refl, e)
 held_test false c e = absurd (cc e)
 
@@ -183,13 +183,13 @@ clashing_break (Account a op, reply) (Account b other, answer) clash =
     (base.0, first, second, (refl, t.3), (refl, t.4), base.1)
 clashing_break (Element s e op, reply) (Element t f other, answer) clash =
     let marked = marked_classes element_marks (element_class op reply) (element_class other answer) in
-    let test = held_test (nat_eq s t) (cond (nat_eq e f) marked false) clash in
-    let inner = held_test (nat_eq e f) marked test.1 in
-    let u = like_items_break ElementStep element_class element_marks element_conflict (op, reply) (other, answer) inner.1 in
+    let test = held_test (nat_eq s t && nat_eq e f) marked clash in
+    let same = held_test (nat_eq s t) (nat_eq e f) test.0 in
+    let u = like_items_break ElementStep element_class element_marks element_conflict (op, reply) (other, answer) test.1 in
     let first : ObjOp × ObjReply = (Element s e u.1.0, u.1.1) in
     let second : ObjOp × ObjReply = (Element t f u.2.0, u.2.1) in
-    let sets = same_number s t test.0 in
-    let elements = same_number e f inner.0 in
+    let sets = same_number s t same.0 in
+    let elements = same_number e f same.1 in
     let base = breaks_over_bases first second (ElementState u.0) tt tt (λ i. cell.Element (sets i) (elements i)) (element_breaks s e t f u.0 u.1 u.2 u.5) in
     (base.0, first, second, (refl, u.3), (refl, u.4), base.1)
 clashing_break (Counter c op, reply) (Counter d other, answer) clash =

@@ -1,5 +1,5 @@
 -- What passes or breaks on one cell does so over whole bases.
-use Rattle.std.proofs.Common.{◌≡◌, ℕ, true, false, cond, nat_eq, refl, ap, inl, inr, arith}
+use Rattle.std.proofs.Common.{◌≡◌, ℕ, true, false, cond, ◌&&◌, nat_eq, refl, ap, inl, inr, arith}
 use Rattle.std.proofs.lemmas.Bool.{cases_eq, eq-eqb, ne_eqb}
 use Rattle.std.specs.Cmp.{nat_eq_equiv}
 use Rattle.mlt_types.specs.declared.cell.Cell.TheVariants as cell
@@ -82,8 +82,8 @@ elements_pass s e t f x y free =
 -- an operation on an element that does not clash with a size of that set changes it by nothing
 uncounted : (s e : ℕ) (o : ElementOp) (r : ObjReply) (t n : ℕ) → clashes (Element s e o, r) (Size t, reply.Is n) ≡ false →
     (put_into t (Element s e o, r) ≡ 0) × (taken_from t (Element s e o, r) ≡ 0)
-uncounted s e Add reply.Added t n free = (elim (nat_eq s t) as (λ b. cond b true false ≡ false → ◌≡◌ {A = ℕ} (cond b 1 0) 0) [ true ↦ λ f. absurd (cc f) | false ↦ λ f. refl ] free, refl)
-uncounted s e Remove reply.Removed t n free = (refl, elim (nat_eq s t) as (λ b. cond b true false ≡ false → ◌≡◌ {A = ℕ} (cond b 1 0) 0) [ true ↦ λ f. absurd (cc f) | false ↦ λ f. refl ] free)
+uncounted s e Add reply.Added t n free = (elim (nat_eq s t) as (λ b. (b && true) ≡ false → ◌≡◌ {A = ℕ} (cond b 1 0) 0) [ true ↦ λ f. absurd (cc f) | false ↦ λ f. refl ] free, refl)
+uncounted s e Remove reply.Removed t n free = (refl, elim (nat_eq s t) as (λ b. (b && true) ≡ false → ◌≡◌ {A = ℕ} (cond b 1 0) 0) [ true ↦ λ f. absurd (cc f) | false ↦ λ f. refl ] free)
 uncounted s e o r t n free = (refl, refl)
 
 element_size_pass : (s e : ℕ) (o : ElementOp) (r : ObjReply) (t : ℕ) (a : ObjReply) → clashes (Element s e o, r) (Size t, a) ≡ false →
@@ -140,10 +140,10 @@ has_changes_nothing r a = refl
 
 -- either the sets differ, or the operation changes nothing
 apart_from_size : (s e : ℕ) (o : ElementOp) (r : ObjReply) (t : ℕ) (a : ObjReply) → AreApart (Element s e o) (Size t) →
-    cond (nat_eq s t) (changes_told (element_class o r) a) false ≡ false
+    (nat_eq s t && changes_told (element_class o r) a) ≡ false
 apart_from_size s e Add r t a apart = rw (ne_eqb s t (λ same. apart (cell.Size t) (1, omega arith, ap cell.Size same) (0, omega arith, refl))) refl
 apart_from_size s e Remove r t a apart = rw (ne_eqb s t (λ same. apart (cell.Size t) (1, omega arith, ap cell.Size same) (0, omega arith, refl))) refl
-apart_from_size s e Has r t a apart = rw (has_changes_nothing r a) (elim (nat_eq s t) as (λ b. cond b false false ≡ false) [ true ↦ refl | false ↦ refl ])
+apart_from_size s e Has r t a apart = rw (has_changes_nothing r a) (elim (nat_eq s t) as (λ b. (b && false) ≡ false) [ true ↦ refl | false ↦ refl ])
 
 pub apart_do_not_clash : (held requested : ObjOp × ObjReply) → AreApart held.0 requested.0 → clashes held requested ≡ false
 apart_do_not_clash (Account a op, reply) (Account b other, answer) apart =

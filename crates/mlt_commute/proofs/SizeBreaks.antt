@@ -1,5 +1,5 @@
 -- A step that changes the size of a set breaks with the sizes of the set.
-use Rattle.std.proofs.Common.{◌≡◌, ◌≢◌, ℕ, ◌+◌, Bool, true, false, cond, nat_eq, is_some, refl, sym, ap, subst, ◌∙◌, arith}
+use Rattle.std.proofs.Common.{◌≡◌, ◌≢◌, ℕ, ◌+◌, Bool, true, false, cond, ◌&&◌, nat_eq, is_some, refl, sym, ap, subst, ◌∙◌, arith}
 use Rattle.std.specs.Bool.{MatchBool}
 use Rattle.std.specs.FinMap as map
 use Rattle.mlt_types.specs.declared.cell.Cell.TheVariants as cell
@@ -94,8 +94,8 @@ no_clash : (s e : ℕ) (item : ElementOp × ObjReply) (class : ElementClass) (t 
     (clashes (on_element s e item) (told_size t n) ≡ false) × (clashes (told_size t n) (on_element s e item) ≡ false)
 no_clash s e item class t n is free =
     let not : changes_told (element_class item.0 item.1) (Is n) ≡ false = ap (λ c. changes_told c (Is n)) is ∙ free in
-    let never : (b : Bool) → cond b (changes_told (element_class item.0 item.1) (Is n)) false ≡ false =
-    λ b. ap (λ x. cond b x false) not ∙ elim b as (λ b. cond b false false ≡ false) [ true ↦ refl | false ↦ refl ] in
+    let never : (b : Bool) → (b && changes_told (element_class item.0 item.1) (Is n)) ≡ false =
+    λ b. ap (λ x. b && x) not ∙ elim b as (λ b. (b && false) ≡ false) [ true ↦ refl | false ↦ refl ] in
     (never (nat_eq s t), never (nat_eq t s))
 
 pub uncounted_pass : (class : ElementClass) → counts class ≡ false → PassesSizes class

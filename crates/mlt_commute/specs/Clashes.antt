@@ -1,5 +1,5 @@
 -- Whether an operation with its reply, requested later, clashes with one that is held.
-use Rattle.std.specs.Prelude.{Bool, false, Option, Some, if◌then◌else◌, ◌==◌}
+use Rattle.std.specs.Prelude.{Bool, false, Option, Some, ◌==◌, ◌&&◌}
 use Rattle.mlt_kinds.specs.declared.operation.ObjOp.{ObjOp}
 use Rattle.mlt_kinds.specs.declared.operation.ObjOp.TheVariants.{Account, Element, Counter, Size}
 use Rattle.mlt_kinds.specs.declared.operation.ObjReply.{ObjReply}
@@ -16,11 +16,14 @@ marked_classes marks _ _ = false
 -- They are on one cell, and their classes are marked; or the one tells the size of a set, and the other changes it.
 abbrev pub clashes : ObjOp × ObjReply → ObjOp × ObjReply → Bool
 clashes (Account a op, reply) (Account b other, answer) =
-    if a == b then marked_classes account_marks (account_class op reply) (account_class other answer) else false
+    a == b && marked_classes account_marks (account_class op reply) (account_class other answer)
 clashes (Element s e op, reply) (Element t f other, answer) =
-    if s == t then (if e == f then marked_classes element_marks (element_class op reply) (element_class other answer) else false) else false
+    s == t && e == f
+    && marked_classes element_marks (element_class op reply) (element_class other answer)
 clashes (Counter c op, reply) (Counter d other, answer) =
-    if c == d then marked_classes counter_marks (counter_class op reply) (counter_class other answer) else false
-clashes (Element s e op, reply) (Size t, answer) = if s == t then changes_told (element_class op reply) answer else false
-clashes (Size s, reply) (Element t f op, answer) = if s == t then changes_told (element_class op answer) reply else false
+    c == d && marked_classes counter_marks (counter_class op reply) (counter_class other answer)
+clashes (Element s e op, reply) (Size t, answer) =
+    s == t && changes_told (element_class op reply) answer
+clashes (Size s, reply) (Element t f op, answer) =
+    s == t && changes_told (element_class op answer) reply
 clashes _ _ = false
