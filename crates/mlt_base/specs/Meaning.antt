@@ -10,10 +10,11 @@ use Rattle.mlt_kinds.specs.declared.operation.ObjOp.{ObjOp}
 use Rattle.mlt_kinds.specs.declared.operation.ObjOp.TheVariants as op
 use Rattle.mlt_kinds.specs.declared.operation.ObjReply.{ObjReply}
 use Rattle.mlt_kinds.specs.Bases.{Base, size_at, state_at}
+use Rattle.mlt_kinds.specs.Cells.{CellStep}
 use Rattle.mlt_kinds.specs.Operations.{cell_of}
 use Rattle.mlt_base.specs.declared.record.Changes.{Changes}
 use Rattle.mlt_base.specs.declared.record.RecChange.{RecChange}
-use Rattle.mlt_base.specs.Effects.{inverse_of, reply_of, size_change_of, size_inverse_of}
+use Rattle.mlt_base.specs.Effects.{changes_on, inverse_of, reply_of, size_change_of, size_inverse_of}
 use Rattle.mlt_base.specs.Records.{IsRecord, counter_of_record, record_after, state_of_record}
 
 -- The records mean the base: each cell that there can be has a record that it can have, and holds what that means; any
@@ -52,3 +53,29 @@ changes_of records op = record {
 -- what undoes an operation that was told its reply
 abbrev pub changes_back : ObjOp × ObjReply → Changes
 changes_back x = record { own = inverse_of x; size = size_inverse_of x }
+
+-- the records after all that an operation changes of them, and after all that undoing it changes
+abbrev pub records_done : map.FinMap nat_cmp ℕ → ObjOp → map.FinMap nat_cmp ℕ
+records_done records op = records_after records (changes_on op (changes_of records op))
+
+abbrev pub records_undone : map.FinMap nat_cmp ℕ → ObjOp × ObjReply → map.FinMap nat_cmp ℕ
+records_undone records x = records_after records (changes_on x.0 (changes_back x))
+
+-- the record of the operation's own cell, with the change made, if there is one
+abbrev pub own_record : map.FinMap nat_cmp ℕ → ObjOp → Option RecChange → Option ℕ
+own_record records op change = record_after change (record_in records (cell_of op))
+
+-- The operation changes the record of its cell so that the cell makes its step.
+pub record Undergoes (records : map.FinMap nat_cmp ℕ) (op : ObjOp) : Type 0 where
+  pub in_range : IsInRange (cell_of op)
+  pub can_be : IsRecord (cell_of op) (own_record records op (changes_of records op).own)
+  pub steps : CellStep (state_of_record (cell_of op) (record_in records (cell_of op)))
+      (op, told_by records op)
+      (state_of_record (cell_of op) (own_record records op (changes_of records op).own))
+
+-- And undoing it changes that record so that the cell goes back before the step.
+pub record UndergoesBack (records : map.FinMap nat_cmp ℕ) (x : ObjOp × ObjReply) : Type 0 where
+  pub in_range : IsInRange (cell_of x.0)
+  pub can_be : IsRecord (cell_of x.0) (own_record records x.0 (inverse_of x))
+  pub steps : CellStep (state_of_record (cell_of x.0) (own_record records x.0 (inverse_of x))) x
+      (state_of_record (cell_of x.0) (record_in records (cell_of x.0)))

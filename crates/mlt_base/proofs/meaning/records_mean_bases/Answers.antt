@@ -9,7 +9,9 @@ pub returns-clause-size : goal.returns-clause-size
 returns-clause-size c = tells_size
 
 pub returns-clause-step : goal.returns-clause-step
-returns-clause-step c = means_step
+returns-clause-step c = λ records b op means undergoes.
+    means_step records b op means undergoes.in_range undergoes.can_be undergoes.steps
 
 pub returns-clause-back : goal.returns-clause-back
-returns-clause-back c = means_step_back
+returns-clause-back c = λ records b x means undergoes.
+    means_step_back records b x means undergoes.in_range undergoes.can_be undergoes.steps
