@@ -1,9 +1,11 @@
 -- What a running walk knows of the pages that it holds, so that what other walks do on other pages can't touch it
-use Rattle.std.specs.Prelude.{ℕ, ◌≡◌, ◌⊎◌, true, false, Option, Some, None, is_some}
+use Rattle.std.specs.Prelude.{ℕ, ◌≡◌, ◌⊎◌, true, false, Option, Some, None, is_some, slice_index_or}
 use Rattle.std.specs.Ordering.{nat_cmp}
 use Rattle.std.specs.FinSet as set
 use Rattle.mlt_page.specs.Slots.{is_kept}
+use Rattle.mlt_page.specs.Values.{BucketFields}
 use Rattle.mlt_page.specs.declared.slot.Slot.{Slot}
+use Rattle.mlt_page.specs.declared.slot.Slot.TheVariants.{Free}
 use Rattle.mlt_page.specs.declared.page.Page.{Page}
 use Rattle.mlt_hash_form.specs.Form.{HasSlot, is_used, slot_at}
 use Rattle.mlt_hash_form.specs.File.{FilePages, buckets_of, HasForm}
@@ -43,6 +45,18 @@ pub record RearrangesSlots (bits : ℕ → ℕ) (opens : set.FinSet nat_cmp) (se
   pub stood : (m i : ℕ) → is_used (slot_at (buckets_of after) m i) ≡ true
       → (o : ℕ) × (slot_at (buckets_of before) o i ≡ slot_at (buckets_of after) m i)
       × ((o ≡ m) ⊎ (is_some (seen o) ≡ true))
+
+-- each slot of the bucket whose room is kept for these owners has it kept for those too
+abbrev pub AreKeptToo : set.FinSet nat_cmp → set.FinSet nat_cmp → BucketFields → Type 0
+AreKeptToo these those bucket =
+    (i : ℕ) → is_kept these (slice_index_or bucket.slots i Free) ≡ true
+    → is_kept those (slice_index_or bucket.slots i Free) ≡ true
+
+-- so it is whatever the clean pages are elsewhere, if they have the form of a file, and have it with the walk's writes
+abbrev pub WhereverClean : (ℕ → ℕ) → ℕ → SeenPages → FilePages → (FilePages → Type 0) → Type 0
+WhereverClean bits root seen own Fact =
+    (clean : FilePages) → Agrees seen clean → HasForm bits clean root
+    → HasForm bits (over clean own) root → Fact clean
 
 -- Whatever the clean pages are elsewhere, the walk's writes only rearrange slots. This remains true whatever other
 -- walks do, since it names no state of theirs.

@@ -1,11 +1,12 @@
 -- A split under way, one page written at a time
-use Rattle.std.specs.Prelude.{ℕ, ◌≡◌, ◌<◌, ◌≤◌, ◌+◌, ◌-◌, ◌*◌, ◌/◌, ◌^◌, ◌==◌, List, length, slice_index, Some, if◌then◌else◌}
+use Rattle.std.specs.Prelude.{ℕ, ◌≡◌, ◌<◌, ◌≤◌, ◌+◌, ◌-◌, ◌*◌, ◌/◌, ◌%◌, ◌^◌, ◌==◌, ◌⊎◌, List, length, slice_index, Some, if◌then◌else◌}
 use Rattle.std.specs.Ordering.{nat_cmp}
 use Rattle.std.specs.FinSet as set
 use Rattle.mlt_page.specs.Bits.{first_bits}
 use Rattle.mlt_page.specs.Values.{BucketFields}
 use Rattle.mlt_page.specs.declared.page.Page.TheVariants as page
 use Rattle.mlt_hash_form.specs.Form.{half_of}
+use Rattle.mlt_hash_form.specs.Changes.{IsSplit, MaySplit}
 use Rattle.mlt_hash_form.specs.File.{FilePages, depth_of, dirs_of, entries_of, entry, buckets_of, Writes}
 
 -- What a split of a bucket of depth l leaves at a place of the directory, which had depth g and gets depth g': page
@@ -35,6 +36,21 @@ run_start pages root n x = prefix_of pages n x * run_length pages root n
 -- a page of the directory, the q-th, has these entries at its places
 abbrev pub HasEntries : List ℕ → ℕ → (ℕ → ℕ) → Type 0
 HasEntries dir q names = (r : ℕ) → r < 256 → slice_index dir r ≡ names (256 * q + r)
+
+-- Page j of the doubled directory is made of the old page whose entries it gets, each twice, but that the new bucket
+-- stands at one place, where that is on this page.
+pub record IsDoubled (old made : List ℕ) (j place new : ℕ) : Type 0 where
+  pub others : (r : ℕ) → r < 256 → (256 * j + r ≡ place → ⊥)
+      → slice_index made r ≡ slice_index old (128 * (j % 2) + r / 2)
+  pub here : (r : ℕ) → r < 256 → 256 * j + r ≡ place → slice_index made r ≡ new
+
+-- Page j of a directory that keeps its depth is made of the old one: the new bucket stands at so many places, from the
+-- first on, where these are on this page.
+pub record HasNewPlaces (old made : List ℕ) (j first count new : ℕ) : Type 0 where
+  pub inside : (r : ℕ) → r < 256 → first ≤ 256 * j + r → 256 * j + r < first + count
+      → slice_index made r ≡ new
+  pub outside : (r : ℕ) → r < 256 → (256 * j + r < first) ⊎ (first + count ≤ 256 * j + r)
+      → slice_index made r ≡ slice_index old r
 
 -- What a directory is written anew from: the list of its old pages, which has this count, and the bucket pages that
 -- its places are to name and did name
@@ -92,6 +108,35 @@ bucket_split bits opens before root old_page new_page seed = record {
   seed = seed;
 }
 
+-- the old bucket, the directory's depth, its pages and how many these are, as they were before
+abbrev pub old_bucket : BucketSplit → BucketFields
+old_bucket split = buckets_of split.before split.old_page
+
+abbrev pub old_depth : BucketSplit → ℕ
+old_depth split = depth_of split.before split.root
+
+abbrev pub old_dirs : BucketSplit → List ℕ
+old_dirs split = dirs_of split.before split.root
+
+abbrev pub old_count : BucketSplit → ℕ
+old_count split = 2 ^ (old_depth split - 8)
+
+-- where the directory is not doubled: the first place of the new bucket, and the one behind its last
+abbrev pub run_begin : BucketSplit → ℕ
+run_begin split = run_start split.before split.root split.old_page split.seed
+
+abbrev pub run_end : BucketSplit → ℕ
+run_end split = run_begin split + run_length split.before split.root split.old_page
+
+-- the split may begin, and these pages are what it leaves
+abbrev pub CanBegin : BucketSplit → Type 0
+CanBegin split =
+    MaySplit split.bits split.before split.root split.seed split.old_page split.new_page
+
+abbrev pub Completes : BucketSplit → FilePages → Type 0
+Completes split pages =
+    IsSplit split.bits split.opens split.before pages split.root split.old_page split.new_page
+
 -- one half of the old bucket
 abbrev pub half_in : BucketSplit → ℕ → BucketFields
 half_in split bit = half_of split.bits split.opens (buckets_of split.before split.old_page) bit
@@ -127,11 +172,10 @@ abbrev pub IsMidwayInPlace : BucketSplit → FilePages → ℕ → Type 0
 IsMidwayInPlace split pages q =
     IsMidway split (depth_of split.before split.root) pages (dirs_of split.before split.root) q q
 
--- the second half of the bucket on page n is written on page new, and then the first one on page n
-pub record WritesBothHalves (bits : ℕ → ℕ) (opens : set.FinSet nat_cmp) (before one two : FilePages)
-    (n new : ℕ) : Type 0 where
-  pub ones : Writes before one new (page.Bucket (half_of bits opens (buckets_of before n) 1))
-  pub zeros : Writes one two n (page.Bucket (half_of bits opens (buckets_of before n) 0))
+-- the second half of the old bucket is written on the new page, and then the first one on the old page
+pub record WritesBothHalves (split : BucketSplit) (one two : FilePages) : Type 0 where
+  pub ones : Writes split.before one split.new_page (page.Bucket (half_in split 1))
+  pub zeros : Writes one two split.old_page (page.Bucket (half_in split 0))
 
 -- the next page of a new directory: its place in the list of pages, its number, and the bucket pages that it names
 pub record NextPage : Type 0 where

@@ -1,9 +1,9 @@
 //! Pages of a directory that is split: what each is to hold.
 
-ghost use Rattle.std.specs.Prelude.{◌≡◌, ℕ, List, ◌+◌, ◌-◌, ◌*◌, ◌/◌, ◌%◌, ◌^◌, ◌<◌, ◌≤◌, ◌⊎◌, length, slice_index};
+ghost use Rattle.std.specs.Prelude.{◌≡◌, ℕ, List, ◌+◌, ◌-◌, ◌*◌, ◌/◌, ◌^◌, ◌≤◌, ◌<◌, length};
 ghost use Rattle.mlt_hash_form.specs.File.{FilePages, buckets_of, depth_of, dirs_of, entry};
 ghost use Rattle.mlt_hash_form.specs.Changes.{MaySplit};
-ghost use Rattle.mlt_hash_form.specs.Splits.{HasEntries, prefix_of, run_length, run_start, target_of};
+ghost use Rattle.mlt_hash_form.specs.Splits.{HasEntries, HasNewPlaces, IsDoubled, prefix_of, run_length, run_start, target_of};
 
 use crate::place::NewPlaces;
 use mlt_page::DirPage;
@@ -14,9 +14,7 @@ use mlt_types::PageNo;
 pub fn doubled_page(old: &DirPage, at: usize, place: u64, bucket: PageNo) -> DirPage
     requires { at < 256 }
     ensures size { length result ≡ 256 }
-    ensures others { (r : ℕ) → r < 256 → (256 * at + r ≡ place → ⊥)
-        → slice_index result r ≡ slice_index old.now (128 * (at % 2) + r / 2) }
-    ensures here { (r : ℕ) → r < 256 → 256 * at + r ≡ place → slice_index result r ≡ bucket }
+    ensures entries { IsDoubled old.now result at place bucket }
 {
     let mut page = if at % 2 == 0 {
         old.first_half_doubled()
@@ -35,12 +33,7 @@ pub fn page_with_new_places(old: &DirPage, at: usize, places: NewPlaces, bucket:
     requires at { at < 256 }
     requires places { places.first + places.count ≤ 65536 }
     ensures size { length result ≡ 256 }
-    ensures inside { (r : ℕ) → r < 256
-        → places.first ≤ 256 * at + r → 256 * at + r < places.first + places.count
-        → slice_index result r ≡ bucket }
-    ensures outside { (r : ℕ) → r < 256
-        → (256 * at + r < places.first) ⊎ (places.first + places.count ≤ 256 * at + r)
-        → slice_index result r ≡ slice_index old.now r }
+    ensures entries { HasNewPlaces old.now result at places.first places.count bucket }
 {
     let start = 256 * at as u64;
     let from = places.first.clamp(start, start + 256);
@@ -55,20 +48,16 @@ pub fn doubled_page_is_right()
     ensures { (pages : FilePages) (root n new x j : ℕ) (old made : List ℕ)
         → (buckets_of pages n).depth ≡ depth_of pages root
         → HasEntries old (j / 2) (entry pages (dirs_of pages root))
-        → ((r : ℕ) → r < 256 → (256 * j + r ≡ prefix_of pages n x → ⊥)
-        → slice_index made r ≡ slice_index old (128 * (j % 2) + r / 2))
-        → ((r : ℕ) → r < 256 → 256 * j + r ≡ prefix_of pages n x → slice_index made r ≡ new)
+        → IsDoubled old made j (prefix_of pages n x) new
         → HasEntries made j (target_of pages root n new x (depth_of pages root + 1)) }
 {}
 
 /// A page with the new bucket at its places is as the split wants it, where the directory keeps its depth.
 pub fn page_with_new_places_is_right()
     ensures { (bits : ℕ → ℕ) (pages : FilePages) (root n new x j : ℕ) (old made : List ℕ)
-        → let first = run_start pages root n x in let end = first + run_length pages root n in
-        MaySplit bits pages root x n new → HasEntries old j (entry pages (dirs_of pages root))
-        → ((r : ℕ) → r < 256 → first ≤ 256 * j + r → 256 * j + r < end → slice_index made r ≡ new)
-        → ((r : ℕ) → r < 256 → (256 * j + r < first) ⊎ (end ≤ 256 * j + r)
-        → slice_index made r ≡ slice_index old r)
+        → MaySplit bits pages root x n new
+        → HasEntries old j (entry pages (dirs_of pages root))
+        → HasNewPlaces old made j (run_start pages root n x) (run_length pages root n) new
         → HasEntries made j (target_of pages root n new x (depth_of pages root)) }
 {}
 

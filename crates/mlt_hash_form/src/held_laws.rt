@@ -1,18 +1,15 @@
 //! Walks side by side: facts of a walk that are about the pages that it holds alone, so that they stay true
 //! whatever other walks do to other pages.
 
-ghost use Rattle.std.specs.Prelude.{ℕ, ◌≡◌, ◌⊎◌, true, Option, None, Some, is_some, slice_index_or};
+ghost use Rattle.std.specs.Prelude.{ℕ, ◌≡◌, ◌⊎◌, true, Option, None, Some, is_some};
 ghost use Rattle.std.specs.Ordering.{nat_cmp};
 ghost use Rattle.std.specs.FinMap as map;
 ghost use Rattle.std.specs.FinSet as set;
-ghost use Rattle.mlt_page.specs.Slots.{is_kept};
 ghost use Rattle.mlt_page.specs.declared.page.Page.{Page};
 ghost use Rattle.mlt_page.specs.declared.slot.Slot.{Slot};
-ghost use Rattle.mlt_page.specs.declared.slot.Slot.TheVariants.{Free};
 ghost use Rattle.mlt_hash_form.specs.Changes.{ChangesRecord, IsSplit, slot_change};
 ghost use Rattle.mlt_hash_form.specs.File.{FilePages, HasForm, Writes, bucket_of, buckets_of, look_up};
-ghost use Rattle.mlt_hash_form.specs.Form.{slot_at};
-ghost use Rattle.mlt_hash_form.specs.Held.{Agrees, ChangesFile, KeepsFile, SeenPages, over};
+ghost use Rattle.mlt_hash_form.specs.Held.{Agrees, AreKeptToo, ChangesFile, KeepsFile, SeenPages, WhereverClean, over};
 
 /// A walk that wrote nothing keeps the file.
 pub fn walk_without_writes_keeps_the_file()
@@ -33,9 +30,7 @@ pub fn further_page_keeps_the_file()
 pub fn fewer_open_owners_keep_the_file()
     ensures { (bits : ℕ → ℕ) (opens fewer : set.FinSet nat_cmp) (root : ℕ) (seen : SeenPages)
         (own : FilePages)
-        → ((n : ℕ) (p : Option Page) → seen n ≡ Some p
-        → (i : ℕ) → let slot = slice_index_or (bucket_of p).slots i Free in
-        is_kept fewer slot ≡ true → is_kept opens slot ≡ true)
+        → ((n : ℕ) (p : Option Page) → seen n ≡ Some p → AreKeptToo fewer opens (bucket_of p))
         → KeepsFile bits opens root seen own → KeepsFile bits fewer root seen own }
 {}
 
@@ -46,11 +41,9 @@ pub fn split_keeps_the_file()
         (seen : SeenPages) (own own' : FilePages)
         → KeepsFile bits opens root seen own
         → is_some (seen n) ≡ true
-        → ((clean : FilePages) → Agrees seen clean → HasForm bits clean root
-        → HasForm bits (over clean own) root
-        → IsSplit bits splitters (over clean own) (over clean own') root n new
-        × ((i : ℕ) → let slot = slot_at (buckets_of (over clean own)) n i in
-        is_kept opens slot ≡ true → is_kept splitters slot ≡ true))
+        → WhereverClean bits root seen own (λ clean.
+        IsSplit bits splitters (over clean own) (over clean own') root n new
+        × AreKeptToo opens splitters (buckets_of (over clean own) n))
         → KeepsFile bits opens root seen own' }
 {}
 
@@ -68,9 +61,8 @@ pub fn change_of_a_kept_file()
     ensures { (bits : ℕ → ℕ) (opens : set.FinSet nat_cmp) (root key n i : ℕ) (value : Option ℕ)
         (after : Slot) (seen : SeenPages) (rest own : FilePages)
         → KeepsFile bits opens root seen rest
-        → ((clean : FilePages) → Agrees seen clean → HasForm bits clean root
-        → HasForm bits (over clean rest) root
-        → ChangesRecord bits (over clean rest) (over clean own) root
+        → WhereverClean bits root seen rest (λ clean.
+        ChangesRecord bits (over clean rest) (over clean own) root
         (slot_change key value n i after))
         → ChangesFile bits opens root seen rest own (slot_change key value n i after) }
 {}
