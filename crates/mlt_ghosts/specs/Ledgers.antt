@@ -1,8 +1,9 @@
 -- What the laws of ghosts are about: a file, its transactions, and what these did to the presence of its keys
-use Rattle.std.specs.Prelude.{ℕ, ◌≡◌, Bool, true, Option, Some}
+use Rattle.std.specs.Prelude.{ℕ, ◌≡◌, Bool, true, List, Option, Some}
 use Rattle.std.specs.Ordering.{nat_cmp}
 use Rattle.std.specs.FinSet as set
-use Rattle.mlt_hash_form.specs.File.{FilePages, lead_of}
+use Rattle.mlt_page.specs.declared.slot.Slot.{Slot}
+use Rattle.mlt_hash_form.specs.File.{FilePages, buckets_of, lead_of}
 use Rattle.mlt_ghosts.specs.Operations.{Presence, Standing, last_of}
 
 pub record Ledger : Type 0 where
@@ -25,6 +26,10 @@ IsOpenIn ledger owner = set.contains ledger.opens owner ≡ true
 -- the bucket page that a key leads to
 abbrev pub home_of : Ledger → ℕ → ℕ
 home_of ledger key = lead_of ledger.pages ledger.root (ledger.bits key)
+
+-- and the slots of the bucket there
+abbrev pub home_slots : Ledger → ℕ → List Slot
+home_slots ledger key = (buckets_of ledger.pages (home_of ledger key)).slots
 
 -- the last of its standing operations on the key's presence, if there is one
 abbrev pub last_by : Ledger → ℕ → ℕ → Option Presence

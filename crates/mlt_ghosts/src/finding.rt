@@ -9,7 +9,7 @@ ghost use Rattle.mlt_hash_form.specs.Form.{value_in};
 ghost use Rattle.mlt_hash_form.specs.File.{FilePages, HasForm, buckets_of, lead_of};
 ghost use Rattle.mlt_store.specs.Stores.{page_at};
 ghost use Rattle.mlt_ghosts.specs.Ghosts.{IsGhostAt, PagesMatchOperations};
-ghost use Rattle.mlt_ghosts.specs.Ledgers.{IsOpenIn, Ledger, home_of, last_by};
+ghost use Rattle.mlt_ghosts.specs.Ledgers.{IsOpenIn, Ledger, home_slots, last_by};
 ghost use Rattle.mlt_ghosts.specs.Operations.{Added, Removed};
 ghost use Rattle.mlt_ghosts.specs.Paths.{LeadsTo, NamesBucket};
 
@@ -87,13 +87,13 @@ pub fn look_up_finds_the_ghost()
 /// What an open transaction takes back is there, in the bucket that the key leads to: of an addition the record, and of
 /// a removal its ghost, and no record.
 pub fn what_is_undone_is_found()
-    ensures { (ledger : Ledger) (owner key : ℕ)
+    ensures added { (ledger : Ledger) (owner key : ℕ)
         → PagesMatchOperations ledger → HasForm ledger.bits ledger.pages ledger.root
-        → IsOpenIn ledger owner
-        → let slots = (buckets_of ledger.pages (home_of ledger key)).slots in
-        (last_by ledger owner key ≡ Some Added
-        → (i : ℕ) × (position (is_live_of key) slots ≡ Some i))
-        × (last_by ledger owner key ≡ Some Removed
-        → ((i : ℕ) × (position (is_ghost_of key owner) slots ≡ Some i))
-        × (value_in key slots ≡ None)) }
+        → IsOpenIn ledger owner → last_by ledger owner key ≡ Some Added
+        → (i : ℕ) × (position (is_live_of key) (home_slots ledger key) ≡ Some i) }
+    ensures removed { (ledger : Ledger) (owner key : ℕ)
+        → PagesMatchOperations ledger → HasForm ledger.bits ledger.pages ledger.root
+        → IsOpenIn ledger owner → last_by ledger owner key ≡ Some Removed
+        → ((i : ℕ) × (position (is_ghost_of key owner) (home_slots ledger key) ≡ Some i))
+        × (value_in key (home_slots ledger key) ≡ None) }
 {}
