@@ -13,9 +13,12 @@ use Rattle.mlt_commute.specs.Tables.{BreaksAt}
 
 -- they are of one kind, and of one class or of none; of sizes, both tell one or none does
 abbrev pub SameClass : ObjOp × ObjReply → ObjOp × ObjReply → Type 0
-SameClass (Account a op, reply) (Account b other, answer) = account_class op reply ≡ account_class other answer
-SameClass (Element s e op, reply) (Element t f other, answer) = element_class op reply ≡ element_class other answer
-SameClass (Counter c op, reply) (Counter d other, answer) = counter_class op reply ≡ counter_class other answer
+SameClass (Account a op, reply) (Account b other, answer) =
+    account_class op reply ≡ account_class other answer
+SameClass (Element s e op, reply) (Element t f other, answer) =
+    element_class op reply ≡ element_class other answer
+SameClass (Counter c op, reply) (Counter d other, answer) =
+    counter_class op reply ≡ counter_class other answer
 SameClass (Size s, reply) (Size t, answer) = tells_size reply ≡ tells_size answer
 SameClass _ _ = ⊥
 

@@ -7,5 +7,6 @@ use Rattle.mlt_commute.specs.CounterTable.{counter_class, counter_item}
 use Rattle.mlt_commute.specs.Tables.{HasLegalItem}
 
 pub counter_legal_item : (class : CounterClass) → HasLegalItem CounterStep counter_class class
-counter_legal_item Counted = (0, counter_item Counted 0, 0, refl, ((omega arith, omega arith), refl))
+counter_legal_item Counted =
+    (0, counter_item Counted 0, 0, refl, ((omega arith, omega arith), refl))
 counter_legal_item Read = (0, counter_item Read 0, 0, refl, ((omega arith, refl), refl))

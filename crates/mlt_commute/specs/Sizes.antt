@@ -55,15 +55,18 @@ BreaksSizes base set element item before after =
 -- some operation of the class and sizes of its set break at some base
 abbrev pub ConflictsWithSizes : ElementClass → Type 0
 ConflictsWithSizes class =
-    (base : Base) × (set : ℕ) × (element : ℕ) × (item : ElementOp × ObjReply) × (before : ℕ) × (after : ℕ) ×
+    (base : Base) × (set : ℕ) × (element : ℕ) × (item : ElementOp × ObjReply) ×
+    (before : ℕ) × (after : ℕ) ×
     IsOfClass element_class item class × BreaksSizes base set element item before after
 
 -- the base that has this one element, or none
 abbrev pub base_of_one : ℕ → ℕ → Bool → Base
-base_of_one set element present = with_state empty_base (cell.Element set element) (ElementState present)
+base_of_one set element present =
+    with_state empty_base (cell.Element set element) (ElementState present)
 
 -- the example's operation is of the class, and breaks with its sizes in each set that has no other element, at each element
 abbrev pub IsSizeExample : ElementClass → SizeExample → Type 0
 IsSizeExample class x =
     IsOfClass element_class (x.op, x.reply) class ×
-    ((set element : ℕ) → BreaksSizes (base_of_one set element x.present) set element (x.op, x.reply) x.before x.after)
+    ((set element : ℕ) →
+    BreaksSizes (base_of_one set element x.present) set element (x.op, x.reply) x.before x.after)

@@ -19,24 +19,32 @@ BreaksAt {S} step state held requested =
     ((other : S) → step state requested other → step other held after → ⊥)
 
 -- some items of the classes break at some state: the classes are to be marked
-abbrev pub ClassesConflict : {S O R C : Type 0} → (S → O → R → S → Type 0) → (O → R → Option C) → C → C → Type 0
+abbrev pub ClassesConflict
+    : {S O R C : Type 0} → (S → O → R → S → Type 0) → (O → R → Option C) → C → C → Type 0
 ClassesConflict {S} {O} {R} step class_of held requested =
     (state : S) × (first : O × R) × (second : O × R) ×
-    IsOfClass class_of first held × IsOfClass class_of second requested × BreaksAt (paired step) state first second
+    IsOfClass class_of first held × IsOfClass class_of second requested ×
+    BreaksAt (paired step) state first second
 
 -- each item of the requested class right commutes backward with each of the held class: the classes are not to be marked
-abbrev pub ClassesPass : {S O R C : Type 0} → (S → O → R → S → Type 0) → (O → R → Option C) → C → C → Type 0
+abbrev pub ClassesPass
+    : {S O R C : Type 0} → (S → O → R → S → Type 0) → (O → R → Option C) → C → C → Type 0
 ClassesPass {S} {O} {R} step class_of held requested =
     (first second : O × R) → IsOfClass class_of first held → IsOfClass class_of second requested →
     RightCommutesBackward (paired step) first second
 
 -- the example has a state, an operation of the held class and one of the requested class that break there
-abbrev pub IsExample : {S O R C : Type 0} → (S → O → R → S → Type 0) → (O → R → Option C) → C → C → Example S O R → Type 0
+abbrev pub IsExample
+    : {S O R C : Type 0} → (S → O → R → S → Type 0) → (O → R → Option C) → C → C → Example S O R
+    → Type 0
 IsExample step class_of held requested x =
-    IsOfClass class_of (x.first, x.first_reply) held × IsOfClass class_of (x.second, x.second_reply) requested ×
+    IsOfClass class_of (x.first, x.first_reply) held ×
+    IsOfClass class_of (x.second, x.second_reply) requested ×
     BreaksAt (paired step) x.state (x.first, x.first_reply) (x.second, x.second_reply)
 
 -- some operation with a reply of the class is legal in some state
-abbrev pub HasLegalItem : {S O R C : Type 0} → (S → O → R → S → Type 0) → (O → R → Option C) → C → Type 0
+abbrev pub HasLegalItem
+    : {S O R C : Type 0} → (S → O → R → S → Type 0) → (O → R → Option C) → C → Type 0
 HasLegalItem {S} {O} {R} step class_of class =
-    (before : S) × (item : O × R) × (after : S) × IsOfClass class_of item class × paired step before item after
+    (before : S) × (item : O × R) × (after : S) ×
+    IsOfClass class_of item class × paired step before item after
