@@ -21,6 +21,10 @@ pub record Moment : Type 0 where
 abbrev pub moment : Running → LockedStore → Moment
 moment running pages = record { running = running; locks = pages.locks; store = pages.store }
 
+-- the moment as another transaction has it, whose subtransaction this is
+abbrev pub beside : Moment → Running → Moment
+beside m running = record m { running = running }
+
 -- a page with the transaction's own first image put back
 abbrev pub page_before : Images → Pages → ℕ → Option Page
 page_before images pages q = or_image (image_of images q) (page_at pages q)
@@ -28,7 +32,8 @@ page_before images pages q = or_image (image_of images q) (page_at pages q)
 -- Clean pages, as far as this transaction can know them: wherever no other may write, they are what it sees with its
 -- own images put back; and each of them is in the store, perhaps overwritten.
 pub record IsCleanFor (m : Moment) (clean : ℕ → Option Page) : Type 0 where
-  pub seen : (q : ℕ) → ((u : ℕ) → u ≢ m.running.tx → can_write m.locks u q ≡ false) → clean q ≡ page_before m.running.images m.store.pages q
+  pub seen : (q : ℕ) → ((u : ℕ) → u ≢ m.running.tx → can_write m.locks u q ≡ false)
+      → clean q ≡ page_before m.running.images m.store.pages q
   pub there : (q : ℕ) → is_some (clean q) ≡ true → is_some (page_at m.store.pages q) ≡ true
 
 -- no page is written
@@ -51,6 +56,8 @@ HasCleanFile bits root m = HasFileOver bits root no_writes m
 pub record MayStep (m : Moment) : Type 0 where
   pub compatible : AreCompatible m.locks
   pub locks_there : LocksPagesThere m.locks m.store.pages
-  pub images_locked : (q : ℕ) → is_some (image_of m.running.images q) ≡ true → can_write m.locks m.running.tx q ≡ true
+  pub images_locked : (q : ℕ) → is_some (image_of m.running.images q) ≡ true
+      → can_write m.locks m.running.tx q ≡ true
   pub images_there : AreThere m.running.images m.store.pages
-  pub room : (q : ℕ) (mode : Mode) → page_count m.locks m.running.tx < 300 → HasRoom (granted m.locks m.running.tx q mode)
+  pub room : (q : ℕ) (mode : Mode) → page_count m.locks m.running.tx < 300
+      → HasRoom (granted m.locks m.running.tx q mode)

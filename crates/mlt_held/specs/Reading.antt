@@ -17,7 +17,8 @@ pub record HasReadPlace (bits : ℕ → ℕ) (root key : ℕ) (view : View) (dir
   pub bucket_is : bucket ≡ slice_index entries (row_of header (bits key))
 
 -- so is the bucket that the key leads to, and what it has of the key is known
-pub record HasReadBucket (bits : ℕ → ℕ) (root key : ℕ) (view : View) (dir bucket : ℕ) (found : Option ℕ) : Type 0 where
+pub record HasReadBucket (bits : ℕ → ℕ) (root key : ℕ) (view : View) (dir bucket : ℕ)
+    (found : Option ℕ) : Type 0 where
   pub placed : HasReadPlace bits root key view dir bucket
   pub fields : BucketFields
   pub at : view.seen bucket ≡ Some (Some (page.Bucket fields))

@@ -30,15 +30,25 @@ page_written (Some first) page = page
 
 -- what the clean pages have of page q, if it is held: what it is with its image put back
 abbrev pub seen_at : Moment → ℕ → Option (Option Page)
-seen_at m q = cond (can_read m.locks m.running.tx q) (Some (page_before m.running.images m.store.pages q)) None
+seen_at m q =
+    cond (can_read m.locks m.running.tx q)
+    (Some (page_before m.running.images m.store.pages q)) None
 
 -- what the transaction has written on page q, if it is held
 abbrev pub own_at : Moment → ℕ → Option Page
-own_at m q = cond (can_read m.locks m.running.tx q) (page_written (image_of m.running.images q) (page_at m.store.pages q)) None
+own_at m q =
+    cond (can_read m.locks m.running.tx q)
+    (page_written (image_of m.running.images q) (page_at m.store.pages q)) None
 
 -- the view of the transaction that runs
 abbrev pub view_of : Moment → View
 view_of m = record { modes = pages_of m.locks m.running.tx; seen = seen_at m; own = own_at m }
+
+-- a view that is not changed
+pub record IsSameView (old new : View) : Type 0 where
+  pub modes : new.modes ≡ old.modes
+  pub seen : (q : ℕ) → new.seen q ≡ old.seen q
+  pub own : (q : ℕ) → new.own q ≡ old.own q
 
 -- nothing is written
 abbrev pub IsUnwritten : View → Type 0
@@ -46,7 +56,8 @@ IsUnwritten view = (q : ℕ) → view.own q ≡ None
 
 -- page q, which is held, reads as this, on whatever clean pages agree with the view
 abbrev pub ReadsHeldPage : View → ℕ → Page → Type 0
-ReadsHeldPage view q page = (first : Option Page) × (view.seen q ≡ Some first) × (own_or (view.own q) first ≡ Some page)
+ReadsHeldPage view q page =
+    (first : Option Page) × (view.seen q ≡ Some first) × (own_or (view.own q) first ≡ Some page)
 
 -- and as this bucket
 abbrev pub ReadsHeldBucket : View → ℕ → BucketFields → Type 0
@@ -75,7 +86,9 @@ pub record WritesPage (old new : View) (q : ℕ) (page : Page) : Type 0 where
 
 -- slot i of page q, a bucket that was held, is set to s
 abbrev pub WritesSlot : View → View → ℕ → ℕ → Slot → Type 0
-WritesSlot old new q i s = (bucket : BucketFields) → ReadsHeldBucket old q bucket → WritesPage old new q (page_with_slot bucket i s)
+WritesSlot old new q i s =
+    (bucket : BucketFields) → ReadsHeldBucket old q bucket
+    → WritesPage old new q (page_with_slot bucket i s)
 
 -- page q, which was not there, is made and held
 pub record MakesPage (old new : View) (q : ℕ) (page : Page) : Type 0 where
@@ -108,4 +121,5 @@ pub record IsUnwrittenSince (before : FilePages) (view : View) : Type 0 where
 -- each page that was written before is held, and written
 abbrev pub HasWritten : FilePages → View → Type 0
 HasWritten before view =
-    (q : ℕ) → is_some (before q) ≡ true → (is_some (view.seen q) ≡ true) × (is_some (view.own q) ≡ true)
+    (q : ℕ) → is_some (before q) ≡ true
+    → (is_some (view.seen q) ≡ true) × (is_some (view.own q) ≡ true)

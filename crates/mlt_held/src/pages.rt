@@ -28,7 +28,8 @@ pub fn lock(subtx: &Subtx, pages: &mut LockedStore, number: PageNo, mode: Mode) 
     ensures locks { OnOk result
         (LocksPage (moment subtx.now pages.old) (moment subtx.now pages.new) number mode) }
     ensures view { OnOk result
-        (SeesPage (view_of (moment subtx.now pages.old)) (view_of (moment subtx.now pages.new)) number mode) }
+        (SeesPage (view_of (moment subtx.now pages.old)) (view_of (moment subtx.now pages.new))
+        number mode) }
     ensures leaves { Leaves (moment subtx.now pages.old) (moment subtx.now pages.new) }
     ensures waits { IfErr result (λ by.
         IsLowest (conflicts pages.old.locks subtx.now.tx number mode) by
@@ -69,7 +70,8 @@ pub fn write_held(
     ensures writes { OnOk result
         (WritesHeldPage (moment subtx.old pages.old) (moment subtx.new pages.new) number page) }
     ensures view { OnOk result
-        (WritesPage (view_of (moment subtx.old pages.old)) (view_of (moment subtx.new pages.new)) number page) }
+        (WritesPage (view_of (moment subtx.old pages.old)) (view_of (moment subtx.new pages.new))
+        number page) }
     ensures leaves { Leaves (moment subtx.old pages.old) (moment subtx.new pages.new) }
     ensures err { OnErr result ((subtx.new ≡ subtx.old) × (pages.new ≡ pages.old)) }
     ensures third { OnErr result
@@ -120,7 +122,8 @@ pub fn make_page(subtx: &mut Subtx, pages: &mut LockedStore, page: Page) -> Resu
     ensures makes { IfOk result (λ number.
         MakesLockedPage (moment subtx.old pages.old) (moment subtx.new pages.new) number page) }
     ensures view { IfOk result (λ number.
-        MakesPage (view_of (moment subtx.old pages.old)) (view_of (moment subtx.new pages.new)) number page) }
+        MakesPage (view_of (moment subtx.old pages.old)) (view_of (moment subtx.new pages.new))
+        number page) }
     ensures leaves { Leaves (moment subtx.old pages.old) (moment subtx.new pages.new) }
     ensures err { OnErr result ((subtx.new ≡ subtx.old) × (pages.new ≡ pages.old)) }
     ensures no_room { (result ≡ Err Refusal.NoRoom)

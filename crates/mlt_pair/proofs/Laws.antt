@@ -10,11 +10,11 @@ use Rattle.mlt_page_locks.specs.LockTables.{Modes, can_read, pages_of}
 use Rattle.mlt_hash_form.specs.File.{look_up}
 use Rattle.mlt_hash_form.specs.Held.{Agrees}
 use Rattle.mlt_held.specs.Moments.{Moment}
-use Rattle.mlt_held.specs.Views.{View, view_of}
+use Rattle.mlt_held.specs.Views.{IsSameView, View, view_of}
 use Rattle.mlt_held.proofs.Reading.{read_is_there}
 use Rattle.mlt_held.proofs.Views.{own_free}
 use Rattle.mlt_record.specs.Plans.{WriteFields}
-use Rattle.mlt_pair.specs.Changes.{HasChanged, IsHolding, IsSameView, KeepsNoMore, OwesIf}
+use Rattle.mlt_pair.specs.Changes.{HasChanged, IsHolding, KeepsNoMore, OwesIf}
 use Rattle.mlt_pair.specs.Pairs.{IsFinding, IsFound, PairFields, find_by}
 use Rattle.mlt_pair.specs.Ways.{HasRead, IsThere, found_of}
 use Rattle.mlt_pair.specs.declared.way.Way.{Way}

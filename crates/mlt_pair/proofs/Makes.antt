@@ -14,10 +14,10 @@ use Rattle.mlt_subtx.specs.Images.{Images, image_of}
 use Rattle.mlt_hash_form.specs.Held.{own_or}
 use Rattle.mlt_held.specs.Moments.{MayStep, Moment}
 use Rattle.mlt_held.specs.PageSteps.{WritesAtMost}
-use Rattle.mlt_held.specs.Views.{ReadsHeldBucket, View, WritesPage, view_of}
+use Rattle.mlt_held.specs.Views.{IsSameView, ReadsHeldBucket, View, WritesPage, view_of}
 use Rattle.mlt_held.proofs.Unwritten.{unwritten_image}
 use Rattle.mlt_record.specs.Plans.{WriteFields, planned_page}
-use Rattle.mlt_pair.specs.Changes.{IsFull, IsSameView, MakesAsked, OwesChange, TellsOfTwo, task_in, task_of}
+use Rattle.mlt_pair.specs.Changes.{IsFull, MakesAsked, OwesChange, TellsOfTwo, task_in, task_of}
 use Rattle.mlt_pair.specs.Pairs.{PairFields, later_of}
 use Rattle.mlt_pair.specs.Plans.{FitsSlots, IsPlanned, bucket_after}
 use Rattle.mlt_page_locks.specs.LockTables.{can_write}

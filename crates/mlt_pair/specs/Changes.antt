@@ -1,14 +1,14 @@
 -- What the changes of a pair tell, and where it stands behind them
-use Rattle.std.specs.Prelude.{ℕ, ◌≡◌, ◌≢◌, ◌<◌, ◌≤◌, ◌⊎◌, true, slice_index_or, Option, None, Some}
+use Rattle.std.specs.Prelude.{ℕ, ◌≡◌, ◌≢◌, ◌<◌, ◌≤◌, ◌⊎◌, Option, None, Some}
 use Rattle.std.specs.Ordering.{nat_cmp}
 use Rattle.std.specs.FinMap as map
 use Rattle.std.specs.FinSet as set
-use Rattle.mlt_page.specs.Slots.{is_kept}
 use Rattle.mlt_page.specs.declared.page.Page.TheVariants as page
-use Rattle.mlt_page.specs.declared.slot.Slot.TheVariants.{Free}
 use Rattle.mlt_page.specs.Values.{BucketFields}
+use Rattle.mlt_hash_form.specs.File.{FilePages, GivesPseudokeys, HasForm, lead_of, look_up}
+use Rattle.mlt_hash_form.specs.Held.{Agrees, AreKeptToo, over}
 use Rattle.mlt_held.specs.Moments.{Moment}
-use Rattle.mlt_held.specs.Views.{ReadsHeldBucket, View, WritesPage, view_of}
+use Rattle.mlt_held.specs.Views.{IsSameView, ReadsHeldBucket, View, WritesPage, view_of}
 use Rattle.mlt_record.specs.Plans.{WriteFields, planned_page}
 use Rattle.mlt_pair.specs.Pairs.{HoldsWays, IsFound, PairFields, later_page}
 use Rattle.mlt_pair.specs.Plans.{FitsFound, HasNoPlan, IsPlan}
@@ -21,16 +21,22 @@ use Rattle.mlt_pair.specs.declared.answer.Side.TheVariants as side
 
 -- what is asked fits what was found of both keys
 abbrev pub FitsBoth : Changes → PairFields → Type 0
-FitsBoth changes pair = FitsFound changes.left (found_of pair.left_way) × FitsFound changes.right (found_of pair.right_way)
+FitsBoth changes pair =
+    FitsFound changes.left (found_of pair.left_way)
+    × FitsFound changes.right (found_of pair.right_way)
 
--- a view that is not changed
-pub record IsSameView (old new : View) : Type 0 where
-  pub modes : new.modes ≡ old.modes
-  pub seen : (q : ℕ) → new.seen q ≡ old.seen q
-  pub own : (q : ℕ) → new.own q ≡ old.own q
+-- the change of a key's record in the bucket on page q fits the file as it is written, over these clean pages
+pub record FitsWritten (bits : ℕ → ℕ) (root key q : ℕ) (change : RecordChange) (view : View)
+    (clean : FilePages) : Type 0 where
+  pub bounded : GivesPseudokeys bits
+  pub agrees : Agrees view.seen clean
+  pub form : HasForm bits (over clean view.own) root
+  pub leads : lead_of (over clean view.own) root (bits key) ≡ q
+  pub fits : FitsFound (Some change) (look_up bits (over clean view.own) root key)
 
 -- transaction tx has changed the record of a key in the bucket on page q: the slot that is planned is set
-pub record MakesChange (change : RecordChange) (opens : set.FinSet nat_cmp) (tx key q : ℕ) (old new : View) : Type 0 where
+pub record MakesChange (change : RecordChange) (opens : set.FinSet nat_cmp) (tx key q : ℕ)
+    (old new : View) : Type 0 where
   pub bucket : BucketFields
   pub reads : ReadsHeldBucket old q bucket
   pub write : WriteFields
@@ -54,7 +60,8 @@ pub record OwesChange (asked : Option RecordChange) (opens : set.FinSet nat_cmp)
   pub plan : IsPlan change opens tx key q bucket write
 
 -- the bucket on page q has no room for the record that is asked for
-pub record IsFull (asked : Option RecordChange) (opens : set.FinSet nat_cmp) (tx key q : ℕ) (view : View) : Type 0 where
+pub record IsFull (asked : Option RecordChange) (opens : set.FinSet nat_cmp) (tx key q : ℕ)
+    (view : View) : Type 0 where
   pub change : RecordChange
   pub asked_is : asked ≡ Some change
   pub bucket : BucketFields
@@ -136,7 +143,9 @@ TellsOfTwo task old new before after (answer.Full side.Right) =
     IsFullBehind task old.running.tx (view_of old) × (new ≡ old) × (after ≡ before)
 
 -- by the pages of the pair's buckets
-abbrev pub TellsOfChanges : set.FinSet nat_cmp → Moment → Moment → PairFields → PairFields → Changes → ChangeAnswer → Type 0
+abbrev pub TellsOfChanges
+    : set.FinSet nat_cmp → Moment → Moment → PairFields → PairFields → Changes → ChangeAnswer
+    → Type 0
 TellsOfChanges opens old new before after changes told =
     TellsOfTwo (task_of opens before (page_of before.left_way) (page_of before.right_way) changes)
     old new before after told
@@ -150,11 +159,14 @@ pub record IsHolding (bits : ℕ → ℕ) (root : ℕ) (pair : PairFields) (view
 
 -- one of the pair's keys, with the page of its bucket
 abbrev pub IsSide : PairFields → ℕ → ℕ → Type 0
-IsSide pair key q = ((key ≡ pair.left) × (q ≡ page_of pair.left_way)) ⊎ ((key ≡ pair.right) × (q ≡ page_of pair.right_way))
+IsSide pair key q =
+    ((key ≡ pair.left) × (q ≡ page_of pair.left_way))
+    ⊎ ((key ≡ pair.right) × (q ≡ page_of pair.right_way))
 
 -- The write that is owed is the change of a key's record, planned when `planners` were open: no slot's room is kept now that
 -- was not then. Its bucket is the earlier one, and is as it was read.
-pub record Owes (opens : set.FinSet nat_cmp) (tx : ℕ) (pair : PairFields) (view : View) (write : WriteFields) : Type 0 where
+pub record Owes (opens : set.FinSet nat_cmp) (tx : ℕ) (pair : PairFields) (view : View)
+    (write : WriteFields) : Type 0 where
   pub key : ℕ
   pub change : RecordChange
   pub planners : set.FinSet nat_cmp
@@ -163,43 +175,53 @@ pub record Owes (opens : set.FinSet nat_cmp) (tx : ℕ) (pair : PairFields) (vie
   pub earlier : write.number ≢ later_page pair
   pub seen : view.seen write.number ≡ Some (Some (page.Bucket bucket))
   pub plan : IsPlan change planners tx key write.number bucket write
-  pub fewer : (i : ℕ) → is_kept opens (slice_index_or bucket.slots i Free) ≡ true → is_kept planners (slice_index_or bucket.slots i Free) ≡ true
+  pub fewer : AreKeptToo opens planners bucket
 
 abbrev pub OwesIf : Option WriteFields → set.FinSet nat_cmp → ℕ → PairFields → View → Type 0
 OwesIf None opens tx pair view = Unit {0}
 OwesIf (Some write) opens tx pair view = Owes opens tx pair view write
 
 -- A pair has changed its later bucket at most, and may owe the change of the earlier one.
-pub record HasChanged (bits : ℕ → ℕ) (root : ℕ) (opens : set.FinSet nat_cmp) (tx : ℕ) (pair : PairFields) (view : View) : Type 0 where
+pub record HasChanged (bits : ℕ → ℕ) (root : ℕ) (opens : set.FinSet nat_cmp) (tx : ℕ)
+    (pair : PairFields) (view : View) : Type 0 where
   pub found : IsFound pair
   pub holding : IsHolding bits root pair view
   pub unwritten : (q : ℕ) → q ≢ later_page pair → view.own q ≡ None
   pub owes : OwesIf pair.owed opens tx pair view
 
 -- where a pair stands that has made its changes
-abbrev pub StandsBehind : ChangeAnswer → (ℕ → ℕ) → ℕ → set.FinSet nat_cmp → ℕ → PairFields → View → Type 0
+abbrev pub StandsBehind
+    : ChangeAnswer → (ℕ → ℕ) → ℕ → set.FinSet nat_cmp → ℕ → PairFields → View → Type 0
 StandsBehind answer.Changed bits root opens tx pair view = HasChanged bits root opens tx pair view
 StandsBehind answer.OneLeft bits root opens tx pair view = HasChanged bits root opens tx pair view
 StandsBehind (answer.Full side) bits root opens tx pair view = Unit {0}
 
 -- What the last step of a pair asks: it has changed its later bucket at most, and owes the change of the earlier one.
 abbrev pub MayWriteEarlier : ℕ → PairFields → View → Type 0
-MayWriteEarlier tx pair view = (bits : ℕ → ℕ) × (root : ℕ) × (opens : set.FinSet nat_cmp) × HasChanged bits root opens tx pair view
+MayWriteEarlier tx pair view =
+    (bits : ℕ → ℕ) × (root : ℕ) × (opens : set.FinSet nat_cmp)
+    × HasChanged bits root opens tx pair view
 
 -- the change that was owed is made
 abbrev pub MakesOwed : ℕ → PairFields → View → View → Type 0
-MakesOwed tx pair old new = (opens : set.FinSet nat_cmp) (write : WriteFields) → pair.owed ≡ Some write
-    → (owes : Owes opens tx pair old write) → MakesChange owes.change owes.planners tx owes.key write.number old new
+MakesOwed tx pair old new =
+    (opens : set.FinSet nat_cmp) (write : WriteFields) → pair.owed ≡ Some write
+    → (owes : Owes opens tx pair old write)
+    → MakesChange owes.change owes.planners tx owes.key write.number old new
 
 -- what was read and held is so still
 abbrev pub HoldsOn : PairFields → View → View → Type 0
-HoldsOn pair old new = (bits : ℕ → ℕ) (root : ℕ) → IsHolding bits root pair old → IsHolding bits root (record pair { owed = None }) new
+HoldsOn pair old new =
+    (bits : ℕ → ℕ) (root : ℕ) → IsHolding bits root pair old
+    → IsHolding bits root (record pair { owed = None }) new
 
 -- on the buckets that are held no slot's room is kept now that was not before
 abbrev pub KeepsNoMore : set.FinSet nat_cmp → set.FinSet nat_cmp → View → Type 0
-KeepsNoMore before now view = (q : ℕ) (bucket : BucketFields) → view.seen q ≡ Some (Some (page.Bucket bucket))
-    → (i : ℕ) → is_kept now (slice_index_or bucket.slots i Free) ≡ true → is_kept before (slice_index_or bucket.slots i Free) ≡ true
+KeepsNoMore before now view =
+    (q : ℕ) (bucket : BucketFields) → view.seen q ≡ Some (Some (page.Bucket bucket))
+    → AreKeptToo now before bucket
 
 -- of the pages that are held only the two buckets are written
 abbrev pub WritesBucketsAlone : PairFields → View → Type 0
-WritesBucketsAlone pair view = (q : ℕ) → q ≢ page_of pair.left_way → q ≢ page_of pair.right_way → view.own q ≡ None
+WritesBucketsAlone pair view =
+    (q : ℕ) → q ≢ page_of pair.left_way → q ≢ page_of pair.right_way → view.own q ≡ None

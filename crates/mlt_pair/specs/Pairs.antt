@@ -26,7 +26,8 @@ pub record PairFields : Type 0 where
 
 -- a pair that has read nothing
 abbrev pub find_by : ℕ → ℕ → PairFields
-find_by left right = record { left = left; right = right; left_way = at.Start; right_way = at.Start; owed = None }
+find_by left right =
+    record { left = left; right = right; left_way = at.Start; right_way = at.Start; owed = None }
 
 -- The two ways go on together: both read the header; then the pages of the directory come before the buckets; and where one
 -- bucket is read and the other is not, the first has the lower page.
@@ -90,7 +91,9 @@ mode_next pair = next_mode (next_way pair.left_way pair.right_way)
 
 -- Which pages are held: exactly those of the two ways, each in its mode.
 abbrev pub HoldsWays : ℕ → Way → Way → View → Type 0
-HoldsWays root left right view = (q : ℕ) (mode : Mode) → (map.get view.modes q ≡ Some mode) ↔ (IsLocked root left q mode ⊎ IsLocked root right q mode)
+HoldsWays root left right view =
+    (q : ℕ) (mode : Mode)
+    → (map.get view.modes q ≡ Some mode) ↔ (IsLocked root left q mode ⊎ IsLocked root right q mode)
 
 -- A pair is on its way, or has found its keys, and has written nothing.
 pub record IsFinding (bits : ℕ → ℕ) (root : ℕ) (pair : PairFields) (view : View) : Type 0 where

@@ -39,17 +39,21 @@ is_before (at.AtBucket dir bucket found) other = false
 
 -- where the way of a key is once it has read its next page
 abbrev pub way_by_header : (ℕ → ℕ) → ℕ → HeadFields → Way
-way_by_header bits key header = at.Headed (place_of header (bits key)) (dir_of header (bits key)) (row_of header (bits key))
+way_by_header bits key header =
+    at.Headed (place_of header (bits key)) (dir_of header (bits key)) (row_of header (bits key))
 
 abbrev pub way_by : (ℕ → ℕ) → ℕ → Way → Page → Way
 way_by bits key at.Start (page.Head header) = way_by_header bits key header
-way_by bits key (at.Headed place dir row) (page.Dir entries) = at.Placed dir (slice_index entries row)
-way_by bits key (at.Placed dir bucket) (page.Bucket fields) = at.AtBucket dir bucket (value_in key fields.slots)
+way_by bits key (at.Headed place dir row) (page.Dir entries) =
+    at.Placed dir (slice_index entries row)
+way_by bits key (at.Placed dir bucket) (page.Bucket fields) =
+    at.AtBucket dir bucket (value_in key fields.slots)
 way_by bits key way page = way
 
 -- and once page `number` is read, which may be its next one
 abbrev pub way_after : (ℕ → ℕ) → ℕ → ℕ → Way → ℕ → Page → Way
-way_after bits root key way number page = if number == next_page root way then way_by bits key way page else way
+way_after bits root key way number page =
+    if number == next_page root way then way_by bits key way page else way
 
 -- the way whose next page is locked first
 abbrev pub next_way : Way → Way → Way

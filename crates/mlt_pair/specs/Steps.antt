@@ -17,15 +17,18 @@ pub record ReadsOn (root q : ℕ) (before after : Way) : Type 0 where
   pub other : (IsNext root before q → ⊥) → after ≡ before
 
 -- The next page was locked and read, and that is all. The steps that are left are as many as before, but for this one.
-pub record GoesOn (bits : ℕ → ℕ) (root : ℕ) (old new : Moment) (before after : PairFields) : Type 0 where
+pub record GoesOn (bits : ℕ → ℕ) (root : ℕ) (old new : Moment) (before after : PairFields)
+    : Type 0 where
   pub left_key : after.left ≡ before.left
   pub right_key : after.right ≡ before.right
   pub locks : LocksPage old new (page_next root before) (mode_next before)
   pub left : ReadsOn root (page_next root before) before.left_way after.left_way
   pub right : ReadsOn root (page_next root before) before.right_way after.right_way
   pub finding : IsFinding bits root after (view_of new)
-  pub least : least_steps before.left_way before.right_way ≤ least_steps after.left_way after.right_way + 1
-  pub most : most_steps after.left_way after.right_way + 1 ≤ most_steps before.left_way before.right_way
+  pub least : least_steps before.left_way before.right_way
+      ≤ least_steps after.left_way after.right_way + 1
+  pub most : most_steps after.left_way after.right_way + 1
+      ≤ most_steps before.left_way before.right_way
 
 -- the key is at its bucket, and has this value there, or none
 abbrev pub HasFound : Way → Option ℕ → Type 0
@@ -34,7 +37,8 @@ HasFound other value = ⊥
 
 -- A step to the buckets: it goes on, with more to come, or has found the values of both keys, with the later bucket read last,
 -- or waits for the next page, told the lowest transaction whose lock stands against its own, and nothing has changed.
-abbrev pub TellsOfStep : (ℕ → ℕ) → ℕ → Moment → Moment → PairFields → PairFields → PairAnswer → Type 0
+abbrev pub TellsOfStep
+    : (ℕ → ℕ) → ℕ → Moment → Moment → PairFields → PairFields → PairAnswer → Type 0
 TellsOfStep bits root old new before after answer.Going =
     GoesOn bits root old new before after × IsUnderWay after
 TellsOfStep bits root old new before after (answer.Waiting page by) =

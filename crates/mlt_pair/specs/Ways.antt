@@ -24,14 +24,16 @@ abbrev pub HasRead : (ℕ → ℕ) → ℕ → ℕ → View → Way → Type 0
 HasRead bits root key view at.Start = Unit {0}
 HasRead bits root key view (at.Headed place dir row) = IsHeaded bits root key view place dir row
 HasRead bits root key view (at.Placed dir bucket) = HasReadPlace bits root key view dir bucket
-HasRead bits root key view (at.AtBucket dir bucket found) = HasReadBucket bits root key view dir bucket found
+HasRead bits root key view (at.AtBucket dir bucket found) =
+    HasReadBucket bits root key view dir bucket found
 
 -- Page q is locked for this way, in this mode: the header and the directory page shared, and the bucket exclusively.
 abbrev pub IsLocked : ℕ → Way → ℕ → Mode → Type 0
 IsLocked root at.Start q mode = ⊥
 IsLocked root (at.Headed place dir row) q mode = (q ≡ root) × (mode ≡ Shared)
 IsLocked root (at.Placed dir bucket) q mode = ((q ≡ root) ⊎ (q ≡ dir)) × (mode ≡ Shared)
-IsLocked root (at.AtBucket dir bucket found) q mode = (((q ≡ root) ⊎ (q ≡ dir)) × (mode ≡ Shared)) ⊎ ((q ≡ bucket) × (mode ≡ Exclusive))
+IsLocked root (at.AtBucket dir bucket found) q mode =
+    (((q ≡ root) ⊎ (q ≡ dir)) × (mode ≡ Shared)) ⊎ ((q ≡ bucket) × (mode ≡ Exclusive))
 
 -- page q is the next one of the way
 abbrev pub IsNext : ℕ → Way → ℕ → Type 0

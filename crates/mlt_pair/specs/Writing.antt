@@ -20,11 +20,14 @@ use Rattle.mlt_pair.specs.declared.plan.Plan.TheVariants as plan
 
 -- page q reads as a bucket that what is asked fits
 abbrev pub MayPlan : Option RecordChange → ℕ → ℕ → View → Type 0
-MayPlan asked key q view = (bucket : BucketFields) × ReadsHeldBucket view q bucket × FitsSlots asked key bucket.slots
+MayPlan asked key q view =
+    (bucket : BucketFields) × ReadsHeldBucket view q bucket × FitsSlots asked key bucket.slots
 
 -- what is planned there
 abbrev pub HasPlan : Plan → Option RecordChange → set.FinSet nat_cmp → ℕ → ℕ → ℕ → View → Type 0
-HasPlan plan asked opens tx key q view = (bucket : BucketFields) × ReadsHeldBucket view q bucket × IsPlanned plan asked opens tx key q bucket
+HasPlan plan asked opens tx key q view =
+    (bucket : BucketFields) × ReadsHeldBucket view q bucket
+    × IsPlanned plan asked opens tx key q bucket
 
 -- both changes in one bucket, the left one first
 abbrev pub TellsOfOne : Task → Moment → Moment → ChangeAnswer → Type 0
@@ -63,5 +66,6 @@ WritesPlan plan.Full old new = new ≡ old
 -- a plan is owed, if a slot is to be set
 abbrev pub OwesPlan : Plan → PairFields → PairFields → ChangeAnswer → Type 0
 OwesPlan plan.Nothing before after told = (after ≡ before) × (told ≡ answer.Changed)
-OwesPlan (plan.Set write) before after told = (after ≡ record before { owed = Some write }) × (told ≡ answer.OneLeft)
+OwesPlan (plan.Set write) before after told =
+    (after ≡ record before { owed = Some write }) × (told ≡ answer.OneLeft)
 OwesPlan plan.Full before after told = (after ≡ before) × (told ≡ answer.Changed)

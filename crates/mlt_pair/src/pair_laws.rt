@@ -1,19 +1,19 @@
 //! What a pair knows, whatever other transactions do.
 
-ghost use Rattle.std.specs.Prelude.{ℕ, ◌≡◌, ◌≢◌, Option, Some};
+ghost use Rattle.std.specs.Prelude.{ℕ, ◌≡◌, ◌≢◌, Option};
 ghost use Rattle.std.specs.Ordering.{nat_cmp};
 ghost use Rattle.std.specs.FinMap as map;
 ghost use Rattle.std.specs.FinSet as set;
 ghost use Rattle.mlt_page.specs.declared.page.Page.{Page};
 ghost use Rattle.mlt_page_locks.specs.LockTables.{pages_of};
-ghost use Rattle.mlt_hash_form.specs.File.{GivesPseudokeys, HasForm, lead_of, look_up};
+ghost use Rattle.mlt_hash_form.specs.File.{lead_of, look_up};
 ghost use Rattle.mlt_hash_form.specs.Held.{Agrees, over};
 ghost use Rattle.mlt_hash_form.specs.Changes.{ChangesRecord, slot_change};
 ghost use Rattle.mlt_held.specs.Moments.{Moment};
-ghost use Rattle.mlt_held.specs.Views.{View, view_of};
+ghost use Rattle.mlt_held.specs.Views.{IsSameView, View, view_of};
 ghost use Rattle.mlt_pair.specs.Ways.{found_of, page_of};
-ghost use Rattle.mlt_pair.specs.Changes.{HasChanged, IsHolding, IsSameView, KeepsNoMore, MakesChange, WritesBucketsAlone};
-ghost use Rattle.mlt_pair.specs.Plans.{FitsFound, slot_after, value_after};
+ghost use Rattle.mlt_pair.specs.Changes.{FitsWritten, HasChanged, IsHolding, KeepsNoMore, MakesChange, WritesBucketsAlone};
+ghost use Rattle.mlt_pair.specs.Plans.{slot_after, value_after};
 ghost use Rattle.mlt_pair.specs.declared.asked.RecordChange.{RecordChange};
 ghost use Rattle.mlt_pair.specs.Pairs.{IsFinding, IsFound, PairFields, find_by};
 
@@ -70,10 +70,7 @@ pub fn keys_lead_to_their_buckets()
 pub fn each_change_changes_one_record()
     ensures { (bits : ℕ → ℕ) (root : ℕ) (opens : set.FinSet nat_cmp) (tx key q : ℕ)
         (change : RecordChange) (old new : View) (clean : ℕ → Option Page)
-        → GivesPseudokeys bits → Agrees old.seen clean
-        → HasForm bits (over clean old.own) root
-        → lead_of (over clean old.own) root (bits key) ≡ q
-        → FitsFound (Some change) (look_up bits (over clean old.own) root key)
+        → FitsWritten bits root key q change old clean
         → (makes : MakesChange change opens tx key q old new)
         → ChangesRecord bits (over clean old.own) (over clean new.own) root
         (slot_change key (value_after change) q makes.write.at (slot_after change key tx)) }

@@ -11,9 +11,9 @@ use Rattle.mlt_page_locks.proofs.Maps.{get_inserted}
 use Rattle.mlt_page_locks.specs.LockTables.{KeepsOthers, LockTable, Modes, allows_write, can_read, can_write, pages_of}
 use Rattle.mlt_page_locks.proofs.LockLaws.{granted_keeps_others}
 use Rattle.mlt_subtx.specs.Images.{AreThere, Running, image_of, or_image}
-use Rattle.mlt_held.specs.Moments.{MayStep, Moment, page_before}
+use Rattle.mlt_held.specs.Moments.{MayStep, Moment, beside, page_before}
 use Rattle.mlt_held.specs.PageSteps.{LocksAtMost, LocksPage, MakesLockedPage, TouchesOnePage, WritesAtMost, WritesHeldPage}
-use Rattle.mlt_held.specs.Views.{page_written, view_of}
+use Rattle.mlt_held.specs.Views.{IsSameView, page_written, view_of}
 use Rattle.mlt_held.proofs.Moments.{fresh_is_free, may_after_lock_at_most, there_after_insert}
 
 -- a step on pages of the transaction tx: others' locks stay, and so do the pages that they hold, and no page goes
@@ -117,23 +117,18 @@ pub same_where_held : {X : Type 0} (b c : Bool) (x y z : X) → c ≡ b → (b �
 same_where_held true c x y z same is = ap (λ b. cond b y z) same ∙ is refl
 same_where_held false c x y z same is = ap (λ b. cond b y z) same
 
--- the moment as a transaction has it that runs beside
-abbrev beside : Moment → Running → Moment
-beside m running = record { running = running; locks = m.locks; store = m.store }
-
 pub same_view : (old new : Moment) (running : Running) → MayStep old → TouchesOnePage old new → (running.tx ≢ old.running.tx)
-    → ((view_of (beside new running)).modes ≡ (view_of (beside old running)).modes)
-    × ((q : ℕ) → (view_of (beside new running)).seen q ≡ (view_of (beside old running)).seen q)
-    × ((q : ℕ) → (view_of (beside new running)).own q ≡ (view_of (beside old running)).own q)
+    → IsSameView (view_of (beside old running)) (view_of (beside new running))
 same_view old new running may step ne =
     let leaves = step_leaves old new may step in
-    let locks = leaves.locks running.tx ne in (
-      locks,
-      λ q. same_where_held (can_read old.locks running.tx q) (can_read new.locks running.tx q) (Some (page_before running.images old.store.pages q)) (Some (page_before running.images new.store.pages q)) None (reads_alike old.locks new.locks running.tx q locks)
-          (λ reads. ap (λ (page : Option Page). Some (or_image (image_of running.images q) page)) (leaves.pages running.tx q ne reads)),
-      λ q. same_where_held (can_read old.locks running.tx q) (can_read new.locks running.tx q) (page_written (image_of running.images q) (page_at old.store.pages q)) (page_written (image_of running.images q) (page_at new.store.pages q)) None (reads_alike old.locks new.locks running.tx q locks)
-          (λ reads. ap (page_written (image_of running.images q)) (leaves.pages running.tx q ne reads)),
-    )
+    let locks = leaves.locks running.tx ne in
+    record {
+      modes = locks;
+      seen = λ q. same_where_held (can_read old.locks running.tx q) (can_read new.locks running.tx q) (Some (page_before running.images old.store.pages q)) (Some (page_before running.images new.store.pages q)) None (reads_alike old.locks new.locks running.tx q locks)
+          (λ reads. ap (λ (page : Option Page). Some (or_image (image_of running.images q) page)) (leaves.pages running.tx q ne reads));
+      own = λ q. same_where_held (can_read old.locks running.tx q) (can_read new.locks running.tx q) (page_written (image_of running.images q) (page_at old.store.pages q)) (page_written (image_of running.images q) (page_at new.store.pages q)) None (reads_alike old.locks new.locks running.tx q locks)
+          (λ reads. ap (page_written (image_of running.images q)) (leaves.pages running.tx q ne reads));
+    }
 
 pub same_writes : (old new : Moment) (running : Running) → MayStep old → TouchesOnePage old new → (running.tx ≢ old.running.tx)
     → AreThere running.images old.store.pages → ((q : ℕ) → is_some (image_of running.images q) ≡ true → can_write old.locks running.tx q ≡ true)
