@@ -11,7 +11,7 @@ use Rattle.mlt_page_locks.specs.LockTables.{Modes}
 use Rattle.mlt_store.specs.Stores.{page_at}
 use Rattle.mlt_hash_form.specs.File.{HasForm, buckets_of, bucket_of, depth_of, dirs_of, entry, header_of}
 use Rattle.mlt_hash_form.specs.Held.{Agrees, over, own_or}
-use Rattle.mlt_hash_form.specs.Splits.{IsMidway, prefix_of, target_of, bucket_split}
+use Rattle.mlt_hash_form.specs.Splits.{IsDoubled, IsMidway, prefix_of, target_of, bucket_split}
 use Rattle.mlt_hash_form.proofs.HeldPages.{writes_over}
 use Rattle.mlt_hash_form.proofs.PageContents.{doubled_right}
 use Rattle.mlt_hash_form.proofs.SplitSteps.{page_as_it_was, pages_when_doubled, rewrites_a_page, set_is_longer}
@@ -154,13 +154,12 @@ module _ (aim : Aim) (m : Moment) (split : SplitFields) (place number : ℕ) (he
       (next_now.0, cc)
 
 -- what the two pages hold that are made of a page of the old directory
-pub record IsDoubled (split : SplitFields) (dir made : List ℕ) (j : ℕ) : Type 0 where
+pub record IsMadeOf (split : SplitFields) (dir made : List ℕ) (j : ℕ) : Type 0 where
   pub size : length made ≡ 256
-  pub others : (r : ℕ) → r < 256 → (256 * j + r ≡ 2 * first_bits split.directory_depth split.seed + 1 → ⊥) → slice_index made r ≡ slice_index dir (128 * (j % 2) + r / 2)
-  pub here : (r : ℕ) → r < 256 → 256 * j + r ≡ 2 * first_bits split.directory_depth split.seed + 1 → slice_index made r ≡ split.new_page
+  pub entries : IsDoubled dir made j (2 * first_bits split.directory_depth split.seed + 1) split.new_page
 
 module _ (aim : Aim) (view mid view' : View) (split : SplitFields) (place number : ℕ) (header : HeadFields) (dir first second : List ℕ) (phase : split.phase ≡ at.Double place) (under : IsUnderWay aim view split) (read : held_page view aim.root ≡ Some (page.Head header)) (is : number ≡ slice_index header.dirs place)
-    (ne : aim.root ≡ number → ⊥) (reads : ReadsPage view mid number Exclusive (Some (page.Dir dir))) (writes : WritesPage mid view' number (page.Dir first)) (sized : 2 * place < length split.made.dirs) (one : IsDoubled split dir first (2 * place)) (two : IsDoubled split dir second (2 * place + 1)) where
+    (ne : aim.root ≡ number → ⊥) (reads : ReadsPage view mid number Exclusive (Some (page.Dir dir))) (writes : WritesPage mid view' number (page.Dir first)) (sized : 2 * place < length split.made.dirs) (one : IsMadeOf split dir first (2 * place)) (two : IsMadeOf split dir second (2 * place + 1)) where
   rewritten : Rewrites view view' number (page.Dir first)
   rewritten = rewrites view mid view' number (Some (page.Dir dir)) (page.Dir first) reads writes
 
@@ -188,14 +187,14 @@ module _ (aim : Aim) (view mid view' : View) (split : SplitFields) (place number
           writes = writes_over clean view.own view'.own number (page.Dir first) rewritten.here rewritten.others;
           longer = set_is_longer split.made.dirs (2 * place) number sized;
           size = one.size;
-          right = doubled_is_right aim view split place under clean agree form stood dir first (2 * place) (omega arith) dir_read one.others one.here;
+          right = doubled_is_right aim view split place under clean agree form stood dir first (2 * place) (omega arith) dir_read one.entries.others one.entries.here;
         })
         (next_in_base aim view split place under clean agree form stood)
         (ap (λ (dirs : List ℕ). slice_index dirs place) (base_dirs aim view split place under clean agree form stood) ∙ sym listed_as)
 
     -- and the page of the second half is right
     pub second_is_right : (r : ℕ) → r < 256 → slice_index second r ≡ target_of (over clean under.rest) aim.root split.old_page split.new_page (seed_of aim) split.made.depth (256 * (2 * place + 1) + r)
-    second_is_right = doubled_is_right aim view split place under clean agree form stood dir second (2 * place + 1) (omega arith) dir_read two.others two.here
+    second_is_right = doubled_is_right aim view split place under clean agree form stood dir second (2 * place + 1) (omega arith) dir_read two.entries.others two.entries.here
 
   abbrev pub renamed : HeadFields
   renamed = record split.made { dirs = slice_set split.made.dirs (2 * place) number }
@@ -242,8 +241,8 @@ pub record IsRewrite (aim : Aim) (old mid new : Moment) (split : SplitFields) (p
   pub listed : number ≡ slice_index header.dirs place
   pub reads : ReadsPage (view_over aim.before old) (view_over aim.before mid) number Exclusive (Some (page.Dir dir))
   pub writes : WritesPage (view_over aim.before mid) (view_over aim.before new) number (page.Dir first)
-  pub one : IsDoubled split dir first (2 * place)
-  pub two : IsDoubled split dir second (2 * place + 1)
+  pub one : IsMadeOf split dir first (2 * place)
+  pub two : IsMadeOf split dir second (2 * place + 1)
   pub sized : length split.made.dirs ≡ 256
 
 -- **The split goes on once a page of the old directory is rewritten.**

@@ -14,7 +14,7 @@ use Rattle.mlt_hash_form.specs.File.{HasForm, Writes, bucket_of, buckets_of, dep
 use Rattle.mlt_hash_form.specs.Held.{Agrees, over, own_or}
 use Rattle.mlt_hash_form.specs.Form.{half_of}
 use Rattle.mlt_page.specs.Bits.{bit_at}
-use Rattle.mlt_hash_form.specs.Splits.{IsMidway, run_length, run_start, target_of, bucket_split}
+use Rattle.mlt_hash_form.specs.Splits.{HasNewPlaces, IsMidway, run_length, run_start, target_of, bucket_split}
 use Rattle.mlt_hash_form.proofs.HeldPages.{keeps_more}
 use Rattle.mlt_hash_form.proofs.PageContents.{placed_right}
 use Rattle.mlt_hash_form.proofs.SplitSteps.{page_as_it_was, rewrites_a_page}
@@ -38,10 +38,9 @@ pub record AreNewPlaces (split : SplitFields) (first count : ℕ) : Type 0 where
   pub count_is : count ≡ 2 ^ (split.directory_depth - (split.depth + 1))
 
 -- page `place` of the directory, with the new bucket at those of its places that the bucket gets
-pub record HasNewPlaces (old made : List ℕ) (place first count bucket : ℕ) : Type 0 where
+pub record IsMadeInPlace (old made : List ℕ) (place first count bucket : ℕ) : Type 0 where
   pub size : length made ≡ 256
-  pub inside : (r : ℕ) → r < 256 → first ≤ 256 * place + r → 256 * place + r < first + count → slice_index made r ≡ bucket
-  pub outside : (r : ℕ) → r < 256 → (256 * place + r < first) ⊎ (first + count ≤ 256 * place + r) → slice_index made r ≡ slice_index old r
+  pub entries : HasNewPlaces old made place first count bucket
 
 module _ (aim : Aim) (splitters : set.FinSet nat_cmp) (base pages : ℕ → Option Page) (split : SplitFields) (bucket : BucketFields) (place end : ℕ) (header : HeadFields) (b : Begins aim base split bucket) (s : IsInPlace aim splitters base pages split place end) (head : pages aim.root ≡ Some (page.Head header)) where
   header_is : header_of (base aim.root) ≡ header
@@ -67,7 +66,7 @@ module _ (aim : Aim) (splitters : set.FinSet nat_cmp) (base pages : ℕ → Opti
       let q : Some (page.Head header) ≡ Some (page.Dir p.0) = sym head ∙ ap pages e ∙ p.1 in
       cc
 
-  module _ (pages' : ℕ → Option Page) (dir made : List ℕ) (first count : ℕ) (places : AreNewPlaces split first count) (has : HasNewPlaces dir made place first count split.new_page) (reads : pages (slice_index header.dirs place) ≡ Some (page.Dir dir)) (writes : Writes pages pages' (slice_index header.dirs place) (page.Dir made)) where
+  module _ (pages' : ℕ → Option Page) (dir made : List ℕ) (first count : ℕ) (places : AreNewPlaces split first count) (has : IsMadeInPlace dir made place first count split.new_page) (reads : pages (slice_index header.dirs place) ≡ Some (page.Dir dir)) (writes : Writes pages pages' (slice_index header.dirs place) (page.Dir made)) where
     depth_is : split.depth ≡ (buckets_of base split.old_page).depth
     depth_is = sym (ap (λ (p : Option Page). (bucket_of p).depth) b.was ∙ b.depth)
 
@@ -86,8 +85,8 @@ module _ (aim : Aim) (splitters : set.FinSet nat_cmp) (base pages : ℕ → Opti
 
     right : (r : ℕ) → r < 256 → slice_index made r ≡ target_of base aim.root split.old_page split.new_page (seed_of aim) (depth_of base aim.root) (256 * place + r)
     right = placed_right aim.bits base aim.root split.old_page split.new_page (seed_of aim) place dir made b.may was
-        (λ r h le lt. has.inside r h (omega (arith, start_is, le)) (omega (arith, start_is, length_is, lt)))
-        (subst (λ (p : ℕ × ℕ). (r : ℕ) → r < 256 → (256 * place + r < p.0) ⊎ (p.0 + p.1 ≤ 256 * place + r) → slice_index made r ≡ slice_index dir r) (λ i. (start_is i, length_is i)) has.outside)
+        (λ r h le lt. has.entries.inside r h (omega (arith, start_is, le)) (omega (arith, start_is, length_is, lt)))
+        (subst (λ (p : ℕ × ℕ). (r : ℕ) → r < 256 → (256 * place + r < p.0) ⊎ (p.0 + p.1 ≤ 256 * place + r) → slice_index made r ≡ slice_index dir r) (λ i. (start_is i, length_is i)) has.entries.outside)
 
     filled_in_base : IsMidway (bucket_split aim.bits splitters base aim.root split.old_page split.new_page (seed_of aim)) (depth_of base aim.root) pages' (dirs_of base aim.root) (place + 1) (place + 1)
     filled_in_base =
@@ -170,7 +169,7 @@ module _ (aim : Aim) (m : Moment) (split : SplitFields) (place end : ℕ) (may :
     pub next_is_dir : (mid : View) (read : Option Page) → ReadsPage (view_over aim.before m) mid q Exclusive read → Agrees mid.seen file.clean → (dir : List ℕ) × (read ≡ Some (page.Dir dir))
     next_is_dir mid read reads agrees = let p = next_over in (p.0, sym (reads_over (view_over aim.before m) mid q Exclusive read file.clean reads agrees) ∙ p.1)
 
-    module _ (new : Moment) (mid : View) (dir made : List ℕ) (first count : ℕ) (places : AreNewPlaces split first count) (has : HasNewPlaces dir made place first count split.new_page) (reads : ReadsPage (view_over aim.before m) mid q Exclusive (Some (page.Dir dir))) (writes : WritesPage mid (view_over aim.before new) q (page.Dir made)) where
+    module _ (new : Moment) (mid : View) (dir made : List ℕ) (first count : ℕ) (places : AreNewPlaces split first count) (has : IsMadeInPlace dir made place first count split.new_page) (reads : ReadsPage (view_over aim.before m) mid q Exclusive (Some (page.Dir dir))) (writes : WritesPage mid (view_over aim.before new) q (page.Dir made)) where
       rewritten : Rewrites (view_over aim.before m) (view_over aim.before new) q (page.Dir made)
       rewritten = rewrites (view_over aim.before m) mid (view_over aim.before new) q (Some (page.Dir dir)) (page.Dir made) reads writes
 

@@ -5,13 +5,13 @@ use Rattle.std.specs.Ordering.{nat_cmp}
 use Rattle.std.specs.FinMap as map
 use Rattle.std.specs.FinSet as set
 use Rattle.mlt_types.specs.declared.mode.Mode.TheVariants.{Exclusive}
-use Rattle.mlt_page.specs.Slots.{is_ghost_of, is_kept, is_live_of}
+use Rattle.mlt_page.specs.Slots.{is_ghost_of, is_live_of}
 use Rattle.mlt_page.specs.declared.slot.Slot.TheVariants.{Free}
 use Rattle.mlt_page.specs.Values.{BucketFields, HeadFields}
 use Rattle.mlt_page.specs.declared.page.Page.{Page}
 use Rattle.mlt_page.specs.declared.page.Page.TheVariants as page
 use Rattle.mlt_hash_form.specs.File.{FilePages, HasForm, bucket_of, lead_of}
-use Rattle.mlt_hash_form.specs.Held.{Agrees, KeepsFile, over, own_or}
+use Rattle.mlt_hash_form.specs.Held.{Agrees, AreKeptToo, KeepsFile, over, own_or}
 use Rattle.mlt_hash_form.specs.Room.{is_crowded}
 use Rattle.mlt_held.specs.Views.{View}
 use Rattle.mlt_split.specs.declared.setting.Setting.{Setting}
@@ -70,7 +70,8 @@ most_held before l g = before + 2 + l + 2 ^ (g - 8)
 -- The file that a walk has written so far is a hash file with its slots rearranged. The key leads to the bucket on
 -- page n, which the walk holds exclusively. It has neither a record of the key nor the owner's ghost of it, and there is
 -- a depth at which the key finds room. One key has 17 buckets at most: the first one, and one of each split.
-pub record IsAtRest (aim : Aim) (view : View) (n : ℕ) (header : HeadFields) (bucket : BucketFields) : Type 0 where
+pub record IsAtRest (aim : Aim) (view : View) (n : ℕ) (header : HeadFields) (bucket : BucketFields)
+    : Type 0 where
   pub bounded : (k : ℕ) → aim.bits k < 2 ^ 64
   pub keeps : KeepsFile aim.bits aim.opens aim.root view.seen view.own
   pub leads : (clean : ℕ → Option Page) → Agrees view.seen clean → HasForm aim.bits clean aim.root
@@ -81,7 +82,8 @@ pub record IsAtRest (aim : Aim) (view : View) (n : ℕ) (header : HeadFields) (b
   pub found : held_page view n ≡ Some (page.Bucket bucket)
   pub exclusive : map.get view.modes n ≡ Some Exclusive
   pub absent : (i : ℕ) → is_live_of aim.key (slice_index_or bucket.slots i Free) ≡ false
-  pub no_ghost : (i : ℕ) → is_ghost_of aim.key aim.owner (slice_index_or bucket.slots i Free) ≡ false
+  pub no_ghost : (i : ℕ)
+      → is_ghost_of aim.key aim.owner (slice_index_or bucket.slots i Free) ≡ false
   pub room : is_crowded aim.bits aim.opens aim.room_depth (seed_of aim) bucket.slots ≡ false
   pub small : aim.room_depth ≤ 16
   pub few_before : aim.held_before ≤ 17
@@ -91,6 +93,4 @@ pub record IsAtRest (aim : Aim) (view : View) (n : ℕ) (header : HeadFields) (b
 -- on the pages that are held no slot's room is kept now that was not before
 abbrev pub KeepsNoMore : set.FinSet nat_cmp → set.FinSet nat_cmp → View → Type 0
 KeepsNoMore before now view =
-    (n : ℕ) (p : Option Page) → view.seen n ≡ Some p → (i : ℕ)
-    → is_kept now (slice_index_or (bucket_of p).slots i Free) ≡ true
-    → is_kept before (slice_index_or (bucket_of p).slots i Free) ≡ true
+    (n : ℕ) (p : Option Page) → view.seen n ≡ Some p → AreKeptToo now before (bucket_of p)

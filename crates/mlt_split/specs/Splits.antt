@@ -5,7 +5,7 @@ use Rattle.std.specs.FinMap as map
 use Rattle.std.specs.FinSet as set
 use Rattle.mlt_types.specs.declared.mode.Mode.TheVariants.{Exclusive}
 use Rattle.mlt_page.specs.Bits.{first_bits}
-use Rattle.mlt_page.specs.Slots.{is_ghost_of, is_kept, is_live_of}
+use Rattle.mlt_page.specs.Slots.{is_ghost_of, is_live_of}
 use Rattle.mlt_page.specs.declared.slot.Slot.TheVariants.{Free}
 use Rattle.mlt_page.specs.Values.{BucketFields, HeadFields}
 use Rattle.mlt_page.specs.declared.page.Page.{Page}
@@ -14,7 +14,7 @@ use Rattle.mlt_store.specs.Stores.{Pages, page_at}
 use Rattle.mlt_hash_form.specs.Form.{half_of}
 use Rattle.mlt_hash_form.specs.File.{HasForm, Writes, depth_of, dirs_of}
 use Rattle.mlt_hash_form.specs.Changes.{MaySplit}
-use Rattle.mlt_hash_form.specs.Held.{Agrees, KeepsFile, over}
+use Rattle.mlt_hash_form.specs.Held.{Agrees, AreKeptToo, KeepsFile, over}
 use Rattle.mlt_hash_form.specs.Room.{is_crowded}
 use Rattle.mlt_hash_form.specs.Splits.{BucketSplit, IsMidway, bucket_split, run_length, run_start, target_in}
 use Rattle.mlt_held.specs.Moments.{HasFileOver, MayStep, Moment}
@@ -39,7 +39,8 @@ pub record SplitFields : Type 0 where
 
 -- how many pages of the directory get entries of the new bucket, or are rewritten or made, and with them the header
 abbrev pub directory_steps : ℕ → ℕ → ℕ
-directory_steps l g = if nat_eq l g then (if nat_lt g 8 then 2 else 2 ^ (g - 7) + 1) else 2 ^ (g - (l + 9))
+directory_steps l g =
+    if nat_eq l g then (if nat_lt g 8 then 2 else 2 ^ (g - 7) + 1) else 2 ^ (g - (l + 9))
 
 -- how many steps a split still takes, those that wait aside
 abbrev pub steps_left_at : ℕ → ℕ → SplitPhase → ℕ
@@ -53,7 +54,8 @@ abbrev pub steps_left : SplitFields → ℕ
 steps_left split = steps_left_at split.depth split.directory_depth split.phase
 
 -- what the split began with: in the file `base` the bucket on the old page is this, and the new page is not there
-pub record Begins (aim : Aim) (base : ℕ → Option Page) (split : SplitFields) (bucket : BucketFields) : Type 0 where
+pub record Begins (aim : Aim) (base : ℕ → Option Page) (split : SplitFields) (bucket : BucketFields)
+    : Type 0 where
   pub may : MaySplit aim.bits base aim.root (seed_of aim) split.old_page split.new_page
   pub was : base split.old_page ≡ Some (page.Bucket bucket)
   pub seed : split.seed ≡ seed_of aim
@@ -62,7 +64,8 @@ pub record Begins (aim : Aim) (base : ℕ → Option Page) (split : SplitFields)
   pub deep : split.depth < aim.room_depth
 
 -- Of a bucket, by who is open: the split keeps one half, and the other stands on the page that was made.
-pub record HasHalves (aim : Aim) (pages : Pages) (bucket : BucketFields) (split : SplitFields) : Type 0 where
+pub record HasHalves (aim : Aim) (pages : Pages) (bucket : BucketFields) (split : SplitFields)
+    : Type 0 where
   pub zeros : split.zeros ≡ half_of aim.bits aim.opens bucket 0
   pub ones : page_at pages split.new_page ≡ Some (page.Bucket (half_of aim.bits aim.opens bucket 1))
 
@@ -107,7 +110,8 @@ pub record IsInPlace (aim : Aim) (splitters : set.FinSet nat_cmp) (base pages : 
   pub places : HaveNewPlaces split.seed split.depth split.directory_depth first end
   pub from : first ≤ place
   pub more : place < end
-  pub last : run_start base aim.root split.old_page (seed_of aim) + run_length base aim.root split.old_page ≤ 256 * end
+  pub last : run_start base aim.root split.old_page
+      (seed_of aim) + run_length base aim.root split.old_page ≤ 256 * end
 
 -- the directory doubles: this old page is the next one
 pub record IsAtDouble (aim : Aim) (splitters : set.FinSet nat_cmp) (base pages : ℕ → Option Page)
@@ -143,10 +147,12 @@ pub record IsAtHeader (aim : Aim) (splitters : set.FinSet nat_cmp) (base pages :
 
 abbrev pub StandsAt : SplitPhase → Aim → set.FinSet nat_cmp → (ℕ → Option Page) → (ℕ → Option Page)
     → SplitFields → BucketFields → Type 0
-StandsAt at.OldBucket aim splitters base pages split bucket = IsAtOldBucket aim splitters base pages split bucket
+StandsAt at.OldBucket aim splitters base pages split bucket =
+    IsAtOldBucket aim splitters base pages split bucket
 StandsAt (at.InPlace place end) aim splitters base pages split bucket =
     IsInPlace aim splitters base pages split place end
-StandsAt (at.Double place) aim splitters base pages split bucket = IsAtDouble aim splitters base pages split place
+StandsAt (at.Double place) aim splitters base pages split bucket =
+    IsAtDouble aim splitters base pages split place
 StandsAt (at.SecondHalf place) aim splitters base pages split bucket =
     IsAtSecondHalf aim splitters base pages split place
 StandsAt at.Header aim splitters base pages split bucket = IsAtHeader aim splitters base pages split
@@ -163,7 +169,8 @@ HoldsAmongAt (at.Double place) before view dirs split =
     HoldsAmong view dirs split.made.dirs place (2 ^ (split.directory_depth - 8)) (2 * place)
     (most_held before (split.depth + 1) split.directory_depth + place)
 HoldsAmongAt (at.SecondHalf place) before view dirs split =
-    HoldsAmong view dirs split.made.dirs (place + 1) (2 ^ (split.directory_depth - 8)) (2 * place + 1)
+    HoldsAmong view dirs split.made.dirs (place + 1) (2 ^ (split.directory_depth - 8))
+    (2 * place + 1)
     (most_held before (split.depth + 1) split.directory_depth + place)
 HoldsAmongAt at.Header before view dirs split =
     HoldsAmong view dirs split.made.dirs 0 0 (2 ^ (split.made.depth - 8))
@@ -184,10 +191,10 @@ pub record IsUnderWay (aim : Aim) (view : View) (split : SplitFields) : Type 0 w
   pub exclusive : map.get view.modes split.old_page ≡ Some Exclusive
   pub new_exclusive : map.get view.modes split.new_page ≡ Some Exclusive
   pub doubles : split.depth ≡ split.directory_depth → map.get view.modes aim.root ≡ Some Exclusive
-  pub fewer : (i : ℕ) → is_kept aim.opens (slice_index_or bucket.slots i Free) ≡ true
-      → is_kept splitters (slice_index_or bucket.slots i Free) ≡ true
+  pub fewer : AreKeptToo aim.opens splitters bucket
   pub absent : (i : ℕ) → is_live_of aim.key (slice_index_or bucket.slots i Free) ≡ false
-  pub no_ghost : (i : ℕ) → is_ghost_of aim.key aim.owner (slice_index_or bucket.slots i Free) ≡ false
+  pub no_ghost : (i : ℕ)
+      → is_ghost_of aim.key aim.owner (slice_index_or bucket.slots i Free) ≡ false
   pub room : is_crowded aim.bits aim.opens aim.room_depth (seed_of aim) bucket.slots ≡ false
   pub small : aim.room_depth ≤ 16
   pub few_before : aim.held_before ≤ 17

@@ -47,14 +47,16 @@ IsMaking at.Header = ⊥
 abbrev pub LocksAndWrites : Aim → Moment → Moment → ℕ → Type 0
 LocksAndWrites aim old new place = (n : ℕ)
     × IsDirectoryPage aim (view_over aim.before old) place n
-    × ((mid : Moment) × LocksPage old mid n Exclusive × ((page : Page) × WritesHeldPage mid new n page))
+    × ((mid : Moment) × LocksPage old mid n Exclusive
+    × ((page : Page) × WritesHeldPage mid new n page))
 
 -- a step was done: one page was written, and locked before where it is of the directory, or made; and that is all
 abbrev pub IsDone : SplitPhase → Aim → Moment → Moment → SplitFields → Type 0
 IsDone at.OldBucket aim old new split = (page : Page) × WritesHeldPage old new split.old_page page
 IsDone (at.InPlace place end) aim old new split = LocksAndWrites aim old new place
 IsDone (at.Double place) aim old new split = LocksAndWrites aim old new place
-IsDone (at.SecondHalf place) aim old new split = (n : ℕ) × (page : Page) × MakesLockedPage old new n page
+IsDone (at.SecondHalf place) aim old new split =
+    (n : ℕ) × (page : Page) × MakesLockedPage old new n page
 IsDone at.Header aim old new split = (page : Page) × WritesHeldPage old new aim.root page
 
 -- a step was refused: at most the page of the directory was locked that was to be written

@@ -45,7 +45,8 @@ impl Split {
             × MakesLockedPage (moment subtx.old pages.old) (moment subtx.new pages.new)
             split.new_page page) }
         ensures halves { IfOk result (λ split. (bucket : BucketFields)
-            → held_page (view_over aim.before (moment subtx.old pages.old)) old ≡ Some (page.Bucket bucket)
+            → held_page (view_over aim.before (moment subtx.old pages.old)) old
+            ≡ Some (page.Bucket bucket)
             → HasHalves aim pages.new.store.pages bucket split) }
         ensures under_way { IfOk result (λ split.
             IsUnderWay aim (view_over aim.before (moment subtx.new pages.new)) split) }

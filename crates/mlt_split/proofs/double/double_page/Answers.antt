@@ -3,6 +3,7 @@ use Rattle.mlt_types.specs.declared.mode.Mode.TheVariants.{Exclusive}
 use Rattle.std.proofs.Common.{rules, is_some, true, ◌≡◌, ℕ, ◌+◌, ◌*◌, ◌≤◌, ◌^◌, Some, ap, sym, ◌∙◌, subst, refl, arith}
 use Rattle.mlt_page.specs.declared.page.Page.{Page}
 use Rattle.mlt_page.specs.declared.page.Page.TheVariants as page
+use Rattle.mlt_hash_form.specs.Splits.{IsDoubled}
 use Rattle.mlt_held.specs.Moments.{Moment, moment}
 use Rattle.mlt_held.specs.PageSteps.{LocksPage}
 use Rattle.mlt_held.proofs.Since.{reads_over_writes}
@@ -183,8 +184,8 @@ returns-clause-tells g c =
       listed = c.dir-number.ensures;
       reads = rebased_reads_page g.aim.before (view_of old) (view_of mid) c.requires.1.1.written c.dir-number.result Exclusive (Some (page.Dir c.in-Dir.dir)) (subst (λ (p : Page). ReadsPage (view_of old) (view_of mid) c.dir-number.result Exclusive (Some p)) c.in-Dir.is (reads_seen (view_of old) (view_of mid) c.dir-number.result Exclusive c.read_held-2.result.now c.in_default-lock.ensures.view c.read_held-2.ensures.reads));
       writes = rebased_writes_page g.aim.before (view_of mid) (view_of new) c.dir-number.result (page.Dir c.doubled_page-first.result) c.in_default-write_held.ensures.view;
-      one = record { size = one.size; others = λ r h ne. one.others r h (λ e. ne (e ∙ place)); here = λ r h e. one.here r h (e ∙ sym place) };
-      two = record { size = two.size; others = λ r h ne. two.others r h (λ e. ne (e ∙ place)); here = λ r h e. two.here r h (e ∙ sym place) };
+      one = record { size = one.size; entries = subst (λ (k : ℕ). IsDoubled c.in-Dir.dir c.doubled_page-first.result (2 * c.args.place) k split.new_page) place one.entries };
+      two = record { size = two.size; entries = subst (λ (k : ℕ). IsDoubled c.in-Dir.dir c.doubled_page-second.result (2 * c.args.place + 1) k split.new_page) place two.entries };
       sized = c.name_page.ensures.places;
     } in
     elim c.if-split-lt8.branch [

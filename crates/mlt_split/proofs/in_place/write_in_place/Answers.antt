@@ -16,7 +16,7 @@ use Rattle.mlt_split.proofs.Closing.{HasClean}
 use Rattle.mlt_held.proofs.Rebased.{rebased_reads_page, rebased_writes_page}
 use Rattle.mlt_held.proofs.Leaving.{leaves_by_locking, leaves_by_rewriting, leaves_it, same_moment}
 use Rattle.mlt_split.proofs.Later.{held_may_be_read, locked_may_be_written}
-use Rattle.mlt_split.proofs.InPlace.{AreNewPlaces, HasNewPlaces, depths_here, end_is_small, few_are_held_here, in_place_goes_on, in_place_rests, next_is_dir, next_is_there, place_before_end, place_is_small}
+use Rattle.mlt_split.proofs.InPlace.{AreNewPlaces, IsMadeInPlace, depths_here, end_is_small, few_are_held_here, in_place_goes_on, in_place_rests, next_is_dir, next_is_there, place_before_end, place_is_small}
 use Rattle.mlt_split.proofs.Steps.{done_at, left_at, next_page_at}
 use Rattle.mlt_held.proofs.Views.{reads_after_lock, reads_seen}
 use Rattle.mlt_split.proofs.in_place.write_in_place.Goals as goal
@@ -159,7 +159,7 @@ returns-then-place-end-clause-tells g c =
     let new = moment c.write_held.new.subtx c.write_held.new.pages in
     let head : held_page (view_over g.aim.before m) g.aim.root ≡ Some (page.Head c.in-Head.header) = subst (λ q. held_page (view_over g.aim.before m) q ≡ Some (page.Head c.in-Head.header)) c.requires.1.0 (reads_as (view_over g.aim.before m) c.args.root (Some c.read_held.result.now) (reads_over_writes g.aim.before m c.requires.1.1.written c.args.root c.read_held.result.now c.read_held.ensures.reads) ∙ ap Some c.in-Head.is) in
     let places : AreNewPlaces c.args.split.now c.of-places.result.first c.of-places.result.count = subst (λ (s : SplitFields). AreNewPlaces s c.of-places.result.first c.of-places.result.count) c.split.view_is (record { first_is = c.of-places.ensures.first; count_is = c.of-places.ensures.count }) in
-    let has : HasNewPlaces c.in-Dir.dir c.page_with_new_places-page.result c.args.place c.of-places.result.first c.of-places.result.count c.args.split.now.new_page = subst (λ (s : SplitFields). HasNewPlaces c.in-Dir.dir c.page_with_new_places-page.result c.args.place c.of-places.result.first c.of-places.result.count s.new_page) c.split.view_is (record { size = c.page_with_new_places-page.ensures.size; inside = c.page_with_new_places-page.ensures.inside; outside = c.page_with_new_places-page.ensures.outside }) in
+    let has : IsMadeInPlace c.in-Dir.dir c.page_with_new_places-page.result c.args.place c.of-places.result.first c.of-places.result.count c.args.split.now.new_page = subst (λ (s : SplitFields). IsMadeInPlace c.in-Dir.dir c.page_with_new_places-page.result c.args.place c.of-places.result.first c.of-places.result.count s.new_page) c.split.view_is (record { size = c.page_with_new_places-page.ensures.size; entries = c.page_with_new_places-page.ensures.entries }) in
     let reads : ReadsPage (view_over g.aim.before m) (view_over g.aim.before mid) c.dir-number.result Exclusive (Some (page.Dir c.in-Dir.dir)) = rebased_reads_page g.aim.before (view_of m) (view_of mid) c.requires.1.1.written c.dir-number.result Exclusive (Some (page.Dir c.in-Dir.dir)) (subst (λ (p : Page). ReadsPage (view_of m) (view_of mid) c.dir-number.result Exclusive (Some p)) c.in-Dir.is (reads_seen (view_of m) (view_of mid) c.dir-number.result Exclusive c.read_held-2.result.now c.in_default-lock.ensures.view c.read_held-2.ensures.reads)) in
     let writes = rebased_writes_page g.aim.before (view_of mid) (view_of new) c.dir-number.result (page.Dir c.page_with_new_places-page.result) c.in_default-write_held.ensures.view in
     let file = c.requires.1.1.file in
@@ -194,7 +194,7 @@ returns-clause-tells g c =
     let new = moment c.write_held.new.subtx c.write_held.new.pages in
     let head : held_page (view_over g.aim.before m) g.aim.root ≡ Some (page.Head c.in-Head.header) = subst (λ q. held_page (view_over g.aim.before m) q ≡ Some (page.Head c.in-Head.header)) c.requires.1.0 (reads_as (view_over g.aim.before m) c.args.root (Some c.read_held.result.now) (reads_over_writes g.aim.before m c.requires.1.1.written c.args.root c.read_held.result.now c.read_held.ensures.reads) ∙ ap Some c.in-Head.is) in
     let places : AreNewPlaces c.args.split.now c.of-places.result.first c.of-places.result.count = subst (λ (s : SplitFields). AreNewPlaces s c.of-places.result.first c.of-places.result.count) c.split.view_is (record { first_is = c.of-places.ensures.first; count_is = c.of-places.ensures.count }) in
-    let has : HasNewPlaces c.in-Dir.dir c.page_with_new_places-page.result c.args.place c.of-places.result.first c.of-places.result.count c.args.split.now.new_page = subst (λ (s : SplitFields). HasNewPlaces c.in-Dir.dir c.page_with_new_places-page.result c.args.place c.of-places.result.first c.of-places.result.count s.new_page) c.split.view_is (record { size = c.page_with_new_places-page.ensures.size; inside = c.page_with_new_places-page.ensures.inside; outside = c.page_with_new_places-page.ensures.outside }) in
+    let has : IsMadeInPlace c.in-Dir.dir c.page_with_new_places-page.result c.args.place c.of-places.result.first c.of-places.result.count c.args.split.now.new_page = subst (λ (s : SplitFields). IsMadeInPlace c.in-Dir.dir c.page_with_new_places-page.result c.args.place c.of-places.result.first c.of-places.result.count s.new_page) c.split.view_is (record { size = c.page_with_new_places-page.ensures.size; entries = c.page_with_new_places-page.ensures.entries }) in
     let reads : ReadsPage (view_over g.aim.before m) (view_over g.aim.before mid) c.dir-number.result Exclusive (Some (page.Dir c.in-Dir.dir)) = rebased_reads_page g.aim.before (view_of m) (view_of mid) c.requires.1.1.written c.dir-number.result Exclusive (Some (page.Dir c.in-Dir.dir)) (subst (λ (p : Page). ReadsPage (view_of m) (view_of mid) c.dir-number.result Exclusive (Some p)) c.in-Dir.is (reads_seen (view_of m) (view_of mid) c.dir-number.result Exclusive c.read_held-2.result.now c.in_default-lock.ensures.view c.read_held-2.ensures.reads)) in
     let writes = rebased_writes_page g.aim.before (view_of mid) (view_of new) c.dir-number.result (page.Dir c.page_with_new_places-page.result) c.in_default-write_held.ensures.view in
     let before = place_before_end g.aim m c.args.split.now c.args.place c.args.end c.requires.1.1.may (clean_now g.aim m c.requires.1.1.may c.requires.1.1.file) c.requires.1.1.under_way c.requires.0 in
