@@ -43,4 +43,5 @@ counter_lines counters = flat_map counter_line (map.entries counters)
 
 -- the accounts, then the elements, then the counters that are not 0
 abbrev pub base_text : Base → List ℕ
-base_text base = account_lines base.accounts ++ (element_lines base.elements ++ counter_lines base.counters)
+base_text base =
+    account_lines base.accounts ++ (element_lines base.elements ++ counter_lines base.counters)

@@ -38,8 +38,10 @@ abbrev pub account_reply_of : AccountOp → Option ℕ → ObjReply × Option Re
 account_reply_of Open None = (told.Opened, Some (Add 0))
 account_reply_of Open (Some v) = (told.Exists, None)
 account_reply_of Close (Some v) = cond (v == 0) (told.Closed, Some ToGhost) (told.NotEmpty, None)
-account_reply_of (Deposit n) (Some v) = cond (nat_lt max_balance (v + n)) (told.Over, None) (told.Done, Some (Set (v + n)))
-account_reply_of (Withdraw n) (Some v) = cond (nat_lt v n) (told.Short, None) (told.Done, Some (Set (v - n)))
+account_reply_of (Deposit n) (Some v) =
+    cond (nat_lt max_balance (v + n)) (told.Over, None) (told.Done, Some (Set (v + n)))
+account_reply_of (Withdraw n) (Some v) =
+    cond (nat_lt v n) (told.Short, None) (told.Done, Some (Set (v - n)))
 account_reply_of Balance (Some v) = (told.Is v, None)
 account_reply_of _ None = (told.Missing, None)
 

@@ -11,17 +11,22 @@ use Rattle.mlt_kinds.specs.Accounts.{AccountStep, IsAccount}
 use Rattle.mlt_kinds.specs.Bases.{Base, element_cmp, size_at}
 
 -- the base of these accounts, elements and counters
-abbrev pub base_of : finmap.FinMap nat_cmp ℕ → finmap.FinMap element_cmp (Unit {0}) → finmap.FinMap nat_cmp ℕ → Base
-base_of accounts elements counters = record { accounts = accounts; elements = elements; counters = counters }
+abbrev pub base_of
+    : finmap.FinMap nat_cmp ℕ → finmap.FinMap element_cmp (Unit {0}) → finmap.FinMap nat_cmp ℕ
+    → Base
+base_of accounts elements counters =
+    record { accounts = accounts; elements = elements; counters = counters }
 
 -- every balance is in range
 abbrev pub AreBalances : List (ℕ × ℕ) → Type 0
 AreBalances entries = (account : ℕ) → IsAccount (lookup (is_at (nat_cmp account)) entries)
 
 -- from some balances to others: the operation on this account is told the reply, and no other account changes
-abbrev pub DoesAt : finmap.FinMap nat_cmp ℕ → ℕ → AccountOp → ObjReply → finmap.FinMap nat_cmp ℕ → Type 0
+abbrev pub DoesAt
+    : finmap.FinMap nat_cmp ℕ → ℕ → AccountOp → ObjReply → finmap.FinMap nat_cmp ℕ → Type 0
 DoesAt old account op reply new =
-    (after : Option ℕ) × AccountStep (finmap.get old account) op reply after × (new ≡ with_entry old account after)
+    (after : Option ℕ) × AccountStep (finmap.get old account) op reply after
+    × (new ≡ with_entry old account after)
 
 -- nothing, or a number other than 0
 abbrev pub IsNotZero : Option ℕ → Type 0

@@ -30,7 +30,9 @@ pub record Means (records : map.FinMap nat_cmp ℕ) (base : Base) : Type 0 where
 abbrev pub records_after : map.FinMap nat_cmp ℕ → List (Cell × RecChange) → map.FinMap nat_cmp ℕ
 records_after records [] = records
 records_after records (change ∷ changes) =
-    records_after (with_entry records (key_number change.0) (record_after (Some change.1) (map.get records (key_number change.0)))) changes
+    let live = map.get records (key_number change.0) in
+    let now = with_entry records (key_number change.0) (record_after (Some change.1) live) in
+    records_after now changes
 
 -- the record of a cell, and the size record of the set that an operation on an element is on
 abbrev pub record_in : map.FinMap nat_cmp ℕ → Cell → Option ℕ
