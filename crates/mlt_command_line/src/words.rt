@@ -86,7 +86,8 @@ static HASH_NAMES: [&str; 2] = ["mult", "low"];
 /// `clap`'s own, where the words ask for help or the version or are wrong, or memory runs out.
 pub fn read_words(alloc: Global, words: &[String]) -> Result<Job, Error>
     // with no words standard input is run, if there is memory
-    ensures none { words.now ≡ [] → IfOk result (λ job. asked_of job ≡ with_input solo (codes "-")) }
+    ensures none { words.now ≡ []
+        → IfOk result (λ job. asked_of job ≡ with_input solo (codes "-")) }
     ensures none_err { words.now ≡ []
         → IfErr result (λ error. kind_of error ≡ ErrorKind.OutOfMemory) }
     // after a subcommand a file or an address goes as it stands, if there is memory

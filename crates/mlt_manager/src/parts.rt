@@ -239,7 +239,8 @@ impl<P: Pseudo> Parts<P> {
 
     pub(crate) fn step(&mut self, tx: TxId) -> Result<Answer, Refusal>
         requires sound { IsManager P.bits_of (fields_of self.old) }
-        ensures answers { AnswersStep P.bits_of (fields_of self.old) (fields_of self.new) tx result }
+        ensures answers { AnswersStep P.bits_of (fields_of self.old) (fields_of self.new)
+            tx result }
     {
         self.busy(tx)?;
         Ok(self.step_open(tx))
@@ -265,7 +266,8 @@ impl<P: Pseudo> Parts<P> {
 
     pub(crate) fn whole(&mut self, tx: TxId, op: ObjOp) -> Result<Answer, Refusal>
         requires sound { IsManager P.bits_of (fields_of self.old) }
-        ensures answers { AnswersWhole P.bits_of (fields_of self.old) (fields_of self.new) tx op result }
+        ensures answers { AnswersWhole P.bits_of (fields_of self.old) (fields_of self.new)
+            tx op result }
     {
         if self.txs.len() <= 1 {
             return self.whole_alone(tx, op);
@@ -279,7 +281,8 @@ impl<P: Pseudo> Parts<P> {
     fn whole_alone(&mut self, tx: TxId, op: ObjOp) -> Result<Answer, Refusal>
         requires sound { IsManager P.bits_of (fields_of self.old) }
         requires alone { map.len self.old.txs ≤ 1 }
-        ensures answers { AnswersWhole P.bits_of (fields_of self.old) (fields_of self.new) tx op result }
+        ensures answers { AnswersWhole P.bits_of (fields_of self.old) (fields_of self.new)
+            tx op result }
     {
         self.may_call(tx)?;
         operation_is_in_range(&op);
@@ -325,7 +328,8 @@ impl<P: Pseudo> Parts<P> {
 
     pub(crate) fn whole_undo(&mut self, tx: TxId) -> Result<Answer, Refusal>
         requires sound { IsManager P.bits_of (fields_of self.old) }
-        ensures answers { AnswersWholeUndo P.bits_of (fields_of self.old) (fields_of self.new) tx result }
+        ensures answers { AnswersWholeUndo P.bits_of (fields_of self.old) (fields_of self.new)
+            tx result }
     {
         self.undoing(tx)?;
         Ok(self.undo_all(tx))
@@ -335,7 +339,8 @@ impl<P: Pseudo> Parts<P> {
     fn undo_all(&mut self, tx: TxId) -> Answer
         requires sound { IsManager P.bits_of (fields_of self.old) }
         requires undoing { IsOpenAt self.old.txs tx IsUndoing }
-        ensures steps { StepsBackUpTo P.bits_of (fields_of self.old) (fields_of self.new) tx result }
+        ensures steps { StepsBackUpTo P.bits_of (fields_of self.old) (fields_of self.new)
+            tx result }
     {
         loop {
             match self.step_open(tx) {

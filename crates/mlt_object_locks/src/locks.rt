@@ -38,7 +38,8 @@ impl Model for ObjectLocks {
 
     ghost Value = { Locks };
 
-    ghost view = { λ locks. record { held = locks.held.operations; reserved = locks.reserved.items } };
+    ghost view = { λ locks.
+        record { held = locks.held.operations; reserved = locks.reserved.items } };
 
     ghost invariant = { λ locks.
         IsSound locks.cells locks.reserved.items locks.noted locks.held.operations };

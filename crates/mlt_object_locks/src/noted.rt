@@ -167,7 +167,8 @@ impl Noted {
 
     /// Takes away what is noted of the transaction, and answers it, if it is anything.
     pub fn take(&mut self, tx: TxId) -> Option<CellKeys>
-        ensures keys { option_map_or (λ places. places.keys) result [] ≡ (noted_of self.old tx).keys }
+        ensures keys { option_map_or (λ places. places.keys) result []
+            ≡ (noted_of self.old tx).keys }
         ensures others { SameNoted self.old self.new tx }
         ensures none { (noted_of self.new tx).keys ≡ [] }
     {
