@@ -1,6 +1,7 @@
 pub mod Closing
 pub mod Filling
 pub mod Listening
+pub mod Outcomes
 pub mod Reaching
 pub mod Receiving
 pub mod Stepping

@@ -1,11 +1,14 @@
 -- Whole sessions.
-use Rattle.std.specs.Prelude.{◌≡◌, ◌≤◌, ℕ, List, ◌++◌, length, take, Option, None, true, false}
+use Rattle.std.specs.Prelude.{◌≡◌, ◌≤◌, ℕ, List, ◌++◌, length, take, Option, None, true, false, Result, IfOk, IsErrOf}
+use Rattle.mlt_types.specs.declared.refusal.Refusal.{Refusal}
+use Rattle.mlt_types.specs.declared.refusal.Refusal.TheVariants.{Io, LineTooLong, OutOfMemory}
 use Rattle.mlt_serial.specs.declared.outcome.Outcome.{Outcome}
 use Rattle.std.specs.List.{flat_map}
 use Rattle.std.specs.Io.KnownBytes.{Appends, Consumes, IsAtEnd}
 use Rattle.mlt_text.specs.Texts.{AppendsFront}
 use Rattle.mlt_wire.specs.declared.call.Answer.{Answer}
 use Rattle.mlt_wire.specs.declared.call.Call.{Call}
+use Rattle.mlt_wire.specs.declared.sessions.Summary.{Summary}
 use Rattle.mlt_wire.specs.Desks.{Moves, Answers}
 use Rattle.mlt_wire.specs.Receipts.{receipts_of}
 use Rattle.mlt_wire.specs.Talks.{Turn, turn_text, calls_in, answers_in, closing, closing_answers, open_at_end, session_turns, commits_in, ends_in, long_in}
@@ -87,3 +90,15 @@ pub record HeardAll {D : Type 0} (moves : Moves D) (client : ℕ) (old new : Sce
   -- where a byte past the limit was read, the whole text was written
   pub whole : length off.taken ≡ 16777217
       → Appends old.written new.written (flat_map turn_text off.heard)
+
+-- How a session that answers so went, from the one scene to the other
+pub record SessionAnswers {D : Type 0} (moves : Moves D) (client : ℕ) (old new : Scene D)
+    (result : Result Summary Refusal) : Type 0 where
+  -- the text, the calls and the receipts are those of the bytes read and the answers given
+  pub ok : IfOk result (λ summary. Summed moves client old new summary.lines summary.commits)
+  -- the same, up to a line that is too long
+  pub long : IsErrOf result LineTooLong → SpokenLong moves client old new
+  -- the same of all lines of the bytes read up to the limit, and a prefix of the text
+  pub io : IsErrOf result Io → HeardAll moves client old new
+  -- the same of the first lines, and a prefix of the text
+  pub memory : IsErrOf result OutOfMemory → BrokenOff moves client old new

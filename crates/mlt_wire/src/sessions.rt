@@ -6,7 +6,7 @@ ghost use Rattle.mlt_wire.specs.Batches.{front};
 ghost use Rattle.mlt_wire.specs.Desks.{Answers, moves};
 ghost use Rattle.mlt_wire.specs.Noting.{receipts_in};
 ghost use Rattle.mlt_wire.specs.Rounds.{Replied, Stopped, Unwritten, Talked, Broken, BrokenHeard, streams};
-ghost use Rattle.mlt_wire.specs.Sessions.{SpokenLong, Summed, BrokenOff, HeardAll, scene};
+ghost use Rattle.mlt_wire.specs.Sessions.{SessionAnswers, scene};
 ghost use Rattle.mlt_wire.specs.Talks.{closing, closing_answers};
 ghost use Rattle.mlt_wire.specs.Turns.{IsSmall, place, start};
 
@@ -176,23 +176,10 @@ fn converse<R: Read, W: Write, D: Desk>(
     buffer: &mut [u8],
 ) -> Result<Summary, Refusal>
     requires { (200 < length buffer.old) × (length buffer.old < 2 ^ 32) }
-    ensures ok { IfOk result
-        (λ summary. Summed (moves D.begins D.answers D.commits D.aborts) client
+    ensures answers { SessionAnswers (moves D.begins D.answers D.commits D.aborts) client
         (scene desk.old (R.remaining reader.old) (W.contents writer.old) receipts.old.items)
         (scene desk.new (R.remaining reader.new) (W.contents writer.new) receipts.new.items)
-        summary.lines summary.commits) }
-    ensures long { IsErrOf result Refusal.LineTooLong
-        → SpokenLong (moves D.begins D.answers D.commits D.aborts) client
-        (scene desk.old (R.remaining reader.old) (W.contents writer.old) receipts.old.items)
-        (scene desk.new (R.remaining reader.new) (W.contents writer.new) receipts.new.items) }
-    ensures io { IsErrOf result Refusal.Io
-        → HeardAll (moves D.begins D.answers D.commits D.aborts) client
-        (scene desk.old (R.remaining reader.old) (W.contents writer.old) receipts.old.items)
-        (scene desk.new (R.remaining reader.new) (W.contents writer.new) receipts.new.items) }
-    ensures memory { IsErrOf result Refusal.OutOfMemory
-        → BrokenOff (moves D.begins D.answers D.commits D.aborts) client
-        (scene desk.old (R.remaining reader.old) (W.contents writer.old) receipts.old.items)
-        (scene desk.new (R.remaining reader.new) (W.contents writer.new) receipts.new.items) }
+        result }
     ensures refusal { IfErr result (λ refusal. (refusal ≡ Refusal.LineTooLong)
         ⊎ (refusal ≡ Refusal.OutOfMemory) ⊎ (refusal ≡ Refusal.Io)) }
 {
@@ -237,27 +224,10 @@ pub fn session<R: Read, W: Write, D: Desk>(
     client: u32,
     receipts: &mut Vec<Outcome>,
 ) -> Result<Summary, Refusal>
-    // the text, the calls and the receipts are those of the bytes read and the answers given
-    ensures ok { IfOk result
-        (λ summary. Summed (moves D.begins D.answers D.commits D.aborts) client
+    ensures answers { SessionAnswers (moves D.begins D.answers D.commits D.aborts) client
         (scene desk.old (R.remaining reader.old) (W.contents writer.old) receipts.old.items)
         (scene desk.new (R.remaining reader.new) (W.contents writer.new) receipts.new.items)
-        summary.lines summary.commits) }
-    // the same, up to a line that is too long
-    ensures long { IsErrOf result Refusal.LineTooLong
-        → SpokenLong (moves D.begins D.answers D.commits D.aborts) client
-        (scene desk.old (R.remaining reader.old) (W.contents writer.old) receipts.old.items)
-        (scene desk.new (R.remaining reader.new) (W.contents writer.new) receipts.new.items) }
-    // the same of all lines of the bytes read up to the limit, and a prefix of the text
-    ensures io { IsErrOf result Refusal.Io
-        → HeardAll (moves D.begins D.answers D.commits D.aborts) client
-        (scene desk.old (R.remaining reader.old) (W.contents writer.old) receipts.old.items)
-        (scene desk.new (R.remaining reader.new) (W.contents writer.new) receipts.new.items) }
-    // the same of the first lines, and a prefix of the text
-    ensures memory { IsErrOf result Refusal.OutOfMemory
-        → BrokenOff (moves D.begins D.answers D.commits D.aborts) client
-        (scene desk.old (R.remaining reader.old) (W.contents writer.old) receipts.old.items)
-        (scene desk.new (R.remaining reader.new) (W.contents writer.new) receipts.new.items) }
+        result }
     ensures refusal { IfErr result (λ refusal. (refusal ≡ Refusal.LineTooLong)
         ⊎ (refusal ≡ Refusal.OutOfMemory) ⊎ (refusal ≡ Refusal.Io)) }
 {
