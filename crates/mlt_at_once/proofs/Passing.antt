@@ -1,5 +1,5 @@
 -- The steps of an operation on one record, while nobody else holds a page
-use Rattle.std.proofs.Common.{◌≡◌, ℕ, false, true, List, Option, None, Some, is_some, refl, sym, ap, subst, ◌∙◌, inl, arith}
+use Rattle.std.proofs.Common.{◌≡◌, ℕ, false, true, List, Option, None, Some, is_some, refl, sym, ap, subst, ◌∙◌, inl, inr, arith}
 use Rattle.std.specs.Prelude.{IsSome}
 use Rattle.std.specs.FinMap as map
 use Rattle.std.proofs.lemmas.Bool.{false≢true}
@@ -232,7 +232,7 @@ module _ (basis : Basis) (m : Moment) (op : ObjOp) (free : NobodyHolds m.locks) 
       second = record { untold = refl; tells = inl steps_directory; asked = refl; own = refl };
       third = record {
         untold = refl;
-        tells = found_tells basis with_directory with_bucket new on_placed on_bucket after found step.Going may_placed leaves_bucket finds refl refl (inl finishes);
+        tells = found_tells basis with_directory with_bucket new on_placed on_bucket after found step.Going may_placed leaves_bucket (inr (mode, locks_bucket)) finds refl refl (inl finishes);
         asked = asked;
         own = own;
       };

@@ -26,12 +26,14 @@ use Rattle.mlt_split.specs.declared.phase.SplitPhase.TheVariants as split_at
 use Rattle.mlt_split.specs.declared.split.SplitAnswer.{SplitAnswer}
 use Rattle.mlt_split.specs.declared.split.SplitAnswer.TheVariants as split_answer
 use Rattle.mlt_hash.specs.Walks.{Basis, HasRead, HoldsByPass, IsAdding, IsSplitting, IsStanding, MayWalk, Stands, StaysNarrow, WalkFields, aim_of, view_for}
-use Rattle.mlt_hash.specs.Splitting.{OfSplit, SplitCloses, SplitGoesOn, TellsOfSplitting, walk_step}
-use Rattle.mlt_hash.specs.Steps.{TellsOfPath}
+use Rattle.mlt_hash.specs.Changes.{page_of}
+use Rattle.mlt_hash.specs.Splitting.{OfSplit, SplitCloses, SplitGoesOn, TellsOfAdding, TellsOfSplitting, WalkStep, walk_step}
+use Rattle.mlt_hash.specs.Steps.{HasFound, LocksIfFound, TellsOfPath, steps_to_bucket}
 use Rattle.mlt_hash.proofs.Passed.{StepsOn, holds_on, narrow_keeps_header, reads_on, steps_by_split}
 use Rattle.mlt_hash.specs.declared.answer.WalkAnswer.{WalkAnswer}
 use Rattle.mlt_hash.specs.declared.answer.WalkAnswer.TheVariants as answer
 use Rattle.mlt_hash.specs.declared.pass.Pass.TheVariants as pass
+use Rattle.mlt_hash.specs.declared.pass.Phase.{Phase}
 use Rattle.mlt_hash.specs.declared.pass.Phase.TheVariants as at
 
 -- a lock more takes no right away
@@ -221,6 +223,31 @@ refused_alike told why is = (
 
     told_reason : (one other : Refusal) → answer.Refused one ≡ answer.Refused other → one ≡ other
     told_reason one other same = cc
+
+-- a walk that has found its key takes no more steps to its bucket
+pub none_left : (p : Phase) (found : Option ℕ) → HasFound p found → steps_to_bucket p ≡ 0
+none_left (at.AtBucket bucket depth f) found is = refl
+none_left other found is = absurd is
+
+-- **Where a step finds the key, all that it did is to lock the bucket:** it is the last one to the bucket, and no other finds it.
+pub locks_if_found : (old new : Moment) (q : ℕ) (told : WalkAnswer) → LocksAtMost old new q → LocksIfFound old new q told
+locks_if_found old new q (answer.Found value) locks = locks
+locks_if_found old new q other locks = tt
+
+pub earlier_finds_none : (basis : Basis) (old new : Moment) (before after : WalkFields) (told : WalkAnswer) → 1 < steps_to_bucket before.phase → TellsOfPath basis old new before after told → LocksIfFound old new (page_of after.phase) told
+earlier_finds_none basis old new before after (answer.Found value) more tells =
+    let fewer = tells.0.fewer in
+    let none = none_left after.phase value tells.1 in
+    absurd (omega (arith, more, fewer, none))
+earlier_finds_none basis old new before after other more tells = tt
+
+pub adding_finds_none : (basis : Basis) (step : WalkStep) (value bucket room_depth : ℕ) (told : WalkAnswer) → TellsOfAdding basis step value bucket room_depth told → LocksIfFound step.old step.new (page_of step.after.phase) told
+adding_finds_none basis step value bucket room_depth (answer.Found found) tells = absurd tells
+adding_finds_none basis step value bucket room_depth other tells = tt
+
+pub splitting_finds_none : (basis : Basis) (step : WalkStep) (value room_depth : ℕ) (told : WalkAnswer) → TellsOfSplitting basis step value room_depth told → LocksIfFound step.old step.new (page_of step.after.phase) told
+splitting_finds_none basis step value room_depth (answer.Found found) tells = absurd tells
+splitting_finds_none basis step value room_depth other tells = tt
 
 -- a step to the bucket makes no page, and is refused none
 pub path_has_room : (basis : Basis) (old new : Moment) (before after : WalkFields) (told : WalkAnswer) → TellsOfPath basis old new before after told → told ≡ answer.Refused refusal.NoRoom → ⊥

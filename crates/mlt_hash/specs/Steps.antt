@@ -4,6 +4,7 @@ use Rattle.mlt_types.specs.declared.mode.Mode.{Mode}
 use Rattle.mlt_types.specs.declared.mode.Mode.TheVariants.{Exclusive}
 use Rattle.mlt_page_locks.specs.Requests.{IsLowest, conflicts}
 use Rattle.mlt_held.specs.Moments.{Moment}
+use Rattle.mlt_held.specs.PageSteps.{LocksAtMost}
 use Rattle.mlt_hash.specs.Passes.{bucket_mode, directory_mode, header_mode}
 use Rattle.mlt_hash.specs.Walks.{Basis, IsStanding, WalkFields, view_for}
 use Rattle.mlt_hash.specs.declared.pass.Phase.{Phase}
@@ -71,3 +72,8 @@ TellsOfPath basis old new before after (answer.Waiting page by) =
     × (after ≡ before)
 TellsOfPath basis old new before after (answer.Found value) = GoesOn basis new before after × HasFound after.phase value
 TellsOfPath basis old new before after other = ⊥
+
+-- where the key was found, all that the step did is to lock page q
+abbrev pub LocksIfFound : Moment → Moment → ℕ → WalkAnswer → Type 0
+LocksIfFound old new q (answer.Found value) = LocksAtMost old new q
+LocksIfFound old new q other = Unit {0}

@@ -4,6 +4,7 @@ ghost use Rattle.std.specs.Prelude.{◌≡◌, ℕ, Option};
 ghost use Rattle.mlt_held.specs.Moments.{moment};
 ghost use Rattle.mlt_held.specs.PageSteps.{Leaves, LocksAtMost};
 ghost use Rattle.mlt_hash.specs.Walks.{Basis, MayWalk};
+ghost use Rattle.mlt_hash.specs.Changes.{page_of};
 ghost use Rattle.mlt_hash.specs.Steps.{TellsOfPath, next_page};
 
 use crate::answer::WalkAnswer;
@@ -94,7 +95,7 @@ pub(crate) fn read_bucket<P: Pseudo>(
     requires ready { MayWalk basis (moment subtx.now pages.old) walk.old }
     ensures leaves { Leaves (moment subtx.now pages.old) (moment subtx.now pages.new) }
     ensures locks { LocksAtMost (moment subtx.now pages.old) (moment subtx.now pages.new)
-        (next_page basis.root walk.old.phase) }
+        (page_of walk.new.phase) }
     ensures tells { TellsOfPath basis
         (moment subtx.now pages.old) (moment subtx.now pages.new) walk.old walk.new result }
 {

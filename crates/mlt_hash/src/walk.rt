@@ -6,7 +6,9 @@ ghost use Rattle.mlt_held.specs.Moments.{moment};
 ghost use Rattle.mlt_held.specs.PageSteps.{HasNoPageLeft, Leaves};
 ghost use Rattle.mlt_hash.specs.Passes.{next_of};
 ghost use Rattle.mlt_hash.specs.Walks.{Basis, MayWalk, basis_in, one_key};
+ghost use Rattle.mlt_hash.specs.Changes.{page_of};
 ghost use Rattle.mlt_hash.specs.Splitting.{HasToMake, IsUnderWay, TellsAt};
+ghost use Rattle.mlt_hash.specs.Steps.{LocksIfFound};
 
 use crate::adding::{add_or_split, go_on_splitting};
 use crate::answer::WalkAnswer;
@@ -128,6 +130,8 @@ impl Walk {
         requires under_way { IsUnderWay self.old.phase }
         requires ready { MayWalk basis (moment subtx.old pages.old) self.old }
         ensures leaves { Leaves (moment subtx.old pages.old) (moment subtx.new pages.new) }
+        ensures locks { LocksIfFound (moment subtx.old pages.old) (moment subtx.new pages.new)
+            (page_of self.new.phase) result }
         ensures no_room { (result ≡ WalkAnswer.Refused Refusal.NoRoom)
             ↔ (HasToMake self.old.phase basis (moment subtx.old pages.old) self.old
             × HasNoPageLeft pages.old.store) }

@@ -16,6 +16,7 @@ use Rattle.mlt_hash.specs.declared.answer.WalkAnswer.{WalkAnswer}
 use Rattle.mlt_hash.specs.declared.answer.WalkAnswer.TheVariants as answer
 use Rattle.mlt_hash.specs.declared.pass.Phase.{Phase}
 use Rattle.mlt_hash.specs.declared.pass.Phase.TheVariants as at
+use Rattle.mlt_hash.proofs.Splittings.{none_left}
 use Rattle.mlt_hash_file.proofs.Alone.{keeps_both, keeps_same}
 
 -- the pages stand as they stood before, all at once
@@ -87,17 +88,7 @@ path_tells (at.Adding value bucket room_depth unsplit) basis old new before afte
 path_tells (at.Splitting value room_depth) basis old new before after told more tells = absurd (omega (arith, more))
 path_tells (at.Changed bucket done) basis old new before after told more tells = tells
 
--- no step is left to a bucket that was found, and never more than three
-none_left : (phase : Phase) (found : Option ℕ) → HasFound phase found → steps_to_bucket phase ≡ 0
-none_left (at.AtBucket bucket depth value) found has = refl
-none_left at.Start found has = absurd has
-none_left (at.Headed dir row depth) found has = absurd has
-none_left (at.Placed bucket depth) found has = absurd has
-none_left (at.Full next) found has = absurd has
-none_left (at.Adding value bucket room_depth unsplit) found has = absurd has
-none_left (at.Splitting value room_depth) found has = absurd has
-none_left (at.Changed bucket done) found has = absurd has
-
+-- never more than three steps are left to the bucket
 pub few_to_bucket : (phase : Phase) → steps_to_bucket phase ≤ 3
 few_to_bucket at.Start = omega arith
 few_to_bucket (at.Headed dir row depth) = omega arith

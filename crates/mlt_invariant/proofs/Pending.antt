@@ -36,7 +36,7 @@ use Rattle.mlt_invariant.specs.States.{State, all_of, is_undoing, pending_room, 
 use Rattle.mlt_invariant.proofs.MaySteps.{is_open_now, same_moment, unheld}
 use Rattle.mlt_invariant.proofs.Turning.{moment_now, sound_after, stays_all, turns_all}
 use Rattle.mlt_invariant.proofs.Tables.{inserted_here}
-use Rattle.mlt_invariant.proofs.Turned.{LeavesAll, after_turn, rolled_back, stepped, turn_back_leaves, turn_leaves}
+use Rattle.mlt_invariant.proofs.Turned.{LeavesAll, rolled_back, stepped, turn_back_leaves, turn_leaves}
 
 module _ (s : State) (i : ℕ) (o : OperationFields) (before after : Transaction) (commons : Commons)
     (sound : IsSound s) (was : map.get s.txs i ≡ Some before) (pending_at : before.at ≡ at.Pending o) where
@@ -99,18 +99,15 @@ module _ (s : State) (i : ℕ) (o : OperationFields) (before after : Transaction
       let m : Moment = moment after.subtx commons.pages in
       let opened = is_open_now s i before sound was in
       let turned = turn_leaves (all_of s) i back.mid sound.running opened back.turn in
-      let all = after_turn (all_of s) back.turn.mid back.mid in
+      let all = after_step (all_of s) back.mid in
       let leaves = turn_back_leaves (all_of s) i m sound.running opened back in
       let running : after.subtx ≡ started i = back.back.running ∙ ap started turned.1 in
-      let here : moment_of all i ≡ back.mid = stepped (after_turn_first back.turn.mid) i back.mid turned.1 in
+      let here : moment_of all i ≡ back.mid = stepped (all_of s) i back.mid turned.1 in
       let locks : commons.pages.locks ≡ released all.locks i = back.back.locks ∙ ap (λ (n : ℕ). released back.mid.locks n) turned.1 in
       let store : commons.pages.store ≡ record all.store { pages = put_back (images_by all i) all.store.pages } =
       back.back.store ∙ ap (λ (n : Moment). record back.mid.store { pages = put_back n.running.images back.mid.store.pages }) (sym here) in
       let both = back_to all leaves running locks store in
       (all, leaves, running, both.0, both.1)
-    where
-      after_turn_first : Moment → AllRunning
-      after_turn_first mid = after_step (all_of s) mid
 
   back_here : TurnsBack (moment before.subtx s.commons.pages) (moment after.subtx commons.pages) → TurnsBack (moment_of (all_of s) i) (moment after.subtx commons.pages)
   back_here back = subst (λ (n : Moment). TurnsBack n (moment after.subtx commons.pages)) (sym (same_moment s i before sound was)) back

@@ -1,10 +1,8 @@
 -- What a turn of one transaction, and a roll back, leave of all running subtransactions
-use Rattle.std.proofs.Common.{◌≡◌, ℕ, ◌≤◌, Option, is_some, true, unwrap_or, sym, ap, subst, ◌∙◌}
+use Rattle.std.proofs.Common.{◌≡◌, ℕ, Option, is_some, true, unwrap_or, sym, ap, ◌∙◌}
 use Rattle.std.specs.FinMap as map
-use Rattle.mlt_page_locks.specs.LockTables.{page_count}
 use Rattle.mlt_subtx.specs.Images.{Images}
 use Rattle.mlt_held.specs.Moments.{Moment}
-use Rattle.mlt_held.specs.PageSteps.{TouchesOnePage}
 use Rattle.mlt_held.proofs.OwnSteps.{step_keeps_tx}
 use Rattle.mlt_subtx_laws.specs.Running.{AllMayStep, AllRunning, KeepsRunning, after_roll_back, after_step, clean_of, is_open, moment_of}
 use Rattle.mlt_subtx_laws.proofs.AllEvents.{roll_back_clean, roll_back_keeps, step_leaves_clean, step_leaves_views}
@@ -37,37 +35,24 @@ pub record LeavesAll (i : ℕ) (all new : AllRunning) : Type 0 where
   pub clean : clean_of new ≡ clean_of all
 
 module _ (all : AllRunning) (i : ℕ) (may : AllMayStep all) (opened : is_open all i ≡ true) where
-  one_touch : (m : Moment) → TouchesOnePage (moment_of all i) m → page_count m.locks i ≤ 300 → LeavesAll i all (after_step all m)
-  one_touch m touches few = record { keeps = step_leaves_views all i m may opened touches few; clean = step_leaves_clean all i m may opened touches }
-
   still_open : (m : Moment) → m.running.tx ≡ i → is_open (after_step all m) i ≡ true
   still_open m tx = ap (λ (n : ℕ). is_some (map.get (map.insert all.images m.running.tx m.running.images) n)) (sym tx) ∙ ap is_some (inserted_here all.images m.running.tx m.running.images)
 
   pub rolled_back : LeavesAll i all (after_roll_back all i)
   rolled_back = record { keeps = roll_back_keeps all i may opened; clean = roll_back_clean all i may }
 
--- after both steps of a turn
-abbrev pub after_turn : AllRunning → Moment → Moment → AllRunning
-after_turn all mid new = after_step (after_step all mid) new
-
 -- **A turn leaves the clean pages, and all that others see.**
-pub turn_leaves : (all : AllRunning) (i : ℕ) (new : Moment) → AllMayStep all → is_open all i ≡ true → (turn : TakesTurn (moment_of all i) new) → LeavesAll i all (after_turn all turn.mid new) × (new.running.tx ≡ i)
-turn_leaves all i new may opened turn =
-    let tx : turn.mid.running.tx ≡ i = step_keeps_tx (moment_of all i) turn.mid turn.first in
-    let first = one_touch all i may opened turn.mid turn.first turn.few_first in
-    let middle = after_step all turn.mid in
-    let touches : TouchesOnePage (moment_of middle i) new = subst (λ (m : Moment). TouchesOnePage m new) (sym (stepped all i turn.mid tx)) turn.second in
-    let second = one_touch middle i first.keeps.may (still_open all i may opened turn.mid tx) new touches turn.few in
-    (record { keeps = keeps_both i all middle (after_step middle new) first.keeps second.keeps; clean = second.clean ∙ first.clean }, step_keeps_tx turn.mid new turn.second ∙ tx)
+pub turn_leaves : (all : AllRunning) (i : ℕ) (new : Moment) → AllMayStep all → is_open all i ≡ true → TakesTurn (moment_of all i) new → LeavesAll i all (after_step all new) × (new.running.tx ≡ i)
+turn_leaves all i new may opened turn = (
+  record { keeps = step_leaves_views all i new may opened turn.touches turn.few; clean = step_leaves_clean all i new may opened turn.touches },
+  step_keeps_tx (moment_of all i) new turn.touches,
+)
 
 -- **So does a turn that is rolled back.**
 pub turn_back_leaves : (all : AllRunning) (i : ℕ) (new : Moment) → AllMayStep all → is_open all i ≡ true → (back : TurnsBack (moment_of all i) new)
-    → LeavesAll i all (after_roll_back (after_turn all back.turn.mid back.mid) i)
+    → LeavesAll i all (after_roll_back (after_step all back.mid) i)
 turn_back_leaves all i new may opened back =
     let turned = turn_leaves all i back.mid may opened back.turn in
-    let middle = after_turn all back.turn.mid back.mid in
-    let opened_still : is_open middle i ≡ true =
-    ap (λ (n : ℕ). is_some (map.get (map.insert (map.insert all.images back.turn.mid.running.tx back.turn.mid.running.images) back.mid.running.tx back.mid.running.images) n)) (sym turned.1)
-    ∙ ap is_some (inserted_here (map.insert all.images back.turn.mid.running.tx back.turn.mid.running.images) back.mid.running.tx back.mid.running.images) in
-    let rolled = rolled_back middle i turned.0.keeps.may opened_still in
+    let middle = after_step all back.mid in
+    let rolled = rolled_back middle i turned.0.keeps.may (still_open all i may opened back.mid turned.1) in
     record { keeps = keeps_both i all middle (after_roll_back middle i) turned.0.keeps rolled.keeps; clean = rolled.clean ∙ turned.0.clean }

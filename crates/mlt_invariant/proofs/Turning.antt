@@ -6,7 +6,7 @@ use Rattle.mlt_subtx.specs.Images.{Images, Running}
 use Rattle.mlt_undo.specs.Undo.{Undo}
 use Rattle.mlt_held.specs.Moments.{Moment, moment}
 use Rattle.mlt_subtx_laws.specs.CleanPages.{RunningImages}
-use Rattle.mlt_subtx_laws.specs.Running.{AllRunning, KeepsRunning, clean_of, moment_of}
+use Rattle.mlt_subtx_laws.specs.Running.{AllRunning, KeepsRunning, after_step, clean_of, moment_of}
 use Rattle.mlt_held.specs.PageTurns.{TakesTurn}
 use Rattle.mlt_transaction.specs.declared.commons.Commons.{Commons}
 use Rattle.mlt_transaction.specs.declared.transaction.Transaction.{Transaction}
@@ -15,7 +15,7 @@ use Rattle.mlt_invariant.specs.Sound.{FitsAt, IsSound}
 use Rattle.mlt_invariant.specs.States.{State, all_of, images_kept, is_undoing, room_of}
 use Rattle.mlt_invariant.proofs.MaySteps.{is_open_now, same_moment}
 use Rattle.mlt_invariant.proofs.Tables.{inserted_here}
-use Rattle.mlt_invariant.proofs.Turned.{LeavesAll, after_turn, turn_leaves}
+use Rattle.mlt_invariant.proofs.Turned.{LeavesAll, turn_leaves}
 
 -- what the transaction works on after an event
 pub moment_now : (s : State) (i : ℕ) (after : Transaction) (commons : Commons) (images : RunningImages) → map.get images i ≡ Some after.subtx.images → after.subtx.tx ≡ i
@@ -63,8 +63,8 @@ module _ (s : State) (i : ℕ) (before after : Transaction) (commons : Commons)
       let m : Moment = moment after.subtx commons.pages in
       let turn_here : TakesTurn (moment_of (all_of s) i) m = subst (λ (n : Moment). TakesTurn n m) (sym (same_moment s i before sound was)) turn in
       let leaves = turn_leaves (all_of s) i m sound.running (is_open_now s i before sound was) turn_here in
-      let all = after_turn (all_of s) turn_here.mid m in
-      let own : map.get all.images i ≡ Some after.subtx.images = ap (λ (n : ℕ). map.get all.images n) (sym leaves.1) ∙ inserted_here (map.insert s.images turn_here.mid.running.tx turn_here.mid.running.images) after.subtx.tx after.subtx.images in
+      let all = after_step (all_of s) m in
+      let own : map.get all.images i ≡ Some after.subtx.images = ap (λ (n : ℕ). map.get all.images n) (sym leaves.1) ∙ inserted_here s.images after.subtx.tx after.subtx.images in
       (all, record { leaves = leaves.0; same = refl; own = own; number = leaves.1 })
 
   pub stays_all : moment after.subtx commons.pages ≡ moment before.subtx s.commons.pages → Turns (all_of s)

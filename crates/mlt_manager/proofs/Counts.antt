@@ -51,7 +51,7 @@ touches_limits m m' (q, inl (mid, locks, writes)) = both_limits m mid m' (locks_
 touches_limits m m' (q, inr (page, made)) = record { locks = λ i. (made.locks i).max_open; pages = λ i. (made.store i).max_pages }
 
 turn_limits : (m m' : Moment) → TakesTurn m m' → KeepsLimits m m'
-turn_limits m m' t = both_limits m t.mid m' (touches_limits m t.mid t.first) (touches_limits t.mid m' t.second)
+turn_limits m m' t = touches_limits m m' t.touches
 
 back_limits : (m m' : Moment) → IsRolledBack m m' → KeepsLimits m m'
 back_limits m m' b = record { locks = λ i. (b.locks i).max_open; pages = λ i. (b.store i).max_pages }

@@ -87,7 +87,7 @@ told_finishes basis m before after found reply may is same =
     let told : WalkingFields = record before { reply = Some reply } in
     let finishes : Finishes (one_key basis) m m before told = record {
       leaves = leaves_it m m may.walks.may refl;
-      writes = (0, inl refl);
+      writes = inl refl;
       request = refl;
       in_pass = refl;
       operates = record {
@@ -137,7 +137,7 @@ change_finishes basis old new before after found reply change may is leaves writ
     } in
     record {
       leaves = leaves;
-      writes = (page_of before.walk.phase, inr writes);
+      writes = inr writes;
       request = request;
       in_pass = made.makes.same.pass;
       operates = record {

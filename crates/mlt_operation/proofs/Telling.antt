@@ -9,17 +9,19 @@ use Rattle.mlt_base.specs.Requests.{size_key_of, target_of}
 use Rattle.mlt_hash_form.specs.Held.{Agrees}
 use Rattle.mlt_held.proofs.Since.{nothing_written}
 use Rattle.mlt_held.specs.Moments.{Moment}
-use Rattle.mlt_held.specs.PageSteps.{HasNoPageLeft, Leaves}
+use Rattle.mlt_held.specs.PageSteps.{HasNoPageLeft, Leaves, LocksAtMost}
 use Rattle.mlt_held.specs.PageTurns.{IsRolledBack, TakesTurn}
-use Rattle.mlt_held.specs.Views.{IsUnwritten, View, view_of}
+use Rattle.mlt_held.specs.Views.{View, view_of}
 use Rattle.mlt_held.proofs.Views.{agrees}
 use Rattle.mlt_hash.specs.Walks.{Basis, IsAtBucket, MayWalk, Stands, WalkFields, one_key}
+use Rattle.mlt_hash.specs.Changes.{page_of}
 use Rattle.mlt_hash.specs.Splitting.{HasToMake, TellsAt}
 use Rattle.mlt_hash.specs.Steps.{GoesOn, HasFound, next_mode, next_page, steps_to_bucket}
 use Rattle.mlt_hash.specs.declared.answer.WalkAnswer.TheVariants as answer
 use Rattle.mlt_hash.specs.declared.pass.Pass.TheVariants as pass
 use Rattle.mlt_hash.specs.declared.pass.Phase.{Phase}
 use Rattle.mlt_hash.specs.declared.pass.Phase.TheVariants as at
+use Rattle.mlt_hash.proofs.Splittings.{none_left}
 use Rattle.mlt_operation.specs.declared.answer.StepAnswer.{StepAnswer}
 use Rattle.mlt_operation.specs.declared.answer.StepAnswer.TheVariants as step
 use Rattle.mlt_operation.specs.declared.course.Course.TheVariants.{One}
@@ -32,7 +34,7 @@ use Rattle.mlt_operation.specs.AtBucket.{IsThereFor, MayDecide, TellsAtBucket}
 use Rattle.mlt_operation.specs.Operating.{on_one}
 use Rattle.mlt_operation.specs.Walking.{CanTakeBackOne, MayWalkOn, WalkingFields}
 use Rattle.mlt_operation.proofs.Going.{put_on_way, same_target, untold_on_way}
-use Rattle.mlt_operation.proofs.Turns.{one_step_turns, two_steps_turn}
+use Rattle.mlt_operation.proofs.Turns.{lock_and_write_turn, one_step_turns}
 
 -- **Where its walk waits, so does the operation.**
 waits_at : (p : Phase) (basis : Basis) (old new : Moment) (before after : WalkingFields) (page by : ℕ) → before.walk.phase ≡ p
@@ -73,15 +75,6 @@ found_at : (p : Phase) (basis : Basis) (clean : ℕ → Option Page) (request : 
 found_at (at.AtBucket bucket depth f) basis clean request walk view found is same here back key agree =
     subst (λ (g : Option ℕ). IsThereFor request (one_key basis) walk view g) same (there_at request (one_key basis) clean walk view bucket depth f back key is here agree)
 found_at other basis clean request walk view found is same here back key agree = absurd same
-
--- what has been found has written nothing
-found_unwritten : (p : Phase) (basis : Basis) (walk : WalkFields) (view : View) (found : Option ℕ) → HasFound p found → Stands p (one_key basis) walk view → IsUnwritten view
-found_unwritten (at.AtBucket bucket depth f) basis walk view found same here = here.unwritten.own
-found_unwritten other basis walk view found same here = absurd same
-
-none_left : (p : Phase) (found : Option ℕ) → HasFound p found → steps_to_bucket p ≡ 0
-none_left (at.AtBucket bucket depth f) found same = refl
-none_left other found same = absurd same
 
 -- what the walk tells that has found its key
 pub found_by_path : (p : Phase) (basis : Basis) (old mid : Moment) (walk after : WalkFields) (found : Option ℕ)
@@ -135,9 +128,9 @@ reaches basis mid before walk found goes is none = record {
 
 -- **What an operation tells at its bucket is what its step tells.**
 pub found_tells : (basis : Basis) (old mid new : Moment) (before at after : WalkingFields) (found : Option ℕ) (told : StepAnswer) → MayWalkOn (one_key basis) old before → Leaves old mid
-    → TellsAt before.walk.phase (one_key basis) old mid before.walk at.walk (answer.Found found) → at.request ≡ before.request → at.reply ≡ before.reply
+    → LocksAtMost old mid (page_of at.walk.phase) → TellsAt before.walk.phase (one_key basis) old mid before.walk at.walk (answer.Found found) → at.request ≡ before.request → at.reply ≡ before.reply
     → TellsAtBucket (one_key basis) mid new at after told → TellsOfStep (one_key basis) old new (on_one before) (on_one after) told
-found_tells basis old mid new before at after found told may leaves tells request same at_bucket = by told at_bucket
+found_tells basis old mid new before at after found told may leaves locks tells request same at_bucket = by told at_bucket
   where
     path : GoesOn (one_key basis) mid before.walk at.walk × HasFound at.walk.phase found
     path = found_by_path before.walk.phase (one_key basis) old mid before.walk at.walk found tells
@@ -151,8 +144,7 @@ found_tells basis old mid new before at after found told may leaves tells reques
         let put = put_on_way before.walk.phase basis.root before.walk (view_of old) (omega (arith, was)) in
         let by_one : steps_to_change basis.root after.walk (view_of new) + 1 ≡ steps_to_change basis.root before.walk (view_of old) = omega (arith, was, put, finishes.last) in
         inl (record {
-          turn = two_steps_turn (one_key basis) old mid new before.walk at.walk may.walks leaves (walks_on (one_key basis) old mid before.walk at.walk may.walks leaves path.0)
-              (found_unwritten at.walk.phase (one_key basis) at.walk (view_of mid) found path.1 path.0.stands) finishes.leaves finishes.writes;
+          turn = lock_and_write_turn (one_key basis) old mid new before.walk (page_of at.walk.phase) may.walks locks finishes.writes;
           request = finishes.request ∙ request;
           operates = finishes.operates;
           in_first = λ first. finishes.in_pass ∙ path.0.same.pass ∙ first;

@@ -10,7 +10,7 @@ use Rattle.mlt_held.specs.Views.{View, view_of}
 use Rattle.mlt_hash.specs.Walks.{Basis, MayWalk, WalkFields}
 use Rattle.mlt_hash.specs.Passes.{next_of}
 use Rattle.mlt_hash.specs.Steps.{HasFound}
-use Rattle.mlt_hash.specs.Changes.{HasNoRoom, NeedsSplit}
+use Rattle.mlt_hash.specs.Changes.{HasNoRoom, NeedsSplit, page_of}
 use Rattle.mlt_hash.specs.declared.pass.Pass.TheVariants as pass
 use Rattle.mlt_hash.specs.declared.pass.Phase.TheVariants as at
 use Rattle.mlt_base.specs.declared.request.Request.{Request}
@@ -38,7 +38,7 @@ pub record MayDecide (basis : Basis) (m : Moment) (o : WalkingFields) (found : O
 -- It is told its reply, and what it changes is written: its next step is its end.
 pub record Finishes (basis : Basis) (old new : Moment) (before after : WalkingFields) : Type 0 where
   pub leaves : Leaves old new
-  pub writes : (q : ℕ) × WritesAtMost old new q
+  pub writes : WritesAtMost old new (page_of before.walk.phase)
   pub request : after.request ≡ before.request
   pub in_pass : after.walk.pass ≡ before.walk.pass
   pub operates : IsWalking basis after (view_of new)

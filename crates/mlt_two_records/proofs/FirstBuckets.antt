@@ -19,7 +19,7 @@ use Rattle.mlt_held.specs.Views.{ReadsHeldBucket, view_of}
 use Rattle.mlt_held.proofs.Leaving.{leaves_it}
 use Rattle.mlt_held.proofs.Views.{agrees}
 use Rattle.mlt_pair.specs.Changes.{FitsBoth, HasChanged, IsFull, IsFullBehind, LeavesLeft, LeavesRight, MakesBoth, TellsOfTwo, task_of}
-use Rattle.mlt_pair.specs.Pairs.{PairFields}
+use Rattle.mlt_pair.specs.Pairs.{PairFields, later_page}
 use Rattle.mlt_pair.specs.Plans.{FitsFound, HasNoPlan}
 use Rattle.mlt_pair.specs.Ways.{found_of, page_of}
 use Rattle.mlt_pair.specs.declared.answer.ChangeAnswer.TheVariants as answer
@@ -47,9 +47,9 @@ none_too (Some x) b alike none = absurd (false≢true (sym (alike ∙ ap is_some
 
 module _ (basis : Basis) (old : Moment) (request : Request) (pair : PairFields) (own size : Option ℕ) (ready : MayActOnBoth basis old request pair own size) (decided : ObjReply × Option RecChange) (told : decided ≡ decision request own) (resize : Option RecChange) (resized : resize ≡ size_decision request decided.0 size) where
   -- **What asks for no change leaves all as it is.**
-  pub told_nothing : is_some resize ≡ is_some decided.1 → (decided.1 ≡ None) ⊎ (resize ≡ None) → Writes old old × HasToldFirst basis request pair decided.0 (view_of old)
+  pub told_nothing : is_some resize ≡ is_some decided.1 → (decided.1 ≡ None) ⊎ (resize ≡ None) → Writes old old (later_page pair) × HasToldFirst basis request pair decided.0 (view_of old)
   told_nothing alike none = (
-    record { leaves = leaves_it old old ready.may refl; writes = (0, inl refl) },
+    record { leaves = leaves_it old old ready.may refl; writes = inl refl },
     told_none basis request pair decided.0 (view_of old) ready.keys ready.found ready.finding asks,
   )
     where

@@ -1,5 +1,5 @@
 -- The steps of a first pass, up to its last one
-use Rattle.std.proofs.Common.{◌≡◌, ℕ, ◌≤◌, Option, None, Some, refl, sym, ap, subst, ◌∙◌, arith}
+use Rattle.std.proofs.Common.{◌≡◌, ℕ, ◌≤◌, Option, None, Some, refl, sym, ap, subst, ◌∙◌, inr, arith}
 use Rattle.std.specs.FinMap as map
 use Rattle.mlt_kinds.specs.declared.operation.ObjReply.{ObjReply}
 use Rattle.mlt_base.specs.declared.request.Request.{Request}
@@ -9,15 +9,15 @@ use Rattle.mlt_page_locks.specs.LockTables.{page_count}
 use Rattle.mlt_hash_form.specs.File.{look_up}
 use Rattle.mlt_hash_form.specs.Held.{Agrees}
 use Rattle.mlt_held.specs.Moments.{Moment}
-use Rattle.mlt_held.specs.PageSteps.{Leaves, WritesHeldSlot}
+use Rattle.mlt_held.specs.PageSteps.{Leaves, LocksAtMost, WritesHeldSlot}
 use Rattle.mlt_held.specs.PageTurns.{TakesTurn}
 use Rattle.mlt_held.specs.Views.{view_of}
 use Rattle.mlt_held.proofs.OwnSteps.{step_keeps_tx}
-use Rattle.mlt_held.proofs.Turns.{same_own_same_pages, step_and_write_turn, step_turns, unwritten_own}
+use Rattle.mlt_held.proofs.Turns.{lock_and_write_touch, step_turns}
 use Rattle.mlt_held.proofs.Views.{agrees, write_writes}
 use Rattle.mlt_record.specs.Plans.{WriteFields}
 use Rattle.mlt_pair.specs.Changes.{HoldsOn}
-use Rattle.mlt_pair.specs.Pairs.{IsFound, PairFields, least_steps, most_steps}
+use Rattle.mlt_pair.specs.Pairs.{IsFound, PairFields, later_page, least_steps, mode_next, most_steps}
 use Rattle.mlt_pair.specs.Steps.{GoesOn, HasFound, TellsOfStep}
 use Rattle.mlt_pair.specs.Ways.{IsThere, found_of}
 use Rattle.mlt_pair.specs.declared.answer.PairAnswer.TheVariants as pair
@@ -114,11 +114,10 @@ module _ (basis : Basis) (old new : Moment) (request : Request) (before after : 
     last = let none = none_left after.left_way after.right_way there.0 there.1 in let least = tells.0.least in let most = tells.0.most in record { least = omega (arith, none, least); most = omega (arith, none, most) }
 
     module _ (then_ : Moment) (end : PairFields) where
-      turn_with : Writes new then_ → map.len (view_of then_).modes ≤ 5 → TakesTurn old then_
+      turn_with : Writes new then_ (later_page after) → map.len (view_of then_).modes ≤ 5 → TakesTurn old then_
       turn_with writes few =
-          let stays = same_own_same_pages old new may.may leaves.touches (unwritten_own old new may.may leaves.touches tells.0.finding.unwritten) in
-          step_and_write_turn old new then_ leaves.touches stays (few_pages old new same_tx (holds_read basis.bits basis.root after (view_of new) tells.0.finding).few)
-          writes.leaves.touches writes.writes (few_pages old then_ (step_keeps_tx new then_ writes.leaves.touches ∙ same_tx) few)
+          let locks : LocksAtMost old new (later_page after) = subst (LocksAtMost old new) tells.3 (inr (mode_next before, tells.0.locks)) in
+          step_turns old then_ (lock_and_write_touch old new then_ (later_page after) locks writes.writes) (few_pages old then_ (step_keeps_tx new then_ writes.leaves.touches ∙ same_tx) few)
 
       -- **What it does then is what its step tells.**
       pub found_tells : (told : FirstAnswer) → TellsAtBuckets basis new then_ request after end told → TellsOfFirst basis old then_ request before end told

@@ -6,7 +6,7 @@ use Rattle.mlt_kinds.specs.declared.operation.ObjReply.{ObjReply}
 use Rattle.mlt_base.specs.declared.request.Request.{Request}
 use Rattle.mlt_base.specs.Requests.{target_of}
 use Rattle.mlt_held.specs.Moments.{Moment}
-use Rattle.mlt_held.specs.PageSteps.{Leaves}
+use Rattle.mlt_held.specs.PageSteps.{Leaves, LocksAtMost}
 use Rattle.mlt_held.specs.PageTurns.{IsRolledBack, TakesTurn}
 use Rattle.mlt_held.specs.Views.{view_of}
 use Rattle.mlt_held.proofs.Since.{nothing_written}
@@ -28,7 +28,7 @@ use Rattle.mlt_two_records.specs.WidePass.{CauseAtOwn, IsGoingToSize, OwnRefused
 use Rattle.mlt_two_records.proofs.WideGoing.{goes_further, puts_behind, puts_still}
 use Rattle.mlt_two_records.proofs.WideOwn.{not_first, same_keys, still_wide}
 use Rattle.mlt_two_records.proofs.WideTelling.{IsWhy, found_by_path, reaches, was_last}
-use Rattle.mlt_two_records.proofs.WideTurns.{one_step_turns, two_steps_turn, walks_on}
+use Rattle.mlt_two_records.proofs.WideTurns.{lock_and_write_turn, one_step_turns, walks_on}
 
 module _ (basis : Basis) (old : Moment) (request : Request) (before : WalkFields) (may : MayGoOn basis old request (Wide leg.Own before)) where
   -- **It may take its step.**
@@ -105,7 +105,7 @@ module _ (basis : Basis) (old : Moment) (request : Request) (before : WalkFields
           (turn, record { size = goes; changed = inr (put.value, put.bucket, put.room_depth, put.was); steps = steps })
 
     -- **or has found its key.**
-    module _ (found : Option ℕ) (tells : TellsAt before.phase (one_key basis) old mid before walk (answer.Found found)) where
+    module _ (found : Option ℕ) (locks : LocksAtMost old mid (page_of walk.phase)) (tells : TellsAt before.phase (one_key basis) old mid before walk (answer.Found found)) where
       path : GoesOn (one_key basis) mid before walk × HasFound walk.phase found
       path = found_by_path before.phase (one_key basis) old mid before walk found tells
 
@@ -131,7 +131,7 @@ module _ (basis : Basis) (old : Moment) (request : Request) (before : WalkFields
         goes,
       )
       tells_there new after own.Over (writes, goes, steps) = (
-        two_steps_turn (one_key basis) old mid new before walk found may_walk leaves last path.1 (walks_on (one_key basis) old mid before walk may_walk leaves path.0.stands) writes.leaves writes.writes,
+        lock_and_write_turn (one_key basis) old mid new before (page_of walk.phase) may_walk locks writes.writes,
         record { size = goes; changed = inl last; steps = steps },
       )
       tells_there new after (own.Told reply) (stays, present) = (subst (λ (m : Moment). TakesTurn old m) (sym stays) turn, last, present)

@@ -143,7 +143,7 @@ module _ (basis : Basis) (m : Moment) (request : Request) (walk : WalkFields) (f
       }
 
       pub raised : WritesIfChanged m new (page_of walk.phase) answer.Changed → TellsAtSize basis since m new request walk after (told.Told reply)
-      raised writes = (record { leaves = leaves; writes = (page_of walk.phase, inr writes) }, told_both)
+      raised writes = (record { leaves = leaves; writes = inr writes }, told_both)
 
     -- **is to be split for,**
     splits_there : (after : WalkFields) (value : ℕ) → raise ≡ Add value → NeedsSplit over m walk after value → TellsAtSize basis since m m request walk after told.Going

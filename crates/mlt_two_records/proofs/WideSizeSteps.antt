@@ -12,7 +12,7 @@ use Rattle.mlt_base.specs.Requests.{decision, size_decision}
 use Rattle.mlt_hash_form.specs.File.{depth_of, header_of}
 use Rattle.mlt_hash_form.specs.Held.{Agrees, over}
 use Rattle.mlt_held.specs.Moments.{Moment}
-use Rattle.mlt_held.specs.PageSteps.{Leaves}
+use Rattle.mlt_held.specs.PageSteps.{Leaves, LocksAtMost}
 use Rattle.mlt_held.specs.PageTurns.{IsRolledBack, TakesTurn}
 use Rattle.mlt_held.specs.Views.{view_of}
 use Rattle.mlt_held.proofs.Views.{agrees}
@@ -38,7 +38,7 @@ use Rattle.mlt_two_records.proofs.WideOwn.{not_first}
 use Rattle.mlt_two_records.proofs.WideOwners.{agreed_then, form_since}
 use Rattle.mlt_two_records.proofs.WideSize.{put_still, size_keys, size_wide}
 use Rattle.mlt_two_records.proofs.WideTelling.{IsWhy, found_by_path, reaches, waits, was_last}
-use Rattle.mlt_two_records.proofs.WideTurns.{one_step_turns, two_steps_turn, walks_on}
+use Rattle.mlt_two_records.proofs.WideTurns.{lock_and_write_turn, one_step_turns, walks_on}
 
 -- ---- what the pass did before it went on to this key
 
@@ -168,7 +168,7 @@ module _ (basis : Basis) (old : Moment) (request : Request) (before : WalkFields
         )
 
     -- **or has found its key.**
-    module _ (found : Option ℕ) (tells : TellsAt before.phase on old mid before walk (answer.Found found)) where
+    module _ (found : Option ℕ) (locks : LocksAtMost old mid (page_of walk.phase)) (tells : TellsAt before.phase on old mid before walk (answer.Found found)) where
       path : GoesOn on mid before walk × HasFound walk.phase found
       path = found_by_path before.phase on old mid before walk found tells
 
@@ -209,7 +209,7 @@ module _ (basis : Basis) (old : Moment) (request : Request) (before : WalkFields
         goes,
       )
       tells_there new after (told.Told reply) (writes, both) = (
-        two_steps_turn on old mid new before walk found may_walk leaves last path.1 (walks_on on old mid before walk may_walk leaves path.0.stands) writes.leaves writes.writes,
+        lock_and_write_turn on old mid new before (page_of walk.phase) may_walk locks writes.writes,
         inl last,
         both,
       )

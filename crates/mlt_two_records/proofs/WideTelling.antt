@@ -12,6 +12,7 @@ use Rattle.mlt_hash.specs.declared.answer.WalkAnswer.{WalkAnswer}
 use Rattle.mlt_hash.specs.declared.answer.WalkAnswer.TheVariants as answer
 use Rattle.mlt_hash.specs.declared.pass.Phase.{Phase}
 use Rattle.mlt_hash.specs.declared.pass.Phase.TheVariants as at
+use Rattle.mlt_hash.proofs.Splittings.{none_left}
 use Rattle.mlt_two_records.specs.WalkSteps.{AsksForAt, LacksPage, ReachesBucket, WalkWaits}
 
 -- **What it waits for**
@@ -40,10 +41,6 @@ pub found_by_path : (p : Phase) (basis : Basis) (old mid : Moment) (walk after :
 found_by_path (at.Adding value bucket depth unsplit) basis old mid walk after found told = absurd told
 found_by_path (at.Splitting value depth) basis old mid walk after found told = absurd told
 found_by_path other basis old mid walk after found told = told
-
-none_left : (p : Phase) (found : Option ℕ) → HasFound p found → steps_to_bucket p ≡ 0
-none_left (at.AtBucket bucket depth f) found same = refl
-none_left other found same = absurd same
 
 -- **by the last step of its way.**
 pub was_last : (basis : Basis) (mid : Moment) (before walk : WalkFields) (found : Option ℕ) → GoesOn basis mid before walk → HasFound walk.phase found → steps_to_bucket before.phase ≡ 1

@@ -10,7 +10,7 @@ use Rattle.mlt_held.specs.Moments.{HasCleanFile, MayStep, Moment}
 use Rattle.mlt_held.specs.PageSteps.{Leaves, WritesAtMost}
 use Rattle.mlt_held.specs.PageTurns.{IsRolledBack}
 use Rattle.mlt_held.specs.Views.{view_of}
-use Rattle.mlt_pair.specs.Pairs.{IsFinding, IsFound, PairFields}
+use Rattle.mlt_pair.specs.Pairs.{IsFinding, IsFound, PairFields, later_page}
 use Rattle.mlt_pair.specs.Ways.{found_of}
 use Rattle.mlt_hash.specs.Walks.{Basis, IsAtStart}
 use Rattle.mlt_two_records.specs.declared.first.FirstAnswer.{FirstAnswer}
@@ -34,10 +34,10 @@ pub record MayActOnBoth (basis : Basis) (m : Moment) (request : Request) (pair :
   pub fits : CanChange (size_decision request (decision request own).0 size) size
   pub ghost : (decision request own).1 ≡ Some Revive → HasGhostOn basis file.clean pair.left
 
--- the changes, or that of the later bucket, are written, or nothing is asked for
-pub record Writes (old new : Moment) : Type 0 where
+-- on page q the changes, or that of the later bucket, are written, or nothing is asked for
+pub record Writes (old new : Moment) (q : ℕ) : Type 0 where
   pub leaves : Leaves old new
-  pub writes : (q : ℕ) × WritesAtMost old new q
+  pub writes : WritesAtMost old new q
 
 -- One of the buckets has no room, and all is rolled back.
 pub record RollsBack (basis : Basis) (old new : Moment) (request : Request) (pair : PairFields)
@@ -52,9 +52,9 @@ pub record RollsBack (basis : Basis) (old new : Moment) (request : Request) (pai
 abbrev pub TellsAtBuckets : Basis → Moment → Moment → Request → PairFields → PairFields → FirstAnswer
     → Type 0
 TellsAtBuckets basis old new request before after (answer.OneLeft reply) =
-    Writes old new × OwesOne basis request after reply (view_of new)
+    Writes old new (later_page before) × OwesOne basis request after reply (view_of new)
 TellsAtBuckets basis old new request before after (answer.Told reply) =
-    Writes old new × HasToldFirst basis request after reply (view_of new)
+    Writes old new (later_page before) × HasToldFirst basis request after reply (view_of new)
 TellsAtBuckets basis old new request before after answer.Full =
     RollsBack basis old new request before
 TellsAtBuckets basis old new request before after other = ⊥

@@ -10,7 +10,7 @@ use Rattle.mlt_base.specs.Requests.{target_of}
 use Rattle.mlt_held.specs.Moments.{Moment}
 use Rattle.mlt_held.specs.PageTurns.{IsRolledBack}
 use Rattle.mlt_held.specs.Views.{view_of}
-use Rattle.mlt_hash.specs.Changes.{HasNoRoom, Makes, NeedsSplit}
+use Rattle.mlt_hash.specs.Changes.{HasNoRoom, Makes, NeedsSplit, page_of}
 use Rattle.mlt_hash.specs.Splitting.{IsUnderWay}
 use Rattle.mlt_hash.specs.Steps.{HasFound, steps_to_bucket}
 use Rattle.mlt_hash.specs.Walks.{Basis, Before, MayWalk, WalkFields, basis_after, one_key}
@@ -73,7 +73,7 @@ TellsAtOwn basis old new request before after own.Going =
     IsToSplit (one_key basis) old new before after
     × IsGoingToOwn basis request after (view_of new)
 TellsAtOwn basis old new request before after own.Over =
-    Writes old new × IsGoingToSize basis request after (view_of new)
+    Writes old new (page_of before.phase) × IsGoingToSize basis request after (view_of new)
     × (steps_to_bucket after.phase ≡ 2)
 TellsAtOwn basis old new request before after (own.Told reply) =
     (new ≡ old) × HasToldPresent basis request after reply (view_of new)
@@ -147,7 +147,7 @@ TellsAtSize basis since old new request before after told.Going =
     IsToSplit (basis_after since basis) old new before after
     × IsGoingToSize basis request after (view_of new)
 TellsAtSize basis since old new request before after (told.Told reply) =
-    Writes old new × HasToldBoth basis request after reply (view_of new)
+    Writes old new (page_of before.phase) × HasToldBoth basis request after reply (view_of new)
 TellsAtSize basis since old new request before after (told.Refused reason) =
     IsRolledBack old new × RefusesAt reason (basis_after since basis) old before
 TellsAtSize basis since old new request before after other = ⊥

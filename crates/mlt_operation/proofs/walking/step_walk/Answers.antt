@@ -58,7 +58,7 @@ returns-in-Found g c =
     let after : WalkingFields = walking c.args.request.now c.act_on.new.reply c.act_on.new.walk in
     let at_bucket : TellsAtBucket basis mid new at after c.act_on.result =
     subst (λ (t : ℕ). TellsAtBucket (basis_in g.P.Pseudo.bits_of c.args.setting.now t) mid new at after c.act_on.result) tx c.act_on.ensures.tells in
-    record { tells = found_tells basis old mid new before at after c.in-Found.found c.act_on.result c.requires.ready c.in-Found.ensures.leaves c.in-Found.ensures.tells refl refl at_bucket }
+    record { tells = found_tells basis old mid new before at after c.in-Found.found c.act_on.result c.requires.ready c.in-Found.ensures.leaves c.in-Found.ensures.locks c.in-Found.ensures.tells refl refl at_bucket }
 
 pub returns-in-Changed : goal.returns-in-Changed
 returns-in-Changed g c =

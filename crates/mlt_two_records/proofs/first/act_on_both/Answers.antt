@@ -48,7 +48,7 @@ returns-in-Changed g c =
     let changed : HasChanged basis.bits basis.root basis.opens basis.tx c.change.new.self (view_of new) = subst (λ (r : FileRoot). HasChanged r.bits r.root basis.opens basis.tx c.change.new.self (view_of new)) c.requires.1.0 c.in-Changed.ensures.stands in
     record {
       tells = (
-        record { leaves = c.in-Changed.ensures.leaves; writes = (_, c.in-Changed.ensures.writes) },
+        record { leaves = c.in-Changed.ensures.leaves; writes = c.in-Changed.ensures.writes },
         told_changed basis old c.args.request.now c.args.pair.now c.args.own c.args.size c.requires.1.1 c.decide-reply.result c.decide-reply.ensures.told c.resize-resize.result c.resize-resize.ensures.change
             c.in-Some-Some.change c.in-Some-Some.is-0 c.in-Some-Some.resize c.in-Some-Some.is-1 c.decide-reply.ensures.fits new c.change.new.self
             (record { left = Some c.asked_for.result; right = Some c.asked_for-2.result }) (ap Some c.asked_for.ensures) (ap Some c.asked_for-2.ensures)
@@ -64,7 +64,7 @@ returns-in-OneLeft g c =
     let changed : HasChanged basis.bits basis.root basis.opens basis.tx c.change.new.self (view_of new) = subst (λ (r : FileRoot). HasChanged r.bits r.root basis.opens basis.tx c.change.new.self (view_of new)) c.requires.1.0 c.in-OneLeft.ensures.stands in
     record {
       tells = (
-        record { leaves = c.in-OneLeft.ensures.leaves; writes = (_, c.in-OneLeft.ensures.writes) },
+        record { leaves = c.in-OneLeft.ensures.leaves; writes = c.in-OneLeft.ensures.writes },
         told_one_left basis old c.args.request.now c.args.pair.now c.args.own c.args.size c.requires.1.1 c.decide-reply.result c.decide-reply.ensures.told c.resize-resize.result c.resize-resize.ensures.change
             c.in-Some-Some.change c.in-Some-Some.is-0 c.in-Some-Some.resize c.in-Some-Some.is-1 c.decide-reply.ensures.fits new c.change.new.self
             (record { left = Some c.asked_for.result; right = Some c.asked_for-2.result }) (ap Some c.asked_for.ensures) (ap Some c.asked_for-2.ensures)

@@ -3,7 +3,6 @@ use Rattle.mlt_base.specs.declared.record.RecChange.{RecChange}
 use Rattle.mlt_held.specs.Moments.{Moment, moment}
 use Rattle.mlt_held.specs.Views.{view_of}
 use Rattle.mlt_held.proofs.OwnSteps.{step_keeps_tx}
-use Rattle.mlt_hash.specs.Changes.{page_of}
 use Rattle.mlt_hash.specs.Walks.{Basis, basis_in}
 use Rattle.mlt_two_records.specs.AtWideBuckets.{HasJustPut}
 use Rattle.mlt_two_records.specs.WidePass.{IsGoingToSize}
@@ -43,7 +42,7 @@ returns-in-Changed g c =
     let new : Moment = moment c.insert.new.subtx c.insert.new.pages in
     let tx : new.running.tx ≡ m.running.tx = step_keeps_tx m new c.in-Changed.ensures.leaves.touches in
     let goes = subst (λ (t : ℕ). IsGoingToSize (basis_in g.P.Pseudo.bits_of c.args.setting.now t) c.args.request.now c.go_over.new.walk (view_of new)) tx c.go_over.ensures.goes in
-    record { tells = (record { leaves = c.in-Changed.ensures.leaves; writes = (page_of c.args.walk.now.phase, inr c.in-Changed.ensures.writes) }, goes, c.go_over.ensures.steps) }
+    record { tells = (record { leaves = c.in-Changed.ensures.leaves; writes = inr c.in-Changed.ensures.writes }, goes, c.go_over.ensures.steps) }
 
 pub returns-in-NeedSplit : goal.returns-in-NeedSplit
 returns-in-NeedSplit g c =

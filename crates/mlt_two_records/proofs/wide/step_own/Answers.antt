@@ -22,7 +22,7 @@ act_on_own-requires g c =
     let old : Moment = moment c.args.subtx.now c.args.pages.now in
     let mid : Moment = moment c.advance.new.subtx c.advance.new.pages in
     let tx : mid.running.tx ≡ old.running.tx = step_keeps_tx old mid c.in-Found.ensures.leaves.touches in
-    let may = may_act basis old c.args.request.now c.args.walk.now c.requires.ready mid c.advance.new.self c.in-Found.ensures.leaves c.in-Found.found c.in-Found.ensures.tells in
+    let may = may_act basis old c.args.request.now c.args.walk.now c.requires.ready mid c.advance.new.self c.in-Found.ensures.leaves c.in-Found.found c.in-Found.ensures.locks c.in-Found.ensures.tells in
     record { ready = subst (λ (t : ℕ). MayActOnOwn (basis_in g.P.Pseudo.bits_of c.args.setting.now t) mid c.args.request.now c.advance.new.self c.in-Found.found) (sym tx) may }
 
 pub go_over-requires : goal.go_over-requires
@@ -64,7 +64,7 @@ returns-in-Found g c =
     let tx : mid.running.tx ≡ old.running.tx = step_keeps_tx old mid c.in-Found.ensures.leaves.touches in
     let there : TellsAtOwn basis mid new c.args.request.now c.advance.new.self c.act_on_own.new.walk c.act_on_own.result =
     subst (λ (t : ℕ). TellsAtOwn (basis_in g.P.Pseudo.bits_of c.args.setting.now t) mid new c.args.request.now c.advance.new.self c.act_on_own.new.walk c.act_on_own.result) tx c.act_on_own.ensures.tells in
-    record { tells = tells_there basis old c.args.request.now c.args.walk.now c.requires.ready mid c.advance.new.self c.in-Found.ensures.leaves c.in-Found.found c.in-Found.ensures.tells new c.act_on_own.new.walk c.act_on_own.result there }
+    record { tells = tells_there basis old c.args.request.now c.args.walk.now c.requires.ready mid c.advance.new.self c.in-Found.ensures.leaves c.in-Found.found c.in-Found.ensures.locks c.in-Found.ensures.tells new c.act_on_own.new.walk c.act_on_own.result there }
 
 pub returns-in-Changed : goal.returns-in-Changed
 returns-in-Changed g c =

@@ -20,7 +20,7 @@ act_on_size-requires g c κs within =
     let old : Moment = moment c.args.subtx.now c.args.pages.now in
     let mid : Moment = moment c.advance.new.subtx c.advance.new.pages in
     let tx : mid.running.tx ≡ old.running.tx = step_keeps_tx old mid c.in-Found.ensures.leaves.touches in
-    let may = may_act basis old c.args.request.now c.args.walk.now g.since c.requires.1 mid c.advance.new.self c.in-Found.ensures.leaves c.in-Found.found c.in-Found.ensures.tells in
+    let may = may_act basis old c.args.request.now c.args.walk.now g.since c.requires.1 mid c.advance.new.self c.in-Found.ensures.leaves c.in-Found.found c.in-Found.ensures.locks c.in-Found.ensures.tells in
     (within, subst (λ (t : ℕ). MayActOnSize (basis_in g.P.Pseudo.bits_of c.args.setting.now t) mid c.args.request.now c.advance.new.self c.in-Found.found g.since) (sym tx) may)
 
 pub decide-requires : goal.decide-requires
@@ -56,7 +56,7 @@ returns-in-Found g c =
     let tx : mid.running.tx ≡ old.running.tx = step_keeps_tx old mid c.in-Found.ensures.leaves.touches in
     let there : TellsAtSize basis g.since mid new c.args.request.now c.advance.new.self c.act_on_size.new.walk c.act_on_size.result =
     subst (λ (t : ℕ). TellsAtSize (basis_in g.P.Pseudo.bits_of c.args.setting.now t) g.since mid new c.args.request.now c.advance.new.self c.act_on_size.new.walk c.act_on_size.result) tx c.act_on_size.ensures.tells in
-    record { tells = tells_there basis old c.args.request.now c.args.walk.now g.since c.requires.1 mid c.advance.new.self c.in-Found.ensures.leaves c.in-Found.found c.in-Found.ensures.tells new c.act_on_size.new.walk c.act_on_size.result there }
+    record { tells = tells_there basis old c.args.request.now c.args.walk.now g.since c.requires.1 mid c.advance.new.self c.in-Found.ensures.leaves c.in-Found.found c.in-Found.ensures.locks c.in-Found.ensures.tells new c.act_on_size.new.walk c.act_on_size.result there }
 
 pub returns-in-Changed : goal.returns-in-Changed
 returns-in-Changed g c =

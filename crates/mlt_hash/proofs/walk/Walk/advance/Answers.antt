@@ -1,12 +1,14 @@
-use Rattle.std.proofs.Common.{◌≡◌, refl, ap, sym, subst, ◌∙◌}
+use Rattle.std.proofs.Common.{◌≡◌, refl, ap, sym, subst, ◌∙◌, arith}
 use Rattle.std.specs.Prelude.{◌↔◌}
 use Rattle.mlt_types.specs.declared.refusal.Refusal.TheVariants as refusal
 use Rattle.mlt_held.specs.PageSteps.{HasNoPageLeft}
 use Rattle.mlt_held.specs.Moments.{Moment, moment}
 use Rattle.mlt_hash.specs.Walks.{Basis, WalkFields}
-use Rattle.mlt_hash.specs.Splitting.{HasToMake, TellsAt}
+use Rattle.mlt_hash.specs.Changes.{page_of}
+use Rattle.mlt_hash.specs.Splitting.{HasToMake, TellsAt, walk_step}
+use Rattle.mlt_hash.specs.Steps.{steps_to_bucket}
 use Rattle.mlt_hash.specs.declared.answer.WalkAnswer.TheVariants as answer
-use Rattle.mlt_hash.proofs.Splittings.{path_has_room}
+use Rattle.mlt_hash.proofs.Splittings.{adding_finds_none, earlier_finds_none, locks_if_found, path_has_room, splitting_finds_none}
 use Rattle.mlt_hash.proofs.walk.Walk.advance.Goals as goal
 
 pub read_header-requires : goal.read_header-requires
@@ -71,6 +73,39 @@ returns-in-Splitting-clause-tells g c =
     let old : Moment = moment c.args.subtx.now c.args.pages.now in
     let phase = sym (ap (λ (w : WalkFields). w.phase) c.self.view_is) ∙ c.in-Splitting.is in
     subst (λ p. TellsAt p basis old (moment c.go_on_splitting.new.subtx c.go_on_splitting.new.pages) c.args.self.now c.go_on_splitting.new.walk c.go_on_splitting.result) (sym phase) c.go_on_splitting.ensures.tells
+
+pub returns-in-Start-clause-locks : goal.returns-in-Start-clause-locks
+returns-in-Start-clause-locks g c =
+    let basis : Basis = g.basis in
+    let old : Moment = moment c.args.subtx.now c.args.pages.now in
+    let phase = sym (ap (λ (w : WalkFields). w.phase) c.self.view_is) ∙ c.in-Start.is in
+    let left = ap steps_to_bucket phase in
+    earlier_finds_none basis old (moment c.args.subtx.now c.read_header.new.pages) c.args.self.now c.read_header.new.walk c.read_header.result (omega (arith, left)) c.read_header.ensures.tells
+
+pub returns-in-Headed-clause-locks : goal.returns-in-Headed-clause-locks
+returns-in-Headed-clause-locks g c =
+    let basis : Basis = g.basis in
+    let old : Moment = moment c.args.subtx.now c.args.pages.now in
+    let phase = sym (ap (λ (w : WalkFields). w.phase) c.self.view_is) ∙ c.in-Headed.is in
+    let left = ap steps_to_bucket phase in
+    earlier_finds_none basis old (moment c.args.subtx.now c.read_directory.new.pages) c.args.self.now c.read_directory.new.walk c.read_directory.result (omega (arith, left)) c.read_directory.ensures.tells
+
+pub returns-in-Placed-clause-locks : goal.returns-in-Placed-clause-locks
+returns-in-Placed-clause-locks g c =
+    let old : Moment = moment c.args.subtx.now c.args.pages.now in
+    locks_if_found old (moment c.args.subtx.now c.read_bucket.new.pages) (page_of c.read_bucket.new.walk.phase) c.read_bucket.result c.read_bucket.ensures.locks
+
+pub returns-in-Adding-clause-locks : goal.returns-in-Adding-clause-locks
+returns-in-Adding-clause-locks g c =
+    let basis : Basis = g.basis in
+    let old : Moment = moment c.args.subtx.now c.args.pages.now in
+    adding_finds_none basis (walk_step old (moment c.add_or_split.new.subtx c.add_or_split.new.pages) c.args.self.now c.add_or_split.new.walk) c.in-Adding.value c.in-Adding.bucket c.in-Adding.depth c.add_or_split.result c.add_or_split.ensures.tells
+
+pub returns-in-Splitting-clause-locks : goal.returns-in-Splitting-clause-locks
+returns-in-Splitting-clause-locks g c =
+    let basis : Basis = g.basis in
+    let old : Moment = moment c.args.subtx.now c.args.pages.now in
+    splitting_finds_none basis (walk_step old (moment c.go_on_splitting.new.subtx c.go_on_splitting.new.pages) c.args.self.now c.go_on_splitting.new.walk) c.in-Splitting.value c.in-Splitting.depth c.go_on_splitting.result c.go_on_splitting.ensures.tells
 
 pub returns-in-Start-clause-no_room : goal.returns-in-Start-clause-no_room
 returns-in-Start-clause-no_room g c =
