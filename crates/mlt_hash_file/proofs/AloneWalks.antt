@@ -10,7 +10,7 @@ use Rattle.mlt_held.proofs.Since.{nothing_written}
 use Rattle.mlt_hash_file.specs.Alone.{KeepsBefore, basis_of, pages_before, pages_since}
 use Rattle.mlt_hash_file.specs.AloneWalks.{HasArrived, IsFileBefore, IsHashFile, IsReadySince}
 use Rattle.mlt_hash.specs.Splitting.{IsUnderWay, TellsAt}
-use Rattle.mlt_hash.specs.Steps.{HasFound, IsSameWalk, TellsOfPath, steps_to_bucket}
+use Rattle.mlt_hash.specs.Steps.{IsSameWalk, TellsOfPath, steps_to_bucket}
 use Rattle.mlt_hash.specs.Walks.{Basis, Before, IsAtStart, IsStanding, Stands, WalkFields, nothing_before, view_for}
 use Rattle.mlt_hash.specs.declared.answer.WalkAnswer.{WalkAnswer}
 use Rattle.mlt_hash.specs.declared.answer.WalkAnswer.TheVariants as answer
