@@ -43,6 +43,19 @@ def sixty_four_are_open_and_the_next_is_refused(mltx):
     expect(mltx.run("steps", "-", given=given), out=text(told))
 
 
+@test
+def sixty_three_operations_wait_for_one(mltx):
+    """Each keeps its reservation while it waits, and is done once the one that all wait for has committed. A program
+    that refuses the seventeenth reservation fails, or the 63rd."""
+    others = range(2, 65)
+    steps = [[f"step {t}"] * 4 for t in others]
+    given = text(["begin"] * 64, "whole 1 open 1", "whole 1 deposit 1 5", [f"call {t} balance 1" for t in others])
+    told = text([f"begun {t}" for t in range(1, 65)], "done opened", "done done", ["called"] * 63)
+    given += text(steps, "commit 1", steps)
+    told += text([["going"] * 3, "blocked by 1"] * 63, "committed 1", [["going"] * 3, "done is 5"] * 63)
+    expect(mltx.run("steps", "-", given=given), out=told + text("account 1 5", "depth 0"))
+
+
 @test(seconds=1)
 def sixty_four_sessions_at_once_and_the_next_waits(mltx):
     """The 65th connection is served once a session ends. Served earlier, its `begin` would be refused."""
@@ -143,6 +156,19 @@ def operations_of_a_transaction(mltx, ops):
         if t == 2:
             base.undo()
     expect(mltx.run("steps", "-", given=text(given)), out=text(told) + base.text() + "depth 0\n")
+
+
+@test(seconds=1)
+def sixty_four_transactions_have_1024_operations_each(mltx):
+    """65,536 operations are done and may still be taken back, so the history has as many lines reserved. None of them
+    waits; each second transaction is taken back, and the others stay."""
+    everybody = range(1, 65)
+    ups = [f"whole {t} up 2 1" for _ in range(MOST_OPERATIONS) for t in everybody]
+    ends = [line for t in everybody for line in ([f"abort {t}", f"undo {t}"] if t % 2 else [f"commit {t}"])]
+    told = [[f"begun {t}" for t in everybody], ["done done"] * len(ups)]
+    told += [line for n in range(1, 33) for line in ("aborting", "aborted", f"committed {n}")]
+    given = text(["begin"] * 64, ups, ends)
+    expect(mltx.run("steps", "-", given=given), out=text(told, f"counter 2 {32 * MOST_OPERATIONS}", "depth 0"))
 
 
 @test

@@ -11,4 +11,6 @@ mod failing;
 #[cfg(test)]
 mod faults;
 #[cfg(test)]
+mod lines;
+#[cfg(test)]
 mod rows;
