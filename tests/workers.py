@@ -75,3 +75,13 @@ def scripts_give_up_with_their_tries_spent(mltx):
     holds(any(counts), f"no script gave up in {ATTEMPTS} runs with one try")
     for options in ((), ("--tries", 10_000), ("--tries", 1_000_000)):
         same(gave_up(mltx, *options), 0, f"how many scripts gave up with {options}")
+
+
+@test
+def whoever_ends_lets_the_next_one_begin(mltx):
+    """900 scripts end at once: aborted with nothing done, aborted with an operation, or committed. Were one kind of end
+    not seen, each later begin would wait for a tenth part of a second in vain, and all for more than a minute."""
+    given = lines("begin|abort|begin|up 7 1|abort|begin|up 7 1|commit") * 300
+    ran = mltx.run("run", "-", given=given, timeout=20)
+    same((ran.status, ran.err), (0, b""), "a run of 900 scripts")
+    same(ran.out.splitlines()[-1], b"counter 7 300", "the base")
