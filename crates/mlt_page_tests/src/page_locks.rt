@@ -1,7 +1,7 @@
 //! Grants on one page.
 
-ghost use Rattle.std.specs.Prelude.{◌≡◌};
-ghost use Rattle.mlt_page_locks.specs.LockTables.{HasAtMost};
+ghost use Rattle.std.specs.Prelude.{◌≡◌, ◌↔◌, IsTrue};
+ghost use Rattle.mlt_page_tests.specs.Desks.{IsOfSmallNumbers, IsSmall};
 
 use mlt_page_locks::{Grant, PageLocks};
 use mlt_test_tools::same_at;
@@ -10,22 +10,20 @@ use std::alloc::Global;
 use std::process::Abort;
 use std::test::Fail;
 
-/// Locks that were asked for so many times, with room for 64 transactions.
+/// Locks of transactions and on pages of small numbers, with room for 64 transactions.
 #[derive(Drop)]
 pub(crate) struct Desk {
     locks: PageLocks,
-    asked: u32,
-    ghost few: { HasAtMost asked locks },
+    ghost small: { IsOfSmallNumbers locks },
     ghost room: { locks.max_open ≡ 64 },
 }
 
 impl Desk {
     /// The transaction that this one waits for, if there is one.
     pub fn ask(&mut self, rt: &impl Abort, tx: u64, page: u32, mode: Mode) -> Option<u64> {
-        assert!(rt; self.asked < 64);
-        let grant = self.locks.ask(TxId(tx), PageNo(page), mode);
-        self.asked += 1;
-        match grant {
+        assert!(rt; is_small(tx));
+        assert!(rt; is_small(u64::from(page)));
+        match self.locks.ask(TxId(tx), PageNo(page), mode) {
             Grant::Held => None,
             Grant::Waiting(by) => Some(by.0),
         }
@@ -42,10 +40,17 @@ impl Desk {
     }
 }
 
-/// Locks that were not asked for.
+// Whether a number is below 16, or at most 15 above 4,096.
+fn is_small(number: u64) -> bool
+    ensures { IsTrue result ↔ IsSmall number }
+{
+    number < 16 || (4_096 <= number && number < 4_096 + 16)
+}
+
+/// No locks.
 pub(crate) fn new_desk(alloc: Global) -> Result<Desk, Refusal> {
     let locks = PageLocks::new(alloc, &Limits::program())?;
-    Ok(Desk { locks, asked: 0 })
+    Ok(Desk { locks })
 }
 
 // Requests for page 9, each with the transaction that it waits for; where there is no mode, the transaction is closed.

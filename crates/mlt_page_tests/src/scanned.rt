@@ -7,10 +7,7 @@ use std::alloc::AllocFailed;
 use std::process::Abort;
 use std::test::Fail;
 
-// A desk takes 64 requests, so the 2,000 calls go to 40 of them.
-const DESKS: u32 = 40;
-
-const CALLS: u32 = 50;
+const CALLS: u32 = 2_000;
 
 const PAGES: u64 = 5;
 
@@ -71,46 +68,42 @@ fn next_number(state: u64) -> u64 {
         .wrapping_add(1_442_695_040_888_963_407)
 }
 
-// Some calls of both, which answer alike: one call in four releases. Each page and its fellow 4,096 above it have one
-// remainder. The numbers go on from `state`.
+// One call of each, which answer alike: one in four releases. Each page and its fellow 4,096 above it have one remainder.
 fn are_alike(
     rt: &impl Abort,
     desk: &mut Desk,
     scanned: &mut ScanPages,
-    mut state: u64,
-) -> Result<u64, Fail> {
-    for _ in 0..CALLS {
-        state = next_number(state);
-        let tx = 1 + (state >> 40) % TRANSACTIONS;
-        let page = ((state >> 20) % PAGES + (state >> 50) % 2 * 4_096) as u32;
-        let mode = if (state >> 30) % 3 == 0 {
-            Mode::Exclusive
-        } else {
-            Mode::Shared
-        };
-        let mut answers = (None, None);
-        if (state >> 56) % 4 == 0 {
-            desk.release_all(tx);
-            scanned.release_all(tx);
-        } else {
-            answers = (desk.ask(rt, tx, page, mode), scanned.ask(tx, page, mode)?);
-        }
-        let found = (answers.0, desk.mode_of(tx, page));
-        let wanted = (answers.1, scanned.mode_of(tx, page));
-        same_at(&(tx, page, mode), &found, &wanted)?;
+    number: u64,
+) -> Result<(), Fail> {
+    let tx = 1 + (number >> 40) % TRANSACTIONS;
+    let page = ((number >> 20) % PAGES + (number >> 50) % 2 * 4_096) as u32;
+    let mode = if (number >> 30) % 3 == 0 {
+        Mode::Exclusive
+    } else {
+        Mode::Shared
+    };
+    let mut answers = (None, None);
+    if (number >> 56) % 4 == 0 {
+        desk.release_all(tx);
+        scanned.release_all(tx);
+    } else {
+        answers = (desk.ask(rt, tx, page, mode), scanned.ask(tx, page, mode)?);
     }
-    Ok(state)
+    let found = (answers.0, desk.mode_of(tx, page));
+    let wanted = (answers.1, scanned.mode_of(tx, page));
+    same_at(&(tx, page, mode), &found, &wanted)
 }
 
 #[test]
 fn scanned_list_answers_alike(rt: HostRuntime) -> Result<(), Fail> {
-    let mut state = 1;
-    for _ in 0..DESKS {
-        let mut desk = new_desk(rt.alloc())?;
-        let mut scanned = ScanPages {
-            held: Vec::new(rt.alloc()),
-        };
-        state = are_alike(&rt, &mut desk, &mut scanned, state)?;
+    let mut desk = new_desk(rt.alloc())?;
+    let mut scanned = ScanPages {
+        held: Vec::new(rt.alloc()),
+    };
+    let mut number = 1;
+    for _ in 0..CALLS {
+        number = next_number(number);
+        are_alike(&rt, &mut desk, &mut scanned, number)?;
     }
     Ok(())
 }

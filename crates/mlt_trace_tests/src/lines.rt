@@ -12,7 +12,10 @@ const LINES: usize = 184;
 // The longest operation and reply with the greatest numbers. No manager tells this, and an item can be so.
 const LONGEST: (u64, ObjOp, ObjReply) = (
     18_446_744_073_709_551_615,
-    ObjOp::Account(4_294_967_295, AccountOp::Withdraw(18_446_744_073_709_551_615)),
+    ObjOp::Account(
+        4_294_967_295,
+        AccountOp::Withdraw(18_446_744_073_709_551_615),
+    ),
     ObjReply::Is(18_446_744_073_709_551_615),
 );
 
