@@ -1,5 +1,5 @@
 -- Locks of small numbers are few.
-use Rattle.std.proofs.Common.{◌≡◌, ℕ, zero, suc, ◌≤◌, ◌<◌, ◌+◌, eqb, true, Option, Some, None, is_some, refl, sym, ap, subst, ◌∙◌, arith}
+use Rattle.std.proofs.Common.{◌≡◌, ℕ, zero, suc, ◌≤◌, ◌<◌, ◌+◌, true, Option, Some, None, is_some, refl, sym, ap, subst, ◌∙◌, arith}
 use Rattle.std.specs.Ordering.{nat_cmp}
 use Rattle.std.specs.Cmp.{nat_cmp_total}
 use Rattle.std.specs.FinMap as map
@@ -7,7 +7,7 @@ use Rattle.std.proofs.lemmas.Bool.Decides.{nat_tests}
 use Rattle.mlt_types.specs.declared.mode.Mode.{Mode}
 use Rattle.mlt_page_locks.proofs.Maps.{get_inserted, get_removed, same_entries}
 use Rattle.mlt_page_locks.proofs.LockLaws.{can_read-granted, can_read-released}
-use Rattle.mlt_page_locks.specs.LockTables.{no_locks, Modes, LockTable, pages_of, can_read, is_holder, HasAtMost}
+use Rattle.mlt_page_locks.specs.LockTables.{no_locks, Modes, LockTable, pages_of, HasAtMost}
 use Rattle.mlt_page_locks.specs.Requests.{Answers, granted, released, with_page}
 use Rattle.mlt_page_locks.specs.declared.page_locks.Grant.{Grant}
 use Rattle.mlt_page_locks.specs.declared.page_locks.Grant.TheVariants.{Held, Waiting}

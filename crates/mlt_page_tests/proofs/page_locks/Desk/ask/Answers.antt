@@ -1,4 +1,4 @@
-use Rattle.std.proofs.Common.{◌≡◌, true, IsTrue, ◌∙◌, arith}
+use Rattle.std.proofs.Common.{◌∙◌, arith}
 use Rattle.mlt_page_locks.proofs.LockLaws.{room_for_few}
 use Rattle.mlt_page_tests.specs.Desks.{IsSmall}
 use Rattle.mlt_page_tests.proofs.SmallNumbers.{few_of_small_numbers, small_answered}
