@@ -69,11 +69,12 @@ def each_link_to_a_line_leads_to_what_it_names(_mltx):
 
 
 @test
-def the_main_theorem_stands_in_two_documents(_mltx):
-    """Word for word it stands in README and where it is defined. Elsewhere it is linked."""
+def the_main_theorem_stands_in_three_documents(_mltx):
+    """Word for word it stands in README, where it is explained, and where it is defined. Elsewhere it is linked."""
     texts = {page.relative_to(ROOT): " ".join(text.replace("\n> ", "\n").split()).lower() for page, text in pages().items()}
     theorem = re.search(r"\*\*(after any list of [^*]*)\.\*\*", texts[(ROOT / "README.md").relative_to(ROOT)])[1]
-    same([str(page) for page, text in texts.items() if theorem in text], ["README.md", "docs/DEFINITIONS.md"], "where it stands")
+    found = sorted(str(page) for page, text in texts.items() if theorem in text)
+    same(found, ["README.md", "docs/DEFINITIONS.md", "docs/THEOREM.md"], "where it stands")
 
 
 @test
@@ -96,14 +97,29 @@ def the_map_of_the_crates_is_that_of_their_list(_mltx):
 
 @test
 def lines_of_the_headline_are_counted(_mltx):
-    """The table of definitions under the headline has the counts of tools/headline-lines, and so do the sentences."""
+    """The table under the headline has the counts of tools/headline-lines, and so do the sentences of three documents."""
     counted = output_of("headline-lines")
-    parts, total = re.findall(r"(?m)^ +(\d+) lines$", counted), re.search(r"(\d+) lines in all", counted)[1]
-    definitions = (ROOT / "docs/DEFINITIONS.md").read_text()
+    *parts, views = re.findall(r"(?m)^ +(\d+) lines$", counted)
+    total = re.search(r"(\d+) lines of definitions in all", counted)[1]
+    same(str(sum(map(int, parts))), total, "the sum of the parts")
+    readme, theorem, definitions = ((ROOT / page).read_text() for page in ("README.md", "docs/THEOREM.md", "docs/DEFINITIONS.md"))
     table = definitions.partition("## What the headline rests on")[2].partition("\n## ")[0]
-    same(re.findall(r"(?m)^\|.*\| (\d+) \|$", table), parts, "the lines of each part")
-    same(re.findall(r"They\s+are\s+(\d+)\s+lines", table), [total], "the lines in DEFINITIONS")
-    same(re.findall(r"\[(\d+)\s+lines\s+of\s+definitions\]", (ROOT / "README.md").read_text()), [total], "the lines in README")
+    same(re.findall(r"(?m)^\|.*\| (\d+) \|$", table), [*parts, views], "the lines of each part, and of the views")
+    said = re.findall(in_text("The definitions are") + r"\s+(\d+)\s+lines,\s+and\s+the\s+views\s+(\d+)\s+more", table)
+    same(said, [(total, views)], "the lines in DEFINITIONS")
+    said = re.findall(r"\[(\d+)\s+lines\s+of\s+definitions\s+and\s+(\d+)\s+lines\s+of\s+views\]", readme)
+    same(said, [(total, views)], "the lines in README")
+    same(re.findall(r"last row of the table of DEFINITIONS:\s+(\d+)\s+lines", theorem), [views], "the lines in THEOREM")
+
+
+@test
+def each_view_that_counts_is_linked(_mltx):
+    """Each file of a type whose view counts stands in the row of the views, and no other: one that is left out fails."""
+    section = output_of("headline-lines").partition("\nthe views:\n")[2]
+    typed = {path for path in re.findall(r"(?m)^ +\d+ (\S+\.rt): ", section) if "ghost view" in (ROOT / "crates" / path).read_text()}
+    row = re.search(r"(?m)^\| The views \|.*$", (ROOT / "docs/DEFINITIONS.md").read_text())[0]
+    linked = {path for path in re.findall(r"\]\(\.\./crates/(\S+?\.rt)\)", row)}
+    same(sorted(linked - {"mlt_kinds/src/packed.rt"}), sorted(typed), "the files of views")
 
 
 @test
