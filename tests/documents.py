@@ -1,6 +1,8 @@
 """Documents: each link leads somewhere, counts are what they say, and README shows what the program writes."""
 import re
+import shutil
 import subprocess
+from pathlib import Path
 
 from harness import ROOT, expect, holds, same, test
 
@@ -93,6 +95,37 @@ def the_map_of_the_crates_is_that_of_their_list(_mltx):
     crates = re.findall(r"(?m)^(\w+):", (ROOT / "crates.txt").read_text())
     same(re.findall(r"(?m)^\| \[`(\w+)`\]\(\S+\) \| \S", table), crates, "the crates with a promise")
     same(sorted(crates), sorted(folder.name for folder in (ROOT / "crates").iterdir()), "the folders of crates")
+
+
+def linked_libraries(kit):
+    """The libraries that `mltx` is linked from, without the standard library and what that uses. Without a kit, those alone
+    that rows of crates.txt name."""
+    rows = dict(re.findall(r"(?m)^(\w+):(.*)$", (ROOT / "crates.txt").read_text()))
+
+    def below(name):
+        if name in rows:
+            return rows[name].split()
+        return re.findall(r"(?m)^dep (\w+)$", (kit / f"rlibs/{name}.rlib/format").read_text()) if kit else []
+
+    def reached(names):
+        found = list(names)
+        for name in found:
+            found += [it for it in below(name) if it not in found]
+        return set(found)
+
+    return reached(["mltx"]) - reached(["std"]) - set(rows)
+
+
+@test
+def each_library_that_is_trusted_is_named(_mltx):
+    """README names just the libraries of the kit that the program is linked from: where a row of crates.txt, or such a library,
+    takes up another one, it fails. On a machine without the kit only the rows are read."""
+    section = (ROOT / "README.md").read_text().partition("## What is trusted")[2].partition("\n## ")[0]
+    named, rt = set(re.findall(r"`(\w+)`", section)), shutil.which("rt")
+    linked = linked_libraries(Path(rt).resolve().parent.parent if rt else None)
+    holds(linked <= named, f"README does not name {sorted(linked - named)}")
+    if rt:
+        same(sorted(named), sorted(linked), "the libraries that README names")
 
 
 @test
