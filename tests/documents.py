@@ -117,6 +117,16 @@ def linked_libraries(kit):
 
 
 @test
+def edits_that_must_fail_are_counted(_mltx):
+    """How many edits there are, in all and of the crates of the table of costs, as DEVELOPING says."""
+    developing = (ROOT / "docs/DEVELOPING.md").read_text()
+    rows = re.findall(r"(?m)^\| `?(\w+)`? \|.*\| (\d+) \|$", developing.partition("### What it costs")[2])
+    found = {crate: len([*ROOT.glob(f"crates/{'*' if crate == 'all' else crate}/must-fail/*.edit")]) for crate, _ in rows}
+    same({crate: int(count) for crate, count in rows}, found, "the edits of today")
+    same(re.findall(in_text("There are") + r"\s+(\d+)\s+edits", developing), [str(found["all"])], "the edits in the sentence")
+
+
+@test
 def each_library_that_is_trusted_is_named(_mltx):
     """README names just the libraries of the kit that the program is linked from: where a row of crates.txt, or such a library,
     takes up another one, it fails. On a machine without the kit only the rows are read."""
