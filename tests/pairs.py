@@ -2,8 +2,12 @@
 the first.
 
 A transaction holds the first operation, and another asks for the second: it is done or blocked, just as the table of
-conflicts says. Then they end in each order. A program with one pair more or less in its table fails."""
-from harness import each, expect, holds
+conflicts says. Then they end in each order. A program with one pair more or less in its table fails. And so does a table of
+conflicts that has one pair more or less than the operations want."""
+from itertools import product
+
+from harness import each, expect, holds, same, test
+from model import CONFLICTS, Base, locks
 from random_work import show, watched_schedule
 
 MOST = 10**18
@@ -56,3 +60,30 @@ def all_pairs(mltx, case):
     expect(ran, out=ran.out)
     watch = watched_schedule(mltx, events, ran.out.decode().splitlines(), low=False)
     holds(watch.sure and not watch.open, "a whole operation waited, or a transaction is open at the end")
+
+
+def told_in_turn(state, operations):
+    """What these are told one after another, and all that is held then."""
+    base = Base()
+    for operation in state:
+        base.ask(operation)
+    return [base.ask(operation) for operation in operations], base.cells
+
+
+@test
+def conflicts_are_what_operations_want(_mltx):
+    """The model marks a pair of classes exactly where in some small state the two, told the other way round, are told something
+    else or leave something else. So of a new operation that has its class and no mark yet, this prints the marks that it wants."""
+    wanted = {held: "" for held in CONFLICTS}
+    for states, forms in KINDS.values():
+        on_one = [[(form[0], 1, *form[1:]) for form in group] for group in (*states, forms)]
+        for state, held, requested in product(on_one[:-1], on_one[-1], on_one[-1]):
+            (reply, later), left = told_in_turn(state, [held, requested])
+            if told_in_turn(state, [requested, held]) == ([later, reply], left):
+                continue
+            first, second = locks(held, reply), locks(requested, later)
+            shared = min(first.keys() & second.keys(), default=None)
+            holds(shared, f"{held} and {requested} have no cell in common, but an order")
+            wanted[first[shared]] = wanted.get(first[shared], "") + second[shared]
+    for held, marks in wanted.items():
+        same("".join(sorted(CONFLICTS.get(held, ""))), "".join(sorted(set(marks))), f"the marks beside a held {held}")
