@@ -1,2 +1,3 @@
 pub mod Merging
 pub mod Receiving
+pub mod Sorting

@@ -1,5 +1,5 @@
--- Whose receipts they are.
-use Rattle.std.specs.Prelude.{◌≡◌, ℕ, ◌≤◌, ◌++◌, List, All}
+-- Whose receipts they are, and how they stand.
+use Rattle.std.specs.Prelude.{◌≡◌, ◌⊎◌, ℕ, ◌<◌, ◌≤◌, ◌++◌, List, All, AllPairs}
 use Rattle.mlt_serial.specs.declared.outcome.Outcome.{Outcome}
 
 -- the receipt is that of this client
@@ -19,3 +19,11 @@ IsOfClient limit o = (1 ≤ o.client) × (o.client ≤ limit)
 -- so is each of these
 abbrev pub AreOfClients : ℕ → List Outcome → Type 0
 AreOfClients limit receipts = All (IsOfClient limit) receipts
+
+-- it is of an earlier client, or of the same one and has no greater number
+abbrev pub MayPrecede : Outcome → Outcome → Type 0
+MayPrecede one other = (one.client < other.client) ⊎ ((one.client ≡ other.client) × (one.number ≤ other.number))
+
+-- each may precede all that stand behind it
+abbrev pub AreByClientAndNumber : List Outcome → Type 0
+AreByClientAndNumber receipts = AllPairs MayPrecede receipts

@@ -2,7 +2,7 @@
 
 ghost use Rattle.std.specs.Prelude.{◌≡◌, ◌↔◌, IfErr, IsOkUnless, IfOk, IsPermutation, IsTrue, Err, true, false};
 ghost use Rattle.mlt_audit.specs.Agreement.{Agrees};
-ghost use Rattle.mlt_serve.specs.Clients.{AreOfClients, IsOfClient};
+ghost use Rattle.mlt_serve.specs.Clients.{AreByClientAndNumber, AreOfClients, IsOfClient};
 ghost use Rattle.mlt_serve.specs.Endings.{outcome_of};
 
 use crate::accepting::Accepting;
@@ -33,7 +33,8 @@ fn are_of_clients(receipts: &[Outcome], limit: u32) -> bool
 
 /// The receipts by client, and those of a client by number.
 fn in_order(receipts: Vec<Outcome>) -> Vec<Outcome>
-    ensures { IsPermutation receipts.items result.items }
+    ensures same { IsPermutation receipts.items result.items }
+    ensures order { AreByClientAndNumber result.items }
 {
     let mut receipts = receipts;
     receipts.sort_unstable_by_key(|receipt| (receipt.client, receipt.number));
@@ -54,6 +55,7 @@ pub(crate) fn receipts_of<P: Pseudo>(
     ensures same { IfOk result (λ receipts. IsPermutation gathered.receipts.items receipts) }
     ensures agrees { IfOk result (λ receipts. Agrees receipts manager.now.commons.history.items) }
     ensures clients { IfOk result (λ receipts. AreOfClients limit receipts) }
+    ensures order { IfOk result (λ receipts. AreByClientAndNumber receipts) }
     ensures served { IfOk result (λ _. gathered.connections ≡ limit) }
     ensures early { IfErr (outcome_of accepting) (λ refusal. result ≡ Err refusal) }
     ensures short { accepting ≡ Accepting.Done → gathered.is_short ≡ true

@@ -2,7 +2,7 @@
 
 ghost use Rattle.std.specs.Prelude.{◌≡◌, ◌⊎◌, ◌<◌, ◌≤◌, IfErr, IfOk};
 ghost use Rattle.mlt_audit.specs.Agreement.{Agrees};
-ghost use Rattle.mlt_serve.specs.Clients.{AreOfClients};
+ghost use Rattle.mlt_serve.specs.Clients.{AreByClientAndNumber, AreOfClients};
 
 use crate::crew::serve_connections;
 use crate::gathering::{gather, new_crew};
@@ -42,6 +42,7 @@ fn serve_with<L: Ledger + Send + Sync, P: Pseudo + Drop + Send, R: Threads + Wai
     requires most { sessions ≤ 64 }
     ensures receipts { IfOk result (λ got. Agrees got.0 got.1.commons.history.items) }
     ensures clients { IfOk result (λ got. AreOfClients limit got.0) }
+    ensures order { IfOk result (λ got. AreByClientAndNumber got.0) }
     ensures events { IfOk result (λ got. got.1.events ≡ got.2) }
     ensures refusal { IfErr result (λ refusal.
         (refusal ≡ Refusal.Io) ⊎ (refusal ≡ Refusal.OutOfMemory) ⊎ (refusal ≡ Refusal.Audit)) }
@@ -103,6 +104,8 @@ pub fn serve_on<P: Pseudo + Drop + Send, R: Threads + Wait + Clock + Sync>(
     ensures receipts { IfOk result (λ got. Agrees got.0 got.1.commons.history.items) }
     // each receipt is that of one of the connections
     ensures clients { IfOk result (λ got. AreOfClients limit got.0) }
+    // they stand by client and then by number
+    ensures order { IfOk result (λ got. AreByClientAndNumber got.0) }
     ensures refusal { IfErr result (λ refusal.
         (refusal ≡ Refusal.Io) ⊎ (refusal ≡ Refusal.OutOfMemory) ⊎ (refusal ≡ Refusal.Audit)) }
 {
