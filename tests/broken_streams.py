@@ -2,13 +2,14 @@
 import errno
 import os
 import re
+import select
 import signal
 import subprocess
 import threading
 import time
-from contextlib import suppress
+from contextlib import ExitStack, contextmanager, suppress
 
-from harness import PATIENCE, each, expect, free_address, holds, lines, listening, same, state_of, test
+from harness import PATIENCE, all_threads_are, each, expect, free_address, holds, lines, listening, same, state_of, test
 
 FAULT = b"mltx: 13 Io\n"
 
@@ -230,19 +231,22 @@ def has_ended_all(trace, what):
     same(ended, begun, f"{what}: how many of the transactions have ended in {trace!r}")
 
 
-@each({f"each-receipt-of-a-session-{name}": fault for name, fault in READ_FAULTS.items()}, seconds=2)
-def receipts_fail(mltx, fault):
+@test(seconds=2)
+def each_receipt_of_a_session_fails(mltx):
     """Whichever byte does not come, the lines before it are answered, and an open transaction is taken back."""
     for number in range(1, len(SAID) + 1):
-        what = f"a session whose byte {number} fails to come by {errno.errorcode[fault]}"
-        heard, ended, trace = served(mltx, f"recv {number} {fault} 1")
+        what = f"a session whose byte {number} fails to come"
+        heard, ended, trace = served(mltx, f"recv {number} {errno.EIO} 1")
         same(heard, "".join(TOLD.splitlines(keepends=True)[: SAID[: number - 1].count("\n")]), what)
         expect(ended, out="served 1\n", what=what)
         has_ended_all(trace, what)
         same("commit 1 1" in trace, "committed 1" in heard, f"{what}: whether it has committed in {trace!r}")
 
 
-@each({f"each-sending-of-a-session-{name}": fault for name, fault in WRITE_FAULTS.items()}, seconds=2)
+SEND_FAULTS = {"fails": errno.EIO, "takes-nothing": 0}
+
+
+@each({f"each-sending-of-a-session-{name}": fault for name, fault in SEND_FAULTS.items()}, seconds=2)
 def sendings_fail(mltx, fault):
     """Whichever byte of an answer is not taken, those before it went out, and an open transaction is taken back."""
     for number in range(1, len(TOLD) + 1):
@@ -258,6 +262,19 @@ SERVED = "served 1\n"
 SERVED_TRACE = lines(
     "begin 1|op 1 open 1 opened|op 1 deposit 1 5 done|commit 1 1|begin 2|op 2 up 7 1 done|back 2|abort 2"
 )
+
+INTERRUPTED = {"receipt": ("recv", SAID), "sending": ("send", TOLD)}
+
+
+@each({f"each-{name}-of-a-session-is-interrupted": case for name, case in INTERRUPTED.items()}, seconds=2)
+def calls_of_sockets_are_interrupted(mltx, case):
+    """Whichever byte's call is interrupted, be it thrice, the call is made again and the client hears all."""
+    call, text = case
+    for number in range(1, len(text) + 1):
+        what = f"a session whose {call} {number} is interrupted"
+        heard, ended, trace = served(mltx, f"{call} {number} {errno.EINTR} 1 3")
+        same((heard, trace), (TOLD, SERVED_TRACE), what)
+        expect(ended, out=SERVED, what=what)
 
 
 @test(seconds=3)
@@ -338,7 +355,7 @@ def stop_and_go_on(process):
 
 @test
 def solo_that_was_stopped_goes_on(mltx):
-    """A read that a stop would interrupt were a fault: no call of the program's is interrupted."""
+    """A read that a stop would interrupt were a fault: no call on a file or a pipe is interrupted by one."""
     with subprocess.Popen([mltx.path], stdin=subprocess.PIPE, stdout=subprocess.PIPE) as running:
         running.stdin.write(b"begin\nopen 1\n")
         running.stdin.flush()
@@ -357,3 +374,87 @@ def server_that_was_stopped_goes_on(mltx):
             same(peer.say_all("open 1\ncommit\n"), b"opened\ncommitted 1\n", "lines after the stop")
         same(server.talk("begin\nbalance 1\n"), b"begun 2\nis 0\n", "a connection after the stop")
         expect(server.end(), out="served 2\n")
+
+
+# A stop interrupts what waits at a socket with a time-out, as each has where there is an idle time.
+
+
+@contextmanager
+def stopped(server):
+    """The server is stopped while the block lasts, once all of it was asleep."""
+    deadline = time.monotonic() + PATIENCE
+    while not all_threads_are(server.process, "S"):
+        holds(server.process.poll() is None and time.monotonic() < deadline, "the server never slept")
+        time.sleep(0.001)
+    server.stop()
+    yield
+    server.process.send_signal(signal.SIGCONT)
+
+
+STOPS, CLIENTS = 5, 6
+
+
+@test
+def server_with_an_idle_time_that_was_stopped_goes_on(mltx):
+    """Clients in transactions, some of which send a line during each stop and some behind it, hear all."""
+    with ExitStack() as all_of_it:
+        server = all_of_it.enter_context(mltx.serve("--idle", 600, "--sessions", CLIENTS, limit=CLIENTS))
+        peers = [all_of_it.enter_context(server.connect()) for _ in range(CLIENTS)]
+        for number, peer in enumerate(peers, 1):
+            same(peer.ask("begin"), f"begun {number}", "begin")
+        for _ in range(STOPS):
+            with stopped(server):
+                for number, peer in enumerate(peers[::2]):
+                    peer.send(f"up {number} 1\n")
+            same([peer.line() for peer in peers[::2]], ["done"] * (CLIENTS // 2), "lines that came during a stop")
+            same([peer.ask("up 99 1") for peer in peers[1::2]], ["done"] * (CLIENTS // 2), "lines behind a stop")
+        for number, peer in enumerate(peers, 1):
+            same(peer.ask("commit"), f"committed {number}", "commit")
+            peer.end()
+        expect(server.end(), out=f"served {CLIENTS}\n")
+
+
+@test(seconds=3)
+def line_that_comes_during_a_long_stop(mltx):
+    """What a client sent while the server was stopped is read, though the stop was longer than the idle time."""
+    with mltx.serve("--idle", 2) as server, server.connect() as peer:
+        same(peer.ask("begin"), "begun 1", "begin")
+        with stopped(server):
+            peer.send("up 1 1\n")
+            time.sleep(3)
+        same(peer.line(), "done", "a line that came during the stop")
+        same(peer.say_all("commit\n"), b"committed 1\n", "a line behind it")
+        expect(server.end(), out="served 1\n")
+
+
+@test(seconds=3)
+def answers_that_wait_while_the_server_is_stopped(mltx):
+    """A client that reads late hears all, though its session was stopped in the middle of a write."""
+    count = 600_000
+    with mltx.serve("--idle", 600) as server, server.connect() as peer:
+        said = threading.Thread(target=lambda: (peer.send("up 1 1\n" * count), peer.end()))
+        said.start()
+        for _ in range(3):
+            time.sleep(0.3)
+            with stopped(server):
+                pass
+        heard = peer.rest()
+        said.join()
+        same((len(heard), set(heard.splitlines())), (len(b"error 3 NoSuchTx\n") * count, {b"error 3 NoSuchTx"}), "the answers")
+        expect(server.end(), out="served 1\n")
+
+
+@test(seconds=3)
+def silent_client_of_a_server_that_is_stopped_again_and_again(mltx):
+    """It is cut once its idle time is spent: a stop gives it no more."""
+    with mltx.serve("--idle", 1) as server, server.connect() as peer:
+        begun = time.monotonic()
+        same(peer.ask("begin"), "begun 1", "begin")
+        while not select.select([peer.socket], [], [], 0.2)[0]:
+            holds(time.monotonic() < begun + PATIENCE, "the client was never cut")
+            server.stop()
+            server.process.send_signal(signal.SIGCONT)
+        took = time.monotonic() - begun
+        same(peer.rest(), b"", "what it hears")
+        holds(1 <= took < 10, f"the client was cut after {took} seconds")
+        expect(server.end(), out="served 1\n")

@@ -146,6 +146,14 @@ def state_of(folder):
     return Path(folder, "stat").read_text(encoding="ascii").rpartition(") ")[2][0]
 
 
+def all_threads_are(process, state):
+    """Whether each thread of a process is in this state. A thread may end as it is looked at: then not yet."""
+    try:
+        return all(state_of(thread) == state for thread in Path(f"/proc/{process.pid}/task").iterdir())
+    except (FileNotFoundError, ProcessLookupError):
+        return False
+
+
 class Program:
     """The program under test, run in a folder of its own that is removed afterwards."""
 
@@ -249,7 +257,7 @@ class Server:
         """Stops it, and returns once each of its threads has stopped: a signal reaches them one after another."""
         self.process.send_signal(signal.SIGSTOP)
         deadline = time.monotonic() + PATIENCE
-        while any(state_of(thread) != "T" for thread in Path(f"/proc/{self.process.pid}/task").iterdir()):
+        while not all_threads_are(self.process, "T"):
             if time.monotonic() > deadline:
                 raise Failed("the server did not stop")
             time.sleep(0.001)

@@ -82,7 +82,7 @@ impl<L: Ledger> Served<L> {
         let tries = Tries::PerOperation(service.tries);
         let mut desk = LockDesk::new(rt, service.shared, &passage, mine, tries);
         desk.serve(client);
-        let socket = Socket::new(&stream, service.lookout, service.idle);
+        let socket = Socket::new(rt, &stream, service.lookout, service.idle);
         let refused = talk(alloc, &socket, &passage, &mut desk, client, receipts);
         socket.close();
         let (mine, more) = desk.close();

@@ -2,7 +2,7 @@
 
 use mlt_text::MAX_INPUT;
 use std::io;
-use std::io::Read;
+use std::io::{ErrorKind, Read};
 use std::net::{Shutdown, TcpStream};
 use std::time::{Clock, Duration, Instant};
 
@@ -30,9 +30,14 @@ fn read_away<C: Clock>(clock: &C, stream: &TcpStream) -> io::Result<()> {
             return Ok(());
         }
         stream.set_read_timeout(Some(left))?;
-        let count = reader.read(&mut buffer)?;
-        total = total.saturating_add(count);
-        if count == 0 || total >= MAX_INPUT {
+        match reader.read(&mut buffer) {
+            Ok(0) => return Ok(()),
+            Ok(count) => total = total.saturating_add(count),
+            // As after a stop of the program.
+            Err(error) if error.kind() == ErrorKind::Interrupted => (),
+            Err(error) => return Err(error),
+        }
+        if total >= MAX_INPUT {
             return Ok(());
         }
     }

@@ -8,6 +8,7 @@ use std::cell::Cell;
 use std::io;
 use std::io::{Read, Write};
 use std::sync::Wait;
+use std::time::Clock;
 
 // After so many events, which take some 30 microseconds, a session goes to the end of the queue: so one with many lines does not
 // keep the others waiting.
@@ -97,19 +98,19 @@ fn holds_no_page(told: &Told) -> bool {
 
 /// A connection whose reads and writes wait outside.
 #[derive(Drop)]
-pub(crate) struct Outside<'a, R: Wait> {
-    socket: &'a Socket<'a>,
+pub(crate) struct Outside<'a, R: Wait + Clock> {
+    socket: &'a Socket<'a, R>,
     passage: &'a Passage<'a, R>,
 }
 
-impl<'a, R: Wait> Outside<'a, R> {
+impl<'a, R: Wait + Clock> Outside<'a, R> {
     /// The connection of the session that has this passage.
-    pub(crate) fn new(socket: &'a Socket<'a>, passage: &'a Passage<'a, R>) -> Outside<'a, R> {
+    pub(crate) fn new(socket: &'a Socket<'a, R>, passage: &'a Passage<'a, R>) -> Outside<'a, R> {
         Outside { socket, passage }
     }
 }
 
-impl<R: Wait> Read for Outside<'_, R> {
+impl<R: Wait + Clock> Read for Outside<'_, R> {
     fn read(&mut self, buf: &mut [u8]) -> io::Result<usize> {
         self.passage.leave();
         let count = self.socket.read(buf)?;
@@ -120,7 +121,7 @@ impl<R: Wait> Read for Outside<'_, R> {
     }
 }
 
-impl<R: Wait> Write for Outside<'_, R> {
+impl<R: Wait + Clock> Write for Outside<'_, R> {
     fn write(&mut self, buf: &[u8]) -> io::Result<usize> {
         self.passage.leave();
         self.socket.write(buf)

@@ -9,7 +9,7 @@ use std::hint::spin_loop;
 use std::io;
 use std::io::{ErrorKind, Read, Write};
 use std::net::TcpStream;
-use std::time::Duration;
+use std::time::{Clock, Duration, Instant};
 
 // How often a read looks for bytes before it sleeps, each time by a call of the system: in some ten microseconds.
 const LOOKS: u32 = 50;
@@ -22,10 +22,15 @@ const MOST_GAP: u32 = 64;
 /// A connection on which a read first looks for bytes for some microseconds, so that a client that sends its next line at once finds
 /// its session awake. It looks while sessions are few, and ever more seldom where it was in vain, as for a client that is slow or far
 /// away.
+///
+/// Where a socket has an idle time, a stop of the program interrupts what waits there. It waits on then, for what is left of the time.
 #[derive(Drop)]
-pub(crate) struct Socket<'a> {
+pub(crate) struct Socket<'a, C: Clock> {
+    clock: &'a C,
     stream: &'a TcpStream,
     lookout: &'a Lookout,
+    /// For how long a read or a write waits, if that has an end.
+    idle: Option<Duration>,
     /// Whether a read or a write that can't go on at once waits until it can.
     waits: Cell<bool>,
     /// How many reads are to come that do not look.
@@ -34,22 +39,24 @@ pub(crate) struct Socket<'a> {
     gap: Cell<u32>,
 }
 
-impl<'a> Socket<'a> {
+impl<'a, C: Clock> Socket<'a, C> {
     /// The socket of a client whose session begins. A read or a write that waits longer than the idle time fails, if there is one.
     pub(crate) fn new(
+        clock: &'a C,
         stream: &'a TcpStream,
         lookout: &'a Lookout,
         idle: Option<Duration>,
-    ) -> Socket<'a> {
+    ) -> Socket<'a, C> {
         // Without this an answer may be held back; where it fails it still comes.
         let _ = stream.set_nodelay(true);
-        // Where these fail, a wait has no end; an open socket takes them.
-        let _ = stream.set_read_timeout(idle);
-        let _ = stream.set_write_timeout(idle);
+        // Where this fails, a wait has no end; an open socket takes it.
+        let _ = put_patience(stream, idle);
         lookout.enter();
         Socket {
+            clock,
             stream,
             lookout,
+            idle,
             waits: Cell::new(true),
             rest: Cell::new(0),
             gap: Cell::new(FIRST_GAP),
@@ -86,7 +93,7 @@ impl<'a> Socket<'a> {
         let mut stream = self.stream;
         for _ in 0..LOOKS {
             let read = stream.read(buf);
-            if !would_wait(&read) {
+            if !comes_later(&read) {
                 self.gap.set(FIRST_GAP);
                 return Some(read);
             }
@@ -108,8 +115,31 @@ impl<'a> Socket<'a> {
             }
         }
         self.put_waits(true)?;
+        let start = self.now()?;
         let mut stream = self.stream;
-        stream.read(buf)
+        let read = stream.read(buf);
+        if !is_interrupted(&read) {
+            return read;
+        }
+        let read = self.read_again(start, buf);
+        // Where this fails, the next wait is as short as the rest of this one.
+        let _ = put_patience(self.stream, self.idle);
+        read
+    }
+
+    /// Reads bytes after an interruption, once there are some.
+    fn read_again(&self, start: Option<Instant>, buf: &mut [u8]) -> io::Result<usize>
+        ensures { ReadsAtMost result buf.new }
+    {
+        let mut stream = self.stream;
+        for _ in 0..u64::MAX {
+            self.put_rest(start)?;
+            let read = stream.read(buf);
+            if !is_interrupted(&read) {
+                return read;
+            }
+        }
+        Err(io::Error::from(ErrorKind::Interrupted))
     }
 
     /// Writes bytes, once some can be taken.
@@ -117,18 +147,79 @@ impl<'a> Socket<'a> {
         ensures { WritesAtMost result buf.now }
     {
         let mut stream = self.stream;
+        if !self.waits.get() {
+            let written = stream.write(buf);
+            if !comes_later(&written) {
+                return written;
+            }
+            self.put_waits(true)?;
+        }
+        let start = self.now()?;
         let written = stream.write(buf);
-        if self.waits.get() || !would_wait(&written) {
+        if !is_interrupted(&written) {
             return written;
         }
-        self.put_waits(true)?;
-        stream.write(buf)
+        let written = self.write_again(start, buf);
+        // Where this fails, the next wait is as short as the rest of this one.
+        let _ = put_patience(self.stream, self.idle);
+        written
+    }
+
+    /// Writes bytes after an interruption, once some can be taken.
+    fn write_again(&self, start: Option<Instant>, buf: &[u8]) -> io::Result<usize>
+        ensures { WritesAtMost result buf.now }
+    {
+        let mut stream = self.stream;
+        for _ in 0..u64::MAX {
+            self.put_rest(start)?;
+            let written = stream.write(buf);
+            if !is_interrupted(&written) {
+                return written;
+            }
+        }
+        Err(io::Error::from(ErrorKind::Interrupted))
+    }
+
+    /// When a wait begins, if it has an end.
+    fn now(&self) -> io::Result<Option<Instant>> {
+        match self.idle {
+            Some(_) => Ok(Some(Instant::now(self.clock)?)),
+            None => Ok(None),
+        }
+    }
+
+    /// From now on a read or a write waits for what is left of the idle time of a wait that began then. Where nothing is left it does
+    /// not wait, but takes what came in the meantime.
+    fn put_rest(&self, start: Option<Instant>) -> io::Result<()> {
+        let (Some(idle), Some(start)) = (self.idle, start) else {
+            return Ok(());
+        };
+        let rest = idle.saturating_sub(start.elapsed(self.clock)?);
+        if rest.is_zero() {
+            return self.put_waits(false);
+        }
+        put_patience(self.stream, Some(rest))
     }
 }
 
-fn would_wait(done: &io::Result<usize>) -> bool {
+/// From now on a read or a write waits for so long, or without an end.
+fn put_patience(stream: &TcpStream, patience: Option<Duration>) -> io::Result<()> {
+    stream.set_read_timeout(patience)?;
+    stream.set_write_timeout(patience)
+}
+
+fn is_interrupted(done: &io::Result<usize>) -> bool {
     match done {
         Ok(_) => false,
-        Err(error) => error.kind() == ErrorKind::WouldBlock,
+        Err(error) => error.kind() == ErrorKind::Interrupted,
+    }
+}
+
+/// Whether a read or a write that does not wait has nothing to tell yet.
+fn comes_later(done: &io::Result<usize>) -> bool {
+    match done {
+        Ok(_) => false,
+        Err(error) => error.kind() == ErrorKind::WouldBlock
+            || error.kind() == ErrorKind::Interrupted,
     }
 }

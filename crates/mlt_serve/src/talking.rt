@@ -10,13 +10,14 @@ use mlt_types::Refusal;
 use mlt_wire::session;
 use std::alloc::Global;
 use std::sync::Wait;
+use std::time::Clock;
 
 /// Talks over a socket by a session at the desk, which adds receipts of this client alone. It answers whether the session was
 /// refused a growth; any other end of it is an end of this connection alone. While it waits for the client it is outside of the
 /// turnstile, and at the end too.
-pub(crate) fn talk<R: Wait, D: Desk>(
+pub(crate) fn talk<R: Wait + Clock, D: Desk>(
     alloc: Global,
-    socket: &Socket<'_>,
+    socket: &Socket<'_, R>,
     passage: &Passage<'_, R>,
     desk: &mut D,
     client: u32,
