@@ -9,13 +9,16 @@ use Rattle.mlt_event.specs.declared.told.Told.{Told}
 use Rattle.mlt_event.specs.declared.told.Told.TheVariants as told
 use Rattle.mlt_manager.specs.Answers.{counted}
 use Rattle.mlt_manager.specs.Events.{Meets}
-use Rattle.mlt_manager.specs.Managers.{ManagerFields}
+use Rattle.mlt_manager.specs.Managers.{IsManager, ManagerFields}
 use Rattle.mlt_lock_desk.specs.Refusals.{IsOfBegin, IsOfCommit, IsOfOperation}
 
--- an event of some manager was told this, and met the contract of its call
+-- An event of some manager was told this, and met the contract of its call. What is always true of a manager is true of it
+-- before the event and after it.
 pub record IsToldTo {P : Type 0} (bits_of : P → ℕ → ℕ) (event : Event) (told : Told) : Type 0 where
   pub before : ManagerFields P
   pub after : ManagerFields P
+  pub sound_before : IsManager bits_of before
+  pub sound_after : IsManager bits_of after
   pub meets : Meets bits_of event told (counted before) after
 
 -- what a begin may answer: a number that was told, or one of its refusals

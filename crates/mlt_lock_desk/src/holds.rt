@@ -3,6 +3,7 @@
 ghost use Rattle.std.specs.Prelude.{◌≡◌, ◌++◌, ◌+◌, ◌-◌, ◌<◌, ◌^◌, [], min};
 ghost use Rattle.mlt_manager.specs.Answers.{counted};
 ghost use Rattle.mlt_manager.specs.Events.{Meets};
+ghost use Rattle.mlt_manager.specs.Managers.{IsManager};
 ghost use Rattle.mlt_lock_desk.specs.Waits.{given_back_by, let_pass_after, let_pass_with, rung_by, rung_if_waits, TurnsIfWaits, wait_of, waits_after};
 
 use crate::desks::Desks;
@@ -55,6 +56,8 @@ impl<P: Pseudo, L: Ledger> Hall<P, L> {
     ) -> (Told, Turn)
         requires part { 0 < share.old.parts }
         requires none { bells.old.items ≡ [] }
+        ensures before { IsManager P.bits_of self.old.manager }
+        ensures after { IsManager P.bits_of self.new.manager }
         ensures meets { Meets P.bits_of event result.0
             (counted self.old.manager) self.new.manager }
         ensures amount { share.new.amount ≡ share.old.amount + 1 }
@@ -77,7 +80,9 @@ impl<P: Pseudo, L: Ledger> Hall<P, L> {
             desks,
         } = self;
         book.add(share, 1);
+        manager.keeps_its_invariant();
         let told = manager.act(event);
+        manager.keeps_its_invariant();
         desks.give_back(given_back(&event, &told), bells);
         let next = sleeper;
         desks.favour(&told, next);

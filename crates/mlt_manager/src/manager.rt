@@ -6,6 +6,7 @@ ghost use Rattle.mlt_history.specs.Numbers.{AreBegunInOrder};
 ghost use Rattle.mlt_manager.specs.Answers.{AnswersAbort, AnswersBegin, AnswersCall, AnswersCancel, AnswersCommit, AnswersStep, IsByAnother, counted};
 ghost use Rattle.mlt_manager.specs.Bases.{HasDepth, KeepsWhatCounts, LeavesBase, UndoingLeavesBase, WholeLeavesBase};
 ghost use Rattle.mlt_manager.specs.Events.{AreWholeEvents, Meets, NoneWaits, Plays, told_of};
+ghost use Rattle.mlt_manager.specs.Managers.{IsManager};
 ghost use Rattle.mlt_manager.specs.Openings.{IsNew};
 ghost use Rattle.mlt_manager.specs.Undoings.{AnswersWholeUndo};
 ghost use Rattle.mlt_manager.specs.Wholes.{AnswersWhole};
@@ -278,6 +279,14 @@ impl<P: Pseudo> Manager<P> {
         // What is always true of the parts is known where they are read.
         let _parts = &self.parts;
         form_is_extendible_hashing();
+    }
+
+    /// What is always true of a manager, between any two events.
+    pub fn keeps_its_invariant(&self)
+        ensures { IsManager P.bits_of self.now }
+    {
+        // What is always true of the parts is known where they are read.
+        let _parts = &self.parts;
     }
 
     /// The text of the history passes the checker of traces, with the committed order and the base of what is committed.
