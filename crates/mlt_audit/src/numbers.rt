@@ -4,6 +4,7 @@ ghost use Rattle.std.specs.Prelude.{◌≡◌, ◌≢◌, ◌≤◌, ◌<◌, �
 ghost use Rattle.mlt_audit.specs.Agreement.{count_of};
 
 use mlt_serial::Outcome;
+use std::alloc::Global;
 
 /// Whether no receipt has a number above the last.
 pub(crate) fn are_at_most(receipts: &[Outcome], last: u64) -> bool
@@ -15,12 +16,6 @@ pub(crate) fn are_at_most(receipts: &[Outcome], last: u64) -> bool
         }
     }
     true
-}
-
-fn no_marks() -> [bool; 16_384]
-    ensures { result ≡ replicate 16384 false }
-{
-    [false; 16_384]
 }
 
 /// Whether the first marks are all set.
@@ -36,14 +31,14 @@ fn are_set(marks: &[bool], count: usize) -> bool
     true
 }
 
-/// Whether each number above `below`, up to `upto`, stands in one receipt. The marks stand on the stack.
-fn block_is_once(receipts: &[Outcome], below: u64, upto: u64) -> bool
+/// Whether each number above `below`, up to `upto`, stands in one receipt. Of the marks none is set before.
+fn block_is_once(receipts: &[Outcome], marks: &mut [bool], below: u64, upto: u64) -> bool
     requires order { below ≤ upto }
-    requires size { upto ≤ below + 16384 }
+    requires size { upto ≤ below + length marks.old }
+    requires unmarked { marks.old ≡ replicate (length marks.old) false }
     ensures { IsTrue result
         ↔ ((tx : ℕ) → below < tx → tx ≤ upto → count_of tx receipts.now ≡ 1) }
 {
-    let mut marks = no_marks();
     for receipt in receipts {
         if below < receipt.tx && receipt.tx <= upto {
             let place = (receipt.tx - below - 1) as usize;
@@ -53,12 +48,17 @@ fn block_is_once(receipts: &[Outcome], below: u64, upto: u64) -> bool
             marks[place] = true;
         }
     }
-    are_set(&marks, (upto - below) as usize)
+    are_set(marks, (upto - below) as usize)
 }
 
-/// Whether each number from 1 to the last stands in one receipt. It goes over the receipts once for each block
-/// of 16,384 numbers.
-pub(crate) fn are_each_once(receipts: &[Outcome], last: u64) -> bool
+fn no_marks() -> [bool; 16_384]
+    ensures { result ≡ replicate 16384 false }
+{
+    [false; 16_384]
+}
+
+/// As `are_each_once`, without memory. It goes over the receipts once for each block of 16,384 numbers.
+fn blocks_are_once(receipts: &[Outcome], last: u64) -> bool
     ensures { IsTrue result
         ↔ ((tx : ℕ) → 0 < tx → tx ≤ last → count_of tx receipts.now ≡ 1) }
 {
@@ -69,10 +69,23 @@ pub(crate) fn are_each_once(receipts: &[Outcome], last: u64) -> bool
         } else {
             below + 16_384
         };
-        if !block_is_once(receipts, below, upto) {
+        let mut marks = no_marks();
+        if !block_is_once(receipts, &mut marks, below, upto) {
             return false;
         }
         below = upto;
     }
     true
+}
+
+/// Whether each number from 1 to the last stands in one receipt. It goes over the receipts once, with a mark for each
+/// number; where the memory for the marks is refused, once for each block of numbers.
+pub(crate) fn are_each_once(alloc: Global, receipts: &[Outcome], last: u64) -> bool
+    ensures { IsTrue result
+        ↔ ((tx : ℕ) → 0 < tx → tx ≤ last → count_of tx receipts.now ≡ 1) }
+{
+    match vec![in alloc; false; last as usize] {
+        Ok(mut marks) => block_is_once(receipts, &mut marks, 0, last),
+        Err(_) => blocks_are_once(receipts, last),
+    }
 }

@@ -12,6 +12,7 @@ use crate::stories::{is_told, item_at, place_behind, tx_of};
 use mlt_serial::Outcome;
 use mlt_trace::{KeptItem, TraceItem};
 use mlt_types::TxId;
+use std::alloc::Global;
 
 // How many items behind one close the next begin is looked for.
 const NEAR: usize = 16;
@@ -140,12 +141,12 @@ fn place_behind_close(receipt: &Outcome, history: &[KeptItem], near: usize) -> O
 }
 
 /// Whether the numbers of the receipts, but for 0, are those from 1 to the last, each once.
-fn numbers_agree(receipts: &[Outcome], history: &[KeptItem], last: u64) -> bool
+fn numbers_agree(alloc: Global, receipts: &[Outcome], history: &[KeptItem], last: u64) -> bool
     requires ordered { AreOrdered history.now }
     requires last { last ≡ begin_count history.now }
     ensures { IsTrue result ↔ NumbersAgree receipts.now history.now }
 {
-    are_at_most(receipts, last) && are_each_once(receipts, last)
+    are_at_most(receipts, last) && are_each_once(alloc, receipts, last)
 }
 
 /// Whether each of the receipts tells what the history has of its transaction. That it has no more of one is found by
@@ -174,10 +175,15 @@ fn are_each_of_ordered(receipts: &[Outcome], history: &[KeptItem]) -> bool
 }
 
 /// Whether the receipts tell just what the history has of each transaction begun, of which the last has this number.
-pub(crate) fn are_of_ordered(receipts: &[Outcome], history: &[KeptItem], last: u64) -> bool
+pub(crate) fn are_of_ordered(
+    alloc: Global,
+    receipts: &[Outcome],
+    history: &[KeptItem],
+    last: u64,
+) -> bool
     requires ordered { AreOrdered history.now }
     requires last { last ≡ begin_count history.now }
     ensures { IsTrue result ↔ AreOfHistory receipts.now history.now }
 {
-    numbers_agree(receipts, history, last) && are_each_of_ordered(receipts, history)
+    numbers_agree(alloc, receipts, history, last) && are_each_of_ordered(receipts, history)
 }

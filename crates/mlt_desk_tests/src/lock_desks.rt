@@ -97,7 +97,7 @@ fn is(talk: &Talk, manager: &Manager<Mult>, session: &Session) -> Result<(), Fai
     same(&manager.base()?.value(7), &session.counter)?;
     if session.beside.is_none() {
         manager.keeps_a_placed_history();
-        same(&audit(talk.receipts(), manager.history()), &Ok(()))?;
+        same(&audit(alloc, talk.receipts(), manager.history()), &Ok(()))?;
     }
     Ok(())
 }

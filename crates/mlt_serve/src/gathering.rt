@@ -6,6 +6,7 @@ ghost use Rattle.mlt_serve.specs.Crews.{AllHaveMemory, all_receipts};
 use crate::desk_work::Served;
 use mlt_serial::Outcome;
 use std::alloc::{AllocError, Global};
+use std::mem;
 use std::sync::ledger::{Ledger, Share};
 
 /// Who is to serve: so many that have served nothing yet, each with two parts of the ledger.
@@ -30,6 +31,20 @@ pub(crate) fn new_crew<L: Ledger>(
         crew.push(Served::new(alloc, share))?;
     }
     Ok(crew)
+}
+
+/// Puts two lists into one, of which only the shorter one is moved.
+///
+/// # Errors
+/// Where a growth is refused.
+fn join(all: &mut Vec<Outcome>, more: Vec<Outcome>) -> Result<(), AllocError>
+    ensures { IfOk result (λ _. IsPermutation (all.old.items ++ more.items) all.new.items) }
+{
+    let mut more = more;
+    if all.len() < more.len() {
+        mem::swap(all, &mut more);
+    }
+    all.append(&mut more)
 }
 
 /// What all sessions have done.
@@ -64,21 +79,22 @@ impl Gathered {
         ensures events { self.new.events ≡ min all.new.amount (2 ^ 64 - 1) }
         ensures parts { all.new.parts ≡ all.old.parts + 2 }
         ensures receipts { self.new.is_short ≡ false
-            → self.new.receipts.items ≡ self.old.receipts.items ++ served.receipts.items }
+            → IsPermutation (self.old.receipts.items ++ served.receipts.items)
+            self.new.receipts.items }
         ensures short { self.new.is_short ≡ false
             → (self.old.is_short ≡ false) × (served.is_short ≡ false) }
     {
         let Served {
             share,
             events,
-            mut receipts,
+            receipts,
             connections,
             is_short,
         } = served;
         all.merge(share);
         self.events = self.events.saturating_add(events);
         self.connections = self.connections.saturating_add(connections);
-        let refused = self.receipts.append(&mut receipts).is_err();
+        let refused = join(&mut self.receipts, receipts).is_err();
         self.is_short = self.is_short || is_short || refused;
     }
 }

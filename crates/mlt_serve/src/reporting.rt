@@ -11,6 +11,7 @@ use mlt_audit::audit;
 use mlt_manager::Manager;
 use mlt_serial::{Outcome, Outcomes};
 use mlt_types::{Pseudo, Refusal};
+use std::alloc::Global;
 
 /// Whether the receipt is that of a connection up to the limit.
 fn is_of_client(receipt: &Outcome, limit: u32) -> bool
@@ -47,6 +48,7 @@ fn in_order(receipts: Vec<Outcome>) -> Vec<Outcome>
 /// Why the accepting ended early; else `OutOfMemory`, where a growth was refused; else `Audit`, where not as many connections
 /// were served as the limit says, or the receipts are not those of the history.
 pub(crate) fn receipts_of<P: Pseudo>(
+    alloc: Global,
     accepting: Accepting,
     gathered: Gathered,
     limit: u32,
@@ -74,6 +76,6 @@ pub(crate) fn receipts_of<P: Pseudo>(
     if !are_of_clients(receipts.as_slice(), limit) {
         return Err(Refusal::Audit);
     }
-    audit(receipts.as_slice(), manager.history())?;
+    audit(alloc, receipts.as_slice(), manager.history())?;
     Ok(Outcomes::of(receipts))
 }

@@ -64,7 +64,7 @@ fn serve_with<L: Ledger + Send + Sync, P: Pseudo + Drop + Send, R: Threads + Wai
     let gathered = gather(alloc, &mut all, crew);
     let events = gathered.events;
     let manager = shared.close(&mut all);
-    match receipts_of(accepting, gathered, limit, &manager) {
+    match receipts_of(alloc, accepting, gathered, limit, &manager) {
         Ok(receipts) => Ok((receipts, manager, events)),
         Err(refusal) => {
             manager.close();

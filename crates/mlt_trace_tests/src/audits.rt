@@ -77,7 +77,7 @@ fn are_audited(alloc: Global, rows: &[Row]) -> Result<(), Fail> {
         let history = history_of(alloc, items)?;
         let outcomes = outcomes_of(alloc, receipts)?;
         let wanted = if *agree { Ok(()) } else { Err(Refusal::Audit) };
-        same_at(why, &audit(&outcomes, &history), &wanted)?;
+        same_at(why, &audit(alloc, &outcomes, &history), &wanted)?;
     }
     Ok(())
 }

@@ -10,6 +10,7 @@ use mlt_base::Base;
 use mlt_manager::Manager;
 use mlt_serial::{Outcome, Outcomes, Report};
 use mlt_types::{Pseudo, Refusal};
+use std::alloc::Global;
 use std::thread;
 use std::thread::Threads;
 
@@ -17,6 +18,7 @@ use std::thread::Threads;
 // find them side by side.
 fn audit_and_base<P: Pseudo, R: Threads>(
     rt: &R,
+    alloc: Global,
     workers: usize,
     receipts: &[Outcome],
     manager: &Manager<P>,
@@ -28,14 +30,14 @@ fn audit_and_base<P: Pseudo, R: Threads>(
 {
     let history = manager.history();
     if workers == 1 {
-        return (audit(receipts, history), manager.base());
+        return (audit(alloc, receipts, history), manager.base());
     }
     thread::join(
         rt,
         || -> Result<(), Refusal>
             ensures { OnOk result (Agrees receipts.entry.now history.entry.now)
                 × IsOkUnless result Refusal.Audit }
-        { audit(receipts, history) },
+        { audit(alloc, receipts, history) },
         || -> Result<Base, Refusal>
             ensures { IfOk result (λ base. IsCommittedBaseOf manager.entry.now base)
                 × IsOkUnless result Refusal.OutOfMemory }
@@ -49,6 +51,7 @@ fn audit_and_base<P: Pseudo, R: Threads>(
 /// `Audit`, where they do not agree; `OutOfMemory`, where the base is refused its memory.
 pub(crate) fn report_of<P: Pseudo, R: Threads>(
     rt: &R,
+    alloc: Global,
     workers: usize,
     outcomes: Outcomes,
     events: u64,
@@ -64,7 +67,7 @@ pub(crate) fn report_of<P: Pseudo, R: Threads>(
 {
     manager.keeps_a_placed_history();
     committed_receipts_are_the_committed_list();
-    let (audited, base) = audit_and_base(rt, workers, outcomes.as_slice(), manager);
+    let (audited, base) = audit_and_base(rt, alloc, workers, outcomes.as_slice(), manager);
     audited?;
     let base = base?;
     Ok(Report {

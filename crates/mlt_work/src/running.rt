@@ -75,7 +75,7 @@ fn run_with<
         }
     };
     let manager = shared.close(&mut all);
-    match report_of(rt, workers, outcomes, events, &manager) {
+    match report_of(rt, alloc, workers, outcomes, events, &manager) {
         Ok(report) => Ok((report, manager)),
         Err(refusal) => {
             manager.close();

@@ -1,6 +1,7 @@
 use Rattle.std.proofs.Common.{◌++◌, arith, subst, sym}
 use Rattle.std.specs.Prelude.{IsPermutation}
 use Rattle.std.proofs.lemmas.List.Elements.{All-push}
+use Rattle.std.proofs.lemmas.List.Sorted.{IsPermutation-append_right, IsPermutation-trans}
 use Rattle.mlt_serve.specs.Crews.{AllHaveMemory, HasMemory, all_receipts, receipts_of}
 use Rattle.mlt_serve.proofs.Merging.{last_behind}
 use Rattle.mlt_serve.proofs.gathering.gather.Goals as goal
@@ -18,7 +19,8 @@ loop-served-preserved g c =
       receipts = λ f.
           let was = l.invariant.receipts (c.take_in.ensures.short f).0 in
           let popped = subst (λ xs. IsPermutation all (all_receipts xs ++ got)) c.in-Some.ensures.items was in
-          subst (λ ys. IsPermutation all (all_receipts rest ++ ys)) (sym (c.take_in.ensures.receipts f)) (last_behind receipts_of rest w all got popped);
+          IsPermutation-trans all (all_receipts rest ++ (got ++ receipts_of w)) (all_receipts rest ++ c.take_in.new.self.receipts.items) (last_behind receipts_of rest w all got popped)
+          (IsPermutation-append_right (all_receipts rest) (got ++ receipts_of w) c.take_in.new.self.receipts.items (c.take_in.ensures.receipts f));
       short = λ f have.
           let both = c.take_in.ensures.short f in
           l.invariant.short both.0 (subst AllHaveMemory (sym c.in-Some.ensures.items) (All-push HasMemory rest w have both.1));

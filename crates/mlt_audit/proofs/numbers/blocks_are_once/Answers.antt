@@ -1,7 +1,8 @@
-use Rattle.std.proofs.Common.{◌≤◌, arith, inl, inr}
+use Rattle.std.proofs.Common.{◌≤◌, length, replicate, false, ap, sym, ◌∙◌, arith, inl, inr}
 use Rattle.std.proofs.lemmas.Bool.{cases_lt}
-use Rattle.mlt_audit.proofs.numbers.are_each_once.Goals as goal
-use Rattle.mlt_audit.proofs.numbers.are_each_once.Goals.{then-last-below-lt16384, else-last-below-lt16384}
+use Rattle.std.proofs.lemmas.List.{length-replicate}
+use Rattle.mlt_audit.proofs.numbers.blocks_are_once.Goals as goal
+use Rattle.mlt_audit.proofs.numbers.blocks_are_once.Goals.{then-last-below-lt16384, else-last-below-lt16384}
 
 pub returns-then-not-block_is_once : goal.returns-then-not-block_is_once
 returns-then-not-block_is_once c =
@@ -18,3 +19,8 @@ loop-below-preserved c = λ tx some high. elim (cases_lt c.loop-below.below tx) 
   | inl above ↦ c.block_is_once.ensures.0 c.if-not-block_is_once.false tx above high
   | inr before ↦ c.loop-below.invariant tx some before
 ]
+
+pub block_is_once-requires-clause-unmarked : goal.block_is_once-requires-clause-unmarked
+block_is_once-requires-clause-unmarked c =
+    let all = c.no_marks-marks.ensures in
+    all ∙ ap (λ n. replicate n false) (sym (ap length all ∙ length-replicate 16384 false))

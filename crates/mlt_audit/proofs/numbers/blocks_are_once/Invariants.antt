@@ -1,6 +1,6 @@
 use Rattle.std.proofs.Common.{◌≡◌, ℕ, ◌<◌, ◌≤◌, ◌-◌}
 use Rattle.mlt_audit.specs.Agreement.{count_of}
-use Rattle.mlt_audit.proofs.numbers.are_each_once.Given as goal
+use Rattle.mlt_audit.proofs.numbers.blocks_are_once.Given as goal
 
 abbrev pub invariant-loop-below : goal.invariant-loop-below
 invariant-loop-below l = (tx : ℕ) → 0 < tx → tx ≤ l.below → count_of tx l.receipts ≡ 1
