@@ -3,6 +3,7 @@
 use crate::peers::{have_come, listen, say};
 use crate::served::served_text;
 use mlt_test_tools::same;
+use mlt_types::Limits;
 use std::alloc::Global;
 use std::net::{Net, Shutdown, TcpListener, TcpStream};
 use std::sync::atomic::AtomicU64;
@@ -60,7 +61,7 @@ fn two_sessions_at_once(rt: HostRuntime) -> Result<(), Fail> {
     let second = AtomicU64::new(0);
     let (served, ((by_one, by_two), led)) = thread::join(
         &rt,
-        || served_text(&rt, alloc, &listener, 2),
+        || served_text(&rt, alloc, &listener, Limits::program(), 2),
         || {
             thread::join(
                 &rt,

@@ -59,6 +59,32 @@ impl Gate for SecondCommits {
     }
 }
 
+/// Holds client 2 before its begin until client 1 has begun, and client 1 after its begin until client 2 was refused.
+#[derive(Drop)]
+pub struct SecondBeginsBeside {
+    pub begun: Latch,
+    pub refused: Latch,
+}
+
+impl Gate for SecondBeginsBeside {
+    fn begin(&self, client: u32) {
+        if client == 2 {
+            self.begun.hold();
+        }
+    }
+
+    fn pause(&self, client: u32, told: &Told) {
+        match told {
+            Told::Begun(_) if client == 1 => {
+                self.begun.open();
+                self.refused.hold();
+            }
+            Told::Refused(_) if client == 2 => self.refused.open(),
+            _ => (),
+        }
+    }
+}
+
 /// What client 2 comes to before client 1 goes on.
 #[derive(Drop)]
 pub enum Until {

@@ -1,12 +1,13 @@
 //! Sessions over a manager.
 
-ghost use Rattle.std.specs.Prelude.{◌≡◌};
+ghost use Rattle.std.specs.Prelude.{◌≡◌, Some};
+ghost use Rattle.mlt_lock_desk.specs.Makings.{making_of};
 
 use crate::sessions::{LINES, OF_LINES};
 use crate::talks::{Receipt, Talk, Wanted, talk_at};
 use mlt_audit::audit;
 use mlt_kinds::{AccountOp, CounterOp, ObjOp, ObjReply};
-use mlt_lock_desk::{Hall, LockDesk, NoGate, Shared, Tries};
+use mlt_lock_desk::{Hall, LockDesk, MadeWith, NoGate, Shared, Tries};
 use mlt_manager::Manager;
 use mlt_serial::End;
 use mlt_test_tools::{FaultyReader, FaultyWriter, same};
@@ -15,7 +16,7 @@ use std::alloc::Global;
 use std::io::ErrorKind;
 use std::marker::Brand;
 use std::sync::Wait;
-use std::sync::ledger::{Blank, Ledger};
+use std::sync::ledger::Blank;
 use std::test::Fail;
 
 /// A session over a manager, and what is wanted of it.
@@ -60,7 +61,7 @@ fn begins(manager: &mut Manager<Mult>, ops: &[ObjOp]) -> Result<(), Refusal> {
 }
 
 // What came of a session at a desk over this manager, and the manager.
-fn talk_over<L: Ledger>(
+fn talk_over<L: MadeWith<Mult>>(
     rt: &impl Wait,
     alloc: Global,
     blank: Blank,
@@ -69,6 +70,7 @@ fn talk_over<L: Ledger>(
 ) -> (Talk, Manager<Mult>)
     requires name { blank.name ≡ L.name }
     requires parts { blank.parts ≡ L.parts }
+    requires made { Some (making_of manager) ≡ L.made_with }
     requires two { blank.parts ≡ 2 }
 {
     let (book, mut all) = blank.open::<L>();

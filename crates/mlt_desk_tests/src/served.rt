@@ -29,18 +29,19 @@ fn text_of(alloc: Global, outcomes: Outcomes, manager: &Manager<Mult>) -> Result
     Ok(text)
 }
 
-/// The text of what that many connections were served, by two session threads.
+/// The text of what that many connections were served within these limits, by two session threads.
 pub fn served_text<R: Threads + Wait + Clock + Sync>(
     rt: &R,
     alloc: Global,
     listener: &TcpListener,
+    limits: Limits,
     connections: u32,
 ) -> Result<Vec<u8>, Refusal> {
     let (outcomes, manager) = serve_on(
         rt,
         alloc,
         listener,
-        Limits::program(),
+        limits,
         Mult,
         2,
         connections,

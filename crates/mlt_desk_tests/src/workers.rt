@@ -2,17 +2,41 @@
 
 ghost use Rattle.std.specs.Prelude.{◌≤◌, ◌<◌};
 
-use crate::gates::{Latch, SecondCommits, SecondMeetsLock, TwoCrossBesideThird, Until};
+use crate::gates::{
+    Latch, SecondBeginsBeside, SecondCommits, SecondMeetsLock, TwoCrossBesideThird, Until,
+};
 use mlt_lock_desk::{Gate, NoGate};
 use mlt_run::run_scripts;
-use mlt_test_tools::same;
+use mlt_test_tools::{same, same_at};
 use mlt_types::{Limits, Mult, Refusal};
 use std::alloc::Global;
 use std::sync::Wait;
 use std::test::Fail;
 use std::thread::Threads;
 
-// What is written of these scripts, run by that many workers, with that many tries for each script.
+// What is written of these scripts, run within these limits by that many workers, with that many tries for each script.
+fn text_within<T: Threads + Wait + Sync, G: Gate + Sync>(
+    rt: &T,
+    alloc: Global,
+    limits: Limits,
+    scripts: &[u8],
+    workers: usize,
+    tries: u64,
+    gate: &G,
+) -> Result<Vec<u8>, Refusal>
+    requires some { 0 < workers }
+    requires most { workers ≤ 8 }
+{
+    let mut input = scripts;
+    let mut text = Vec::new(alloc);
+    run_scripts(
+        rt, alloc, &mut input, &mut text, limits, Mult, workers, tries, gate,
+    )?
+    .close();
+    Ok(text)
+}
+
+// The same, within the limits of the program.
 fn text_of<T: Threads + Wait + Sync, G: Gate + Sync>(
     rt: &T,
     alloc: Global,
@@ -24,14 +48,7 @@ fn text_of<T: Threads + Wait + Sync, G: Gate + Sync>(
     requires some { 0 < workers }
     requires most { workers ≤ 8 }
 {
-    let mut input = scripts;
-    let mut text = Vec::new(alloc);
-    let limits = Limits::program();
-    run_scripts(
-        rt, alloc, &mut input, &mut text, limits, Mult, workers, tries, gate,
-    )?
-    .close();
-    Ok(text)
+    text_within(rt, alloc, Limits::program(), scripts, workers, tries, gate)
 }
 
 const TWO_CLIENTS: &[u8] = b"begin 1\nopen 1\ncommit\nbegin 2\nup 7 1\ncommit\n";
@@ -133,4 +150,70 @@ fn later_script_sees_commit(rt: HostRuntime) -> Result<(), Fail> {
     same(&by_two.as_slice(), &LATER_SEES_COMMIT)?;
     let by_eight = text_of(&rt, rt.alloc(), TWO_SCRIPTS, 8, MANY_TRIES, &NoGate)?;
     same(&by_eight.as_slice(), &LATER_SEES_COMMIT)
+}
+
+// The limits of a run, its scripts, and what is written of them.
+type Limited = ((u32, u64, u32, u32, u32), &'static [u8], &'static [u8]);
+
+const NINE_ACCOUNTS: &[u8] =
+    b"begin\nopen 0\nopen 1\nopen 2\nopen 3\nopen 4\nopen 5\nopen 6\nopen 7\nopen 8\ncommit\n";
+
+// Eight records have room in a bucket.
+const NINTH_HAS_NO_ROOM: &[u8] =
+    b"client 0 script 1\nopened\nopened\nopened\nopened\nopened\nopened\nopened\nopened\nrefused 2 NoRoom\naborted\n";
+
+const LIMITED: &[Limited] = &[
+    // One number.
+    (
+        (64, 1, 70_000, 16, 1_024),
+        b"begin\nup 7 1\ncommit\nbegin\nup 7 1\ncommit\n",
+        b"client 0 script 1\ndone\ncommitted 1\nclient 0 script 2\nrefused 9 IdsSpent\naborted\ncounter 7 1\n",
+    ),
+    // No page for a second bucket.
+    (
+        (64, 1 << 32, 3, 16, 1_024),
+        NINE_ACCOUNTS,
+        NINTH_HAS_NO_ROOM,
+    ),
+    // No depth for a second bucket.
+    (
+        (64, 1 << 32, 70_000, 0, 1_024),
+        NINE_ACCOUNTS,
+        NINTH_HAS_NO_ROOM,
+    ),
+    // One operation.
+    (
+        (64, 1 << 32, 70_000, 16, 1),
+        b"begin\nup 7 1\nup 7 1\ncommit\n",
+        b"client 0 script 1\ndone\nrefused 8 LogFull\naborted\n",
+    ),
+];
+
+#[test]
+fn a_run_within_its_limits(rt: HostRuntime) -> Result<(), Fail> {
+    for (bounds, scripts, wanted) in LIMITED {
+        let (open, ids, pages, depth, ops) = *bounds;
+        let limits = Limits::checked(open, ids, pages, depth, ops)?;
+        let text = text_within(&rt, rt.alloc(), limits, scripts, 1, MANY_TRIES, &NoGate)?;
+        same_at(bounds, &text.as_slice(), wanted)?;
+    }
+    Ok(())
+}
+
+const TWO_UPS: &[u8] = b"begin 1\nup 7 1\ncommit\nbegin 2\nup 7 1\ncommit\n";
+
+const SECOND_IS_TOO_MANY: &[u8] =
+    b"client 1 script 1\ndone\ncommitted 1\nclient 2 script 1\nrefused 7 TooManyOpen\naborted\ncounter 7 1\n";
+
+// One transaction may be open. Client 2 asks for another while client 1 has it.
+#[test]
+fn a_second_open_is_too_many(rt: HostRuntime) -> Result<(), Fail> {
+    let gate = SecondBeginsBeside {
+        begun: Latch::new(),
+        refused: Latch::new(),
+    };
+    let limits = Limits::checked(1, 1 << 32, 70_000, 16, 1_024)?;
+    let text = text_within(&rt, rt.alloc(), limits, TWO_UPS, 2, MANY_TRIES, &gate)?;
+    let is_late = gate.begun.is_late() || gate.refused.is_late();
+    same(&(text.as_slice(), is_late), &(SECOND_IS_TOO_MANY, false))
 }

@@ -1,3 +1,4 @@
 pub mod Holds
+pub mod Makings
 pub mod Refusals
 pub mod Waits

@@ -5,6 +5,7 @@ ghost use Rattle.mlt_lock_desk.specs.Holds.{IsToldTo, MayAnswerOperation};
 
 use crate::gate::Gate;
 use crate::lock_desk::{LockDesk, Tries};
+use crate::made_with::MadeWith;
 use crate::shared::Shared;
 use crate::turn::{Sleeper, Turn, is_to_wait};
 use mlt_cursor::Answering;
@@ -14,12 +15,12 @@ use mlt_kinds::{ObjOp, ObjReply};
 use mlt_types::{Pseudo, Refusal, TxId};
 use mlt_waits_for::{Bell, Bells};
 use std::sync::Wait;
-use std::sync::ledger::{Ledger, Share};
+use std::sync::ledger::Share;
 
 // An operation that has waited so often is let pass.
 const PATIENCE: u64 = 8;
 
-impl<'a, P: Pseudo, L: Ledger, R: Wait, G: Gate> LockDesk<'a, P, L, R, G> {
+impl<'a, P: Pseudo, L: MadeWith<P>, R: Wait, G: Gate> LockDesk<'a, P, L, R, G> {
     /// A desk that has made no event yet.
     pub fn new(
         rt: &'a R,
@@ -186,7 +187,7 @@ impl<'a, P: Pseudo, L: Ledger, R: Wait, G: Gate> LockDesk<'a, P, L, R, G> {
     }
 }
 
-impl<'a, P: Pseudo, L: Ledger, R: Wait, G: Gate> Answering for LockDesk<'a, P, L, R, G> {
+impl<'a, P: Pseudo, L: MadeWith<P>, R: Wait, G: Gate> Answering for LockDesk<'a, P, L, R, G> {
     ghost use Rattle.mlt_lock_desk.specs.Holds.{MayAnswerOperation};
 
     ghost answers = { λ _ tx _ answer _. MayAnswerOperation P.bits_of tx answer };
@@ -205,7 +206,7 @@ impl<'a, P: Pseudo, L: Ledger, R: Wait, G: Gate> Answering for LockDesk<'a, P, L
     }
 }
 
-impl<'a, P: Pseudo, L: Ledger, R: Wait, G: Gate> Desk for LockDesk<'a, P, L, R, G> {
+impl<'a, P: Pseudo, L: MadeWith<P>, R: Wait, G: Gate> Desk for LockDesk<'a, P, L, R, G> {
     ghost use Rattle.mlt_lock_desk.specs.Holds.{MayAnswerBegin, MayAnswerCommit};
 
     ghost begins = { λ _ answer _. MayAnswerBegin P.bits_of answer };

@@ -1,24 +1,27 @@
 //! What a desk does while it holds the lock.
 
-ghost use Rattle.std.specs.Prelude.{◌≡◌, ◌++◌, ◌+◌, ◌-◌, ◌<◌, ◌^◌, [], min};
+ghost use Rattle.std.specs.Prelude.{◌≡◌, ◌++◌, ◌+◌, ◌-◌, ◌<◌, ◌^◌, [], Some, min};
 ghost use Rattle.mlt_manager.specs.Answers.{counted};
 ghost use Rattle.mlt_manager.specs.Events.{Meets};
 ghost use Rattle.mlt_manager.specs.Managers.{IsManager};
+ghost use Rattle.mlt_lock_desk.specs.Makings.{making_of};
 ghost use Rattle.mlt_lock_desk.specs.Waits.{given_back_by, let_pass_after, let_pass_with, rung_by, rung_if_waits, TurnsIfWaits, wait_of, waits_after};
 
 use crate::desks::Desks;
 use crate::hall::Hall;
+use crate::made_with::MadeWith;
 use crate::turn::{Sleeper, Turn, given_back, wait_of};
 use mlt_event::{Event, Told};
 use mlt_manager::Manager;
 use mlt_types::Pseudo;
 use mlt_waits_for::Bells;
-use std::sync::ledger::{Book, Ledger, Share};
+use std::sync::ledger::{Book, Share};
 
-impl<P: Pseudo, L: Ledger> Hall<P, L> {
+impl<P: Pseudo, L: MadeWith<P>> Hall<P, L> {
     /// A hall without desks, over a manager that has had no event.
     pub fn new(manager: Manager<P>, book: Book<L>) -> Hall<P, L>
         requires events { manager.events ≡ 0 }
+        requires made { Some (making_of manager) ≡ L.made_with }
         requires total { book.total ≡ 0 }
     {
         Hall {
@@ -30,6 +33,7 @@ impl<P: Pseudo, L: Ledger> Hall<P, L> {
 
     /// A hall without desks, over a manager whose events so far count in the share.
     pub fn of(manager: Manager<P>, book: Book<L>, share: &mut Share<L>) -> Hall<P, L>
+        requires made { Some (making_of manager) ≡ L.made_with }
         requires total { book.total ≡ 0 }
         requires part { 0 < share.old.parts }
         ensures amount { share.new.amount ≡ share.old.amount + manager.events }
@@ -94,6 +98,7 @@ impl<P: Pseudo, L: Ledger> Hall<P, L> {
     pub(crate) fn close(self, all: &mut Share<L>) -> Manager<P>
         requires { all.old.parts ≡ L.parts }
         ensures events { result.events ≡ min all.old.amount (2 ^ 64 - 1) }
+        ensures made { Some (making_of result) ≡ L.made_with }
         ensures amount { all.new.amount ≡ all.old.amount }
         ensures parts { all.new.parts ≡ all.old.parts }
     {
@@ -107,7 +112,9 @@ impl<P: Pseudo, L: Ledger> Hall<P, L> {
     }
 
     /// The manager, where the shares are not at hand.
-    pub(crate) fn into_manager(self) -> Manager<P> {
+    pub(crate) fn into_manager(self) -> Manager<P>
+        ensures made { Some (making_of result) ≡ L.made_with }
+    {
         let Hall {
             manager,
             book: _,

@@ -3,12 +3,13 @@
 ghost use Rattle.std.specs.Prelude.{◌≡◌, ◌-◌, ◌^◌, min};
 
 use crate::gate::Gate;
+use crate::made_with::MadeWith;
 use crate::shared::Shared;
 use crate::turn::Sleeper;
 use mlt_types::Pseudo;
 use mlt_waits_for::Bell;
 use std::sync::Wait;
-use std::sync::ledger::{Ledger, Share};
+use std::sync::ledger::Share;
 
 /// How many tries there are. Each answer that a desk is to wait, or is blocked, spends one.
 #[derive(Clone, Copy, Debug, PartialEq, Eq)]
@@ -21,7 +22,7 @@ pub enum Tries {
 
 /// A desk over a shared manager. It counts its events in its share. It is counted as a desk until it is closed, so it can't
 /// be dropped.
-pub struct LockDesk<'a, P: Pseudo, L: Ledger, R: Wait, G: Gate> {
+pub struct LockDesk<'a, P: Pseudo, L: MadeWith<P>, R: Wait, G: Gate> {
     pub(crate) rt: &'a R,
     pub(crate) shared: &'a Shared<P, L>,
     pub(crate) gate: &'a G,

@@ -1,15 +1,17 @@
 //! The manager under its lock.
 
-ghost use Rattle.std.specs.Prelude.{◌≡◌, ◌-◌, ◌^◌, min};
+ghost use Rattle.std.specs.Prelude.{◌≡◌, ◌-◌, ◌^◌, Some, min};
+ghost use Rattle.mlt_lock_desk.specs.Makings.{making_of};
 
 use crate::hall::Hall;
+use crate::made_with::MadeWith;
 use crate::turn::Sleeper;
 use mlt_manager::Manager;
 use mlt_types::Pseudo;
 use mlt_waits_for::{Bell, Bells};
 use std::array;
 use std::hint::spin_loop;
-use std::sync::ledger::{Ledger, Share};
+use std::sync::ledger::Share;
 use std::sync::{Condvar, Mutex, MutexGuard, Wait};
 
 // How often a thread looks at a lock that is taken before it queues, and how often the first of the queue looks before it sleeps.
@@ -22,13 +24,13 @@ const LOOKS_OF_FIRST: u32 = 20;
 const PAUSES: u32 = 256;
 
 /// A lock over the manager, and the bells that wake desks.
-pub struct Shared<P: Pseudo, L: Ledger> {
+pub struct Shared<P: Pseudo, L: MadeWith<P>> {
     hall: Mutex<Hall<P, L>>,
     queue: Mutex<()>,
     bells: [Condvar; 256],
 }
 
-impl<P: Pseudo, L: Ledger> Shared<P, L> {
+impl<P: Pseudo, L: MadeWith<P>> Shared<P, L> {
     /// The hall under a lock.
     pub fn new(hall: Hall<P, L>) -> Shared<P, L> {
         Shared {
@@ -117,6 +119,7 @@ impl<P: Pseudo, L: Ledger> Shared<P, L> {
     pub fn close(self, all: &mut Share<L>) -> Manager<P>
         requires { all.old.parts ≡ L.parts }
         ensures events { result.events ≡ min all.old.amount (2 ^ 64 - 1) }
+        ensures made { Some (making_of result) ≡ L.made_with }
         ensures amount { all.new.amount ≡ all.old.amount }
         ensures parts { all.new.parts ≡ all.old.parts }
     {
@@ -129,7 +132,9 @@ impl<P: Pseudo, L: Ledger> Shared<P, L> {
     }
 
     /// The manager, where the shares are not at hand.
-    pub fn into_manager(self) -> Manager<P> {
+    pub fn into_manager(self) -> Manager<P>
+        ensures made { Some (making_of result) ≡ L.made_with }
+    {
         let Shared {
             hall,
             queue: _,

@@ -86,7 +86,7 @@ module _ {P : Type 0} (bits_of : P → ℕ → ℕ) (m : ManagerFields P) (limit
   }
 
   small : m.root.max_depth ≤ 16
-  small = subst (λ (n : ℕ). n ≤ 16) (sym new.within.depth) limits.in_range.depth_most
+  small = subst (λ (n : ℕ). n ≤ 16) (sym new.made.depth) limits.in_range.depth_most
 
   sound : IsSound (opening_state (bits_of m.root.pseudo) m.root.page m.root.max_depth m.max_ops m.commons)
   sound = opening_sound (bits_of m.root.pseudo) m.root.page m.root.max_depth m.max_ops limits.max_open new.dir new.bucket m.commons keys small new.file new.page_locks new.object_locks new.items new.room
@@ -104,14 +104,14 @@ module _ {P : Type 0} (bits_of : P → ℕ → ℕ) (m : ManagerFields P) (limit
     sound = subst IsSound (sym same_state) sound;
     traced = subst IsTraced (sym same_state) traced;
     limits = record {
-      locks_for = (λ i. (new.page_locks i).max_open) ∙ sym new.within.open_at_most;
-      pages_for = new.page_limit ∙ sym new.within.pages;
+      locks_for = (λ i. (new.page_locks i).max_open) ∙ sym new.made.open_at_most;
+      pages_for = new.page_limit ∙ sym new.made.pages;
       few_open = omega (arith, none_open);
       open_in_set = ap set.len new.opens ∙ set.len-empty nat_cmp ∙ sym none_open;
-      set_holds = subst (λ (n : ℕ). n ≤ 64) (sym new.within.open_at_most) limits.in_range.open_most;
+      set_holds = subst (λ (n : ℕ). n ≤ 64) (sym new.made.open_at_most) limits.in_range.open_most;
       few_ids = omega (arith, new.begun);
-      ids_fit = subst (λ (n : ℕ). n ≤ 2 ^ 32) (sym new.within.ids) limits.in_range.ids_most;
-      ops_fit = subst (λ (n : ℕ). n ≤ 1024) (sym new.within.ops) limits.in_range.ops_most;
+      ids_fit = subst (λ (n : ℕ). n ≤ 2 ^ 32) (sym new.made.ids) limits.in_range.ids_most;
+      ops_fit = subst (λ (n : ℕ). n ≤ 1024) (sym new.made.ops) limits.in_range.ops_most;
       ended = omega (arith, none_open, new.commits);
       counted = new.commits ∙ sym (ap commit_count new.items);
     };

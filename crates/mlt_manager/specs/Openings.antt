@@ -9,18 +9,19 @@ use Rattle.mlt_object_locks.specs.Locks as objects
 use Rattle.mlt_hash_form.specs.Changes.{IsOpening}
 use Rattle.mlt_manager.specs.Managers.{ManagerFields}
 
--- its limits are these
-pub record HasLimits {P : Type 0} (m : ManagerFields P) (limits : Limits) : Type 0 where
+-- It was made with these limits and this function from keys to pseudokeys. No event changes them.
+pub record IsMadeWith {P : Type 0} (m : ManagerFields P) (limits : Limits) (pseudo : P)
+    : Type 0 where
   pub open_at_most : m.max_open ≡ limits.max_open
   pub ids : m.max_ids ≡ limits.max_ids
   pub pages : m.max_pages ≡ limits.max_pages
   pub depth : m.root.max_depth ≡ limits.max_depth
   pub ops : m.max_ops ≡ limits.max_ops
+  pub keys : m.root.pseudo ≡ pseudo
 
 -- Nothing has begun, nothing is locked, and the pages are a file without records.
 pub record IsNew {P : Type 0} (m : ManagerFields P) (limits : Limits) (pseudo : P) : Type 0 where
-  pub within : HasLimits m limits
-  pub keys : m.root.pseudo ≡ pseudo
+  pub made : IsMadeWith m limits pseudo
   pub dir : ℕ
   pub bucket : ℕ
   pub file : IsOpening (page_at m.commons.pages.store.pages) m.root.page dir bucket

@@ -5,12 +5,12 @@ ghost use Rattle.std.specs.Prelude.{◌≡◌, ◌<◌, vec_len};
 use crate::accepting::{Accepting, accept_all};
 use crate::desk_work::Served;
 use crate::service::Service;
+use mlt_lock_desk::MadeWith;
 use mlt_types::Pseudo;
 use std::alloc::Global;
 use std::net::TcpListener;
 use std::sync::Wait;
 use std::sync::atomic::AtomicBool;
-use std::sync::ledger::Ledger;
 use std::thread;
 use std::thread::Threads;
 use std::time::Clock;
@@ -19,7 +19,7 @@ use std::time::Clock;
 /// joined. Where the channel or the thread that accepts is refused, nothing is accepted.
 pub(crate) fn serve_connections<
     P: Pseudo + Send,
-    L: Ledger + Send + Sync,
+    L: MadeWith<P> + Send + Sync,
     R: Threads + Wait + Clock + Sync,
 >(
     rt: &R,

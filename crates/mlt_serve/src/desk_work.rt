@@ -10,7 +10,7 @@ use crate::service::Service;
 use crate::socket::Socket;
 use crate::talking::talk;
 use crossbeam_channel::Receiver;
-use mlt_lock_desk::{LockDesk, Tries};
+use mlt_lock_desk::{LockDesk, MadeWith, Tries};
 use mlt_serial::Outcome;
 use mlt_types::Pseudo;
 use std::alloc::Global;
@@ -63,6 +63,8 @@ impl<L: Ledger> Served<L> {
         service: &Service<'_, P, L>,
         visit: Visit,
     ) -> bool
+    where
+        L: MadeWith<P>,
         ensures receipts { GrowsFor visit.client
             self.old.receipts.items self.new.receipts.items }
         ensures connections { self.new.connections ≡ min (self.old.connections + 1) (2 ^ 64 - 1) }
@@ -102,7 +104,10 @@ impl<L: Ledger> Served<L> {
         service: &Service<'_, P, L>,
         visits: &Receiver<Visit, Global>,
         is_short: &AtomicBool,
-    ) {
+    )
+    where
+        L: MadeWith<P>,
+    {
         for _ in rt.forever() {
             let Ok(visit) = visits.recv(rt) else {
                 return;

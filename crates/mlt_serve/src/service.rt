@@ -2,14 +2,13 @@
 
 use crate::lookout::Lookout;
 use crate::turnstile::Turnstile;
-use mlt_lock_desk::Shared;
+use mlt_lock_desk::{MadeWith, Shared};
 use mlt_types::Pseudo;
-use std::sync::ledger::Ledger;
 use std::time::Duration;
 
 /// What all sessions work with.
 #[derive(Drop)]
-pub(crate) struct Service<'a, P: Pseudo, L: Ledger> {
+pub(crate) struct Service<'a, P: Pseudo, L: MadeWith<P>> {
     pub(crate) shared: &'a Shared<P, L>,
     pub(crate) turnstile: &'a Turnstile,
     pub(crate) lookout: &'a Lookout,

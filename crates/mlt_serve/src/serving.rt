@@ -1,6 +1,8 @@
 //! Connections that are accepted and served.
 
-ghost use Rattle.std.specs.Prelude.{◌≡◌, ◌⊎◌, ◌<◌, ◌≤◌, IfErr, IfOk};
+ghost use Rattle.std.specs.Prelude.{◌≡◌, ◌⊎◌, ◌<◌, ◌≤◌, IfErr, IfOk, Some};
+ghost use Rattle.mlt_manager.specs.Openings.{IsMadeWith};
+ghost use Rattle.mlt_lock_desk.specs.Makings.{making_by};
 ghost use Rattle.mlt_audit.specs.Agreement.{Agrees};
 ghost use Rattle.mlt_serve.specs.Clients.{AreByClientAndNumber, AreOfClients};
 
@@ -10,7 +12,7 @@ use crate::lookout::Lookout;
 use crate::reporting::receipts_of;
 use crate::service::Service;
 use crate::turnstile::Turnstile;
-use mlt_lock_desk::{Hall, Shared};
+use mlt_lock_desk::{Hall, MadeWith, Shared};
 use mlt_manager::Manager;
 use mlt_serial::Outcomes;
 use mlt_types::{Limits, Pseudo, Refusal};
@@ -18,12 +20,16 @@ use std::alloc::Global;
 use std::marker::Brand;
 use std::net::TcpListener;
 use std::sync::Wait;
-use std::sync::ledger::{Blank, Ledger};
+use std::sync::ledger::Blank;
 use std::thread::Threads;
 use std::time::{Clock, Duration};
 
 /// As `serve_on`. It answers too how many events the desks of the sessions have counted.
-fn serve_with<L: Ledger + Send + Sync, P: Pseudo + Drop + Send, R: Threads + Wait + Clock + Sync>(
+fn serve_with<
+    L: MadeWith<P> + Send + Sync,
+    P: Pseudo + Drop + Send,
+    R: Threads + Wait + Clock + Sync,
+>(
     rt: &R,
     alloc: Global,
     blank: Blank,
@@ -37,9 +43,11 @@ fn serve_with<L: Ledger + Send + Sync, P: Pseudo + Drop + Send, R: Threads + Wai
 ) -> Result<(Outcomes, Manager<P>, u64), Refusal>
     requires name { blank.name ≡ L.name }
     requires parts { blank.parts ≡ L.parts }
+    requires made { Some (making_by limits pseudo) ≡ L.made_with }
     requires all { blank.parts ≡ 129 }
     requires some { 0 < sessions }
     requires most { sessions ≤ 64 }
+    ensures made { IfOk result (λ got. IsMadeWith got.1 limits pseudo) }
     ensures receipts { IfOk result (λ got. Agrees got.0 got.1.commons.history.items) }
     ensures clients { IfOk result (λ got. AreOfClients limit got.0) }
     ensures order { IfOk result (λ got. AreByClientAndNumber got.0) }
@@ -73,10 +81,11 @@ fn serve_with<L: Ledger + Send + Sync, P: Pseudo + Drop + Send, R: Threads + Wai
     }
 }
 
-/// Serves connections on a new manager: accepts as many as the limit says, from 1 to 1,000,000, and hands them to that many
-/// session threads by a bounded channel. Connections have the numbers 1, 2, 3 in the order in which they are accepted; each is
-/// served by one session, whose transactions have that number as their client. An operation that is told to wait, or that it
-/// is blocked, is given up once its tries are spent, from 1 to 1,000,000. The receipts stand by client and then by number.
+/// Serves connections on a new manager with these limits: accepts as many as the limit says, from 1 to 1,000,000, and hands them
+/// to that many session threads by a bounded channel. Connections have the numbers 1, 2, 3 in the order in which they are
+/// accepted; each is served by one session, whose transactions have that number as their client. An operation that is told to
+/// wait, or that it is blocked, is given up once its tries are spent, from 1 to 1,000,000. The receipts stand by client and then
+/// by number.
 ///
 /// A connection that gives nothing to read, or takes nothing that is written, for the idle time, if there is one, ends as by a
 /// fault of it. An operation that waits is not idle. Where a session ends by a fault of its connection or by a line that is too
@@ -100,6 +109,8 @@ pub fn serve_on<P: Pseudo + Drop + Send, R: Threads + Wait + Clock + Sync>(
 ) -> Result<(Outcomes, Manager<P>), Refusal>
     requires some { 0 < sessions }
     requires most { sessions ≤ 64 }
+    // the manager has these limits and this function from keys to pseudokeys
+    ensures made { IfOk result (λ got. IsMadeWith got.1 limits pseudo) }
     // what clients were told is what the manager has done
     ensures receipts { IfOk result (λ got. Agrees got.0 got.1.commons.history.items) }
     // each receipt is that of one of the connections

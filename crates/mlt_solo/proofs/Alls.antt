@@ -52,7 +52,7 @@ module _ {P : Type 0} (bits_of : P → ℕ → ℕ) where
     new_rests keys = record {
       manager = new_kept bits_of m limits pseudo keys new;
       nobody = λ i. ap (λ (t : Table). map.get t i) new.txs ∙ map.get-empty {X = Transaction} nat_cmp i;
-      limit = subst (λ (n : ℕ). 1 ≤ n) (sym new.within.open_at_most) limits.in_range.open_least;
+      limit = subst (λ (n : ℕ). 1 ≤ n) (sym new.made.open_at_most) limits.in_range.open_least;
     }
 
     new_base : HasBase m empty_base

@@ -5,11 +5,16 @@ use Rattle.mlt_serial.specs.declared.report.Report.{Report}
 use Rattle.mlt_audit.specs.Agreement.{Agrees}
 use Rattle.mlt_audit.specs.Committed.{IsBaseOfReceipts}
 use Rattle.mlt_manager.specs.Managers.{ManagerFields}
+use Rattle.mlt_manager.specs.Openings.{IsMadeWith}
+use Rattle.mlt_types.specs.declared.limits.Limits.{Limits}
 use Rattle.mlt_places.specs.Places.{AreAllOutcomes}
 
--- The report of the scripts of each client, which were run on this manager.
-pub record HasRunAll {P : Type 0} (clients : List (List ScriptForm)) (report : Report)
-    (manager : ManagerFields P) : Type 0 where
+-- The report of the scripts of each client, which were run on this manager, made with these limits and this function from
+-- keys to pseudokeys.
+pub record HasRunAll {P : Type 0} (clients : List (List ScriptForm)) (limits : Limits) (pseudo : P)
+    (report : Report) (manager : ManagerFields P) : Type 0 where
+  -- the manager has these limits and this function
+  pub made : IsMadeWith manager limits pseudo
   -- an outcome for each script, clients and scripts in order
   pub outcomes : AreAllOutcomes clients report.outcomes
   -- the events that the workers counted are those of the manager

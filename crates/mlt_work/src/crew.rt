@@ -6,13 +6,12 @@ ghost use Rattle.mlt_places.specs.Workers.{HasWorked, IsFresh};
 
 use crate::worker::work;
 use mlt_claims::Counter;
-use mlt_lock_desk::{Gate, Shared};
+use mlt_lock_desk::{Gate, MadeWith, Shared};
 use mlt_places::{Job, Worked};
 use mlt_tree::Script;
 use mlt_types::Pseudo;
 use std::alloc::{AllocError, Global};
 use std::sync::Wait;
-use std::sync::ledger::Ledger;
 use std::thread;
 use std::thread::Threads;
 
@@ -22,7 +21,7 @@ use std::thread::Threads;
 /// Where the list of results is refused its memory. All threads are joined then too.
 pub(crate) fn work_all<
     P: Pseudo + Send,
-    L: Ledger + Send + Sync,
+    L: MadeWith<P> + Send + Sync,
     R: Threads + Wait + Sync,
     G: Gate + Sync,
 >(

@@ -1,13 +1,14 @@
 //! The scripts of all clients, by several workers.
 
-ghost use Rattle.std.specs.Prelude.{◌≡◌, ◌≤◌, ◌<◌, ◌⊎◌, IfErr, IfOk};
+ghost use Rattle.std.specs.Prelude.{◌≡◌, ◌≤◌, ◌<◌, ◌⊎◌, IfErr, IfOk, Some};
+ghost use Rattle.mlt_lock_desk.specs.Makings.{making_by};
 ghost use Rattle.mlt_places.specs.Places.{scripts_of_clients};
 ghost use Rattle.mlt_work.specs.Runs.{HasRunAll};
 
 use crate::crew::work_all;
 use crate::reporting::report_of;
 use mlt_claims::Counter;
-use mlt_lock_desk::{Gate, Hall, Shared};
+use mlt_lock_desk::{Gate, Hall, MadeWith, Shared};
 use mlt_manager::Manager;
 use mlt_places::{collect, empty_slots, jobs_for};
 use mlt_serial::Report;
@@ -16,11 +17,11 @@ use mlt_types::{Limits, Pseudo, Refusal};
 use std::alloc::Global;
 use std::marker::Brand;
 use std::sync::Wait;
-use std::sync::ledger::{Blank, Ledger};
+use std::sync::ledger::Blank;
 use std::thread::Threads;
 
 fn run_with<
-    L: Ledger + Send + Sync,
+    L: MadeWith<P> + Send + Sync,
     P: Pseudo + Drop + Send,
     R: Threads + Wait + Sync,
     G: Gate + Sync,
@@ -37,11 +38,12 @@ fn run_with<
 ) -> Result<(Report, Manager<P>), Refusal>
     requires name { blank.name ≡ L.name }
     requires parts { blank.parts ≡ L.parts }
+    requires made { Some (making_by limits pseudo) ≡ L.made_with }
     requires nine { blank.parts ≡ 9 }
     requires some { 0 < workers }
     requires most { workers ≤ 8 }
     ensures ran { IfOk result
-        (λ got. HasRunAll (scripts_of_clients clients.now) got.0 got.1) }
+        (λ got. HasRunAll (scripts_of_clients clients.now) limits pseudo got.0 got.1) }
     ensures refusal { IfErr result
         (λ refusal. (refusal ≡ Refusal.OutOfMemory) ⊎ (refusal ≡ Refusal.Audit)) }
 {
@@ -84,9 +86,10 @@ fn run_with<
     }
 }
 
-/// Runs the scripts of all clients on a new manager, by that many workers. Each worker claims a client, runs its scripts in
-/// order, and claims the next; each call of the manager is one event, under one lock. A script that is told to wait, or
-/// that it is blocked, more often than it has tries is aborted, as is one that is refused an operation; its outcome says why.
+/// Runs the scripts of all clients on a new manager with these limits, by that many workers. Each worker claims a client, runs
+/// its scripts in order, and claims the next; each call of the manager is one event, under one lock. A script that is told to
+/// wait, or that it is blocked, more often than it has tries is aborted, as is one that is refused an operation; its outcome says
+/// why.
 ///
 /// # Errors
 /// `OutOfMemory`, where a growth was refused outside a script. `Audit`, where the outcomes do not agree with the manager's
@@ -103,9 +106,10 @@ pub fn run<P: Pseudo + Drop + Send, R: Threads + Wait + Sync, G: Gate + Sync>(
 ) -> Result<(Report, Manager<P>), Refusal>
     requires some { 0 < workers }
     requires most { workers ≤ 8 }
-    // an outcome for each script, which agrees with what the manager has done, and the base of the committed ones
+    // an outcome for each script, which agrees with what the manager has done, and the base of the committed ones; and the
+    // manager has these limits and this function from keys to pseudokeys
     ensures ran { IfOk result
-        (λ got. HasRunAll (scripts_of_clients clients.now) got.0 got.1) }
+        (λ got. HasRunAll (scripts_of_clients clients.now) limits pseudo got.0 got.1) }
     ensures refusal { IfErr result
         (λ refusal. (refusal ≡ Refusal.OutOfMemory) ⊎ (refusal ≡ Refusal.Audit)) }
 {

@@ -6,17 +6,16 @@ ghost use Rattle.mlt_places.specs.Workers.{HasWorked, IsFresh};
 
 use mlt_claims::{Counter, Drawer};
 use mlt_desk::run_client;
-use mlt_lock_desk::{Gate, LockDesk, Shared, Tries};
+use mlt_lock_desk::{Gate, LockDesk, MadeWith, Shared, Tries};
 use mlt_places::{ClientRun, Job, Worked};
 use mlt_tree::Script;
 use mlt_types::Pseudo;
 use std::alloc::Global;
 use std::sync::Wait;
-use std::sync::ledger::Ledger;
 
 /// Claims clients until none is left, and runs the scripts of each at the desk. It answers whether a growth was refused.
 /// There is room for a client's outcomes before anything is asked for it.
-fn run_claimed<P: Pseudo, L: Ledger, R: Wait, G: Gate>(
+fn run_claimed<P: Pseudo, L: MadeWith<P>, R: Wait, G: Gate>(
     rt: &R,
     alloc: Global,
     desk: &mut LockDesk<'_, P, L, R, G>,
@@ -52,7 +51,7 @@ fn run_claimed<P: Pseudo, L: Ledger, R: Wait, G: Gate>(
 }
 
 /// Does a job: claims clients until none is left, and runs the scripts of each.
-pub(crate) fn work<P: Pseudo, L: Ledger, R: Wait, G: Gate>(
+pub(crate) fn work<P: Pseudo, L: MadeWith<P>, R: Wait, G: Gate>(
     rt: &R,
     alloc: Global,
     shared: &Shared<P, L>,

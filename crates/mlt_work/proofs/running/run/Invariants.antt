@@ -1,4 +1,9 @@
+use Rattle.std.specs.Prelude.{Some}
+use Rattle.mlt_lock_desk.specs.Makings.{making_by}
 use Rattle.mlt_work.proofs.running.run.Given as goal
 
-abbrev pub ghosts-run_with : goal.ghosts-run_with
-ghosts-run_with g a = record { name = a.blank.name; parts = a.blank.parts }
+abbrev pub ghosts-run_with-L-Ledger : goal.ghosts-run_with-L-Ledger
+ghosts-run_with-L-Ledger g a = record { name = a.blank.name; parts = a.blank.parts }
+
+abbrev pub ghosts-run_with-L-MadeWith : goal.ghosts-run_with-L-MadeWith
+ghosts-run_with-L-MadeWith g a = record { made_with = Some (making_by a.limits a.pseudo) }

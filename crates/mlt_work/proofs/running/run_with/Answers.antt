@@ -3,6 +3,7 @@ use Rattle.mlt_work.proofs.running.run_with.Goals as goal
 
 pub returns-in-Ok-report_of-clause-ran : goal.returns-in-Ok-report_of-clause-ran
 returns-in-Ok-report_of-clause-ran g c = record {
+  made = search rules;
   outcomes = search rules;
   events = search rules;
   receipts = c.in-Ok-report_of.ensures.receipts;
