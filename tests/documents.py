@@ -162,7 +162,7 @@ def each_view_that_counts_is_linked(_mltx):
     typed = {path for path in re.findall(r"(?m)^ +\d+ (\S+\.rt): ", section) if "ghost view" in (ROOT / "crates" / path).read_text()}
     row = re.search(r"(?m)^\| The views \|.*$", (ROOT / "docs/DEFINITIONS.md").read_text())[0]
     linked = {path for path in re.findall(r"\]\(\.\./crates/(\S+?\.rt)\)", row)}
-    same(sorted(linked - {"mlt_kinds/src/packed.rt"}), sorted(typed), "the files of views")
+    same(sorted(linked - {"mlt_object_kinds/src/packed.rt"}), sorted(typed), "the files of views")
 
 
 @test
@@ -190,7 +190,7 @@ def readme_shows_a_session(mltx):
 @test
 def the_manager_shows_how_it_is_called(_mltx):
     """The caller and its helper in the README of `mlt_manager` stand so in the source, which is proved."""
-    readme, source = ((ROOT / "crates" / path).read_text() for path in ("mlt_manager/README.md", "mlt_manager_uses/src/lib.rt"))
+    readme, source = ((ROOT / "crates" / path).read_text() for path in ("mlt_manager/README.md", "mlt_manager_example/src/lib.rt"))
     for words, name in (("has this caller", "open_with_five"), ("An operation is run to its end by", "ask")):
         shown = block_after(readme, words)
         holds(f"fn {name}<" in shown.splitlines()[0] and "\n" + shown in source, f"the source has no such {name}")

@@ -2,7 +2,7 @@
 use Rattle.std.specs.Prelude.{ℕ, List, ◌∷◌, ◌++◌, codes, true, false}
 use Rattle.mlt_types.specs.declared.refusal.Refusal.{Refusal}
 use Rattle.mlt_types.specs.Refusals.{number_of, name_of}
-use Rattle.mlt_kinds.specs.Texts.{with_number, reply_text}
+use Rattle.mlt_object_kinds.specs.Texts.{with_number, reply_text}
 use Rattle.mlt_event.specs.declared.answer.Answer.{Answer}
 use Rattle.mlt_event.specs.declared.answer.Answer.TheVariants as answer
 use Rattle.mlt_event.specs.declared.told.Told.{Told}

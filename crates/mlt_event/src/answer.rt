@@ -1,6 +1,6 @@
 //! What a step of a transaction answers.
 
-use mlt_kinds::ObjReply;
+use mlt_object_kinds::ObjReply;
 use mlt_types::{PageNo, Refusal, TxId};
 use std::fmt;
 

@@ -1,6 +1,6 @@
 //! Events.
 
-use mlt_kinds::ObjOp;
+use mlt_object_kinds::ObjOp;
 use mlt_types::TxId;
 
 /// One event of a manager: what is asked of it at one time.

@@ -2,7 +2,7 @@
 
 use mlt_event::Event;
 use mlt_event_text::parse_events;
-use mlt_kinds::{AccountOp, CounterOp, ElementOp, ObjOp};
+use mlt_object_kinds::{AccountOp, CounterOp, ElementOp, ObjOp};
 use mlt_test_tools::{same_at, with_spaces};
 use mlt_types::{Refusal, ScriptCause, TxId};
 use std::alloc::Global;

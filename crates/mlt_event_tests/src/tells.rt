@@ -2,7 +2,7 @@
 
 use mlt_event::{Answer, Told};
 use mlt_event_text::told_text;
-use mlt_kinds::ObjReply;
+use mlt_object_kinds::ObjReply;
 use mlt_test_tools::same;
 use mlt_types::{PageNo, Refusal, TxId};
 use std::test::Fail;

@@ -13,7 +13,7 @@ use Rattle.mlt_event_text.specs.Answering.{Answers}
 use Rattle.mlt_event_text.specs.Grammar.{AreEvents, AreLawful, IsDecided, IsFault, IsFirstFault, IsFirstFaultOf, IsLawful, IsNoFault, Spells, events_of}
 use Rattle.mlt_event_text.specs.Readings.{reading}
 use Rattle.mlt_event_text.proofs.Going.{bad_line}
-use Rattle.mlt_words.specs.Lines.{Raw, lines}
+use Rattle.mlt_text_words.specs.Lines.{Raw, lines}
 
 -- the lines are events, or have a first fault
 abbrev AreDecided : List Raw → Type 0

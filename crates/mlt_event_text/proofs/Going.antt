@@ -13,8 +13,8 @@ use Rattle.mlt_event_text.specs.Answering.{WentOver}
 use Rattle.mlt_event_text.specs.Forms.{asked_by}
 use Rattle.mlt_event_text.specs.Grammar.{AreEvents, IsFault, IsLawful, Spells, events_of}
 use Rattle.mlt_event_text.specs.Readings.{asked_or_fault, reading, said_by}
-use Rattle.mlt_words.specs.Lines.{Raw, lines, content, is_comment, is_allowed}
-use Rattle.mlt_words.specs.Words.{raw_words}
+use Rattle.mlt_text_words.specs.Lines.{Raw, lines, content, is_comment, is_allowed}
+use Rattle.mlt_text_words.specs.Words.{raw_words}
 
 -- ---- the faults of lines
 

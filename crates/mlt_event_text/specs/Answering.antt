@@ -4,7 +4,7 @@ use Rattle.mlt_types.specs.declared.refusal.Refusal.{Refusal}
 use Rattle.mlt_types.specs.declared.refusal.Refusal.TheVariants.{OutOfMemory, ScriptFault}
 use Rattle.mlt_event.specs.declared.event.Event.{Event}
 use Rattle.mlt_event_text.specs.Grammar.{AreEvents, IsFault, IsFirstFault, IsLawful, Spells, events_of}
-use Rattle.mlt_words.specs.Lines.{Raw, lines}
+use Rattle.mlt_text_words.specs.Lines.{Raw, lines}
 
 -- what is answered of a text: its events, want of memory, or its first fault
 abbrev pub Answers : {A : Type 0} → (A → List Event) → Result A Refusal → List ℕ → Type 0

@@ -7,7 +7,7 @@ use Rattle.mlt_event.specs.declared.event.Event.{Event}
 use Rattle.mlt_event_text.specs.declared.line.Reading.{Reading}
 use Rattle.mlt_event_text.specs.declared.line.Reading.TheVariants.{Bad, Skip, Asks}
 use Rattle.mlt_event_text.specs.Readings.{reading}
-use Rattle.mlt_words.specs.Lines.{Raw, lines}
+use Rattle.mlt_text_words.specs.Lines.{Raw, lines}
 
 abbrev pub IsNoFault : Reading → Type 0
 IsNoFault (Bad fault) = ⊥

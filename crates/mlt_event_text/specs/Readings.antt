@@ -6,8 +6,8 @@ use Rattle.mlt_event_text.specs.declared.forms.Asked.{Asked}
 use Rattle.mlt_event_text.specs.declared.line.Reading.{Reading}
 use Rattle.mlt_event_text.specs.declared.line.Reading.TheVariants.{Bad, Skip, Asks}
 use Rattle.mlt_event_text.specs.Forms.{asked_by}
-use Rattle.mlt_words.specs.Lines.{Raw, content, is_comment, is_allowed}
-use Rattle.mlt_words.specs.Words.{raw_words}
+use Rattle.mlt_text_words.specs.Lines.{Raw, content, is_comment, is_allowed}
+use Rattle.mlt_text_words.specs.Words.{raw_words}
 
 abbrev pub asked_or_fault : Option Asked → Reading
 asked_or_fault (Some asked) = Asks asked

@@ -2,13 +2,13 @@
 
 ghost use Rattle.std.specs.Prelude.{◌≡◌, option_map};
 ghost use Rattle.mlt_event_text.specs.Forms.{alone, asked_by, asked_of_tx, number_at, once, only_op, step_count};
-ghost use Rattle.mlt_words.specs.Words.{raw_words, words_of};
+ghost use Rattle.mlt_text_words.specs.Words.{raw_words, words_of};
 
 use mlt_event::Event;
-use mlt_kinds::ObjOp;
+use mlt_object_kinds::ObjOp;
 use mlt_script::read_op;
 use mlt_types::TxId;
-use mlt_words::{next_raw_word, read_number};
+use mlt_text_words::{next_raw_word, read_number};
 
 /// The event that a line asks for, and how many times.
 #[derive(Clone, Copy)]
@@ -44,7 +44,7 @@ fn last(event: Event, rest: &[u8]) -> Option<Asked>
 }
 
 /// The operation that is all the words, its amount a number. Takes no memory.
-#[tactic(auto, unfolding(crate::specs::Forms::only_op, mlt_words::specs::Words::words_of))]
+#[tactic(auto, unfolding(crate::specs::Forms::only_op, mlt_text_words::specs::Words::words_of))]
 pub fn read_only_op(text: &[u8]) -> Option<ObjOp>
     ensures { result ≡ only_op (words_of text.now) }
 {
@@ -74,7 +74,7 @@ fn count(text: &[u8]) -> Option<u16>
 
 // What a line asks for whose first word is this, and which goes on with the number of a transaction. Words of
 // different lengths are told apart without a look at their bytes.
-#[tactic(auto, unfolding(crate::specs::Forms::asked_of_tx, mlt_words::specs::Words::words_of))]
+#[tactic(auto, unfolding(crate::specs::Forms::asked_of_tx, mlt_text_words::specs::Words::words_of))]
 fn asked_of_tx(word: &[u8], tx: TxId, rest: &[u8]) -> Option<Asked>
     ensures { result ≡ asked_of_tx word.now tx (raw_words rest.now) }
 {

@@ -2,11 +2,11 @@
 
 ghost use Rattle.std.specs.Prelude.{◌≡◌};
 ghost use Rattle.mlt_event_text.specs.Readings.{reading, said_by};
-ghost use Rattle.mlt_words.specs.Words.{raw_words};
+ghost use Rattle.mlt_text_words.specs.Words.{raw_words};
 
 use crate::forms::{Asked, asked_by};
 use mlt_types::ScriptCause;
-use mlt_words::{is_allowed_line, is_comment_line, next_raw_word, trimmed};
+use mlt_text_words::{is_allowed_line, is_comment_line, next_raw_word, trimmed};
 
 /// What a line is by itself.
 #[derive(Clone, Copy)]

@@ -10,7 +10,7 @@ use crate::forms::Asked;
 use crate::line::{Reading, read_line};
 use mlt_event::Event;
 use mlt_types::Refusal;
-use mlt_words::first_line;
+use mlt_text_words::first_line;
 use std::alloc::{AllocError, Global};
 
 // Puts the event behind the others, so many times.

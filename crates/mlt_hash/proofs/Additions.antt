@@ -12,9 +12,9 @@ use Rattle.mlt_page.specs.declared.slot.Slot.TheVariants.{Free, Live}
 use Rattle.mlt_page.specs.Values.{BucketFields}
 use Rattle.mlt_page_locks.specs.LockTables.{can_write}
 use Rattle.mlt_hash_form.specs.Form.{value_in}
-use Rattle.mlt_held.specs.Moments.{Moment}
-use Rattle.mlt_held.specs.Views.{ReadsHeldBucket, View, WritesPage, view_of}
-use Rattle.mlt_record.specs.Plans.{IsNowhere, SetsFirst, WriteFields, has_room, planned_page}
+use Rattle.mlt_hash_access.specs.Moments.{Moment}
+use Rattle.mlt_hash_access.specs.Views.{ReadsHeldBucket, View, WritesPage, view_of}
+use Rattle.mlt_hash_record.specs.Plans.{IsNowhere, SetsFirst, WriteFields, has_room, planned_page}
 use Rattle.mlt_hash.specs.Passes.{slot_after}
 use Rattle.mlt_hash.specs.Walks.{Basis, FoundBefore, Stands, StoodBefore, WalkFields, nothing_before, view_for}
 use Rattle.mlt_hash.specs.Changes.{FillsFirst, HasOwnGhost, IsAtAbsent, IsAtBucketPhase, IsFull, Makes, PlansSlot, RevivesFirst, SeesBucket, TakesSlot, TellsOfAddition, TellsOfChange, TellsOfWrite, directory_depth_of, page_of}

@@ -14,10 +14,10 @@ use Rattle.mlt_page_locks.specs.Requests.{with_page}
 use Rattle.mlt_hash_form.specs.File.{dir_of}
 use Rattle.mlt_hash_form.proofs.Bits.{first_bits_below}
 use Rattle.mlt_hash_form.proofs.FillEnds.{page_listed}
-use Rattle.mlt_held.specs.Views.{View}
-use Rattle.mlt_held.proofs.Views.{mode_of_others}
-use Rattle.mlt_split.specs.Rests.{HoldsAmong, IsIn}
-use Rattle.mlt_split.proofs.Among.{among_after_lock, among_after_make, among_still, few_are_held, few_pages}
+use Rattle.mlt_hash_access.specs.Views.{View}
+use Rattle.mlt_hash_access.proofs.Views.{mode_of_others}
+use Rattle.mlt_hash_split.specs.Rests.{HoldsAmong, IsIn}
+use Rattle.mlt_hash_split.proofs.Among.{among_after_lock, among_after_make, among_still, few_are_held, few_pages}
 use Rattle.mlt_hash.specs.Walks.{Before, GoesAfter, HoldsBeside, nothing_before}
 use Rattle.mlt_hash.specs.declared.pass.Pass.{Pass}
 use Rattle.mlt_hash.specs.declared.pass.Pass.TheVariants as pass

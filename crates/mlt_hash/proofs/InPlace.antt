@@ -24,12 +24,12 @@ use Rattle.mlt_hash_form.proofs.HeldPages.{keeps_none}
 use Rattle.mlt_hash_form.proofs.Lookup.{live_from_value, live_passes, within_from_live}
 use Rattle.mlt_hash_form.proofs.Paths.{path_home}
 use Rattle.mlt_hash_form.proofs.SingleChanges.{put_changes, revive_changes, set_value_changes, to_ghost_changes}
-use Rattle.mlt_held.specs.Moments.{Moment}
-use Rattle.mlt_held.specs.Views.{HasWritten, ReadsHeldBucket, View, WritesPage, WritesSlot, view_of}
-use Rattle.mlt_held.proofs.Since.{over_since, reads_below_writes, reads_over_writes, reads_since, rebased_writes_slot}
-use Rattle.mlt_held.proofs.Unwritten.{first_write_is_not_third}
-use Rattle.mlt_held.proofs.Views.{may_write, mode_of_page, write_writes, writes_over_clean}
-use Rattle.mlt_record.specs.Plans.{IsNowhere, SetsFirst, WriteFields}
+use Rattle.mlt_hash_access.specs.Moments.{Moment}
+use Rattle.mlt_hash_access.specs.Views.{HasWritten, ReadsHeldBucket, View, WritesPage, WritesSlot, view_of}
+use Rattle.mlt_hash_access.proofs.Since.{over_since, reads_below_writes, reads_over_writes, reads_since, rebased_writes_slot}
+use Rattle.mlt_hash_access.proofs.Unwritten.{first_write_is_not_third}
+use Rattle.mlt_hash_access.proofs.Views.{may_write, mode_of_page, write_writes, writes_over_clean}
+use Rattle.mlt_hash_record.specs.Plans.{IsNowhere, SetsFirst, WriteFields}
 use Rattle.mlt_hash.specs.Passes.{bucket_mode, directory_held, slot_after, value_after}
 use Rattle.mlt_hash.specs.Walks.{Basis, Before, FoundBefore, HoldsBeside, IsAtBucket, IsChanged, MayWalk, Stands, StoodBefore, WalkFields, nothing_before, view_for}
 use Rattle.mlt_hash.specs.Changes.{IsAtAbsent, IsAtBucketPhase, IsAtRecord, LacksMemory, Makes, PlansSlot, SeesBucket, TellsOfChange, TellsOfWrite, WritesIfChanged, directory_depth_of, page_of}

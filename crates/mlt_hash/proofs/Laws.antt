@@ -7,10 +7,10 @@ use Rattle.mlt_page.specs.declared.page.Page.{Page}
 use Rattle.mlt_page_locks.specs.LockTables.{Modes, can_read, pages_of}
 use Rattle.mlt_hash_form.specs.File.{IsPath, look_up}
 use Rattle.mlt_hash_form.specs.Held.{Agrees}
-use Rattle.mlt_held.specs.Moments.{Moment}
-use Rattle.mlt_held.specs.Views.{View, view_of}
-use Rattle.mlt_held.proofs.Reading.{path_read, read_is_there}
-use Rattle.mlt_held.proofs.Views.{own_free, seen_free}
+use Rattle.mlt_hash_access.specs.Moments.{Moment}
+use Rattle.mlt_hash_access.specs.Views.{View, view_of}
+use Rattle.mlt_hash_access.proofs.Reading.{path_read, read_is_there}
+use Rattle.mlt_hash_access.proofs.Views.{own_free, seen_free}
 use Rattle.mlt_hash.specs.Walks.{Basis, IsAtBucket, IsAtStart, WalkFields}
 use Rattle.mlt_hash.proofs.Passed.{read_at_bucket}
 

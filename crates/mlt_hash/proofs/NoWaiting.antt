@@ -10,11 +10,11 @@ use Rattle.mlt_page_locks.specs.LockTables.{mode_held}
 use Rattle.mlt_page_locks.specs.Requests.{conflicts, is_against}
 use Rattle.mlt_hash_form.specs.File.{HasForm}
 use Rattle.mlt_hash_form.specs.Held.{Agrees}
-use Rattle.mlt_held.specs.Moments.{MayStep, Moment}
-use Rattle.mlt_held.specs.Views.{view_of}
-use Rattle.mlt_held.proofs.Views.{may_write}
-use Rattle.mlt_split.specs.Splits.{SplitFields}
-use Rattle.mlt_split.specs.Steps.{IsNextPage}
+use Rattle.mlt_hash_access.specs.Moments.{MayStep, Moment}
+use Rattle.mlt_hash_access.specs.Views.{view_of}
+use Rattle.mlt_hash_access.proofs.Views.{may_write}
+use Rattle.mlt_hash_split.specs.Splits.{SplitFields}
+use Rattle.mlt_hash_split.specs.Steps.{IsNextPage}
 use Rattle.mlt_hash.specs.Splitting.{TellsOfSplitting, WalkStep}
 use Rattle.mlt_hash.specs.Walks.{Basis, IsSplitting, aim_of, view_for}
 use Rattle.mlt_hash.specs.declared.answer.WalkAnswer.TheVariants as answer

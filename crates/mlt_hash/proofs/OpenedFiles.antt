@@ -10,7 +10,7 @@ use Rattle.mlt_types.specs.declared.refusal.Refusal.TheVariants as refusal
 use Rattle.mlt_page.specs.declared.page.Page.{Page}
 use Rattle.mlt_page.specs.declared.page.Page.TheVariants as page
 use Rattle.mlt_page.specs.declared.slot.Slot.TheVariants.{Free}
-use Rattle.mlt_store.specs.Stores.{PageStore, Pages, page_at}
+use Rattle.mlt_page_store.specs.Stores.{PageStore, Pages, page_at}
 use Rattle.mlt_page_locks.proofs.Maps.{get_inserted}
 use Rattle.mlt_hash_form.specs.Changes.{IsOpening}
 

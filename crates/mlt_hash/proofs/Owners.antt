@@ -9,14 +9,14 @@ use Rattle.mlt_page.specs.declared.slot.Slot.TheVariants.{Free, Live, Ghost}
 use Rattle.mlt_page.specs.declared.page.Page.{Page}
 use Rattle.mlt_page.specs.declared.page.Page.TheVariants as page
 use Rattle.mlt_page.specs.Values.{BucketFields, HeadFields}
-use Rattle.mlt_subtx.proofs.ImageLaws.{not_true}
+use Rattle.mlt_page_subtx.proofs.ImageLaws.{not_true}
 use Rattle.mlt_hash_form.specs.File.{HasForm, bucket_of, buckets_of}
 use Rattle.mlt_hash_form.specs.Form.{is_used, slot_at}
 use Rattle.mlt_hash_form.specs.Held.{Agrees, KeepsFile, over}
 use Rattle.mlt_hash_form.proofs.HeldPages.{keeps_fewer}
-use Rattle.mlt_held.specs.Views.{View}
-use Rattle.mlt_split.specs.Rests.{IsAtRest, KeepsNoMore}
-use Rattle.mlt_split.proofs.Laws.{rest_with_fewer, under_way_with_fewer}
+use Rattle.mlt_hash_access.specs.Views.{View}
+use Rattle.mlt_hash_split.specs.Rests.{IsAtRest, KeepsNoMore}
+use Rattle.mlt_hash_split.proofs.Laws.{rest_with_fewer, under_way_with_fewer}
 use Rattle.mlt_hash.specs.Walks.{Basis, IsAdding, IsChanged, IsSplitting, IsStanding, Stands, StoodBefore, WalkFields, aim_of}
 use Rattle.mlt_hash.specs.declared.pass.Change.{Change}
 use Rattle.mlt_hash.specs.declared.pass.Change.TheVariants as change

@@ -13,21 +13,21 @@ use Rattle.mlt_page_locks.specs.LockTables.{Modes, mode_held}
 use Rattle.mlt_page_locks.specs.Requests.{stronger, with_page}
 use Rattle.mlt_hash_form.specs.File.{HasForm, dir_of}
 use Rattle.mlt_hash_form.specs.Held.{Agrees, own_or}
-use Rattle.mlt_held.specs.Moments.{MayStep, Moment}
-use Rattle.mlt_held.specs.PageSteps.{TouchesOnePage}
-use Rattle.mlt_held.specs.Views.{MakesPage, View, WritesPage}
-use Rattle.mlt_held.proofs.Reading.{bucket_still}
-use Rattle.mlt_held.proofs.OwnSteps.{own_step_writes_more, step_keeps_tx}
-use Rattle.mlt_held.proofs.Since.{over_sees_more}
-use Rattle.mlt_held.proofs.Views.{mode_of_others, mode_of_page}
-use Rattle.mlt_split.specs.Rests.{Aim}
-use Rattle.mlt_split.specs.Splits.{IsUnderWay, SplitFields}
-use Rattle.mlt_split.specs.Steps.{IsDone, IsKeysPage, IsMaking, IsNextPage}
-use Rattle.mlt_split.specs.declared.split.SplitAnswer.TheVariants as split_answer
-use Rattle.mlt_split.proofs.HeldPages.{exclusive_after_make, grows_by_make}
-use Rattle.mlt_split.proofs.Later.{stronger_exclusive}
-use Rattle.mlt_split.proofs.Locks.{done_writes_what_it_locks, locks_its_page_alone}
-use Rattle.mlt_split.proofs.Narrow.{narrow_leaves_header, narrow_makes_none, narrow_next_page}
+use Rattle.mlt_hash_access.specs.Moments.{MayStep, Moment}
+use Rattle.mlt_hash_access.specs.PageSteps.{TouchesOnePage}
+use Rattle.mlt_hash_access.specs.Views.{MakesPage, View, WritesPage}
+use Rattle.mlt_hash_access.proofs.Reading.{bucket_still}
+use Rattle.mlt_hash_access.proofs.OwnSteps.{own_step_writes_more, step_keeps_tx}
+use Rattle.mlt_hash_access.proofs.Since.{over_sees_more}
+use Rattle.mlt_hash_access.proofs.Views.{mode_of_others, mode_of_page}
+use Rattle.mlt_hash_split.specs.Rests.{Aim}
+use Rattle.mlt_hash_split.specs.Splits.{IsUnderWay, SplitFields}
+use Rattle.mlt_hash_split.specs.Steps.{IsDone, IsKeysPage, IsMaking, IsNextPage}
+use Rattle.mlt_hash_split.specs.declared.split.SplitAnswer.TheVariants as split_answer
+use Rattle.mlt_hash_split.proofs.HeldPages.{exclusive_after_make, grows_by_make}
+use Rattle.mlt_hash_split.proofs.Later.{stronger_exclusive}
+use Rattle.mlt_hash_split.proofs.Locks.{done_writes_what_it_locks, locks_its_page_alone}
+use Rattle.mlt_hash_split.proofs.Narrow.{narrow_leaves_header, narrow_makes_none, narrow_next_page}
 use Rattle.mlt_hash.specs.Passes.{MayHoldMore, bucket_held, bucket_mode, directory_held, directory_mode, header_held, header_mode}
 use Rattle.mlt_hash.specs.Walks.{Basis, Before, GoesAfter, HasRead, HoldsByPass, IsAtBucket, IsSplitting, StaysNarrow, WalkFields, aim_of, view_for}
 use Rattle.mlt_hash.specs.declared.pass.Pass.{Pass}

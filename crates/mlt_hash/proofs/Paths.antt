@@ -10,9 +10,9 @@ use Rattle.mlt_hash_form.specs.File.{HasForm, depth_of, dir_of, header_of, row_o
 use Rattle.mlt_hash_form.proofs.Paths.{path_from_dir, path_from_header}
 use Rattle.mlt_hash_form.specs.Form.{value_in}
 use Rattle.mlt_hash_form.specs.Held.{Agrees, over}
-use Rattle.mlt_held.specs.Moments.{HasCleanFile, IsCleanFor, MayStep, Moment, no_writes}
-use Rattle.mlt_held.specs.Views.{ReadsPage, view_of}
-use Rattle.mlt_held.proofs.Since.{agrees_over, sees_page_since, still_unwritten, unwritten_anew}
+use Rattle.mlt_hash_access.specs.Moments.{HasCleanFile, IsCleanFor, MayStep, Moment, no_writes}
+use Rattle.mlt_hash_access.specs.Views.{ReadsPage, view_of}
+use Rattle.mlt_hash_access.proofs.Since.{agrees_over, sees_page_since, still_unwritten, unwritten_anew}
 use Rattle.mlt_page_locks.specs.Requests.{with_page}
 use Rattle.mlt_hash.specs.Passes.{bucket_mode, directory_mode, header_mode}
 use Rattle.mlt_hash.specs.Walks.{Basis, Before, HoldsBeside, IsAtBucket, IsAtStart, IsHeaded, IsPlaced, Stands, WalkFields, basis_after, nothing_before, one_key, view_for}

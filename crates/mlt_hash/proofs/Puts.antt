@@ -24,20 +24,20 @@ use Rattle.mlt_hash_form.specs.Held.{Agrees, over, own_or}
 use Rattle.mlt_hash_form.specs.Room.{crowds, is_crowded}
 use Rattle.mlt_hash_form.proofs.Crowd.{crowded_at_own_depth, crowded_in_fewer}
 use Rattle.mlt_hash_form.proofs.HeldPages.{keeps_more}
-use Rattle.mlt_held.specs.Moments.{HasFileOver, MayStep, Moment, page_before}
-use Rattle.mlt_held.specs.PageSteps.{MakesLockedPage, TouchesOnePage, WritesHeldPage, WritesHeldSlot}
-use Rattle.mlt_held.specs.Views.{HasWritten, MakesPage, ReadsHeldBucket, ReadsHeldPage, View, WritesPage, own_at, view_of}
-use Rattle.mlt_held.proofs.Rebased.{rebased_makes_page, rebased_writes_page}
-use Rattle.mlt_held.proofs.Since.{read_over_writes, reads_over_writes}
+use Rattle.mlt_hash_access.specs.Moments.{HasFileOver, MayStep, Moment, page_before}
+use Rattle.mlt_hash_access.specs.PageSteps.{MakesLockedPage, TouchesOnePage, WritesHeldPage, WritesHeldSlot}
+use Rattle.mlt_hash_access.specs.Views.{HasWritten, MakesPage, ReadsHeldBucket, ReadsHeldPage, View, WritesPage, own_at, view_of}
+use Rattle.mlt_hash_access.proofs.Rebased.{rebased_makes_page, rebased_writes_page}
+use Rattle.mlt_hash_access.proofs.Since.{read_over_writes, reads_over_writes}
 use Rattle.mlt_page_locks.specs.LockTables.{can_write, can_read}
-use Rattle.mlt_held.proofs.Views.{make_makes, may_write, write_writes, writes_over_clean, may_read, seen_held}
-use Rattle.mlt_record.specs.Plans.{IsNowhere, SetsFirst, WriteFields, has_room, planned_page}
-use Rattle.mlt_split.specs.Rests.{Aim, IsAtRest, held_page, seed_of}
-use Rattle.mlt_split.specs.Splits.{HasHalves, IsUnderWay, MayBegin, SplitFields, directory_steps, steps_left}
-use Rattle.mlt_split.proofs.Beginning.{rest_bucket, rest_is_shallow, rest_is_small}
-use Rattle.mlt_split.proofs.Closing.{HasClean}
-use Rattle.mlt_split.proofs.Few.{rest_holds_few}
-use Rattle.mlt_split.proofs.HeldPages.{not_made}
+use Rattle.mlt_hash_access.proofs.Views.{make_makes, may_write, write_writes, writes_over_clean, may_read, seen_held}
+use Rattle.mlt_hash_record.specs.Plans.{IsNowhere, SetsFirst, WriteFields, has_room, planned_page}
+use Rattle.mlt_hash_split.specs.Rests.{Aim, IsAtRest, held_page, seed_of}
+use Rattle.mlt_hash_split.specs.Splits.{HasHalves, IsUnderWay, MayBegin, SplitFields, directory_steps, steps_left}
+use Rattle.mlt_hash_split.proofs.Beginning.{rest_bucket, rest_is_shallow, rest_is_small}
+use Rattle.mlt_hash_split.proofs.Closing.{HasClean}
+use Rattle.mlt_hash_split.proofs.Few.{rest_holds_few}
+use Rattle.mlt_hash_split.proofs.HeldPages.{not_made}
 use Rattle.mlt_hash.specs.Walks.{Basis, HasRead, HoldsByPass, IsAdding, IsChanged, IsSplitting, IsStanding, Stands, WalkFields, aim_of, one_key, view_for}
 use Rattle.mlt_hash.specs.Changes.{Makes, PlansSlot, PutsLowest, TellsOfWrite, page_of}
 use Rattle.mlt_hash.specs.Splitting.{BeginsSplit, HasToSplit, TellsOfAdding, walk_step}

@@ -5,16 +5,16 @@ use Rattle.std.specs.Ordering.{nat_cmp}
 use Rattle.std.specs.FinMap as map
 use Rattle.mlt_types.specs.declared.mode.Mode.{Mode}
 use Rattle.mlt_page.specs.declared.page.Page.{Page}
-use Rattle.mlt_store.specs.Stores.{page_at}
+use Rattle.mlt_page_store.specs.Stores.{page_at}
 use Rattle.mlt_page_locks.specs.LockTables.{Modes, page_count}
 use Rattle.mlt_page_locks.specs.Requests.{stronger, with_page}
-use Rattle.mlt_held.specs.Moments.{IsCleanFor, MayStep, Moment}
-use Rattle.mlt_held.specs.PageSteps.{LocksAtMost, TouchesOnePage}
+use Rattle.mlt_hash_access.specs.Moments.{IsCleanFor, MayStep, Moment}
+use Rattle.mlt_hash_access.specs.PageSteps.{LocksAtMost, TouchesOnePage}
 use Rattle.mlt_hash_form.specs.File.{FilePages}
 use Rattle.mlt_hash_form.specs.Held.{over, own_or}
-use Rattle.mlt_held.specs.Views.{HasWritten, IsUnwrittenSince, ReadsPage, view_of, view_over}
-use Rattle.mlt_held.proofs.Since.{agrees_over, sees_page_since, there_since}
-use Rattle.mlt_held.proofs.Views.{page_count_of_view}
+use Rattle.mlt_hash_access.specs.Views.{HasWritten, IsUnwrittenSince, ReadsPage, view_of, view_over}
+use Rattle.mlt_hash_access.proofs.Since.{agrees_over, sees_page_since, there_since}
+use Rattle.mlt_hash_access.proofs.Views.{page_count_of_view}
 use Rattle.mlt_hash.specs.Passes.{bucket_held, bucket_mode, directory_held, directory_mode, header_held, header_mode}
 use Rattle.mlt_hash.specs.declared.pass.Pass.{Pass}
 

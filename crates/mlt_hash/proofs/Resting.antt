@@ -21,11 +21,11 @@ use Rattle.mlt_hash_form.specs.Room.{crowds, is_crowded}
 use Rattle.mlt_hash_form.proofs.Crowd.{crowded_at_own_depth}
 use Rattle.mlt_hash_form.proofs.HeldPages.{keeps_none}
 use Rattle.mlt_hash_form.proofs.Paths.{path_depths}
-use Rattle.mlt_held.specs.Moments.{HasFileOver, MayStep, Moment}
-use Rattle.mlt_held.specs.Views.{View}
-use Rattle.mlt_held.proofs.Since.{agrees_over, over_since, reads_since}
+use Rattle.mlt_hash_access.specs.Moments.{HasFileOver, MayStep, Moment}
+use Rattle.mlt_hash_access.specs.Views.{View}
+use Rattle.mlt_hash_access.proofs.Since.{agrees_over, over_since, reads_since}
 use Rattle.mlt_hash.specs.Passes.{HasRoomFrom, IsNextPass, NeverHasRoom, bucket_held, header_mode}
-use Rattle.mlt_split.specs.Rests.{IsAtRest, held_page}
+use Rattle.mlt_hash_split.specs.Rests.{IsAtRest, held_page}
 use Rattle.mlt_hash.specs.Walks.{Basis, Before, IsAdding, IsAtBucket, Stands, WalkFields, aim_of, one_key, view_for}
 use Rattle.mlt_hash.specs.Steps.{IsSameWalk}
 use Rattle.mlt_hash.specs.Changes.{HasNoRoom, IsAtAbsent, IsFull, IsNext, MustWiden, NeedsSplit, SeesBucket, crowded_at, directory_depth_of, page_of}

@@ -11,20 +11,20 @@ use Rattle.mlt_hash_form.specs.Held.{Agrees, over}
 use Rattle.mlt_page_locks.specs.LockTables.{LockTable, can_write}
 use Rattle.mlt_page_locks.proofs.LockLaws.{can_write-granted}
 use Rattle.mlt_page_locks.specs.Requests.{granted}
-use Rattle.mlt_held.specs.Moments.{HasFileOver, MayStep, Moment}
-use Rattle.mlt_held.specs.PageSteps.{LocksAtMost, TouchesOnePage, WritesAtMost}
-use Rattle.mlt_held.specs.Views.{view_of}
-use Rattle.mlt_held.proofs.OwnSteps.{step_keeps_tx}
-use Rattle.mlt_held.proofs.Since.{agrees_over}
-use Rattle.mlt_held.proofs.Views.{holds_exclusively, may_write}
-use Rattle.mlt_split.specs.Splits.{IsUnderWay, MayAdvance, SplitFields, steps_left}
-use Rattle.mlt_split.specs.Rests.{Aim}
-use Rattle.mlt_split.specs.Steps.{IsDone, IsLeft, IsMaking, Touches}
-use Rattle.mlt_split.specs.Tells.{GoesOn, Rests, Tells}
-use Rattle.mlt_split.specs.declared.phase.SplitPhase.{SplitPhase}
-use Rattle.mlt_split.specs.declared.phase.SplitPhase.TheVariants as split_at
-use Rattle.mlt_split.specs.declared.split.SplitAnswer.{SplitAnswer}
-use Rattle.mlt_split.specs.declared.split.SplitAnswer.TheVariants as split_answer
+use Rattle.mlt_hash_access.specs.Moments.{HasFileOver, MayStep, Moment}
+use Rattle.mlt_hash_access.specs.PageSteps.{LocksAtMost, TouchesOnePage, WritesAtMost}
+use Rattle.mlt_hash_access.specs.Views.{view_of}
+use Rattle.mlt_hash_access.proofs.OwnSteps.{step_keeps_tx}
+use Rattle.mlt_hash_access.proofs.Since.{agrees_over}
+use Rattle.mlt_hash_access.proofs.Views.{holds_exclusively, may_write}
+use Rattle.mlt_hash_split.specs.Splits.{IsUnderWay, MayAdvance, SplitFields, steps_left}
+use Rattle.mlt_hash_split.specs.Rests.{Aim}
+use Rattle.mlt_hash_split.specs.Steps.{IsDone, IsLeft, IsMaking, Touches}
+use Rattle.mlt_hash_split.specs.Tells.{GoesOn, Rests, Tells}
+use Rattle.mlt_hash_split.specs.declared.phase.SplitPhase.{SplitPhase}
+use Rattle.mlt_hash_split.specs.declared.phase.SplitPhase.TheVariants as split_at
+use Rattle.mlt_hash_split.specs.declared.split.SplitAnswer.{SplitAnswer}
+use Rattle.mlt_hash_split.specs.declared.split.SplitAnswer.TheVariants as split_answer
 use Rattle.mlt_hash.specs.Walks.{Basis, HasRead, HoldsByPass, IsAdding, IsSplitting, IsStanding, MayWalk, Stands, StaysNarrow, WalkFields, aim_of, view_for}
 use Rattle.mlt_hash.specs.Changes.{page_of}
 use Rattle.mlt_hash.specs.Splitting.{OfSplit, SplitCloses, SplitGoesOn, TellsOfAdding, TellsOfSplitting, WalkStep, walk_step}

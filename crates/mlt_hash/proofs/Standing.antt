@@ -2,7 +2,7 @@
 use Rattle.std.proofs.Common.{◌≡◌, ℕ, Option, subst}
 use Rattle.std.specs.Ordering.{nat_cmp}
 use Rattle.std.specs.FinSet as set
-use Rattle.mlt_held.specs.Views.{View}
+use Rattle.mlt_hash_access.specs.Views.{View}
 use Rattle.mlt_hash.specs.Walks.{Basis, IsAtBucket, IsHeaded, IsPlaced, IsStanding, Stands, WalkFields}
 use Rattle.mlt_hash.specs.declared.pass.Phase.{Phase}
 

@@ -6,10 +6,10 @@ use Rattle.mlt_page.specs.declared.page.Page.TheVariants as page
 use Rattle.mlt_page.specs.Values.{HeadFields}
 use Rattle.mlt_hash_form.specs.File.{HasForm, look_up}
 use Rattle.mlt_hash_form.specs.Held.{Agrees}
-use Rattle.mlt_held.specs.Views.{View}
-use Rattle.mlt_held.proofs.Reading.{read_is_there}
-use Rattle.mlt_split.proofs.Closing.{HasClean}
-use Rattle.mlt_split.proofs.Few.{rest_holds_few, split_holds_few}
+use Rattle.mlt_hash_access.specs.Views.{View}
+use Rattle.mlt_hash_access.proofs.Reading.{read_is_there}
+use Rattle.mlt_hash_split.proofs.Closing.{HasClean}
+use Rattle.mlt_hash_split.proofs.Few.{rest_holds_few, split_holds_few}
 use Rattle.mlt_hash.specs.Walks.{Basis, GoesAfter, HasRead, HoldsBeside, IsStanding, Stands, WalkFields, aim_of}
 use Rattle.mlt_hash.specs.declared.pass.Phase.{Phase}
 use Rattle.mlt_hash.specs.declared.pass.Phase.TheVariants as at

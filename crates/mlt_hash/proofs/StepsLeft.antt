@@ -4,8 +4,8 @@ use Rattle.std.proofs.lemmas.Bool.{cases_eq, cond-false, cond-true, eq-eqb, ne_e
 use Rattle.mlt_page.specs.declared.page.Page.{Page}
 use Rattle.mlt_hash_form.specs.File.{HasForm, bucket_of, header_of}
 use Rattle.mlt_hash_form.specs.Held.{Agrees}
-use Rattle.mlt_held.specs.Moments.{Moment}
-use Rattle.mlt_split.specs.Splits.{SplitFields, directory_steps, steps_left}
+use Rattle.mlt_hash_access.specs.Moments.{Moment}
+use Rattle.mlt_hash_split.specs.Splits.{SplitFields, directory_steps, steps_left}
 use Rattle.mlt_hash.specs.Splitting.{BeginsSplit, SplitCloses, SplitGoesOn, TellsAt, walk_step}
 use Rattle.mlt_hash.specs.StepsLeft.{IsPutting, bucket_depth, depth_after, directory_depth, steps_of_splits, steps_to_put, steps_to_put_at, steps_with_split}
 use Rattle.mlt_hash.specs.Walks.{Basis, IsSplitting, Stands, WalkFields, view_for}

@@ -10,8 +10,8 @@ use Rattle.mlt_page.specs.declared.page.Page.{Page}
 use Rattle.mlt_page.specs.Values.{BucketFields}
 use Rattle.mlt_hash_form.specs.File.{FilePages}
 use Rattle.mlt_hash_form.specs.Form.{SetsOneSlot, slot_at}
-use Rattle.mlt_held.specs.Views.{View, rebased, seen_with}
-use Rattle.mlt_split.specs.Rests.{KeepsNoMore}
+use Rattle.mlt_hash_access.specs.Views.{View, rebased, seen_with}
+use Rattle.mlt_hash_split.specs.Rests.{KeepsNoMore}
 use Rattle.mlt_hash.specs.Passes.{slot_after}
 use Rattle.mlt_hash.specs.Walks.{IsOwnSlot, SlotsStood, slot_on}
 use Rattle.mlt_hash.specs.declared.pass.Change.{Change}

@@ -13,14 +13,14 @@ use Rattle.mlt_page.specs.declared.slot.Slot.{Slot}
 use Rattle.mlt_hash_form.specs.File.{buckets_of, dir_of, header_of, row_of}
 use Rattle.mlt_hash_form.specs.Form.{is_used, slot_at}
 use Rattle.mlt_hash_form.specs.Held.{Agrees, over, own_or}
-use Rattle.mlt_held.specs.Moments.{Moment}
-use Rattle.mlt_held.specs.Views.{ReadsHeldPage, view_of, view_over}
-use Rattle.mlt_held.proofs.Since.{all_written, nothing_since, read_is_seen}
-use Rattle.mlt_held.proofs.Views.{agrees, may_read, mode_of_others, mode_of_page, seen_held}
-use Rattle.mlt_split.specs.Rests.{held_page}
-use Rattle.mlt_split.proofs.Closing.{held_page_over}
-use Rattle.mlt_split.proofs.HeldPages.{reads_as, same_header}
-use Rattle.mlt_split.proofs.Later.{stronger_exclusive}
+use Rattle.mlt_hash_access.specs.Moments.{Moment}
+use Rattle.mlt_hash_access.specs.Views.{ReadsHeldPage, view_of, view_over}
+use Rattle.mlt_hash_access.proofs.Since.{all_written, nothing_since, read_is_seen}
+use Rattle.mlt_hash_access.proofs.Views.{agrees, may_read, mode_of_others, mode_of_page, seen_held}
+use Rattle.mlt_hash_split.specs.Rests.{held_page}
+use Rattle.mlt_hash_split.proofs.Closing.{held_page_over}
+use Rattle.mlt_hash_split.proofs.HeldPages.{reads_as, same_header}
+use Rattle.mlt_hash_split.proofs.Later.{stronger_exclusive}
 use Rattle.mlt_hash.specs.Passes.{header_held, header_mode, slot_after}
 use Rattle.mlt_hash.specs.Walks.{Basis, Before, GoesAfter, HoldsBeside, IsChanged, IsHeaded, IsOwnSlot, MayWalk, SlotsStood, Stands, WalkFields, basis_after, before_of, nothing_before, one_key, slot_on}
 use Rattle.mlt_hash.specs.Changes.{IsChangedPhase}

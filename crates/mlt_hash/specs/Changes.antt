@@ -12,11 +12,11 @@ use Rattle.mlt_page.specs.declared.page.Page.{Page}
 use Rattle.mlt_page.specs.declared.page.Page.TheVariants as page
 use Rattle.mlt_page.specs.Values.{BucketFields}
 use Rattle.mlt_hash_form.specs.Room.{is_crowded}
-use Rattle.mlt_held.specs.Moments.{Moment}
-use Rattle.mlt_held.specs.PageSteps.{WritesHeldPage, WritesHeldSlot}
-use Rattle.mlt_held.specs.Views.{ReadsHeldBucket, View, WritesPage}
-use Rattle.mlt_split.specs.declared.setting.Setting.{Setting}
-use Rattle.mlt_record.specs.Plans.{SetsFirst, WriteFields, has_room, planned_page}
+use Rattle.mlt_hash_access.specs.Moments.{Moment}
+use Rattle.mlt_hash_access.specs.PageSteps.{WritesHeldPage, WritesHeldSlot}
+use Rattle.mlt_hash_access.specs.Views.{ReadsHeldBucket, View, WritesPage}
+use Rattle.mlt_hash_split.specs.declared.setting.Setting.{Setting}
+use Rattle.mlt_hash_record.specs.Plans.{SetsFirst, WriteFields, has_room, planned_page}
 use Rattle.mlt_hash.specs.Passes.{HasRoomFrom, IsNextPass, NeverHasRoom}
 use Rattle.mlt_hash.specs.Walks.{Basis, IsStanding, MayWalk, WalkFields, nothing_before, view_for}
 use Rattle.mlt_hash.specs.Steps.{IsSameWalk}

@@ -9,12 +9,12 @@ use Rattle.mlt_page.specs.Values.{BucketFields, HeadFields}
 use Rattle.mlt_page.specs.declared.page.Page.{Page}
 use Rattle.mlt_page.specs.declared.page.Page.TheVariants as page
 use Rattle.mlt_page_locks.specs.Requests.{IsLowest, conflicts}
-use Rattle.mlt_held.specs.Moments.{Moment}
-use Rattle.mlt_held.specs.PageSteps.{MakesLockedPage, WritesAtMost}
-use Rattle.mlt_split.specs.Rests.{held_page}
-use Rattle.mlt_split.specs.Splits.{HasHalves, SplitFields, directory_steps, steps_left}
-use Rattle.mlt_split.specs.Steps.{IsDone, IsLeft, IsMaking, IsNextPage}
-use Rattle.mlt_split.specs.Tells.{Rests}
+use Rattle.mlt_hash_access.specs.Moments.{Moment}
+use Rattle.mlt_hash_access.specs.PageSteps.{MakesLockedPage, WritesAtMost}
+use Rattle.mlt_hash_split.specs.Rests.{held_page}
+use Rattle.mlt_hash_split.specs.Splits.{HasHalves, SplitFields, directory_steps, steps_left}
+use Rattle.mlt_hash_split.specs.Steps.{IsDone, IsLeft, IsMaking, IsNextPage}
+use Rattle.mlt_hash_split.specs.Tells.{Rests}
 use Rattle.mlt_hash.specs.Walks.{Basis, IsStanding, WalkFields, aim_of, view_for}
 use Rattle.mlt_hash.specs.Steps.{IsSameWalk, TellsOfPath}
 use Rattle.mlt_hash.specs.Changes.{Makes, PutsLowest}

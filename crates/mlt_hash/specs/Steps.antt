@@ -3,8 +3,8 @@ use Rattle.std.specs.Prelude.{ℕ, ◌≡◌, ◌<◌, ◌+◌, Option}
 use Rattle.mlt_types.specs.declared.mode.Mode.{Mode}
 use Rattle.mlt_types.specs.declared.mode.Mode.TheVariants.{Exclusive}
 use Rattle.mlt_page_locks.specs.Requests.{IsLowest, conflicts}
-use Rattle.mlt_held.specs.Moments.{Moment}
-use Rattle.mlt_held.specs.PageSteps.{LocksAtMost}
+use Rattle.mlt_hash_access.specs.Moments.{Moment}
+use Rattle.mlt_hash_access.specs.PageSteps.{LocksAtMost}
 use Rattle.mlt_hash.specs.Passes.{bucket_mode, directory_mode, header_mode}
 use Rattle.mlt_hash.specs.Walks.{Basis, IsStanding, WalkFields, view_for}
 use Rattle.mlt_hash.specs.declared.pass.Phase.{Phase}

@@ -1,9 +1,9 @@
 -- How many steps a pass still takes once its bucket had no room, those that wait aside
 use Rattle.std.specs.Prelude.{ℕ, zero, suc, ◌+◌, ◌-◌, nat_eq, if◌then◌else◌, Option, Some, None}
 use Rattle.mlt_hash_form.specs.File.{bucket_of, header_of}
-use Rattle.mlt_held.specs.Views.{View}
-use Rattle.mlt_split.specs.Rests.{held_page}
-use Rattle.mlt_split.specs.Splits.{SplitFields, directory_steps, steps_left}
+use Rattle.mlt_hash_access.specs.Views.{View}
+use Rattle.mlt_hash_split.specs.Rests.{held_page}
+use Rattle.mlt_hash_split.specs.Splits.{SplitFields, directory_steps, steps_left}
 use Rattle.mlt_hash.specs.Walks.{WalkFields}
 use Rattle.mlt_hash.specs.declared.pass.Phase.{Phase}
 use Rattle.mlt_hash.specs.declared.pass.Phase.TheVariants as at

@@ -17,13 +17,13 @@ use Rattle.mlt_hash_form.specs.File.{FilePages, HasForm, bucket_of, depth_of, di
 use Rattle.mlt_hash_form.specs.Changes.{IsHome, slot_change}
 use Rattle.mlt_hash_form.specs.Held.{Agrees, ChangesFile, over}
 use Rattle.mlt_hash_form.specs.declared.root.Root.{Root}
-use Rattle.mlt_held.specs.Moments.{HasFileOver, MayStep, Moment, no_writes}
-use Rattle.mlt_held.specs.Reading.{HasReadBucket}
-use Rattle.mlt_held.specs.Views.{HasWritten, IsUnwritten, IsUnwrittenSince, View, view_of, view_over}
+use Rattle.mlt_hash_access.specs.Moments.{HasFileOver, MayStep, Moment, no_writes}
+use Rattle.mlt_hash_access.specs.Reading.{HasReadBucket}
+use Rattle.mlt_hash_access.specs.Views.{HasWritten, IsUnwritten, IsUnwrittenSince, View, view_of, view_over}
 use Rattle.mlt_page_locks.specs.LockTables.{Modes}
-use Rattle.mlt_split.specs.Rests.{Aim, HoldsAmong, IsAtRest, held_page}
-use Rattle.mlt_split.specs.Splits.{IsUnderWay, SplitFields}
-use Rattle.mlt_split.specs.declared.setting.Setting.{Setting}
+use Rattle.mlt_hash_split.specs.Rests.{Aim, HoldsAmong, IsAtRest, held_page}
+use Rattle.mlt_hash_split.specs.Splits.{IsUnderWay, SplitFields}
+use Rattle.mlt_hash_split.specs.declared.setting.Setting.{Setting}
 use Rattle.mlt_hash.specs.Passes.{MayHoldMore, bucket_held, bucket_mode, directory_held, directory_mode, header_held, header_mode, slot_after, value_after}
 use Rattle.mlt_hash.specs.declared.pass.Pass.{Pass}
 use Rattle.mlt_hash.specs.declared.pass.Pass.TheVariants as pass

@@ -6,25 +6,25 @@ ghost use Rattle.mlt_page.specs.Slots.{is_live_of};
 ghost use Rattle.mlt_page.specs.Values.{BucketFields};
 ghost use Rattle.mlt_page.specs.declared.page.Page.TheVariants as page;
 ghost use Rattle.mlt_page.specs.declared.slot.Slot.TheVariants.{Live};
-ghost use Rattle.mlt_record.specs.Plans.{IsNowhere, SetsFirst, has_room};
+ghost use Rattle.mlt_hash_record.specs.Plans.{IsNowhere, SetsFirst, has_room};
 ghost use Rattle.mlt_page_locks.specs.LockTables.{can_read};
-ghost use Rattle.mlt_held.specs.Moments.{MayStep, moment};
-ghost use Rattle.mlt_held.specs.PageSteps.{HasNoPageLeft, Leaves};
-ghost use Rattle.mlt_held.specs.Views.{view_of};
+ghost use Rattle.mlt_hash_access.specs.Moments.{MayStep, moment};
+ghost use Rattle.mlt_hash_access.specs.PageSteps.{HasNoPageLeft, Leaves};
+ghost use Rattle.mlt_hash_access.specs.Views.{view_of};
 ghost use Rattle.mlt_hash.specs.Walks.{Basis, MayWalk, aim_of, basis_in, one_key};
-ghost use Rattle.mlt_split.specs.Rests.{Aim, held_page};
-ghost use Rattle.mlt_split.specs.Steps.{IsMaking};
+ghost use Rattle.mlt_hash_split.specs.Rests.{Aim, held_page};
+ghost use Rattle.mlt_hash_split.specs.Steps.{IsMaking};
 ghost use Rattle.mlt_hash.specs.Splitting.{HasToSplit, OfSplit, TellsOfAdding, TellsOfSplitting, walk_step};
 
 use crate::answer::WalkAnswer;
 use crate::change::write_change;
 use crate::pass::{Change, Phase};
 use crate::walk::Walk;
-use mlt_held::{LockedStore, read_held};
+use mlt_hash_access::{LockedStore, read_held};
 use mlt_page::Page;
-use mlt_record::SlotWrite;
-use mlt_split::{Setting, Split, SplitAnswer};
-use mlt_subtx::Subtx;
+use mlt_hash_record::SlotWrite;
+use mlt_hash_split::{Setting, Split, SplitAnswer};
+use mlt_page_subtx::Subtx;
 use mlt_types::{OpenSet, PageNo, Pseudo, Refusal, Value};
 
 /// Puts the record where its bucket has room now, or begins to split the bucket. The first split follows in any case.
@@ -90,7 +90,7 @@ fn plan_to_put(
     let Page::Bucket(bucket) = read_held(subtx, pages, number) else {
         unreachable!()
     };
-    mlt_record::insert(number, bucket, walk.key, value, opens)
+    mlt_hash_record::insert(number, bucket, walk.key, value, opens)
 }
 
 // Notes the split that began.

@@ -1,11 +1,11 @@
 //! The changes that a walk makes in its bucket.
 
 ghost use Rattle.std.specs.Prelude.{◌≡◌, ◌≢◌, ◌≤◌, ◌↔◌, ℕ, IsTrue, Option, true};
-ghost use Rattle.mlt_held.specs.Moments.{MayStep, moment};
+ghost use Rattle.mlt_hash_access.specs.Moments.{MayStep, moment};
 ghost use Rattle.mlt_page.specs.Values.{BucketFields};
 ghost use Rattle.mlt_page_locks.specs.LockTables.{can_write};
-ghost use Rattle.mlt_held.specs.PageSteps.{Leaves};
-ghost use Rattle.mlt_held.specs.Views.{ReadsHeldBucket, view_of};
+ghost use Rattle.mlt_hash_access.specs.PageSteps.{Leaves};
+ghost use Rattle.mlt_hash_access.specs.Views.{ReadsHeldBucket, view_of};
 ghost use Rattle.mlt_hash.specs.Walks.{Basis, basis_in, one_key, view_for};
 ghost use Rattle.mlt_hash.specs.declared.pass.Change.TheVariants as change;
 ghost use Rattle.mlt_hash.specs.Changes.{HasOwnGhost, IsAtAbsent, IsAtBucketPhase, IsAtRecord, IsFull, MayChange, MayChangeBy, MayChangeFirst, PlansSlot, RevivesFirst, TakesSlot, TellsOfAddition, TellsOfChange, TellsOfWrite, WritesIfChanged, page_of};
@@ -14,11 +14,11 @@ use crate::answer::WalkAnswer;
 use crate::pass::{Change, Pass, Phase};
 use crate::room::next_pass;
 use crate::walk::Walk;
-use mlt_held::{LockedStore, read_held, write_slot};
+use mlt_hash_access::{LockedStore, read_held, write_slot};
 use mlt_page::{Bucket, Page};
-use mlt_record::SlotWrite;
-use mlt_split::Setting;
-use mlt_subtx::Subtx;
+use mlt_hash_record::SlotWrite;
+use mlt_hash_split::Setting;
+use mlt_page_subtx::Subtx;
 use mlt_types::{PageNo, Pseudo, Refusal, Value};
 
 impl Walk {
@@ -45,10 +45,10 @@ impl Walk {
             (view_for basis (moment subtx.new pages.new)) self.old value }
     {
         let (number, bucket) = held_bucket(self, subtx, pages);
-        if let Some(write) = mlt_record::revive(number, bucket, self.key, subtx.tx(), value) {
+        if let Some(write) = mlt_hash_record::revive(number, bucket, self.key, subtx.tx(), value) {
             return write_change(self, write, Change::Revive(value), subtx, pages);
         }
-        if let Some(write) = mlt_record::insert(number, bucket, self.key, value, setting.opens) {
+        if let Some(write) = mlt_hash_record::insert(number, bucket, self.key, value, setting.opens) {
             return write_change(self, write, Change::Put(value), subtx, pages);
         }
         without_room(self, value, setting, subtx, pages)
@@ -67,7 +67,7 @@ impl Walk {
             self.new (change.Set value) result }
     {
         let (number, bucket) = held_bucket(self, subtx, pages);
-        let Some(write) = mlt_record::update(number, bucket, self.key, value) else {
+        let Some(write) = mlt_hash_record::update(number, bucket, self.key, value) else {
             unreachable!()
         };
         write_change(self, write, Change::Set(value), subtx, pages)
@@ -87,7 +87,7 @@ impl Walk {
             self.new change.Remove result }
     {
         let (number, bucket) = held_bucket(self, subtx, pages);
-        let Some(write) = mlt_record::remove(number, bucket, self.key, subtx.tx()) else {
+        let Some(write) = mlt_hash_record::remove(number, bucket, self.key, subtx.tx()) else {
             unreachable!()
         };
         write_change(self, write, Change::Remove, subtx, pages)
@@ -112,7 +112,7 @@ impl Walk {
             self.old (page_of self.old.phase) value }
     {
         let (number, bucket) = held_bucket(self, subtx, pages);
-        let Some(write) = mlt_record::revive(number, bucket, self.key, subtx.tx(), value) else {
+        let Some(write) = mlt_hash_record::revive(number, bucket, self.key, subtx.tx(), value) else {
             unreachable!()
         };
         write_change(self, write, Change::Revive(value), subtx, pages)

@@ -1,8 +1,8 @@
 //! A wide pass goes on to another key.
 
 ghost use Rattle.std.specs.Prelude.{◌≡◌, ℕ, None};
-ghost use Rattle.mlt_held.specs.Moments.{moment};
-ghost use Rattle.mlt_held.specs.Views.{view_of};
+ghost use Rattle.mlt_hash_access.specs.Moments.{moment};
+ghost use Rattle.mlt_hash_access.specs.Views.{view_of};
 ghost use Rattle.mlt_hash.specs.Walks.{Basis, MayWalk, SlotsStood, basis_after, before_of, nothing_before};
 ghost use Rattle.mlt_hash.specs.Changes.{IsChangedPhase};
 ghost use Rattle.mlt_hash.specs.declared.pass.Pass.TheVariants as pass;
@@ -10,9 +10,9 @@ ghost use Rattle.mlt_hash.specs.declared.pass.Pass.TheVariants as pass;
 use crate::pass::Phase;
 use crate::walk::Walk;
 use mlt_hash_form::{Place, Root};
-use mlt_held::{LockedStore, read_held};
+use mlt_hash_access::{LockedStore, read_held};
 use mlt_page::Page;
-use mlt_subtx::Subtx;
+use mlt_page_subtx::Subtx;
 use mlt_types::{Key, Mode, Pseudo};
 
 impl Walk {

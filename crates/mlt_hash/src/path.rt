@@ -1,8 +1,8 @@
 //! The way of a walk to its bucket: each step locks one page and reads it.
 
 ghost use Rattle.std.specs.Prelude.{◌≡◌, ℕ, Option};
-ghost use Rattle.mlt_held.specs.Moments.{moment};
-ghost use Rattle.mlt_held.specs.PageSteps.{Leaves, LocksAtMost};
+ghost use Rattle.mlt_hash_access.specs.Moments.{moment};
+ghost use Rattle.mlt_hash_access.specs.PageSteps.{Leaves, LocksAtMost};
 ghost use Rattle.mlt_hash.specs.Walks.{Basis, MayWalk};
 ghost use Rattle.mlt_hash.specs.Changes.{page_of};
 ghost use Rattle.mlt_hash.specs.Steps.{TellsOfPath, next_page};
@@ -11,9 +11,9 @@ use crate::answer::WalkAnswer;
 use crate::pass::Phase;
 use crate::walk::Walk;
 use mlt_hash_form::{Place, Root, value_in};
-use mlt_held::{LockedStore, lock, read_held};
+use mlt_hash_access::{LockedStore, lock, read_held};
 use mlt_page::Page;
-use mlt_subtx::Subtx;
+use mlt_page_subtx::Subtx;
 use mlt_types::{PageNo, Pseudo};
 
 /// Locks the header and reads where the key's directory page is.

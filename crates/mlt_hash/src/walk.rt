@@ -2,8 +2,8 @@
 
 ghost use Rattle.std.specs.Prelude.{◌≡◌, ◌≤◌, ◌↔◌, ℕ, IsTrue, Option, None};
 ghost use Rattle.std.specs.FinMap as map;
-ghost use Rattle.mlt_held.specs.Moments.{moment};
-ghost use Rattle.mlt_held.specs.PageSteps.{HasNoPageLeft, Leaves};
+ghost use Rattle.mlt_hash_access.specs.Moments.{moment};
+ghost use Rattle.mlt_hash_access.specs.PageSteps.{HasNoPageLeft, Leaves};
 ghost use Rattle.mlt_hash.specs.Passes.{next_of};
 ghost use Rattle.mlt_hash.specs.Walks.{Basis, MayWalk, basis_in, one_key};
 ghost use Rattle.mlt_hash.specs.Changes.{page_of};
@@ -14,9 +14,9 @@ use crate::adding::{add_or_split, go_on_splitting};
 use crate::answer::WalkAnswer;
 use crate::pass::{Pass, Phase};
 use crate::path::{read_bucket, read_directory, read_header};
-use mlt_held::LockedStore;
-use mlt_split::{Setting, Split};
-use mlt_subtx::Subtx;
+use mlt_hash_access::LockedStore;
+use mlt_hash_split::{Setting, Split};
+use mlt_page_subtx::Subtx;
 use mlt_types::{Key, Mode, Pseudo, Refusal};
 use std::alloc::Global;
 use std::marker::Model;

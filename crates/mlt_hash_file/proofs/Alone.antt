@@ -7,22 +7,22 @@ use Rattle.std.proofs.lemmas.Bool.Decides.{nat_tests}
 use Rattle.mlt_types.specs.declared.mode.Mode.{Mode}
 use Rattle.mlt_types.specs.declared.mode.Mode.TheVariants.{Exclusive}
 use Rattle.mlt_page.specs.declared.page.Page.{Page}
-use Rattle.mlt_store.specs.Stores.{PageStore, page_at}
+use Rattle.mlt_page_store.specs.Stores.{PageStore, page_at}
 use Rattle.mlt_page_locks.proofs.Maps.{get_inserted}
 use Rattle.mlt_page_locks.specs.LockTables.{LockTable, Modes, allows_write, can_read, can_write, is_holder, pages_of}
 use Rattle.mlt_page_locks.proofs.LockLaws.{writer_reads}
 use Rattle.mlt_page_locks.specs.Requests.{IsLowest, conflicts, granted, is_against, with_page}
-use Rattle.mlt_subtx.specs.Images.{Running, image_of, or_image}
-use Rattle.mlt_subtx.proofs.ImageLaws.{not_there}
+use Rattle.mlt_page_subtx.specs.Images.{Running, image_of, or_image}
+use Rattle.mlt_page_subtx.proofs.ImageLaws.{not_there}
 use Rattle.mlt_hash_form.specs.File.{FilePages}
 use Rattle.mlt_hash_form.specs.Held.{Agrees, over, own_or}
-use Rattle.mlt_held.specs.Moments.{IsCleanFor, MayStep, Moment}
-use Rattle.mlt_held.specs.PageSteps.{LocksAtMost, LocksPage, MakesLockedPage, TouchesOnePage, WritesAtMost, WritesHeldPage}
-use Rattle.mlt_held.specs.Views.{page_written, view_of}
-use Rattle.mlt_held.proofs.Views.{agrees}
-use Rattle.mlt_held.specs.Views.{HasWritten, IsUnwrittenSince, view_over}
-use Rattle.mlt_held.proofs.Rebased.{written_over, written_stays}
-use Rattle.mlt_held.proofs.Since.{agrees_over, over_since}
+use Rattle.mlt_hash_access.specs.Moments.{IsCleanFor, MayStep, Moment}
+use Rattle.mlt_hash_access.specs.PageSteps.{LocksAtMost, LocksPage, MakesLockedPage, TouchesOnePage, WritesAtMost, WritesHeldPage}
+use Rattle.mlt_hash_access.specs.Views.{page_written, view_of}
+use Rattle.mlt_hash_access.proofs.Views.{agrees}
+use Rattle.mlt_hash_access.specs.Views.{HasWritten, IsUnwrittenSince, view_over}
+use Rattle.mlt_hash_access.proofs.Rebased.{written_over, written_stays}
+use Rattle.mlt_hash_access.proofs.Since.{agrees_over, over_since}
 use Rattle.mlt_hash.specs.Walks.{Before}
 use Rattle.mlt_hash_file.specs.Alone.{IsAlone, KeepsBefore, pages_before, pages_since}
 

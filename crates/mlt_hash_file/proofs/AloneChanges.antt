@@ -6,15 +6,15 @@ use Rattle.std.proofs.lemmas.Bool.Decides.{nat_tests}
 use Rattle.mlt_page.specs.Values.{BucketFields, HeadFields}
 use Rattle.mlt_page.specs.declared.page.Page.{Page}
 use Rattle.mlt_page.specs.declared.page.Page.TheVariants as page
-use Rattle.mlt_store.specs.Stores.{PageStore, page_at}
+use Rattle.mlt_page_store.specs.Stores.{PageStore, page_at}
 use Rattle.mlt_page_locks.proofs.Maps.{get_inserted}
 use Rattle.mlt_hash_form.specs.File.{HasForm, depth_of, header_of, look_up}
 use Rattle.mlt_hash_form.specs.Held.{over}
 use Rattle.mlt_hash_form.proofs.HeldPages.{changed_values}
-use Rattle.mlt_held.specs.Moments.{IsCleanFor, MayStep, Moment}
-use Rattle.mlt_held.specs.PageSteps.{TouchesOnePage, WritesAtMost}
-use Rattle.mlt_held.specs.Views.{HasWritten, View, view_of, view_over}
-use Rattle.mlt_held.proofs.Rebased.{written_stays}
+use Rattle.mlt_hash_access.specs.Moments.{IsCleanFor, MayStep, Moment}
+use Rattle.mlt_hash_access.specs.PageSteps.{TouchesOnePage, WritesAtMost}
+use Rattle.mlt_hash_access.specs.Views.{HasWritten, View, view_of, view_over}
+use Rattle.mlt_hash_access.proofs.Rebased.{written_stays}
 use Rattle.mlt_hash_file.specs.Alone.{IsAlone, basis_of, pages_before, pages_since}
 use Rattle.mlt_hash_file.specs.AloneWalks.{HasChanged, HasMade, IsHashFile, TellsOfMaking}
 use Rattle.mlt_hash.specs.Changes.{IsAtRecord, IsChangedPhase, Makes, TellsOfChange, WritesIfChanged, page_of}

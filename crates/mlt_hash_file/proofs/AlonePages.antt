@@ -4,17 +4,17 @@ use Rattle.std.specs.Cmp.{nat_cmp_total}
 use Rattle.std.specs.FinMap as map
 use Rattle.mlt_page.specs.Values.{BucketFields}
 use Rattle.mlt_page.specs.declared.page.Page.{Page}
-use Rattle.mlt_store.specs.Stores.{PageStore, Pages, page_at}
+use Rattle.mlt_page_store.specs.Stores.{PageStore, Pages, page_at}
 use Rattle.mlt_page_locks.proofs.LockLaws.{writer_reads}
-use Rattle.mlt_subtx.specs.Images.{put_back}
-use Rattle.mlt_subtx.proofs.ImageLaws.{page_at-put_back, same_pages}
-use Rattle.mlt_held.specs.Moments.{MayStep, Moment}
-use Rattle.mlt_held.specs.PageSteps.{MakesLockedPage, WritesHeldPage}
-use Rattle.mlt_split.specs.Rests.{Aim}
-use Rattle.mlt_split.specs.Splits.{SplitFields, StandsAt, steps_left_at}
-use Rattle.mlt_split.specs.Steps.{IsDone, LocksAndWrites}
-use Rattle.mlt_split.specs.declared.phase.SplitPhase.{SplitPhase}
-use Rattle.mlt_split.specs.declared.phase.SplitPhase.TheVariants as split_at
+use Rattle.mlt_page_subtx.specs.Images.{put_back}
+use Rattle.mlt_page_subtx.proofs.ImageLaws.{page_at-put_back, same_pages}
+use Rattle.mlt_hash_access.specs.Moments.{MayStep, Moment}
+use Rattle.mlt_hash_access.specs.PageSteps.{MakesLockedPage, WritesHeldPage}
+use Rattle.mlt_hash_split.specs.Rests.{Aim}
+use Rattle.mlt_hash_split.specs.Splits.{SplitFields, StandsAt, steps_left_at}
+use Rattle.mlt_hash_split.specs.Steps.{IsDone, LocksAndWrites}
+use Rattle.mlt_hash_split.specs.declared.phase.SplitPhase.{SplitPhase}
+use Rattle.mlt_hash_split.specs.declared.phase.SplitPhase.TheVariants as split_at
 use Rattle.mlt_hash_file.specs.Alone.{KeepsBefore}
 use Rattle.mlt_hash.proofs.OpenedFiles.{fresh_is_one_more}
 use Rattle.mlt_hash_file.specs.SplitPages.{gained_from, gained_pages, left_from, pages_to_make}

@@ -10,19 +10,19 @@ use Rattle.mlt_page.specs.Slots.{is_kept}
 use Rattle.mlt_page.specs.Values.{BucketFields}
 use Rattle.mlt_page.specs.declared.page.Page.{Page}
 use Rattle.mlt_page.specs.declared.page.Page.TheVariants as page
-use Rattle.mlt_store.specs.Stores.{page_at}
+use Rattle.mlt_page_store.specs.Stores.{page_at}
 use Rattle.mlt_hash_form.specs.File.{bucket_of, buckets_of, depth_of, header_of, lead_of, look_up}
 use Rattle.mlt_hash_form.specs.Room.{is_crowded}
 use Rattle.mlt_hash_form.specs.declared.root.Root.{Root}
 use Rattle.mlt_hash_form.proofs.Crowd.{crowded_in_fewer, crowded_test}
 use Rattle.mlt_hash_form.proofs.InPages.{led_at}
-use Rattle.mlt_held.specs.Moments.{IsCleanFor, MayStep, Moment}
-use Rattle.mlt_held.specs.PageSteps.{TouchesOnePage, WritesAtMost}
-use Rattle.mlt_held.specs.Views.{HasWritten, IsUnwrittenSince, View, view_of, view_over}
-use Rattle.mlt_held.proofs.Rebased.{written_stays}
-use Rattle.mlt_held.proofs.Since.{over_since}
-use Rattle.mlt_split.specs.Rests.{held_page}
-use Rattle.mlt_split.proofs.Closing.{held_page_over}
+use Rattle.mlt_hash_access.specs.Moments.{IsCleanFor, MayStep, Moment}
+use Rattle.mlt_hash_access.specs.PageSteps.{TouchesOnePage, WritesAtMost}
+use Rattle.mlt_hash_access.specs.Views.{HasWritten, IsUnwrittenSince, View, view_of, view_over}
+use Rattle.mlt_hash_access.proofs.Rebased.{written_stays}
+use Rattle.mlt_hash_access.proofs.Since.{over_since}
+use Rattle.mlt_hash_split.specs.Rests.{held_page}
+use Rattle.mlt_hash_split.proofs.Closing.{held_page_over}
 use Rattle.mlt_hash_file.specs.Alone.{IsAlone, KeepsBefore, basis_of, pages_since}
 use Rattle.mlt_hash.specs.StepsLeft.{IsPutting, bucket_depth, directory_depth, steps_of_splits, steps_to_put, steps_to_put_at}
 use Rattle.mlt_hash_file.specs.AloneWalks.{HasArrived, HasChanged, HasMade, IsFullFor, IsHashFile, IsReadySince, NeedsRoom, NeedsSplits, NeverHasRoomFor, TellsOfPass, added_value}

@@ -9,23 +9,23 @@ use Rattle.mlt_page.specs.Slots.{is_kept}
 use Rattle.mlt_page.specs.Values.{BucketFields}
 use Rattle.mlt_page.specs.declared.page.Page.{Page}
 use Rattle.mlt_page.specs.declared.page.Page.TheVariants as page
-use Rattle.mlt_store.specs.Stores.{page_at}
+use Rattle.mlt_page_store.specs.Stores.{page_at}
 use Rattle.mlt_page_locks.specs.LockTables.{can_read}
 use Rattle.mlt_page_locks.proofs.LockLaws.{writer_reads}
-use Rattle.mlt_subtx.specs.Images.{image_of, or_image}
+use Rattle.mlt_page_subtx.specs.Images.{image_of, or_image}
 use Rattle.mlt_hash_form.specs.File.{bucket_of, depth_of, header_of}
 use Rattle.mlt_hash_form.specs.Held.{own_or}
-use Rattle.mlt_held.specs.Moments.{HasFileOver, MayStep, Moment}
-use Rattle.mlt_held.specs.PageSteps.{WritesAtMost}
-use Rattle.mlt_held.specs.Views.{HasWritten, View, page_written, view_of, view_over}
-use Rattle.mlt_split.specs.Rests.{Aim, held_page}
-use Rattle.mlt_split.specs.Splits.{SplitFields, directory_steps, steps_left, steps_left_at}
-use Rattle.mlt_split.specs.Steps.{IsDone, IsMaking}
-use Rattle.mlt_split.specs.declared.phase.SplitPhase.{SplitPhase}
-use Rattle.mlt_split.specs.declared.phase.SplitPhase.TheVariants as split_at
-use Rattle.mlt_split.proofs.HeldPages.{clean_now}
-use Rattle.mlt_split.proofs.Later.{begins_now, stands_now}
-use Rattle.mlt_split.proofs.OldBucket.{depths_are_small}
+use Rattle.mlt_hash_access.specs.Moments.{HasFileOver, MayStep, Moment}
+use Rattle.mlt_hash_access.specs.PageSteps.{WritesAtMost}
+use Rattle.mlt_hash_access.specs.Views.{HasWritten, View, page_written, view_of, view_over}
+use Rattle.mlt_hash_split.specs.Rests.{Aim, held_page}
+use Rattle.mlt_hash_split.specs.Splits.{SplitFields, directory_steps, steps_left, steps_left_at}
+use Rattle.mlt_hash_split.specs.Steps.{IsDone, IsMaking}
+use Rattle.mlt_hash_split.specs.declared.phase.SplitPhase.{SplitPhase}
+use Rattle.mlt_hash_split.specs.declared.phase.SplitPhase.TheVariants as split_at
+use Rattle.mlt_hash_split.proofs.HeldPages.{clean_now}
+use Rattle.mlt_hash_split.proofs.Later.{begins_now, stands_now}
+use Rattle.mlt_hash_split.proofs.OldBucket.{depths_are_small}
 use Rattle.mlt_hash_file.specs.Alone.{HasNotWaited, IsAlone, KeepsBefore, basis_of, pages_before, pages_since}
 use Rattle.mlt_hash.specs.StepsLeft.{IsPutting, depth_after, steps_of_splits, steps_to_put, steps_to_put_at}
 use Rattle.mlt_hash_file.specs.AloneWalks.{HasMade, IsHashFile, MayAdd, TellsOfSplits, added_value}

@@ -1,7 +1,7 @@
 -- A walk that runs alone is never told to wait
 use Rattle.std.proofs.Common.{ℕ}
 use Rattle.mlt_types.specs.declared.mode.Mode.TheVariants.{Exclusive}
-use Rattle.mlt_held.specs.Moments.{Moment}
+use Rattle.mlt_hash_access.specs.Moments.{Moment}
 use Rattle.mlt_hash_file.specs.Alone.{HasNotWaited, IsAlone}
 use Rattle.mlt_hash.specs.Splitting.{TellsAt, TellsOfAdding, TellsOfSplitting, walk_step}
 use Rattle.mlt_hash.specs.Steps.{TellsOfPath, next_mode}

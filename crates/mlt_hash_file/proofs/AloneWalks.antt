@@ -4,9 +4,9 @@ use Rattle.std.proofs.Common.{◌+◌, ◌<◌, ◌∙◌, ◌≡◌, ◌≤◌,
 use Rattle.std.specs.FinSet as set
 use Rattle.mlt_page.specs.declared.page.Page.{Page}
 use Rattle.mlt_hash_form.specs.declared.root.Root.{Root}
-use Rattle.mlt_held.specs.Moments.{Moment}
-use Rattle.mlt_held.specs.Views.{HasWritten, view_of, view_over}
-use Rattle.mlt_held.proofs.Since.{nothing_written}
+use Rattle.mlt_hash_access.specs.Moments.{Moment}
+use Rattle.mlt_hash_access.specs.Views.{HasWritten, view_of, view_over}
+use Rattle.mlt_hash_access.proofs.Since.{nothing_written}
 use Rattle.mlt_hash_file.specs.Alone.{KeepsBefore, basis_of, pages_before, pages_since}
 use Rattle.mlt_hash_file.specs.AloneWalks.{HasArrived, IsFileBefore, IsHashFile, IsReadySince}
 use Rattle.mlt_hash.specs.Splitting.{IsUnderWay, TellsAt}

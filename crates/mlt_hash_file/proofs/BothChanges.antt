@@ -13,20 +13,20 @@ use Rattle.mlt_page.specs.declared.slot.Slot.TheVariants.{Free}
 use Rattle.mlt_page.specs.Values.{BucketFields}
 use Rattle.mlt_hash_form.specs.File.{FilePages, HasForm, bucket_of, buckets_of, header_of, look_up}
 use Rattle.mlt_hash_form.specs.Held.{Agrees, over, own_or}
-use Rattle.mlt_held.specs.Views.{View}
-use Rattle.mlt_pair.specs.Changes.{IsFull, IsFullBehind, IsSide, LeavesLeft, LeavesRight, MakesAsked, MakesBoth, MakesChange, MakesOwed, Owes, OwesChange, task_of}
-use Rattle.mlt_pair.specs.Pairs.{IsFinding, IsFound, PairFields, later_page}
-use Rattle.mlt_pair.specs.Plans.{FitsFound, HasNoPlan, IsPlan}
-use Rattle.mlt_pair.specs.Ways.{HasRead, IsThere, page_of}
-use Rattle.mlt_pair.specs.declared.asked.Changes.{Changes}
-use Rattle.mlt_pair.specs.declared.asked.RecordChange.{RecordChange}
-use Rattle.mlt_pair.specs.declared.asked.RecordChange.TheVariants as change
-use Rattle.mlt_pair.specs.declared.answer.Side.TheVariants as side
-use Rattle.mlt_pair.specs.declared.way.Way.{Way}
-use Rattle.mlt_pair.specs.declared.way.Way.TheVariants as at
-use Rattle.mlt_pair.proofs.Laws.{holds_read}
-use Rattle.mlt_pair.proofs.Slots.{plan_number}
-use Rattle.mlt_pair.proofs.Together.{later_left, later_right}
+use Rattle.mlt_hash_access.specs.Views.{View}
+use Rattle.mlt_hash_pair.specs.Changes.{IsFull, IsFullBehind, IsSide, LeavesLeft, LeavesRight, MakesAsked, MakesBoth, MakesChange, MakesOwed, Owes, OwesChange, task_of}
+use Rattle.mlt_hash_pair.specs.Pairs.{IsFinding, IsFound, PairFields, later_page}
+use Rattle.mlt_hash_pair.specs.Plans.{FitsFound, HasNoPlan, IsPlan}
+use Rattle.mlt_hash_pair.specs.Ways.{HasRead, IsThere, page_of}
+use Rattle.mlt_hash_pair.specs.declared.asked.Changes.{Changes}
+use Rattle.mlt_hash_pair.specs.declared.asked.RecordChange.{RecordChange}
+use Rattle.mlt_hash_pair.specs.declared.asked.RecordChange.TheVariants as change
+use Rattle.mlt_hash_pair.specs.declared.answer.Side.TheVariants as side
+use Rattle.mlt_hash_pair.specs.declared.way.Way.{Way}
+use Rattle.mlt_hash_pair.specs.declared.way.Way.TheVariants as at
+use Rattle.mlt_hash_pair.proofs.Laws.{holds_read}
+use Rattle.mlt_hash_pair.proofs.Slots.{plan_number}
+use Rattle.mlt_hash_pair.proofs.Together.{later_left, later_right}
 use Rattle.mlt_hash_file.specs.AloneWalks.{IsFullFor, IsHashFile}
 use Rattle.mlt_hash_file.specs.SplitPages.{bucket_for}
 use Rattle.mlt_hash_file.specs.TwoKeys.{AsksToAdd, ChangesTwo, DoesAsked, FitsValues, HasNoRoomFor, two_keys, value_then}

@@ -7,22 +7,22 @@ use Rattle.std.specs.FinSet as set
 use Rattle.std.proofs.lemmas.Bool.{cases_eq}
 use Rattle.std.proofs.lemmas.Bool.Decides.{nat_tests}
 use Rattle.mlt_types.specs.Maps.{with_entry}
-use Rattle.mlt_store.specs.Stores.{Pages, page_at}
+use Rattle.mlt_page_store.specs.Stores.{Pages, page_at}
 use Rattle.mlt_page_locks.proofs.Maps.{get_inserted, get_removed, same_entries}
 use Rattle.mlt_hash_form.specs.File.{FilePages, look_up}
 use Rattle.mlt_hash_form.specs.Held.{over}
 use Rattle.mlt_hash_form.specs.Records.{live_records}
-use Rattle.mlt_held.specs.Moments.{MayStep, Moment}
-use Rattle.mlt_held.specs.Views.{view_of}
-use Rattle.mlt_pair.specs.Changes.{MakesOwed, TellsOfChanges}
-use Rattle.mlt_pair.specs.Pairs.{IsFinding, IsFound, PairFields, find_by}
-use Rattle.mlt_pair.specs.Plans.{value_after}
-use Rattle.mlt_pair.specs.declared.asked.Changes.{Changes}
-use Rattle.mlt_pair.specs.declared.asked.RecordChange.{RecordChange}
-use Rattle.mlt_pair.specs.declared.answer.ChangeAnswer.{ChangeAnswer}
-use Rattle.mlt_pair.specs.declared.answer.ChangeAnswer.TheVariants as answer
-use Rattle.mlt_pair.specs.declared.answer.Side.TheVariants as side
-use Rattle.mlt_pair.proofs.Laws.{starts}
+use Rattle.mlt_hash_access.specs.Moments.{MayStep, Moment}
+use Rattle.mlt_hash_access.specs.Views.{view_of}
+use Rattle.mlt_hash_pair.specs.Changes.{MakesOwed, TellsOfChanges}
+use Rattle.mlt_hash_pair.specs.Pairs.{IsFinding, IsFound, PairFields, find_by}
+use Rattle.mlt_hash_pair.specs.Plans.{value_after}
+use Rattle.mlt_hash_pair.specs.declared.asked.Changes.{Changes}
+use Rattle.mlt_hash_pair.specs.declared.asked.RecordChange.{RecordChange}
+use Rattle.mlt_hash_pair.specs.declared.answer.ChangeAnswer.{ChangeAnswer}
+use Rattle.mlt_hash_pair.specs.declared.answer.ChangeAnswer.TheVariants as answer
+use Rattle.mlt_hash_pair.specs.declared.answer.Side.TheVariants as side
+use Rattle.mlt_hash_pair.proofs.Laws.{starts}
 use Rattle.mlt_hash_file.specs.Alone.{IsAlone, IsIdle, KeepsBefore, basis_of, pages_before}
 use Rattle.mlt_hash_file.specs.AloneWalks.{IsHashFile}
 use Rattle.mlt_hash_file.specs.TwoKeys.{ChangesTwo, FitsValues, HasNoRoomFor, TellsOfBoth, TwoKeys, two_keys, value_then, with_change, with_changes}

@@ -6,14 +6,14 @@ use Rattle.std.specs.Ordering.{nat_cmp}
 use Rattle.mlt_page_locks.specs.LockTables.{Modes}
 use Rattle.mlt_hash_form.specs.File.{FilePages, HasForm, lead_of, look_up}
 use Rattle.mlt_hash_form.specs.Held.{Agrees, over}
-use Rattle.mlt_held.specs.Views.{View}
-use Rattle.mlt_pair.specs.Changes.{IsHolding, IsSide, MakesAsked, WritesBucketsAlone}
-use Rattle.mlt_pair.specs.Pairs.{IsFound, PairFields}
-use Rattle.mlt_pair.specs.Plans.{FitsFound}
-use Rattle.mlt_pair.specs.Ways.{page_of}
-use Rattle.mlt_pair.specs.declared.asked.RecordChange.{RecordChange}
-use Rattle.mlt_pair.proofs.Readings.{read_still}
-use Rattle.mlt_pair.proofs.Records.{both_lead, changes_one}
+use Rattle.mlt_hash_access.specs.Views.{View}
+use Rattle.mlt_hash_pair.specs.Changes.{IsHolding, IsSide, MakesAsked, WritesBucketsAlone}
+use Rattle.mlt_hash_pair.specs.Pairs.{IsFound, PairFields}
+use Rattle.mlt_hash_pair.specs.Plans.{FitsFound}
+use Rattle.mlt_hash_pair.specs.Ways.{page_of}
+use Rattle.mlt_hash_pair.specs.declared.asked.RecordChange.{RecordChange}
+use Rattle.mlt_hash_pair.proofs.Readings.{read_still}
+use Rattle.mlt_hash_pair.proofs.Records.{both_lead, changes_one}
 use Rattle.mlt_hash_file.specs.TwoKeys.{DoesAsked, value_then}
 
 -- A pair that has found its keys has written nothing but its buckets, and the pages with what it wrote are a file.

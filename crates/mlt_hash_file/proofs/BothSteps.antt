@@ -1,14 +1,14 @@
 -- The way of a pair that runs alone
 use Rattle.std.proofs.Common.{◌≡◌, ℕ, ◌<◌, Option, refl, ◌∙◌, arith}
-use Rattle.mlt_held.specs.Moments.{Moment}
-use Rattle.mlt_held.specs.Views.{view_of}
-use Rattle.mlt_pair.specs.Pairs.{IsFinding, IsUnderWay, PairFields, most_steps}
-use Rattle.mlt_pair.specs.Steps.{HasFound, TellsOfStep}
-use Rattle.mlt_pair.specs.Ways.{IsThere}
-use Rattle.mlt_pair.specs.declared.answer.PairAnswer.{PairAnswer}
-use Rattle.mlt_pair.specs.declared.answer.PairAnswer.TheVariants as answer
-use Rattle.mlt_pair.specs.declared.way.Way.{Way}
-use Rattle.mlt_pair.specs.declared.way.Way.TheVariants as at
+use Rattle.mlt_hash_access.specs.Moments.{Moment}
+use Rattle.mlt_hash_access.specs.Views.{view_of}
+use Rattle.mlt_hash_pair.specs.Pairs.{IsFinding, IsUnderWay, PairFields, most_steps}
+use Rattle.mlt_hash_pair.specs.Steps.{HasFound, TellsOfStep}
+use Rattle.mlt_hash_pair.specs.Ways.{IsThere}
+use Rattle.mlt_hash_pair.specs.declared.answer.PairAnswer.{PairAnswer}
+use Rattle.mlt_hash_pair.specs.declared.answer.PairAnswer.TheVariants as answer
+use Rattle.mlt_hash_pair.specs.declared.way.Way.{Way}
+use Rattle.mlt_hash_pair.specs.declared.way.Way.TheVariants as at
 use Rattle.mlt_hash_file.specs.Alone.{IsAlone, KeepsBefore}
 use Rattle.mlt_hash_file.specs.TwoKeys.{HasArrivedAtBoth, HasNotWaited}
 use Rattle.mlt_hash_file.proofs.Alone.{keeps_both, keeps_same, nobody_to_wait_for}

@@ -6,16 +6,16 @@ use Rattle.std.proofs.lemmas.Bool.{cases_eq}
 use Rattle.std.proofs.lemmas.Bool.Decides.{nat_tests}
 use Rattle.mlt_types.specs.declared.refusal.Refusal.{Refusal}
 use Rattle.mlt_page.specs.declared.page.Page.{Page}
-use Rattle.mlt_store.specs.Stores.{Pages, page_at}
+use Rattle.mlt_page_store.specs.Stores.{Pages, page_at}
 use Rattle.mlt_page_locks.proofs.Maps.{get_inserted, get_removed, same_entries}
-use Rattle.mlt_subtx.specs.Images.{put_back}
-use Rattle.mlt_subtx.proofs.ImageLaws.{page_at-put_back, same_pages}
+use Rattle.mlt_page_subtx.specs.Images.{put_back}
+use Rattle.mlt_page_subtx.proofs.ImageLaws.{page_at-put_back, same_pages}
 use Rattle.mlt_hash_form.specs.File.{look_up}
 use Rattle.mlt_hash_form.specs.Records.{live_records}
 use Rattle.mlt_hash_form.proofs.MapChanges.{map_is_look_up}
-use Rattle.mlt_held.specs.Moments.{Moment}
-use Rattle.mlt_held.specs.Views.{view_of}
-use Rattle.mlt_held.proofs.Since.{nothing_written}
+use Rattle.mlt_hash_access.specs.Moments.{Moment}
+use Rattle.mlt_hash_access.specs.Views.{view_of}
+use Rattle.mlt_hash_access.proofs.Since.{nothing_written}
 use Rattle.mlt_hash_file.specs.Alone.{IsAlone, IsIdle, KeepsBefore, basis_of, pages_before}
 use Rattle.mlt_hash_file.specs.AloneWalks.{ChangesValue, HasArrived, HasChanged, IsHashFile, RefusesFor, TellsRefusal}
 use Rattle.mlt_hash.specs.Changes.{IsAtRecord}

@@ -5,18 +5,18 @@ use Rattle.std.specs.FinMap as map
 use Rattle.std.specs.FinSet as set
 use Rattle.mlt_types.specs.declared.refusal.Refusal.{Refusal}
 use Rattle.mlt_types.specs.declared.refusal.Refusal.TheVariants as refusal
-use Rattle.mlt_store.specs.Stores.{Pages, page_at}
-use Rattle.mlt_subtx.proofs.ImageLaws.{same_pages}
+use Rattle.mlt_page_store.specs.Stores.{Pages, page_at}
+use Rattle.mlt_page_subtx.proofs.ImageLaws.{same_pages}
 use Rattle.mlt_hash_form.specs.File.{FilePages, look_up}
-use Rattle.mlt_held.specs.Moments.{Moment}
-use Rattle.mlt_held.specs.Views.{HasWritten, view_of, view_over}
-use Rattle.mlt_held.proofs.Since.{all_written, nothing_written}
-use Rattle.mlt_pair.specs.Plans.{FitsFound, value_after}
-use Rattle.mlt_pair.specs.declared.answer.Side.{Side}
-use Rattle.mlt_pair.specs.declared.answer.Side.TheVariants as side
-use Rattle.mlt_pair.specs.declared.asked.Changes.{Changes}
-use Rattle.mlt_pair.specs.declared.asked.RecordChange.{RecordChange}
-use Rattle.mlt_pair.specs.declared.asked.RecordChange.TheVariants as change
+use Rattle.mlt_hash_access.specs.Moments.{Moment}
+use Rattle.mlt_hash_access.specs.Views.{HasWritten, view_of, view_over}
+use Rattle.mlt_hash_access.proofs.Since.{all_written, nothing_written}
+use Rattle.mlt_hash_pair.specs.Plans.{FitsFound, value_after}
+use Rattle.mlt_hash_pair.specs.declared.answer.Side.{Side}
+use Rattle.mlt_hash_pair.specs.declared.answer.Side.TheVariants as side
+use Rattle.mlt_hash_pair.specs.declared.asked.Changes.{Changes}
+use Rattle.mlt_hash_pair.specs.declared.asked.RecordChange.{RecordChange}
+use Rattle.mlt_hash_pair.specs.declared.asked.RecordChange.TheVariants as change
 use Rattle.mlt_hash.specs.Changes.{IsAtAbsent, IsAtRecord}
 use Rattle.mlt_hash.specs.Steps.{steps_to_bucket}
 use Rattle.mlt_hash.specs.StepsLeft.{steps_to_put}

@@ -1,7 +1,7 @@
 -- A file as it is opened is a hash file without records
 use Rattle.std.proofs.Common.{◌≡◌, ℕ, ◌<◌, ◌≤◌, ◌^◌, Option, sym, ap, subst, arith}
 use Rattle.mlt_page.specs.declared.page.Page.{Page}
-use Rattle.mlt_store.specs.Stores.{Pages, page_at}
+use Rattle.mlt_page_store.specs.Stores.{Pages, page_at}
 use Rattle.mlt_hash_form.specs.Changes.{IsOpening}
 use Rattle.mlt_hash_form.specs.File.{depth_of, header_of}
 use Rattle.mlt_hash_form.proofs.OpeningFile.{opening_has_form}

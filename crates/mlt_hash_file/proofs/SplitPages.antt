@@ -3,9 +3,9 @@ use Rattle.std.proofs.Common.{◌≡◌, ℕ, ◌<◌, ◌≤◌, ◌+◌, ◌*�
 use Rattle.std.proofs.lemmas.Bool.{cases_eq, cases_lt, cond-true, cond-false, eq-eqb, le-ltb}
 use Rattle.std.proofs.lemmas.Nat.{pow-add}
 use Rattle.std.proofs.Math.Nat.{pow-le-pow_right}
-use Rattle.mlt_split.specs.Splits.{directory_steps, steps_left_at}
-use Rattle.mlt_split.specs.declared.phase.SplitPhase.{SplitPhase}
-use Rattle.mlt_split.specs.declared.phase.SplitPhase.TheVariants as split_at
+use Rattle.mlt_hash_split.specs.Splits.{directory_steps, steps_left_at}
+use Rattle.mlt_hash_split.specs.declared.phase.SplitPhase.{SplitPhase}
+use Rattle.mlt_hash_split.specs.declared.phase.SplitPhase.TheVariants as split_at
 use Rattle.mlt_hash_file.specs.SplitPages.{gained_from, gained_pages, left_from, pages_to_make}
 
 rising : (m n : ℕ) → m ≤ n → 2 ^ m ≤ 2 ^ n

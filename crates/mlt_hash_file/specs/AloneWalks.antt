@@ -8,13 +8,13 @@ use Rattle.mlt_types.specs.declared.refusal.Refusal.{Refusal}
 use Rattle.mlt_types.specs.declared.refusal.Refusal.TheVariants as refusal
 use Rattle.mlt_page.specs.Slots.{is_kept}
 use Rattle.mlt_page.specs.declared.page.Page.{Page}
-use Rattle.mlt_store.specs.Stores.{page_at}
+use Rattle.mlt_page_store.specs.Stores.{page_at}
 use Rattle.mlt_hash_form.specs.File.{HasForm, buckets_of, depth_of, look_up}
 use Rattle.mlt_hash_form.specs.Room.{IsCrowded}
 use Rattle.mlt_hash_form.specs.declared.root.Root.{Root}
-use Rattle.mlt_subtx.specs.Images.{put_back}
-use Rattle.mlt_held.specs.Moments.{Moment}
-use Rattle.mlt_held.specs.Views.{HasWritten, view_of, view_over}
+use Rattle.mlt_page_subtx.specs.Images.{put_back}
+use Rattle.mlt_hash_access.specs.Moments.{Moment}
+use Rattle.mlt_hash_access.specs.Views.{HasWritten, view_of, view_over}
 use Rattle.mlt_hash.specs.Walks.{Basis, Before, IsAtStart, IsStanding, WalkFields, nothing_before, view_for}
 use Rattle.mlt_hash.specs.Steps.{HasFound, IsSameWalk}
 use Rattle.mlt_hash.specs.StepsLeft.{IsPutting, steps_to_put}

@@ -2,13 +2,13 @@
 use Rattle.std.specs.Prelude.{ℕ, ◌≡◌, ◌≤◌, ◌+◌, ◌⊎◌, Some}
 use Rattle.mlt_types.specs.declared.refusal.Refusal.{Refusal}
 use Rattle.mlt_types.specs.declared.refusal.Refusal.TheVariants as refusal
-use Rattle.mlt_store.specs.Stores.{Pages, page_at}
+use Rattle.mlt_page_store.specs.Stores.{Pages, page_at}
 use Rattle.mlt_hash_form.specs.File.{look_up}
-use Rattle.mlt_held.specs.Moments.{Moment}
-use Rattle.mlt_pair.specs.Plans.{value_after}
-use Rattle.mlt_pair.specs.declared.answer.Side.{Side}
-use Rattle.mlt_pair.specs.declared.answer.Side.TheVariants as side
-use Rattle.mlt_pair.specs.declared.asked.RecordChange.{RecordChange}
+use Rattle.mlt_hash_access.specs.Moments.{Moment}
+use Rattle.mlt_hash_pair.specs.Plans.{value_after}
+use Rattle.mlt_hash_pair.specs.declared.answer.Side.{Side}
+use Rattle.mlt_hash_pair.specs.declared.answer.Side.TheVariants as side
+use Rattle.mlt_hash_pair.specs.declared.asked.RecordChange.{RecordChange}
 use Rattle.mlt_hash.specs.Changes.{IsChangedPhase}
 use Rattle.mlt_hash.specs.Walks.{Basis, IsStanding, WalkFields, view_for}
 use Rattle.mlt_hash.specs.declared.pass.Pass.TheVariants as pass

@@ -4,13 +4,13 @@ use Rattle.std.specs.FinMap as map
 use Rattle.std.specs.FinSet as set
 use Rattle.mlt_page.specs.Values.{BucketFields}
 use Rattle.mlt_page.specs.declared.page.Page.{Page}
-use Rattle.mlt_store.specs.Stores.{Pages, page_at}
+use Rattle.mlt_page_store.specs.Stores.{Pages, page_at}
 use Rattle.mlt_hash_form.specs.File.{bucket_of, buckets_of, depth_of, lead_of}
 use Rattle.mlt_hash_form.specs.Room.{is_crowded}
-use Rattle.mlt_held.specs.Moments.{Moment}
-use Rattle.mlt_split.specs.Splits.{SplitFields}
-use Rattle.mlt_split.specs.declared.phase.SplitPhase.{SplitPhase}
-use Rattle.mlt_split.specs.declared.phase.SplitPhase.TheVariants as split_at
+use Rattle.mlt_hash_access.specs.Moments.{Moment}
+use Rattle.mlt_hash_split.specs.Splits.{SplitFields}
+use Rattle.mlt_hash_split.specs.declared.phase.SplitPhase.{SplitPhase}
+use Rattle.mlt_hash_split.specs.declared.phase.SplitPhase.TheVariants as split_at
 use Rattle.mlt_hash.specs.Passes.{HasRoomFrom}
 use Rattle.mlt_hash.specs.StepsLeft.{steps_of_splits}
 use Rattle.mlt_hash.specs.Walks.{WalkFields}

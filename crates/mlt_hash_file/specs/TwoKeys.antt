@@ -4,22 +4,22 @@ use Rattle.std.specs.Ordering.{nat_cmp}
 use Rattle.std.specs.FinMap as map
 use Rattle.mlt_types.specs.Maps.{with_entry}
 use Rattle.mlt_page.specs.declared.slot.Slot.{Slot}
-use Rattle.mlt_store.specs.Stores.{page_at}
+use Rattle.mlt_page_store.specs.Stores.{page_at}
 use Rattle.mlt_hash_form.specs.Changes.{ChangesRecord, slot_change}
 use Rattle.mlt_hash_form.specs.File.{FilePages, look_up}
-use Rattle.mlt_held.specs.Moments.{Moment}
-use Rattle.mlt_held.specs.Views.{view_of}
-use Rattle.mlt_pair.specs.Pairs.{IsFinding, IsFound, PairFields}
-use Rattle.mlt_pair.specs.Plans.{FitsFound, value_after}
-use Rattle.mlt_pair.specs.declared.answer.ChangeAnswer.{ChangeAnswer}
-use Rattle.mlt_pair.specs.declared.answer.ChangeAnswer.TheVariants as answer
-use Rattle.mlt_pair.specs.declared.answer.PairAnswer.{PairAnswer}
-use Rattle.mlt_pair.specs.declared.answer.PairAnswer.TheVariants as pair_answer
-use Rattle.mlt_pair.specs.declared.answer.Side.{Side}
-use Rattle.mlt_pair.specs.declared.answer.Side.TheVariants as side
-use Rattle.mlt_pair.specs.declared.asked.Changes.{Changes}
-use Rattle.mlt_pair.specs.declared.asked.RecordChange.{RecordChange}
-use Rattle.mlt_pair.specs.declared.asked.RecordChange.TheVariants as change
+use Rattle.mlt_hash_access.specs.Moments.{Moment}
+use Rattle.mlt_hash_access.specs.Views.{view_of}
+use Rattle.mlt_hash_pair.specs.Pairs.{IsFinding, IsFound, PairFields}
+use Rattle.mlt_hash_pair.specs.Plans.{FitsFound, value_after}
+use Rattle.mlt_hash_pair.specs.declared.answer.ChangeAnswer.{ChangeAnswer}
+use Rattle.mlt_hash_pair.specs.declared.answer.ChangeAnswer.TheVariants as answer
+use Rattle.mlt_hash_pair.specs.declared.answer.PairAnswer.{PairAnswer}
+use Rattle.mlt_hash_pair.specs.declared.answer.PairAnswer.TheVariants as pair_answer
+use Rattle.mlt_hash_pair.specs.declared.answer.Side.{Side}
+use Rattle.mlt_hash_pair.specs.declared.answer.Side.TheVariants as side
+use Rattle.mlt_hash_pair.specs.declared.asked.Changes.{Changes}
+use Rattle.mlt_hash_pair.specs.declared.asked.RecordChange.{RecordChange}
+use Rattle.mlt_hash_pair.specs.declared.asked.RecordChange.TheVariants as change
 use Rattle.mlt_hash.specs.Walks.{Basis}
 use Rattle.mlt_hash_file.specs.Alone.{pages_before}
 use Rattle.mlt_hash_file.specs.AloneWalks.{IsFullFor, IsHashFile}

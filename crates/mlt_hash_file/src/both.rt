@@ -3,12 +3,12 @@
 ghost use Rattle.mlt_hash.specs.Walks.{nothing_before};
 ghost use Rattle.std.specs.Prelude.{◌≡◌, ◌≤◌, IfErr, IfOk, OnErr, OnOk};
 ghost use Rattle.std.specs.FinMap as map;
-ghost use Rattle.mlt_store.specs.Stores.{page_at};
+ghost use Rattle.mlt_page_store.specs.Stores.{page_at};
 ghost use Rattle.mlt_hash_form.specs.File.{look_up};
 ghost use Rattle.mlt_hash_form.specs.Records.{live_records};
-ghost use Rattle.mlt_held.specs.Views.{view_of};
-ghost use Rattle.mlt_pair.specs.Pairs.{FileRoot, IsFinding, IsFound, IsUnderWay, most_steps};
-ghost use Rattle.mlt_pair.specs.Steps.{TellsOfStep};
+ghost use Rattle.mlt_hash_access.specs.Views.{view_of};
+ghost use Rattle.mlt_hash_pair.specs.Pairs.{FileRoot, IsFinding, IsFound, IsUnderWay, most_steps};
+ghost use Rattle.mlt_hash_pair.specs.Steps.{TellsOfStep};
 ghost use Rattle.mlt_hash_file.specs.Alone.{IsAlone, IsIdle, KeepsBefore, basis_alone, pages_before};
 ghost use Rattle.mlt_hash_file.specs.AloneWalks.{IsFileBefore, IsHashFile};
 ghost use Rattle.mlt_hash_file.specs.HashFiles.{IsFileOf, bounded_by};
@@ -19,7 +19,7 @@ use crate::hash_file::HashFile;
 use crate::runner::Runner;
 use mlt_hash::WalkAnswer;
 use mlt_hash_form::Root;
-use mlt_pair::{ChangeAnswer, Changes, Pair, PairAnswer};
+use mlt_hash_pair::{ChangeAnswer, Changes, Pair, PairAnswer};
 use mlt_types::{Key, Pseudo, Refusal};
 use std::alloc::Global;
 

@@ -2,10 +2,10 @@
 
 ghost use Rattle.std.specs.Prelude.{◌≡◌, ◌≢◌, ◌<◌, Some};
 ghost use Rattle.mlt_types.specs.declared.mode.Mode.{Mode};
-ghost use Rattle.mlt_store.specs.Stores.{page_at};
+ghost use Rattle.mlt_page_store.specs.Stores.{page_at};
 ghost use Rattle.mlt_hash_form.specs.File.{look_up};
-ghost use Rattle.mlt_pair.specs.Plans.{FitsFound};
-ghost use Rattle.mlt_pair.specs.declared.asked.RecordChange.TheVariants as record_change;
+ghost use Rattle.mlt_hash_pair.specs.Plans.{FitsFound};
+ghost use Rattle.mlt_hash_pair.specs.declared.asked.RecordChange.TheVariants as record_change;
 ghost use Rattle.mlt_hash.specs.Walks.{Before, nothing_before};
 ghost use Rattle.mlt_hash.specs.Changes.{IsAtAbsent};
 ghost use Rattle.mlt_hash.specs.Steps.{steps_to_bucket};
@@ -19,7 +19,7 @@ ghost use Rattle.mlt_hash_file.specs.TwoKeys.{AsksOfTwo, FitsValues, both_change
 use crate::runner::Runner;
 use mlt_hash::{Walk, WalkAnswer};
 use mlt_hash_form::Root;
-use mlt_pair::{Changes, RecordChange};
+use mlt_hash_pair::{Changes, RecordChange};
 use mlt_types::{Key, Pseudo, Value};
 use std::alloc::Global;
 

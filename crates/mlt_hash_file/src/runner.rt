@@ -2,9 +2,9 @@
 
 ghost use Rattle.std.specs.Prelude.{◌≡◌, ◌≢◌, ◌≤◌, ◌<◌, ◌+◌, ℕ, None, Some};
 ghost use Rattle.mlt_types.specs.declared.mode.Mode.{Mode};
-ghost use Rattle.mlt_store.specs.Stores.{page_at};
+ghost use Rattle.mlt_page_store.specs.Stores.{page_at};
 ghost use Rattle.mlt_hash_form.specs.File.{look_up};
-ghost use Rattle.mlt_held.specs.Views.{HasWritten, view_of, view_over};
+ghost use Rattle.mlt_hash_access.specs.Views.{HasWritten, view_of, view_over};
 ghost use Rattle.mlt_hash.specs.Walks.{Before, IsAtStart, nothing_before};
 ghost use Rattle.mlt_hash.specs.Splitting.{IsUnderWay, TellsAt};
 ghost use Rattle.mlt_hash.specs.Changes.{IsAtAbsent, IsAtRecord};
@@ -19,9 +19,9 @@ ghost use Rattle.mlt_hash.specs.declared.pass.Phase.{Phase};
 
 use mlt_hash::{Setting, Walk, WalkAnswer};
 use mlt_hash_form::Root;
-use mlt_held::LockedStore;
-use mlt_store::Store;
-use mlt_subtx::Subtx;
+use mlt_hash_access::LockedStore;
+use mlt_page_store::Store;
+use mlt_page_subtx::Subtx;
 use mlt_types::{OpenSet, Pseudo, Value};
 use std::marker::Model;
 
@@ -38,7 +38,7 @@ pub(crate) struct Runner {
 impl Model for Runner {
     ghost use Rattle.std.specs.Prelude.{◌≡◌};
     ghost use Rattle.std.specs.FinSet as set;
-    ghost use Rattle.mlt_held.specs.Moments.{Moment, moment};
+    ghost use Rattle.mlt_hash_access.specs.Moments.{Moment, moment};
     ghost use Rattle.mlt_hash_file.specs.Alone.{IsAlone, coded_moment};
 
     ghost Value = { Moment };

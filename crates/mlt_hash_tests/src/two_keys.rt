@@ -1,11 +1,11 @@
 //! Hash files in which the records of two keys change at once.
 
 ghost use Rattle.std.specs.Prelude.{◌≢◌, ◌<◌, ◌↔◌, IsTrue};
-ghost use Rattle.mlt_pair.specs.Plans.{FitsFound};
+ghost use Rattle.mlt_hash_pair.specs.Plans.{FitsFound};
 
 use mlt_hash_file::HashFile;
-use mlt_pair::RecordChange::{Insert, Remove, Update};
-use mlt_pair::{Changes, RecordChange};
+use mlt_hash_pair::RecordChange::{Insert, Remove, Update};
+use mlt_hash_pair::{Changes, RecordChange};
 use mlt_test_tools::{same, same_at};
 use mlt_types::{Cell, Key, Limits, Low, Pseudo, Refusal, Value};
 use std::alloc::Global;

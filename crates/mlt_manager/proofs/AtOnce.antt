@@ -7,33 +7,33 @@ use Rattle.std.proofs.lemmas.Bool.Decides.{nat_tests}
 use Rattle.mlt_types.specs.declared.cell.Cell.{Cell}
 use Rattle.mlt_types.specs.declared.refusal.Refusal.{Refusal}
 use Rattle.mlt_types.specs.declared.refusal.Refusal.TheVariants as refusal
-use Rattle.mlt_kinds.specs.declared.operation.ObjOp.{ObjOp}
-use Rattle.mlt_kinds.specs.declared.operation.ObjReply.{ObjReply}
-use Rattle.mlt_kinds.specs.Operations.{cell_of}
-use Rattle.mlt_base.specs.declared.request.Request.TheVariants.{Do}
+use Rattle.mlt_object_kinds.specs.declared.operation.ObjOp.{ObjOp}
+use Rattle.mlt_object_kinds.specs.declared.operation.ObjReply.{ObjReply}
+use Rattle.mlt_object_kinds.specs.Operations.{cell_of}
+use Rattle.mlt_object_base.specs.declared.request.Request.TheVariants.{Do}
 use Rattle.mlt_object_locks.specs.Locks.{SameReservations, reservation_of}
 use Rattle.mlt_page_locks.specs.LockTables.{is_holder}
 use Rattle.mlt_page_locks.proofs.Maps.{get_removed}
-use Rattle.mlt_subtx.proofs.ImageLaws.{not_true}
-use Rattle.mlt_subtx_laws.specs.Running.{HoldsNothing}
-use Rattle.mlt_held.specs.Moments.{moment}
+use Rattle.mlt_page_subtx.proofs.ImageLaws.{not_true}
+use Rattle.mlt_page_subtx_laws.specs.Running.{HoldsNothing}
+use Rattle.mlt_hash_access.specs.Moments.{moment}
 use Rattle.mlt_hash.specs.Walks.{Basis, basis_by}
-use Rattle.mlt_operation.specs.Operating.{MayOperate, started_for}
-use Rattle.mlt_at_once.specs.AtOnce.{NobodyHolds}
-use Rattle.mlt_meeting.specs.Presences.{IsOpInRange}
+use Rattle.mlt_tx_operation.specs.Operating.{MayOperate, started_for}
+use Rattle.mlt_tx_at_once.specs.AtOnce.{NobodyHolds}
+use Rattle.mlt_tx_meaning.specs.Presences.{IsOpInRange}
 use Rattle.mlt_event.specs.declared.answer.Answer.{Answer}
 use Rattle.mlt_event.specs.declared.answer.Answer.TheVariants as answer
-use Rattle.mlt_transaction.specs.AtOnce.{MayCallAtOnce}
-use Rattle.mlt_transaction.specs.Transactions.{MayStepAt, TellsAt}
-use Rattle.mlt_transaction.specs.declared.commons.Commons.{Commons}
-use Rattle.mlt_transaction.specs.declared.transaction.At.{At}
-use Rattle.mlt_transaction.specs.declared.transaction.At.TheVariants as at
-use Rattle.mlt_transaction.specs.declared.transaction.Transaction.{Transaction}
-use Rattle.mlt_open.specs.Tables.{CallsOneAtOnce, DoesOneAtOnce, StepsOne, StepsOneAtOnce, Table}
-use Rattle.mlt_invariant.proofs.MaySteps.{may_step}
-use Rattle.mlt_invariant.proofs.Tables.{inserted_here}
-use Rattle.mlt_invariant.specs.Sound.{FitsAt}
-use Rattle.mlt_invariant.specs.States.{all_of, images_kept}
+use Rattle.mlt_tx.specs.AtOnce.{MayCallAtOnce}
+use Rattle.mlt_tx.specs.Transactions.{MayStepAt, TellsAt}
+use Rattle.mlt_tx.specs.declared.commons.Commons.{Commons}
+use Rattle.mlt_tx.specs.declared.transaction.At.{At}
+use Rattle.mlt_tx.specs.declared.transaction.At.TheVariants as at
+use Rattle.mlt_tx.specs.declared.transaction.Transaction.{Transaction}
+use Rattle.mlt_tx_open.specs.Tables.{CallsOneAtOnce, DoesOneAtOnce, StepsOne, StepsOneAtOnce, Table}
+use Rattle.mlt_manager_invariant.proofs.MaySteps.{may_step}
+use Rattle.mlt_manager_invariant.proofs.Tables.{inserted_here}
+use Rattle.mlt_manager_invariant.specs.Sound.{FitsAt}
+use Rattle.mlt_manager_invariant.specs.States.{all_of, images_kept}
 use Rattle.mlt_manager.specs.Answers.{AnswersCall, HasCalled, HasStepped, IsBusy, IsCauseAtCall, IsOpenAt, MayCall}
 use Rattle.mlt_manager.specs.Managers.{IsManager, ManagerFields, state_of}
 use Rattle.mlt_manager.specs.Wholes.{HasRun, StepsOnUpTo}

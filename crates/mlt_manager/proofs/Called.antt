@@ -1,22 +1,22 @@
 -- Calls and cancels keep what is always true of a manager
 use Rattle.std.proofs.Common.{◌≡◌, ℕ, length, Some, refl, sym, ap, subst, ◌∙◌, arith}
 use Rattle.std.specs.FinMap as map
-use Rattle.mlt_kinds.specs.declared.operation.ObjOp.{ObjOp}
-use Rattle.mlt_kinds.specs.Operations.{cell_of}
+use Rattle.mlt_object_kinds.specs.declared.operation.ObjOp.{ObjOp}
+use Rattle.mlt_object_kinds.specs.Operations.{cell_of}
 use Rattle.mlt_object_locks.specs.Locks.{SameReservations, reservation_of}
-use Rattle.mlt_subtx.specs.Images.{Running}
-use Rattle.mlt_subtx_laws.specs.Running.{AllRunning, HoldsNothing, KeepsRunning, clean_of}
-use Rattle.mlt_operation.specs.Operating.{OperationFields}
-use Rattle.mlt_transaction.specs.declared.transaction.At.{At}
-use Rattle.mlt_transaction.specs.declared.transaction.At.TheVariants as at
-use Rattle.mlt_transaction.specs.declared.transaction.Transaction.{Transaction}
-use Rattle.mlt_transaction.specs.Transactions.{IsPending}
-use Rattle.mlt_open.specs.Tables.{CallsNone, CancelsOne, Table}
-use Rattle.mlt_invariant.specs.Events.{Calls, KeepsCleanPages, with_transaction}
-use Rattle.mlt_invariant.specs.Sound.{FitsAt}
-use Rattle.mlt_invariant.specs.States.{all_of, images_kept, is_undoing, pending_room}
-use Rattle.mlt_invariant.proofs.Calls.{called_sound, cancelled_sound}
-use Rattle.mlt_traced.proofs.Stays.{called_traced}
+use Rattle.mlt_page_subtx.specs.Images.{Running}
+use Rattle.mlt_page_subtx_laws.specs.Running.{AllRunning, HoldsNothing, KeepsRunning, clean_of}
+use Rattle.mlt_tx_operation.specs.Operating.{OperationFields}
+use Rattle.mlt_tx.specs.declared.transaction.At.{At}
+use Rattle.mlt_tx.specs.declared.transaction.At.TheVariants as at
+use Rattle.mlt_tx.specs.declared.transaction.Transaction.{Transaction}
+use Rattle.mlt_tx.specs.Transactions.{IsPending}
+use Rattle.mlt_tx_open.specs.Tables.{CallsNone, CancelsOne, Table}
+use Rattle.mlt_manager_invariant.specs.Events.{Calls, KeepsCleanPages, with_transaction}
+use Rattle.mlt_manager_invariant.specs.Sound.{FitsAt}
+use Rattle.mlt_manager_invariant.specs.States.{all_of, images_kept, is_undoing, pending_room}
+use Rattle.mlt_manager_invariant.proofs.Calls.{called_sound, cancelled_sound}
+use Rattle.mlt_manager_trace.proofs.Stays.{called_traced}
 use Rattle.mlt_manager.specs.Answers.{ChangesOpen, HasCalled, IsIdleWith, IsOpenAt, MayCall}
 use Rattle.mlt_manager.specs.Bases.{KeepsWhatCounts}
 use Rattle.mlt_manager.specs.Managers.{IsManager, ManagerFields, state_of}

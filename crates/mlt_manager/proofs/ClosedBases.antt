@@ -5,18 +5,18 @@ use Rattle.std.specs.Cmp.{nat_cmp_total}
 use Rattle.std.specs.FinMap as map
 use Rattle.std.specs.FinSet as set
 use Rattle.mlt_page.specs.declared.page.Page.{Page}
-use Rattle.mlt_kinds.specs.Bases.{Base}
-use Rattle.mlt_base.specs.Meaning.{Means}
-use Rattle.mlt_store.specs.Stores.{Pages}
-use Rattle.mlt_subtx.specs.Images.{image_of}
+use Rattle.mlt_object_kinds.specs.Bases.{Base}
+use Rattle.mlt_object_base.specs.Meaning.{Means}
+use Rattle.mlt_page_store.specs.Stores.{Pages}
+use Rattle.mlt_page_subtx.specs.Images.{image_of}
 use Rattle.mlt_hash_form.specs.File.{HasForm}
 use Rattle.mlt_hash_form.specs.Records.{live_records}
-use Rattle.mlt_subtx_laws.specs.CleanPages.{clean_pages, image_at}
-use Rattle.mlt_subtx_laws.proofs.CleanLaws.{clean_page_unwritten}
-use Rattle.mlt_transaction.specs.declared.transaction.Transaction.{Transaction}
-use Rattle.mlt_check.specs.AcceptedItems.{AreAccepted}
-use Rattle.mlt_invariant.specs.States.{State, images_kept}
-use Rattle.mlt_traced.proofs.CommittedBases.{base_where_nobody_is_open, with_base}
+use Rattle.mlt_page_subtx_laws.specs.CleanPages.{clean_pages, image_at}
+use Rattle.mlt_page_subtx_laws.proofs.CleanLaws.{clean_page_unwritten}
+use Rattle.mlt_tx.specs.declared.transaction.Transaction.{Transaction}
+use Rattle.mlt_trace_check.specs.AcceptedItems.{AreAccepted}
+use Rattle.mlt_manager_invariant.specs.States.{State, images_kept}
+use Rattle.mlt_manager_trace.proofs.CommittedBases.{base_where_nobody_is_open, with_base}
 use Rattle.mlt_manager.specs.Managers.{IsManager, ManagerFields, state_of}
 
 module _ {P : Type 0} (bits_of : P → ℕ → ℕ) (m : ManagerFields P) (h : IsManager bits_of m) (closed : set.len m.opens ≡ 0) where

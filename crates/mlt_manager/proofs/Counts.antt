@@ -1,31 +1,31 @@
 -- No step changes for how many transactions there are locks, how many pages there may be, or how many have committed
 use Rattle.std.proofs.Common.{◌≡◌, ℕ, List, [], ◌∷◌, ◌++◌, length, arith, Option, None, Some, inl, inr, refl, ap, ◌∙◌}
-use Rattle.mlt_subtx.specs.Images.{Running}
-use Rattle.mlt_undo.specs.Undo.{Undo}
-use Rattle.mlt_held.specs.Moments.{Moment, moment}
-use Rattle.mlt_held.specs.PageSteps.{LocksAtMost, TouchesOnePage, WritesAtMost}
+use Rattle.mlt_page_subtx.specs.Images.{Running}
+use Rattle.mlt_object_undo.specs.Undo.{Undo}
+use Rattle.mlt_hash_access.specs.Moments.{Moment, moment}
+use Rattle.mlt_hash_access.specs.PageSteps.{LocksAtMost, TouchesOnePage, WritesAtMost}
 use Rattle.mlt_hash.specs.Walks.{Basis}
-use Rattle.mlt_operation.specs.declared.answer.StepAnswer.{StepAnswer}
-use Rattle.mlt_operation.specs.declared.answer.StepAnswer.TheVariants as step
-use Rattle.mlt_operation.specs.Answers.{TellsOfStep}
-use Rattle.mlt_operation.specs.Operating.{OperationFields}
-use Rattle.mlt_held.specs.PageTurns.{IsRolledBack, TakesTurn}
-use Rattle.mlt_kinds.specs.declared.operation.ObjOp.{ObjOp}
-use Rattle.mlt_kinds.specs.declared.operation.ObjReply.{ObjReply}
+use Rattle.mlt_tx_operation.specs.declared.answer.StepAnswer.{StepAnswer}
+use Rattle.mlt_tx_operation.specs.declared.answer.StepAnswer.TheVariants as step
+use Rattle.mlt_tx_operation.specs.Answers.{TellsOfStep}
+use Rattle.mlt_tx_operation.specs.Operating.{OperationFields}
+use Rattle.mlt_hash_access.specs.PageTurns.{IsRolledBack, TakesTurn}
+use Rattle.mlt_object_kinds.specs.declared.operation.ObjOp.{ObjOp}
+use Rattle.mlt_object_kinds.specs.declared.operation.ObjReply.{ObjReply}
 use Rattle.mlt_trace.specs.declared.item.TraceItem.{TraceItem}
 use Rattle.mlt_trace.specs.declared.item.TraceItem.TheVariants as trace
-use Rattle.mlt_history.specs.Numbers.{commit_count, commit_numbers}
-use Rattle.mlt_history.proofs.ItemLaws.{commit_numbers-append}
+use Rattle.mlt_trace_history.specs.Numbers.{commit_count, commit_numbers}
+use Rattle.mlt_trace_history.proofs.ItemLaws.{commit_numbers-append}
 use Rattle.std.proofs.lemmas.List.{length-append}
 use Rattle.mlt_event.specs.declared.answer.Answer.{Answer}
 use Rattle.mlt_event.specs.declared.answer.Answer.TheVariants as answer
-use Rattle.mlt_transaction.specs.declared.commons.Commons.{Commons}
-use Rattle.mlt_transaction.specs.declared.transaction.At.{At}
-use Rattle.mlt_transaction.specs.declared.transaction.At.TheVariants as at
-use Rattle.mlt_transaction.specs.declared.transaction.Transaction.{Transaction}
-use Rattle.mlt_transaction.specs.Endings.{EndsSubtx, IsDone, RollsBackSubtx, workplace}
-use Rattle.mlt_transaction.specs.Steps.{EndsBack, TakesBack, TellsOfBack, TellsOfPending}
-use Rattle.mlt_transaction.specs.Transactions.{LeavesRoom, TellsAt, TellsOfCancel}
+use Rattle.mlt_tx.specs.declared.commons.Commons.{Commons}
+use Rattle.mlt_tx.specs.declared.transaction.At.{At}
+use Rattle.mlt_tx.specs.declared.transaction.At.TheVariants as at
+use Rattle.mlt_tx.specs.declared.transaction.Transaction.{Transaction}
+use Rattle.mlt_tx.specs.Endings.{EndsSubtx, IsDone, RollsBackSubtx, workplace}
+use Rattle.mlt_tx.specs.Steps.{EndsBack, TakesBack, TellsOfBack, TellsOfPending}
+use Rattle.mlt_tx.specs.Transactions.{LeavesRoom, TellsAt, TellsOfCancel}
 
 -- the limits of locks and pages are as they were
 pub record KeepsLimits (old new : Moment) : Type 0 where

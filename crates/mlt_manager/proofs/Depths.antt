@@ -6,15 +6,15 @@ use Rattle.std.specs.FinMap as map
 use Rattle.mlt_page.specs.Values.{HeadFields}
 use Rattle.mlt_page.specs.declared.page.Page.{Page}
 use Rattle.mlt_page.specs.declared.page.Page.TheVariants as page
-use Rattle.mlt_store.specs.Stores.{Pages, page_at}
+use Rattle.mlt_page_store.specs.Stores.{Pages, page_at}
 use Rattle.mlt_page_locks.proofs.LockLaws.{writer_reads}
-use Rattle.mlt_subtx.specs.Images.{image_of, or_image}
+use Rattle.mlt_page_subtx.specs.Images.{image_of, or_image}
 use Rattle.mlt_hash_form.specs.File.{header_of}
-use Rattle.mlt_subtx_laws.specs.CleanPages.{clean_pages, image_at}
-use Rattle.mlt_subtx_laws.proofs.CleanLaws.{clean_page_of, clean_page_unwritten, others_have_none}
-use Rattle.mlt_transaction.specs.declared.transaction.Transaction.{Transaction}
-use Rattle.mlt_open.specs.Tables.{KeepsImage, KeepsNoImage}
-use Rattle.mlt_invariant.specs.States.{images_kept}
+use Rattle.mlt_page_subtx_laws.specs.CleanPages.{clean_pages, image_at}
+use Rattle.mlt_page_subtx_laws.proofs.CleanLaws.{clean_page_of, clean_page_unwritten, others_have_none}
+use Rattle.mlt_tx.specs.declared.transaction.Transaction.{Transaction}
+use Rattle.mlt_tx_open.specs.Tables.{KeepsImage, KeepsNoImage}
+use Rattle.mlt_manager_invariant.specs.States.{images_kept}
 use Rattle.mlt_manager.specs.Bases.{HasCleanPage, HasCleanPages, HasDepth}
 use Rattle.mlt_manager.specs.Managers.{IsManager, ManagerFields}
 

@@ -2,22 +2,22 @@
 use Rattle.std.proofs.Common.{◌≡◌, ◌<◌, ℕ, ◌+◌, false, List, [], ◌∷◌, ◌++◌, length, refl, sym, ap, subst, ◌∙◌, arith}
 use Rattle.std.specs.FinMap as map
 use Rattle.std.specs.FinSet as set
-use Rattle.mlt_subtx.proofs.ImageLaws.{not_true}
-use Rattle.mlt_kinds.specs.declared.operation.ObjOp.{ObjOp}
-use Rattle.mlt_kinds.specs.declared.operation.ObjReply.{ObjReply}
+use Rattle.mlt_page_subtx.proofs.ImageLaws.{not_true}
+use Rattle.mlt_object_kinds.specs.declared.operation.ObjOp.{ObjOp}
+use Rattle.mlt_object_kinds.specs.declared.operation.ObjReply.{ObjReply}
 use Rattle.mlt_trace.specs.declared.item.TraceItem.{TraceItem}
 use Rattle.mlt_trace.specs.declared.item.TraceItem.TheVariants as trace
-use Rattle.mlt_history.specs.Numbers.{commit_count}
-use Rattle.mlt_history.proofs.ItemLaws.{commits_counted}
-use Rattle.mlt_subtx.specs.Images.{started}
-use Rattle.mlt_transaction.specs.declared.transaction.Transaction.{Transaction}
-use Rattle.mlt_invariant.specs.States.{State, pending_room}
-use Rattle.mlt_invariant.specs.Transactions.{Begins, BeginsAbort, Ends}
-use Rattle.mlt_invariant.proofs.Aborts.{abort_sound}
-use Rattle.mlt_invariant.proofs.Begins.{begin_sound}
-use Rattle.mlt_invariant.proofs.Ends.{close_sound, commit_sound}
-use Rattle.mlt_traced.proofs.Items.{begin_traced, close_traced, commit_traced}
-use Rattle.mlt_traced.proofs.Stays.{abort_traced}
+use Rattle.mlt_trace_history.specs.Numbers.{commit_count}
+use Rattle.mlt_trace_history.proofs.ItemLaws.{commits_counted}
+use Rattle.mlt_page_subtx.specs.Images.{started}
+use Rattle.mlt_tx.specs.declared.transaction.Transaction.{Transaction}
+use Rattle.mlt_manager_invariant.specs.States.{State, pending_room}
+use Rattle.mlt_manager_invariant.specs.Transactions.{Begins, BeginsAbort, Ends}
+use Rattle.mlt_manager_invariant.proofs.Aborts.{abort_sound}
+use Rattle.mlt_manager_invariant.proofs.Begins.{begin_sound}
+use Rattle.mlt_manager_invariant.proofs.Ends.{close_sound, commit_sound}
+use Rattle.mlt_manager_trace.proofs.Items.{begin_traced, close_traced, commit_traced}
+use Rattle.mlt_manager_trace.proofs.Stays.{abort_traced}
 use Rattle.mlt_manager.specs.Answers.{HasBegun, HasBegunAbort, HasClosed, HasCommitted, HasEnded}
 use Rattle.mlt_manager.specs.Managers.{IsManager, ManagerFields, state_of}
 use Rattle.mlt_manager.proofs.Called.{was_idle, was_with}

@@ -6,13 +6,13 @@ use Rattle.std.specs.FinMap as map
 use Rattle.std.specs.FinSet as set
 use Rattle.std.specs.Ordering.{nat_cmp}
 use Rattle.std.specs.Cmp.{nat_cmp_total}
-use Rattle.mlt_kinds.specs.Bases.{Base}
-use Rattle.mlt_history.specs.Numbers.{commit_count}
-use Rattle.mlt_subtx_laws.specs.CleanPages.{RunningImages}
-use Rattle.mlt_transaction.specs.declared.commons.Commons.{Commons}
-use Rattle.mlt_transaction.specs.declared.transaction.Transaction.{Transaction}
-use Rattle.mlt_invariant.specs.Sound.{IsSound}
-use Rattle.mlt_traced.specs.Traced.{IsTraced}
+use Rattle.mlt_object_kinds.specs.Bases.{Base}
+use Rattle.mlt_trace_history.specs.Numbers.{commit_count}
+use Rattle.mlt_page_subtx_laws.specs.CleanPages.{RunningImages}
+use Rattle.mlt_tx.specs.declared.commons.Commons.{Commons}
+use Rattle.mlt_tx.specs.declared.transaction.Transaction.{Transaction}
+use Rattle.mlt_manager_invariant.specs.Sound.{IsSound}
+use Rattle.mlt_manager_trace.specs.Traced.{IsTraced}
 use Rattle.mlt_manager.specs.Managers.{IsManager, ManagerFields, state_of}
 use Rattle.mlt_manager.specs.Answers.{counted}
 use Rattle.mlt_manager.proofs.Counts.{KeepsCounts}

@@ -5,18 +5,18 @@ use Rattle.std.specs.FinSet as set
 use Rattle.mlt_types.specs.declared.limits.Limits.{Limits}
 use Rattle.mlt_types.specs.declared.refusal.Refusal.{Refusal}
 use Rattle.mlt_types.specs.declared.refusal.Refusal.TheVariants as refusal
-use Rattle.mlt_kinds.specs.Bases.{empty_base}
-use Rattle.mlt_kinds.specs.declared.operation.ObjOp.{ObjOp}
-use Rattle.mlt_history.specs.Numbers.{commit_count}
+use Rattle.mlt_object_kinds.specs.Bases.{empty_base}
+use Rattle.mlt_object_kinds.specs.declared.operation.ObjOp.{ObjOp}
+use Rattle.mlt_trace_history.specs.Numbers.{commit_count}
 use Rattle.mlt_hash_form.specs.File.{GivesPseudokeys}
 use Rattle.mlt_event.specs.declared.answer.Answer.{Answer}
-use Rattle.mlt_invariant.specs.Sound.{IsSound}
+use Rattle.mlt_manager_invariant.specs.Sound.{IsSound}
 use Rattle.std.specs.Ordering.{nat_cmp}
-use Rattle.mlt_transaction.specs.declared.transaction.Transaction.{Transaction}
-use Rattle.mlt_invariant.specs.Opening.{opening_state}
-use Rattle.mlt_invariant.proofs.Opening.{opening_sound}
-use Rattle.mlt_traced.specs.Traced.{IsTraced}
-use Rattle.mlt_traced.proofs.Stays.{opening_traced}
+use Rattle.mlt_tx.specs.declared.transaction.Transaction.{Transaction}
+use Rattle.mlt_manager_invariant.specs.Opening.{opening_state}
+use Rattle.mlt_manager_invariant.proofs.Opening.{opening_sound}
+use Rattle.mlt_manager_trace.specs.Traced.{IsTraced}
+use Rattle.mlt_manager_trace.proofs.Stays.{opening_traced}
 use Rattle.mlt_manager.specs.Answers.{AnswersAbort, AnswersBegin, AnswersCall, AnswersCancel, AnswersCommit, AnswersStep}
 use Rattle.mlt_manager.specs.Bases.{LeavesBase}
 use Rattle.mlt_manager.specs.Managers.{IsManager, ManagerFields, state_of}

@@ -9,8 +9,8 @@ use Rattle.std.specs.FinMap as map
 use Rattle.std.specs.Ordering.{nat_cmp}
 use Rattle.mlt_types.specs.declared.mode.Mode.{Mode}
 use Rattle.mlt_types.specs.declared.refusal.Refusal.{Refusal}
-use Rattle.mlt_kinds.specs.declared.operation.ObjOp.{ObjOp}
-use Rattle.mlt_kinds.specs.declared.operation.ObjReply.{ObjReply}
+use Rattle.mlt_object_kinds.specs.declared.operation.ObjOp.{ObjOp}
+use Rattle.mlt_object_kinds.specs.declared.operation.ObjReply.{ObjReply}
 use Rattle.mlt_order.specs.Histories.{Stage}
 use Rattle.mlt_order.specs.Histories.Stage.{Ended, Fresh, Running}
 use Rattle.mlt_order.specs.Interleavings.{items_of}
@@ -19,22 +19,22 @@ use Rattle.mlt_order.proofs.RunLemmas.{contains-first, contains-later, contains-
 use Rattle.mlt_page_locks.specs.LockTables.{LockTable, Modes, is_holder}
 use Rattle.mlt_page_locks.specs.Requests.{IsLowest, conflicts}
 use Rattle.mlt_object_locks.specs.Locks.{Held}
-use Rattle.mlt_meeting.specs.Worlds.{lists_in}
-use Rattle.mlt_meeting.proofs.Matches.{lists_kept}
+use Rattle.mlt_tx_meaning.specs.Worlds.{lists_in}
+use Rattle.mlt_tx_meaning.proofs.Matches.{lists_kept}
 use Rattle.mlt_hash.specs.Walks.{Basis, basis_by}
-use Rattle.mlt_operation.specs.Operating.{OperationFields}
+use Rattle.mlt_tx_operation.specs.Operating.{OperationFields}
 use Rattle.mlt_event.specs.declared.answer.Answer.{Answer}
 use Rattle.mlt_event.specs.declared.answer.Answer.TheVariants as answer
-use Rattle.mlt_transaction.specs.declared.transaction.At.{At}
-use Rattle.mlt_transaction.specs.declared.transaction.At.TheVariants as at
-use Rattle.mlt_transaction.specs.declared.transaction.Transaction.{Transaction}
-use Rattle.mlt_transaction.specs.declared.commons.Commons.{Commons}
-use Rattle.mlt_transaction.specs.Steps.{TellsOfBack, TellsOfPending}
-use Rattle.mlt_transaction.specs.Transactions.{TellsAt, workplace_of}
-use Rattle.mlt_open.specs.Tables.{Table}
-use Rattle.mlt_invariant.specs.Sound.{FitsAt}
-use Rattle.mlt_invariant.specs.States.{State, images_kept, world_of}
-use Rattle.mlt_invariant.proofs.Tables.{inserted_elsewhere}
+use Rattle.mlt_tx.specs.declared.transaction.At.{At}
+use Rattle.mlt_tx.specs.declared.transaction.At.TheVariants as at
+use Rattle.mlt_tx.specs.declared.transaction.Transaction.{Transaction}
+use Rattle.mlt_tx.specs.declared.commons.Commons.{Commons}
+use Rattle.mlt_tx.specs.Steps.{TellsOfBack, TellsOfPending}
+use Rattle.mlt_tx.specs.Transactions.{TellsAt, workplace_of}
+use Rattle.mlt_tx_open.specs.Tables.{Table}
+use Rattle.mlt_manager_invariant.specs.Sound.{FitsAt}
+use Rattle.mlt_manager_invariant.specs.States.{State, images_kept, world_of}
+use Rattle.mlt_manager_invariant.proofs.Tables.{inserted_elsewhere}
 use Rattle.mlt_manager.specs.Answers.{AnswersStep, HasStepped, IsByAnother, IsOpenAt, IsRunning, txs_after}
 use Rattle.mlt_manager.specs.Chains.{StepsUpTo}
 use Rattle.mlt_manager.specs.Managers.{IsManager, ManagerFields, state_of}

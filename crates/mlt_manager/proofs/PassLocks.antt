@@ -5,26 +5,26 @@ use Rattle.std.specs.FinMap as map
 use Rattle.std.proofs.lemmas.Bool.{cases_Bool, cases_eq, false≢true}
 use Rattle.mlt_types.specs.declared.mode.Mode.{Mode}
 use Rattle.mlt_types.specs.declared.mode.Mode.TheVariants.{Exclusive, Shared}
-use Rattle.mlt_kinds.specs.declared.operation.ObjReply.{ObjReply}
-use Rattle.mlt_base.specs.declared.request.Request.{Request}
-use Rattle.mlt_base.specs.Requests.{target_of}
+use Rattle.mlt_object_kinds.specs.declared.operation.ObjReply.{ObjReply}
+use Rattle.mlt_object_base.specs.declared.request.Request.{Request}
+use Rattle.mlt_object_base.specs.Requests.{target_of}
 use Rattle.mlt_page.specs.declared.page.Page.{Page}
 use Rattle.mlt_page.specs.declared.page.Page.TheVariants as page
 use Rattle.mlt_page_locks.specs.LockTables.{Modes, is_holder, mode_held}
 use Rattle.mlt_page_locks.specs.Requests.{stronger, with_page}
-use Rattle.mlt_subtx.specs.Images.{Images, image_of}
-use Rattle.mlt_subtx.proofs.ImageLaws.{not_true}
+use Rattle.mlt_page_subtx.specs.Images.{Images, image_of}
+use Rattle.mlt_page_subtx.proofs.ImageLaws.{not_true}
 use Rattle.mlt_hash_form.specs.File.{FilePages, dir_of, row_of}
 use Rattle.mlt_hash_form.specs.Held.{Agrees, over}
-use Rattle.mlt_held.specs.Moments.{Moment, page_before}
-use Rattle.mlt_held.specs.Reading.{HasReadPlace}
-use Rattle.mlt_held.specs.Views.{View, rebased, view_of}
-use Rattle.mlt_held.proofs.Rebased.{rebased_agrees}
-use Rattle.mlt_held.proofs.Views.{holds_exclusively, mode_of_others, mode_of_page, own_has_image, seen_held}
-use Rattle.mlt_pair.specs.Pairs.{HoldsWays, PairFields}
-use Rattle.mlt_pair.specs.Ways as pair_read
-use Rattle.mlt_pair.specs.declared.way.Way.{Way}
-use Rattle.mlt_pair.specs.declared.way.Way.TheVariants as way
+use Rattle.mlt_hash_access.specs.Moments.{Moment, page_before}
+use Rattle.mlt_hash_access.specs.Reading.{HasReadPlace}
+use Rattle.mlt_hash_access.specs.Views.{View, rebased, view_of}
+use Rattle.mlt_hash_access.proofs.Rebased.{rebased_agrees}
+use Rattle.mlt_hash_access.proofs.Views.{holds_exclusively, mode_of_others, mode_of_page, own_has_image, seen_held}
+use Rattle.mlt_hash_pair.specs.Pairs.{HoldsWays, PairFields}
+use Rattle.mlt_hash_pair.specs.Ways as pair_read
+use Rattle.mlt_hash_pair.specs.declared.way.Way.{Way}
+use Rattle.mlt_hash_pair.specs.declared.way.Way.TheVariants as way
 use Rattle.mlt_hash.specs.Changes.{IsChangedPhase}
 use Rattle.mlt_hash.specs.Passes.{MayHoldMore, bucket_mode, directory_held, directory_mode, header_held, header_mode}
 use Rattle.mlt_hash.specs.Splitting.{IsUnderWay}
@@ -34,23 +34,23 @@ use Rattle.mlt_hash.specs.declared.pass.Pass.TheVariants as pass
 use Rattle.mlt_hash.specs.declared.pass.Phase.{Phase}
 use Rattle.mlt_hash.specs.declared.pass.Phase.TheVariants as phase
 use Rattle.mlt_hash.proofs.Passed.{read_at_bucket}
-use Rattle.mlt_two_records.specs.declared.double.Double.{Double}
-use Rattle.mlt_two_records.specs.declared.double.Double.TheVariants.{First, Owing, Wide}
-use Rattle.mlt_two_records.specs.declared.double.Leg.TheVariants as leg
-use Rattle.mlt_two_records.specs.FirstPass.{HasKeys}
-use Rattle.mlt_two_records.specs.WidePass.{HasPutOwn}
-use Rattle.mlt_operation.specs.declared.course.Course.{Course}
-use Rattle.mlt_operation.specs.declared.course.Course.TheVariants.{One, Two}
-use Rattle.mlt_operation.specs.Operating.{OperatesBy, OperationFields, StandsOrTold}
-use Rattle.mlt_operation.specs.Walking.{FitsPhase, WalkingFields, walking}
-use Rattle.mlt_subtx_laws.specs.Running.{clean_of, images_by, moment_of}
-use Rattle.mlt_meeting.specs.Worlds.{basis_of}
-use Rattle.mlt_transaction.specs.declared.transaction.At.{At}
-use Rattle.mlt_transaction.specs.declared.transaction.At.TheVariants as at
-use Rattle.mlt_transaction.specs.declared.transaction.Transaction.{Transaction}
-use Rattle.mlt_invariant.specs.Sound.{FitsAt, IsSound}
-use Rattle.mlt_invariant.specs.States.{State, all_of, images_kept, world_of}
-use Rattle.mlt_invariant.proofs.Openness.{agrees_in}
+use Rattle.mlt_tx_two_records.specs.declared.double.Double.{Double}
+use Rattle.mlt_tx_two_records.specs.declared.double.Double.TheVariants.{First, Owing, Wide}
+use Rattle.mlt_tx_two_records.specs.declared.double.Leg.TheVariants as leg
+use Rattle.mlt_tx_two_records.specs.FirstPass.{HasKeys}
+use Rattle.mlt_tx_two_records.specs.WidePass.{HasPutOwn}
+use Rattle.mlt_tx_operation.specs.declared.course.Course.{Course}
+use Rattle.mlt_tx_operation.specs.declared.course.Course.TheVariants.{One, Two}
+use Rattle.mlt_tx_operation.specs.Operating.{OperatesBy, OperationFields, StandsOrTold}
+use Rattle.mlt_tx_operation.specs.Walking.{FitsPhase, WalkingFields, walking}
+use Rattle.mlt_page_subtx_laws.specs.Running.{clean_of, images_by, moment_of}
+use Rattle.mlt_tx_meaning.specs.Worlds.{basis_of}
+use Rattle.mlt_tx.specs.declared.transaction.At.{At}
+use Rattle.mlt_tx.specs.declared.transaction.At.TheVariants as at
+use Rattle.mlt_tx.specs.declared.transaction.Transaction.{Transaction}
+use Rattle.mlt_manager_invariant.specs.Sound.{FitsAt, IsSound}
+use Rattle.mlt_manager_invariant.specs.States.{State, all_of, images_kept, world_of}
+use Rattle.mlt_manager_invariant.proofs.Openness.{agrees_in}
 use Rattle.mlt_manager.specs.PassLocks.{HoldsBoth, HoldsOver, HoldsPair, HoldsWay, IsOnWay, KeysWay, LocksAt, LocksBy, LocksOf, LocksOfTwo, LocksOverAt, images_at, running_at, running_of}
 
 -- a page that is held is seen as the clean pages have it

@@ -4,26 +4,26 @@ use Rattle.std.specs.FinMap as map
 use Rattle.std.proofs.lemmas.Result.{IfOk-weaker}
 use Rattle.mlt_types.specs.declared.refusal.Refusal.{Refusal}
 use Rattle.mlt_types.specs.declared.refusal.Refusal.TheVariants as refusal
-use Rattle.mlt_kinds.specs.Bases.{Base, Step, empty_base}
+use Rattle.mlt_object_kinds.specs.Bases.{Base, Step, empty_base}
 use Rattle.mlt_order.specs.Interleavings.{UndoneTo}
 use Rattle.mlt_trace.specs.declared.item.TraceItem.{TraceItem}
 use Rattle.std.specs.FinSet as set
 use Rattle.std.specs.Ordering.{nat_cmp}
 use Rattle.mlt_hash_form.specs.File.{FilePages, GivesPseudokeys, HasForm}
 use Rattle.mlt_hash_form.specs.Prefixes.{IsExtendibleHashFile}
-use Rattle.mlt_ghosts.proofs.Transactions.{kept_by_match}
-use Rattle.mlt_subtx_laws.specs.CleanPages.{clean_pages}
-use Rattle.mlt_check.specs.AcceptedItems.{AreAccepted}
-use Rattle.mlt_accepted.specs.Writable.{AllFit, AreWritable}
+use Rattle.mlt_hash_ghosts.proofs.Transactions.{kept_by_match}
+use Rattle.mlt_page_subtx_laws.specs.CleanPages.{clean_pages}
+use Rattle.mlt_trace_check.specs.AcceptedItems.{AreAccepted}
+use Rattle.mlt_trace_laws.specs.Writable.{AllFit, AreWritable}
 use Rattle.mlt_order.specs.Runs.{IsSerialBase}
 use Rattle.mlt_trace.specs.Items.{trace_text}
-use Rattle.mlt_history.specs.Numbers.{AreBegunInOrder, committed_txs}
-use Rattle.mlt_check.specs.Traces.{ArePlaced, IsAcceptedTrace, told}
-use Rattle.mlt_accepted.proofs.Histories.{serializable}
-use Rattle.mlt_meeting.specs.Worlds.{ledger_of}
-use Rattle.mlt_invariant.specs.States.{world_of}
-use Rattle.mlt_traced.specs.Traced.{IsCommittedBase}
-use Rattle.mlt_traced.proofs.CommittedBases.{only_base, with_base}
+use Rattle.mlt_trace_history.specs.Numbers.{AreBegunInOrder, committed_txs}
+use Rattle.mlt_trace_check.specs.Traces.{ArePlaced, IsAcceptedTrace, told}
+use Rattle.mlt_trace_laws.proofs.Histories.{serializable}
+use Rattle.mlt_tx_meaning.specs.Worlds.{ledger_of}
+use Rattle.mlt_manager_invariant.specs.States.{world_of}
+use Rattle.mlt_manager_trace.specs.Traced.{IsCommittedBase}
+use Rattle.mlt_manager_trace.proofs.CommittedBases.{only_base, with_base}
 use Rattle.mlt_manager.specs.Managers.{IsManager, ManagerFields, state_of}
 use Rattle.mlt_manager.specs.Promises.{IsCommittedBaseOf, KeepsPromises, PassesTheChecker, lists_by}
 use Rattle.mlt_manager.proofs.PassLocks.{pass_locks, written_locks}

@@ -2,9 +2,9 @@
 use Rattle.std.proofs.Common.{◌≡◌, ℕ, Result, Ok, Err, OnOk, OnErr, IfErr, refl, subst, sym}
 use Rattle.mlt_types.specs.declared.refusal.Refusal.{Refusal}
 use Rattle.mlt_types.specs.declared.refusal.Refusal.TheVariants as refusal
-use Rattle.mlt_kinds.specs.declared.operation.ObjOp.{ObjOp}
-use Rattle.mlt_meeting.specs.Presences.{IsOpInRange}
-use Rattle.mlt_open.specs.Tables.{CallsNone, CallsOne}
+use Rattle.mlt_object_kinds.specs.declared.operation.ObjOp.{ObjOp}
+use Rattle.mlt_tx_meaning.specs.Presences.{IsOpInRange}
+use Rattle.mlt_tx_open.specs.Tables.{CallsNone, CallsOne}
 use Rattle.mlt_manager.specs.Answers.{AnswersCall, ChangesOpen, IsNotIdle, MayCall}
 use Rattle.mlt_manager.specs.Managers.{ManagerFields}
 

@@ -2,23 +2,23 @@
 use Rattle.std.proofs.Common.{◌≡◌, ◌<◌, ◌≤◌, ℕ, Option, None, Some, Err, refl, sym, ap, subst, ◌∙◌, arith}
 use Rattle.std.specs.FinMap as map
 use Rattle.mlt_types.specs.declared.refusal.Refusal.{Refusal}
-use Rattle.mlt_kinds.specs.declared.operation.ObjOp.{ObjOp}
-use Rattle.mlt_held.specs.Moments.{moment}
-use Rattle.mlt_held.specs.Views.{view_of}
+use Rattle.mlt_object_kinds.specs.declared.operation.ObjOp.{ObjOp}
+use Rattle.mlt_hash_access.specs.Moments.{moment}
+use Rattle.mlt_hash_access.specs.Views.{view_of}
 use Rattle.mlt_hash.specs.Walks.{basis_by}
-use Rattle.mlt_operation.specs.MostSteps.{most_steps}
-use Rattle.mlt_operation.specs.Operating.{OperationFields}
-use Rattle.mlt_operation.proofs.MostSteps.{one_fewer_at_least}
+use Rattle.mlt_tx_operation.specs.MostSteps.{most_steps}
+use Rattle.mlt_tx_operation.specs.Operating.{OperationFields}
+use Rattle.mlt_tx_operation.proofs.MostSteps.{one_fewer_at_least}
 use Rattle.mlt_event.specs.declared.answer.Answer.{Answer}
 use Rattle.mlt_event.specs.declared.answer.Answer.TheVariants as answer
-use Rattle.mlt_transaction.specs.declared.commons.Commons.{Commons}
-use Rattle.mlt_transaction.specs.declared.transaction.At.{At}
-use Rattle.mlt_transaction.specs.declared.transaction.At.TheVariants as at
-use Rattle.mlt_transaction.specs.declared.transaction.Transaction.{Transaction}
-use Rattle.mlt_transaction.specs.Steps.{TellsOfPending}
-use Rattle.mlt_transaction.specs.Transactions.{IsPending, StepsPending, TellsAt, pending_after, workplace_of}
-use Rattle.mlt_open.specs.Tables.{Table}
-use Rattle.mlt_invariant.proofs.Tables.{inserted_here}
+use Rattle.mlt_tx.specs.declared.commons.Commons.{Commons}
+use Rattle.mlt_tx.specs.declared.transaction.At.{At}
+use Rattle.mlt_tx.specs.declared.transaction.At.TheVariants as at
+use Rattle.mlt_tx.specs.declared.transaction.Transaction.{Transaction}
+use Rattle.mlt_tx.specs.Steps.{TellsOfPending}
+use Rattle.mlt_tx.specs.Transactions.{IsPending, StepsPending, TellsAt, pending_after, workplace_of}
+use Rattle.mlt_tx_open.specs.Tables.{Table}
+use Rattle.mlt_manager_invariant.proofs.Tables.{inserted_here}
 use Rattle.mlt_manager.specs.Answers.{AnswersCall, HasCalled, HasStepped, IsOpenAt, txs_after}
 use Rattle.mlt_manager.specs.Managers.{IsManager, ManagerFields}
 use Rattle.mlt_manager.specs.Wholes.{AnswersWhole, DropsIfItStands, GoesOn, HasRun, StandsIn, StepsOnUpTo, Stops}

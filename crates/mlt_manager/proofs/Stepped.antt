@@ -3,40 +3,40 @@ use Rattle.std.proofs.Common.{◌≡◌, ℕ, List, [], ◌∷◌, ◌++◌, Opt
 use Rattle.std.specs.FinMap as map
 use Rattle.std.specs.Cmp.{nat_cmp_total}
 use Rattle.mlt_page.specs.declared.page.Page.{Page}
-use Rattle.mlt_kinds.specs.Bases.{Base, Step}
-use Rattle.mlt_kinds.specs.declared.operation.ObjOp.{ObjOp}
-use Rattle.mlt_kinds.specs.declared.operation.ObjReply.{ObjReply}
+use Rattle.mlt_object_kinds.specs.Bases.{Base, Step}
+use Rattle.mlt_object_kinds.specs.declared.operation.ObjOp.{ObjOp}
+use Rattle.mlt_object_kinds.specs.declared.operation.ObjReply.{ObjReply}
 use Rattle.mlt_object_locks.specs.Locks.{IsLowestClash}
 use Rattle.mlt_trace.specs.declared.item.TraceItem.{TraceItem}
 use Rattle.mlt_trace.specs.declared.item.TraceItem.TheVariants as trace
-use Rattle.mlt_subtx_laws.specs.CleanPages.{RunningImages, clean_pages}
+use Rattle.mlt_page_subtx_laws.specs.CleanPages.{RunningImages, clean_pages}
 use Rattle.mlt_hash.specs.Walks.{basis_by}
-use Rattle.mlt_operation.specs.Operating.{OperationFields}
-use Rattle.mlt_base.specs.declared.request.Request.TheVariants.{Do}
-use Rattle.mlt_meeting.specs.Worlds.{basis_of}
-use Rattle.mlt_meeting.proofs.Fixed.{history_fixes}
+use Rattle.mlt_tx_operation.specs.Operating.{OperationFields}
+use Rattle.mlt_object_base.specs.declared.request.Request.TheVariants.{Do}
+use Rattle.mlt_tx_meaning.specs.Worlds.{basis_of}
+use Rattle.mlt_tx_meaning.proofs.Fixed.{history_fixes}
 use Rattle.mlt_event.specs.declared.answer.Answer.{Answer}
 use Rattle.mlt_event.specs.declared.answer.Answer.TheVariants as answer
-use Rattle.mlt_transaction.specs.declared.commons.Commons.{Commons}
-use Rattle.mlt_transaction.specs.declared.transaction.At.{At}
-use Rattle.mlt_transaction.specs.declared.transaction.At.TheVariants as at
-use Rattle.mlt_transaction.specs.declared.transaction.Transaction.{Transaction}
-use Rattle.mlt_transaction.specs.Steps.{EndsBack, Ends}
-use Rattle.mlt_transaction.specs.Transactions.{StepsBack, StepsPending, TellsAt, workplace_of}
-use Rattle.mlt_open.specs.Tables.{Table}
-use Rattle.mlt_invariant.specs.Events.{EndsPending, KeepsCleanPages}
-use Rattle.mlt_invariant.specs.States.{State, images_kept, world_of}
-use Rattle.mlt_invariant.specs.Undoing.{LedBack, TakesLastBack, with_aborted, with_undone}
-use Rattle.mlt_invariant.proofs.Aborting.{aborted_sound}
-use Rattle.mlt_invariant.proofs.Done.{done_sound}
-use Rattle.mlt_invariant.proofs.Inverting.{inverse_sound}
-use Rattle.mlt_invariant.proofs.Pending.{not_done_sound}
-use Rattle.mlt_invariant.proofs.Replied.{reply_is_step}
-use Rattle.mlt_invariant.proofs.Stays.{stays_sound}
-use Rattle.mlt_invariant.proofs.Tables.{inserted_here, removed_here, removed_inserted}
-use Rattle.mlt_invariant.proofs.Undoing.{undone_sound}
-use Rattle.mlt_traced.proofs.Items.{done_traced, last_undone_traced, undone_traced}
-use Rattle.mlt_traced.proofs.Stays.{clean_traced}
+use Rattle.mlt_tx.specs.declared.commons.Commons.{Commons}
+use Rattle.mlt_tx.specs.declared.transaction.At.{At}
+use Rattle.mlt_tx.specs.declared.transaction.At.TheVariants as at
+use Rattle.mlt_tx.specs.declared.transaction.Transaction.{Transaction}
+use Rattle.mlt_tx.specs.Steps.{EndsBack, Ends}
+use Rattle.mlt_tx.specs.Transactions.{StepsBack, StepsPending, TellsAt, workplace_of}
+use Rattle.mlt_tx_open.specs.Tables.{Table}
+use Rattle.mlt_manager_invariant.specs.Events.{EndsPending, KeepsCleanPages}
+use Rattle.mlt_manager_invariant.specs.States.{State, images_kept, world_of}
+use Rattle.mlt_manager_invariant.specs.Undoing.{LedBack, TakesLastBack, with_aborted, with_undone}
+use Rattle.mlt_manager_invariant.proofs.Aborting.{aborted_sound}
+use Rattle.mlt_manager_invariant.proofs.Done.{done_sound}
+use Rattle.mlt_manager_invariant.proofs.Inverting.{inverse_sound}
+use Rattle.mlt_manager_invariant.proofs.Pending.{not_done_sound}
+use Rattle.mlt_manager_invariant.proofs.Replied.{reply_is_step}
+use Rattle.mlt_manager_invariant.proofs.Stays.{stays_sound}
+use Rattle.mlt_manager_invariant.proofs.Tables.{inserted_here, removed_here, removed_inserted}
+use Rattle.mlt_manager_invariant.proofs.Undoing.{undone_sound}
+use Rattle.mlt_manager_trace.proofs.Items.{done_traced, last_undone_traced, undone_traced}
+use Rattle.mlt_manager_trace.proofs.Stays.{clean_traced}
 use Rattle.mlt_manager.specs.Answers.{HasStepped, IsOpenAt, opens_after, txs_after}
 use Rattle.mlt_manager.specs.Bases.{HasBase, IsPendingWith, KeepsWhatCounts, LeavesBase, MakesStep, TakesStepBack}
 use Rattle.mlt_manager.specs.Managers.{IsManager, ManagerFields, state_of}

@@ -1,21 +1,21 @@
 -- What a step and a cancel ask of a transaction
 use Rattle.std.proofs.Common.{◌≡◌, ◌≢◌, ◌≤◌, ℕ, Option, Some, unwrap_or, refl, ap, subst, sym, ◌∙◌, arith}
 use Rattle.std.specs.FinMap as map
-use Rattle.mlt_history.proofs.RoomLaws.{room_within_total}
+use Rattle.mlt_trace_history.proofs.RoomLaws.{room_within_total}
 use Rattle.mlt_hash.specs.Walks.{basis_by}
-use Rattle.mlt_subtx.specs.Images.{AreThere, Images}
-use Rattle.mlt_transaction.specs.declared.transaction.At.{At}
-use Rattle.mlt_transaction.specs.declared.transaction.At.TheVariants as at
-use Rattle.mlt_transaction.specs.declared.transaction.Transaction.{Transaction}
-use Rattle.mlt_transaction.specs.Transactions.{IsPending, MayStepIn}
-use Rattle.mlt_invariant.specs.States.{images_kept, pending_room, room_of}
-use Rattle.mlt_invariant.proofs.MaySteps.{may_step}
+use Rattle.mlt_page_subtx.specs.Images.{AreThere, Images}
+use Rattle.mlt_tx.specs.declared.transaction.At.{At}
+use Rattle.mlt_tx.specs.declared.transaction.At.TheVariants as at
+use Rattle.mlt_tx.specs.declared.transaction.Transaction.{Transaction}
+use Rattle.mlt_tx.specs.Transactions.{IsPending, MayStepIn}
+use Rattle.mlt_manager_invariant.specs.States.{images_kept, pending_room, room_of}
+use Rattle.mlt_manager_invariant.proofs.MaySteps.{may_step}
 use Rattle.std.specs.FinSet as set
 use Rattle.std.specs.Ordering.{nat_cmp}
 use Rattle.mlt_event.specs.declared.answer.Answer.{Answer}
 use Rattle.mlt_event.specs.declared.answer.Answer.TheVariants as answer
-use Rattle.mlt_transaction.specs.declared.commons.Commons.{Commons}
-use Rattle.mlt_open.specs.Tables.{StepsOne, Table}
+use Rattle.mlt_tx.specs.declared.commons.Commons.{Commons}
+use Rattle.mlt_tx_open.specs.Tables.{StepsOne, Table}
 use Rattle.mlt_manager.specs.Answers.{HasStepped, IsBusy, IsOpenAt, opens_after, txs_after}
 use Rattle.mlt_manager.specs.Managers.{IsManager, ManagerFields, state_of}
 

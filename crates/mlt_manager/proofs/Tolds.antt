@@ -5,7 +5,7 @@ use Rattle.std.specs.FinMap as map
 use Rattle.std.specs.Ordering.{nat_cmp}
 use Rattle.mlt_types.specs.declared.limits.Limits.{Limits}
 use Rattle.mlt_types.specs.declared.refusal.Refusal.TheVariants as refusal
-use Rattle.mlt_kinds.specs.declared.operation.ObjOp.{ObjOp}
+use Rattle.mlt_object_kinds.specs.declared.operation.ObjOp.{ObjOp}
 use Rattle.mlt_order.specs.Tables.{with_entry}
 use Rattle.mlt_order.proofs.Tables.{with_entry-other, with_entry-same}
 use Rattle.mlt_trace.specs.declared.item.TraceItem.{TraceItem}
@@ -17,15 +17,15 @@ use Rattle.mlt_event.specs.declared.event.Event.TheVariants as event
 use Rattle.mlt_event.specs.declared.told.Told.{Told}
 use Rattle.mlt_event.specs.declared.told.Told.TheVariants as told
 use Rattle.mlt_hash.specs.Walks.{Basis, basis_by}
-use Rattle.mlt_held.specs.Moments.{moment}
-use Rattle.mlt_operation.specs.Operating.{OperationFields}
-use Rattle.mlt_base.specs.declared.request.Request.TheVariants.{Do}
-use Rattle.mlt_transaction.specs.declared.commons.Commons.{Commons}
-use Rattle.mlt_transaction.specs.declared.transaction.At.{At}
-use Rattle.mlt_transaction.specs.declared.transaction.At.TheVariants as at
-use Rattle.mlt_transaction.specs.declared.transaction.Transaction.{Transaction}
-use Rattle.mlt_transaction.specs.Transactions.{TellsAt}
-use Rattle.mlt_open.specs.Tables.{Table}
+use Rattle.mlt_hash_access.specs.Moments.{moment}
+use Rattle.mlt_tx_operation.specs.Operating.{OperationFields}
+use Rattle.mlt_object_base.specs.declared.request.Request.TheVariants.{Do}
+use Rattle.mlt_tx.specs.declared.commons.Commons.{Commons}
+use Rattle.mlt_tx.specs.declared.transaction.At.{At}
+use Rattle.mlt_tx.specs.declared.transaction.At.TheVariants as at
+use Rattle.mlt_tx.specs.declared.transaction.Transaction.{Transaction}
+use Rattle.mlt_tx.specs.Transactions.{TellsAt}
+use Rattle.mlt_tx_open.specs.Tables.{Table}
 use Rattle.mlt_manager.specs.Answers.{HasStepped, counted, txs_after}
 use Rattle.mlt_manager.specs.Bases.{IsPendingWith, LeavesBase, WholeLeavesBase}
 use Rattle.mlt_manager.specs.Chains.{StepsBy, StepsUpTo}

@@ -2,22 +2,22 @@
 use Rattle.std.proofs.Common.{◌≡◌, ◌<◌, ◌≤◌, ℕ, ◌+◌, ◌*◌, [], ◌∷◌, length, Option, None, Some, refl, sym, ap, subst, ◌∙◌, ◌⊎◌, inl, inr, arith}
 use Rattle.std.specs.FinMap as map
 use Rattle.std.proofs.lemmas.List.{length-append}
-use Rattle.mlt_undo.specs.Undo.{Undo}
-use Rattle.mlt_held.specs.Moments.{moment}
-use Rattle.mlt_held.specs.Views.{View, view_of}
+use Rattle.mlt_object_undo.specs.Undo.{Undo}
+use Rattle.mlt_hash_access.specs.Moments.{moment}
+use Rattle.mlt_hash_access.specs.Views.{View, view_of}
 use Rattle.mlt_hash.specs.Walks.{Basis, basis_by}
-use Rattle.mlt_base.specs.declared.request.Request.{Request}
-use Rattle.mlt_base.specs.declared.request.Request.TheVariants.{TakeBack}
-use Rattle.mlt_base.specs.Requests.{size_key_of}
-use Rattle.mlt_operation.specs.Operating.{OperationFields, course_for, started_for, steps_by, steps_left}
+use Rattle.mlt_object_base.specs.declared.request.Request.{Request}
+use Rattle.mlt_object_base.specs.declared.request.Request.TheVariants.{TakeBack}
+use Rattle.mlt_object_base.specs.Requests.{size_key_of}
+use Rattle.mlt_tx_operation.specs.Operating.{OperationFields, course_for, started_for, steps_by, steps_left}
 use Rattle.mlt_event.specs.declared.answer.Answer.{Answer}
 use Rattle.mlt_event.specs.declared.answer.Answer.TheVariants as answer
-use Rattle.mlt_transaction.specs.declared.commons.Commons.{Commons}
-use Rattle.mlt_transaction.specs.declared.transaction.At.{At}
-use Rattle.mlt_transaction.specs.declared.transaction.At.TheVariants as at
-use Rattle.mlt_transaction.specs.declared.transaction.Transaction.{Transaction}
-use Rattle.mlt_transaction.specs.Steps.{TellsOfBack}
-use Rattle.mlt_transaction.specs.Transactions.{StepsBack, TellsAt, workplace_of}
+use Rattle.mlt_tx.specs.declared.commons.Commons.{Commons}
+use Rattle.mlt_tx.specs.declared.transaction.At.{At}
+use Rattle.mlt_tx.specs.declared.transaction.At.TheVariants as at
+use Rattle.mlt_tx.specs.declared.transaction.Transaction.{Transaction}
+use Rattle.mlt_tx.specs.Steps.{TellsOfBack}
+use Rattle.mlt_tx.specs.Transactions.{StepsBack, TellsAt, workplace_of}
 use Rattle.mlt_manager.specs.Answers.{HasStepped, IsOpenAt, IsUndoing, txs_after}
 use Rattle.mlt_manager.specs.Managers.{ManagerFields}
 use Rattle.mlt_manager.specs.Undoings.{GoesOnBack, StepsBackUpTo, StopsBack}

@@ -3,31 +3,31 @@ use Rattle.std.proofs.lemmas.Bool.{cases_eq}
 use Rattle.std.proofs.Common.{◌≡◌, ℕ, List, [], ◌∷◌, ◌++◌, Some, Result, Ok, Err, IfOk, OnOk, inl, inr, refl, sym, ap, subst, ◌∙◌}
 use Rattle.std.specs.FinMap as map
 use Rattle.mlt_types.specs.declared.refusal.Refusal.{Refusal}
-use Rattle.mlt_kinds.specs.Bases.{Base, Step, empty_base}
+use Rattle.mlt_object_kinds.specs.Bases.{Base, Step, empty_base}
 use Rattle.mlt_order.specs.Histories.{IsHistory}
-use Rattle.mlt_history.specs.Entries.{entries_of}
-use Rattle.mlt_kinds.specs.declared.operation.ObjOp.{ObjOp}
-use Rattle.mlt_kinds.specs.declared.operation.ObjReply.{ObjReply}
+use Rattle.mlt_trace_history.specs.Entries.{entries_of}
+use Rattle.mlt_object_kinds.specs.declared.operation.ObjOp.{ObjOp}
+use Rattle.mlt_object_kinds.specs.declared.operation.ObjReply.{ObjReply}
 use Rattle.mlt_object_locks.specs.Locks.{Held, IsLowestClash}
 use Rattle.mlt_trace.specs.declared.item.TraceItem.{TraceItem}
 use Rattle.mlt_trace.specs.declared.item.TraceItem.TheVariants as trace
-use Rattle.mlt_subtx.specs.Images.{Running}
-use Rattle.mlt_subtx_laws.specs.CleanPages.{clean_pages}
-use Rattle.mlt_base.specs.declared.request.Request.TheVariants.{Do}
-use Rattle.mlt_operation.specs.Operating.{OperationFields}
+use Rattle.mlt_page_subtx.specs.Images.{Running}
+use Rattle.mlt_page_subtx_laws.specs.CleanPages.{clean_pages}
+use Rattle.mlt_object_base.specs.declared.request.Request.TheVariants.{Do}
+use Rattle.mlt_tx_operation.specs.Operating.{OperationFields}
 use Rattle.mlt_event.specs.declared.answer.Answer.{Answer}
 use Rattle.mlt_event.specs.declared.answer.Answer.TheVariants as answer
-use Rattle.mlt_held.specs.Moments.{Moment, moment}
+use Rattle.mlt_hash_access.specs.Moments.{Moment, moment}
 use Rattle.mlt_hash.specs.Walks.{Basis, basis_by}
-use Rattle.mlt_operation.specs.Answers.{TellsOfStep}
-use Rattle.mlt_operation.specs.declared.answer.StepAnswer.TheVariants as step
-use Rattle.mlt_transaction.specs.declared.transaction.At.{At}
-use Rattle.mlt_transaction.specs.declared.transaction.At.TheVariants as at
-use Rattle.mlt_transaction.specs.declared.transaction.Transaction.{Transaction}
-use Rattle.mlt_transaction.specs.Transactions.{IsPending}
-use Rattle.mlt_open.specs.Tables.{Table}
-use Rattle.mlt_invariant.specs.States.{images_kept}
-use Rattle.mlt_invariant.proofs.Tables.{inserted_elsewhere, inserted_here}
+use Rattle.mlt_tx_operation.specs.Answers.{TellsOfStep}
+use Rattle.mlt_tx_operation.specs.declared.answer.StepAnswer.TheVariants as step
+use Rattle.mlt_tx.specs.declared.transaction.At.{At}
+use Rattle.mlt_tx.specs.declared.transaction.At.TheVariants as at
+use Rattle.mlt_tx.specs.declared.transaction.Transaction.{Transaction}
+use Rattle.mlt_tx.specs.Transactions.{IsPending}
+use Rattle.mlt_tx_open.specs.Tables.{Table}
+use Rattle.mlt_manager_invariant.specs.States.{images_kept}
+use Rattle.mlt_manager_invariant.proofs.Tables.{inserted_elsewhere, inserted_here}
 use Rattle.mlt_manager.specs.Answers.{AnswersCancel, HasCalled, HasStepped, IsOpenAt}
 use Rattle.mlt_manager.specs.Bases.{AddsStep, HasBase, IsBlockedBy, IsPendingWith, KeepsWhatCounts, LeavesBase, WholeLeavesBase}
 use Rattle.mlt_manager.specs.Chains.{StepsBy}

@@ -6,20 +6,20 @@ use Rattle.std.specs.FinSet as set
 use Rattle.std.specs.List.{filter}
 use Rattle.mlt_types.specs.declared.refusal.Refusal.{Refusal}
 use Rattle.mlt_types.specs.declared.refusal.Refusal.TheVariants as refusal
-use Rattle.mlt_kinds.specs.declared.operation.ObjOp.{ObjOp}
+use Rattle.mlt_object_kinds.specs.declared.operation.ObjOp.{ObjOp}
 use Rattle.mlt_object_locks.specs.Locks.{SameReservations, is_of_other, reservation_of}
-use Rattle.mlt_subtx.specs.Images.{started}
+use Rattle.mlt_page_subtx.specs.Images.{started}
 use Rattle.mlt_trace.specs.declared.item.TraceItem.{TraceItem}
 use Rattle.mlt_trace.specs.declared.item.TraceItem.TheVariants as trace
 use Rattle.mlt_event.specs.declared.answer.Answer.{Answer}
 use Rattle.mlt_event.specs.declared.answer.Answer.TheVariants as answer
-use Rattle.mlt_transaction.specs.declared.transaction.At.{At}
-use Rattle.mlt_transaction.specs.declared.transaction.At.TheVariants as at
-use Rattle.mlt_transaction.specs.declared.transaction.Transaction.{Transaction}
-use Rattle.mlt_transaction.specs.Transactions.{IsPending}
+use Rattle.mlt_tx.specs.declared.transaction.At.{At}
+use Rattle.mlt_tx.specs.declared.transaction.At.TheVariants as at
+use Rattle.mlt_tx.specs.declared.transaction.Transaction.{Transaction}
+use Rattle.mlt_tx.specs.Transactions.{IsPending}
 use Rattle.mlt_hash.specs.Walks.{basis_by}
-use Rattle.mlt_open.specs.Tables.{CallsNone, CallsOne, CancelsOne, PutsOneAt, StepsOne, Table}
-use Rattle.mlt_meeting.specs.Presences.{IsOpInRange}
+use Rattle.mlt_tx_open.specs.Tables.{CallsNone, CallsOne, CancelsOne, PutsOneAt, StepsOne, Table}
+use Rattle.mlt_tx_meaning.specs.Presences.{IsOpInRange}
 use Rattle.mlt_manager.specs.Managers.{ManagerFields}
 
 -- the number of events after one more; it stays at the greatest that there is

@@ -4,17 +4,17 @@ use Rattle.std.specs.Coded.{Coded, code_by, coded×, coded_ℕ}
 use Rattle.std.specs.Ordering.{nat_cmp}
 use Rattle.std.specs.FinMap as map
 use Rattle.std.specs.FinSet as set
-use Rattle.mlt_kinds.specs.Bases.{Base}
-use Rattle.mlt_history.specs.Numbers.{commit_count}
+use Rattle.mlt_object_kinds.specs.Bases.{Base}
+use Rattle.mlt_trace_history.specs.Numbers.{commit_count}
 use Rattle.mlt_hash_form.specs.declared.root.Root.{Root}
-use Rattle.mlt_subtx_laws.specs.CleanPages.{RunningImages}
-use Rattle.mlt_transaction.specs.declared.commons.Commons.{Commons}
-use Rattle.mlt_transaction.specs.contracts.commons.Commons.{the_row as commons_row}
-use Rattle.mlt_transaction.specs.contracts.transaction.Transaction.{the_row as transaction_row}
-use Rattle.mlt_open.specs.Tables.{Table}
-use Rattle.mlt_invariant.specs.Sound.{IsSound}
-use Rattle.mlt_invariant.specs.States.{State}
-use Rattle.mlt_traced.specs.Traced.{IsTraced}
+use Rattle.mlt_page_subtx_laws.specs.CleanPages.{RunningImages}
+use Rattle.mlt_tx.specs.declared.commons.Commons.{Commons}
+use Rattle.mlt_tx.specs.contracts.commons.Commons.{the_row as commons_row}
+use Rattle.mlt_tx.specs.contracts.transaction.Transaction.{the_row as transaction_row}
+use Rattle.mlt_tx_open.specs.Tables.{Table}
+use Rattle.mlt_manager_invariant.specs.Sound.{IsSound}
+use Rattle.mlt_manager_invariant.specs.States.{State}
+use Rattle.mlt_manager_trace.specs.Traced.{IsTraced}
 
 pub record ManagerFields (P : Type 0) : Type 0 where
   -- how many transactions may be open, how many numbers are given out in all, how many pages there may be, and how many

@@ -1,11 +1,11 @@
 -- The parts of a manager, as a contract sees them
 use Rattle.std.specs.Prelude.{ℕ}
-use Rattle.mlt_transaction.specs.Transactions.{IsPending}
+use Rattle.mlt_tx.specs.Transactions.{IsPending}
 use Rattle.mlt_manager.specs.declared.parts.Parts.{Parts}
 use Rattle.mlt_manager.specs.declared.parts.Stage.{Stage}
 use Rattle.mlt_manager.specs.declared.parts.Stage.TheVariants as stage
 use Rattle.mlt_manager.specs.Answers.{IsIdleWith, IsNotOpen, IsOpenAt, IsUndoing}
-use Rattle.mlt_open.specs.Tables.{Table}
+use Rattle.mlt_tx_open.specs.Tables.{Table}
 use Rattle.mlt_manager.specs.Managers.{ManagerFields}
 
 abbrev pub fields_of : {P : Type 0} → Parts P → ManagerFields P

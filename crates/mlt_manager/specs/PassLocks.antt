@@ -4,34 +4,34 @@ use Rattle.std.specs.Prelude.{Option, None, Some, slice_index}
 use Rattle.std.specs.FinMap as map
 use Rattle.mlt_types.specs.declared.mode.Mode.{Mode}
 use Rattle.mlt_types.specs.declared.mode.Mode.TheVariants.{Exclusive}
-use Rattle.mlt_base.specs.declared.request.Request.{Request}
-use Rattle.mlt_base.specs.Requests.{target_of}
+use Rattle.mlt_object_base.specs.declared.request.Request.{Request}
+use Rattle.mlt_object_base.specs.Requests.{target_of}
 use Rattle.mlt_page.specs.declared.page.Page.TheVariants as page
 use Rattle.mlt_page.specs.Values.{HeadFields}
 use Rattle.mlt_page_locks.specs.LockTables.{LockTable, Modes, is_holder, mode_held, pages_of}
-use Rattle.mlt_subtx.specs.Images.{Images, image_of}
+use Rattle.mlt_page_subtx.specs.Images.{Images, image_of}
 use Rattle.mlt_hash_form.specs.File.{FilePages, dir_of, row_of}
 use Rattle.mlt_hash_form.specs.Held.{over}
-use Rattle.mlt_pair.specs.Pairs.{PairFields}
-use Rattle.mlt_pair.specs.Ways.{IsLocked}
-use Rattle.mlt_pair.specs.declared.way.Way.{Way}
-use Rattle.mlt_pair.specs.declared.way.Way.TheVariants as way
+use Rattle.mlt_hash_pair.specs.Pairs.{PairFields}
+use Rattle.mlt_hash_pair.specs.Ways.{IsLocked}
+use Rattle.mlt_hash_pair.specs.declared.way.Way.{Way}
+use Rattle.mlt_hash_pair.specs.declared.way.Way.TheVariants as way
 use Rattle.mlt_hash.specs.Passes.{MayHoldMore, bucket_held, bucket_mode, directory_held}
 use Rattle.mlt_hash.specs.Passes.{directory_mode, header_held, header_mode}
 use Rattle.mlt_hash.specs.Walks.{Basis, WalkFields, basis_by}
 use Rattle.mlt_hash.specs.declared.pass.Phase.{Phase}
 use Rattle.mlt_hash.specs.declared.pass.Phase.TheVariants as phase
-use Rattle.mlt_two_records.specs.declared.double.Double.{Double}
-use Rattle.mlt_two_records.specs.declared.double.Double.TheVariants.{First, Owing, Wide}
-use Rattle.mlt_two_records.specs.declared.double.Leg.TheVariants as leg
-use Rattle.mlt_two_records.specs.FirstPass.{HasKeys}
-use Rattle.mlt_operation.specs.declared.course.Course.{Course}
-use Rattle.mlt_operation.specs.declared.course.Course.TheVariants.{One, Two}
-use Rattle.mlt_operation.specs.Operating.{OperationFields}
-use Rattle.mlt_transaction.specs.declared.transaction.At.{At}
-use Rattle.mlt_transaction.specs.declared.transaction.At.TheVariants as at
-use Rattle.mlt_transaction.specs.declared.transaction.Transaction.{Transaction}
-use Rattle.mlt_invariant.specs.States.{images_kept}
+use Rattle.mlt_tx_two_records.specs.declared.double.Double.{Double}
+use Rattle.mlt_tx_two_records.specs.declared.double.Double.TheVariants.{First, Owing, Wide}
+use Rattle.mlt_tx_two_records.specs.declared.double.Leg.TheVariants as leg
+use Rattle.mlt_tx_two_records.specs.FirstPass.{HasKeys}
+use Rattle.mlt_tx_operation.specs.declared.course.Course.{Course}
+use Rattle.mlt_tx_operation.specs.declared.course.Course.TheVariants.{One, Two}
+use Rattle.mlt_tx_operation.specs.Operating.{OperationFields}
+use Rattle.mlt_tx.specs.declared.transaction.At.{At}
+use Rattle.mlt_tx.specs.declared.transaction.At.TheVariants as at
+use Rattle.mlt_tx.specs.declared.transaction.Transaction.{Transaction}
+use Rattle.mlt_manager_invariant.specs.States.{images_kept}
 use Rattle.mlt_manager.specs.Managers.{ManagerFields}
 
 -- The operation that a transaction runs that is at this, if it runs one: the pending one, or the

@@ -4,26 +4,26 @@ use Rattle.std.specs.Ordering.{nat_cmp}
 use Rattle.std.specs.FinMap as map
 use Rattle.std.specs.FinSet as set
 use Rattle.mlt_page.specs.declared.page.Page.{Page}
-use Rattle.mlt_kinds.specs.Bases.{Base, Step, empty_base}
-use Rattle.mlt_kinds.specs.declared.operation.ObjOp.{ObjOp}
-use Rattle.mlt_kinds.specs.declared.operation.ObjReply.{ObjReply}
-use Rattle.mlt_base.specs.Meaning.{Means}
+use Rattle.mlt_object_kinds.specs.Bases.{Base, Step, empty_base}
+use Rattle.mlt_object_kinds.specs.declared.operation.ObjOp.{ObjOp}
+use Rattle.mlt_object_kinds.specs.declared.operation.ObjReply.{ObjReply}
+use Rattle.mlt_object_base.specs.Meaning.{Means}
 use Rattle.mlt_order.specs.Histories.{IsCommitOrderSerializable, Lists, lists_of}
 use Rattle.mlt_order.specs.Histories.Stage.{Running}
 use Rattle.mlt_order.specs.Interleavings.{UndoneTo, items_of}
 use Rattle.mlt_order.specs.Runs.{IsSerialBase}
-use Rattle.mlt_history.specs.Entries.{entries_of}
-use Rattle.mlt_history.specs.Numbers.{AreBegunInOrder, AreCounted, committed_txs}
+use Rattle.mlt_trace_history.specs.Entries.{entries_of}
+use Rattle.mlt_trace_history.specs.Numbers.{AreBegunInOrder, AreCounted, committed_txs}
 use Rattle.mlt_page_locks.specs.LockTables.{AreCompatible}
 use Rattle.mlt_hash_form.specs.Prefixes.{IsExtendibleHashFile}
 use Rattle.mlt_hash_form.specs.Records.{live_records}
-use Rattle.mlt_ghosts.specs.Ghosts.{GhostsAreKept}
-use Rattle.mlt_ghosts.specs.Ledgers.{Ledger}
+use Rattle.mlt_hash_ghosts.specs.Ghosts.{GhostsAreKept}
+use Rattle.mlt_hash_ghosts.specs.Ledgers.{Ledger}
 use Rattle.mlt_trace.specs.Items.{trace_text}
-use Rattle.mlt_check.specs.Traces.{IsAcceptedTrace}
-use Rattle.mlt_transaction.specs.declared.transaction.Transaction.{Transaction}
-use Rattle.mlt_meeting.specs.Presences.{standing_of}
-use Rattle.mlt_invariant.specs.States.{undoing_of}
+use Rattle.mlt_trace_check.specs.Traces.{IsAcceptedTrace}
+use Rattle.mlt_tx.specs.declared.transaction.Transaction.{Transaction}
+use Rattle.mlt_tx_meaning.specs.Presences.{standing_of}
+use Rattle.mlt_manager_invariant.specs.States.{undoing_of}
 use Rattle.mlt_manager.specs.Bases.{HasBase, HasCleanPages}
 use Rattle.mlt_manager.specs.Managers.{ManagerFields}
 use Rattle.mlt_manager.specs.PassLocks.{HoldsLocksOfItsPass}

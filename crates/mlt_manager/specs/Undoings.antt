@@ -4,9 +4,9 @@ use Rattle.mlt_types.specs.declared.refusal.Refusal.{Refusal}
 use Rattle.mlt_types.specs.declared.refusal.Refusal.TheVariants as refusal
 use Rattle.mlt_event.specs.declared.answer.Answer.{Answer}
 use Rattle.mlt_event.specs.declared.answer.Answer.TheVariants as answer
-use Rattle.mlt_transaction.specs.declared.transaction.At.{At}
-use Rattle.mlt_transaction.specs.declared.transaction.At.TheVariants as at
-use Rattle.mlt_open.specs.Tables.{Table}
+use Rattle.mlt_tx.specs.declared.transaction.At.{At}
+use Rattle.mlt_tx.specs.declared.transaction.At.TheVariants as at
+use Rattle.mlt_tx_open.specs.Tables.{Table}
 use Rattle.mlt_manager.specs.Answers.{IsNotOpen, IsOpenAt, IsUndoing}
 use Rattle.mlt_manager.specs.Chains.{StepsUpTo}
 use Rattle.mlt_manager.specs.Managers.{ManagerFields}

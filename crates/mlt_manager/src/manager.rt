@@ -1,8 +1,8 @@
 //! The manager of transactions.
 
 ghost use Rattle.std.specs.Prelude.{◌≡◌, ◌≤◌, IsOkUnless, IfOk, OnOk};
-ghost use Rattle.mlt_check.specs.Traces.{ArePlaced};
-ghost use Rattle.mlt_history.specs.Numbers.{AreBegunInOrder};
+ghost use Rattle.mlt_trace_check.specs.Traces.{ArePlaced};
+ghost use Rattle.mlt_trace_history.specs.Numbers.{AreBegunInOrder};
 ghost use Rattle.mlt_manager.specs.Answers.{AnswersAbort, AnswersBegin, AnswersCall, AnswersCancel, AnswersCommit, AnswersStep, IsByAnother, counted};
 ghost use Rattle.mlt_manager.specs.Bases.{HasDepth, KeepsWhatCounts, LeavesBase, UndoingLeavesBase, WholeLeavesBase};
 ghost use Rattle.mlt_manager.specs.Events.{AreWholeEvents, Meets, NoneWaits, Plays, told_of};
@@ -13,14 +13,14 @@ ghost use Rattle.mlt_manager.specs.Wholes.{AnswersWhole};
 ghost use Rattle.mlt_manager.specs.Promises.{IsCommittedBaseOf, KeepsPromises, PassesTheChecker};
 
 use crate::parts::Parts;
-use mlt_accepted::{history_passes_the_checker, items_fit, placed_items_are_writable};
-use mlt_base::Base;
-use mlt_check::committed_base;
+use mlt_trace_laws::{history_passes_the_checker, items_fit, placed_items_are_writable};
+use mlt_object_base::Base;
+use mlt_trace_check::committed_base;
 use mlt_event::{Answer, Event, Told};
 use mlt_hash_form::form_is_extendible_hashing;
-use mlt_kinds::ObjOp;
-use mlt_page_base::base_of_pages;
-use mlt_store::Store;
+use mlt_object_kinds::ObjOp;
+use mlt_manager_base::base_of_pages;
+use mlt_page_store::Store;
 use mlt_trace::KeptItem;
 use mlt_types::{Limits, Pseudo, Refusal, TxId};
 use std::alloc::Global;

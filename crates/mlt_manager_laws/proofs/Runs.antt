@@ -5,9 +5,9 @@ use Rattle.std.specs.FinMap as map
 use Rattle.std.specs.FinSet as set
 use Rattle.std.specs.Ordering.{nat_cmp}
 use Rattle.mlt_types.specs.declared.limits.Limits.{Limits}
-use Rattle.mlt_kinds.specs.declared.operation.ObjOp.{ObjOp}
-use Rattle.mlt_kinds.specs.declared.operation.ObjReply.{ObjReply}
-use Rattle.mlt_held.specs.Views.{View}
+use Rattle.mlt_object_kinds.specs.declared.operation.ObjOp.{ObjOp}
+use Rattle.mlt_object_kinds.specs.declared.operation.ObjReply.{ObjReply}
+use Rattle.mlt_hash_access.specs.Views.{View}
 use Rattle.mlt_hash_form.specs.File.{FilePages, GivesPseudokeys, HasForm}
 use Rattle.mlt_hash_form.specs.Prefixes.{IsExtendibleHashFile}
 use Rattle.mlt_hash_form.specs.declared.root.Root.{Root}
@@ -18,14 +18,14 @@ use Rattle.mlt_event.specs.declared.event.Event.{Event}
 use Rattle.mlt_event.specs.declared.event.Event.TheVariants as event
 use Rattle.mlt_event.specs.declared.told.Told.{Told}
 use Rattle.mlt_event.specs.declared.told.Told.TheVariants as told
-use Rattle.mlt_transaction.specs.declared.transaction.Transaction.{Transaction}
-use Rattle.mlt_transaction.specs.Transactions.{TellsOfTransaction}
-use Rattle.mlt_open.specs.Tables.{Table}
-use Rattle.mlt_invariant.proofs.Tables.{inserted_here}
-use Rattle.mlt_counts.specs.Counts.{IsToTakeBack}
-use Rattle.mlt_counts.specs.CountsOfTwo.{TakesBackOf}
-use Rattle.mlt_counts.specs.OwnSteps.{AreOwnSteps, view_in, with_answer}
-use Rattle.mlt_counts.proofs.PassesOfTwo.{inverse_of_any, pass_of}
+use Rattle.mlt_tx.specs.declared.transaction.Transaction.{Transaction}
+use Rattle.mlt_tx.specs.Transactions.{TellsOfTransaction}
+use Rattle.mlt_tx_open.specs.Tables.{Table}
+use Rattle.mlt_manager_invariant.proofs.Tables.{inserted_here}
+use Rattle.mlt_tx_counts.specs.Counts.{IsToTakeBack}
+use Rattle.mlt_tx_counts.specs.CountsOfTwo.{TakesBackOf}
+use Rattle.mlt_tx_counts.specs.OwnSteps.{AreOwnSteps, view_in, with_answer}
+use Rattle.mlt_tx_counts.proofs.PassesOfTwo.{inverse_of_any, pass_of}
 use Rattle.mlt_manager.specs.Answers.{HasStepped, counted, txs_after}
 use Rattle.mlt_manager.specs.Events.{IsRun, Meets}
 use Rattle.mlt_manager.specs.Managers.{IsManager, ManagerFields}

@@ -2,32 +2,32 @@
 use Rattle.std.proofs.Common.{◌≡◌, ◌≢◌, ℕ, Option, None, Some, unwrap_or, refl, sym, ap, subst, ◌∙◌}
 use Rattle.std.specs.FinMap as map
 use Rattle.mlt_page_locks.specs.Requests.{released}
-use Rattle.mlt_subtx.specs.Images.{Images, Running}
-use Rattle.mlt_held.specs.declared.locked_store.LockedStore.{LockedStore}
-use Rattle.mlt_held.specs.Moments.{moment}
-use Rattle.mlt_held.specs.Views.{view_of}
-use Rattle.mlt_subtx_laws.specs.Running.{AllRunning, KeepsRunning, after_end, moment_of}
-use Rattle.mlt_subtx_laws.proofs.AllEvents.{end_keeps}
+use Rattle.mlt_page_subtx.specs.Images.{Images, Running}
+use Rattle.mlt_hash_access.specs.declared.locked_store.LockedStore.{LockedStore}
+use Rattle.mlt_hash_access.specs.Moments.{moment}
+use Rattle.mlt_hash_access.specs.Views.{view_of}
+use Rattle.mlt_page_subtx_laws.specs.Running.{AllRunning, KeepsRunning, after_end, moment_of}
+use Rattle.mlt_page_subtx_laws.proofs.AllEvents.{end_keeps}
 use Rattle.mlt_hash.specs.Walks.{basis_by}
-use Rattle.mlt_operation.specs.Operating.{OperationFields}
-use Rattle.mlt_meeting.specs.Worlds.{basis_of}
+use Rattle.mlt_tx_operation.specs.Operating.{OperationFields}
+use Rattle.mlt_tx_meaning.specs.Worlds.{basis_of}
 use Rattle.mlt_event.specs.declared.answer.Answer.{Answer}
 use Rattle.mlt_event.specs.declared.answer.Answer.TheVariants as answer
-use Rattle.mlt_transaction.specs.declared.commons.Commons.{Commons}
-use Rattle.mlt_transaction.specs.declared.transaction.At.{At}
-use Rattle.mlt_transaction.specs.declared.transaction.At.TheVariants as at
-use Rattle.mlt_transaction.specs.declared.transaction.Transaction.{Transaction}
-use Rattle.mlt_transaction.specs.Endings.{EndsSubtx}
-use Rattle.mlt_transaction.specs.Steps.{EndsBack}
-use Rattle.mlt_transaction.specs.Transactions.{StepsBack, StepsPending, TellsAt, workplace_of}
-use Rattle.mlt_open.specs.Tables.{Table}
-use Rattle.mlt_invariant.specs.Events.{KeepsCleanPages, with_transaction}
-use Rattle.mlt_invariant.specs.States.{State, all_of, images_kept, world_of}
-use Rattle.mlt_invariant.proofs.Inverting.{inverse_sound}
-use Rattle.mlt_invariant.proofs.MaySteps.{is_open_now, same_moment}
-use Rattle.mlt_invariant.proofs.Pending.{not_done_sound}
-use Rattle.mlt_invariant.proofs.Tables.{inserted_elsewhere, removed_elsewhere}
-use Rattle.mlt_counts.specs.OwnSteps.{view_in}
+use Rattle.mlt_tx.specs.declared.commons.Commons.{Commons}
+use Rattle.mlt_tx.specs.declared.transaction.At.{At}
+use Rattle.mlt_tx.specs.declared.transaction.At.TheVariants as at
+use Rattle.mlt_tx.specs.declared.transaction.Transaction.{Transaction}
+use Rattle.mlt_tx.specs.Endings.{EndsSubtx}
+use Rattle.mlt_tx.specs.Steps.{EndsBack}
+use Rattle.mlt_tx.specs.Transactions.{StepsBack, StepsPending, TellsAt, workplace_of}
+use Rattle.mlt_tx_open.specs.Tables.{Table}
+use Rattle.mlt_manager_invariant.specs.Events.{KeepsCleanPages, with_transaction}
+use Rattle.mlt_manager_invariant.specs.States.{State, all_of, images_kept, world_of}
+use Rattle.mlt_manager_invariant.proofs.Inverting.{inverse_sound}
+use Rattle.mlt_manager_invariant.proofs.MaySteps.{is_open_now, same_moment}
+use Rattle.mlt_manager_invariant.proofs.Pending.{not_done_sound}
+use Rattle.mlt_manager_invariant.proofs.Tables.{inserted_elsewhere, removed_elsewhere}
+use Rattle.mlt_tx_counts.specs.OwnSteps.{view_in}
 use Rattle.mlt_manager.specs.Answers.{HasStepped, txs_after}
 use Rattle.mlt_manager.specs.Managers.{IsManager, ManagerFields, state_of}
 

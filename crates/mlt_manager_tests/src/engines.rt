@@ -1,8 +1,8 @@
 //! `steps` and `solo` beside readers and writers that fail, and inputs that end anywhere.
 
 use crate::solo::{FIRST_RUN, FIRST_TEXT};
-use mlt_solo::solo;
-use mlt_steps::steps;
+use mlt_manager_solo::solo;
+use mlt_manager_steps::steps;
 use mlt_test_tools::{Case, Engine, FaultyReader, FaultyWriter, withstands_failures};
 use mlt_types::{Limits, Mult, Refusal};
 use std::alloc::Global;

@@ -2,7 +2,7 @@
 
 use crate::driver::ends;
 use crate::schedule::{Bounds, PROGRAM, Sight};
-use mlt_solo::solo;
+use mlt_manager_solo::solo;
 use mlt_test_tools::{same, with_spaces};
 use mlt_types::{Limits, Low, Mult, Pseudo, Refusal, ScriptCause};
 use std::alloc::Global;

@@ -4,9 +4,9 @@ use Rattle.std.proofs.lemmas.List.Elements.{Contains-append_left, Contains-push,
 use Rattle.indexmap.specs.IndexMap.{IndexMap}
 use Rattle.mlt_types.specs.declared.cell.Cell.{Cell}
 use Rattle.mlt_types.specs.Cells.{IsInRange}
-use Rattle.mlt_kinds.specs.Operations.{cell_of}
-use Rattle.mlt_kinds.specs.declared.operation.ObjOp.{ObjOp}
-use Rattle.mlt_kinds.specs.declared.operation.ObjReply.{ObjReply}
+use Rattle.mlt_object_kinds.specs.Operations.{cell_of}
+use Rattle.mlt_object_kinds.specs.declared.operation.ObjOp.{ObjOp}
+use Rattle.mlt_object_kinds.specs.declared.operation.ObjReply.{ObjReply}
 use Rattle.mlt_object_locks.specs.declared.holders.Holder.{Holder}
 use Rattle.mlt_object_locks.specs.Locks.{Held, HoldsClash, IsLowestOf, lower_of}
 use Rattle.mlt_object_locks.specs.Holders.{StandsAgainst}

@@ -6,22 +6,22 @@ use Rattle.std.proofs.lemmas.List.Elements.{Contains-push_cases}
 use Rattle.std.proofs.lemmas.Bool.{cases_eq, cases_lt, eq-eqb, ne_eqb}
 use Rattle.mlt_types.specs.declared.cell.Cell.TheVariants as cell
 use Rattle.mlt_types.specs.Cells.{IsInRange, key_number}
-use Rattle.mlt_kinds.specs.declared.element.ElementOp.{ElementOp}
-use Rattle.mlt_kinds.specs.declared.element.ElementOp.TheVariants.{Add, Remove, Has}
-use Rattle.mlt_kinds.specs.declared.operation.ObjOp.{ObjOp}
-use Rattle.mlt_kinds.specs.declared.operation.ObjOp.TheVariants as op
-use Rattle.mlt_kinds.specs.declared.operation.ObjReply.{ObjReply}
-use Rattle.mlt_kinds.specs.declared.operation.ObjReply.TheVariants as reply
-use Rattle.mlt_kinds.specs.Operations.{cell_of, size_cells}
-use Rattle.mlt_commute.specs.Clashes.{clashes, marked_classes}
-use Rattle.mlt_commute.specs.declared.accounts.AccountClass.TheVariants as account
-use Rattle.mlt_commute.specs.declared.elements.ElementClass.{ElementClass}
-use Rattle.mlt_commute.specs.declared.elements.ElementClass.TheVariants as element
-use Rattle.mlt_commute.specs.declared.counters.CounterClass.TheVariants as counter
-use Rattle.mlt_commute.specs.AccountTable.{account_class, account_marks}
-use Rattle.mlt_commute.specs.CounterTable.{counter_class, counter_marks}
-use Rattle.mlt_commute.specs.ElementTable.{element_class, element_marks}
-use Rattle.mlt_commute.specs.Sizes.{changes_told, counts}
+use Rattle.mlt_object_kinds.specs.declared.element.ElementOp.{ElementOp}
+use Rattle.mlt_object_kinds.specs.declared.element.ElementOp.TheVariants.{Add, Remove, Has}
+use Rattle.mlt_object_kinds.specs.declared.operation.ObjOp.{ObjOp}
+use Rattle.mlt_object_kinds.specs.declared.operation.ObjOp.TheVariants as op
+use Rattle.mlt_object_kinds.specs.declared.operation.ObjReply.{ObjReply}
+use Rattle.mlt_object_kinds.specs.declared.operation.ObjReply.TheVariants as reply
+use Rattle.mlt_object_kinds.specs.Operations.{cell_of, size_cells}
+use Rattle.mlt_object_conflicts.specs.Clashes.{clashes, marked_classes}
+use Rattle.mlt_object_conflicts.specs.declared.accounts.AccountClass.TheVariants as account
+use Rattle.mlt_object_conflicts.specs.declared.elements.ElementClass.{ElementClass}
+use Rattle.mlt_object_conflicts.specs.declared.elements.ElementClass.TheVariants as element
+use Rattle.mlt_object_conflicts.specs.declared.counters.CounterClass.TheVariants as counter
+use Rattle.mlt_object_conflicts.specs.AccountTable.{account_class, account_marks}
+use Rattle.mlt_object_conflicts.specs.CounterTable.{counter_class, counter_marks}
+use Rattle.mlt_object_conflicts.specs.ElementTable.{element_class, element_marks}
+use Rattle.mlt_object_conflicts.specs.Sizes.{changes_told, counts}
 use Rattle.mlt_object_locks.specs.declared.classes.Class.{Class}
 use Rattle.mlt_object_locks.specs.declared.classes.Class.TheVariants.{Account, Element, Counter, Size}
 use Rattle.mlt_object_locks.specs.declared.classes.TheConstants.{CLASSES}

@@ -3,9 +3,9 @@ use Rattle.std.specs.Prelude.{ℕ, ◌≡◌, ◌≢◌, ◌*◌, ◌≤◌, ◌
 use Rattle.indexmap.specs.IndexMap.{IndexMap, IsUnique, get}
 use Rattle.mlt_types.specs.declared.cell.Cell.{Cell}
 use Rattle.mlt_types.specs.Cells.{IsInRange}
-use Rattle.mlt_kinds.specs.declared.operation.ObjOp.{ObjOp}
-use Rattle.mlt_kinds.specs.declared.operation.ObjReply.{ObjReply}
-use Rattle.mlt_kinds.specs.Operations.{cell_of}
+use Rattle.mlt_object_kinds.specs.declared.operation.ObjOp.{ObjOp}
+use Rattle.mlt_object_kinds.specs.declared.operation.ObjReply.{ObjReply}
+use Rattle.mlt_object_kinds.specs.Operations.{cell_of}
 use Rattle.mlt_object_locks.specs.declared.holders.Holder.{Holder}
 use Rattle.mlt_object_locks.specs.Locks.{Held, reservation_of}
 use Rattle.mlt_object_locks.specs.Classes.{bit_of_item}

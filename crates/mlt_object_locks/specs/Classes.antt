@@ -2,17 +2,17 @@
 use Rattle.std.specs.Prelude.{ℕ, ◌≡◌, ◌⊎◌, Bool, true, false, Option, None, Some}
 use Rattle.std.specs.Option.{option_map}
 use Rattle.std.specs.Int.{bit_at}
-use Rattle.mlt_kinds.specs.declared.operation.ObjOp.{ObjOp}
-use Rattle.mlt_kinds.specs.declared.operation.ObjOp.TheVariants as op
-use Rattle.mlt_kinds.specs.declared.operation.ObjReply.{ObjReply}
-use Rattle.mlt_kinds.specs.declared.operation.ObjReply.TheVariants as reply
-use Rattle.mlt_commute.specs.declared.accounts.AccountClass.TheVariants as account
-use Rattle.mlt_commute.specs.declared.elements.ElementClass.TheVariants as element
-use Rattle.mlt_commute.specs.declared.counters.CounterClass.TheVariants as counter
-use Rattle.mlt_commute.specs.AccountTable.{account_class, account_marks}
-use Rattle.mlt_commute.specs.CounterTable.{counter_class, counter_marks}
-use Rattle.mlt_commute.specs.ElementTable.{element_class, element_marks}
-use Rattle.mlt_commute.specs.Sizes.{counts}
+use Rattle.mlt_object_kinds.specs.declared.operation.ObjOp.{ObjOp}
+use Rattle.mlt_object_kinds.specs.declared.operation.ObjOp.TheVariants as op
+use Rattle.mlt_object_kinds.specs.declared.operation.ObjReply.{ObjReply}
+use Rattle.mlt_object_kinds.specs.declared.operation.ObjReply.TheVariants as reply
+use Rattle.mlt_object_conflicts.specs.declared.accounts.AccountClass.TheVariants as account
+use Rattle.mlt_object_conflicts.specs.declared.elements.ElementClass.TheVariants as element
+use Rattle.mlt_object_conflicts.specs.declared.counters.CounterClass.TheVariants as counter
+use Rattle.mlt_object_conflicts.specs.AccountTable.{account_class, account_marks}
+use Rattle.mlt_object_conflicts.specs.CounterTable.{counter_class, counter_marks}
+use Rattle.mlt_object_conflicts.specs.ElementTable.{element_class, element_marks}
+use Rattle.mlt_object_conflicts.specs.Sizes.{counts}
 use Rattle.mlt_object_locks.specs.declared.classes.Class.{Class}
 use Rattle.mlt_object_locks.specs.declared.classes.Class.TheVariants.{Account, Element, Counter, Size}
 

@@ -1,9 +1,9 @@
 -- What is held and reserved, and who stands in the way of whom.
 use Rattle.std.specs.Prelude.{Bool, not, nat_eq, nat_lt, ◌≡◌, ◌≢◌, ℕ, ◌≤◌, List, [], ◌∷◌, Option, None, Some, IsTrue, Contains, if◌then◌else◌, ◌==◌}
 use Rattle.mlt_types.specs.declared.cell.Cell.{Cell}
-use Rattle.mlt_kinds.specs.declared.operation.ObjOp.{ObjOp}
-use Rattle.mlt_kinds.specs.declared.operation.ObjReply.{ObjReply}
-use Rattle.mlt_commute.specs.Clashes.{clashes}
+use Rattle.mlt_object_kinds.specs.declared.operation.ObjOp.{ObjOp}
+use Rattle.mlt_object_kinds.specs.declared.operation.ObjReply.{ObjReply}
+use Rattle.mlt_object_conflicts.specs.Clashes.{clashes}
 
 -- an operation with its reply, and the number of the transaction that holds it
 abbrev pub Held : Type 0

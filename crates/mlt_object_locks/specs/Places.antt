@@ -3,10 +3,10 @@ use Rattle.std.specs.Prelude.{ℕ, ◌+◌, ◌*◌, ◌^◌, List, [], ◌∷�
 use Rattle.mlt_types.specs.declared.cell.Cell.{Cell}
 use Rattle.mlt_types.specs.declared.cell.Cell.TheVariants.{Account, Element, Counter, Size}
 use Rattle.mlt_types.specs.Cells.{key_number}
-use Rattle.mlt_kinds.specs.declared.operation.ObjOp.{ObjOp}
-use Rattle.mlt_kinds.specs.declared.operation.ObjReply.{ObjReply}
-use Rattle.mlt_kinds.specs.declared.operation.ObjOp.TheVariants as op
-use Rattle.mlt_kinds.specs.Operations.{cell_of, cells_of}
+use Rattle.mlt_object_kinds.specs.declared.operation.ObjOp.{ObjOp}
+use Rattle.mlt_object_kinds.specs.declared.operation.ObjReply.{ObjReply}
+use Rattle.mlt_object_kinds.specs.declared.operation.ObjOp.TheVariants as op
+use Rattle.mlt_object_kinds.specs.Operations.{cell_of, cells_of}
 use Rattle.mlt_object_locks.specs.Locks.{reservation_of}
 
 -- the place of all that stands on elements of a set, which is the number of no key

@@ -15,7 +15,7 @@ use crate::noted::Noted;
 use crate::places::places_of;
 use indexmap::IndexMap;
 use indexmap::map::Entry;
-use mlt_kinds::Done;
+use mlt_object_kinds::Done;
 use mlt_types::{Cell, Refusal, TxId};
 
 /// The places that have a holder, each by its number.

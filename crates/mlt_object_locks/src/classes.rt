@@ -3,8 +3,8 @@
 ghost use Rattle.std.specs.Prelude.{◌≡◌, ◌↔◌, ◌<◌, IsTrue};
 ghost use Rattle.mlt_object_locks.specs.Classes.{bit_of, bit_of_item, class_of, marks, Adds, AddsItem, AreInTheWay, IsColumn, Meets};
 
-use mlt_commute::{AccountClass, CounterClass, ElementClass, Table};
-use mlt_kinds::{Account, Counter, Done, Element, ObjOp, ObjReply};
+use mlt_object_conflicts::{AccountClass, CounterClass, ElementClass, Table};
+use mlt_object_kinds::{Account, Counter, Done, Element, ObjOp, ObjReply};
 use std::marker::Model;
 
 /// The class of an operation with its reply, of any kind. All that ask for the size of a set are of one.

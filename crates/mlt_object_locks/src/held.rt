@@ -5,7 +5,7 @@ ghost use Rattle.std.specs.List.{filter};
 ghost use Rattle.std.specs.Borrow.{ftrue};
 ghost use Rattle.mlt_object_locks.specs.Locks.{Held, is_of_other};
 
-use mlt_kinds::Done;
+use mlt_object_kinds::Done;
 use mlt_types::TxId;
 use std::marker::Model;
 

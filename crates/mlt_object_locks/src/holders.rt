@@ -7,7 +7,7 @@ ghost use Rattle.mlt_object_locks.specs.Classes.{bit_of_item};
 ghost use Rattle.mlt_object_locks.specs.Holders.{AreOnce, IsHere, HasBit, Joins, Grants, IsLowestInTheWay, StandsAgainst, StandsIn, is_of, is_not_of, is_idle_of, is_not_idle_of};
 
 use crate::classes::{ClassSet, in_the_way_of};
-use mlt_kinds::Done;
+use mlt_object_kinds::Done;
 use mlt_types::{Refusal, TxId};
 use smallvec::SmallVec;
 use std::alloc::Global;

@@ -2,7 +2,7 @@
 
 ghost use Rattle.std.specs.Prelude.{◌≡◌, ℕ, [], ◌∷◌, ◌++◌, Some, None, OnOk, OnErr, IfErr, IsOkUnless};
 ghost use Rattle.std.specs.List.{filter};
-ghost use Rattle.mlt_kinds.specs.Operations.{cell_of};
+ghost use Rattle.mlt_object_kinds.specs.Operations.{cell_of};
 ghost use Rattle.mlt_object_locks.specs.Locks.{no_locks, HoldsClash, IsLowestClash, is_of_other, reservation_of, SameReservations};
 
 use crate::cells::{
@@ -14,7 +14,7 @@ use crate::noted::Noted;
 use crate::places::{is_in_range, looked_at, places_if_any, places_of};
 use crate::reserved::Reserved;
 use indexmap::IndexMap;
-use mlt_kinds::Done;
+use mlt_object_kinds::Done;
 use mlt_types::{Cell, Refusal, TxId};
 use std::alloc::Global;
 use std::marker::Model;

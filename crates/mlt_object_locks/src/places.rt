@@ -9,7 +9,7 @@ ghost use Rattle.mlt_types.specs.Cells.{IsInRange, key_number};
 ghost use Rattle.mlt_object_locks.specs.Places.{looked_at, place_of_set, places_if_any, places_of};
 
 use arrayvec::ArrayVec;
-use mlt_kinds::{ElementOp, ObjOp};
+use mlt_object_kinds::{ElementOp, ObjOp};
 use mlt_types::{Cell, Key};
 
 /// At most two places.

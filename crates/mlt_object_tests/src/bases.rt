@@ -1,7 +1,7 @@
 //! Operations on a base, and its text.
 
-use mlt_base::{Base, write_base};
-use mlt_kinds::{AccountOp, CounterOp, ElementOp, ObjOp, ObjReply};
+use mlt_object_base::{Base, write_base};
+use mlt_object_kinds::{AccountOp, CounterOp, ElementOp, ObjOp, ObjReply};
 use mlt_test_tools::{FaultyWriter, KINDS, same, same_at};
 use mlt_types::Refusal;
 use std::alloc::Global;

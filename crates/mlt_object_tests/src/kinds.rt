@@ -1,6 +1,6 @@
 //! Texts of operations and replies.
 
-use mlt_kinds::{AccountOp, CounterOp, Done, ElementOp, MAX_BALANCE, ObjOp, ObjReply};
+use mlt_object_kinds::{AccountOp, CounterOp, Done, ElementOp, MAX_BALANCE, ObjOp, ObjReply};
 use mlt_test_tools::same;
 use std::alloc::Global;
 use std::fmt::Display;

@@ -2,11 +2,11 @@
 
 ghost use Rattle.std.specs.Prelude.{◌≡◌};
 
-use mlt_kinds::{AccountOp, Done, ElementOp, ObjOp, ObjReply};
+use mlt_object_kinds::{AccountOp, Done, ElementOp, ObjOp, ObjReply};
 use mlt_object_locks::ObjectLocks;
 use mlt_test_tools::{same, same_at};
 use mlt_types::{Cell, Refusal, TxId};
-use mlt_undo::UndoList;
+use mlt_object_undo::UndoList;
 use std::alloc::Global;
 use std::test::Fail;
 

@@ -1,7 +1,7 @@
 //! The table of object locks beside a plain list that is scanned: both answer alike.
 
-use mlt_commute::clash;
-use mlt_kinds::{AccountOp, Done, ElementOp, ObjOp, ObjReply};
+use mlt_object_conflicts::clash;
+use mlt_object_kinds::{AccountOp, Done, ElementOp, ObjOp, ObjReply};
 use mlt_object_locks::ObjectLocks;
 use mlt_test_tools::same_at;
 use mlt_types::{Refusal, TxId};

@@ -1,7 +1,7 @@
 //! How many pairs the tables mark, their examples run, and clashes.
 
-use mlt_commute::{AccountClass, CounterClass, ElementClass, Example, SizeExample, Table, clash};
-use mlt_kinds::{
+use mlt_object_conflicts::{AccountClass, CounterClass, ElementClass, Example, SizeExample, Table, clash};
+use mlt_object_kinds::{
     Account, AccountOp, Counter, CounterOp, Done, Element, ElementOp, Kind, ObjOp, ObjReply,
 };
 use mlt_test_tools::{same, same_at};

@@ -6,19 +6,19 @@ use Rattle.std.proofs.lemmas.Bool.{ltb-true}
 use Rattle.mlt_types.specs.declared.refusal.ScriptCause.TheVariants as cause
 use Rattle.mlt_script.specs.declared.forms.LineForm.{LineForm}
 use Rattle.mlt_script.specs.declared.forms.LineForm.TheVariants.{Begins, Says, Closes}
-use Rattle.mlt_words.specs.declared.keyword.Keyword.{Keyword}
-use Rattle.mlt_words.specs.declared.keyword.Keyword.TheVariants as key
-use Rattle.mlt_words.specs.declared.keyword.Word.{Word}
-use Rattle.mlt_words.specs.declared.keyword.Word.TheVariants.{Key, Variable, Number, Other}
-use Rattle.mlt_words.specs.declared.letter.Letter.{Letter}
+use Rattle.mlt_text_words.specs.declared.keyword.Keyword.{Keyword}
+use Rattle.mlt_text_words.specs.declared.keyword.Keyword.TheVariants as key
+use Rattle.mlt_text_words.specs.declared.keyword.Word.{Word}
+use Rattle.mlt_text_words.specs.declared.keyword.Word.TheVariants.{Key, Variable, Number, Other}
+use Rattle.mlt_text_words.specs.declared.letter.Letter.{Letter}
 use Rattle.mlt_script.specs.declared.line.Reading.TheVariants.{Bad, Skip}
-use Rattle.mlt_tree.specs.declared.statement.Ending.TheVariants.{Commit, Abort}
-use Rattle.mlt_tree.specs.declared.statement.Statement.TheVariants.{Ask, Need, Let}
-use Rattle.mlt_tree.specs.declared.statement.Line.TheVariants.{Plain, If, Else, End}
+use Rattle.mlt_script_tree.specs.declared.statement.Ending.TheVariants.{Commit, Abort}
+use Rattle.mlt_script_tree.specs.declared.statement.Statement.TheVariants.{Ask, Need, Let}
+use Rattle.mlt_script_tree.specs.declared.statement.Line.TheVariants.{Plain, If, Else, End}
 use Rattle.mlt_script.specs.Forms.{form_of, key_form, begin_form, ask_form, need_form, if_form, let_form, equals_source, number_below, letter_at, key_at, source_at, asking_at, asking_is_at, finish}
-use Rattle.mlt_words.specs.Lines.{Raw, content, is_comment, is_allowed}
+use Rattle.mlt_text_words.specs.Lines.{Raw, content, is_comment, is_allowed}
 use Rattle.mlt_script.specs.Readings.{reading, said_by, form_or_fault, outside_comment, IsReading}
-use Rattle.mlt_words.specs.Words.{words_of}
+use Rattle.mlt_text_words.specs.Words.{words_of}
 
 abbrev IsForm : LineForm → Type 0
 IsForm (Begins client) = client < 1000

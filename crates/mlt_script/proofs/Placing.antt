@@ -4,17 +4,17 @@ use Rattle.std.proofs.lemmas.Bool.{lt-ltb, le-ltb, ltb-true}
 use Rattle.mlt_types.specs.declared.refusal.ScriptCause.{ScriptCause}
 use Rattle.mlt_types.specs.declared.refusal.ScriptCause.TheVariants.{Place, Deep, Long}
 use Rattle.mlt_script.specs.declared.frame.Frame.{Frame}
-use Rattle.mlt_tree.specs.declared.statement.Asking.{Asking}
-use Rattle.mlt_tree.specs.declared.statement.Wanted.{Wanted}
-use Rattle.mlt_tree.specs.declared.statement.Statement.{Statement}
-use Rattle.mlt_tree.specs.declared.statement.Line.{Line}
-use Rattle.mlt_tree.specs.declared.statement.Line.TheVariants as line
-use Rattle.mlt_tree.specs.Blocks.{Block, Open, join, grow, lines_of, lines_open, longest, nesting, path, depth, widest, deepest}
-use Rattle.mlt_tree.specs.Blocks.Block.{Nothing, Then, If}
-use Rattle.mlt_tree.specs.Blocks.Open.{Top, InFirst, InSecond}
+use Rattle.mlt_script_tree.specs.declared.statement.Asking.{Asking}
+use Rattle.mlt_script_tree.specs.declared.statement.Wanted.{Wanted}
+use Rattle.mlt_script_tree.specs.declared.statement.Statement.{Statement}
+use Rattle.mlt_script_tree.specs.declared.statement.Line.{Line}
+use Rattle.mlt_script_tree.specs.declared.statement.Line.TheVariants as line
+use Rattle.mlt_script_tree.specs.Blocks.{Block, Open, join, grow, lines_of, lines_open, longest, nesting, path, depth, widest, deepest}
+use Rattle.mlt_script_tree.specs.Blocks.Block.{Nothing, Then, If}
+use Rattle.mlt_script_tree.specs.Blocks.Open.{Top, InFirst, InSecond}
 use Rattle.mlt_script.specs.Frames.{frames_of}
 use Rattle.mlt_script.specs.Scan.{long_fault, else_fault, end_fault, line_fault}
-use Rattle.mlt_tree.specs.Scripts.{read_on, open_of, one_more, turned, closed, whole}
+use Rattle.mlt_script_tree.specs.Scripts.{read_on, open_of, one_more, turned, closed, whole}
 
 lines_join : (b c : Block) → lines_of (join b c) ≡ lines_of b ++ lines_of c
 lines_join Nothing c = refl

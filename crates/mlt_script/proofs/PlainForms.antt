@@ -3,30 +3,30 @@ use Rattle.std.proofs.Common.{◌≡◌, ℕ, ◌^◌, ◌<◌, ◌≤◌, List,
 use Rattle.std.proofs.lemmas.Bool.{lt-ltb}
 use Rattle.std.proofs.lemmas.List.{append-nil}
 use denote.Ref.{Bor}
-use Rattle.mlt_kinds.specs.declared.account.AccountOp.TheVariants as account
-use Rattle.mlt_kinds.specs.declared.element.ElementOp.TheVariants as element
-use Rattle.mlt_kinds.specs.declared.counter.CounterOp.TheVariants as counter
-use Rattle.mlt_kinds.specs.declared.operation.ObjOp.{ObjOp}
-use Rattle.mlt_kinds.specs.declared.operation.ObjOp.TheVariants.{Account, Element, Counter, Size}
-use Rattle.mlt_kinds.specs.declared.operation.ObjReply.{ObjReply}
-use Rattle.mlt_kinds.specs.declared.operation.ObjReply.TheVariants as reply
+use Rattle.mlt_object_kinds.specs.declared.account.AccountOp.TheVariants as account
+use Rattle.mlt_object_kinds.specs.declared.element.ElementOp.TheVariants as element
+use Rattle.mlt_object_kinds.specs.declared.counter.CounterOp.TheVariants as counter
+use Rattle.mlt_object_kinds.specs.declared.operation.ObjOp.{ObjOp}
+use Rattle.mlt_object_kinds.specs.declared.operation.ObjOp.TheVariants.{Account, Element, Counter, Size}
+use Rattle.mlt_object_kinds.specs.declared.operation.ObjReply.{ObjReply}
+use Rattle.mlt_object_kinds.specs.declared.operation.ObjReply.TheVariants as reply
 use Rattle.mlt_script.specs.declared.forms.LineForm.{LineForm}
 use Rattle.mlt_script.specs.declared.forms.LineForm.TheVariants.{Begins, Says, Closes}
-use Rattle.mlt_tree.specs.declared.statement.Asking.{Asking}
-use Rattle.mlt_tree.specs.declared.statement.Asking.TheVariants.{Fixed, By}
-use Rattle.mlt_tree.specs.declared.statement.Ending.TheVariants.{Commit}
-use Rattle.mlt_tree.specs.declared.statement.Statement.TheVariants.{Ask}
-use Rattle.mlt_tree.specs.declared.statement.Line.TheVariants as line
-use Rattle.mlt_words.specs.declared.keyword.Keyword.{Keyword}
-use Rattle.mlt_words.specs.declared.keyword.Keyword.TheVariants as key
-use Rattle.mlt_words.specs.declared.keyword.Word.{Word}
-use Rattle.mlt_words.specs.declared.keyword.Word.TheVariants.{Key, Number}
-use Rattle.mlt_words.specs.Fronts.{BeginsWithWords, TextIs}
-use Rattle.mlt_words.specs.Lines.{is_comment, lines}
-use Rattle.mlt_words.specs.Words.{spelling}
-use Rattle.mlt_words.proofs.Cutting.{line_cut}
-use Rattle.mlt_words.proofs.Fronts.{no_comment}
-use Rattle.mlt_words.proofs.Pieces.{at_most, beside, key_text}
+use Rattle.mlt_script_tree.specs.declared.statement.Asking.{Asking}
+use Rattle.mlt_script_tree.specs.declared.statement.Asking.TheVariants.{Fixed, By}
+use Rattle.mlt_script_tree.specs.declared.statement.Ending.TheVariants.{Commit}
+use Rattle.mlt_script_tree.specs.declared.statement.Statement.TheVariants.{Ask}
+use Rattle.mlt_script_tree.specs.declared.statement.Line.TheVariants as line
+use Rattle.mlt_text_words.specs.declared.keyword.Keyword.{Keyword}
+use Rattle.mlt_text_words.specs.declared.keyword.Keyword.TheVariants as key
+use Rattle.mlt_text_words.specs.declared.keyword.Word.{Word}
+use Rattle.mlt_text_words.specs.declared.keyword.Word.TheVariants.{Key, Number}
+use Rattle.mlt_text_words.specs.Fronts.{BeginsWithWords, TextIs}
+use Rattle.mlt_text_words.specs.Lines.{is_comment, lines}
+use Rattle.mlt_text_words.specs.Words.{spelling}
+use Rattle.mlt_text_words.proofs.Cutting.{line_cut}
+use Rattle.mlt_text_words.proofs.Fronts.{no_comment}
+use Rattle.mlt_text_words.proofs.Pieces.{at_most, beside, key_text}
 use Rattle.mlt_script.specs.Forms.{asking_at, ask_form, fixed, form_of, key_form, op_at, key_at, account_at, element_at, counter_at, set_size_at, deposit_at, withdraw_at, up_at, down_at, number_below, amount_at, begin_form, reply_at, reply_after, reply_word}
 use Rattle.mlt_script.specs.Plain.{AsksElement, BeginsWithForm, BeginsWithOp, BeginsWithReply, GoesOnWithOp}
 use Rattle.mlt_script.proofs.Saying.{says_so}

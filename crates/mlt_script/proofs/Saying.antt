@@ -6,10 +6,10 @@ use Rattle.std.proofs.lemmas.List.Folds.{list_all_at}
 use Rattle.mlt_types.specs.declared.refusal.ScriptCause.TheVariants as cause
 use Rattle.mlt_script.specs.declared.forms.LineForm.{LineForm}
 use Rattle.mlt_script.specs.declared.line.Reading.TheVariants.{Bad, Skip, Form}
-use Rattle.mlt_words.specs.declared.keyword.Word.{Word}
-use Rattle.mlt_words.specs.Fronts.{TextIs, is_printable}
-use Rattle.mlt_words.specs.Lines.{is_allowed, is_comment, without_cr}
-use Rattle.mlt_words.specs.Words.{word_at, words_of}
+use Rattle.mlt_text_words.specs.declared.keyword.Word.{Word}
+use Rattle.mlt_text_words.specs.Fronts.{TextIs, is_printable}
+use Rattle.mlt_text_words.specs.Lines.{is_allowed, is_comment, without_cr}
+use Rattle.mlt_text_words.specs.Words.{word_at, words_of}
 use Rattle.mlt_script.specs.Forms.{form_of, key_at}
 use Rattle.mlt_script.specs.Readings.{reading, said_by}
 

@@ -3,10 +3,10 @@ use Rattle.std.proofs.Common.{◌≡◌, ℕ, ◌+◌, List, [], ◌∷◌, leng
 use Rattle.mlt_types.specs.declared.refusal.Refusal.{Refusal}
 use Rattle.mlt_types.specs.declared.refusal.Refusal.TheVariants.{OutOfMemory, ScriptFault}
 use Rattle.mlt_types.specs.declared.refusal.ScriptCause.{ScriptCause}
-use Rattle.mlt_words.specs.Lines.{Raw, lines}
+use Rattle.mlt_text_words.specs.Lines.{Raw, lines}
 use Rattle.mlt_script.specs.Readings.{reading}
 use Rattle.mlt_script.specs.Scan.{State, scan, after, advance, at_end, Advances, Refuses}
-use Rattle.mlt_tree.specs.Scripts.{ScriptForm}
+use Rattle.mlt_script_tree.specs.Scripts.{ScriptForm}
 
 abbrev Answer : Type 0
 Answer = Result (List ScriptForm) (ℕ × ScriptCause)

@@ -8,18 +8,18 @@ use Rattle.mlt_script.specs.declared.forms.LineForm.{LineForm}
 use Rattle.mlt_script.specs.declared.forms.LineForm.TheVariants.{Begins, Says, Closes}
 use Rattle.mlt_script.specs.declared.line.Reading.{Reading}
 use Rattle.mlt_script.specs.declared.line.Reading.TheVariants.{Bad, Skip, Form}
-use Rattle.mlt_tree.specs.declared.statement.Asking.{Asking}
-use Rattle.mlt_tree.specs.declared.statement.Wanted.{Wanted}
-use Rattle.mlt_tree.specs.declared.statement.Statement.{Statement}
-use Rattle.mlt_tree.specs.declared.statement.Line.{Line}
-use Rattle.mlt_tree.specs.declared.statement.Line.TheVariants as line
-use Rattle.mlt_tree.specs.declared.statement.Ending.{Ending}
-use Rattle.mlt_tree.specs.Blocks.{Block, Open, join, grow, path, depth, IsWithin}
-use Rattle.mlt_tree.specs.Blocks.Block.{Nothing, Then, If}
-use Rattle.mlt_tree.specs.Blocks.Open.{Top, InFirst, InSecond}
-use Rattle.mlt_words.specs.Lines.{Raw}
+use Rattle.mlt_script_tree.specs.declared.statement.Asking.{Asking}
+use Rattle.mlt_script_tree.specs.declared.statement.Wanted.{Wanted}
+use Rattle.mlt_script_tree.specs.declared.statement.Statement.{Statement}
+use Rattle.mlt_script_tree.specs.declared.statement.Line.{Line}
+use Rattle.mlt_script_tree.specs.declared.statement.Line.TheVariants as line
+use Rattle.mlt_script_tree.specs.declared.statement.Ending.{Ending}
+use Rattle.mlt_script_tree.specs.Blocks.{Block, Open, join, grow, path, depth, IsWithin}
+use Rattle.mlt_script_tree.specs.Blocks.Block.{Nothing, Then, If}
+use Rattle.mlt_script_tree.specs.Blocks.Open.{Top, InFirst, InSecond}
+use Rattle.mlt_text_words.specs.Lines.{Raw}
 use Rattle.mlt_script.specs.Readings.{reading, IsReading}
-use Rattle.mlt_tree.specs.Scripts.{ScriptForm, IsScript, one_more}
+use Rattle.mlt_script_tree.specs.Scripts.{ScriptForm, IsScript, one_more}
 use Rattle.mlt_script.specs.Grammar.{AreScripts, IsSpelled, IsSpelledOpen, IsSpelledScript, AreSpelled, AreSpelledOpen, IsLawful, AreLawful, form_in, forms_of, AreWhole, AreOpen, IsSound, IsFault, IsFirstFaultOf}
 use Rattle.mlt_script.specs.Scan.{State, scan, advance, after, at_end, said, ended, line_fault}
 use Rattle.mlt_script.specs.Scan.State.{Outside, Inside}

@@ -1,36 +1,36 @@
 -- The forms of a line. A function reads from the front of the words, and gives what it read and the words after it.
 use Rattle.std.specs.Prelude.{◌≡◌, ℕ, ◌^◌, List, [], ◌∷◌, Option, Some, None, option_and_then, option_map, nat_lt, if◌then◌else◌}
 use denote.Ref.{Bor}
-use Rattle.mlt_kinds.specs.declared.account.AccountOp.{AccountOp}
-use Rattle.mlt_kinds.specs.declared.account.AccountOp.TheVariants as account
-use Rattle.mlt_kinds.specs.declared.element.ElementOp.{ElementOp}
-use Rattle.mlt_kinds.specs.declared.element.ElementOp.TheVariants as element
-use Rattle.mlt_kinds.specs.declared.counter.CounterOp.{CounterOp}
-use Rattle.mlt_kinds.specs.declared.counter.CounterOp.TheVariants as counter
-use Rattle.mlt_kinds.specs.declared.operation.ObjOp.{ObjOp}
-use Rattle.mlt_kinds.specs.declared.operation.ObjOp.TheVariants.{Account, Element, Counter, Size}
-use Rattle.mlt_kinds.specs.declared.operation.ObjReply.{ObjReply}
-use Rattle.mlt_kinds.specs.declared.operation.ObjReply.TheVariants as reply
+use Rattle.mlt_object_kinds.specs.declared.account.AccountOp.{AccountOp}
+use Rattle.mlt_object_kinds.specs.declared.account.AccountOp.TheVariants as account
+use Rattle.mlt_object_kinds.specs.declared.element.ElementOp.{ElementOp}
+use Rattle.mlt_object_kinds.specs.declared.element.ElementOp.TheVariants as element
+use Rattle.mlt_object_kinds.specs.declared.counter.CounterOp.{CounterOp}
+use Rattle.mlt_object_kinds.specs.declared.counter.CounterOp.TheVariants as counter
+use Rattle.mlt_object_kinds.specs.declared.operation.ObjOp.{ObjOp}
+use Rattle.mlt_object_kinds.specs.declared.operation.ObjOp.TheVariants.{Account, Element, Counter, Size}
+use Rattle.mlt_object_kinds.specs.declared.operation.ObjReply.{ObjReply}
+use Rattle.mlt_object_kinds.specs.declared.operation.ObjReply.TheVariants as reply
 use Rattle.mlt_script.specs.declared.forms.LineForm.{LineForm}
 use Rattle.mlt_script.specs.declared.forms.LineForm.TheVariants.{Begins, Says, Closes}
-use Rattle.mlt_words.specs.declared.keyword.Keyword.{Keyword}
-use Rattle.mlt_words.specs.declared.keyword.Keyword.TheVariants as key
-use Rattle.mlt_words.specs.declared.keyword.Word.{Word}
-use Rattle.mlt_words.specs.declared.keyword.Word.TheVariants.{Key, Variable, Number, Other}
-use Rattle.mlt_words.specs.declared.letter.Letter.{Letter}
-use Rattle.mlt_tree.specs.declared.statement.AmountOp.{AmountOp}
-use Rattle.mlt_tree.specs.declared.statement.AmountOp.TheVariants as amount
-use Rattle.mlt_tree.specs.declared.statement.Asking.{Asking}
-use Rattle.mlt_tree.specs.declared.statement.Asking.TheVariants.{Fixed, By}
-use Rattle.mlt_tree.specs.declared.statement.Wanted.{Wanted}
-use Rattle.mlt_tree.specs.declared.statement.Wanted.TheVariants as wanted
-use Rattle.mlt_tree.specs.declared.statement.Source.{Source}
-use Rattle.mlt_tree.specs.declared.statement.Source.TheVariants as source
-use Rattle.mlt_tree.specs.declared.statement.Ending.TheVariants.{Commit, Abort}
-use Rattle.mlt_tree.specs.declared.statement.Statement.TheVariants.{Ask, Need, Let}
-use Rattle.mlt_tree.specs.declared.statement.Line.TheVariants as line
-use Rattle.mlt_tree.specs.Amounts.{with_amount}
-use Rattle.mlt_words.specs.Words.{words_of, word_at}
+use Rattle.mlt_text_words.specs.declared.keyword.Keyword.{Keyword}
+use Rattle.mlt_text_words.specs.declared.keyword.Keyword.TheVariants as key
+use Rattle.mlt_text_words.specs.declared.keyword.Word.{Word}
+use Rattle.mlt_text_words.specs.declared.keyword.Word.TheVariants.{Key, Variable, Number, Other}
+use Rattle.mlt_text_words.specs.declared.letter.Letter.{Letter}
+use Rattle.mlt_script_tree.specs.declared.statement.AmountOp.{AmountOp}
+use Rattle.mlt_script_tree.specs.declared.statement.AmountOp.TheVariants as amount
+use Rattle.mlt_script_tree.specs.declared.statement.Asking.{Asking}
+use Rattle.mlt_script_tree.specs.declared.statement.Asking.TheVariants.{Fixed, By}
+use Rattle.mlt_script_tree.specs.declared.statement.Wanted.{Wanted}
+use Rattle.mlt_script_tree.specs.declared.statement.Wanted.TheVariants as wanted
+use Rattle.mlt_script_tree.specs.declared.statement.Source.{Source}
+use Rattle.mlt_script_tree.specs.declared.statement.Source.TheVariants as source
+use Rattle.mlt_script_tree.specs.declared.statement.Ending.TheVariants.{Commit, Abort}
+use Rattle.mlt_script_tree.specs.declared.statement.Statement.TheVariants.{Ask, Need, Let}
+use Rattle.mlt_script_tree.specs.declared.statement.Line.TheVariants as line
+use Rattle.mlt_script_tree.specs.Amounts.{with_amount}
+use Rattle.mlt_text_words.specs.Words.{words_of, word_at}
 
 infixl 10 ◌>>=◌
 abbrev pub ◌>>=◌ : {A B : Type 0} → Option A → (A → Option B) → Option B

@@ -4,7 +4,7 @@ use Rattle.mlt_script.specs.declared.open_script.OpenScript.{OpenScript}
 use Rattle.mlt_script.specs.declared.parser.Parser.{Parser}
 use Rattle.mlt_script.specs.Scan.{State}
 use Rattle.mlt_script.specs.Scan.State.{Outside, Inside}
-use Rattle.mlt_tree.specs.Scripts.{ScriptForm, open_of}
+use Rattle.mlt_script_tree.specs.Scripts.{ScriptForm, open_of}
 
 abbrev pub state_with : List ScriptForm → Option OpenScript → State
 state_with scripts None = Outside scripts

@@ -1,19 +1,19 @@
 -- Operations, replies and lines of a plain form, which has one space between words and nothing else.
 use Rattle.std.specs.Prelude.{◌≡◌, ◌<◌, ℕ, ◌^◌, List, ◌∷◌, ◌++◌, length, Some, false}
-use Rattle.mlt_kinds.specs.declared.element.ElementOp.{ElementOp}
-use Rattle.mlt_kinds.specs.declared.operation.ObjOp.{ObjOp}
-use Rattle.mlt_kinds.specs.declared.operation.ObjOp.TheVariants.{Element}
-use Rattle.mlt_kinds.specs.declared.operation.ObjReply.{ObjReply}
+use Rattle.mlt_object_kinds.specs.declared.element.ElementOp.{ElementOp}
+use Rattle.mlt_object_kinds.specs.declared.operation.ObjOp.{ObjOp}
+use Rattle.mlt_object_kinds.specs.declared.operation.ObjOp.TheVariants.{Element}
+use Rattle.mlt_object_kinds.specs.declared.operation.ObjReply.{ObjReply}
 use Rattle.mlt_script.specs.declared.forms.LineForm.{LineForm}
 use Rattle.mlt_script.specs.declared.line.Reading.TheVariants.{Form}
 use Rattle.mlt_script.specs.Forms.{asking_at, op_at, reply_at}
 use Rattle.mlt_script.specs.Readings.{reading}
-use Rattle.mlt_tree.specs.declared.statement.Asking.TheVariants.{Fixed}
-use Rattle.mlt_words.specs.declared.keyword.Keyword.{Keyword}
-use Rattle.mlt_words.specs.declared.keyword.Word.{Word}
-use Rattle.mlt_words.specs.declared.keyword.Word.TheVariants.{Number}
-use Rattle.mlt_words.specs.Fronts.{BeginsWithWords, TextIs}
-use Rattle.mlt_words.specs.Lines.{Raw, is_comment, lines}
+use Rattle.mlt_script_tree.specs.declared.statement.Asking.TheVariants.{Fixed}
+use Rattle.mlt_text_words.specs.declared.keyword.Keyword.{Keyword}
+use Rattle.mlt_text_words.specs.declared.keyword.Word.{Word}
+use Rattle.mlt_text_words.specs.declared.keyword.Word.TheVariants.{Number}
+use Rattle.mlt_text_words.specs.Fronts.{BeginsWithWords, TextIs}
+use Rattle.mlt_text_words.specs.Lines.{Raw, is_comment, lines}
 
 -- the text begins with the words that follow the keyword in this operation, and then comes the rest
 abbrev pub GoesOnWithOp : Keyword → List ℕ → ObjOp → List ℕ → Type 0

@@ -4,15 +4,15 @@ use Rattle.std.specs.List.{list_all}
 use Rattle.mlt_types.specs.declared.refusal.ScriptCause.TheVariants as cause
 use Rattle.mlt_script.specs.declared.forms.LineForm.{LineForm}
 use Rattle.mlt_script.specs.declared.forms.LineForm.TheVariants.{Begins}
-use Rattle.mlt_words.specs.declared.keyword.Word.{Word}
+use Rattle.mlt_text_words.specs.declared.keyword.Word.{Word}
 use denote.Ref.{Bor}
 use Rattle.mlt_script.specs.declared.line.Unread.{Unread}
 use Rattle.mlt_script.specs.declared.line.Unread.TheVariants as unread_line
 use Rattle.mlt_script.specs.declared.line.Reading.{Reading}
 use Rattle.mlt_script.specs.declared.line.Reading.TheVariants.{Bad, Skip, Form}
 use Rattle.mlt_script.specs.Forms.{form_of}
-use Rattle.mlt_words.specs.Lines.{Raw, content, is_comment, is_allowed}
-use Rattle.mlt_words.specs.Words.{words_of}
+use Rattle.mlt_text_words.specs.Lines.{Raw, content, is_comment, is_allowed}
+use Rattle.mlt_text_words.specs.Words.{words_of}
 
 abbrev pub form_or_fault : Option LineForm → Reading
 form_or_fault (Some form) = Form form

@@ -2,11 +2,11 @@
 
 ghost use Rattle.std.specs.Prelude.{◌≡◌};
 ghost use Rattle.mlt_script.specs.Forms.{Reads, number_below, letter_at, asking_is_at, source_at, finish, begin_form, let_form, need_form, if_form, ask_form, key_form, form_of};
-ghost use Rattle.mlt_words.specs.Words.{words_of};
+ghost use Rattle.mlt_text_words.specs.Words.{words_of};
 
 use crate::operations::{asking, keyword, number_16, number_32, wanted};
-use mlt_tree::{Asking, Ending, Line, Source, Statement, Wanted};
-use mlt_words::{Keyword, Letter, Word, has_word, next_number, next_word};
+use mlt_script_tree::{Asking, Ending, Line, Source, Statement, Wanted};
+use mlt_text_words::{Keyword, Letter, Word, has_word, next_number, next_word};
 
 /// What a line says.
 #[derive(Clone, Copy)]

@@ -2,14 +2,14 @@
 
 ghost use Rattle.std.specs.Prelude.{◌≡◌, ◌<◌, ◌∷◌, length, true};
 ghost use Rattle.std.specs.List.{list_all};
-ghost use Rattle.mlt_words.specs.Lines.{Raw, lines, is_allowed};
+ghost use Rattle.mlt_text_words.specs.Lines.{Raw, lines, is_allowed};
 ghost use Rattle.mlt_script.specs.Readings.{reading, said_by, Judges};
-ghost use Rattle.mlt_words.specs.Words.{words_of};
+ghost use Rattle.mlt_text_words.specs.Words.{words_of};
 
 use crate::forms::{LineForm, line_form};
 use crate::plain::frame_line;
 use mlt_types::ScriptCause;
-use mlt_words::{
+use mlt_text_words::{
     first_line, first_printable_line, has_word, is_allowed_line, is_comment_line, trimmed,
 };
 

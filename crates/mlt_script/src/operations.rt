@@ -2,11 +2,11 @@
 
 ghost use Rattle.std.specs.Prelude.{◌≡◌, ◌≤◌, ◌^◌};
 ghost use Rattle.mlt_script.specs.Forms.{Reads, key_at, number_below, amount_at, account_at, element_at, counter_at, set_size_at, deposit_at, withdraw_at, up_at, down_at, asking_at, op_at, reply_word, reply_at, wanted_at};
-ghost use Rattle.mlt_words.specs.Words.{words_of};
+ghost use Rattle.mlt_text_words.specs.Words.{words_of};
 
-use mlt_kinds::{AccountOp, CounterOp, ElementOp, ObjOp, ObjReply};
-use mlt_tree::{AmountOp, Asking, Wanted};
-use mlt_words::{Keyword, Word, next_number, next_word};
+use mlt_object_kinds::{AccountOp, CounterOp, ElementOp, ObjOp, ObjReply};
+use mlt_script_tree::{AmountOp, Asking, Wanted};
+use mlt_text_words::{Keyword, Word, next_number, next_word};
 
 /// A keyword.
 #[tactic(auto, unfolding(crate::specs::Forms::key_at))]

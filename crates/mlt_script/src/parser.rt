@@ -3,17 +3,17 @@
 ghost use Rattle.std.specs.Prelude.{◌≡◌, ◌≤◌, ◌<◌, ◌⊎◌, ℕ, List, length, IfOk, IfErr, IsErrAnd, MatchResult, [], Err};
 ghost use Rattle.mlt_types.specs.declared.refusal.ScriptCause.{ScriptCause};
 ghost use Rattle.mlt_script.specs.Grammar.{Spells, IsFirstFault, IsDecided};
-ghost use Rattle.mlt_words.specs.Lines.{lines};
+ghost use Rattle.mlt_text_words.specs.Lines.{lines};
 ghost use Rattle.mlt_script.specs.Readings.{IsReading};
 ghost use Rattle.mlt_script.specs.Scan.{scan, step, ended, advance, at_end, Gives, Advances};
 ghost use Rattle.mlt_script.specs.Scan.State.{Outside, Inside};
-ghost use Rattle.mlt_tree.specs.Scripts.{ScriptForm, open_of};
+ghost use Rattle.mlt_script_tree.specs.Scripts.{ScriptForm, open_of};
 
 use crate::forms::LineForm;
 use crate::line::{Reading, read_first};
 use crate::open_script::OpenScript;
 use crate::plain::op_line;
-use mlt_tree::{Asking, Ending, Line, Script, Statement};
+use mlt_script_tree::{Asking, Ending, Line, Script, Statement};
 use mlt_types::{Refusal, ScriptCause};
 use std::alloc::Global;
 

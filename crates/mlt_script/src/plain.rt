@@ -3,17 +3,17 @@
 
 ghost use Rattle.std.specs.Prelude.{◌≡◌, ◌<◌, ◌^◌, ◌++◌, ◌∷◌, [], length, IfSome};
 ghost use Rattle.mlt_script.specs.Plain.{AsksElement, BeginsWithForm, BeginsWithOp, BeginsWithReply, GoesOnWithOp};
-ghost use Rattle.mlt_words.specs.Fronts.{BeginsWithWords};
-ghost use Rattle.mlt_words.specs.Words.{spelling};
+ghost use Rattle.mlt_text_words.specs.Fronts.{BeginsWithWords};
+ghost use Rattle.mlt_text_words.specs.Words.{spelling};
 
 use crate::forms::LineForm;
 use crate::operations::reply;
-use mlt_kinds::{AccountOp, CounterOp, ElementOp, ObjOp, ObjReply};
-use mlt_tree::{Asking, Ending, Line, Statement};
-use mlt_words::{Keyword, Word, after, front_number};
+use mlt_object_kinds::{AccountOp, CounterOp, ElementOp, ObjOp, ObjReply};
+use mlt_script_tree::{Asking, Ending, Line, Statement};
+use mlt_text_words::{Keyword, Word, after, front_number};
 
 // A number below 2^64, and the text behind it.
-#[tactic(auto, using(mlt_words::proofs::Fronts::number_words))]
+#[tactic(auto, using(mlt_text_words::proofs::Fronts::number_words))]
 fn number_64(text: &[u8]) -> Option<(u64, &[u8])>
     ensures { IfSome result (λ x. BeginsWithWords text.now (Word.Number x.0 ∷ []) 20 x.1.now) }
 {

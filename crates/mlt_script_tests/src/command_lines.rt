@@ -1,8 +1,8 @@
 //! The command line, what is said of it, and the line that tells of a fault. What the program makes of other command
 //! lines is tested of the built program.
 
-use mlt_command_line::{Job, command_line_status, read_words, report_command_line};
-use mlt_fault_line::{report_fault, status};
+use mlt_cli::{Job, command_line_status, read_words, report_command_line};
+use mlt_cli_fault::{report_fault, status};
 use mlt_test_tools::{FaultyWriter, KINDS, same};
 use mlt_types::{Refusal, ScriptCause};
 use std::alloc::Global;

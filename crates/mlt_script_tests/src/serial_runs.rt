@@ -1,7 +1,7 @@
 //! Runs one after another, and texts of reports.
 
 use mlt_script::parse;
-use mlt_serial::{Form, serial, write_report};
+use mlt_script_serial::{Form, serial, write_report};
 use mlt_test_tools::same_at;
 use std::alloc::Global;
 use std::test::Fail;

@@ -4,10 +4,10 @@ use Rattle.std.specs.Prelude.{All, Option, Some, None, Result, Ok, Err, IfOk, If
 use Rattle.std.proofs.lemmas.List.Elements.{All-append, All-nil, All-push}
 use Rattle.mlt_types.specs.declared.refusal.Refusal.{Refusal}
 use Rattle.mlt_types.specs.declared.refusal.Refusal.TheVariants as refusal
-use Rattle.mlt_wire.specs.Desks.{Moves}
-use Rattle.mlt_wire.specs.Talks.{Turn}
-use Rattle.mlt_wire.specs.Receipts.{begins_by, begun_in, call_of, receipt_if, receipt_of, receipts_of}
-use Rattle.mlt_wire.specs.Sessions.{BrokenOff, HeardAll, Scene, SpokenLong, Summed}
+use Rattle.mlt_serve_session.specs.Desks.{Moves}
+use Rattle.mlt_serve_session.specs.Talks.{Turn}
+use Rattle.mlt_serve_session.specs.Receipts.{begins_by, begun_in, call_of, receipt_if, receipt_of, receipts_of}
+use Rattle.mlt_serve_session.specs.Sessions.{BrokenOff, HeardAll, Scene, SpokenLong, Summed}
 use Rattle.mlt_serve.specs.Clients.{GrowsFor, IsOf}
 
 one_of_client : (client number : ℕ) (began : Option ℕ) (behind : List Turn) → All (IsOf client) (receipt_if client number began behind)

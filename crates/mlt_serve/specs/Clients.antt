@@ -1,6 +1,6 @@
 -- Whose receipts they are, and how they stand.
 use Rattle.std.specs.Prelude.{◌≡◌, ◌⊎◌, ℕ, ◌<◌, ◌≤◌, ◌++◌, List, All, AllPairs}
-use Rattle.mlt_serial.specs.declared.outcome.Outcome.{Outcome}
+use Rattle.mlt_script_serial.specs.declared.outcome.Outcome.{Outcome}
 
 -- the receipt is that of this client
 abbrev pub IsOf : ℕ → Outcome → Type 0

@@ -1,7 +1,7 @@
 -- What all threads have served.
 use Rattle.std.specs.Prelude.{◌≡◌, List, All, false}
 use Rattle.std.specs.List.{flat_map}
-use Rattle.mlt_serial.specs.declared.outcome.Outcome.{Outcome}
+use Rattle.mlt_script_serial.specs.declared.outcome.Outcome.{Outcome}
 use Rattle.mlt_serve.specs.declared.desk_work.Served.{Served}
 
 abbrev pub receipts_of : {L : Type 0} → Served L → List Outcome

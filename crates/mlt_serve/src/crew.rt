@@ -5,7 +5,7 @@ ghost use Rattle.std.specs.Prelude.{◌≡◌, ◌<◌, vec_len};
 use crate::accepting::{Accepting, accept_all};
 use crate::desk_work::Served;
 use crate::service::Service;
-use mlt_lock_desk::MadeWith;
+use mlt_work_desk::MadeWith;
 use mlt_types::Pseudo;
 use std::alloc::Global;
 use std::net::TcpListener;

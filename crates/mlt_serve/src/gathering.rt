@@ -4,7 +4,7 @@ ghost use Rattle.std.specs.Prelude.{◌≡◌, ◌+◌, ◌-◌, ◌*◌, ◌^�
 ghost use Rattle.mlt_serve.specs.Crews.{AllHaveMemory, all_receipts};
 
 use crate::desk_work::Served;
-use mlt_serial::Outcome;
+use mlt_script_serial::Outcome;
 use std::alloc::{AllocError, Global};
 use std::mem;
 use std::sync::ledger::{Ledger, Share};

@@ -3,7 +3,7 @@
 use crate::socket::Socket;
 use crate::turnstile::Turnstile;
 use mlt_event::{Answer, Told};
-use mlt_lock_desk::{Gate, is_to_wait};
+use mlt_work_desk::{Gate, is_to_wait};
 use std::cell::Cell;
 use std::io;
 use std::io::{Read, Write};

@@ -1,15 +1,15 @@
 //! The receipts, once all connections are served.
 
 ghost use Rattle.std.specs.Prelude.{◌≡◌, ◌↔◌, IfErr, IsOkUnless, IfOk, IsPermutation, IsTrue, Err, true, false};
-ghost use Rattle.mlt_audit.specs.Agreement.{Agrees};
+ghost use Rattle.mlt_trace_audit.specs.Agreement.{Agrees};
 ghost use Rattle.mlt_serve.specs.Clients.{AreByClientAndNumber, AreOfClients, IsOfClient};
 ghost use Rattle.mlt_serve.specs.Endings.{outcome_of};
 
 use crate::accepting::Accepting;
 use crate::gathering::Gathered;
-use mlt_audit::audit;
+use mlt_trace_audit::audit;
 use mlt_manager::Manager;
-use mlt_serial::{Outcome, Outcomes};
+use mlt_script_serial::{Outcome, Outcomes};
 use mlt_types::{Pseudo, Refusal};
 use std::alloc::Global;
 

@@ -2,7 +2,7 @@
 
 use crate::lookout::Lookout;
 use crate::turnstile::Turnstile;
-use mlt_lock_desk::{MadeWith, Shared};
+use mlt_work_desk::{MadeWith, Shared};
 use mlt_types::Pseudo;
 use std::time::Duration;
 

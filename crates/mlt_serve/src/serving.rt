@@ -2,8 +2,8 @@
 
 ghost use Rattle.std.specs.Prelude.{◌≡◌, ◌⊎◌, ◌<◌, ◌≤◌, IfErr, IfOk, Some};
 ghost use Rattle.mlt_manager.specs.Openings.{IsMadeWith};
-ghost use Rattle.mlt_lock_desk.specs.Makings.{making_by};
-ghost use Rattle.mlt_audit.specs.Agreement.{Agrees};
+ghost use Rattle.mlt_work_desk.specs.Makings.{making_by};
+ghost use Rattle.mlt_trace_audit.specs.Agreement.{Agrees};
 ghost use Rattle.mlt_serve.specs.Clients.{AreByClientAndNumber, AreOfClients};
 
 use crate::crew::serve_connections;
@@ -12,9 +12,9 @@ use crate::lookout::Lookout;
 use crate::reporting::receipts_of;
 use crate::service::Service;
 use crate::turnstile::Turnstile;
-use mlt_lock_desk::{Hall, MadeWith, Shared};
+use mlt_work_desk::{Hall, MadeWith, Shared};
 use mlt_manager::Manager;
-use mlt_serial::Outcomes;
+use mlt_script_serial::Outcomes;
 use mlt_types::{Limits, Pseudo, Refusal};
 use std::alloc::Global;
 use std::marker::Brand;

@@ -4,10 +4,10 @@ ghost use Rattle.mlt_serve.specs.Clients.{GrowsFor};
 
 use crate::passage::{Outside, Passage};
 use crate::socket::Socket;
-use mlt_desk::Desk;
-use mlt_serial::Outcome;
+use mlt_script_desk::Desk;
+use mlt_script_serial::Outcome;
 use mlt_types::Refusal;
-use mlt_wire::session;
+use mlt_serve_session::session;
 use std::alloc::Global;
 use std::sync::Wait;
 use std::time::Clock;

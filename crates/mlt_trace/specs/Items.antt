@@ -1,7 +1,7 @@
 -- The texts of the items of a history: the lines of a trace.
 use Rattle.std.specs.Prelude.{ℕ, List, [], ◌∷◌, ◌++◌, codes}
 use Rattle.std.specs.List.{flat_map}
-use Rattle.mlt_kinds.specs.Texts.{with_number, done_text}
+use Rattle.mlt_object_kinds.specs.Texts.{with_number, done_text}
 use Rattle.mlt_trace.specs.declared.item.TraceItem.{TraceItem}
 use Rattle.mlt_trace.specs.declared.item.TraceItem.TheVariants.{Begin, Op, Back, Commit, Abort}
 

@@ -1,6 +1,6 @@
 -- Items as a history keeps them.
 use Rattle.std.specs.Prelude.{ℕ}
-use Rattle.mlt_kinds.specs.Packing.{op_of, reply_of}
+use Rattle.mlt_object_kinds.specs.Packing.{op_of, reply_of}
 use Rattle.mlt_trace.specs.declared.item.TraceItem.{TraceItem}
 use Rattle.mlt_trace.specs.declared.item.TraceItem.TheVariants as item
 use Rattle.mlt_trace.specs.declared.kept.Form.{Form}

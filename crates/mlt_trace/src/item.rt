@@ -1,6 +1,6 @@
 //! Items of a history.
 
-use mlt_kinds::Done;
+use mlt_object_kinds::Done;
 use mlt_types::TxId;
 use std::fmt;
 

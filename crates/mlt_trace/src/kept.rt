@@ -1,11 +1,11 @@
 //! Items as a history keeps them.
 
 ghost use Rattle.std.specs.Prelude.{◌≡◌, ℕ};
-ghost use Rattle.mlt_kinds.specs.Packing.{op_in, reply_in};
+ghost use Rattle.mlt_object_kinds.specs.Packing.{op_in, reply_in};
 ghost use Rattle.mlt_trace.specs.Keeping.{item_in};
 
 use crate::item::TraceItem;
-use mlt_kinds::{Done, OpKind, Packed, ReplyKind};
+use mlt_object_kinds::{Done, OpKind, Packed, ReplyKind};
 use mlt_types::TxId;
 use std::fmt;
 use std::marker::Model;

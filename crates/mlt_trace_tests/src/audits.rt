@@ -2,10 +2,10 @@
 //! that `docs/DEFINITIONS.md` has of it.
 
 use Item::{Abort, Back, Begin, Commit, Op};
-use mlt_audit::audit;
-use mlt_kinds::{AccountOp, CounterOp, Done, ObjOp, ObjReply};
-use mlt_serial::End::{Aborted, Committed, Refused};
-use mlt_serial::{End, Outcome, Transcript};
+use mlt_trace_audit::audit;
+use mlt_object_kinds::{AccountOp, CounterOp, Done, ObjOp, ObjReply};
+use mlt_script_serial::End::{Aborted, Committed, Refused};
+use mlt_script_serial::{End, Outcome, Transcript};
 use mlt_test_tools::same_at;
 use mlt_trace::{KeptItem, TraceItem};
 use mlt_types::{Refusal, TxId};
@@ -110,7 +110,7 @@ const TRIES_SPENT: &[Row] = &[
     ),
 ];
 
-// `mlt_desk_tests` has the other part of the row `tries-spent`.
+// `mlt_serve_tests` has the other part of the row `tries-spent`.
 #[test]
 fn tries_spent(rt: HostRuntime) -> Result<(), Fail> {
     are_audited(rt.alloc(), TRIES_SPENT)

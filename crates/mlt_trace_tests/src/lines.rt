@@ -1,6 +1,6 @@
 //! The text of a history whose lines are as long as lines can be.
 
-use mlt_kinds::{AccountOp, Done, ObjOp, ObjReply};
+use mlt_object_kinds::{AccountOp, Done, ObjOp, ObjReply};
 use mlt_test_tools::same;
 use mlt_trace::{KeptItem, TraceItem, write_trace};
 use mlt_types::TxId;

@@ -4,19 +4,19 @@ use Rattle.std.specs.Prelude.{All}
 use Rattle.std.proofs.lemmas.List.Elements.{All-cons, All-nil}
 use Rattle.mlt_types.specs.declared.refusal.Refusal.{Refusal}
 use Rattle.mlt_types.specs.declared.refusal.Refusal.TheVariants as refusal
-use Rattle.mlt_kinds.specs.Bases.{Transcript}
-use Rattle.mlt_tree.specs.declared.statement.Ending.{Ending}
-use Rattle.mlt_tree.specs.declared.statement.Ending.TheVariants.{Commit, Abort}
-use Rattle.mlt_tree.specs.Scripts.{ScriptForm}
-use Rattle.mlt_cursor.specs.Plays.{OnOperation, PlaysAt}
-use Rattle.mlt_serial.specs.declared.outcome.End.{End}
-use Rattle.mlt_serial.specs.declared.outcome.End.TheVariants.{Committed, Aborted, Refused}
-use Rattle.mlt_serial.specs.declared.outcome.Outcome.{Outcome}
-use Rattle.mlt_desk.specs.Clients.{AreRunsAt, IsServedAt}
-use Rattle.mlt_desk.specs.Runs.{ClosesAs, OnAbort, OnBegin, OnCommit, refusal_of_script}
-use Rattle.mlt_lock_desk.specs.Holds.{MayAnswerBegin, MayAnswerCommit, MayAnswerOperation}
-use Rattle.mlt_lock_desk.specs.Refusals.{IsOfBegin, IsOfCommit, IsOfOperation}
-use Rattle.mlt_places.specs.Places.{IsScriptEnd, IsScriptRefusal}
+use Rattle.mlt_object_kinds.specs.Bases.{Transcript}
+use Rattle.mlt_script_tree.specs.declared.statement.Ending.{Ending}
+use Rattle.mlt_script_tree.specs.declared.statement.Ending.TheVariants.{Commit, Abort}
+use Rattle.mlt_script_tree.specs.Scripts.{ScriptForm}
+use Rattle.mlt_script_cursor.specs.Plays.{OnOperation, PlaysAt}
+use Rattle.mlt_script_serial.specs.declared.outcome.End.{End}
+use Rattle.mlt_script_serial.specs.declared.outcome.End.TheVariants.{Committed, Aborted, Refused}
+use Rattle.mlt_script_serial.specs.declared.outcome.Outcome.{Outcome}
+use Rattle.mlt_script_desk.specs.Clients.{AreRunsAt, IsServedAt}
+use Rattle.mlt_script_desk.specs.Runs.{ClosesAs, OnAbort, OnBegin, OnCommit, refusal_of_script}
+use Rattle.mlt_work_desk.specs.Holds.{MayAnswerBegin, MayAnswerCommit, MayAnswerOperation}
+use Rattle.mlt_work_desk.specs.Refusals.{IsOfBegin, IsOfCommit, IsOfOperation}
+use Rattle.mlt_work_places.specs.Places.{IsScriptEnd, IsScriptRefusal}
 
 begin_refuses : (r : Refusal) → IsOfBegin r → IsScriptRefusal r
 begin_refuses refusal.TooManyOpen h = tt

@@ -1,13 +1,13 @@
 -- What the scripts of clients have done, once they were run side by side.
 use Rattle.std.specs.Prelude.{◌≡◌, List}
-use Rattle.mlt_tree.specs.Scripts.{ScriptForm}
-use Rattle.mlt_serial.specs.declared.report.Report.{Report}
-use Rattle.mlt_audit.specs.Agreement.{Agrees}
-use Rattle.mlt_audit.specs.Committed.{IsBaseOfReceipts}
+use Rattle.mlt_script_tree.specs.Scripts.{ScriptForm}
+use Rattle.mlt_script_serial.specs.declared.report.Report.{Report}
+use Rattle.mlt_trace_audit.specs.Agreement.{Agrees}
+use Rattle.mlt_trace_audit.specs.Committed.{IsBaseOfReceipts}
 use Rattle.mlt_manager.specs.Managers.{ManagerFields}
 use Rattle.mlt_manager.specs.Openings.{IsMadeWith}
 use Rattle.mlt_types.specs.declared.limits.Limits.{Limits}
-use Rattle.mlt_places.specs.Places.{AreAllOutcomes}
+use Rattle.mlt_work_places.specs.Places.{AreAllOutcomes}
 
 -- The report of the scripts of each client, which were run on this manager, made with these limits and this function from
 -- keys to pseudokeys.

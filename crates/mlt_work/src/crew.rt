@@ -1,14 +1,14 @@
 //! All workers.
 
 ghost use Rattle.std.specs.Prelude.{◌≡◌, All, IfOk, length, vec_len};
-ghost use Rattle.mlt_places.specs.Places.{scripts_of_clients};
-ghost use Rattle.mlt_places.specs.Workers.{HasWorked, IsFresh};
+ghost use Rattle.mlt_work_places.specs.Places.{scripts_of_clients};
+ghost use Rattle.mlt_work_places.specs.Workers.{HasWorked, IsFresh};
 
 use crate::worker::work;
-use mlt_claims::Counter;
-use mlt_lock_desk::{Gate, MadeWith, Shared};
-use mlt_places::{Job, Worked};
-use mlt_tree::Script;
+use mlt_work_claims::Counter;
+use mlt_work_desk::{Gate, MadeWith, Shared};
+use mlt_work_places::{Job, Worked};
+use mlt_script_tree::Script;
 use mlt_types::Pseudo;
 use std::alloc::{AllocError, Global};
 use std::sync::Wait;

@@ -1,18 +1,18 @@
 //! The scripts of all clients, by several workers.
 
 ghost use Rattle.std.specs.Prelude.{◌≡◌, ◌≤◌, ◌<◌, ◌⊎◌, IfErr, IfOk, Some};
-ghost use Rattle.mlt_lock_desk.specs.Makings.{making_by};
-ghost use Rattle.mlt_places.specs.Places.{scripts_of_clients};
+ghost use Rattle.mlt_work_desk.specs.Makings.{making_by};
+ghost use Rattle.mlt_work_places.specs.Places.{scripts_of_clients};
 ghost use Rattle.mlt_work.specs.Runs.{HasRunAll};
 
 use crate::crew::work_all;
 use crate::reporting::report_of;
-use mlt_claims::Counter;
-use mlt_lock_desk::{Gate, Hall, MadeWith, Shared};
+use mlt_work_claims::Counter;
+use mlt_work_desk::{Gate, Hall, MadeWith, Shared};
 use mlt_manager::Manager;
-use mlt_places::{collect, empty_slots, jobs_for};
-use mlt_serial::Report;
-use mlt_tree::Script;
+use mlt_work_places::{collect, empty_slots, jobs_for};
+use mlt_script_serial::Report;
+use mlt_script_tree::Script;
 use mlt_types::{Limits, Pseudo, Refusal};
 use std::alloc::Global;
 use std::marker::Brand;

@@ -1,7 +1,7 @@
 //! Which worker is at work.
 
 use mlt_event::{Answer, Told};
-use mlt_lock_desk::Gate;
+use mlt_work_desk::Gate;
 use std::hint::spin_loop;
 use std::sync::atomic::{AtomicU64, Ordering};
 use std::sync::{Mutex, Wait};

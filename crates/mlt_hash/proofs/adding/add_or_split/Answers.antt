@@ -6,12 +6,12 @@ use Rattle.mlt_types.specs.declared.refusal.Refusal.TheVariants as refusal
 use Rattle.mlt_page.specs.Slots.{is_live_of}
 use Rattle.mlt_page.specs.declared.page.Page.TheVariants as page
 use Rattle.mlt_page.specs.declared.slot.Slot.TheVariants.{Live}
-use Rattle.mlt_held.specs.Moments.{HasFileOver, Moment, moment}
-use Rattle.mlt_held.specs.Views.{view_over}
-use Rattle.mlt_record.specs.Plans.{IsNowhere, SetsFirst, has_room}
-use Rattle.mlt_split.specs.Splits.{HasHalves, IsUnderWay, MayBegin}
-use Rattle.mlt_split.specs.Rests.{Aim, IsAtRest}
-use Rattle.mlt_split.proofs.HeldPages.{clean_now}
+use Rattle.mlt_hash_access.specs.Moments.{HasFileOver, Moment, moment}
+use Rattle.mlt_hash_access.specs.Views.{view_over}
+use Rattle.mlt_hash_record.specs.Plans.{IsNowhere, SetsFirst, has_room}
+use Rattle.mlt_hash_split.specs.Splits.{HasHalves, IsUnderWay, MayBegin}
+use Rattle.mlt_hash_split.specs.Rests.{Aim, IsAtRest}
+use Rattle.mlt_hash_split.proofs.HeldPages.{clean_now}
 use Rattle.mlt_hash.specs.Walks.{Basis, WalkFields, aim_of, basis_in, view_for}
 use Rattle.mlt_hash.specs.Splitting.{TellsOfAdding, walk_step}
 use Rattle.mlt_hash.specs.declared.pass.Phase.TheVariants as at

@@ -1,4 +1,4 @@
-use Rattle.mlt_split.specs.Rests.{aim_by}
+use Rattle.mlt_hash_split.specs.Rests.{aim_by}
 use Rattle.mlt_hash.proofs.adding.add_or_split.Given as goal
 
 abbrev pub ghost-begin : goal.ghost-begin

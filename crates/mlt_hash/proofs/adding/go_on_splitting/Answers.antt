@@ -1,10 +1,10 @@
 use Rattle.std.proofs.Common.{◌≡◌, false, Option, Some, ap, sym, subst, ◌∙◌, inl, inr}
-use Rattle.mlt_held.specs.Moments.{moment}
-use Rattle.mlt_held.specs.Views.{view_over}
-use Rattle.mlt_split.specs.Rests.{Aim}
-use Rattle.mlt_split.specs.Splits.{MayAdvance, SplitFields, steps_left}
-use Rattle.mlt_split.specs.Steps.{IsDone, IsNextPage}
-use Rattle.mlt_split.specs.Tells.{GoesOn, Rests}
+use Rattle.mlt_hash_access.specs.Moments.{moment}
+use Rattle.mlt_hash_access.specs.Views.{view_over}
+use Rattle.mlt_hash_split.specs.Rests.{Aim}
+use Rattle.mlt_hash_split.specs.Splits.{MayAdvance, SplitFields, steps_left}
+use Rattle.mlt_hash_split.specs.Steps.{IsDone, IsNextPage}
+use Rattle.mlt_hash_split.specs.Tells.{GoesOn, Rests}
 use Rattle.mlt_hash.specs.Walks.{Basis, WalkFields}
 use Rattle.mlt_hash.specs.declared.pass.Phase.TheVariants as at
 use Rattle.mlt_hash.proofs.Splittings.{may_advance, no_room_in_split, refused_alike, split_closes_walk, split_goes_on, split_is_refused}

@@ -1,7 +1,7 @@
 use Rattle.std.proofs.Common.{◌≡◌, is_some, true, ap, refl, sym, ◌∙◌}
 use Rattle.std.proofs.lemmas.Bool.{false≢true}
 use Rattle.mlt_page.specs.Values.{BucketFields}
-use Rattle.mlt_held.specs.Moments.{Moment, moment}
+use Rattle.mlt_hash_access.specs.Moments.{Moment, moment}
 use Rattle.mlt_hash.specs.Walks.{Basis, WalkFields, basis_in, view_for}
 use Rattle.mlt_hash.specs.Changes.{IsFull, directory_depth_of}
 use Rattle.mlt_hash.specs.declared.pass.Pass.TheVariants as pass

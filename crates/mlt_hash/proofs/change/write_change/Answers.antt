@@ -1,8 +1,8 @@
 use Rattle.std.proofs.Common.{subst}
 use Rattle.mlt_page.specs.Pages.{page_with_slot}
-use Rattle.mlt_held.specs.Moments.{Moment, moment}
-use Rattle.mlt_held.specs.PageSteps.{WritesHeldSlot}
-use Rattle.mlt_record.specs.Plans.{WriteFields}
+use Rattle.mlt_hash_access.specs.Moments.{Moment, moment}
+use Rattle.mlt_hash_access.specs.PageSteps.{WritesHeldSlot}
+use Rattle.mlt_hash_record.specs.Plans.{WriteFields}
 use Rattle.mlt_hash.specs.declared.pass.Phase.TheVariants as at
 use Rattle.mlt_hash.proofs.change.write_change.Goals as goal
 

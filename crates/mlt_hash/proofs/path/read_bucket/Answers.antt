@@ -2,10 +2,10 @@ use Rattle.std.proofs.Common.{◌≡◌, ◌+◌, Some, is_some, ap, subst, ◌�
 use Rattle.mlt_page.specs.Values.{BucketFields}
 use Rattle.mlt_page.specs.declared.page.Page.{Page}
 use Rattle.mlt_page.specs.declared.page.Page.TheVariants as page
-use Rattle.mlt_held.specs.Moments.{Moment, moment}
-use Rattle.mlt_held.specs.Views.{ReadsPage, view_of}
-use Rattle.mlt_held.proofs.Rebased.{rebased_reads_page}
-use Rattle.mlt_held.proofs.Views.{reads_after_lock, reads_seen}
+use Rattle.mlt_hash_access.specs.Moments.{Moment, moment}
+use Rattle.mlt_hash_access.specs.Views.{ReadsPage, view_of}
+use Rattle.mlt_hash_access.proofs.Rebased.{rebased_reads_page}
+use Rattle.mlt_hash_access.proofs.Views.{reads_after_lock, reads_seen}
 use Rattle.mlt_hash_form.specs.Form.{value_in}
 use Rattle.mlt_hash_form.specs.Held.{over}
 use Rattle.mlt_hash.specs.Passes.{bucket_mode}

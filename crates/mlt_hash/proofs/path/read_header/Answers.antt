@@ -3,10 +3,10 @@ use Rattle.mlt_page.specs.Bits.{first_bits}
 use Rattle.mlt_page.specs.Values.{HeadFields}
 use Rattle.mlt_page.specs.declared.page.Page.{Page}
 use Rattle.mlt_page.specs.declared.page.Page.TheVariants as page
-use Rattle.mlt_held.specs.Moments.{HasCleanFile, Moment, moment, no_writes}
-use Rattle.mlt_held.specs.Views.{ReadsPage, view_of}
-use Rattle.mlt_held.proofs.Since.{unwritten_anew}
-use Rattle.mlt_held.proofs.Views.{reads_after_lock, reads_seen}
+use Rattle.mlt_hash_access.specs.Moments.{HasCleanFile, Moment, moment, no_writes}
+use Rattle.mlt_hash_access.specs.Views.{ReadsPage, view_of}
+use Rattle.mlt_hash_access.proofs.Since.{unwritten_anew}
+use Rattle.mlt_hash_access.proofs.Views.{reads_after_lock, reads_seen}
 use Rattle.mlt_hash.specs.Passes.{header_mode}
 use Rattle.mlt_hash.specs.Walks.{Before, IsAtStart, MayWalk, WalkFields, basis_after, nothing_before, one_key, view_for}
 use Rattle.mlt_hash.specs.declared.pass.Phase.TheVariants as at

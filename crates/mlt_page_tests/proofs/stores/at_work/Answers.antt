@@ -1,10 +1,10 @@
 use Rattle.std.proofs.Common.{ap, sym, subst, ◌∙◌}
 use Rattle.mlt_page_locks.specs.LockTables.{LockTable, HasAtMost}
 use Rattle.mlt_page_locks.proofs.LockLaws.{few_none}
-use Rattle.mlt_subtx.specs.Images.{Running, AreThere}
-use Rattle.mlt_subtx.proofs.ImageLaws.{there_none}
-use Rattle.mlt_subtx.specs.Locking.{LocksPagesThere}
-use Rattle.mlt_subtx.proofs.LockedPages.{locks_there-none}
+use Rattle.mlt_page_subtx.specs.Images.{Running, AreThere}
+use Rattle.mlt_page_subtx.proofs.ImageLaws.{there_none}
+use Rattle.mlt_page_subtx.specs.Locking.{LocksPagesThere}
+use Rattle.mlt_page_subtx.proofs.LockedPages.{locks_there-none}
 use Rattle.mlt_page_tests.proofs.stores.at_work.Goals as goal
 
 pub invariant_of-result : goal.invariant_of-result

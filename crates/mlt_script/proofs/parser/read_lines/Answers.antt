@@ -1,6 +1,6 @@
 use Rattle.std.proofs.Common.{◌≡◌, ◌+◌, length, [], Err, ap, sym, subst, ◌∙◌, rules, arith}
 use Rattle.std.proofs.lemmas.Result.{err_from_is_err_and}
-use Rattle.mlt_words.specs.Lines.{lines}
+use Rattle.mlt_text_words.specs.Lines.{lines}
 use Rattle.mlt_script.specs.Parsers.{state_of}
 use Rattle.mlt_script.specs.Readings.{IsReading}
 use Rattle.mlt_script.specs.Scan.{scan, advance, Advances, Gives}

@@ -1,5 +1,5 @@
 use Rattle.std.proofs.Common.{◌≡◌, ◌≤◌, ◌+◌, [], length}
-use Rattle.mlt_words.specs.Lines.{lines}
+use Rattle.mlt_text_words.specs.Lines.{lines}
 use Rattle.mlt_script.specs.Parsers.{state_of}
 use Rattle.mlt_script.specs.Scan.{scan}
 use Rattle.mlt_script.specs.Scan.State.{Outside}

@@ -1,6 +1,6 @@
 use Rattle.std.proofs.Common.{[], ◌∷◌}
-use Rattle.mlt_words.specs.declared.keyword.Word.TheVariants.{Number}
-use Rattle.mlt_words.proofs.Fronts.{words_then}
+use Rattle.mlt_text_words.specs.declared.keyword.Word.TheVariants.{Number}
+use Rattle.mlt_text_words.proofs.Fronts.{words_then}
 use Rattle.mlt_script.proofs.PlainForms.{before}
 use Rattle.mlt_script.proofs.plain.numbers.Goals as goal
 

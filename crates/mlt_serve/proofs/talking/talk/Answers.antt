@@ -1,4 +1,4 @@
-use Rattle.mlt_wire.specs.declared.sessions.Summary.{Summary}
+use Rattle.mlt_serve_session.specs.declared.sessions.Summary.{Summary}
 use Rattle.mlt_serve.proofs.Receiving.{grows}
 use Rattle.mlt_serve.proofs.talking.talk.Goals as goal
 

@@ -1,5 +1,5 @@
 use Rattle.std.specs.Prelude.{Some}
-use Rattle.mlt_lock_desk.specs.Makings.{making_by}
+use Rattle.mlt_work_desk.specs.Makings.{making_by}
 use Rattle.mlt_work.proofs.running.run.Given as goal
 
 abbrev pub ghosts-run_with-L-Ledger : goal.ghosts-run_with-L-Ledger

@@ -1,8 +1,8 @@
 use Rattle.std.proofs.Common.{◌≡◌, refl, ap, sym, subst, ◌∙◌, arith}
 use Rattle.std.specs.Prelude.{◌↔◌}
 use Rattle.mlt_types.specs.declared.refusal.Refusal.TheVariants as refusal
-use Rattle.mlt_held.specs.PageSteps.{HasNoPageLeft}
-use Rattle.mlt_held.specs.Moments.{Moment, moment}
+use Rattle.mlt_hash_access.specs.PageSteps.{HasNoPageLeft}
+use Rattle.mlt_hash_access.specs.Moments.{Moment, moment}
 use Rattle.mlt_hash.specs.Walks.{Basis, WalkFields}
 use Rattle.mlt_hash.specs.Changes.{page_of}
 use Rattle.mlt_hash.specs.Splitting.{HasToMake, TellsAt, walk_step}

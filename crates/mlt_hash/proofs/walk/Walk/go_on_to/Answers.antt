@@ -5,8 +5,8 @@ use Rattle.mlt_page.specs.Values.{HeadFields}
 use Rattle.mlt_page.specs.declared.page.Page.{Page}
 use Rattle.mlt_page.specs.declared.page.Page.TheVariants as page
 use Rattle.mlt_page_locks.specs.LockTables.{can_read}
-use Rattle.mlt_held.specs.Moments.{Moment, moment}
-use Rattle.mlt_held.specs.Views.{ReadsHeldPage, view_of}
+use Rattle.mlt_hash_access.specs.Moments.{Moment, moment}
+use Rattle.mlt_hash_access.specs.Views.{ReadsHeldPage, view_of}
 use Rattle.mlt_hash.specs.Walks.{MayWalk, WalkFields, basis_after, before_of}
 use Rattle.mlt_hash.specs.declared.pass.Phase.TheVariants as at
 use Rattle.mlt_hash.proofs.Turning.{goes_on, may_read_header, reads_header, slots_stood, small}

@@ -4,9 +4,9 @@ use Rattle.std.specs.FinSet as set
 use Rattle.mlt_page.specs.Slots.{is_ghost_of}
 use Rattle.mlt_page.specs.declared.slot.Slot.TheVariants.{Live}
 use Rattle.mlt_page.specs.Values.{BucketFields}
-use Rattle.mlt_held.specs.Moments.{Moment, moment}
-use Rattle.mlt_held.proofs.Leaving.{leaves_it}
-use Rattle.mlt_record.specs.Plans.{IsNowhere, SetsFirst, has_room}
+use Rattle.mlt_hash_access.specs.Moments.{Moment, moment}
+use Rattle.mlt_hash_access.proofs.Leaving.{leaves_it}
+use Rattle.mlt_hash_record.specs.Plans.{IsNowhere, SetsFirst, has_room}
 use Rattle.mlt_hash.specs.Walks.{Basis, WalkFields, view_for}
 use Rattle.mlt_hash.specs.Changes.{page_of}
 use Rattle.mlt_hash.proofs.Additions.{absent_from_bucket, absent_may_write, absent_plans, is_full, put_takes, put_tells, revival_takes, revival_tells, unmade_takes}

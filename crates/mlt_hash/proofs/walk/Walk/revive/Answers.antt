@@ -1,8 +1,8 @@
 use Rattle.std.proofs.Common.{ℕ, ◌≡◌, ap, subst, sym, ◌∙◌}
 use Rattle.mlt_page.specs.Slots.{is_ghost_of}
 use Rattle.mlt_page.specs.declared.slot.Slot.TheVariants.{Live}
-use Rattle.mlt_held.specs.Moments.{Moment, moment}
-use Rattle.mlt_held.specs.Views.{view_of, view_over}
+use Rattle.mlt_hash_access.specs.Moments.{Moment, moment}
+use Rattle.mlt_hash_access.specs.Views.{view_of, view_over}
 use Rattle.mlt_hash.specs.Walks.{Basis, Before, WalkFields, one_key, view_for}
 use Rattle.mlt_hash.specs.Changes.{MayChange, RevivesFirst, SeesBucket, page_of}
 use Rattle.mlt_hash.proofs.InPlace.{ReadsBucket, at_bucket_without, holds_bucket, plan_is_written, reads_bucket}

@@ -2,7 +2,7 @@ use Rattle.mlt_hash.specs.Walks.{nothing_before}
 use Rattle.mlt_hash_file.proofs.AloneWalks.{more_from_start, ready_at_start}
 use Rattle.std.proofs.Common.{◌≡◌, ◌∙◌, sym, subst}
 use Rattle.std.specs.FinMap as map
-use Rattle.mlt_store.specs.Stores.{PageStore, page_at}
+use Rattle.mlt_page_store.specs.Stores.{PageStore, page_at}
 use Rattle.mlt_hash_form.specs.Records.{live_records}
 use Rattle.mlt_hash_file.specs.Alone.{basis_of}
 use Rattle.mlt_hash_file.specs.AloneWalks.{IsHashFile}

@@ -1,7 +1,7 @@
 use Rattle.std.proofs.Common.{◌≡◌, ◌∙◌, sym, ap, subst}
 use Rattle.std.proofs.Math.Path.{transport}
 use Rattle.std.specs.FinMap as map
-use Rattle.mlt_store.specs.Stores.{PageStore, page_at}
+use Rattle.mlt_page_store.specs.Stores.{PageStore, page_at}
 use Rattle.mlt_hash_form.specs.Records.{live_records}
 use Rattle.mlt_hash_file.specs.AloneWalks.{IsHashFile}
 use Rattle.mlt_hash_file.specs.HashFiles.{Refuses}

@@ -1,7 +1,7 @@
 use Rattle.std.proofs.Common.{ℕ, arith, refl, subst, sym}
-use Rattle.mlt_held.specs.Moments.{Moment, moment}
-use Rattle.mlt_held.specs.Views.{view_of}
-use Rattle.mlt_pair.specs.Changes.{HasChanged}
+use Rattle.mlt_hash_access.specs.Moments.{Moment, moment}
+use Rattle.mlt_hash_access.specs.Views.{view_of}
+use Rattle.mlt_hash_pair.specs.Changes.{HasChanged}
 use Rattle.mlt_hash_file.specs.Alone.{KeepsBefore}
 use Rattle.mlt_hash_file.proofs.Alone.{alone_after_step, keeps_both, step_keeps_before}
 use Rattle.mlt_hash_file.proofs.BothEnds.{tells_both, tells_in_turn}

@@ -1,8 +1,8 @@
 use Rattle.std.proofs.Common.{◌∙◌, Some, subst, sym}
-use Rattle.mlt_store.specs.Stores.{page_at}
+use Rattle.mlt_page_store.specs.Stores.{page_at}
 use Rattle.mlt_hash_form.specs.File.{look_up}
-use Rattle.mlt_pair.specs.Plans.{FitsFound, value_after}
-use Rattle.mlt_pair.specs.declared.asked.RecordChange.TheVariants as change
+use Rattle.mlt_hash_pair.specs.Plans.{FitsFound, value_after}
+use Rattle.mlt_hash_pair.specs.declared.asked.RecordChange.TheVariants as change
 use Rattle.mlt_hash_file.specs.Alone.{basis_of}
 use Rattle.mlt_hash_file.specs.InTurn.{TellsOfKey, bounded_with}
 use Rattle.mlt_hash_file.proofs.Alone.{keeps_both}

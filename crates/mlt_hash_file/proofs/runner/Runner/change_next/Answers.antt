@@ -1,10 +1,10 @@
 use Rattle.std.proofs.Math.Path.{transport}
 use Rattle.mlt_hash.specs.Steps.{steps_to_bucket}
 use Rattle.std.proofs.Common.{◌∙◌, Some, refl, subst, sym}
-use Rattle.mlt_store.specs.Stores.{page_at}
+use Rattle.mlt_page_store.specs.Stores.{page_at}
 use Rattle.mlt_hash_form.specs.File.{look_up}
-use Rattle.mlt_held.specs.Moments.{moment}
-use Rattle.mlt_pair.specs.Plans.{FitsFound}
+use Rattle.mlt_hash_access.specs.Moments.{moment}
+use Rattle.mlt_hash_pair.specs.Plans.{FitsFound}
 use Rattle.mlt_hash.specs.Walks.{nothing_before}
 use Rattle.mlt_hash_file.specs.Alone.{basis_of}
 use Rattle.mlt_hash_file.specs.InTurn.{StepsIfChanged, TellsOfKey, bounded_with}

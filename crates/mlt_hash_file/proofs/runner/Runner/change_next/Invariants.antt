@@ -1,5 +1,5 @@
-use Rattle.mlt_held.specs.Moments.{moment}
-use Rattle.mlt_held.specs.Views.{view_of}
+use Rattle.mlt_hash_access.specs.Moments.{moment}
+use Rattle.mlt_hash_access.specs.Views.{view_of}
 use Rattle.mlt_hash.specs.Walks.{before_of, nothing_before}
 use Rattle.mlt_hash_file.specs.Alone.{basis_of}
 use Rattle.mlt_hash_file.proofs.runner.Runner.change_next.Given as goal

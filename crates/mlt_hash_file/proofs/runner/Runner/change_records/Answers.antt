@@ -1,7 +1,7 @@
-use Rattle.mlt_pair.specs.Pairs.{PairFields, most_steps}
+use Rattle.mlt_hash_pair.specs.Pairs.{PairFields, most_steps}
 use Rattle.std.proofs.Common.{◌∙◌, ◌≡◌, ◌≤◌, refl, subst, sym}
 use Rattle.std.proofs.Math.Path.{transport}
-use Rattle.mlt_store.specs.Stores.{PageStore, page_at}
+use Rattle.mlt_page_store.specs.Stores.{PageStore, page_at}
 use Rattle.mlt_hash_form.specs.File.{look_up}
 use Rattle.mlt_hash.specs.Walks.{nothing_before}
 use Rattle.mlt_hash.specs.declared.answer.WalkAnswer.TheVariants as answer

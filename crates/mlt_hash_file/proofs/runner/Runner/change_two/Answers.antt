@@ -1,6 +1,6 @@
 use Rattle.std.proofs.Common.{refl, subst}
 use Rattle.std.proofs.Math.Path.{transport}
-use Rattle.mlt_pair.specs.Plans.{value_after}
+use Rattle.mlt_hash_pair.specs.Plans.{value_after}
 use Rattle.mlt_hash.specs.Walks.{nothing_before}
 use Rattle.mlt_hash_file.specs.Alone.{basis_of}
 use Rattle.mlt_hash_file.specs.InTurn.{MayGoOnIfChanged, StepsIfChanged, TellsOfKey, bounded_with}

@@ -1,5 +1,5 @@
 use Rattle.std.specs.Prelude.{◌≤◌, ◌+◌}
-use Rattle.mlt_pair.specs.Pairs.{most_steps}
+use Rattle.mlt_hash_pair.specs.Pairs.{most_steps}
 use Rattle.mlt_hash_file.proofs.BothSteps.{IsOnWayToBoth}
 use Rattle.mlt_hash_file.proofs.runner.Runner.find_both.Given as goal
 

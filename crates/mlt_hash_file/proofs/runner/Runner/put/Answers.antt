@@ -1,4 +1,4 @@
-use Rattle.mlt_held.specs.Moments.{moment}
+use Rattle.mlt_hash_access.specs.Moments.{moment}
 use Rattle.std.proofs.Common.{refl, subst}
 use Rattle.mlt_hash_file.specs.Alone.{IsAlone}
 use Rattle.mlt_hash.specs.Changes.{MayChange, page_of}

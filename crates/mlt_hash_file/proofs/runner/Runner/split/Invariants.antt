@@ -1,5 +1,5 @@
 use Rattle.std.specs.Prelude.{◌≤◌, ◌+◌}
-use Rattle.mlt_held.specs.Views.{view_over}
+use Rattle.mlt_hash_access.specs.Views.{view_over}
 use Rattle.mlt_hash.specs.StepsLeft.{steps_to_put}
 use Rattle.mlt_hash_file.specs.Alone.{basis_of}
 use Rattle.mlt_hash_file.proofs.AloneSplits.{IsSplittingOn, effort}

@@ -1,8 +1,8 @@
 use Rattle.std.proofs.Common.{subst, sym}
-use Rattle.mlt_held.specs.Moments.{Moment, moment}
-use Rattle.mlt_held.specs.Views.{view_of}
+use Rattle.mlt_hash_access.specs.Moments.{Moment, moment}
+use Rattle.mlt_hash_access.specs.Views.{view_of}
 use Rattle.mlt_hash.specs.Walks.{nothing_before}
-use Rattle.mlt_pair.specs.Pairs.{IsFinding}
+use Rattle.mlt_hash_pair.specs.Pairs.{IsFinding}
 use Rattle.mlt_hash_file.specs.Alone.{pages_before}
 use Rattle.mlt_hash_file.specs.AloneWalks.{IsHashFile}
 use Rattle.mlt_hash_file.proofs.Alone.{alone_after_step}

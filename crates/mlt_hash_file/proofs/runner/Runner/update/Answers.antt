@@ -1,4 +1,4 @@
-use Rattle.mlt_held.specs.Moments.{moment}
+use Rattle.mlt_hash_access.specs.Moments.{moment}
 use Rattle.std.proofs.Common.{refl}
 use Rattle.mlt_hash.specs.Changes.{MayChange, page_of}
 use Rattle.mlt_hash.specs.Walks.{basis_after, basis_by}

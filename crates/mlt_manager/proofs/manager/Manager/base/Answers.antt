@@ -1,9 +1,9 @@
 use Rattle.std.proofs.Common.{IfOk, List, sym, subst}
-use Rattle.mlt_kinds.specs.Bases.{Base}
-use Rattle.mlt_base.specs.Meaning.{Means}
+use Rattle.mlt_object_kinds.specs.Bases.{Base}
+use Rattle.mlt_object_base.specs.Meaning.{Means}
 use Rattle.mlt_hash_form.specs.Records.{live_records}
 use Rattle.mlt_trace.specs.declared.item.TraceItem.{TraceItem}
-use Rattle.mlt_check.specs.AcceptedItems.{AreAccepted}
+use Rattle.mlt_trace_check.specs.AcceptedItems.{AreAccepted}
 use Rattle.mlt_manager.specs.Parts.{fields_of}
 use Rattle.mlt_manager.specs.Promises.{IsCommittedBaseOf}
 use Rattle.mlt_manager.proofs.ClosedBases.{stored_form, stored_means}

@@ -1,7 +1,7 @@
 use Rattle.std.proofs.Common.{subst}
 use Rattle.mlt_event.specs.declared.answer.Answer.{Answer}
 use Rattle.mlt_manager.specs.Answers.{HasStepped}
-use Rattle.mlt_transaction.specs.Transactions.{IsPending}
+use Rattle.mlt_tx.specs.Transactions.{IsPending}
 use Rattle.mlt_manager.specs.Parts.{fields_of}
 use Rattle.mlt_manager.specs.Wholes.{GoesOn}
 use Rattle.mlt_manager.proofs.Chains.{none_taken}

@@ -1,4 +1,4 @@
-use Rattle.mlt_transaction.specs.Transactions.{IsPending}
+use Rattle.mlt_tx.specs.Transactions.{IsPending}
 use Rattle.mlt_manager.specs.Parts.{fields_of}
 use Rattle.mlt_manager.specs.Wholes.{GoesOn}
 use Rattle.mlt_manager.proofs.Chains.{IsUnderWay}

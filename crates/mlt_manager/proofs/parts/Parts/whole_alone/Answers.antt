@@ -1,7 +1,7 @@
 use Rattle.std.proofs.Common.{Option, refl, subst}
-use Rattle.mlt_kinds.specs.declared.operation.ObjReply.{ObjReply}
+use Rattle.mlt_object_kinds.specs.declared.operation.ObjReply.{ObjReply}
 use Rattle.mlt_hash.specs.Walks.{basis_by}
-use Rattle.mlt_open.specs.Tables.{CallsOneAtOnce}
+use Rattle.mlt_tx_open.specs.Tables.{CallsOneAtOnce}
 use Rattle.mlt_manager.specs.Managers.{ManagerFields}
 use Rattle.mlt_manager.specs.Parts.{fields_of}
 use Rattle.mlt_manager.proofs.AtOnce.{called_at_once, done_at_once, may_call_at_once}

@@ -32,7 +32,7 @@ use Rattle.mlt_object_locks.proofs.held.HeldList.and.Statement as stated
 use Rattle.mlt_object_locks.proofs.held.HeldList.and.Code as code
 use Rattle.mlt_object_locks.specs.contracts.held.HeldList as list
 use Rattle.mlt_types.specs.contracts.TxId as tx_id
-use Rattle.mlt_kinds.specs.contracts.done.Done as done
+use Rattle.mlt_object_kinds.specs.contracts.done.Done as done
 
 abbrev stayed : Stays (f.ended).signature.params (f.ended).kept
 stayed = (stay_none_ref (0 ∷ []) tt (plain (λ _. list.the_row)) yes, (stay_none_ref (1 ∷ []) tt (plain (λ _. tx_id.the_row)) yes, (stay_none_ref (2 ∷ []) tt (plain (λ _. done.the_row)) yes, tt)))

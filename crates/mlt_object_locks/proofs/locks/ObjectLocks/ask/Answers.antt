@@ -1,6 +1,6 @@
 use Rattle.std.proofs.Common.{◌≡◌, ◌≤◌, ℕ, List, Option, length, sym, ap, subst, ◌∙◌, arith}
 use Rattle.mlt_types.specs.Cells.{IsInRange}
-use Rattle.mlt_kinds.specs.Operations.{cell_of}
+use Rattle.mlt_object_kinds.specs.Operations.{cell_of}
 use Rattle.mlt_object_locks.specs.Locks.{HoldsClash, IsLowestOf, Locks, reservation_of}
 use Rattle.mlt_object_locks.specs.Classes.{bit_of_item}
 use Rattle.mlt_object_locks.specs.Noted.{NotesEach, noted_of}

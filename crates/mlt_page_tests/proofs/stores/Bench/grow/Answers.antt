@@ -2,14 +2,14 @@ use Rattle.std.proofs.Common.{◌≡◌, ◌+◌, true, is_some, ap, sym, subst,
 use Rattle.std.proofs.lemmas.Bool.Decides.{nat_tests}
 use Rattle.std.specs.FinMap as map
 use Rattle.mlt_types.specs.declared.mode.Mode.TheVariants.{Exclusive}
-use Rattle.mlt_store.specs.Stores.{PageStore, Pages, page_at}
+use Rattle.mlt_page_store.specs.Stores.{PageStore, Pages, page_at}
 use Rattle.mlt_page_locks.proofs.Maps.{get_inserted}
 use Rattle.mlt_page_locks.specs.LockTables.{LockTable, HasAtMost}
 use Rattle.mlt_page_locks.proofs.LockLaws.{room_for_few, few_granted}
-use Rattle.mlt_subtx.specs.Images.{Images, Running, AreThere}
-use Rattle.mlt_subtx.proofs.ImageLaws.{there_made}
-use Rattle.mlt_subtx.specs.Locking.{LocksPagesThere}
-use Rattle.mlt_subtx.proofs.LockedPages.{locks_there-written, locks_there-granted}
+use Rattle.mlt_page_subtx.specs.Images.{Images, Running, AreThere}
+use Rattle.mlt_page_subtx.proofs.ImageLaws.{there_made}
+use Rattle.mlt_page_subtx.specs.Locking.{LocksPagesThere}
+use Rattle.mlt_page_subtx.proofs.LockedPages.{locks_there-written, locks_there-granted}
 use Rattle.mlt_page_tests.proofs.stores.Bench.grow.Goals as goal
 
 pub grow-requires-clause-room : goal.grow-requires-clause-room

@@ -1,9 +1,9 @@
 use Rattle.std.proofs.Common.{◌≡◌, Result, Ok, Err, OnOk, OnErr, sym, subst}
-use Rattle.mlt_store.specs.Stores.{PageStore}
-use Rattle.mlt_subtx.specs.Images.{Running, AreThere}
-use Rattle.mlt_subtx.proofs.ImageLaws.{there_written}
-use Rattle.mlt_subtx.specs.Locking.{LocksPagesThere}
-use Rattle.mlt_subtx.proofs.LockedPages.{locks_there-written}
+use Rattle.mlt_page_store.specs.Stores.{PageStore}
+use Rattle.mlt_page_subtx.specs.Images.{Running, AreThere}
+use Rattle.mlt_page_subtx.proofs.ImageLaws.{there_written}
+use Rattle.mlt_page_subtx.specs.Locking.{LocksPagesThere}
+use Rattle.mlt_page_subtx.proofs.LockedPages.{locks_there-written}
 use Rattle.mlt_page_tests.proofs.stores.Bench.write.Goals as goal
 
 either_way : {A E P Q R X : Type 0} (r : Result A E) → OnOk r P → OnOk r Q → OnErr r R → (P → Q → X) → (R → X) → X

@@ -1,6 +1,0 @@
-use Rattle.std.proofs.Common.{All, take}
-use Rattle.mlt_audit.specs.Agreement.{IsOfBegunTx}
-use Rattle.mlt_audit.proofs.any.are_begun.Given as goal
-
-abbrev pub invariant-loop-receipt : goal.invariant-loop-receipt
-invariant-loop-receipt l = All (IsOfBegunTx l.history) (take l.receipt-index l.receipts)

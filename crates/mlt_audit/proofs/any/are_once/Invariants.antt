@@ -1,7 +1,0 @@
-use Rattle.std.proofs.Common.{ℕ, Contains, take}
-use Rattle.mlt_history.specs.Numbers.{begun_txs}
-use Rattle.mlt_audit.specs.Agreement.{IsOnce}
-use Rattle.mlt_audit.proofs.any.are_once.Given as goal
-
-abbrev pub invariant-loop-item : goal.invariant-loop-item
-invariant-loop-item l = (tx : ℕ) → Contains (begun_txs (take l.item-index l.history)) tx → IsOnce l.receipts tx

@@ -1,9 +1,0 @@
-use Rattle.std.proofs.Common.{◌≤◌}
-use Rattle.mlt_audit.proofs.CommitOrder.{RiseBelow}
-use Rattle.mlt_audit.proofs.rising.neighbours_rise.Given as goal
-
-abbrev pub invariant-loop-i : goal.invariant-loop-i
-invariant-loop-i l = record {
-  within : l.last ≤ l.i;
-  rise : RiseBelow l.receipts l.last l.i;
-}

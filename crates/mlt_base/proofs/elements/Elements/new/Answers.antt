@@ -1,9 +1,0 @@
-use Rattle.std.proofs.Common.{List, ℕ, subst, sym, []}
-use Rattle.mlt_base.specs.Kept.{AreCounted}
-use Rattle.mlt_base.proofs.Counting.{nothing_counted}
-use Rattle.mlt_base.proofs.elements.Elements.new.Goals as goal
-
-pub invariant_of-result : goal.invariant_of-result
-invariant_of-result c =
-    subst (λ (sizes : List (ℕ × ℕ)). AreCounted c.new.result.keys sizes) (sym c.new-2.ensures.empty)
-    (subst (λ (keys : List (ℕ × ℕ)). AreCounted keys []) (sym c.new.ensures.empty) nothing_counted)

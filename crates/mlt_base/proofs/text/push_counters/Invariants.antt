@@ -1,9 +1,0 @@
-use Rattle.std.proofs.Common.{◌≡◌, ◌++◌}
-use Rattle.std.specs.List.{flat_map}
-use Rattle.std.specs.String.{string_bytes}
-use Rattle.mlt_base.specs.BaseText.{value_line}
-use Rattle.mlt_base.proofs.text.push_counters.Given as goal
-
--- what is written, and the lines of what is left, are what stood there and all lines
-abbrev pub invariant-loop-counter : goal.invariant-loop-counter
-invariant-loop-counter l = string_bytes l.text ++ flat_map value_line l.counter-iterator ≡ string_bytes l.initial.text ++ flat_map value_line l.values.entries

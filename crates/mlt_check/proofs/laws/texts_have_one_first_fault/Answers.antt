@@ -1,6 +1,0 @@
-use Rattle.mlt_words.specs.Lines.{lines}
-use Rattle.mlt_check.proofs.Faults.{one_first_fault}
-use Rattle.mlt_check.proofs.laws.texts_have_one_first_fault.Goals as goal
-
-pub returns : goal.returns
-returns c = λ text. one_first_fault (lines text)

@@ -1,0 +1,307 @@
+-- What the words of a command line ask for.
+use Rattle.std.specs.Prelude.{◌≡◌, ◌==◌, ◌⊎◌, ◌≤◌, ◌<◌, ◌&&◌, ℕ, Bool, true, false, List, [], ◌∷◌, map, length, nat_lt, nat_le, Option, Some, None, option_map, codes, if◌then◌else◌}
+use Rattle.std.specs.Borrow.{Bor}
+use Rattle.std.specs.Char.{digit_value}
+use Rattle.std.specs.List.{list_all}
+use Rattle.std.specs.String.{string_bytes}
+use Rattle.std.specs.Str.{bytes_eq}
+use Rattle.std.specs.Str.Parse.{digits_value, without_leading_plus}
+use Rattle.clap.specs.Words.{App, IsAmong, Row, Rule, Text, fault_of, first_of, kind_of, new_app, new_rule, subcommand_of, with_rule, with_subcommand}
+use Rattle.clap.specs.declared.builder.value_parser.ValueParser.TheVariants.{Names, Unsigned}
+use Rattle.clap.specs.declared.error.kind.ErrorKind.{ErrorKind}
+use Rattle.clap.specs.declared.error.kind.ErrorKind.TheVariants.{DisplayHelp, DisplayVersion, MissingRequiredArgument, OutOfMemory}
+use Rattle.clap.specs.declared.error.Error.{Error}
+use Rattle.mlt_cli.specs.declared.words.Hash.{Hash}
+use Rattle.mlt_cli.specs.declared.words.Hash.TheVariants.{Mult, Low}
+use Rattle.mlt_cli.specs.declared.words.Run.{Run}
+use Rattle.mlt_cli.specs.declared.words.Work.{Work}
+use Rattle.mlt_cli.specs.declared.words.Serve.{Serve}
+use Rattle.mlt_cli.specs.declared.words.Job.{Job}
+use Rattle.mlt_cli.specs.declared.words.Job.TheVariants as job
+
+-- ---- what `clap` reads the words by
+
+-- a list of names, which lies somewhere
+abbrev pub NameList : Type 0
+NameList = Bor (List (Bor Text))
+
+-- the names of the hash functions, wherever they lie
+abbrev pub AreHashNames : NameList → Type 0
+AreHashNames names = map (λ name. name.now) names.now ≡ codes "mult" ∷ codes "low" ∷ []
+
+-- what is read or listened on: a file, or an address
+abbrev pub input_rule : Rule
+input_rule = record (new_rule (codes "input")) { value_names = 1; required = true }
+
+abbrev pub hash_rule : NameList → Rule
+hash_rule names = record (new_rule (codes "hash")) {
+  long = Some (codes "hash");
+  value_names = 1;
+  parser = Some (Names names);
+}
+
+abbrev pub trace_rule : Rule
+trace_rule = record (new_rule (codes "trace")) { long = Some (codes "trace"); value_names = 1 }
+
+-- an option of this name that takes a number from the least to the most
+abbrev pub number_rule : Text → ℕ → ℕ → Rule
+number_rule name least most = record (new_rule name) {
+  long = Some name;
+  value_names = 1;
+  parser = Some (Unsigned least most);
+}
+
+-- a subcommand with an input
+abbrev pub input_app : Text → App
+input_app name = with_rule (new_app name) input_rule
+
+-- a subcommand that runs what it reads
+abbrev pub run_app : NameList → Text → App
+run_app names name = with_rule (with_rule (input_app name) (hash_rule names)) trace_rule
+
+abbrev pub tries_rule : Rule
+tries_rule = number_rule (codes "tries") 1 1000000
+
+-- `run`, which has workers
+abbrev pub work_app : NameList → App
+work_app names =
+    with_rule (with_rule (run_app names (codes "run")) (number_rule (codes "workers") 1 8)) tries_rule
+
+-- `serve`, which has sessions, a limit and an idle time
+abbrev pub serve_app : NameList → App
+serve_app names =
+    with_rule
+    (with_rule
+    (with_rule
+    (with_rule (run_app names (codes "serve")) (number_rule (codes "sessions") 1 64))
+    (number_rule (codes "limit") 1 1000000)) tries_rule)
+    (number_rule (codes "idle") 0 86400)
+
+abbrev pub bare_app : App
+bare_app = let named = new_app (codes "mltx") in
+    record named {
+      top = record named.top {
+        no_binary_name = true;
+        subcommand_required = true;
+        has_version = true;
+      };
+    }
+
+-- `mltx` with its subcommands; the words that it reads are those after the program's name
+abbrev pub mltx_app : NameList → App
+mltx_app names =
+    with_subcommand
+    (with_subcommand
+    (with_subcommand
+    (with_subcommand
+    (with_subcommand bare_app (run_app names (codes "solo")).top)
+    (run_app names (codes "steps")).top)
+    (work_app names).top)
+    (input_app (codes "check")).top)
+    (serve_app names).top
+
+-- ---- the job
+
+-- an input that is run, the hash function, and the file for the trace if there is one
+pub record RunForm : Type 0 where
+  pub input : Text
+  pub hash : Hash
+  pub trace : Option Text
+
+-- the workers, and how often a script may be told to wait
+pub record WorkForm : Type 0 where
+  pub run : RunForm
+  pub workers : ℕ
+  pub tries : ℕ
+
+-- how many sessions there are at once, how many connections in all, how often an operation may be told to wait, and after
+-- how many seconds a connection is cut that gives and takes nothing; 0 is never
+pub record ServeForm : Type 0 where
+  pub run : RunForm
+  pub sessions : ℕ
+  pub limit : ℕ
+  pub tries : ℕ
+  pub idle : ℕ
+
+-- what is asked for
+pub data Asked : Type 0 where
+  to_solo : RunForm → Asked
+  to_steps : RunForm → Asked
+  to_work : WorkForm → Asked
+  to_check : Text → Asked
+  to_serve : ServeForm → Asked
+
+abbrev pub form_of_run : Run → RunForm
+form_of_run run = record {
+  input = string_bytes run.input;
+  hash = run.hash;
+  trace = option_map string_bytes run.trace;
+}
+
+abbrev pub form_of_work : Work → WorkForm
+form_of_work work =
+    record { run = form_of_run work.run; workers = work.workers; tries = work.tries }
+
+abbrev pub form_of_serve : Serve → ServeForm
+form_of_serve serve = record {
+  run = form_of_run serve.run;
+  sessions = serve.sessions;
+  limit = serve.limit;
+  tries = serve.tries;
+  idle = serve.idle;
+}
+
+-- what a job asks for
+abbrev pub asked_of : Job → Asked
+asked_of (job.Solo run) = to_solo (form_of_run run)
+asked_of (job.Steps run) = to_steps (form_of_run run)
+asked_of (job.Work work) = to_work (form_of_work work)
+asked_of (job.Check file) = to_check (string_bytes file)
+asked_of (job.Serve serve) = to_serve (form_of_serve serve)
+
+-- the numbers of a job are within their bounds
+abbrev pub IsWithinBounds : Job → Type 0
+IsWithinBounds (job.Work work) = (0 < work.workers) × (work.workers ≤ 8)
+    × (0 < work.tries) × (work.tries ≤ 1000000)
+IsWithinBounds (job.Serve serve) = (0 < serve.sessions) × (serve.sessions ≤ 64)
+    × (0 < serve.limit) × (serve.limit ≤ 1000000) × (0 < serve.tries) × (serve.tries ≤ 1000000)
+    × (serve.idle ≤ 86400)
+IsWithinBounds other = Unit {0}
+
+-- an input with no options
+abbrev pub plain_run : Text → RunForm
+plain_run input = record { input = input; hash = Mult; trace = None }
+
+pub data Subcommand : Type 0 where
+  solo : Subcommand
+  steps : Subcommand
+  run : Subcommand
+  check : Subcommand
+  serve : Subcommand
+
+abbrev pub subcommand_name : Subcommand → Text
+subcommand_name solo = codes "solo"
+subcommand_name steps = codes "steps"
+subcommand_name run = codes "run"
+subcommand_name check = codes "check"
+subcommand_name serve = codes "serve"
+
+-- what a subcommand asks for with an input alone
+abbrev pub with_input : Subcommand → Text → Asked
+with_input solo input = to_solo (plain_run input)
+with_input steps input = to_steps (plain_run input)
+with_input run input = to_work (record { run = plain_run input; workers = 4; tries = 10000 })
+with_input check input = to_check input
+with_input serve input =
+    to_serve (record { run = plain_run input; sessions = 8; limit = 1; tries = 10000; idle = 0 })
+
+-- ---- what the words ask for
+
+-- the hash function of a name, and mult where none is given
+abbrev pub hash_named : Option Text → Option Hash
+hash_named None = Some Mult
+hash_named (Some name) = if bytes_eq name (codes "mult") then Some Mult
+    else (if bytes_eq name (codes "low") then Some Low else None)
+
+-- digits alone, and at least one
+abbrev pub is_numeral : Text → Bool
+is_numeral digits = nat_lt 0 (length digits) && list_all (λ digit. nat_lt (digit_value digit) 10) digits
+
+-- the number that the digits write, if it lies within these bounds
+abbrev pub number_of_digits : ℕ → ℕ → Text → Option ℕ
+number_of_digits least most digits =
+    if is_numeral digits && (nat_le least (digits_value 10 digits) && nat_le (digits_value 10 digits) most)
+    then Some (digits_value 10 digits) else None
+
+-- the number that a word writes within these bounds, and the usual one where no word is given; a plus may stand first
+abbrev pub number_named : ℕ → ℕ → ℕ → Option Text → Option ℕ
+number_named least most usual None = Some usual
+number_named least most usual (Some word) = number_of_digits least most (without_leading_plus word)
+
+abbrev pub run_of : Option Text → Option Hash → Option Text → Option RunForm
+run_of None hash trace = None
+run_of (Some input) None trace = None
+run_of (Some input) (Some hash) trace = Some (record { input = input; hash = hash; trace = trace })
+
+-- what the matches of a subcommand with an input, a hash function and a trace ask for
+abbrev pub run_in : List Row → Option RunForm
+run_in rows = run_of (first_of (codes "input") rows) (hash_named (first_of (codes "hash") rows))
+    (first_of (codes "trace") rows)
+
+abbrev pub tries_in : List Row → Option ℕ
+tries_in rows = number_named 1 1000000 10000 (first_of (codes "tries") rows)
+
+abbrev pub work_of : Option RunForm → Option ℕ → Option ℕ → Option WorkForm
+work_of None workers tries = None
+work_of (Some r) None tries = None
+work_of (Some r) (Some workers) None = None
+work_of (Some r) (Some workers) (Some tries) =
+    Some (record { run = r; workers = workers; tries = tries })
+
+-- what the matches of `run` ask for
+abbrev pub work_in : List Row → Option WorkForm
+work_in rows = work_of (run_in rows) (number_named 1 8 4 (first_of (codes "workers") rows)) (tries_in rows)
+
+abbrev pub serve_of : Option RunForm → Option ℕ → Option ℕ → Option ℕ → Option ℕ → Option ServeForm
+serve_of None sessions limit tries idle = None
+serve_of (Some r) None limit tries idle = None
+serve_of (Some r) (Some sessions) None tries idle = None
+serve_of (Some r) (Some sessions) (Some limit) None idle = None
+serve_of (Some r) (Some sessions) (Some limit) (Some tries) None = None
+serve_of (Some r) (Some sessions) (Some limit) (Some tries) (Some idle) =
+    Some (record { run = r; sessions = sessions; limit = limit; tries = tries; idle = idle })
+
+-- what the matches of `serve` ask for
+abbrev pub serve_in : List Row → Option ServeForm
+serve_in rows = serve_of (run_in rows) (number_named 1 64 8 (first_of (codes "sessions") rows))
+    (number_named 1 1000000 1 (first_of (codes "limit") rows)) (tries_in rows)
+    (number_named 0 86400 0 (first_of (codes "idle") rows))
+
+-- what the subcommand of this name asks for, by its matches
+abbrev pub asked_by : Text → List Row → Option Asked
+asked_by name rows = if bytes_eq name (codes "solo") then option_map to_solo (run_in rows)
+    else (if bytes_eq name (codes "steps") then option_map to_steps (run_in rows)
+    else (if bytes_eq name (codes "run") then option_map to_work (work_in rows)
+    else (if bytes_eq name (codes "check") then option_map to_check (first_of (codes "input") rows)
+    else (if bytes_eq name (codes "serve") then option_map to_serve (serve_in rows)
+    else None))))
+
+-- what the subcommand asks for, if one was met
+abbrev pub asked_in : Option (Text × List Row) → Option Asked
+asked_in None = None
+asked_in (Some met) = asked_by met.0 met.1
+
+-- `clap` finds the job in the words by the program's description, and nothing wrong with them; no words at all are `solo -`
+abbrev pub AskFor : List Text → Asked → Type 0
+AskFor [] asked = asked ≡ with_input solo (codes "-")
+AskFor (word ∷ words) asked = (names : NameList) × AreHashNames names
+    × (fault_of (mltx_app names) (word ∷ words) ≡ [])
+    × (asked_in (subcommand_of (mltx_app names) (word ∷ words)) ≡ Some asked)
+
+-- something is wrong with the words, and the error is of its kind; or no input is found in them
+abbrev pub IsWrongBy : NameList → List Text → Error → Type 0
+IsWrongBy names words error = IsAmong (kind_of error) (fault_of (mltx_app names) words)
+    ⊎ ((asked_in (subcommand_of (mltx_app names) words) ≡ None) × (kind_of error ≡ MissingRequiredArgument))
+
+-- an error that the words call for: memory ran out, or something is wrong with them by the program's description
+abbrev pub FailsAt : List Text → Error → Type 0
+FailsAt [] error = kind_of error ≡ OutOfMemory
+FailsAt (word ∷ words) error = (kind_of error ≡ OutOfMemory)
+    ⊎ ((names : NameList) × AreHashNames names × IsWrongBy names (word ∷ words) error)
+
+-- ---- words and statuses
+
+abbrev pub begins_with_hyphen : Text → Bool
+begins_with_hyphen [] = false
+begins_with_hyphen (byte ∷ rest) = byte == 45
+
+-- a word that is a file's, and no option's: `-`, or one that begins with no hyphen
+abbrev pub IsFileWord : Text → Type 0
+IsFileWord word = (word ≡ codes "-") ⊎ (begins_with_hyphen word ≡ false)
+
+-- the status of a command line that gives no job: to ask for help or the version is no mistake
+abbrev pub words_status : ErrorKind → ℕ
+words_status DisplayHelp = 0
+words_status DisplayVersion = 0
+words_status OutOfMemory = 1
+words_status _ = 2

@@ -1,0 +1,269 @@
+//! What `clap` reads the words of the command line by: the subcommands, their arguments and their help.
+
+ghost use Rattle.std.specs.Prelude.{◌≡◌, IfOk, false};
+ghost use Rattle.clap.specs.Words.{app_of, rule_of};
+ghost use Rattle.clap.specs.declared.builder.command.Command.TheViews.{out-Command};
+ghost use Rattle.mlt_cli.specs.CommandLine.{bare_app, input_app, mltx_app, number_rule, run_app, serve_app, work_app};
+
+use clap::builder::ValueParser;
+use clap::{Arg, Command};
+use std::alloc::{AllocError, Global};
+
+const VERSION: &str = "0.1.0";
+
+const ABOUT: &str =
+    "Runs transactions on accounts, sets and counters, and checks traces of what they did.";
+
+const NO_WORDS: &str =
+    "With no words at all it is `solo -`: the scripts are read from standard input.
+
+Example: mltx solo scripts.txt";
+
+const HASH_HELP: &str = "The hash function of the pages; without it `mult`";
+
+const TRACE_HELP: &str = "Where to write the trace of what the transactions did";
+
+const SOLO_ABOUT: &str =
+    "Runs the scripts of FILE one after another, and prints what each was told.";
+
+const SOLO_EXAMPLE: &str = "Example: mltx solo scripts.txt
+
+  scripts.txt      standard output
+  begin
+  open 1           opened
+  deposit 1 50     done
+  balance 1        is 50
+  commit           committed 1";
+
+const STEPS_ABOUT: &str =
+    "Runs the schedule of FILE, step by step, and prints what each event was told, and then the base.";
+
+const STEPS_EXAMPLE: &str = "Example: mltx steps schedule.txt
+
+  schedule.txt             standard output
+  begin                    begun 1
+  whole 1 open 1           done opened
+  whole 1 deposit 1 5      done done
+  commit 1                 committed 1
+  begin                    begun 2
+  begin                    begun 3
+  whole 2 withdraw 1 3     done done
+  whole 3 withdraw 1 4     blocked by 2
+  abort 2                  aborting
+  undo 2                   aborted
+  whole 3 withdraw 1 4     done done
+  commit 3                 committed 2
+                           account 1 1
+                           depth 0
+
+Transaction 3 is blocked while 2 may still abort: the reply would be `short` with its
+withdrawal, and is `done` without it.";
+
+const RUN_ABOUT: &str =
+    "Runs the scripts of FILE side by side, those of a client one after another, and prints what each was told, and then the base.";
+
+const RUN_EXAMPLE: &str = "Example: mltx run scripts.txt --workers 2 --trace trace.txt
+
+  scripts.txt      standard output
+  begin 1          client 1 script 1
+  up 7 5           done
+  commit           committed 1
+  begin 2          client 2 script 1
+  up 7 2           done
+  commit           committed 2
+                   counter 7 7
+
+The numbers of commits, and which script waits for which, differ from run to run; the base
+of scripts such as these does not. `mltx check trace.txt` shows that the committed scripts,
+run alone in the order of their commits, are told the same.";
+
+const SERVE_ABOUT: &str =
+    "Listens on ADDR, and serves connections: each is a session of lines, and each line has its answer.";
+
+const SERVE_EXAMPLE: &str = "Example: mltx serve 127.0.0.1:7000 --limit 2
+         nc 127.0.0.1 7000
+
+  line             answer
+  begin            begun 1
+  open 1           opened
+  deposit 1 50     done
+  balance 1        is 50
+  commit           committed 1
+  quit             bye
+
+As soon as it listens it writes `mltx: listening on 127.0.0.1:7000` on standard error; for port 0
+that line has the port that it got.
+
+An open transaction is taken back as its connection ends. Once all connections have ended
+the program writes `served` with their number, and the trace where one is asked for.
+
+A server that stays up: mltx serve 127.0.0.1:7000 --limit 1000000 --sessions 64 --idle 600";
+
+const CHECK_ABOUT: &str =
+    "Checks the trace of FILE: whether its transactions, run alone in the order of their commits, are told the same.";
+
+const CHECK_EXAMPLE: &str = "Example: mltx check trace.txt
+
+  trace.txt                standard output
+  begin 1
+  begin 2
+  op 2 open 1 opened
+  op 2 deposit 1 7 done
+  commit 2 1               serial 2
+  op 1 balance 1 is 7
+  commit 1 2               serial 1
+                           account 1 7
+
+With `over` in place of `done` it is `mltx: 11 TraceFault line 4 Reply` on standard error.";
+
+const FILE: InputHelp = InputHelp {
+    value_name: "FILE",
+    help: "The file to read; `-` is standard input",
+};
+
+const ADDRESS: InputHelp = InputHelp {
+    value_name: "ADDR",
+    help: "The IP address and port to listen on, as `127.0.0.1:7000`",
+};
+
+const TRIES_HELP: &str =
+    "How often a script, or an operation of a session, may be told to wait, from 1 to 1000000; without it 10000";
+
+const WORKERS_HELP: &str = "How many workers run scripts at once, from 1 to 8; without it 4";
+
+const SESSIONS_HELP: &str = "How many sessions are held at once, from 1 to 64; without it 8";
+
+const LIMIT_HELP: &str = "How many connections are served in all, from 1 to 1000000; without it 1";
+
+const IDLE_HELP: &str =
+    "How many seconds a connection may be idle, from 0, which is for ever, to 86400; without it 0";
+
+// How help shows what a subcommand takes, and what it says of it.
+#[derive(Clone, Copy)]
+struct InputHelp {
+    value_name: &'static str,
+    help: &'static str,
+}
+
+// The program's description, where these are the names of the hash functions.
+pub(crate) fn mltx_command<'a>(
+    alloc: Global,
+    names: &'a [&'a str],
+) -> Result<Command<'a>, AllocError>
+    ensures { IfOk result (λ command. app_of command ≡ mltx_app names.entry) }
+{
+    let solo = run_command(alloc, "solo", FILE, names, SOLO_ABOUT, SOLO_EXAMPLE)?;
+    let command = bare_command(alloc)?.subcommand(solo)?;
+    let steps = run_command(alloc, "steps", FILE, names, STEPS_ABOUT, STEPS_EXAMPLE)?;
+    let command = command.subcommand(steps)?;
+    let run = work_command(alloc, names)?;
+    let command = command.subcommand(run)?;
+    let check = input_command(alloc, "check", FILE, CHECK_ABOUT, CHECK_EXAMPLE)?;
+    let command = command.subcommand(check)?;
+    let serve = serve_command(alloc, names)?;
+    command.subcommand(serve)
+}
+
+fn bare_command<'a>(alloc: Global) -> Result<Command<'a>, AllocError>
+    ensures { IfOk result (λ command. app_of command ≡ bare_app) }
+{
+    Command::new(alloc, "mltx")
+        .version(VERSION)
+        .about(ABOUT)
+        .after_help(NO_WORDS)
+        .no_binary_name(true)
+        .subcommand_required(true)
+        .bin_name("mltx")
+}
+
+// A subcommand with an input.
+fn input_command<'a>(
+    alloc: Global,
+    name: &'a str,
+    input: InputHelp,
+    about: &'a str,
+    example: &'a str,
+) -> Result<Command<'a>, AllocError>
+    ensures app { IfOk result (λ command. app_of command ≡ input_app name.entry.now) }
+    ensures globals { IfOk result (λ command. (out-Command command).has_globals ≡ false) }
+{
+    let arg = Arg::new(alloc, "input")
+        .value_name(input.value_name)
+        .help(input.help)
+        .required(true);
+    Command::new(alloc, name)
+        .about(about)
+        .after_help(example)
+        .arg(arg)
+}
+
+// A subcommand that runs what it reads, where these are the names of the hash functions.
+fn run_command<'a>(
+    alloc: Global,
+    name: &'a str,
+    input: InputHelp,
+    names: &'a [&'a str],
+    about: &'a str,
+    example: &'a str,
+) -> Result<Command<'a>, AllocError>
+    ensures app { IfOk result (λ command. app_of command ≡ run_app names.entry name.entry.now) }
+    ensures globals { IfOk result (λ command. (out-Command command).has_globals ≡ false) }
+{
+    let hash = Arg::new(alloc, "hash")
+        .long("hash")
+        .value_name("HASH")
+        .help(HASH_HELP)
+        .value_parser(names);
+    let trace = Arg::new(alloc, "trace")
+        .long("trace")
+        .value_name("FILE")
+        .help(TRACE_HELP);
+    input_command(alloc, name, input, about, example)?
+        .arg(hash)?
+        .arg(trace)
+}
+
+// An option that takes a number within these bounds. Help shows it by this name.
+fn number_option<'a>(
+    alloc: Global,
+    name: &'a str,
+    value_name: &'a str,
+    help: &'a str,
+    least: u64,
+    most: u64,
+) -> Arg<'a>
+    ensures rule { rule_of result ≡ number_rule name.entry.now least most }
+    ensures local { result.global ≡ false }
+{
+    Arg::new(alloc, name)
+        .long(name)
+        .value_name(value_name)
+        .help(help)
+        .value_parser(ValueParser::unsigned(least, most))
+}
+
+fn work_command<'a>(alloc: Global, names: &'a [&'a str]) -> Result<Command<'a>, AllocError>
+    ensures app { IfOk result (λ command. app_of command ≡ work_app names.entry) }
+    ensures globals { IfOk result (λ command. (out-Command command).has_globals ≡ false) }
+{
+    let workers = number_option(alloc, "workers", "N", WORKERS_HELP, 1, 8);
+    let tries = number_option(alloc, "tries", "N", TRIES_HELP, 1, 1_000_000);
+    run_command(alloc, "run", FILE, names, RUN_ABOUT, RUN_EXAMPLE)?
+        .arg(workers)?
+        .arg(tries)
+}
+
+fn serve_command<'a>(alloc: Global, names: &'a [&'a str]) -> Result<Command<'a>, AllocError>
+    ensures app { IfOk result (λ command. app_of command ≡ serve_app names.entry) }
+    ensures globals { IfOk result (λ command. (out-Command command).has_globals ≡ false) }
+{
+    let command = run_command(alloc, "serve", ADDRESS, names, SERVE_ABOUT, SERVE_EXAMPLE)?;
+    let sessions = number_option(alloc, "sessions", "N", SESSIONS_HELP, 1, 64);
+    let command = command.arg(sessions)?;
+    let limit = number_option(alloc, "limit", "N", LIMIT_HELP, 1, 1_000_000);
+    let command = command.arg(limit)?;
+    let tries = number_option(alloc, "tries", "N", TRIES_HELP, 1, 1_000_000);
+    let command = command.arg(tries)?;
+    let idle = number_option(alloc, "idle", "SECONDS", IDLE_HELP, 0, 86_400);
+    command.arg(idle)
+}

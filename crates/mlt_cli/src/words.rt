@@ -1,0 +1,286 @@
+//! The words of the command line, and the job that they ask for.
+
+ghost use Rattle.std.specs.Prelude.{◌≡◌, ◌≤◌, ℕ, List, [], ◌∷◌, IfOk, IfErr, IfSome, map, option_map, codes};
+ghost use Rattle.std.specs.Str.Parse.{without_leading_plus};
+ghost use Rattle.std.specs.String.{string_bytes};
+ghost use Rattle.clap.specs.Words.{first_of, found_of, kind_of, rows_of, subcommand_rows_of};
+ghost use Rattle.mlt_cli.specs.CommandLine.{AskFor, FailsAt, IsFileWord, IsWithinBounds, Subcommand, asked_by, asked_in, asked_of, form_of_run, form_of_serve, form_of_work, hash_named, number_named, number_of_digits, run_in, serve_in, subcommand_name, tries_in, with_input, work_in};
+ghost use Rattle.mlt_cli.specs.CommandLine.Subcommand.{solo};
+
+use crate::commands::mltx_command;
+use clap::error::ErrorKind;
+use clap::{ArgMatches, Error};
+use std::alloc::{AllocError, Global};
+
+/// A hash function of the pages, by its name.
+#[derive(Clone, Copy, Debug, PartialEq, Eq)]
+pub enum Hash {
+    /// The number of a key, times a large odd number modulo 2^64.
+    Mult,
+    /// The low 16 bits of the number of a key, as the highest ones.
+    Low,
+}
+
+/// What is to be run, and how.
+#[derive(Debug, Drop)]
+pub struct Run {
+    /// The file to read, or the address to listen on, as it stands on the command line. The file `-` is standard input.
+    pub input: String,
+    /// The hash function of the pages, `Mult` where none is named.
+    pub hash: Hash,
+    /// The file for the trace as it stands on the command line, if there is one.
+    pub trace: Option<String>,
+}
+
+/// Scripts that are to be run side by side.
+#[derive(Debug, Drop)]
+pub struct Work {
+    /// What is to be run.
+    pub run: Run,
+    /// How many workers there are, from 1 to 8; 4 where none is said.
+    pub workers: usize,
+    /// How often a script may be told to wait, from 1 to 1,000,000; 10,000 where none is said.
+    pub tries: u64,
+}
+
+/// Connections that are to be served.
+#[derive(Debug, Drop)]
+pub struct Serve {
+    /// The address, as its input.
+    pub run: Run,
+    /// How many sessions there are at once, from 1 to 64; 8 where none is said.
+    pub sessions: usize,
+    /// How many connections there are in all, from 1 to 1,000,000; 1 where none is said.
+    pub limit: u32,
+    /// How often an operation may be told to wait, from 1 to 1,000,000; 10,000 where none is said.
+    pub tries: u64,
+    /// After how many seconds a connection is cut that gives and takes nothing, from 0 to 86,400. 0 is never, also where
+    /// none is said.
+    pub idle: u64,
+}
+
+/// What the program is asked to do.
+#[derive(Debug, Drop)]
+pub enum Job {
+    /// To run the scripts of an input one after another.
+    Solo(Run),
+    /// To run the schedule of an input.
+    Steps(Run),
+    /// To run the scripts of an input side by side.
+    Work(Work),
+    /// To check the trace of an input.
+    Check {
+        /// The input's file as it stands on the command line. `-` is standard input.
+        file: String,
+    },
+    /// To serve connections.
+    Serve(Serve),
+}
+
+// The names of the hash functions.
+static HASH_NAMES: [&str; 2] = ["mult", "low"];
+
+/// The job that the words after the program's name ask for. With no words it is `solo -`.
+///
+/// # Errors
+/// `clap`'s own, where the words ask for help or the version or are wrong, or memory runs out.
+pub fn read_words(alloc: Global, words: &[String]) -> Result<Job, Error>
+    // with no words standard input is run, if there is memory
+    ensures none { words.now ≡ []
+        → IfOk result (λ job. asked_of job ≡ with_input solo (codes "-")) }
+    ensures none_err { words.now ≡ []
+        → IfErr result (λ error. kind_of error ≡ ErrorKind.OutOfMemory) }
+    // after a subcommand a file or an address goes as it stands, if there is memory
+    ensures input { (subcommand : Subcommand) (input : List ℕ)
+        → map string_bytes words.now ≡ subcommand_name subcommand ∷ input ∷ [] → IsFileWord input
+        → IfOk result (λ job. asked_of job ≡ with_input subcommand input) }
+    ensures input_err { (subcommand : Subcommand) (input : List ℕ)
+        → map string_bytes words.now ≡ subcommand_name subcommand ∷ input ∷ [] → IsFileWord input
+        → IfErr result (λ error. kind_of error ≡ ErrorKind.OutOfMemory) }
+    // the job is the one that `clap` finds in the words, and it finds nothing wrong with them
+    ensures ok { IfOk result (λ job. AskFor (map string_bytes words.now) (asked_of job)) }
+    // its numbers are within their bounds
+    ensures bounds { IfOk result IsWithinBounds }
+    // an error is of a kind that the words call for, or memory ran out
+    ensures err { IfErr result (λ error. FailsAt (map string_bytes words.now) error) }
+{
+    read_job(alloc, words)
+}
+
+fn read_job(alloc: Global, words: &[String]) -> Result<Job, Error>
+    ensures ok { IfOk result (λ job. AskFor (map string_bytes words.now) (asked_of job)) }
+    ensures bounds { IfOk result IsWithinBounds }
+    ensures err { IfErr result (λ error. FailsAt (map string_bytes words.now) error) }
+{
+    if words.is_empty() {
+        return Ok(standard_input(alloc)?);
+    }
+    let mut command = mltx_command(alloc, HASH_NAMES.as_slice())?;
+    let matches = command.try_get_matches_from_mut(words)?;
+    match job_in(alloc, &matches)? {
+        Some(job) => Ok(job),
+        None => Err(command.error(ErrorKind::MissingRequiredArgument, "an input is wanted")?),
+    }
+}
+
+fn standard_input(alloc: Global) -> Result<Job, AllocError>
+    ensures asked { IfOk result (λ job. asked_of job ≡ with_input solo (codes "-")) }
+    ensures bounds { IfOk result IsWithinBounds }
+{
+    Ok(Job::Solo(Run {
+        input: String::from_str(alloc, "-")?,
+        hash: Hash::Mult,
+        trace: None,
+    }))
+}
+
+fn job_in(alloc: Global, matches: &ArgMatches<'_>) -> Result<Option<Job>, AllocError>
+    ensures asked { IfOk result
+        (λ job. option_map asked_of job ≡ asked_in (subcommand_rows_of matches.now)) }
+    ensures bounds { IfOk result (λ job. IfSome job IsWithinBounds) }
+{
+    match matches.subcommand() {
+        Some((name, found)) => job_of(alloc, name, found),
+        None => Ok(None),
+    }
+}
+
+fn job_of(alloc: Global, name: &str, found: &ArgMatches<'_>) -> Result<Option<Job>, AllocError>
+    ensures asked { IfOk result
+        (λ job. option_map asked_of job ≡ asked_by name.now (rows_of (found_of found.now))) }
+    ensures bounds { IfOk result (λ job. IfSome job IsWithinBounds) }
+{
+    if name == "solo" {
+        Ok(run_found(alloc, found)?.map(Job::Solo))
+    } else if name == "steps" {
+        Ok(run_found(alloc, found)?.map(Job::Steps))
+    } else if name == "run" {
+        Ok(work_found(alloc, found)?.map(Job::Work))
+    } else if name == "check" {
+        Ok(text_found(alloc, found, "input")?.map(|file| Job::Check { file }))
+    } else if name == "serve" {
+        Ok(serve_found(alloc, found)?.map(Job::Serve))
+    } else {
+        Ok(None)
+    }
+}
+
+fn run_found(alloc: Global, found: &ArgMatches<'_>) -> Result<Option<Run>, AllocError>
+    ensures { IfOk result
+        (λ run. option_map form_of_run run ≡ run_in (rows_of (found_of found.now))) }
+{
+    let Some(input) = text_found(alloc, found, "input")? else {
+        return Ok(None);
+    };
+    let Some(hash) = hash_of(found.get_str("hash")) else {
+        return Ok(None);
+    };
+    let trace = text_found(alloc, found, "trace")?;
+    Ok(Some(Run { input, hash, trace }))
+}
+
+fn work_found(alloc: Global, found: &ArgMatches<'_>) -> Result<Option<Work>, AllocError>
+    ensures asked { IfOk result
+        (λ work. option_map form_of_work work ≡ work_in (rows_of (found_of found.now))) }
+    ensures bounds { IfOk result
+        (λ work. IfSome work (λ work. IsWithinBounds (Job.Work work))) }
+{
+    let Some(run) = run_found(alloc, found)? else {
+        return Ok(None);
+    };
+    let Some(workers) = number_found(found, "workers", 1, 8, 4) else {
+        return Ok(None);
+    };
+    let Some(tries) = tries_found(found) else {
+        return Ok(None);
+    };
+    Ok(Some(Work {
+        run,
+        workers: workers as usize,
+        tries,
+    }))
+}
+
+fn serve_found(alloc: Global, found: &ArgMatches<'_>) -> Result<Option<Serve>, AllocError>
+    ensures asked { IfOk result
+        (λ serve. option_map form_of_serve serve ≡ serve_in (rows_of (found_of found.now))) }
+    ensures bounds { IfOk result
+        (λ serve. IfSome serve (λ serve. IsWithinBounds (Job.Serve serve))) }
+{
+    let Some(run) = run_found(alloc, found)? else {
+        return Ok(None);
+    };
+    let Some(sessions) = number_found(found, "sessions", 1, 64, 8) else {
+        return Ok(None);
+    };
+    let Some(limit) = number_found(found, "limit", 1, 1_000_000, 1) else {
+        return Ok(None);
+    };
+    let Some(tries) = tries_found(found) else {
+        return Ok(None);
+    };
+    let Some(idle) = number_found(found, "idle", 0, 86_400, 0) else {
+        return Ok(None);
+    };
+    Ok(Some(Serve {
+        run,
+        sessions: sessions as usize,
+        limit: limit as u32,
+        tries,
+        idle,
+    }))
+}
+
+fn text_found(alloc: Global, found: &ArgMatches<'_>, id: &str) -> Result<Option<String>, AllocError>
+    ensures { IfOk result
+        (λ text. option_map string_bytes text ≡ first_of id.now (rows_of (found_of found.now))) }
+{
+    match found.get_str(id) {
+        Some(text) => Ok(Some(String::from_str(alloc, text)?)),
+        None => Ok(None),
+    }
+}
+
+fn tries_found(found: &ArgMatches<'_>) -> Option<u64>
+    ensures number { result ≡ tries_in (rows_of (found_of found.now)) }
+    ensures within { IfSome result (λ number. (1 ≤ number) × (number ≤ 1000000)) }
+{
+    number_found(found, "tries", 1, 1_000_000, 10_000)
+}
+
+// The number that an option gives within these bounds, and the usual one where it is not given.
+fn number_found(found: &ArgMatches<'_>, id: &str, least: u64, most: u64, usual: u64) -> Option<u64>
+    requires least { least ≤ usual }
+    requires most { usual ≤ most }
+    ensures number { result
+        ≡ number_named least most usual (first_of id.now (rows_of (found_of found.now))) }
+    ensures within { IfSome result (λ number. (least ≤ number) × (number ≤ most)) }
+{
+    match found.get_str(id) {
+        Some(word) => number_of(word, least, most),
+        None => Some(usual),
+    }
+}
+
+// The number that a word writes, if it lies within these bounds.
+fn number_of(word: &str, least: u64, most: u64) -> Option<u64>
+    ensures number { result ≡ number_of_digits least most (without_leading_plus word.now) }
+    ensures within { IfSome result (λ number. (least ≤ number) × (number ≤ most)) }
+{
+    match word.parse::<u64>() {
+        Ok(number) if least <= number && number <= most => Some(number),
+        _ => None,
+    }
+}
+
+// The hash function of this name, and `Mult` where none is given.
+fn hash_of(name: Option<&str>) -> Option<Hash>
+    ensures { result ≡ hash_named (option_map (λ name. name.now) name.entry) }
+{
+    match name {
+        None => Some(Hash::Mult),
+        Some(name) if name == "mult" => Some(Hash::Mult),
+        Some(name) if name == "low" => Some(Hash::Low),
+        Some(_) => None,
+    }
+}

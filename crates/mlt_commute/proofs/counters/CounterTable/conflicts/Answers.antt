@@ -1,5 +1,0 @@
-use Rattle.mlt_commute.proofs.CounterExact.{counter_exact}
-use Rattle.mlt_commute.proofs.counters.CounterTable.conflicts.Goals as goal
-
-pub returns-clause-exact : goal.returns-clause-exact
-returns-clause-exact c = rw c.is_marked.ensures (counter_exact c.args.held c.args.requested)

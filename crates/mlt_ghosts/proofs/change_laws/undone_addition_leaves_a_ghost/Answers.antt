@@ -1,5 +1,0 @@
-use Rattle.mlt_ghosts.proofs.Changes.{undone_addition_law}
-use Rattle.mlt_ghosts.proofs.change_laws.undone_addition_leaves_a_ghost.Goals as goal
-
-pub returns : goal.returns
-returns c = undone_addition_law

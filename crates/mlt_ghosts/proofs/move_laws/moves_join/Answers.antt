@@ -1,5 +1,0 @@
-use Rattle.mlt_ghosts.proofs.Moves.{moves_joined}
-use Rattle.mlt_ghosts.proofs.move_laws.moves_join.Goals as goal
-
-pub returns : goal.returns
-returns c = moves_joined

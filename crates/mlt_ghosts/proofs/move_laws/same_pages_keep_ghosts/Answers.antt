@@ -1,5 +1,0 @@
-use Rattle.mlt_ghosts.proofs.Moves.{same_matched}
-use Rattle.mlt_ghosts.proofs.move_laws.same_pages_keep_ghosts.Goals as goal
-
-pub returns : goal.returns
-returns c = same_matched

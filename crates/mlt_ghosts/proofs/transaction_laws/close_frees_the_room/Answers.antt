@@ -1,5 +1,0 @@
-use Rattle.mlt_ghosts.proofs.Transactions.{close_law}
-use Rattle.mlt_ghosts.proofs.transaction_laws.close_frees_the_room.Goals as goal
-
-pub returns : goal.returns
-returns c = close_law

@@ -1,0 +1,29 @@
+use Rattle.std.proofs.Common.{ap, refl}
+use Rattle.mlt_page_store.specs.Stores.{page_at}
+use Rattle.mlt_hash_access.specs.Moments.{Moment, moment}
+use Rattle.mlt_hash_access.specs.PageSteps.{LocksPage}
+use Rattle.mlt_hash_access.proofs.Leaving.{leaves_by_locking, leaves_it}
+use Rattle.mlt_hash_access.proofs.Results.{lock_granted, page_there}
+use Rattle.mlt_hash_access.proofs.Views.{lock_reads}
+use Rattle.mlt_hash_access.proofs.pages.lock.Goals.{After-ask, In-Held}
+use Rattle.mlt_hash_access.proofs.pages.lock.Goals as goal
+
+abbrev before : After-ask → Moment
+before c = moment c.args.subtx.now c.args.pages.now
+
+abbrev after : After-ask → Moment
+after c = moment c.args.subtx.now (record { store = c.args.pages.now.store; locks = c.ask.new.self })
+
+told : (c : In-Held) → LocksPage (before c.before) (after c.before) c.args.number c.args.mode
+told c = lock_granted (before c.before) c.ask.new.self c.tx.result c.args.number c.args.mode c.tx.ensures c.requires.there c.in-Held.ensures.answer
+
+pub returns-in-Held-clause-view : goal.returns-in-Held-clause-view
+returns-in-Held-clause-view c =
+    let there = page_there (page_at c.args.pages.now.store.pages c.args.number) c.requires.there in
+    (_, lock_reads (before c.before) (after c.before) c.args.number c.args.mode there.0 c.requires.may (told c) there.1)
+
+pub returns-in-Held-clause-leaves : goal.returns-in-Held-clause-leaves
+returns-in-Held-clause-leaves c = leaves_by_locking (before c.before) (after c.before) _ c.args.number c.args.mode c.requires.may (told c) refl
+
+pub returns-in-Waiting-clause-leaves : goal.returns-in-Waiting-clause-leaves
+returns-in-Waiting-clause-leaves c = leaves_it (before c.before) _ c.requires.may (ap (λ locks. moment c.args.subtx.now (record { store = c.args.pages.now.store; locks = locks })) c.in-Waiting.ensures.answer.1)

@@ -1,0 +1,11 @@
+//! Pages with their locks.
+
+use mlt_page_locks::PageLocks;
+use mlt_page_store::Store;
+
+/// The pages of all transactions, and who holds which of them.
+#[derive(Drop)]
+pub struct LockedStore {
+    pub store: Store,
+    pub locks: PageLocks,
+}

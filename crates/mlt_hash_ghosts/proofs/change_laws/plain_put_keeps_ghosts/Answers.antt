@@ -1,0 +1,5 @@
+use Rattle.mlt_hash_ghosts.proofs.Changes.{plain_put_law}
+use Rattle.mlt_hash_ghosts.proofs.change_laws.plain_put_keeps_ghosts.Goals as goal
+
+pub returns : goal.returns
+returns c = plain_put_law

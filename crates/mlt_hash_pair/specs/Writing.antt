@@ -1,0 +1,71 @@
+-- What the parts of a change tell: in one bucket, and in the later one of two
+use Rattle.std.specs.Prelude.{ℕ, ◌≡◌, true, Option, Some}
+use Rattle.std.specs.Ordering.{nat_cmp}
+use Rattle.std.specs.FinSet as set
+use Rattle.mlt_page.specs.Values.{BucketFields}
+use Rattle.mlt_page_locks.specs.LockTables.{can_write}
+use Rattle.mlt_hash_access.specs.Moments.{Moment}
+use Rattle.mlt_hash_access.specs.PageSteps.{WritesHeldSlot}
+use Rattle.mlt_hash_access.specs.Views.{ReadsHeldBucket, View, WritesSlot, view_of}
+use Rattle.mlt_hash_pair.specs.Changes.{IsFull, MakesAsked, Task}
+use Rattle.mlt_hash_pair.specs.Pairs.{PairFields}
+use Rattle.mlt_hash_pair.specs.Plans.{FitsSlots, IsPlanned}
+use Rattle.mlt_hash_pair.specs.declared.asked.Changes.{Changes}
+use Rattle.mlt_hash_pair.specs.declared.asked.RecordChange.{RecordChange}
+use Rattle.mlt_hash_pair.specs.declared.answer.ChangeAnswer.{ChangeAnswer}
+use Rattle.mlt_hash_pair.specs.declared.answer.ChangeAnswer.TheVariants as answer
+use Rattle.mlt_hash_pair.specs.declared.answer.Side.TheVariants as side
+use Rattle.mlt_hash_pair.specs.declared.plan.Plan.{Plan}
+use Rattle.mlt_hash_pair.specs.declared.plan.Plan.TheVariants as plan
+
+-- page q reads as a bucket that what is asked fits
+abbrev pub MayPlan : Option RecordChange → ℕ → ℕ → View → Type 0
+MayPlan asked key q view =
+    (bucket : BucketFields) × ReadsHeldBucket view q bucket × FitsSlots asked key bucket.slots
+
+-- what is planned there
+abbrev pub HasPlan : Plan → Option RecordChange → set.FinSet nat_cmp → ℕ → ℕ → ℕ → View → Type 0
+HasPlan plan asked opens tx key q view =
+    (bucket : BucketFields) × ReadsHeldBucket view q bucket
+    × IsPlanned plan asked opens tx key q bucket
+
+-- both changes in one bucket, the left one first
+abbrev pub TellsOfOne : Task → Moment → Moment → ChangeAnswer → Type 0
+TellsOfOne task old new answer.Changed =
+    (mid : View)
+    × MakesAsked task.changes.left task.opens old.running.tx task.left task.left_page
+    (view_of old) mid
+    × MakesAsked task.changes.right task.opens old.running.tx task.right task.right_page
+    mid (view_of new)
+TellsOfOne task old new answer.OneLeft = ⊥
+TellsOfOne task old new (answer.Full side.Left) =
+    IsFull task.changes.left task.opens old.running.tx task.left task.left_page (view_of old)
+    × (new ≡ old)
+TellsOfOne task old new (answer.Full side.Right) =
+    ((mid : View)
+    × MakesAsked task.changes.left task.opens old.running.tx task.left task.left_page
+    (view_of old) mid
+    × IsFull task.changes.right task.opens old.running.tx task.right task.right_page mid)
+    × (new ≡ old)
+
+-- the slot that is planned may be written
+abbrev pub MayWrite : Plan → Moment → Type 0
+MayWrite plan.Nothing m = Unit {0}
+MayWrite (plan.Set write) m = (can_write m.locks m.running.tx write.number ≡ true)
+    × ((bucket : BucketFields) × ReadsHeldBucket (view_of m) write.number bucket)
+MayWrite plan.Full m = Unit {0}
+
+-- and is written
+abbrev pub WritesPlan : Plan → Moment → Moment → Type 0
+WritesPlan plan.Nothing old new = new ≡ old
+WritesPlan (plan.Set write) old new =
+    WritesHeldSlot old new write.number write.at write.slot
+    × WritesSlot (view_of old) (view_of new) write.number write.at write.slot
+WritesPlan plan.Full old new = new ≡ old
+
+-- a plan is owed, if a slot is to be set
+abbrev pub OwesPlan : Plan → PairFields → PairFields → ChangeAnswer → Type 0
+OwesPlan plan.Nothing before after told = (after ≡ before) × (told ≡ answer.Changed)
+OwesPlan (plan.Set write) before after told =
+    (after ≡ record before { owed = Some write }) × (told ≡ answer.OneLeft)
+OwesPlan plan.Full before after told = (after ≡ before) × (told ≡ answer.Changed)

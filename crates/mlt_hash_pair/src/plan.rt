@@ -1,0 +1,85 @@
+//! The plan of what is to be written for one key.
+
+ghost use Rattle.std.specs.Prelude.{◌≡◌, Option, Some};
+ghost use Rattle.mlt_hash_pair.specs.Plans.{FitsSlots, IsPlanned, IsWithin, bucket_after};
+
+use crate::asked::RecordChange;
+use mlt_page::Bucket;
+use mlt_hash_record::SlotWrite;
+use mlt_types::{Key, OpenSet, PageNo, TxId};
+
+/// What is to be written for one key.
+#[derive(Clone, Copy, Debug, PartialEq, Eq)]
+pub(crate) enum Plan {
+    /// Nothing is asked for.
+    Nothing,
+    /// This slot is to be set.
+    Set(SlotWrite),
+    /// There is no room for the record.
+    Full,
+}
+
+/// The plan of what is asked for of this key in its bucket, which is on page `number`. `owner` is the transaction.
+pub(crate) fn plan_in(
+    bucket: &Bucket,
+    number: PageNo,
+    key: &Key,
+    asked: &Option<RecordChange>,
+    owner: TxId,
+    opens: &OpenSet,
+) -> Plan
+    requires fits { FitsSlots asked.now key.now bucket.now.slots }
+    ensures planned { IsPlanned result asked.now opens.now owner key.now number bucket.now }
+    ensures within { IsWithin result }
+{
+    match *asked {
+        None => Plan::Nothing,
+        Some(change) => plan_of(bucket, number, key, change, owner, opens),
+    }
+}
+
+// The plan of a change.
+fn plan_of(
+    bucket: &Bucket,
+    number: PageNo,
+    key: &Key,
+    change: RecordChange,
+    owner: TxId,
+    opens: &OpenSet,
+) -> Plan
+    requires fits { FitsSlots (Some change) key.now bucket.now.slots }
+    ensures planned { IsPlanned result (Some change) opens.now owner key.now number bucket.now }
+    ensures within { IsWithin result }
+{
+    match change {
+        RecordChange::Insert(value) => {
+            if let Some(write) = mlt_hash_record::revive(number, bucket, *key, owner, value) {
+                return Plan::Set(write);
+            }
+            match mlt_hash_record::insert(number, bucket, *key, value, opens) {
+                Some(write) => Plan::Set(write),
+                None => Plan::Full,
+            }
+        }
+        RecordChange::Update(value) => match mlt_hash_record::update(number, bucket, *key, value) {
+            Some(write) => Plan::Set(write),
+            None => unreachable!(),
+        },
+        RecordChange::Remove => match mlt_hash_record::remove(number, bucket, *key, owner) {
+            Some(write) => Plan::Set(write),
+            None => unreachable!(),
+        },
+    }
+}
+
+/// The bucket with the plan in it.
+pub(crate) fn bucket_after(bucket: &Bucket, plan: &Plan) -> Bucket
+    requires within { IsWithin plan.now }
+    ensures { result ≡ bucket_after bucket.now plan.now }
+{
+    let mut after = *bucket;
+    if let Plan::Set(write) = *plan {
+        after.set_slot(write.at, write.slot);
+    }
+    after
+}

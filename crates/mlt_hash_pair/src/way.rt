@@ -1,0 +1,109 @@
+//! The way of one key to its bucket.
+
+ghost use Rattle.std.specs.Prelude.{◌≡◌, ◌<◌, ◌≤◌, ℕ};
+ghost use Rattle.mlt_page.specs.Values.{HeadFields};
+ghost use Rattle.mlt_page.specs.declared.page.Page.TheVariants as page;
+ghost use Rattle.mlt_hash_pair.specs.Reading.{is_before, next_mode, next_page, way_after, way_by_header};
+
+use mlt_hash_form::{Place, Root, value_in};
+use mlt_page::{HeadPage, Page};
+use mlt_types::{Key, Mode, PageNo, Pseudo, Value};
+
+/// How far a key is on its way.
+#[derive(Clone, Copy, Debug, PartialEq, Eq)]
+pub enum Way {
+    /// Nothing is read.
+    Start,
+    /// The header is read: the place there of the key's directory page, that page, and the key's entry on it.
+    Headed(usize, PageNo, usize),
+    /// The directory page is read: it, and the page of the key's bucket.
+    Placed(PageNo, PageNo),
+    /// The bucket is read: the directory page, the bucket's page, and the value that the key has there, if it has one.
+    AtBucket(PageNo, PageNo, Option<Value>),
+}
+
+impl Way {
+    /// The page that is to be read next. At its bucket the way is done. `root` is the header's page.
+    pub(crate) fn next_page(&self, root: PageNo) -> PageNo
+        ensures { result ≡ next_page root self.now }
+    {
+        match *self {
+            Way::Start => root,
+            Way::Headed(_, dir, _) => dir,
+            Way::Placed(_, bucket) | Way::AtBucket(_, bucket, _) => bucket,
+        }
+    }
+
+    /// The mode of that page: only buckets are locked exclusively.
+    pub(crate) fn next_mode(&self) -> Mode
+        ensures { result ≡ next_mode self.now }
+    {
+        match self {
+            Way::Start | Way::Headed(_, _, _) => Mode::Shared,
+            Way::Placed(_, _) | Way::AtBucket(_, _, _) => Mode::Exclusive,
+        }
+    }
+
+    /// Whether its next page is to be locked before that of the other: the header, then the pages of the directory by
+    /// their places, then the buckets by their pages.
+    pub(crate) fn is_before(&self, other: &Way) -> bool
+        ensures { result ≡ is_before self.now other.now }
+    {
+        match *self {
+            Way::Start => true,
+            Way::Headed(own, _, _) => match *other {
+                Way::Start => false,
+                Way::Headed(place, _, _) => own <= place,
+                Way::Placed(_, _) | Way::AtBucket(_, _, _) => true,
+            },
+            Way::Placed(_, own) => match *other {
+                Way::Start | Way::Headed(_, _, _) => false,
+                Way::Placed(_, bucket) => own.0 <= bucket.0,
+                Way::AtBucket(_, _, _) => true,
+            },
+            Way::AtBucket(_, _, _) => false,
+        }
+    }
+
+    /// The way of this key once a page is read: one page further, if it is the next one.
+    pub(crate) fn after<P: Pseudo>(
+        &self,
+        key: &Key,
+        number: PageNo,
+        read: &Page,
+        root: &Root<P>,
+    ) -> Way
+        requires small { (header : HeadFields) → read.now ≡ page.Head header → header.depth ≤ 16 }
+        requires row { (place dir row : ℕ) → self.now ≡ Way.Headed place dir row → row < 256 }
+        ensures { result
+            ≡ way_after (P.bits_of root.now.pseudo) root.now.page key.now self.now number read.now }
+    {
+        if number != self.next_page(root.page) {
+            return *self;
+        }
+        match *self {
+            Way::Start => match read {
+                Page::Head(header) => way_by_header(header, key, root),
+                _ => *self,
+            },
+            Way::Headed(_, dir, row) => match read {
+                Page::Dir(entries) => Way::Placed(dir, entries.entry(row)),
+                _ => *self,
+            },
+            Way::Placed(dir, bucket) => match read {
+                Page::Bucket(slots) => Way::AtBucket(dir, bucket, value_in(slots, *key)),
+                _ => *self,
+            },
+            Way::AtBucket(_, _, _) => *self,
+        }
+    }
+}
+
+// The way of a key once the header is read.
+fn way_by_header<P: Pseudo>(header: &HeadPage, key: &Key, root: &Root<P>) -> Way
+    requires { header.now.depth ≤ 16 }
+    ensures { result ≡ way_by_header (P.bits_of root.now.pseudo) key.now header.now }
+{
+    let place = Place::of(root.pseudo.bits(key), header.depth);
+    Way::Headed(place.dir, header.dir(place.dir), place.entry)
+}

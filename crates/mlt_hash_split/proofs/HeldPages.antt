@@ -1,0 +1,67 @@
+-- What the pages that a walk holds read as, and what stays of them from step to step
+use Rattle.std.proofs.Common.{ℕ, ◌≡◌, true, is_some, unwrap_or, Option, Some, None, sym, ◌∙◌, ap}
+use Rattle.std.specs.FinMap as map
+use Rattle.std.proofs.lemmas.Bool.{both_ways}
+use Rattle.mlt_types.specs.declared.mode.Mode.{Mode}
+use Rattle.mlt_types.specs.declared.mode.Mode.TheVariants.{Exclusive}
+use Rattle.mlt_page.specs.Values.{BucketFields, HeadFields}
+use Rattle.mlt_page.specs.declared.page.Page.{Page}
+use Rattle.mlt_page.specs.declared.page.Page.TheVariants as page
+use Rattle.mlt_page_store.specs.Stores.{page_at}
+use Rattle.mlt_hash_form.specs.Held.{Agrees, over, own_or}
+use Rattle.mlt_hash_access.specs.Moments.{HasFileOver, IsCleanFor, MayStep, Moment}
+use Rattle.mlt_hash_access.specs.Views.{HasWritten, MakesPage, View, view_of, view_over}
+use Rattle.mlt_hash_access.proofs.Since.{agrees_over, there_since}
+use Rattle.mlt_hash_split.specs.Rests.{Aim, held_page}
+use Rattle.mlt_hash_access.proofs.Views.{mode_of_others}
+use Rattle.mlt_hash_split.proofs.Closing.{HasClean}
+use Rattle.mlt_hash_split.proofs.Later.{exclusive_here}
+
+-- a hash file as it is clean now
+pub clean_now : (aim : Aim) (m : Moment) → MayStep m → HasFileOver aim.bits aim.root aim.before m → HasClean aim (view_over aim.before m)
+clean_now aim m may file = record { clean = over file.clean aim.before; agrees = agrees_over aim.before m file.clean may file.is_clean; form = file.form }
+
+-- and as it is after a step, if it is clean still
+pub agrees_later : (aim : Aim) (old new : Moment) (was : MayStep old) → MayStep new → (file : HasFileOver aim.bits aim.root aim.before old) → IsCleanFor new file.clean → Agrees (view_over aim.before new).seen (clean_now aim old was file).clean
+unfolding clean_now
+agrees_later aim old new was may file is_clean = agrees_over aim.before new file.clean may is_clean
+
+pub clean_later : (aim : Aim) (old new : Moment) → MayStep new → (file : HasFileOver aim.bits aim.root aim.before old) → IsCleanFor new file.clean → HasClean aim (view_over aim.before new)
+clean_later aim old new may file is_clean = record { clean = over file.clean aim.before; agrees = agrees_over aim.before new file.clean may is_clean; form = file.form }
+
+-- the pages of the walk's file are in the store
+pub file_is_there : (aim : Aim) (m : Moment) (may : MayStep m) → HasWritten aim.before (view_of m) → (file : HasFileOver aim.bits aim.root aim.before m)
+    → (q : ℕ) → is_some (over (clean_now aim m may file).clean (view_of m).own q) ≡ true → is_some (page_at m.store.pages q) ≡ true
+unfolding clean_now
+file_is_there aim m may written file q some = there_since aim.before m written file.clean q may file.is_clean some
+
+-- what is read of a held page is what the view has
+pub reads_as : (view : View) (q : ℕ) (p : Option Page) → (first : Option Page) × (view.seen q ≡ Some first) × (own_or (view.own q) first ≡ p) → held_page view q ≡ p
+reads_as view q p reads = ap (λ o. own_or (view.own q) (unwrap_or o None)) reads.1 ∙ reads.2
+
+pub same_header : (view : View) (q : ℕ) (old new : HeadFields) → held_page view q ≡ Some (page.Head old) → held_page view q ≡ Some (page.Head new) → old ≡ new
+same_header view q old new is_old is_new = let e : Some (page.Head old) ≡ Some (page.Head new) = sym is_old ∙ is_new in cc
+
+pub same_bucket : (view : View) (q : ℕ) (old new : BucketFields) → held_page view q ≡ Some (page.Bucket old) → held_page view q ≡ Some (page.Bucket new) → old ≡ new
+same_bucket view q old new is_old is_new = let e : Some (page.Bucket old) ≡ Some (page.Bucket new) = sym is_old ∙ is_new in cc
+
+module _ (old new : View) (q : ℕ) (page : Page) (makes : MakesPage old new q page) where
+  -- a page that is held is not the one that is made
+  pub not_made : (p : ℕ) → is_some (old.seen p) ≡ true → p ≡ q → ⊥
+  not_made p held e = both_ways _ (ap is_some (ap old.seen e ∙ makes.fresh)) held
+
+  pub seen_after_make : (p : ℕ) → is_some (old.seen p) ≡ true → new.seen p ≡ old.seen p
+  seen_after_make p held = makes.seen_others p (not_made p held)
+
+  pub reads_after_make : (p : ℕ) → is_some (old.seen p) ≡ true → held_page new p ≡ held_page old p
+  reads_after_make p held = λ i. own_or (makes.own_others p (not_made p held) i) (unwrap_or (seen_after_make p held i) None)
+
+  pub mode_after_make : (p : ℕ) → is_some (old.seen p) ≡ true → map.get new.modes p ≡ map.get old.modes p
+  mode_after_make p held = ap (λ modes. map.get modes p) makes.modes ∙ mode_of_others old.modes q Exclusive p (not_made p held)
+
+  pub exclusive_after_make : map.get new.modes q ≡ Some Exclusive
+  exclusive_after_make = ap (λ modes. map.get modes q) makes.modes ∙ exclusive_here old.modes q
+
+  -- all that was seen still is
+  pub grows_by_make : (p : ℕ) (first : Option Page) → old.seen p ≡ Some first → new.seen p ≡ Some first
+  grows_by_make p first sees = seen_after_make p (ap is_some sees) ∙ sees

@@ -1,0 +1,192 @@
+-- What stays of a split under way as its walk locks, writes and makes pages
+use Rattle.std.proofs.Common.{◌≡◌, ℕ, ◌-◌, ◌<◌, ◌≤◌, ◌^◌, Bool, cond, false, true, List, Option, None, Some, is_some, unwrap_or, refl, sym, ap, subst, ◌∙◌, inl, inr, arith}
+use Rattle.std.specs.FinMap as map
+use Rattle.std.proofs.lemmas.Bool.{cases_eq, false≢true}
+use Rattle.mlt_types.specs.declared.mode.Mode.{Mode}
+use Rattle.mlt_types.specs.declared.mode.Mode.TheVariants.{Exclusive, Shared}
+use Rattle.mlt_page.specs.declared.page.Page.{Page}
+use Rattle.mlt_page.specs.Values.{HeadFields}
+use Rattle.mlt_page_locks.specs.LockTables.{Modes, can_read, can_write}
+use Rattle.mlt_page_locks.specs.Requests.{stronger, with_page}
+use Rattle.mlt_hash_form.specs.File.{FilePages, HasForm}
+use Rattle.mlt_hash_form.specs.Held.{Agrees, over, own_or}
+use Rattle.mlt_hash_form.proofs.HeldPages.{keeps_more}
+use Rattle.mlt_hash_access.specs.Moments.{MayStep, Moment}
+use Rattle.mlt_hash_access.specs.Views.{MakesPage, ReadsPage, View, WritesPage, view_of, view_over, HasWritten}
+use Rattle.mlt_hash_access.proofs.Since.{held_over_seen}
+use Rattle.mlt_hash_split.proofs.Closing.{HasClean}
+use Rattle.mlt_hash_split.specs.Rests.{Aim, held_page}
+use Rattle.mlt_hash_split.specs.Splits.{Begins, HoldsAmongAt, IsUnderWay, SplitFields, StandsAt}
+use Rattle.mlt_hash_split.specs.Steps.{IsMaking}
+use Rattle.mlt_hash_split.specs.Tells.{Tells}
+use Rattle.mlt_hash_split.specs.declared.phase.SplitPhase.{SplitPhase}
+use Rattle.mlt_hash_split.specs.declared.split.SplitAnswer.TheVariants as answer
+use Rattle.mlt_types.specs.declared.refusal.Refusal.{Refusal}
+use Rattle.mlt_types.specs.declared.refusal.Refusal.TheVariants as refusal
+use Rattle.std.specs.Prelude.{◌⊎◌, ◌↔◌, Result, Err}
+use Rattle.std.proofs.Math.Nat.{pow-le-pow_right}
+use Rattle.mlt_hash_access.proofs.Views.{agrees, may_write, mode_of_others, mode_of_page}
+
+-- what was seen is seen still, what was held exclusively is held so, and the header is not written
+pub record IsLater (root : ℕ) (view view' : View) : Type 0 where
+  pub before : (p : ℕ) (first : Option Page) → view.seen p ≡ Some first → view'.seen p ≡ Some first
+  pub exclusive : (p : ℕ) → map.get view.modes p ≡ Some Exclusive → map.get view'.modes p ≡ Some Exclusive
+  pub head : view'.own root ≡ view.own root
+
+-- page q, which was there, is locked exclusively and written
+pub record Rewrites (view view' : View) (q : ℕ) (page : Page) : Type 0 where
+  pub modes : view'.modes ≡ with_page view.modes q Exclusive
+  pub before : (p : ℕ) (first : Option Page) → view.seen p ≡ Some first → view'.seen p ≡ Some first
+  pub here : view'.own q ≡ Some page
+  pub others : (p : ℕ) → (p ≡ q → ⊥) → view'.own p ≡ view.own p
+
+pub rewrites : (view mid view' : View) (q : ℕ) (was : Option Page) (page : Page) → ReadsPage view mid q Exclusive was → WritesPage mid view' q page → Rewrites view view' q page
+rewrites view mid view' q was page reads writes = record {
+  modes = writes.modes ∙ reads.modes;
+  before = λ p first sees. writes.seen p ∙ reads.before p first sees;
+  here = writes.here;
+  others = λ p ne. writes.others p ne ∙ reads.own p;
+}
+
+seen_as : (o : Option (Option Page)) → is_some o ≡ true → (p : Option Page) × (o ≡ Some p)
+seen_as None h = absurd (false≢true h)
+seen_as (Some p) h = (p, refl)
+
+pub stronger_exclusive : (held : Option Mode) → stronger held Exclusive ≡ Exclusive
+stronger_exclusive None = refl
+stronger_exclusive (Some Shared) = refl
+stronger_exclusive (Some Exclusive) = refl
+
+-- a page that is locked exclusively is held so,
+pub exclusive_here : (modes : Modes) (q : ℕ) → map.get (with_page modes q Exclusive) q ≡ Some Exclusive
+exclusive_here modes q = mode_of_page modes q Exclusive ∙ ap Some (stronger_exclusive (map.get modes q))
+
+-- and one that was held so stays so, whatever page is locked
+pub exclusive_stays : (modes : Modes) (q : ℕ) (mode : Mode) (p : ℕ) → map.get modes p ≡ Some Exclusive → map.get (with_page modes q mode) p ≡ Some Exclusive
+exclusive_stays modes q mode p was =
+    elim (cases_eq p q) [
+      | inl here ↦ subst (λ (p : ℕ). map.get modes p ≡ Some Exclusive → map.get (with_page modes q mode) p ≡ Some Exclusive) (sym here) (λ (e : map.get modes q ≡ Some Exclusive). mode_of_page modes q mode ∙ ap (λ o. Some (stronger o mode)) e) was
+      | inr elsewhere ↦ mode_of_others modes q mode p elsewhere ∙ was
+    ]
+
+pub later_by_rewrite : (root : ℕ) (view view' : View) (q : ℕ) (page : Page) → (root ≡ q → ⊥) → Rewrites view view' q page → IsLater root view view'
+later_by_rewrite root view view' q page ne rewrites = record {
+  before = rewrites.before;
+  exclusive = λ p was. subst (λ (modes : Modes). map.get modes p ≡ Some Exclusive) (sym rewrites.modes) (exclusive_stays view.modes q Exclusive p was);
+  head = rewrites.others root ne;
+}
+
+-- a page that is made is none that was seen
+pub made_is_another : (view view' : View) (q : ℕ) (page : Page) (p : ℕ) (first : Option Page) → MakesPage view view' q page → view.seen p ≡ Some first → p ≡ q → ⊥
+made_is_another view view' q page p first makes sees e =
+    let none : None ≡ Some first = sym makes.fresh ∙ sym (ap view.seen e) ∙ sees in
+    cc
+
+pub later_by_making : (root : ℕ) (view view' : View) (q : ℕ) (page : Page) → is_some (view.seen root) ≡ true → MakesPage view view' q page → IsLater root view view'
+later_by_making root view view' q page held makes =
+    let head = seen_as (view.seen root) held in
+    record {
+      before = λ p first sees. makes.seen_others p (made_is_another view view' q page p first makes sees) ∙ sees;
+      exclusive = λ p was. subst (λ (modes : Modes). map.get modes p ≡ Some Exclusive) (sym makes.modes) (exclusive_stays view.modes q Exclusive p was);
+      head = makes.own_others root (made_is_another view view' q page root head.0 makes head.1);
+    }
+
+-- clean pages that agree with a later view agreed before
+pub agreed_before : (root : ℕ) (view view' : View) (clean : ℕ → Option Page) → IsLater root view view' → Agrees view'.seen clean → Agrees view.seen clean
+agreed_before root view view' clean later agree p first sees = agree p first (later.before p first sees)
+
+-- a page that is held is held still
+pub held_still : (root : ℕ) (view view' : View) (q : ℕ) → IsLater root view view' → is_some (view.seen q) ≡ true → is_some (view'.seen q) ≡ true
+held_still root view view' q later held =
+    let was = seen_as (view.seen q) held in
+    ap is_some (later.before q was.0 was.1)
+
+-- the header reads as before
+pub same_head : (root : ℕ) (view view' : View) → IsLater root view view' → is_some (view.seen root) ≡ true → held_page view' root ≡ held_page view root
+same_head root view view' later held =
+    let was = seen_as (view.seen root) held in
+    let now : view'.seen root ≡ view.seen root = later.before root was.0 was.1 ∙ sym was.1 in
+    λ i. own_or (later.head i) (unwrap_or (now i) None)
+
+-- over clean pages that agree a held page reads as it is held
+pub held_over : (view : View) (q : ℕ) (clean : ℕ → Option Page) → Agrees view.seen clean → is_some (view.seen q) ≡ true → over clean view.own q ≡ held_page view q
+held_over view q clean agree held =
+    let was = seen_as (view.seen q) held in
+    ap (own_or (view.own q)) (agree q was.0 was.1 ∙ sym (ap (λ (o : Option (Option Page)). unwrap_or o None) was.1))
+
+-- **A split stays under way at a later view**, where it stands and the pages that are held are among those of its new phase.
+pub stays_under_way : (aim : Aim) (view view' : View) (split : SplitFields) (made : HeadFields) (second : List ℕ) (phase : SplitPhase) (under : IsUnderWay aim view split) → IsLater aim.root view view'
+    → ((clean : ℕ → Option Page) → Agrees view'.seen clean → HasForm aim.bits clean aim.root → StandsAt phase aim under.splitters (over clean under.rest) (over clean view'.own) (record split { made = made; second = second; phase = phase }) under.bucket)
+    → HoldsAmongAt phase aim.held_before view' under.header.dirs (record split { made = made; second = second; phase = phase })
+    → IsUnderWay aim view' (record split { made = made; second = second; phase = phase })
+stays_under_way aim view view' split made second phase under later stands among = record {
+  bounded = under.bounded;
+  rest = under.rest;
+  splitters = under.splitters;
+  header = under.header;
+  bucket = under.bucket;
+  keeps = keeps_more aim.bits aim.opens aim.root view.seen view'.seen under.rest later.before under.keeps;
+  head_held = held_still aim.root view view' aim.root later under.head_held;
+  head = same_head aim.root view view' later under.head_held ∙ under.head;
+  old_held = held_still aim.root view view' split.old_page later under.old_held;
+  exclusive = later.exclusive split.old_page under.exclusive;
+  new_exclusive = later.exclusive split.new_page under.new_exclusive;
+  doubles = λ deep. later.exclusive aim.root (under.doubles deep);
+  fewer = under.fewer;
+  absent = under.absent;
+  no_ghost = under.no_ghost;
+  room = under.room;
+  small = under.small;
+  few_before = under.few_before;
+  begins = λ clean agree form. let b = under.begins clean (agreed_before aim.root view view' clean later agree) form in record {
+    may = b.may;
+    was = b.was;
+    seed = b.seed;
+    depth = b.depth;
+    directory_depth = b.directory_depth;
+    deep = b.deep;
+  };
+  stands = stands;
+  among = among;
+}
+
+-- what a page that is held may be
+seen_some : {X : Type 0} (b : Bool) (x : X) → is_some (cond b (Some x) None) ≡ true → b ≡ true
+seen_some true x h = refl
+seen_some false x h = h
+
+pub held_may_be_read : (before : FilePages) (m : Moment) (q : ℕ) → HasWritten before (view_of m) → is_some ((view_over before m).seen q) ≡ true → can_read m.locks m.running.tx q ≡ true
+held_may_be_read before m q written held = seen_some (can_read m.locks m.running.tx q) _ (held_over_seen before m written q held)
+
+pub begins_now : (aim : Aim) (m : Moment) (split : SplitFields) → MayStep m → (file : HasClean aim (view_over aim.before m)) (under : IsUnderWay aim (view_over aim.before m) split) → Begins aim (over file.clean under.rest) split under.bucket
+begins_now aim m split may file under = under.begins file.clean file.agrees file.form
+
+pub stands_now : (aim : Aim) (m : Moment) (split : SplitFields) (phase : SplitPhase) → split.phase ≡ phase → MayStep m → (file : HasClean aim (view_over aim.before m)) (under : IsUnderWay aim (view_over aim.before m) split)
+    → StandsAt phase aim under.splitters (over file.clean under.rest) (over file.clean (view_over aim.before m).own) split under.bucket
+stands_now aim m split phase is may file under =
+    subst (λ (p : SplitPhase). StandsAt p aim under.splitters (over file.clean under.rest) (over file.clean (view_over aim.before m).own) split under.bucket) is (under.stands file.clean file.agrees file.form)
+
+-- a directory that doubles has at most half of the header's pages
+pub half_pages : (g : ℕ) → g < 16 → 2 ^ (g - 8) ≤ 128
+half_pages g h =
+    let le : g - 8 ≤ 7 = omega arith in
+    let top : 2 ^ (g - 8) ≤ 2 ^ 7 = pow-le-pow_right {n = 2} (omega arith) le in
+    omega (arith, top)
+
+abbrev err : {A : Type 0} → Refusal → Result A Refusal
+err why = Err why
+
+-- why a page was not made, or not written
+pub refused_to_make : {A : Type 0} (aim : Aim) (old new : Moment) (before after : SplitFields) (result : Result A Refusal) (why : Refusal) → IsMaking before.phase → result ≡ Err why → (result ≡ Err refusal.NoRoom) ↔ (map.len old.store.pages ≡ old.store.max_pages) → (why ≡ refusal.NoRoom) ⊎ (why ≡ refusal.OutOfMemory) → Tells aim old new before after (answer.Refused why)
+refused_to_make {A} aim old new before after result why making is full either =
+    elim either [
+      | inl room ↦ subst (λ (w : Refusal). Tells aim old new before after (answer.Refused w)) (sym room) (making, full.0 (is ∙ ap (err {A = A}) room))
+      | inr memory ↦ subst (λ (w : Refusal). Tells aim old new before after (answer.Refused w)) (sym memory) refl
+    ]
+
+pub refused_to_write : (aim : Aim) (old new : Moment) (before after : SplitFields) (why : Refusal) → why ≡ refusal.OutOfMemory → Tells aim old new before after (answer.Refused why)
+refused_to_write aim old new before after why memory = subst (λ (w : Refusal). Tells aim old new before after (answer.Refused w)) (sym memory) refl
+
+-- a page that was locked exclusively may be written
+pub locked_may_be_written : (old mid : Moment) (q : ℕ) (was : Option Page) → ReadsPage (view_of old) (view_of mid) q Exclusive was → can_write mid.locks mid.running.tx q ≡ true
+locked_may_be_written old mid q was reads = may_write mid q (subst (λ (modes : Modes). map.get modes q ≡ Some Exclusive) (sym reads.modes) (exclusive_here (view_of old).modes q))

@@ -1,0 +1,96 @@
+-- A walk's file at rest: between two splits
+use Rattle.std.specs.Prelude.{ℕ, ◌≡◌, ◌<◌, ◌≤◌, ◌+◌, ◌-◌, ◌^◌, ◌==◌, true, false, is_some, unwrap_or, List, length, slice_index, slice_index_or, Option, Some, None}
+use Rattle.std.specs.List.{list_any}
+use Rattle.std.specs.Ordering.{nat_cmp}
+use Rattle.std.specs.FinMap as map
+use Rattle.std.specs.FinSet as set
+use Rattle.mlt_types.specs.declared.mode.Mode.TheVariants.{Exclusive}
+use Rattle.mlt_page.specs.Slots.{is_ghost_of, is_live_of}
+use Rattle.mlt_page.specs.declared.slot.Slot.TheVariants.{Free}
+use Rattle.mlt_page.specs.Values.{BucketFields, HeadFields}
+use Rattle.mlt_page.specs.declared.page.Page.{Page}
+use Rattle.mlt_page.specs.declared.page.Page.TheVariants as page
+use Rattle.mlt_hash_form.specs.File.{FilePages, HasForm, bucket_of, lead_of}
+use Rattle.mlt_hash_form.specs.Held.{Agrees, AreKeptToo, KeepsFile, over, own_or}
+use Rattle.mlt_hash_form.specs.Room.{is_crowded}
+use Rattle.mlt_hash_access.specs.Views.{View}
+use Rattle.mlt_hash_split.specs.declared.setting.Setting.{Setting}
+
+-- What a walk's splits are for: the function of keys, who is open, the header's page, the key that asks for room, the
+-- transaction that adds it, and a depth at which its bucket has room for it. And what it did for another key to which it
+-- went before: the pages that it wrote, and how many buckets it holds at most. Where it goes to one key there are none.
+pub record Aim : Type 0 where
+  pub bits : ℕ → ℕ
+  pub opens : set.FinSet nat_cmp
+  pub root : ℕ
+  pub key : ℕ
+  pub owner : ℕ
+  pub room_depth : ℕ
+  pub before : FilePages
+  pub held_before : ℕ
+
+-- the aim of a transaction that adds a record of this key in this setting
+abbrev pub aim_by : {P : Type 0} → (P → ℕ → ℕ) → Setting P → ℕ → ℕ → ℕ → FilePages → ℕ → Aim
+aim_by bits_of setting key owner room_depth before held_before = record {
+  bits = bits_of setting.root.now.pseudo;
+  opens = setting.opens.now;
+  root = setting.root.now.page;
+  key = key;
+  owner = owner;
+  room_depth = room_depth;
+  before = before;
+  held_before = held_before;
+}
+
+-- the pseudokey of the key that asks for room
+abbrev pub seed_of : Aim → ℕ
+seed_of aim = aim.bits aim.key
+
+-- what a page that is held reads as
+abbrev pub held_page : View → ℕ → Option Page
+held_page view q = own_or (view.own q) (unwrap_or (view.seen q) None)
+
+abbrev pub IsIn : ℕ → List ℕ → Type 0
+IsIn q pages = list_any (λ p. p == q) pages ≡ true
+
+-- All pages that are held stand in a list of at most `most`, and so do the pages of the directory that may still be
+-- locked, those from place k on, and those of the new one that are written, the first j. (So a pass never holds too many.)
+pub record HoldsAmong (view : View) (dirs made : List ℕ) (k count j most : ℕ) : Type 0 where
+  pub pages : List ℕ
+  pub few : length pages ≤ most
+  pub all : (q : ℕ) → is_some (map.get view.modes q) ≡ true → IsIn q pages
+  pub old_dirs : (i : ℕ) → k ≤ i → i < count → IsIn (slice_index dirs i) pages
+  pub new_dirs : (i : ℕ) → i < j → IsIn (slice_index made i) pages
+
+-- how many pages a walk's splits hold at most, at a bucket of depth l in a directory of depth g: the buckets that were held
+-- before, the header, the first bucket, one for each split, and all pages of the directory
+abbrev pub most_held : ℕ → ℕ → ℕ → ℕ
+most_held before l g = before + 2 + l + 2 ^ (g - 8)
+
+-- The file that a walk has written so far is a hash file with its slots rearranged. The key leads to the bucket on
+-- page n, which the walk holds exclusively. It has neither a record of the key nor the owner's ghost of it, and there is
+-- a depth at which the key finds room. One key has 17 buckets at most: the first one, and one of each split.
+pub record IsAtRest (aim : Aim) (view : View) (n : ℕ) (header : HeadFields) (bucket : BucketFields)
+    : Type 0 where
+  pub bounded : (k : ℕ) → aim.bits k < 2 ^ 64
+  pub keeps : KeepsFile aim.bits aim.opens aim.root view.seen view.own
+  pub leads : (clean : ℕ → Option Page) → Agrees view.seen clean → HasForm aim.bits clean aim.root
+      → lead_of (over clean view.own) aim.root (seed_of aim) ≡ n
+  pub head_held : is_some (view.seen aim.root) ≡ true
+  pub head : held_page view aim.root ≡ Some (page.Head header)
+  pub bucket_held : is_some (view.seen n) ≡ true
+  pub found : held_page view n ≡ Some (page.Bucket bucket)
+  pub exclusive : map.get view.modes n ≡ Some Exclusive
+  pub absent : (i : ℕ) → is_live_of aim.key (slice_index_or bucket.slots i Free) ≡ false
+  pub no_ghost : (i : ℕ)
+      → is_ghost_of aim.key aim.owner (slice_index_or bucket.slots i Free) ≡ false
+  pub room : is_crowded aim.bits aim.opens aim.room_depth (seed_of aim) bucket.slots ≡ false
+  pub small : aim.room_depth ≤ 16
+  pub few_before : aim.held_before ≤ 17
+  pub among : HoldsAmong view header.dirs header.dirs 0 (2 ^ (header.depth - 8)) 0
+      (most_held aim.held_before bucket.depth header.depth)
+
+-- on the pages that are held no slot's room is kept now that was not before
+abbrev pub KeepsNoMore : set.FinSet nat_cmp → set.FinSet nat_cmp → View → Type 0
+KeepsNoMore before now view =
+    (n : ℕ) (p : Option Page) → view.seen n ≡ Some p → AreKeptToo now before (bucket_of p)

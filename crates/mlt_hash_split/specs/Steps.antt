@@ -1,0 +1,77 @@
+-- Which page each step of a split locks, writes or makes
+use Rattle.std.specs.Prelude.{ℕ, ◌≡◌, ◌/◌, slice_index, Some}
+use Rattle.mlt_types.specs.declared.mode.Mode.TheVariants.{Exclusive}
+use Rattle.mlt_page.specs.Bits.{first_bits}
+use Rattle.mlt_page.specs.Values.{HeadFields}
+use Rattle.mlt_page.specs.declared.page.Page.{Page}
+use Rattle.mlt_page.specs.declared.page.Page.TheVariants as page
+use Rattle.mlt_hash_access.specs.Moments.{Moment}
+use Rattle.mlt_hash_access.specs.PageSteps.{LocksPage, MakesLockedPage, WritesHeldPage}
+use Rattle.mlt_hash_access.specs.Views.{View, view_over}
+use Rattle.mlt_hash_split.specs.Rests.{Aim, held_page, seed_of}
+use Rattle.mlt_hash_split.specs.Splits.{SplitFields}
+use Rattle.mlt_hash_split.specs.declared.phase.SplitPhase.{SplitPhase}
+use Rattle.mlt_hash_split.specs.declared.phase.SplitPhase.TheVariants as at
+use Rattle.mlt_hash_split.specs.declared.split.SplitAnswer.{SplitAnswer}
+use Rattle.mlt_hash_split.specs.declared.split.SplitAnswer.TheVariants as answer
+
+-- page n of the directory is the one at this place of the header, which the walk holds
+abbrev pub IsDirectoryPage : Aim → View → ℕ → ℕ → Type 0
+IsDirectoryPage aim view place n =
+    (header : HeadFields)
+    × (held_page view aim.root ≡ Some (page.Head header))
+    × (n ≡ slice_index header.dirs place)
+
+-- page n of the directory is the one of the place that the key leads to, by the header that the walk holds
+abbrev pub IsKeysPage : Aim → View → ℕ → Type 0
+IsKeysPage aim view n = (header : HeadFields) × (held_page view aim.root ≡ Some (page.Head header))
+    × (n ≡ slice_index header.dirs (first_bits header.depth (seed_of aim) / 256))
+
+-- page n is the next one to be locked, and then written: only pages of the directory that was there before are locked
+abbrev pub IsNextPage : SplitPhase → Aim → View → ℕ → Type 0
+IsNextPage at.OldBucket aim view n = ⊥
+IsNextPage (at.InPlace place end) aim view n = IsDirectoryPage aim view place n
+IsNextPage (at.Double place) aim view n = IsDirectoryPage aim view place n
+IsNextPage (at.SecondHalf place) aim view n = ⊥
+IsNextPage at.Header aim view n = ⊥
+
+-- a page is to be made
+abbrev pub IsMaking : SplitPhase → Type 0
+IsMaking at.OldBucket = ⊥
+IsMaking (at.InPlace place end) = ⊥
+IsMaking (at.Double place) = ⊥
+IsMaking (at.SecondHalf place) = Unit {0}
+IsMaking at.Header = ⊥
+
+-- the next page was locked exclusively, and then written
+abbrev pub LocksAndWrites : Aim → Moment → Moment → ℕ → Type 0
+LocksAndWrites aim old new place = (n : ℕ)
+    × IsDirectoryPage aim (view_over aim.before old) place n
+    × ((mid : Moment) × LocksPage old mid n Exclusive
+    × ((page : Page) × WritesHeldPage mid new n page))
+
+-- a step was done: one page was written, and locked before where it is of the directory, or made; and that is all
+abbrev pub IsDone : SplitPhase → Aim → Moment → Moment → SplitFields → Type 0
+IsDone at.OldBucket aim old new split = (page : Page) × WritesHeldPage old new split.old_page page
+IsDone (at.InPlace place end) aim old new split = LocksAndWrites aim old new place
+IsDone (at.Double place) aim old new split = LocksAndWrites aim old new place
+IsDone (at.SecondHalf place) aim old new split =
+    (n : ℕ) × (page : Page) × MakesLockedPage old new n page
+IsDone at.Header aim old new split = (page : Page) × WritesHeldPage old new aim.root page
+
+-- a step was refused: at most the page of the directory was locked that was to be written
+abbrev pub IsLeft : SplitPhase → Aim → Moment → Moment → Type 0
+IsLeft at.OldBucket aim old new = new ≡ old
+IsLeft (at.InPlace place end) aim old new =
+    (n : ℕ) × IsDirectoryPage aim (view_over aim.before old) place n × LocksPage old new n Exclusive
+IsLeft (at.Double place) aim old new =
+    (n : ℕ) × IsDirectoryPage aim (view_over aim.before old) place n × LocksPage old new n Exclusive
+IsLeft (at.SecondHalf place) aim old new = new ≡ old
+IsLeft at.Header aim old new = new ≡ old
+
+-- what a step did to locks and pages, by its answer
+abbrev pub Touches : SplitAnswer → Aim → Moment → Moment → SplitFields → Type 0
+Touches answer.Going aim old new split = IsDone split.phase aim old new split
+Touches (answer.Closed n) aim old new split = IsDone split.phase aim old new split
+Touches (answer.Waiting n by) aim old new split = new ≡ old
+Touches (answer.Refused reason) aim old new split = IsLeft split.phase aim old new

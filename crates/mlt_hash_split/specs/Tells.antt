@@ -1,0 +1,44 @@
+-- What a step of a split tells
+use Rattle.std.specs.Prelude.{ℕ, ◌≡◌, ◌+◌}
+use Rattle.std.specs.FinMap as map
+use Rattle.mlt_types.specs.declared.mode.Mode.TheVariants.{Exclusive}
+use Rattle.mlt_types.specs.declared.refusal.Refusal.TheVariants as refusal
+use Rattle.mlt_page.specs.Values.{BucketFields, HeadFields}
+use Rattle.mlt_page_locks.specs.Requests.{IsLowest, conflicts}
+use Rattle.mlt_hash_access.specs.Moments.{Moment}
+use Rattle.mlt_hash_access.specs.Views.{view_over}
+use Rattle.mlt_hash_split.specs.declared.split.SplitAnswer.{SplitAnswer}
+use Rattle.mlt_hash_split.specs.declared.split.SplitAnswer.TheVariants as answer
+use Rattle.mlt_hash_split.specs.Rests.{Aim, IsAtRest}
+use Rattle.mlt_hash_split.specs.Splits.{IsUnderWay, SplitFields, steps_left}
+use Rattle.mlt_hash_split.specs.Steps.{IsMaking, IsNextPage}
+
+-- the walk's file is at rest again, with a bucket one deeper, and a directory one deeper where it was doubled
+pub record Rests (aim : Aim) (new : Moment) (split : SplitFields) (n : ℕ) : Type 0 where
+  pub header : HeadFields
+  pub bucket : BucketFields
+  pub rest : IsAtRest aim (view_over aim.before new) n header bucket
+  pub deeper : bucket.depth ≡ split.depth + 1
+  pub in_place : (split.depth ≡ split.directory_depth → ⊥) → header.depth ≡ split.directory_depth
+  pub doubled : split.depth ≡ split.directory_depth → header.depth ≡ split.directory_depth + 1
+
+-- One step fewer is left, by exactly one; the split keeps its pages and depths.
+pub record GoesOn (aim : Aim) (new : Moment) (before after : SplitFields) : Type 0 where
+  pub under_way : IsUnderWay aim (view_over aim.before new) after
+  pub fewer : steps_left after + 1 ≡ steps_left before
+  pub depth : after.depth ≡ before.depth
+  pub directory_depth : after.directory_depth ≡ before.directory_depth
+
+-- Going: the split goes on. Closed: this was its last step. Waiting: a lock stands against the one asked for on the next
+-- page, and nothing changed. Refused: NoRoom where a page was to be made and there are as many as there may be.
+abbrev pub Tells : Aim → Moment → Moment → SplitFields → SplitFields → SplitAnswer → Type 0
+Tells aim old new before after answer.Going = GoesOn aim new before after
+Tells aim old new before after (answer.Closed n) = Rests aim new before n × (steps_left before ≡ 1)
+Tells aim old new before after (answer.Waiting page by) =
+    IsNextPage before.phase aim (view_over aim.before old) page
+    × IsLowest (conflicts old.locks old.running.tx page Exclusive) by
+    × (new ≡ old)
+    × (after ≡ before)
+Tells aim old new before after (answer.Refused refusal.NoRoom) =
+    IsMaking before.phase × (map.len old.store.pages ≡ old.store.max_pages)
+Tells aim old new before after (answer.Refused reason) = reason ≡ refusal.OutOfMemory

@@ -1,0 +1,128 @@
+//! Splits that double the directory.
+
+ghost use Rattle.std.specs.Prelude.{◌≡◌, ◌≢◌, ◌↔◌, ℕ, ◌<◌, Option, length, slice_set};
+ghost use Rattle.std.specs.FinMap as map;
+ghost use Rattle.mlt_hash_access.specs.Moments.{moment};
+ghost use Rattle.mlt_hash_access.specs.PageSteps.{HasNoPageLeft, Leaves};
+ghost use Rattle.mlt_hash_split.specs.Rests.{Aim};
+ghost use Rattle.mlt_hash_split.specs.Splits.{MayAdvance};
+ghost use Rattle.mlt_hash_split.specs.Steps.{Touches};
+ghost use Rattle.mlt_hash_split.specs.Tells.{Tells};
+
+use crate::phase::SplitPhase;
+use crate::split::{Split, SplitAnswer};
+use mlt_hash_form::{doubled_page, first_bits};
+use mlt_hash_access::{LockedStore, lock, make_page, read_held, write_held};
+use mlt_page::{HeadPage, Page};
+use mlt_page_subtx::Subtx;
+use mlt_types::{Mode, PageNo, Refusal};
+
+/// Rewrites a page of the old directory as its first half doubled, and keeps its second half. `root` is the header's
+/// page.
+pub(crate) fn double_page(
+    split: &mut Split,
+    place: usize,
+    root: PageNo,
+    subtx: &mut Subtx,
+    pages: &mut LockedStore,
+) -> SplitAnswer
+    ghost aim: { Aim }
+    requires phase { split.old.phase ≡ SplitPhase.Double place }
+    requires root { root ≡ aim.root }
+    requires ready { MayAdvance aim (moment subtx.old pages.old) split.old }
+    ensures leaves { Leaves (moment subtx.old pages.old) (moment subtx.new pages.new) }
+    ensures steps { Touches result aim
+        (moment subtx.old pages.old) (moment subtx.new pages.new) split.old }
+    ensures no_room { result ≢ SplitAnswer.Refused Refusal.NoRoom }
+    ensures tells { Tells aim
+        (moment subtx.old pages.old) (moment subtx.new pages.new) split.old split.new result }
+{
+    let Page::Head(header) = read_held(subtx, pages, root) else {
+        unreachable!()
+    };
+    let number = header.dir(place);
+    if let Err(by) = lock(subtx, pages, number, Mode::Exclusive) {
+        return SplitAnswer::Waiting(number, by);
+    }
+    let Page::Dir(dir) = read_held(subtx, pages, number) else {
+        unreachable!()
+    };
+    let entry = 2 * first_bits(split.seed, split.directory_depth) + 1;
+    let first = doubled_page(dir, 2 * place, entry, split.new_page);
+    let second = doubled_page(dir, 2 * place + 1, entry, split.new_page);
+    if let Err(refusal) = write_held(subtx, pages, number, Page::Dir(first)) {
+        return SplitAnswer::Refused(refusal);
+    }
+    name_page(&mut split.made, 2 * place, number);
+    split.second = second;
+    split.phase = if split.directory_depth < 8 {
+        SplitPhase::Header
+    } else {
+        SplitPhase::SecondHalf(place)
+    };
+    SplitAnswer::Going
+}
+
+/// Makes the page of the second half.
+pub(crate) fn make_second_half(
+    split: &mut Split,
+    place: usize,
+    subtx: &mut Subtx,
+    pages: &mut LockedStore,
+) -> SplitAnswer
+    ghost aim: { Aim }
+    requires phase { split.old.phase ≡ SplitPhase.SecondHalf place }
+    requires ready { MayAdvance aim (moment subtx.old pages.old) split.old }
+    ensures leaves { Leaves (moment subtx.old pages.old) (moment subtx.new pages.new) }
+    ensures steps { Touches result aim
+        (moment subtx.old pages.old) (moment subtx.new pages.new) split.old }
+    ensures no_room { (result ≡ SplitAnswer.Refused Refusal.NoRoom)
+        ↔ HasNoPageLeft pages.old.store }
+    ensures tells { Tells aim
+        (moment subtx.old pages.old) (moment subtx.new pages.new) split.old split.new result }
+{
+    let number = match make_page(subtx, pages, Page::Dir(split.second)) {
+        Ok(number) => number,
+        Err(refusal) => return SplitAnswer::Refused(refusal),
+    };
+    name_page(&mut split.made, 2 * place + 1, number);
+    split.phase = if place + 1 < 1 << (split.directory_depth - 8) {
+        SplitPhase::Double(place + 1)
+    } else {
+        SplitPhase::Header
+    };
+    SplitAnswer::Going
+}
+
+/// Writes the header, which closes the split. `root` is its page.
+pub(crate) fn write_header(
+    split: &Split,
+    root: PageNo,
+    subtx: &mut Subtx,
+    pages: &mut LockedStore,
+) -> SplitAnswer
+    ghost aim: { Aim }
+    requires phase { split.now.phase ≡ SplitPhase.Header }
+    requires root { root ≡ aim.root }
+    requires ready { MayAdvance aim (moment subtx.old pages.old) split.now }
+    ensures leaves { Leaves (moment subtx.old pages.old) (moment subtx.new pages.new) }
+    ensures steps { Touches result aim
+        (moment subtx.old pages.old) (moment subtx.new pages.new) split.now }
+    ensures no_room { result ≢ SplitAnswer.Refused Refusal.NoRoom }
+    ensures tells { Tells aim
+        (moment subtx.old pages.old) (moment subtx.new pages.new) split.now split.now result }
+{
+    match write_held(subtx, pages, root, Page::Head(split.made)) {
+        Ok(()) => SplitAnswer::Closed(split.key_bucket()),
+        Err(refusal) => SplitAnswer::Refused(refusal),
+    }
+}
+
+// Names a page of the doubled directory. Every header has 256 places.
+fn name_page(made: &mut HeadPage, at: usize, number: PageNo)
+    requires { at < 256 }
+    ensures places { length made.old.dirs ≡ 256 }
+    ensures named { made.new ≡ record made.old { dirs = slice_set made.old.dirs at number } }
+{
+    made.dirs[at] = number;
+}

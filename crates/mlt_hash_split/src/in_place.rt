@@ -1,0 +1,59 @@
+//! Splits that leave the directory as deep as it is.
+
+ghost use Rattle.std.specs.Prelude.{◌≡◌, ◌≢◌, ℕ, Option};
+ghost use Rattle.mlt_hash_access.specs.Moments.{moment};
+ghost use Rattle.mlt_hash_access.specs.PageSteps.{Leaves};
+ghost use Rattle.mlt_hash_split.specs.Rests.{Aim};
+ghost use Rattle.mlt_hash_split.specs.Splits.{MayAdvance};
+ghost use Rattle.mlt_hash_split.specs.Steps.{Touches};
+ghost use Rattle.mlt_hash_split.specs.Tells.{Tells};
+
+use crate::phase::SplitPhase;
+use crate::split::{Split, SplitAnswer};
+use mlt_hash_form::{NewPlaces, page_with_new_places};
+use mlt_hash_access::{LockedStore, lock, read_held, write_held};
+use mlt_page::Page;
+use mlt_page_subtx::Subtx;
+use mlt_types::{Mode, PageNo, Refusal};
+
+/// Writes the new bucket's entries on one page of the directory. `root` is the header's page.
+pub(crate) fn write_in_place(
+    split: &mut Split,
+    place: usize,
+    end: usize,
+    root: PageNo,
+    subtx: &mut Subtx,
+    pages: &mut LockedStore,
+) -> SplitAnswer
+    ghost aim: { Aim }
+    requires phase { split.old.phase ≡ SplitPhase.InPlace place end }
+    requires root { root ≡ aim.root }
+    requires ready { MayAdvance aim (moment subtx.old pages.old) split.old }
+    ensures leaves { Leaves (moment subtx.old pages.old) (moment subtx.new pages.new) }
+    ensures steps { Touches result aim
+        (moment subtx.old pages.old) (moment subtx.new pages.new) split.old }
+    ensures no_room { result ≢ SplitAnswer.Refused Refusal.NoRoom }
+    ensures tells { Tells aim
+        (moment subtx.old pages.old) (moment subtx.new pages.new) split.old split.new result }
+{
+    let Page::Head(header) = read_held(subtx, pages, root) else {
+        unreachable!()
+    };
+    let number = header.dir(place);
+    if let Err(by) = lock(subtx, pages, number, Mode::Exclusive) {
+        return SplitAnswer::Waiting(number, by);
+    }
+    let Page::Dir(dir) = read_held(subtx, pages, number) else {
+        unreachable!()
+    };
+    let places = NewPlaces::of(split.seed, split.depth, split.directory_depth);
+    let page = page_with_new_places(dir, place, places, split.new_page);
+    if let Err(refusal) = write_held(subtx, pages, number, Page::Dir(page)) {
+        return SplitAnswer::Refused(refusal);
+    }
+    if place + 1 == end {
+        return SplitAnswer::Closed(split.key_bucket());
+    }
+    split.phase = SplitPhase::InPlace(place + 1, end);
+    SplitAnswer::Going
+}

@@ -1,5 +1,0 @@
-use Rattle.mlt_held.proofs.Views.{written_is_exclusive}
-use Rattle.mlt_held.proofs.view_laws.written_pages_are_held_exclusively.Goals as goal
-
-pub returns : goal.returns
-returns c = written_is_exclusive

@@ -1,0 +1,55 @@
+//! The record of a cell, read through the directory.
+
+ghost use Rattle.std.specs.Prelude.{◌≡◌, ◌<◌, ◌^◌};
+ghost use Rattle.std.specs.FinMap as map;
+ghost use Rattle.mlt_hash_form.specs.File.{HasForm};
+ghost use Rattle.mlt_hash_form.specs.Records.{live_records};
+ghost use Rattle.mlt_page_store.specs.Stores.{page_at};
+ghost use Rattle.mlt_types.specs.Cells.{IsInRange, key_number};
+
+use mlt_hash_form::{Place, Root, value_in};
+use mlt_page::Page;
+use mlt_page_store::Store;
+use mlt_types::{Cell, Key, Pseudo, Value};
+
+/// The value of a cell's record in a file, if it has one.
+pub(crate) fn record_of<P: Pseudo>(store: &Store, root: &Root<P>, cell: &Cell) -> Option<Value>
+    requires form { HasForm (P.bits_of root.now.pseudo) (page_at store.now.pages) root.now.page }
+    ensures { result ≡ map.get (live_records store.now.pages) (key_number cell.now) }
+{
+    let key = Key::of(cell);
+    let Some(Page::Head(head)) = store.read(root.page) else {
+        unreachable!()
+    };
+    let place = Place::of(root.pseudo.bits(&key), head.depth);
+    let Some(Page::Dir(dir)) = store.read(head.dir(place.dir)) else {
+        unreachable!()
+    };
+    let Some(Page::Bucket(bucket)) = store.read(dir.entry(place.entry)) else {
+        unreachable!()
+    };
+    value_in(bucket, key)
+}
+
+/// What the types of its numbers say of a cell.
+pub(crate) fn is_in_range(cell: &Cell)
+    ensures { IsInRange cell.now }
+{
+    match *cell {
+        Cell::Account(account) => has_32_bits(account),
+        Cell::Counter(counter) => has_32_bits(counter),
+        Cell::Element(set, element) => {
+            has_16_bits(set);
+            has_32_bits(element);
+        },
+        Cell::Size(set) => has_16_bits(set),
+    }
+}
+
+fn has_16_bits(number: u16)
+    ensures { number < 2 ^ 16 }
+{}
+
+fn has_32_bits(number: u32)
+    ensures { number < 2 ^ 32 }
+{}

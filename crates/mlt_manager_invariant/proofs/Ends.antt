@@ -1,0 +1,190 @@
+-- A transaction that commits, or is closed with nothing left that it did
+use Rattle.std.proofs.Common.{◌≡◌, ◌≢◌, ℕ, ◌+◌, List, [], ◌∷◌, ◌++◌, length, None, Some, is_some, refl, sym, ap, subst, ◌∙◌, inl, inr, arith}
+use Rattle.std.specs.FinMap as map
+use Rattle.std.specs.FinSet as set
+use Rattle.std.specs.List.{filter}
+use Rattle.std.proofs.lemmas.Bool.{cases_eq}
+use Rattle.mlt_object_kinds.specs.declared.operation.ObjOp.{ObjOp}
+use Rattle.mlt_object_kinds.specs.declared.operation.ObjReply.{ObjReply}
+use Rattle.mlt_order.specs.Histories.{Entry, Lists, after_entry, lists_of, no_lists}
+use Rattle.mlt_order.specs.Interleavings.{items_of}
+use Rattle.mlt_order.specs.Tables.{SameElsewhere, with_entry}
+use Rattle.mlt_order.proofs.Growing.{after_entries-push}
+use Rattle.mlt_order.proofs.Tables.{changed}
+use Rattle.mlt_trace.specs.declared.item.TraceItem.{TraceItem}
+use Rattle.mlt_trace.specs.declared.item.TraceItem.TheVariants as trace
+use Rattle.mlt_object_locks.specs.Locks.{is_of_other}
+use Rattle.mlt_trace_history.specs.Entries.{entries_of, entry_of}
+use Rattle.mlt_trace_history.specs.Numbers.{AreCounted, CountsFrom, begun_txs, commit_count}
+use Rattle.mlt_trace_history.proofs.ItemLaws.{commit_keeps_counted, entries_of-append, no_begin, no_commit}
+use Rattle.mlt_trace_history.proofs.RoomLaws.{total_room-remove}
+use Rattle.mlt_hash_access.specs.declared.locked_store.LockedStore.{LockedStore}
+use Rattle.mlt_page_subtx_laws.specs.CleanPages.{clean_pages}
+use Rattle.mlt_hash_access.specs.Views.{view_of}
+use Rattle.mlt_page_subtx_laws.specs.Running.{AllRunning, HoldsNothing, KeepsRunning, after_close, clean_of, moment_of}
+use Rattle.mlt_page_subtx_laws.proofs.AllEvents.{close_clean, close_keeps}
+use Rattle.mlt_tx_meaning.specs.Events.{IsOpenAt}
+use Rattle.mlt_tx_meaning.specs.Worlds.{PagesMeanHistory, World, lists_in}
+use Rattle.mlt_tx_meaning.proofs.OpenNumbers as numbers
+use Rattle.mlt_tx_meaning.proofs.Transactions as meeting
+use Rattle.mlt_tx_meaning.proofs.Matches.{same_pages_match}
+use Rattle.mlt_tx_meaning.proofs.Walks.{no_more_by_end}
+use Rattle.mlt_tx.specs.declared.commons.Commons.{Commons}
+use Rattle.mlt_tx.specs.declared.transaction.At.{At}
+use Rattle.mlt_tx.specs.declared.transaction.Transaction.{Transaction}
+use Rattle.mlt_manager_invariant.specs.Sound.{Fits, FitsAt, IsSound}
+use Rattle.mlt_manager_invariant.specs.States.{State, all_of, images_kept, is_undoing_at, room_of, undoing_of, world_of}
+use Rattle.mlt_manager_invariant.specs.Transactions.{Ends, without_transaction}
+use Rattle.mlt_manager_invariant.proofs.Closing.{all_of_others, nothing_of}
+use Rattle.mlt_manager_invariant.proofs.Openness.{agrees_in, keeps_fewer, opens_fits}
+use Rattle.mlt_manager_invariant.proofs.Tables.{removed_elsewhere, removed_here}
+
+-- the world in which transaction i is open no more, and that has this entry of it
+abbrev ended_world : State → ℕ → Entry (ObjOp × ObjReply) → World
+ended_world s i entry = record (world_of s) {
+  opens = set.remove s.opens i;
+  undoing = undoing_of (map.remove s.txs i);
+  history = entries_of s.commons.history.items ++ entry ∷ [];
+}
+
+-- what a commit and a close have in common
+record IsEnd (s : State) (i : ℕ) (item : TraceItem) : Type 0 where
+  match : PagesMeanHistory (ended_world s i (entry_of item))
+  transcripts : (after_entry (lists_in (world_of s)) (entry_of item)).transcripts ≡ with_entry (lists_in (world_of s)).transcripts i []
+  held : (after_entry (lists_in (world_of s)) (entry_of item)).held ≡ with_entry (lists_in (world_of s)).held i []
+  begins : begun_txs (item ∷ []) ≡ []
+  commits : AreCounted (s.commons.history.items ++ item ∷ [])
+
+module _ (s : State) (i : ℕ) (before : Transaction) (commons : Commons) (item : TraceItem) (sound : IsSound s) (was : map.get s.txs i ≡ Some before) (k : Ends s i before commons item) (e : IsEnd s i item) where
+  abbrev now : State
+  now = without_transaction s i commons
+
+  nothing : HoldsNothing (all_of s) i
+  nothing = subst (λ (a : At). FitsAt a s i before) k.idle (sound.fits i before was).where_at
+
+  same_all : all_of now ≡ after_close (all_of s) i
+  same_all = ap (λ (p : LockedStore). let all : AllRunning = record { images = map.remove s.images i; locks = p.locks; store = p.store } in all) k.pages
+
+  keeps : KeepsRunning i (all_of s) (all_of now)
+  keeps = subst (λ (all : AllRunning). KeepsRunning i (all_of s) all) (sym same_all) (close_keeps (all_of s) i sound.running nothing)
+
+  same_clean : clean_of (all_of now) ≡ clean_of (all_of s)
+  same_clean = ap clean_of same_all ∙ close_clean (all_of s) i sound.running nothing
+
+  entries_now : entries_of commons.history.items ≡ entries_of s.commons.history.items ++ entry_of item ∷ []
+  entries_now = ap entries_of k.items ∙ entries_of-append s.commons.history.items (item ∷ [])
+
+  same_lists : lists_in (world_of now) ≡ after_entry (lists_in (world_of s)) (entry_of item)
+  same_lists = ap lists_of entries_now ∙ after_entries-push (entries_of s.commons.history.items) no_lists (entry_of item)
+
+  transcripts_now : (lists_in (world_of now)).transcripts ≡ with_entry (lists_in (world_of s)).transcripts i []
+  transcripts_now = ap (λ (l : Lists (ObjOp × ObjReply)). l.transcripts) same_lists ∙ e.transcripts
+
+  held_now : (lists_in (world_of now)).held ≡ with_entry (lists_in (world_of s)).held i []
+  held_now = ap (λ (l : Lists (ObjOp × ObjReply)). l.held) same_lists ∙ e.held
+
+  match : PagesMeanHistory (world_of now)
+  match =
+      let world = ended_world s i (entry_of item) in
+      let pages = clean_pages (map.remove s.images i) commons.pages.store.pages in
+      let same = same_pages_match world pages e.match (λ q. ap (λ f. f q) same_clean) in
+      subst (λ (h : List (Entry (ObjOp × ObjReply))). PagesMeanHistory (record world { pages = pages; history = h })) (sym entries_now) same
+
+  kept : (j : ℕ) → map.get (map.remove s.images i) j ≡ images_kept (map.get (map.remove s.txs i) j)
+  kept j = elim (cases_eq j i) [
+    | inl here ↦
+        ap (map.get (map.remove s.images i)) here ∙ removed_here s.images i
+        ∙ sym (ap images_kept (ap (map.get (map.remove s.txs i)) here ∙ removed_here s.txs i))
+    | inr differ ↦ keeps.images j differ ∙ sound.kept j ∙ ap images_kept (sym (removed_elsewhere s.txs i j differ))
+  ]
+
+  opened : (j : ℕ) → set.contains (set.remove s.opens i) j ≡ is_some (map.get (map.remove s.txs i) j)
+  opened j = elim (cases_eq j i) [
+    | inl here ↦ ap (set.contains (set.remove s.opens i)) here ∙ numbers.removed_here s.opens i ∙ sym (ap is_some (ap (map.get (map.remove s.txs i)) here ∙ removed_here s.txs i))
+    | inr differ ↦ numbers.removed_beside s.opens i j differ ∙ sound.opened j ∙ ap is_some (sym (removed_elsewhere s.txs i j differ))
+  ]
+
+  other_fits : (j : ℕ) (u : Transaction) → j ≢ i → map.get s.txs j ≡ Some u → Fits now j u
+  other_fits j u ne is =
+      let fits = sound.fits j u is in
+      let list = (changed (lists_in (world_of s)).transcripts i []).1 j ne in
+      record {
+        number = fits.number;
+        stands = fits.stands ∙ sym list ∙ sym (ap (λ f. f j) transcripts_now);
+        few = fits.few;
+        where_at = opens_fits u.at i j s now u (record {
+          other = ne;
+          runs = keeps;
+          basis = refl;
+          keeps = keeps_fewer s j u now.opens sound is (no_more_by_end (world_of s) (view_of (moment_of (all_of s) j)) sound.match (agrees_in s j u sound is) i);
+          reserved = k.reserved;
+          max_ops = refl;
+        }) fits.where_at;
+      }
+
+  fits_all : (j : ℕ) (u : Transaction) → map.get (map.remove s.txs i) j ≡ Some u → Fits now j u
+  fits_all j u is = elim (cases_eq j i) [
+    | inl here ↦
+        let found : None ≡ Some u = sym (removed_here s.txs i) ∙ sym (ap (map.get (map.remove s.txs i)) here) ∙ is in
+        absurd (cc found)
+    | inr differ ↦ other_fits j u differ (sym (removed_elsewhere s.txs i j differ) ∙ is)
+  ]
+
+  held : (j : ℕ) → items_of j commons.objects.held ≡ (lists_in (world_of now)).held j
+  held j =
+      let list = changed (lists_in (world_of s)).held i [] in
+      ap (items_of j) k.held ∙ elim (cases_eq j i) [
+        | inl here ↦
+            ap (λ n. items_of n (filter (is_of_other i) s.commons.objects.held)) here ∙ nothing_of i s.commons.objects.held
+            ∙ sym (ap (with_entry (lists_in (world_of s)).held i []) here ∙ list.0)
+        | inr differ ↦ all_of_others i j s.commons.objects.held differ ∙ sound.held j ∙ sym (list.1 j differ)
+      ] ∙ sym (ap (λ f. f j) held_now)
+
+  begun_still : begun_txs commons.history.items ≡ begun_txs s.commons.history.items
+  begun_still = ap begun_txs k.items ∙ no_begin s.commons.history.items item e.begins
+
+  -- All that is always true stays true.
+  end_sound : IsSound now
+  end_sound = record {
+    match = match;
+    running = keeps.may;
+    kept = kept;
+    opened = opened;
+    fits = fits_all;
+    held = held;
+    begun = subst (CountsFrom 1) (sym begun_still) sound.begun;
+    count = sound.count ∙ sym (ap length begun_still);
+    commits = subst AreCounted (sym k.items) e.commits;
+    room = omega (arith, k.room, sound.room, total_room-remove room_of s.txs i before was);
+  }
+
+module _ (s : State) (i : ℕ) (before : Transaction) (commons : Commons) (sound : IsSound s) (was : map.get s.txs i ≡ Some before) where
+  is_open : IsOpenAt (world_of s) i
+  is_open = sound.opened i ∙ ap is_some was
+
+  same_undoing : SameElsewhere (undoing_of s.txs) (undoing_of (map.remove s.txs i)) i
+  same_undoing j ne = ap is_undoing_at (removed_elsewhere s.txs i j ne)
+
+  -- **A commit keeps all that is always true,**
+  pub commit_sound : Ends s i before commons (trace.Commit i (commit_count s.commons.history.items + 1)) → IsSound (without_transaction s i commons)
+  commit_sound k =
+      let items = s.commons.history.items in
+      end_sound s i before commons (trace.Commit i (commit_count items + 1)) sound was k (record {
+        match = meeting.commit_keeps (world_of s) i (undoing_of (map.remove s.txs i)) sound.match is_open same_undoing;
+        transcripts = refl;
+        held = refl;
+        begins = refl;
+        commits = commit_keeps_counted items i sound.commits;
+      })
+
+  -- **and so does a close where nothing is left.**
+  pub close_sound : before.undo.entries ≡ [] → Ends s i before commons (trace.Abort i) → IsSound (without_transaction s i commons)
+  close_sound none k =
+      let items = s.commons.history.items in
+      end_sound s i before commons (trace.Abort i) sound was k (record {
+        match = meeting.close_keeps (world_of s) i (undoing_of (map.remove s.txs i)) sound.match is_open same_undoing (sym (sound.fits i before was).stands ∙ none);
+        transcripts = refl;
+        held = refl;
+        begins = refl;
+        commits = subst (CountsFrom 1) (sym (no_commit items (trace.Abort i) refl)) sound.commits;
+      })

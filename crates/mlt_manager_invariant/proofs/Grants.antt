@@ -1,0 +1,52 @@
+-- Held operations, by their transactions
+use Rattle.std.proofs.Common.{◌≡◌, ◌≢◌, ℕ, zero, suc, Bool, true, false, List, [], ◌∷◌, ◌++◌, refl, sym, ap, subst, ◌∙◌, inl, inr, arith}
+use Rattle.std.specs.List.{Contains}
+use Rattle.std.proofs.lemmas.Bool.{cases_eq}
+use Rattle.std.proofs.lemmas.List.Elements.{Contains-append_cases, Contains-append_right}
+use Rattle.mlt_order.proofs.RunLemmas.{contains-nothing}
+use Rattle.mlt_object_kinds.specs.declared.operation.ObjOp.{ObjOp}
+use Rattle.mlt_object_kinds.specs.declared.operation.ObjReply.{ObjReply}
+use Rattle.mlt_order.specs.Interleavings.{items_of}
+use Rattle.mlt_order.proofs.Parts.{items_of-append, items_of-other, items_of-same}
+use Rattle.mlt_object_conflicts.specs.Clashes.{clashes}
+use Rattle.mlt_object_locks.specs.Locks.{Held, HoldsClash}
+
+-- the only item of a list
+only : {A : Type 0} (e x : A) → Contains (e ∷ []) x → e ≡ x
+only e x (zero, lt, is) = is
+only e x (suc k, lt, is) = absurd (omega (arith, lt))
+
+first_item : {A : Type 0} (e x : A) (es : List A) → e ≡ x → Contains (e ∷ es) x
+first_item e x es is = (0, omega arith, is)
+
+-- what stands under a number is in the list, under that number
+pub in_list : (j : ℕ) (held : List Held) (x : ObjOp × ObjReply) → Contains (items_of j held) x → Contains held (j, x)
+in_list j [] x h = absurd (contains-nothing x h)
+in_list j (e ∷ held) x h =
+    elim (cases_eq e.0 j) [
+      | inl same ↦
+          elim (Contains-append_cases (e.1 ∷ []) (items_of j held) x (subst (λ l. Contains l x) (items_of-same j e held same) h)) [
+            | inl here ↦ first_item e (j, x) held (λ i. (same i, only e.1 x here i))
+            | inr later ↦ Contains-append_right (e ∷ []) held (j, x) (in_list j held x later)
+          ]
+      | inr differ ↦ Contains-append_right (e ∷ []) held (j, x) (in_list j held x (subst (λ l. Contains l x) (items_of-other j e held differ) h))
+    ]
+
+-- who finds no clash clashes with nothing that others hold
+pub nothing_clashes : (i j : ℕ) (held : List Held) (requested earlier : ObjOp × ObjReply) → ((holder : ℕ) → HoldsClash held i requested holder → ⊥) → j ≢ i → Contains (items_of j held) earlier → clashes earlier requested ≡ false
+nothing_clashes i j held requested earlier free ne here = no_clash (clashes earlier requested) refl
+  where
+    no_clash : (b : Bool) → clashes earlier requested ≡ b → b ≡ false
+    no_clash false is = refl
+    no_clash true is = absurd (free j (ne, (earlier, in_list j held earlier here, is)))
+
+-- one more grant
+pub granted_here : (i : ℕ) (held : List Held) (x : ObjOp × ObjReply) → items_of i (held ++ (i, x) ∷ []) ≡ items_of i held ++ x ∷ []
+granted_here i held x = items_of-append i held ((i, x) ∷ []) ∙ ap (λ l. items_of i held ++ l) (items_of-same i (i, x) [] refl)
+
+pub granted_elsewhere : (i j : ℕ) (held : List Held) (x : ObjOp × ObjReply) → j ≢ i → items_of j (held ++ (i, x) ∷ []) ≡ items_of j held
+granted_elsewhere i j held x ne = items_of-append j held ((i, x) ∷ []) ∙ ap (λ l. items_of j held ++ l) (items_of-other j (i, x) [] (λ same. ne (sym same))) ∙ nothing_more (items_of j held)
+  where
+    nothing_more : {A : Type 0} (xs : List A) → xs ++ [] ≡ xs
+    nothing_more [] = refl
+    nothing_more (y ∷ ys) = ap (λ l. y ∷ l) (nothing_more ys)

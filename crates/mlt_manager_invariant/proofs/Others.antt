@@ -1,0 +1,62 @@
+-- What an event of one transaction leaves of another
+use Rattle.std.proofs.Common.{◌≡◌, ◌≢◌, ℕ, ◌<◌, length, None, Some, sym, subst, ◌∙◌}
+use Rattle.mlt_hash_access.specs.Views.{View, view_of}
+use Rattle.mlt_object_locks.specs.Locks.{SameReservations}
+use Rattle.mlt_page_subtx_laws.specs.Running.{AllRunning, HoldsNothing, KeepsRunning, moment_of}
+use Rattle.mlt_tx_operation.specs.Operating.{IsOperating, OperationFields}
+use Rattle.mlt_tx_meaning.specs.Worlds.{basis_of}
+use Rattle.mlt_tx.specs.declared.transaction.At.{At}
+use Rattle.mlt_tx.specs.declared.transaction.At.TheVariants as at
+use Rattle.mlt_tx.specs.declared.transaction.Transaction.{Transaction}
+use Rattle.mlt_hash.specs.Walks.{Basis}
+use Rattle.mlt_manager_invariant.specs.Sound.{FitsAt}
+use Rattle.mlt_manager_invariant.specs.States.{State, all_of, world_of}
+
+-- another transaction that holds nothing still holds nothing
+pub still_nothing : (i j : ℕ) (old new : AllRunning) → KeepsRunning i old new → j ≢ i → HoldsNothing old j → HoldsNothing new j
+still_nothing i j old new keeps ne none = record {
+  no_images = keeps.images j ne ∙ none.no_images;
+  no_locks = keeps.holders j ne ∙ none.no_locks;
+}
+
+-- what stays between two states for another transaction j: what its walks go by, and how many operations it may have
+pub record StaysFor (i j : ℕ) (s s' : State) : Type 0 where
+  pub other : j ≢ i
+  pub runs : KeepsRunning i (all_of s) (all_of s')
+  pub basis : basis_of (world_of s') j ≡ basis_of (world_of s) j
+  pub reserved : SameReservations s.commons.objects.reserved s'.commons.objects.reserved i
+  pub max_ops : s'.max_ops ≡ s.max_ops
+
+operates_still : (i j : ℕ) (s s' : State) (o : OperationFields) → StaysFor i j s s' → IsOperating (basis_of (world_of s) j) o (view_of (moment_of (all_of s) j)) → IsOperating (basis_of (world_of s') j) o (view_of (moment_of (all_of s') j))
+operates_still i j s s' o stays operates =
+    subst (λ (b : Basis). IsOperating b o (view_of (moment_of (all_of s') j))) (sym stays.basis)
+    (subst (λ (v : View). IsOperating (basis_of (world_of s) j) o v) (sym (stays.runs.views j stays.other)) operates)
+
+-- another transaction is where it was, from what its operations are at
+pub fits_with : (a : At) (i j : ℕ) (s s' : State) (t : Transaction) → j ≢ i → KeepsRunning i (all_of s) (all_of s')
+    → SameReservations s.commons.objects.reserved s'.commons.objects.reserved i → s'.max_ops ≡ s.max_ops
+    → ((o : OperationFields) → IsOperating (basis_of (world_of s) j) o (view_of (moment_of (all_of s) j)) → IsOperating (basis_of (world_of s') j) o (view_of (moment_of (all_of s') j)))
+    → FitsAt a s j t → FitsAt a s' j t
+fits_with at.Idle i j s s' t other runs reserved max_ops still fits = still_nothing i j (all_of s) (all_of s') runs other fits
+fits_with (at.Pending o) i j s s' t other runs reserved max_ops still fits = record {
+  op = fits.op;
+  asked = fits.asked;
+  in_range = fits.in_range;
+  operates = still o fits.operates;
+  reserved = reserved j other ∙ fits.reserved;
+  spare = fits.spare;
+  fewer = subst (λ (n : ℕ). length t.undo.entries < n) (sym max_ops) fits.fewer;
+}
+fits_with (at.Undoing None) i j s s' t other runs reserved max_ops still fits = (still_nothing i j (all_of s) (all_of s') runs other fits.0, fits.1)
+fits_with (at.Undoing (Some o)) i j s s' t other runs reserved max_ops still fits = record {
+  front = fits.front;
+  last = fits.last;
+  entries = fits.entries;
+  inverts = fits.inverts;
+  has = fits.has;
+  operates = still o fits.operates;
+}
+
+-- **Another transaction is where it was.**
+pub still_fits : (a : At) (i j : ℕ) (s s' : State) (t : Transaction) → StaysFor i j s s' → FitsAt a s j t → FitsAt a s' j t
+still_fits a i j s s' t stays = fits_with a i j s s' t stays.other stays.runs stays.reserved stays.max_ops (λ o. operates_still i j s s' o stays)

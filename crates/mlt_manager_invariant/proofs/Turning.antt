@@ -1,0 +1,78 @@
+-- Events of one transaction that leave the clean pages, by what they leave of all running subtransactions
+use Rattle.std.proofs.Common.{◌≡◌, ℕ, ◌+◌, Option, Some, unwrap_or, refl, sym, ap, subst, ◌∙◌}
+use Rattle.std.specs.FinMap as map
+use Rattle.mlt_object_locks.specs.Locks.{Locks, reservation_of}
+use Rattle.mlt_page_subtx.specs.Images.{Images, Running}
+use Rattle.mlt_object_undo.specs.Undo.{Undo}
+use Rattle.mlt_hash_access.specs.Moments.{Moment, moment}
+use Rattle.mlt_page_subtx_laws.specs.CleanPages.{RunningImages}
+use Rattle.mlt_page_subtx_laws.specs.Running.{AllRunning, KeepsRunning, after_step, clean_of, moment_of}
+use Rattle.mlt_hash_access.specs.PageTurns.{TakesTurn}
+use Rattle.mlt_tx.specs.declared.commons.Commons.{Commons}
+use Rattle.mlt_tx.specs.declared.transaction.Transaction.{Transaction}
+use Rattle.mlt_manager_invariant.specs.Events.{KeepsCleanPages, with_transaction}
+use Rattle.mlt_manager_invariant.specs.Sound.{FitsAt, IsSound}
+use Rattle.mlt_manager_invariant.specs.States.{State, all_of, images_kept, is_undoing, room_of}
+use Rattle.mlt_manager_invariant.proofs.MaySteps.{is_open_now, same_moment}
+use Rattle.mlt_manager_invariant.proofs.Tables.{inserted_here}
+use Rattle.mlt_manager_invariant.proofs.Turned.{LeavesAll, turn_leaves}
+
+-- what the transaction works on after an event
+pub moment_now : (s : State) (i : ℕ) (after : Transaction) (commons : Commons) (images : RunningImages) → map.get images i ≡ Some after.subtx.images → after.subtx.tx ≡ i
+    → moment_of (all_of (with_transaction s i after commons images)) i ≡ moment after.subtx commons.pages
+moment_now s i after commons images own tx p = record {
+  running = record { tx = sym tx p; images = ap (λ (o : Option Images). unwrap_or o map.empty) own p };
+  locks = commons.pages.locks;
+  store = commons.pages.store;
+}
+
+module _ (s : State) (i : ℕ) (before after : Transaction) (commons : Commons)
+    (sound : IsSound s) (was : map.get s.txs i ≡ Some before) where
+  -- an event that leaves the rest
+  pub sound_after : (all : AllRunning) → LeavesAll i (all_of s) all → all_of (with_transaction s i after commons all.images) ≡ all
+      → map.get all.images i ≡ Some after.subtx.images → after.subtx.tx ≡ i → after.undo ≡ before.undo → commons.objects ≡ s.commons.objects
+      → commons.history.items ≡ s.commons.history.items → commons.history.room + room_of before ≡ s.commons.history.room + room_of after
+      → is_undoing after.at ≡ is_undoing before.at → FitsAt after.at (with_transaction s i after commons all.images) i after
+      → KeepsCleanPages s i before after commons
+  sound_after all leaves same own tx undo objects items room undoing fits = (
+    all.images,
+    record {
+      runs = subst (KeepsRunning i (all_of s)) (sym same) leaves.keeps;
+      clean = ap clean_of same ∙ leaves.clean;
+      own = own;
+      number = tx;
+      held = ap (λ (l : Locks). l.held) objects;
+      reserved = λ j ne. ap (λ (l : Locks). reservation_of l.reserved j) objects;
+      items = items;
+      room = room;
+      entries = ap (λ (u : Undo). u.entries) undo;
+      undoing = undoing;
+      fits = fits;
+    },
+  )
+
+  -- what a turn leaves
+  pub record Turns (all : AllRunning) : Type 0 where
+    pub leaves : LeavesAll i (all_of s) all
+    pub same : all_of (with_transaction s i after commons all.images) ≡ all
+    pub own : map.get all.images i ≡ Some after.subtx.images
+    pub number : after.subtx.tx ≡ i
+
+  pub turns_all : TakesTurn (moment before.subtx s.commons.pages) (moment after.subtx commons.pages) → (all : AllRunning) × Turns all
+  turns_all turn =
+      let m : Moment = moment after.subtx commons.pages in
+      let turn_here : TakesTurn (moment_of (all_of s) i) m = subst (λ (n : Moment). TakesTurn n m) (sym (same_moment s i before sound was)) turn in
+      let leaves = turn_leaves (all_of s) i m sound.running (is_open_now s i before sound was) turn_here in
+      let all = after_step (all_of s) m in
+      let own : map.get all.images i ≡ Some after.subtx.images = ap (λ (n : ℕ). map.get all.images n) (sym leaves.1) ∙ inserted_here s.images after.subtx.tx after.subtx.images in
+      (all, record { leaves = leaves.0; same = refl; own = own; number = leaves.1 })
+
+  pub stays_all : moment after.subtx commons.pages ≡ moment before.subtx s.commons.pages → Turns (all_of s)
+  stays_all same =
+      let running : after.subtx ≡ before.subtx = ap (λ (m : Moment). m.running) same in
+      record {
+        leaves = record { keeps = record { may = sound.running; views = λ u ne. refl; images = λ u ne. refl; holders = λ u ne. refl }; clean = refl };
+        same = λ p. record { images = s.images; locks = (same p).locks; store = (same p).store };
+        own = sound.kept i ∙ ap images_kept was ∙ sym (ap (λ (t : Running). Some t.images) running);
+        number = ap (λ (t : Running). t.tx) running ∙ (sound.fits i before was).number;
+      }

@@ -1,0 +1,82 @@
+-- Events of one transaction
+use Rattle.std.specs.Prelude.{length, ◌<◌, ◌≤◌, ℕ, ◌≡◌, ◌+◌, Some}
+use Rattle.std.specs.FinMap as map
+use Rattle.mlt_page_subtx_laws.specs.CleanPages.{RunningImages}
+use Rattle.mlt_object_kinds.specs.declared.operation.ObjOp.{ObjOp}
+use Rattle.mlt_object_kinds.specs.Operations.{cell_of}
+use Rattle.mlt_tx_meaning.specs.Presences.{IsOpInRange}
+use Rattle.mlt_object_base.specs.declared.request.Request.TheVariants.{Do}
+use Rattle.mlt_object_locks.specs.Locks.{SameReservations, reservation_of}
+use Rattle.mlt_object_kinds.specs.Bases.{Base}
+use Rattle.mlt_object_kinds.specs.declared.operation.ObjReply.{ObjReply}
+use Rattle.mlt_page_subtx_laws.specs.Running.{KeepsRunning, clean_of}
+use Rattle.mlt_tx_operation.specs.Operating.{OperationFields, started_for}
+use Rattle.mlt_event.specs.declared.answer.Answer.TheVariants as answer
+use Rattle.mlt_tx.specs.Transactions.{workplace_of}
+use Rattle.mlt_tx.specs.declared.transaction.At.TheVariants as at
+use Rattle.mlt_tx.specs.Steps.{Ends}
+use Rattle.mlt_tx.specs.declared.commons.Commons.{Commons}
+use Rattle.mlt_tx.specs.declared.transaction.Transaction.{Transaction}
+use Rattle.mlt_manager_invariant.specs.Sound.{FitsAt}
+use Rattle.mlt_manager_invariant.specs.States.{State, all_of, is_undoing, room_of}
+
+-- transaction i is now this one, and the pages, the locks and the history are these
+abbrev pub with_transaction : State → ℕ → Transaction → Commons → RunningImages → State
+with_transaction s i t commons images = record s {
+  commons = commons;
+  txs = map.insert s.txs i t;
+  images = images;
+}
+
+-- The clean pages, the items of the history and what is held stay, and so does all that others see, hold and reserve. The
+-- transaction keeps what it may take back, and whether its abort has begun, and is where it may be.
+pub record KeepsClean (s : State) (i : ℕ) (before after : Transaction) (commons : Commons)
+    (images : RunningImages) : Type 0 where
+  pub runs : KeepsRunning i (all_of s) (all_of (with_transaction s i after commons images))
+  pub clean : clean_of (all_of (with_transaction s i after commons images)) ≡ clean_of (all_of s)
+  pub own : map.get images i ≡ Some after.subtx.images
+  pub number : after.subtx.tx ≡ i
+  pub held : commons.objects.held ≡ s.commons.objects.held
+  pub reserved : SameReservations s.commons.objects.reserved commons.objects.reserved i
+  pub items : commons.history.items ≡ s.commons.history.items
+  pub room : commons.history.room + room_of before ≡ s.commons.history.room + room_of after
+  pub entries : after.undo.entries ≡ before.undo.entries
+  pub undoing : is_undoing after.at ≡ is_undoing before.at
+  pub fits : FitsAt after.at (with_transaction s i after commons images) i after
+
+-- the event is one that leaves the clean pages, with some first images
+abbrev pub KeepsCleanPages : State → ℕ → Transaction → Transaction → Commons → Type 0
+KeepsCleanPages s i before after commons =
+    (images : RunningImages) × KeepsClean s i before after commons images
+
+-- The subtransaction of transaction i ends: what it has written is clean, and leads to this base.
+abbrev pub with_end : State → ℕ → Transaction → Commons → Base → State
+with_end s i t commons base = record (with_transaction s i t commons (map.insert s.images i map.empty)) {
+  base = base;
+}
+
+-- what the pending operation of transaction i leaves that is done
+pub record EndsPending (s : State) (i : ℕ) (o : OperationFields) (before after : Transaction)
+    (commons : Commons) (told : ObjReply) : Type 0 where
+  pub pending : before.at ≡ at.Pending o
+  pub ends : Ends o (workplace_of before s.commons) (workplace_of after commons)
+      (answer.Done told)
+  pub idle : after.at ≡ at.Idle
+
+-- An idle transaction is called: its operation is pending, its cell is reserved, and there is room for its undo entry and
+-- for its items of the history.
+pub record Calls (s : State) (i : ℕ) (before after : Transaction) (commons : Commons) : Type 0 where
+  pub op : ObjOp
+  pub in_range : IsOpInRange op
+  pub idle : before.at ≡ at.Idle
+  pub fewer : length before.undo.entries < s.max_ops
+  pub pending : after.at ≡ at.Pending (started_for (Do op))
+  pub subtx_kept : after.subtx ≡ before.subtx
+  pub entries : after.undo.entries ≡ before.undo.entries
+  pub spare : 1 ≤ after.undo.spare
+  pub pages : commons.pages ≡ s.commons.pages
+  pub held : commons.objects.held ≡ s.commons.objects.held
+  pub reserved : reservation_of commons.objects.reserved i ≡ Some (cell_of op)
+  pub others : SameReservations s.commons.objects.reserved commons.objects.reserved i
+  pub items : commons.history.items ≡ s.commons.history.items
+  pub room : commons.history.room ≡ s.commons.history.room + 2

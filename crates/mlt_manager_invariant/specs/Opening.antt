@@ -1,0 +1,22 @@
+-- The state in which a manager begins
+use Rattle.std.specs.Prelude.{ℕ}
+use Rattle.std.specs.FinMap as map
+use Rattle.std.specs.FinSet as set
+use Rattle.mlt_object_kinds.specs.Bases.{empty_base}
+use Rattle.mlt_tx.specs.declared.commons.Commons.{Commons}
+use Rattle.mlt_manager_invariant.specs.States.{State}
+
+-- nobody has begun
+abbrev pub opening_state : (ℕ → ℕ) → ℕ → ℕ → ℕ → Commons → State
+opening_state bits root max_depth max_ops commons = record {
+  bits = bits;
+  root = root;
+  max_depth = max_depth;
+  max_ops = max_ops;
+  commons = commons;
+  txs = map.empty;
+  images = map.empty;
+  opens = set.empty;
+  begun = 0;
+  base = empty_base;
+}

@@ -1,0 +1,173 @@
+-- Scripts at a desk over a manager of which nobody else is open
+use Rattle.std.proofs.Common.{◌≡◌, ℕ, [], ◌∷◌, Bool, true, false, Result, Ok, Err, inl, inr, refl, sym, subst, ◌∙◌}
+use Rattle.mlt_types.specs.declared.refusal.Refusal.{Refusal}
+use Rattle.mlt_types.specs.declared.refusal.Refusal.TheVariants as refusal
+use Rattle.mlt_object_kinds.specs.Bases.{Transcript}
+use Rattle.mlt_object_kinds.specs.declared.operation.ObjOp.{ObjOp}
+use Rattle.mlt_object_kinds.specs.declared.operation.ObjReply.{ObjReply}
+use Rattle.mlt_script_tree.specs.declared.statement.Ending.{Ending}
+use Rattle.mlt_script_tree.specs.declared.statement.Ending.TheVariants.{Commit, Abort}
+use Rattle.mlt_script_tree.specs.Scripts.{ScriptForm}
+use Rattle.mlt_script_cursor.specs.Plays.{Gives, OnOperation, PlaysAt}
+use Rattle.mlt_script_serial.specs.declared.outcome.End.{End}
+use Rattle.mlt_script_serial.specs.declared.outcome.End.TheVariants.{Committed, Aborted, Refused}
+use Rattle.mlt_script_desk.specs.Runs.{ClosesAs, IsRunAt, OnAbort, OnBegin, OnCommit, refusal_of_script}
+use Rattle.mlt_event.specs.declared.answer.Answer.{Answer}
+use Rattle.mlt_event.specs.declared.answer.Answer.TheVariants as answer
+use Rattle.mlt_event.specs.declared.event.Event.TheVariants as event
+use Rattle.mlt_event.specs.declared.told.Told.{Told}
+use Rattle.mlt_event.specs.declared.told.Told.TheVariants as told
+use Rattle.mlt_manager.specs.Answers.{counted}
+use Rattle.mlt_manager.specs.Events.{Meets}
+use Rattle.mlt_manager.specs.Managers.{ManagerFields}
+use Rattle.mlt_manager_solo.specs.Alone.{HasOneIdle, HasOneUndoing, IsAtRest}
+use Rattle.mlt_manager_solo.specs.Asking.{CanMark, HasAsked, HasDone, HasEndedScript, HasRunScript, IsRefused, IsTakenBack, IsUndone}
+use Rattle.mlt_manager_solo.specs.Desks.{MeetsAbort, MeetsBegin, MeetsCommit, MeetsOperation, MeetsUndoing, abort_told, reply_told}
+use Rattle.mlt_manager_solo.specs.Events.{done_by}
+use Rattle.mlt_manager_solo.proofs.Ends.{abort_is_told, begins_abort, closes_it, commit_is_told, keeps_it, takes_it_back, undo_is_told, undoes_it}
+use Rattle.mlt_manager_solo.proofs.Scripts.{asked_alone, asked_done, asked_first, asked_in_vain, asked_nothing, asked_refused, begun_alone, ended_aborted, ended_committed, ended_refused, not_begun_rests, refused_after, run_begun, run_not_begun}
+
+-- what a script may be marked with is what it is refused with
+marks_itself : (reason : Refusal) → CanMark reason → refusal_of_script reason ≡ reason
+marks_itself refusal.OutOfMemory can = refl
+marks_itself refusal.NoRoom can = refl
+marks_itself refusal.LogFull can = refl
+marks_itself refusal.IdsSpent can = refl
+marks_itself other can = absurd can
+
+-- an operation that answers a reply was told it
+told_reply : (said : Told) (reply : ObjReply) → Ok reply ≡ reply_told said → said ≡ told.Answered (answer.Done reply)
+told_reply (told.Answered (answer.Done r)) reply h = cc h
+told_reply (told.Answered (answer.Refused r)) reply h = absurd (cc h)
+told_reply (told.Answered answer.Going) reply h = absurd (cc h)
+told_reply (told.Answered (answer.Waiting page by)) reply h = absurd (cc h)
+told_reply (told.Answered (answer.Blocked by)) reply h = absurd (cc h)
+told_reply (told.Answered answer.Undone) reply h = absurd (cc h)
+told_reply (told.Answered answer.Aborted) reply h = absurd (cc h)
+told_reply (told.Refused r) reply h = absurd (cc h)
+told_reply (told.Begun tx) reply h = absurd (cc h)
+told_reply told.Called reply h = absurd (cc h)
+told_reply told.Cancelled reply h = absurd (cc h)
+told_reply (told.Committed number) reply h = absurd (cc h)
+told_reply (told.Aborting closed) reply h = absurd (cc h)
+
+module _ {P : Type 0} (bits_of : P → ℕ → ℕ) where
+  module _ (old new : ManagerFields P) (tx : ℕ) (op : ObjOp) (one : HasOneIdle bits_of old tx) where
+    -- **An operation that answers a reply is done.**
+    done_alone : (reply : ObjReply) → MeetsOperation bits_of old tx op (Ok reply) new → HasOneIdle bits_of new tx × HasDone bits_of old new tx (op, reply)
+    done_alone reply m =
+        asked_done bits_of old new tx op one reply (subst (λ (said : Told). Meets bits_of (event.Whole tx op) said (counted old) new) (told_reply m.said reply m.answers) m.meets)
+
+    -- what it is told but a reply or a refusal would be of another transaction
+    told_alone : (a : Answer) → ((reply : ObjReply) → a ≡ answer.Done reply → ⊥) → ((reason : Refusal) → a ≡ answer.Refused reason → ⊥) → Meets bits_of (event.Whole tx op) (told.Answered a) (counted old) new → ⊥
+    told_alone a not_done not_refused meets = asked_alone bits_of old new tx op one a meets.0 meets.2 not_done not_refused
+
+    refused_by : (said : Told) (reason : Refusal) → Err reason ≡ reply_told said → Meets bits_of (event.Whole tx op) said (counted old) new → HasOneIdle bits_of new tx × IsRefused bits_of old new tx op reason
+    refused_by (told.Refused r) reason h meets =
+        let same : r ≡ reason = cc h in
+        subst (λ (x : Refusal). HasOneIdle bits_of new tx × IsRefused bits_of old new tx op x) same (asked_in_vain bits_of old new tx op one r meets)
+    refused_by (told.Answered (answer.Refused r)) reason h meets =
+        let same : r ≡ reason = cc h in
+        subst (λ (x : Refusal). HasOneIdle bits_of new tx × IsRefused bits_of old new tx op x) same (asked_refused bits_of old new tx op one r meets)
+    refused_by (told.Answered (answer.Done r)) reason h meets = absurd (cc h)
+    refused_by (told.Answered answer.Going) reason h meets = absurd (told_alone answer.Going (λ r e. cc e) (λ r e. cc e) meets)
+    refused_by (told.Answered (answer.Waiting page by)) reason h meets = absurd (told_alone (answer.Waiting page by) (λ r e. cc e) (λ r e. cc e) meets)
+    refused_by (told.Answered (answer.Blocked by)) reason h meets = absurd (told_alone (answer.Blocked by) (λ r e. cc e) (λ r e. cc e) meets)
+    refused_by (told.Answered answer.Undone) reason h meets = absurd (told_alone answer.Undone (λ r e. cc e) (λ r e. cc e) meets)
+    refused_by (told.Answered answer.Aborted) reason h meets = absurd (told_alone answer.Aborted (λ r e. cc e) (λ r e. cc e) meets)
+    refused_by (told.Begun n) reason h meets = absurd meets
+    refused_by told.Called reason h meets = absurd meets
+    refused_by told.Cancelled reason h meets = absurd meets
+    refused_by (told.Committed number) reason h meets = absurd meets
+    refused_by (told.Aborting closed) reason h meets = absurd meets
+
+    -- **One that answers a refusal was told it,** and waits for nobody.
+    refused_alone : (reason : Refusal) → MeetsOperation bits_of old tx op (Err reason) new → HasOneIdle bits_of new tx × IsRefused bits_of old new tx op reason
+    refused_alone reason m = refused_by m.said reason m.answers m.meets
+
+  undone_alone : (middle new : ManagerFields P) (tx : ℕ) → HasOneUndoing bits_of middle tx → (said : Told) → Meets bits_of (event.WholeUndo tx) said (counted middle) new → IsAtRest bits_of new × IsUndone bits_of middle new tx
+  undone_alone middle new tx undoing (told.Answered a) meets = undoes_it bits_of middle new tx undoing a meets.0 meets.1 meets.2
+  undone_alone middle new tx undoing (told.Refused reason) meets = absurd (undo_is_told bits_of middle new tx undoing reason meets)
+  undone_alone middle new tx undoing (told.Begun n) meets = absurd meets
+  undone_alone middle new tx undoing told.Called meets = absurd meets
+  undone_alone middle new tx undoing told.Cancelled meets = absurd meets
+  undone_alone middle new tx undoing (told.Committed number) meets = absurd meets
+  undone_alone middle new tx undoing (told.Aborting closed) meets = absurd meets
+
+  -- **An abort takes the transaction back.**
+  back_by : (old middle new : ManagerFields P) (tx : ℕ) → HasOneIdle bits_of old tx → (a : Result Bool Refusal) → Meets bits_of (event.Abort tx) (abort_told a) (counted old) middle → MeetsUndoing bits_of a middle tx new
+      → IsAtRest bits_of new × IsTakenBack bits_of old new tx
+  back_by old middle new tx one (Ok true) meets same =
+      subst (λ (m : ManagerFields P). IsAtRest bits_of m × IsTakenBack bits_of old m tx) (sym same) (closes_it bits_of old middle tx one meets)
+  back_by old middle new tx one (Ok false) meets (last, undoes) =
+      let u = undone_alone middle new tx (begins_abort bits_of old middle tx one meets) last undoes in
+      (u.0, takes_it_back bits_of old middle new tx one meets u.1)
+  back_by old middle new tx one (Err reason) meets same = absurd (abort_is_told bits_of old middle tx one reason meets)
+
+  back_alone : (old new : ManagerFields P) (tx : ℕ) → HasOneIdle bits_of old tx → MeetsAbort bits_of old tx new → IsAtRest bits_of new × IsTakenBack bits_of old new tx
+  back_alone old new tx one m = back_by old m.middle new tx one m.answer m.meets m.undoes
+
+  -- any desk whose calls are those of its manager
+  module _ {D : Type 0} (manager_of : D → ManagerFields P) where
+    abbrev begins_of : OnBegin D
+    begins_of old answer new = MeetsBegin bits_of (manager_of old) answer (manager_of new)
+
+    abbrev answers_of : OnOperation D
+    answers_of old tx op answer new = MeetsOperation bits_of (manager_of old) tx op answer (manager_of new)
+
+    abbrev commits_of : OnCommit D
+    commits_of old tx answer new = MeetsCommit bits_of (manager_of old) tx answer (manager_of new)
+
+    abbrev aborts_of : OnAbort D
+    aborts_of old tx new = MeetsAbort bits_of (manager_of old) tx (manager_of new)
+
+    -- **The operations of the transcript are done.**
+    gives_asked : (tx : ℕ) (d : D) (t : Transcript) (e : D) → HasOneIdle bits_of (manager_of d) tx → Gives answers_of tx d t e
+        → HasOneIdle bits_of (manager_of e) tx × HasAsked bits_of (manager_of d) (manager_of e) t (done_by tx t)
+    gives_asked tx d [] e one same =
+        subst (λ (z : D). HasOneIdle bits_of (manager_of z) tx × HasAsked bits_of (manager_of d) (manager_of z) [] (done_by tx [])) same (one, asked_nothing bits_of (manager_of d) tx)
+    gives_asked tx d (x ∷ t) e one (m, answers, gives) =
+        let first = done_alone (manager_of d) (manager_of m) tx x.0 one x.1 answers in
+        let later = gives_asked tx m t e first.0 gives in
+        (later.0, asked_first bits_of (manager_of d) (manager_of m) (manager_of e) tx x t first.1 later.1)
+
+    -- **The script is played and closed.**
+    closed_alone : (s : ScriptForm) (tx : ℕ) (d m : D) (t : Transcript) (ended : Result Ending Refusal) (end : End) (e : D) → HasOneIdle bits_of (manager_of d) tx → PlaysAt answers_of s tx d t ended m
+        → ClosesAs commits_of aborts_of tx ended m end e → IsAtRest bits_of (manager_of e) × HasEndedScript bits_of s (manager_of d) (manager_of e) tx t end
+    closed_alone s tx d m t (Ok Commit) (Committed number) e one plays closes =
+        let asked = gives_asked tx d t m one plays.1 in
+        let kept = keeps_it bits_of (manager_of m) (manager_of e) tx asked.0 number closes in
+        (kept.0, ended_committed bits_of s (manager_of d) (manager_of m) (manager_of e) tx number t plays.0 asked.1 kept.1)
+    closed_alone s tx d m t (Ok Commit) (Refused other) e one plays (reason, same, (n, commits, aborts)) =
+        let asked = gives_asked tx d t m one plays.1 in
+        absurd (commit_is_told bits_of (manager_of m) (manager_of n) tx asked.0 reason commits)
+    closed_alone s tx d m t (Ok Commit) Aborted e one plays closes = absurd closes
+    closed_alone s tx d m t (Ok Abort) Aborted e one plays closes =
+        let asked = gives_asked tx d t m one plays.1 in
+        let back = back_alone (manager_of m) (manager_of e) tx asked.0 closes in
+        (back.0, ended_aborted bits_of s (manager_of d) (manager_of m) (manager_of e) tx t plays.0 asked.1 back.1 back.0)
+    closed_alone s tx d m t (Ok Abort) (Committed number) e one plays closes = absurd closes
+    closed_alone s tx d m t (Ok Abort) (Refused reason) e one plays closes = absurd closes
+    closed_alone s tx d m t (Err reason) (Refused other) e one plays (same, aborts) =
+        let asked = gives_asked tx d t plays.middle one plays.gives in
+        let refused = refused_alone (manager_of plays.middle) (manager_of m) tx plays.op asked.0 reason plays.refused in
+        let back = back_alone (manager_of m) (manager_of e) tx refused.0 aborts in
+        let after = refused_after bits_of s plays.left (manager_of d) (manager_of plays.middle) (manager_of m) tx t plays.op reason plays.reaches plays.asked asked.1 refused.1 in
+        subst (λ (r : Refusal). IsAtRest bits_of (manager_of e) × HasEndedScript bits_of s (manager_of d) (manager_of e) tx t (Refused r)) (sym (same ∙ marks_itself reason refused.1.can))
+        (back.0, ended_refused bits_of s (manager_of d) (manager_of m) (manager_of e) tx t reason after back.1 back.0)
+    closed_alone s tx d m t (Err reason) Aborted e one plays closes = absurd closes
+    closed_alone s tx d m t (Err reason) (Committed number) e one plays closes = absurd closes
+
+    -- **A script that runs at rest leaves the manager at rest,** and its events were told what it was told.
+    pub run_at_rest : (s : ScriptForm) (d : D) (tx : ℕ) (t : Transcript) (end : End) (e : D) → IsAtRest bits_of (manager_of d) → IsRunAt begins_of answers_of commits_of aborts_of s d tx t end e
+        → IsAtRest bits_of (manager_of e) × HasRunScript bits_of s (manager_of d) (manager_of e) tx t end
+    run_at_rest s d tx t end e rest (inl u) =
+        let run = run_not_begun bits_of s (manager_of d) (manager_of e) t u.refusal u.nothing rest u.begins_none in (
+          not_begun_rests bits_of (manager_of d) (manager_of e) u.refusal rest u.begins_none,
+          subst (λ (n : ℕ). HasRunScript bits_of s (manager_of d) (manager_of e) n t end) (sym u.no_number)
+              (subst (λ (x : End). HasRunScript bits_of s (manager_of d) (manager_of e) 0 t x) (sym u.refused) run),
+        )
+    run_at_rest s d tx t end e rest (inr b) =
+        let one = begun_alone bits_of (manager_of d) (manager_of b.after_begin) tx rest b.begun in
+        let closed = closed_alone s tx b.after_begin b.after_script t b.ended end e one b.plays b.closes in
+        (closed.0, run_begun bits_of (manager_of d) (manager_of b.after_begin) tx rest b.begun s (manager_of e) t end closed.1)

@@ -1,0 +1,52 @@
+-- Runs of a manager, one after another, and the events of scripts as they grow
+use Rattle.std.proofs.Common.{◌≡◌, ℕ, List, [], ◌∷◌, ◌++◌, Option, None, Some, map, refl, sym, ap, subst, ◌∙◌, append_assoc}
+use Rattle.std.proofs.lemmas.List.{append-nil, map-append}
+use Rattle.mlt_types.specs.declared.refusal.Refusal.{Refusal}
+use Rattle.mlt_object_kinds.specs.Bases.{Transcript}
+use Rattle.mlt_script_tree.specs.Scripts.{ScriptForm}
+use Rattle.mlt_script_serial.specs.declared.outcome.End.{End}
+use Rattle.mlt_script_serial.specs.declared.outcome.End.TheVariants.{Committed, Aborted, Refused}
+use Rattle.mlt_script_serial.specs.declared.outcome.Outcome.{Outcome}
+use Rattle.mlt_script_serial.specs.Serial.{mark_of, mark_of_end}
+use Rattle.mlt_event.specs.declared.event.Event.{Event}
+use Rattle.mlt_event.specs.declared.told.Told.{Told}
+use Rattle.mlt_manager.specs.Answers.{counted}
+use Rattle.mlt_manager.specs.Events.{Meets}
+use Rattle.mlt_manager.specs.Managers.{ManagerFields}
+use Rattle.mlt_manager_solo.specs.Asking.{CanBeMarks, CanEnd}
+use Rattle.mlt_manager_solo.specs.Events.{AreEventsOf, AreEventsOfAll, Exchange, IsRunOf}
+
+-- one event
+pub run_one : {P : Type 0} (bits_of : P → ℕ → ℕ) (old new : ManagerFields P) (e : Event) (t : Told) → Meets bits_of e t (counted old) new → IsRunOf bits_of old ((e, t) ∷ []) new
+run_one bits_of old new e t meets = (new, meets, refl)
+
+-- **Two runs, one after another, are a run.**
+pub run_on : {P : Type 0} (bits_of : P → ℕ → ℕ) (old mid new : ManagerFields P) (first later : List Exchange) → IsRunOf bits_of old first mid → IsRunOf bits_of mid later new → IsRunOf bits_of old (first ++ later) new
+run_on bits_of old mid new [] later same run = subst (λ (m : ManagerFields _). IsRunOf bits_of m later new) same run
+run_on bits_of old mid new (e ∷ first) later (next, meets, rest) run = (next, meets, run_on bits_of next mid new first later rest run)
+
+pub same_events : {P : Type 0} (bits_of : P → ℕ → ℕ) (old new : ManagerFields P) (one other : List Exchange) → one ≡ other → IsRunOf bits_of old one new → IsRunOf bits_of old other new
+same_events bits_of old new one other same run = subst (λ (es : List Exchange). IsRunOf bits_of old es new) same run
+
+-- **The events of one more script.**
+pub events_push : (ss : List ScriptForm) (os : List Outcome) (es later : List Exchange) (s : ScriptForm) (o : Outcome) → AreEventsOfAll ss os es → AreEventsOf s o.tx o.done o.end later
+    → AreEventsOfAll (ss ++ s ∷ []) (os ++ o ∷ []) (es ++ later)
+events_push [] [] es later s o none are = (later, [], ap (λ (l : List Exchange). l ++ later) none ∙ sym (append-nil later), are, refl)
+events_push [] (p ∷ os) es later s o none are = absurd none
+events_push (x ∷ ss) [] es later s o none are = absurd none
+events_push (x ∷ ss) (p ∷ os) es later s o (first, rest, is, own, others) are =
+    (first, rest ++ later, ap (λ (l : List Exchange). l ++ later) is ∙ append_assoc first rest later, own, events_push ss os rest later s o others are)
+
+marks_push : (ms : List (Option (ℕ × Refusal))) (m : Option (ℕ × Refusal)) → CanBeMarks ms → CanBeMarks (m ∷ []) → CanBeMarks (ms ++ m ∷ [])
+marks_push [] m can also = also
+marks_push (None ∷ ms) m can also = marks_push ms m can also
+marks_push (Some x ∷ ms) m can also = (can.0, marks_push ms m can.1 also)
+
+mark_can : (t : Transcript) (end : End) → CanEnd end → CanBeMarks (mark_of_end t end ∷ [])
+mark_can t (Committed n) can = tt
+mark_can t Aborted can = tt
+mark_can t (Refused reason) can = (can, tt)
+
+-- **The mark of one more script.**
+pub outcome_marks_push : (os : List Outcome) (o : Outcome) → CanBeMarks (map mark_of os) → CanEnd o.end → CanBeMarks (map mark_of (os ++ o ∷ []))
+outcome_marks_push os o can end = subst CanBeMarks (sym (map-append mark_of os (o ∷ []))) (marks_push (map mark_of os) (mark_of o) can (mark_can o.done o.end end))

@@ -1,0 +1,250 @@
+-- What one script asks of a manager, and what it leaves
+use Rattle.std.proofs.Common.{◌≡◌, ◌≤◌, ◌+◌, ℕ, List, [], ◌∷◌, ◌++◌, Ok, Err, inl, inr, refl, sym, ap, subst, ◌∙◌, arith}
+use Rattle.std.proofs.lemmas.List.{append_assoc}
+use Rattle.std.specs.Cmp.{nat_cmp_total}
+use Rattle.std.specs.Ordering.{nat_cmp}
+use Rattle.std.specs.FinMap as map
+use Rattle.mlt_types.specs.declared.refusal.Refusal.{Refusal}
+use Rattle.mlt_types.specs.declared.refusal.Refusal.TheVariants as refusal
+use Rattle.mlt_object_kinds.specs.Bases.{Base, Runs, Step, Transcript, empty_base}
+use Rattle.mlt_object_kinds.specs.declared.operation.ObjOp.{ObjOp}
+use Rattle.mlt_object_kinds.specs.declared.operation.ObjReply.{ObjReply}
+use Rattle.mlt_order.specs.Histories.{Entry, IsHistory, no_lists}
+use Rattle.mlt_order.specs.Histories.Entry.{Begun}
+use Rattle.mlt_order.specs.Histories.Stage.{Fresh}
+use Rattle.mlt_order.specs.Runs.{IsSerialBase}
+use Rattle.mlt_order.proofs.Growing.{follow_push}
+use Rattle.mlt_script_tree.specs.declared.statement.Ending.TheVariants as ending
+use Rattle.mlt_script_tree.specs.Scripts.{ScriptForm}
+use Rattle.mlt_script_cursor.specs.declared.cursor.Next.TheVariants as next
+use Rattle.mlt_script_cursor.specs.Follows.{Follows, IsNext, IsPartial, Questions, Reaches, questions_of_script}
+use Rattle.mlt_script_cursor.specs.Follows.Questions.{Asks, Ends}
+use Rattle.mlt_script_serial.specs.declared.outcome.End.{End}
+use Rattle.mlt_script_serial.specs.declared.outcome.End.TheVariants.{Committed, Aborted, Refused}
+use Rattle.mlt_script_serial.specs.Serial.{IsRun}
+use Rattle.mlt_script_cursor.proofs.Transcripts.{is_partial}
+use Rattle.mlt_trace.specs.declared.item.TraceItem.TheVariants as trace
+use Rattle.mlt_trace_history.specs.Entries.{entries_of}
+use Rattle.mlt_trace_history.proofs.ItemLaws.{entries_of-append}
+use Rattle.mlt_event.specs.declared.answer.Answer.{Answer}
+use Rattle.mlt_event.specs.declared.answer.Answer.TheVariants as answer
+use Rattle.mlt_event.specs.declared.event.Event.TheVariants as event
+use Rattle.mlt_event.specs.declared.told.Told.TheVariants as told
+use Rattle.mlt_tx.specs.declared.transaction.Transaction.{Transaction}
+use Rattle.mlt_manager_invariant.proofs.Tables.{inserted_elsewhere, inserted_here}
+use Rattle.mlt_manager.specs.Answers.{AnswersCall, HasBegun, IsByAnother, IsCauseAtBegin, IsIdle, counted}
+use Rattle.mlt_manager.specs.Bases.{HasBase}
+use Rattle.mlt_manager.specs.Events.{Meets}
+use Rattle.mlt_manager.specs.Managers.{IsManager, ManagerFields}
+use Rattle.mlt_manager.specs.Promises.{lists_by}
+use Rattle.mlt_manager.specs.Wholes.{HasRun}
+use Rattle.mlt_manager.proofs.Ended.{begun_keeps}
+use Rattle.mlt_manager.proofs.Keeping.{counted_keeps}
+use Rattle.mlt_manager.proofs.Kept.{whole_kept}
+use Rattle.mlt_manager_solo.specs.Alone.{HasOneIdle, IsAtRest, KeepsCommitted}
+use Rattle.mlt_manager_solo.specs.Asking.{CanMark, HasAsked, HasDone, HasEndedScript, HasRunScript, IsKept, IsRefused, IsRefusedAfter, IsTakenBack}
+use Rattle.mlt_manager_solo.specs.Events.{done_by, taken_back}
+use Rattle.mlt_manager_solo.proofs.Items.{base_at_rest, begin_commits_none, committed_by, op_commits_none, serial_at_rest}
+use Rattle.mlt_manager_solo.proofs.Runs.{run_on, run_one, same_events}
+use Rattle.mlt_manager_solo.proofs.Wholes.{call_refused, run_beside, run_done_idle, run_refused_idle, same_items_base, stands_behind_nobody, still_one}
+
+module _ {P : Type 0} (bits_of : P → ℕ → ℕ) where
+  -- one more event is counted, and nothing else
+  pub counted_one : (m : ManagerFields P) (tx : ℕ) → HasOneIdle bits_of m tx → HasOneIdle bits_of (counted m) tx
+  counted_one m tx one = record { manager = counted_keeps bits_of m one.manager; idle = one.idle; alone = one.alone; limit = one.limit }
+
+  pub counted_rest : (m : ManagerFields P) → IsAtRest bits_of m → IsAtRest bits_of (counted m)
+  counted_rest m rest = record { manager = counted_keeps bits_of m rest.manager; nobody = rest.nobody; limit = rest.limit }
+
+  pub none_committed : (a b c : ManagerFields P) → KeepsCommitted a b → KeepsCommitted b c → KeepsCommitted a c
+  none_committed a b c one two = record { committed = two.committed ∙ one.committed; commits = two.commits ∙ one.commits }
+
+  -- what the operation of the transaction that alone is open may be told
+  module _ (old new : ManagerFields P) (tx : ℕ) (op : ObjOp) (one : HasOneIdle bits_of old tx) where
+    abbrev manager_now : IsManager bits_of (counted old)
+    manager_now = (counted_one old tx one).manager
+
+    pub asked_done : (reply : ObjReply) → Meets bits_of (event.Whole tx op) (told.Answered (answer.Done reply)) (counted old) new → HasOneIdle bits_of new tx × HasDone bits_of old new tx (op, reply)
+    asked_done reply r =
+        let beside = run_beside bits_of (counted old) new tx op (answer.Done reply) r.0 in (
+          still_one bits_of (counted old) new tx (counted_one old tx one) (whole_kept bits_of (counted old) new manager_now tx op (Ok (answer.Done reply)) r.0)
+              (run_done_idle bits_of (counted old) new tx op reply r.0) beside,
+          record {
+            meets = r;
+            leads = r.1.leads;
+            keeps = record { committed = ap committed_by r.1.items ∙ op_commits_none old.commons.history.items tx (op, reply); commits = beside.commits };
+          },
+        )
+
+    pub asked_refused : (reason : Refusal) → Meets bits_of (event.Whole tx op) (told.Answered (answer.Refused reason)) (counted old) new → HasOneIdle bits_of new tx × IsRefused bits_of old new tx op reason
+    asked_refused reason r =
+        let idle = run_refused_idle bits_of (counted old) new tx op reason r.0 in
+        let beside = run_beside bits_of (counted old) new tx op (answer.Refused reason) r.0 in (
+          still_one bits_of (counted old) new tx (counted_one old tx one) (whole_kept bits_of (counted old) new manager_now tx op (Ok (answer.Refused reason)) r.0) idle.0 beside,
+          record {
+            said = told.Answered (answer.Refused reason);
+            refused = inr refl;
+            meets = r;
+            stays = λ base leads. same_items_base old new base r.1.items leads;
+            keeps = record { committed = ap committed_by r.1.items; commits = beside.commits };
+            can = idle.1;
+          },
+        )
+
+    pub asked_in_vain : (reason : Refusal) → AnswersCall (counted old) new tx op (Err reason) → HasOneIdle bits_of new tx × IsRefused bits_of old new tx op reason
+    asked_in_vain reason a =
+        let r = call_refused bits_of (counted old) new tx op reason one.idle a in (
+          still_one bits_of (counted old) new tx (counted_one old tx one) (whole_kept bits_of (counted old) new manager_now tx op (Err reason) a) r.0 r.2,
+          record {
+            said = told.Refused reason;
+            refused = inl refl;
+            meets = a;
+            stays = λ base leads. same_items_base old new base r.1 leads;
+            keeps = record { committed = ap committed_by r.1; commits = r.2.commits };
+            can = r.3;
+          },
+        )
+
+    -- **It waits for nobody, and nobody blocks it.**
+    pub asked_alone : (told : Answer) → HasRun bits_of (counted old) new tx op told → IsByAnother told new.txs tx → ((reply : ObjReply) → told ≡ answer.Done reply → ⊥)
+        → ((reason : Refusal) → told ≡ answer.Refused reason → ⊥) → ⊥
+    asked_alone told r another not_done not_refused =
+        stands_behind_nobody bits_of (counted old) new tx told (counted_one old tx one) (run_beside bits_of (counted old) new tx op told r) another not_done not_refused r.runs.steps.stops
+
+  -- nothing was asked yet
+  pub asked_nothing : (m : ManagerFields P) (tx : ℕ) → HasAsked bits_of m m [] (done_by tx [])
+  asked_nothing m tx = record { run = refl; leads = λ base leads. (base, refl, leads); keeps = record { committed = refl; commits = refl } }
+
+  -- **An operation is done, and then others.**
+  pub asked_first : (old m new : ManagerFields P) (tx : ℕ) (x : ObjOp × ObjReply) (t : Transcript) → HasDone bits_of old m tx x → HasAsked bits_of m new t (done_by tx t) → HasAsked bits_of old new (x ∷ t) (done_by tx (x ∷ t))
+  asked_first old m new tx x t done asked = record {
+    run = (m, done.meets, asked.run);
+    leads = λ base leads.
+        let first = done.leads base leads in
+        let later = asked.leads first.0 first.2 in
+        (later.0, (first.0, first.1, later.1), later.2);
+    keeps = none_committed old m new done.keeps asked.keeps;
+  }
+
+  asked_at : (p q : Questions) (t : Transcript) (op : ObjOp) → Reaches p t q → IsNext (next.Op op) q → (after : ObjReply → Questions) × Reaches p t (Asks op after)
+  asked_at p (Ends e) t op reaches none = absurd none
+  asked_at p (Asks o after) t op reaches is = (after, subst (λ (x : ObjOp). Reaches p t (Asks x after)) (sym is) reaches)
+
+  -- **The next one is refused.**
+  pub refused_after : (s : ScriptForm) (q : Questions) (old m m' : ManagerFields P) (tx : ℕ) (t : Transcript) (op : ObjOp) (reason : Refusal) → Reaches (questions_of_script s) t q → IsNext (next.Op op) q
+      → HasAsked bits_of old m t (done_by tx t) → IsRefused bits_of m m' tx op reason → IsRefusedAfter bits_of s old m' tx t reason
+  refused_after s q old m m' tx t op reason reaches is asked refused = record {
+    partial = is_partial s t q reaches;
+    last = (event.Whole tx op, refused.said) ∷ [];
+    why = record { op = op; asked = asked_at (questions_of_script s) q t op reaches is; said = refused.said; refused = refused.refused; events = refl };
+    asked = record {
+      run = run_on bits_of old m m' (done_by tx t) _ asked.run (run_one bits_of m m' (event.Whole tx op) refused.said refused.meets);
+      leads = λ base leads. let before = asked.leads base leads in (before.0, before.1, refused.stays before.0 before.2);
+      keeps = none_committed old m m' asked.keeps refused.keeps;
+    };
+    can = refused.can;
+  }
+
+  -- ends of a script
+
+  pub ended_committed : (s : ScriptForm) (old m new : ManagerFields P) (tx number : ℕ) (t : Transcript) → Follows s t ending.Commit → HasAsked bits_of old m t (done_by tx t) → IsKept bits_of m new tx number
+      → HasEndedScript bits_of s old new tx t (Committed number)
+  ended_committed s old m new tx number t follows asked kept = record {
+    leads = λ base leads serial.
+        let done = asked.leads base leads in
+        let count : new.commits ≡ old.commits + 1 = kept.commits ∙ kept.next ∙ ap (λ (n : ℕ). n + 1) asked.keeps.commits in
+        (done.0, kept.leads done.0 done.2, (follows, done.1, count, sym kept.commits));
+    exchanges = done_by tx t ++ (event.Commit tx, told.Committed number) ∷ [];
+    told = refl;
+    run = run_on bits_of old m new (done_by tx t) _ asked.run (run_one bits_of m new (event.Commit tx) (told.Committed number) kept.meets);
+    can = tt;
+  }
+
+  -- what is taken back leaves the base
+  back_to_base : (old m new : ManagerFields P) (base : Base) → IsAtRest bits_of new → KeepsCommitted old m → KeepsCommitted m new → IsSerialBase Step empty_base (lists_by old).committed base → HasBase new base
+  back_to_base old m new base rest one two serial =
+      base_at_rest bits_of new rest base (subst (λ (ts : List (List (ObjOp × ObjReply))). IsSerialBase Step empty_base ts base) (sym (two.committed ∙ one.committed)) serial)
+
+  pub ended_aborted : (s : ScriptForm) (old m new : ManagerFields P) (tx : ℕ) (t : Transcript) → Follows s t ending.Abort → HasAsked bits_of old m t (done_by tx t) → IsTakenBack bits_of m new tx → IsAtRest bits_of new
+      → HasEndedScript bits_of s old new tx t Aborted
+  ended_aborted s old m new tx t follows asked back rest = record {
+    leads = λ base leads serial.
+        let done = asked.leads base leads in
+        (base, back_to_base old m new base rest asked.keeps back.keeps serial, (follows, (done.0, done.1), refl, back.keeps.commits ∙ asked.keeps.commits));
+    exchanges = done_by tx t ++ taken_back tx back.closed;
+    told = (back.closed, refl);
+    run = run_on bits_of old m new (done_by tx t) _ asked.run back.run;
+    can = tt;
+  }
+
+  pub ended_refused : (s : ScriptForm) (old m new : ManagerFields P) (tx : ℕ) (t : Transcript) (reason : Refusal) → IsRefusedAfter bits_of s old m tx t reason → IsTakenBack bits_of m new tx → IsAtRest bits_of new
+      → HasEndedScript bits_of s old new tx t (Refused reason)
+  ended_refused s old m new tx t reason refused back rest = record {
+    leads = λ base leads serial.
+        let done = refused.asked.leads base leads in
+        (base, back_to_base old m new base rest refused.asked.keeps back.keeps serial, (refused.partial, (done.0, done.1), refl, back.keeps.commits ∙ refused.asked.keeps.commits));
+    exchanges = done_by tx t ++ (refused.last ++ taken_back tx back.closed);
+    told = inr (record { last = refused.last; why = refused.why; closed = back.closed; events = refl });
+    run = same_events bits_of old new _ _ (append_assoc (done_by tx t) refused.last (taken_back tx back.closed)) (run_on bits_of old m new (done_by tx t ++ refused.last) _ refused.asked.run back.run);
+    can = refused.can;
+  }
+
+  -- **A transaction that begins is the only one.**
+  module _ (old m : ManagerFields P) (tx : ℕ) (rest : IsAtRest bits_of old) (begun : HasBegun (counted old) m tx) where
+    pub begun_alone : HasOneIdle bits_of m tx
+    begun_alone = record {
+      manager = begun_keeps bits_of (counted old) (counted_rest old rest).manager tx m begun;
+      idle = record { one = begun.one; there = ap (λ (n : ManagerFields P). map.get n.txs tx) begun.rest ∙ inserted_here old.txs tx begun.one; is_at = subst IsIdle (sym begun.idle) tt };
+      alone = λ i ne. ap (λ (n : ManagerFields P). map.get n.txs i) begun.rest ∙ inserted_elsewhere old.txs tx begun.one i ne ∙ rest.nobody i;
+      limit = subst (λ (n : ℕ). 1 ≤ n) (sym (ap (λ (n : ManagerFields P). n.max_open) begun.rest)) rest.limit;
+    }
+
+    begun_committed : KeepsCommitted old m
+    begun_committed = record { committed = ap committed_by begun.items ∙ begin_commits_none old.commons.history.items tx; commits = ap (λ (n : ManagerFields P). n.commits) begun.rest }
+
+    begun_base : (base : Base) → HasBase old base → HasBase m base
+    begun_base base leads =
+        let fresh : (lists_by old).stage tx ≡ Fresh = rest.manager.sound.match.records.fresh tx (omega (arith, begun.number)) in
+        let grown = follow_push Step (entries_of old.commons.history.items) no_lists empty_base base base (Begun tx) leads (fresh, refl) in
+        let same : entries_of m.commons.history.items ≡ entries_of old.commons.history.items ++ Begun tx ∷ [] = ap entries_of begun.items ∙ entries_of-append old.commons.history.items (trace.Begin tx ∷ []) in
+        subst (λ (es : List (Entry (ObjOp × ObjReply))). IsHistory Step empty_base es base) (sym same) grown
+
+    pub run_begun : (s : ScriptForm) (new : ManagerFields P) (t : Transcript) (end : End) → HasEndedScript bits_of s m new tx t end → HasRunScript bits_of s old new tx t end
+    run_begun s new t end ended = record {
+      leads = λ base leads.
+          let serial = subst (λ (ts : List (List (ObjOp × ObjReply))). IsSerialBase Step empty_base ts base) (sym begun_committed.committed) (serial_at_rest bits_of old rest base leads) in
+          let run = ended.leads base (begun_base base leads) serial in
+          (run.0, run.1, subst (λ (n : ℕ). IsRun s base n t end run.0 new.commits) begun_committed.commits run.2);
+      exchanges = (event.Begin, told.Begun tx) ∷ ended.exchanges;
+      told = ended.told;
+      run = (m, begun, ended.run);
+      can = ended.can;
+    }
+
+  -- why no transaction begins where none is open
+  begin_can_mark : (m : ManagerFields P) (reason : Refusal) → IsAtRest bits_of m → IsCauseAtBegin reason m → CanMark reason
+  begin_can_mark m refusal.TooManyOpen rest full =
+      let empty : m.txs ≡ map.empty = map.same_map nat_cmp_total map.nat_cmp-IsAntisymmetric m.txs map.empty (λ i. rest.nobody i ∙ sym (map.get-empty {X = Transaction} nat_cmp i)) in
+      let none : map.len m.txs ≡ 0 = ap map.len empty ∙ map.len-empty nat_cmp Transaction in
+      absurd (omega (arith, none, full, rest.limit))
+  begin_can_mark m refusal.IdsSpent rest cause = tt
+  begin_can_mark m refusal.OutOfMemory rest cause = tt
+  begin_can_mark m other rest none = absurd none
+
+  -- **No transaction begins.**
+  pub not_begun_rests : (old new : ManagerFields P) (reason : Refusal) → IsAtRest bits_of old → IsCauseAtBegin reason (counted old) × (new ≡ counted old) → IsAtRest bits_of new
+  not_begun_rests old new reason rest a = subst (IsAtRest bits_of) (sym a.1) (counted_rest old rest)
+
+  pub run_not_begun : (s : ScriptForm) (old new : ManagerFields P) (t : Transcript) (reason : Refusal) → t ≡ [] → IsAtRest bits_of old → IsCauseAtBegin reason (counted old) × (new ≡ counted old)
+      → HasRunScript bits_of s old new 0 t (Refused reason)
+  run_not_begun s old new t reason nothing rest a = record {
+    leads = λ base leads.
+        let here : HasBase new base = subst (λ (n : ManagerFields P). HasBase n base) (sym a.1) leads in
+        let partial : IsPartial s t = subst (IsPartial s) (sym nothing) (is_partial s [] (questions_of_script s) refl) in
+        let runs : Runs base t base = subst (λ (u : Transcript). Runs base u base) (sym nothing) refl in
+        (base, here, (partial, (base, runs), refl, ap (λ (n : ManagerFields P). n.commits) a.1));
+    exchanges = (event.Begin, told.Refused reason) ∷ [];
+    told = inl (record { nobody = refl; nothing = nothing; events = refl });
+    run = run_one bits_of old new event.Begin (told.Refused reason) a;
+    can = begin_can_mark (counted old) reason (counted_rest old rest) a.0;
+  }

@@ -1,0 +1,118 @@
+-- What steps of a transaction do to it, and beside it
+use Rattle.std.proofs.Common.{◌≡◌, ◌≢◌, ℕ, List, [], ◌∷◌, Some, refl, sym, ap, subst, ◌∙◌}
+use Rattle.std.specs.FinMap as map
+use Rattle.mlt_types.specs.declared.refusal.Refusal.{Refusal}
+use Rattle.mlt_types.specs.declared.refusal.Refusal.TheVariants as refusal
+use Rattle.mlt_object_kinds.specs.declared.operation.ObjReply.{ObjReply}
+use Rattle.mlt_hash_access.specs.Moments.{Moment}
+use Rattle.mlt_hash.specs.Walks.{Basis, basis_by}
+use Rattle.mlt_object_base.specs.declared.request.Request.{Request}
+use Rattle.mlt_tx_two_records.specs.declared.double.Double.TheVariants.{First, Owing, Wide}
+use Rattle.mlt_tx_two_records.specs.declared.double.Leg.TheVariants as leg
+use Rattle.mlt_tx_operation.specs.declared.course.Course.{Course}
+use Rattle.mlt_tx_operation.specs.declared.course.Course.TheVariants.{One, Two}
+use Rattle.mlt_tx_operation.specs.Answers.{CauseBy, IsCauseOf}
+use Rattle.mlt_tx_operation.specs.Operating.{OperationFields}
+use Rattle.mlt_event.specs.declared.answer.Answer.{Answer}
+use Rattle.mlt_event.specs.declared.answer.Answer.TheVariants as answer
+use Rattle.mlt_tx.specs.declared.commons.Commons.{Commons}
+use Rattle.mlt_tx.specs.declared.transaction.At.{At}
+use Rattle.mlt_tx.specs.declared.transaction.At.TheVariants as at
+use Rattle.mlt_tx.specs.declared.transaction.Transaction.{Transaction}
+use Rattle.mlt_tx.specs.Transactions.{TellsAt}
+use Rattle.mlt_tx_open.specs.Tables.{ChangesOne, Table}
+use Rattle.mlt_manager_invariant.proofs.Tables.{inserted_elsewhere, inserted_here, removed_elsewhere}
+use Rattle.mlt_manager.specs.Answers.{ChangesOpen, HasStepped, IsIdle, IsOpenAt, txs_after}
+use Rattle.mlt_manager.specs.Chains.{StepsBy}
+use Rattle.mlt_manager.specs.Managers.{ManagerFields}
+use Rattle.mlt_manager_solo.specs.Asking.{CanMark}
+
+-- no transaction but this one has changed, and neither has how many may be open, or how many have committed
+pub record StaysBeside {P : Type 0} (old new : ManagerFields P) (tx : ℕ) : Type 0 where
+  pub others : (i : ℕ) → i ≢ tx → map.get new.txs i ≡ map.get old.txs i
+  pub limit : new.max_open ≡ old.max_open
+  pub commits : new.commits ≡ old.commits
+
+pub beside_same : {P : Type 0} (old new : ManagerFields P) (tx : ℕ) → new ≡ old → StaysBeside old new tx
+beside_same old new tx same = record {
+  others = λ i ne. ap (λ (n : ManagerFields _). map.get n.txs i) same;
+  limit = ap (λ (n : ManagerFields _). n.max_open) same;
+  commits = ap (λ (n : ManagerFields _). n.commits) same;
+}
+
+pub beside_both : {P : Type 0} (a b c : ManagerFields P) (tx : ℕ) → StaysBeside a b tx → StaysBeside b c tx → StaysBeside a c tx
+beside_both a b c tx one two = record { others = λ i ne. two.others i ne ∙ one.others i ne; limit = two.limit ∙ one.limit; commits = two.commits ∙ one.commits }
+
+-- where one transaction is changed
+pub changed_beside : {P : Type 0} (m m' : ManagerFields P) (tx : ℕ) → ChangesOne tx m.txs m'.txs → ChangesOpen m m' → StaysBeside m m' tx
+changed_beside m m' tx changes rest = record {
+  others = λ i ne. ap (λ (t : Table). map.get t i) changes.is ∙ inserted_elsewhere m.txs tx changes.after i ne;
+  limit = ap (λ (n : ManagerFields _). n.max_open) rest;
+  commits = ap (λ (n : ManagerFields _). n.commits) rest;
+}
+
+pub changed_here : (tx : ℕ) (old new : Table) (changes : ChangesOne tx old new) → map.get new tx ≡ Some changes.after
+changed_here tx old new changes = ap (λ (t : Table). map.get t tx) changes.is ∙ inserted_here old tx changes.after
+
+-- who is beside a transaction that takes a step, or is open no more
+after_others : (told : Answer) (txs : Table) (tx i : ℕ) → i ≢ tx → map.get (txs_after told tx txs) i ≡ map.get txs i
+after_others answer.Aborted txs tx i ne = removed_elsewhere txs tx i ne
+after_others other txs tx i ne = refl
+
+-- why a step may be refused
+can_mark_by : (reason : Refusal) (course : Course) (basis : Basis) (old mid : Moment) (request : Request) → CauseBy course reason basis old mid request → CanMark reason
+can_mark_by refusal.NoRoom course basis old mid request cause = tt
+can_mark_by refusal.OutOfMemory course basis old mid request cause = tt
+can_mark_by other (One walk) basis old mid request none = absurd none
+can_mark_by other (Two (First pair)) basis old mid request none = absurd none
+can_mark_by other (Two (Owing pair reply)) basis old mid request none = absurd none
+can_mark_by other (Two (Wide leg.Own walk)) basis old mid request none = absurd none
+can_mark_by other (Two (Wide leg.Size walk)) basis old mid request (since, put, none) = absurd none
+
+step_can_mark : (reason : Refusal) (basis : Basis) (old mid : Moment) (before : OperationFields) → IsCauseOf reason basis old mid before → CanMark reason
+step_can_mark reason basis old mid before cause = can_mark_by reason before.course basis old mid before.request cause
+
+-- an operation that is done or refused leaves its transaction at nothing
+done_at : (a : At) (basis : Basis) (before after : Transaction) (old new : Commons) (reply : ObjReply) → TellsAt a basis before after old new (answer.Done reply) → IsIdle after.at
+done_at at.Idle basis before after old new reply none = absurd none
+done_at (at.Pending o) basis before after old new reply s = subst IsIdle (sym s.now_at) tt
+done_at (at.Undoing inverting) basis before after old new reply s = absurd s.tells
+
+refused_at : (a : At) (basis : Basis) (before after : Transaction) (old new : Commons) (reason : Refusal) → TellsAt a basis before after old new (answer.Refused reason) → IsIdle after.at × CanMark reason
+refused_at at.Idle basis before after old new reason none = absurd none
+refused_at (at.Pending o) basis before after old new reason s = (subst IsIdle (sym s.now_at) tt, step_can_mark reason _ _ _ o s.tells.tells.cause)
+refused_at (at.Undoing inverting) basis before after old new reason s = absurd s.tells
+
+-- one step
+module _ {P : Type 0} (bits_of : P → ℕ → ℕ) (m m' : ManagerFields P) (tx : ℕ) where
+  pub step_beside : (told : Answer) → HasStepped bits_of m m' tx told → StaysBeside m m' tx
+  step_beside told d = record {
+    others = λ i ne. ap (λ (n : ManagerFields P). map.get n.txs i) d.rest ∙ after_others told d.txs tx i ne ∙ ap (λ (t : Table). map.get t i) d.steps.changes.is
+        ∙ inserted_elsewhere m.txs tx d.steps.changes.after i ne;
+    limit = ap (λ (n : ManagerFields P). n.max_open) d.rest;
+    commits = ap (λ (n : ManagerFields P). n.commits) d.rest;
+  }
+
+  there_still : (told : Answer) (d : HasStepped bits_of m m' tx told) → txs_after told tx d.txs ≡ d.txs → map.get m'.txs tx ≡ Some d.steps.changes.after
+  there_still told d on =
+      ap (λ (n : ManagerFields P). map.get n.txs tx) d.rest ∙ ap (λ (t : Table). map.get t tx) (on ∙ d.steps.changes.is) ∙ inserted_here m.txs tx d.steps.changes.after
+
+  -- **One that is done leaves the transaction at nothing,** and so does one that is refused.
+  pub done_idles : (reply : ObjReply) → HasStepped bits_of m m' tx (answer.Done reply) → IsOpenAt m'.txs tx IsIdle
+  done_idles reply d = record {
+    one = d.steps.changes.after;
+    there = there_still (answer.Done reply) d refl;
+    is_at = done_at d.steps.changes.before.at (basis_by bits_of m.root m.opens d.steps.changes.before.subtx.tx) d.steps.changes.before d.steps.changes.after m.commons m'.commons reply d.steps.tells;
+  }
+
+  pub refused_idles : (reason : Refusal) → HasStepped bits_of m m' tx (answer.Refused reason) → IsOpenAt m'.txs tx IsIdle × CanMark reason
+  refused_idles reason d =
+      let r = refused_at d.steps.changes.before.at (basis_by bits_of m.root m.opens d.steps.changes.before.subtx.tx) d.steps.changes.before d.steps.changes.after m.commons m'.commons reason d.steps.tells in
+      (record { one = d.steps.changes.after; there = there_still (answer.Refused reason) d refl; is_at = r.0 }, r.1)
+
+-- **Steps change no other transaction.**
+pub steps_beside : {P : Type 0} (bits_of : P → ℕ → ℕ) (GoesOn : Answer → Type 0) (old last : ManagerFields P) (tx : ℕ) (steps : List (ManagerFields P × Answer)) → StepsBy bits_of GoesOn old steps last tx
+    → StaysBeside old last tx
+steps_beside bits_of GoesOn old last tx [] same = beside_same old last tx same
+steps_beside bits_of GoesOn old last tx (one ∷ more) (first, on, later) =
+    beside_both old one.0 last tx (step_beside bits_of old one.0 tx one.1 first) (steps_beside bits_of GoesOn one.0 last tx more later)

@@ -1,0 +1,43 @@
+-- What `solo` writes for an input, and the manager that it answers
+use Rattle.std.specs.Prelude.{◌≡◌, ℕ, List, [], Option}
+use Rattle.mlt_types.specs.declared.limits.Limits.{Limits}
+use Rattle.mlt_types.specs.declared.refusal.Refusal.{Refusal}
+use Rattle.mlt_object_kinds.specs.Bases.{Base}
+use Rattle.mlt_script.specs.Grammar.{Spells}
+use Rattle.mlt_script_tree.specs.Scripts.{ScriptForm}
+use Rattle.mlt_script_serial.specs.declared.outcome.Outcome.{Outcome}
+use Rattle.mlt_script_serial.specs.declared.report.Form.TheVariants.{Solo}
+use Rattle.mlt_script_serial.specs.Serial.{AreNumbered, IsSerialRun}
+use Rattle.mlt_script_serial.specs.Texts.{report_text}
+use Rattle.mlt_manager.specs.Bases.{HasBase}
+use Rattle.mlt_manager.specs.Managers.{ManagerFields}
+use Rattle.mlt_manager.specs.Openings.{IsNew}
+use Rattle.mlt_manager_solo.specs.Asking.{CanBeMarks}
+use Rattle.mlt_manager_solo.specs.Events.{AreEventsOfAll, Exchange, IsRunOf}
+
+-- From a new manager with these limits and this function to pseudokeys, the scripts' whole operations are a run, in which
+-- they are told what the outcomes say; and its history leads to this base.
+pub record IsRunByManager {P : Type 0} (bits_of : P → ℕ → ℕ) (limits : Limits) (pseudo : P)
+    (scripts : List ScriptForm) (outcomes : List Outcome) (base : Base) (new : ManagerFields P)
+    : Type 0 where
+  pub opening : ManagerFields P
+  pub opens : IsNew opening limits pseudo
+  pub exchanges : List Exchange
+  pub told : AreEventsOfAll scripts outcomes exchanges
+  pub run : IsRunOf bits_of opening exchanges new
+  pub leads : HasBase new base
+
+-- The input spells scripts. They ran one after another from the empty base, just the marked ones were refused, at
+-- their marks; and a manager told them so. The text is that of their outcomes.
+pub record IsSoloText {P : Type 0} (bits_of : P → ℕ → ℕ) (limits : Limits) (pseudo : P)
+    (input text : List ℕ) (new : ManagerFields P) : Type 0 where
+  pub scripts : List ScriptForm
+  pub marks : List (Option (ℕ × Refusal))
+  pub outcomes : List Outcome
+  pub base : Base
+  pub spells : Spells input scripts
+  pub serial : IsSerialRun scripts marks outcomes base
+  pub can : CanBeMarks marks
+  pub numbered : AreNumbered [] scripts outcomes
+  pub manager : IsRunByManager bits_of limits pseudo scripts outcomes base new
+  pub is : text ≡ report_text Solo outcomes base

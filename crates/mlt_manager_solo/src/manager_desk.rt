@@ -1,0 +1,69 @@
+//! A desk over a manager alone.
+
+ghost use Rattle.std.specs.Prelude.{◌≡◌};
+ghost use Rattle.mlt_manager_solo.specs.Desks.{reply_told};
+
+use mlt_script_cursor::Answering;
+use mlt_script_desk::Desk;
+use mlt_event::{Answer, Event, Told};
+use mlt_object_kinds::{ObjOp, ObjReply};
+use mlt_manager::Manager;
+use mlt_types::{Pseudo, Refusal, TxId};
+
+/// A desk over a manager that nobody else asks. Each of its calls is one event, but for an abort that has something to take
+/// back, which is two.
+pub(crate) struct ManagerDesk<P: Pseudo> {
+    pub(crate) manager: Manager<P>,
+}
+
+/// What an operation answers that was told this. One that is to wait, or is blocked, is given up.
+fn reply_of(told: Told) -> Result<ObjReply, Refusal>
+    ensures { result ≡ reply_told told }
+{
+    match told {
+        Told::Answered(Answer::Done(reply)) => Ok(reply),
+        Told::Answered(Answer::Refused(refusal)) => Err(refusal),
+        Told::Refused(refusal) => Err(refusal),
+        _ => Err(Refusal::GaveUp),
+    }
+}
+
+impl<P: Pseudo> Answering for ManagerDesk<P> {
+    ghost use Rattle.mlt_manager_solo.specs.Desks.{MeetsOperation};
+
+    ghost answers = { λ old tx op answer new.
+        MeetsOperation P.bits_of old.manager tx op answer new.manager };
+
+    fn operation(&mut self, tx: TxId, op: ObjOp) -> Result<ObjReply, Refusal> {
+        reply_of(self.manager.act(Event::Whole(tx, op)))
+    }
+}
+
+impl<P: Pseudo> Desk for ManagerDesk<P> {
+    ghost use Rattle.mlt_manager_solo.specs.Desks.{MeetsAbort, MeetsBegin, MeetsCommit};
+
+    ghost begins = { λ old answer new. MeetsBegin P.bits_of old.manager answer new.manager };
+
+    ghost commits = { λ old tx answer new.
+        MeetsCommit P.bits_of old.manager tx answer new.manager };
+
+    ghost aborts = { λ old tx new. MeetsAbort P.bits_of old.manager tx new.manager };
+
+    fn begin(&mut self) -> Result<TxId, Refusal> {
+        self.manager.begin()
+    }
+
+    fn commit(&mut self, tx: TxId) -> Result<u64, Refusal> {
+        self.manager.commit(tx)
+    }
+
+    fn abort(&mut self, tx: TxId) {
+        match self.manager.abort(tx) {
+            Ok(false) => {
+                let _told = self.manager.act(Event::WholeUndo(tx));
+            }
+            Ok(true) => (),
+            Err(_) => (),
+        }
+    }
+}

@@ -1,0 +1,38 @@
+-- What `steps` writes for an input.
+use Rattle.std.specs.Prelude.{◌≡◌, ℕ, List, [], ◌∷◌, ◌++◌, codes}
+use Rattle.mlt_types.specs.declared.limits.Limits.{Limits}
+use Rattle.mlt_object_kinds.specs.Bases.{Base}
+use Rattle.mlt_object_kinds.specs.Texts.{with_number}
+use Rattle.mlt_object_base.specs.BaseText.{base_text}
+use Rattle.mlt_event.specs.declared.event.Event.{Event}
+use Rattle.mlt_event.specs.declared.told.Told.{Told}
+use Rattle.mlt_event_text.specs.Grammar.{Spells}
+use Rattle.mlt_event_text.specs.TellTexts.{told_text}
+use Rattle.mlt_manager.specs.Bases.{HasDepth}
+use Rattle.mlt_manager.specs.Events.{Plays}
+use Rattle.mlt_manager.specs.Managers.{ManagerFields}
+use Rattle.mlt_manager.specs.Promises.{IsCommittedBaseOf}
+
+-- the line of a directory's depth
+abbrev pub depth_line : ℕ → List ℕ
+depth_line depth = with_number (codes "depth") depth ++ 10 ∷ []
+
+-- A line for what each event was told, then the base of what this manager has committed, and then the depth of its
+-- directory.
+pub record IsTextOf {P : Type 0} (tolds : List Told) (manager : ManagerFields P) (text : List ℕ)
+    : Type 0 where
+  pub base : Base
+  pub committed : IsCommittedBaseOf manager base
+  pub depth : ℕ
+  pub deep : HasDepth manager depth
+  pub appended : text ≡ told_text tolds ++ (base_text base ++ depth_line depth)
+
+-- The input spells events, which are played from a new manager to this one, and the text is that of what they were
+-- told.
+pub record IsStepsText {P : Type 0} (bits_of : P → ℕ → ℕ) (limits : Limits) (pseudo : P)
+    (input text : List ℕ) (manager : ManagerFields P) : Type 0 where
+  pub events : List Event
+  pub tolds : List Told
+  pub spelled : Spells input events
+  pub played : Plays bits_of limits pseudo events tolds manager
+  pub written : IsTextOf tolds manager text

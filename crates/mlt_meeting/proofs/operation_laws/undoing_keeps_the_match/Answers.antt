@@ -1,5 +1,0 @@
-use Rattle.mlt_meeting.proofs.Undoing.{undoing_keeps}
-use Rattle.mlt_meeting.proofs.operation_laws.undoing_keeps_the_match.Goals as goal
-
-pub returns : goal.returns
-returns c = λ world tx item pages h may. undoing_keeps world tx item h may pages

@@ -1,0 +1,125 @@
+-- What each operation needs, is told and changes where it finds a record with a value or none, and how it is undone.
+use Rattle.std.specs.Prelude.{ℕ, ◌+◌, ◌-◌, ◌%◌, ◌^◌, nat_lt, ◌==◌, cond, Bool, true, false, Option, None, Some, is_some, List, [], ◌∷◌, ◌++◌}
+use Rattle.mlt_types.specs.declared.cell.Cell.{Cell}
+use Rattle.mlt_types.specs.declared.cell.Cell.TheVariants as cell
+use Rattle.mlt_types.specs.declared.mode.Mode.{Mode}
+use Rattle.mlt_types.specs.declared.mode.Mode.TheVariants.{Shared, Exclusive}
+use Rattle.mlt_types.specs.Cells.{key_number}
+use Rattle.mlt_object_kinds.specs.declared.account.AccountOp.{AccountOp}
+use Rattle.mlt_object_kinds.specs.declared.account.AccountOp.TheVariants.{Open, Close, Deposit, Withdraw, Balance}
+use Rattle.mlt_object_kinds.specs.declared.counter.CounterOp.{CounterOp}
+use Rattle.mlt_object_kinds.specs.declared.counter.CounterOp.TheVariants.{Up, Down, Read}
+use Rattle.mlt_object_kinds.specs.declared.element.ElementOp.{ElementOp}
+use Rattle.mlt_object_kinds.specs.declared.element.ElementOp.TheVariants as element
+use Rattle.mlt_object_kinds.specs.declared.operation.ObjOp.{ObjOp}
+use Rattle.mlt_object_kinds.specs.declared.operation.ObjOp.TheVariants.{Account, Element, Counter, Size}
+use Rattle.mlt_object_kinds.specs.declared.operation.ObjReply.{ObjReply}
+use Rattle.mlt_object_kinds.specs.declared.operation.ObjReply.TheVariants as told
+use Rattle.mlt_object_kinds.specs.Accounts.{max_balance}
+use Rattle.mlt_object_kinds.specs.Operations.{cell_of}
+use Rattle.mlt_object_base.specs.declared.record.Changes.{Changes}
+use Rattle.mlt_object_base.specs.declared.record.RecChange.{RecChange}
+use Rattle.mlt_object_base.specs.declared.record.RecChange.TheVariants.{Add, Set, ToGhost, Revive, Plus, Minus}
+
+-- operations that change nothing, whatever they find, share the bucket
+abbrev pub mode_of : ObjOp → Mode
+mode_of (Account a Balance) = Shared
+mode_of (Element s e element.Has) = Shared
+mode_of (Counter c Read) = Shared
+mode_of (Size s) = Shared
+mode_of _ = Exclusive
+
+-- the key, and the mode in which its bucket is locked
+abbrev pub access_of : ObjOp → ℕ × Mode
+access_of op = (key_number (cell_of op), mode_of op)
+
+-- the reply, and the change of the record
+abbrev pub account_reply_of : AccountOp → Option ℕ → ObjReply × Option RecChange
+account_reply_of Open None = (told.Opened, Some (Add 0))
+account_reply_of Open (Some v) = (told.Exists, None)
+account_reply_of Close (Some v) = cond (v == 0) (told.Closed, Some ToGhost) (told.NotEmpty, None)
+account_reply_of (Deposit n) (Some v) =
+    cond (nat_lt max_balance (v + n)) (told.Over, None) (told.Done, Some (Set (v + n)))
+account_reply_of (Withdraw n) (Some v) =
+    cond (nat_lt v n) (told.Short, None) (told.Done, Some (Set (v - n)))
+account_reply_of Balance (Some v) = (told.Is v, None)
+account_reply_of _ None = (told.Missing, None)
+
+abbrev pub element_reply_of : ElementOp → Bool → ObjReply × Option RecChange
+element_reply_of element.Add false = (told.Added, Some (Add 0))
+element_reply_of element.Add true = (told.Present, None)
+element_reply_of element.Remove true = (told.Removed, Some ToGhost)
+element_reply_of element.Remove false = (told.Absent, None)
+element_reply_of element.Has true = (told.Yes, None)
+element_reply_of element.Has false = (told.No, None)
+
+abbrev pub counter_reply_of : CounterOp → Option ℕ → ObjReply × Option RecChange
+counter_reply_of (Up n) (Some v) = (told.Done, Some (Set ((v + n) % 2 ^ 64)))
+counter_reply_of (Up n) None = (told.Done, Some (Add n))
+counter_reply_of (Down n) (Some v) = (told.Done, Some (Set ((v + (2 ^ 64 - n)) % 2 ^ 64)))
+counter_reply_of (Down n) None = (told.Done, Some (Add ((2 ^ 64 - n) % 2 ^ 64)))
+counter_reply_of Read (Some v) = (told.Is v, None)
+counter_reply_of Read None = (told.Is 0, None)
+
+-- a set without a size record has no element
+abbrev pub size_reply_of : Option ℕ → ObjReply × Option RecChange
+size_reply_of (Some v) = (told.Is v, None)
+size_reply_of None = (told.Is 0, None)
+
+abbrev pub reply_of : ObjOp → Option ℕ → ObjReply × Option RecChange
+reply_of (Account a op) live = account_reply_of op live
+reply_of (Element s e op) live = element_reply_of op (is_some live)
+reply_of (Counter c op) live = counter_reply_of op live
+reply_of (Size s) live = size_reply_of live
+
+-- What an operation that is told the reply changes of its set's size record, where that has a value or there is none:
+-- an element that is added raises the size by 1, and makes the record where the set had none yet; one that is removed
+-- lowers it by 1. Every other leaves it.
+abbrev pub size_change_of : ObjOp × ObjReply → Option ℕ → Option RecChange
+size_change_of (Element s e element.Add, told.Added) None = Some (Add 1)
+size_change_of (Element s e element.Add, told.Added) (Some v) = Some (Plus 1)
+size_change_of (Element s e element.Remove, told.Removed) found = Some (Minus 1)
+size_change_of _ _ = None
+
+-- The changes of records, each with the cell whose record it is, one after the other: of the operation's own cell, and
+-- then of its set's size. Only an operation on an element has a set.
+abbrev pub own_change_on : ObjOp → Option RecChange → List (Cell × RecChange)
+own_change_on op None = []
+own_change_on op (Some change) = (cell_of op, change) ∷ []
+
+abbrev pub size_change_on : ObjOp → Option RecChange → List (Cell × RecChange)
+size_change_on (Element s e op) (Some change) = (cell.Size s, change) ∷ []
+size_change_on _ _ = []
+
+abbrev pub changes_on : ObjOp → Changes → List (Cell × RecChange)
+changes_on op changes = own_change_on op changes.own ++ size_change_on op changes.size
+
+-- the change that undoes the operation that was told the reply
+abbrev pub account_inverse_of : AccountOp → ObjReply → Option RecChange
+account_inverse_of Open told.Opened = Some ToGhost
+account_inverse_of Close told.Closed = Some Revive
+account_inverse_of (Deposit n) told.Done = Some (Minus n)
+account_inverse_of (Withdraw n) told.Done = Some (Plus n)
+account_inverse_of _ _ = None
+
+abbrev pub element_inverse_of : ElementOp → ObjReply → Option RecChange
+element_inverse_of element.Add told.Added = Some ToGhost
+element_inverse_of element.Remove told.Removed = Some Revive
+element_inverse_of _ _ = None
+
+abbrev pub counter_inverse_of : CounterOp → ObjReply → Option RecChange
+counter_inverse_of (Up n) told.Done = Some (Minus n)
+counter_inverse_of (Down n) told.Done = Some (Plus n)
+counter_inverse_of _ _ = None
+
+abbrev pub inverse_of : ObjOp × ObjReply → Option RecChange
+inverse_of (Account a op, reply) = account_inverse_of op reply
+inverse_of (Element s e op, reply) = element_inverse_of op reply
+inverse_of (Counter c op, reply) = counter_inverse_of op reply
+inverse_of (Size s, reply) = None
+
+-- the change that undoes what it did to its set's size
+abbrev pub size_inverse_of : ObjOp × ObjReply → Option RecChange
+size_inverse_of (Element s e element.Add, told.Added) = Some (Minus 1)
+size_inverse_of (Element s e element.Remove, told.Removed) = Some (Plus 1)
+size_inverse_of _ = None

@@ -1,0 +1,70 @@
+-- What an operation is asked to do, and what it does with what it finds
+use Rattle.std.specs.Prelude.{ℕ, ◌+◌, ◌-◌, ◌^◌, ◌<◌, Option, None, Some, IsSome}
+use Rattle.mlt_types.specs.declared.cell.Cell.TheVariants as cell
+use Rattle.mlt_types.specs.declared.mode.Mode.{Mode}
+use Rattle.mlt_types.specs.declared.mode.Mode.TheVariants.{Exclusive}
+use Rattle.mlt_types.specs.Cells.{key_number}
+use Rattle.mlt_object_kinds.specs.declared.element.ElementOp.TheVariants as element
+use Rattle.mlt_object_kinds.specs.declared.operation.ObjOp.{ObjOp}
+use Rattle.mlt_object_kinds.specs.declared.operation.ObjOp.TheVariants.{Element}
+use Rattle.mlt_object_kinds.specs.declared.operation.ObjReply.{ObjReply}
+use Rattle.mlt_object_kinds.specs.declared.operation.ObjReply.TheVariants as told
+use Rattle.mlt_object_kinds.specs.Operations.{cell_of}
+use Rattle.mlt_object_base.specs.declared.record.RecChange.{RecChange}
+use Rattle.mlt_object_base.specs.declared.request.Request.{Request}
+use Rattle.mlt_object_base.specs.declared.request.Request.TheVariants.{Do, TakeBack}
+use Rattle.mlt_object_base.specs.Effects.{access_of, inverse_of, reply_of, size_change_of, size_inverse_of}
+use Rattle.mlt_object_base.specs.Records.{CanChange, counter_of_record}
+
+-- the key that it walks to, and the mode in which it locks the key's bucket
+abbrev pub target_of : Request → ℕ × Mode
+target_of (Do op) = access_of op
+target_of (TakeBack done) = (key_number (cell_of done.0), Exclusive)
+
+-- the key of the size record that it may change: where an element may be added or removed, and where it was
+abbrev pub size_key_of : Request → Option ℕ
+size_key_of (Do (Element s e element.Add)) = Some (key_number (cell.Size s))
+size_key_of (Do (Element s e element.Remove)) = Some (key_number (cell.Size s))
+size_key_of (TakeBack (Element s e element.Add, told.Added)) = Some (key_number (cell.Size s))
+size_key_of (TakeBack (Element s e element.Remove, told.Removed)) = Some (key_number (cell.Size s))
+size_key_of _ = None
+
+-- what it is told and changes, where it finds a record with this value or none; what is taken back was told its reply
+abbrev pub decision : Request → Option ℕ → ObjReply × Option RecChange
+decision (Do op) found = reply_of op found
+decision (TakeBack done) found = (done.1, inverse_of done)
+
+-- what is found is what the inverse needs, where something is to be taken back
+abbrev pub IsPossible : Request → Option ℕ → Type 0
+IsPossible (Do op) found = Unit {0}
+IsPossible (TakeBack done) found = CanChange (inverse_of done) found
+
+-- what it changes of its set's size record, where it is told the reply and that record has this value, or there is none
+abbrev pub size_decision : Request → ObjReply → Option ℕ → Option RecChange
+size_decision (Do op) reply found = size_change_of (op, reply) found
+size_decision (TakeBack done) reply found = size_inverse_of done
+
+-- the size of its set after an operation that is told the reply, and before one that was, where it is this at the other end
+abbrev pub size_after : ObjOp × ObjReply → ℕ → ℕ
+size_after (Element s e element.Add, told.Added) size = size + 1
+size_after (Element s e element.Remove, told.Removed) size = size - 1
+size_after _ size = size
+
+abbrev pub size_before : ObjOp × ObjReply → ℕ → ℕ
+size_before (Element s e element.Add, told.Added) size = size - 1
+size_before (Element s e element.Remove, told.Removed) size = size + 1
+size_before _ size = size
+
+abbrev pub resized : Request → ObjReply → ℕ → ℕ
+resized (Do op) reply size = size_after (op, reply) size
+resized (TakeBack done) reply size = size_before done size
+
+-- The size that is found can be changed: one to be raised is not the greatest, and one to be lowered is not 0. Where a
+-- removal is taken back the record is there.
+abbrev pub CanResize : Request → ObjReply → Option ℕ → Type 0
+CanResize (Do (Element s e element.Add)) told.Added found = counter_of_record found + 1 < 2 ^ 64
+CanResize (Do (Element s e element.Remove)) told.Removed found = 0 < counter_of_record found
+CanResize (TakeBack (Element s e element.Add, told.Added)) reply found = 0 < counter_of_record found
+CanResize (TakeBack (Element s e element.Remove, told.Removed)) reply found =
+    IsSome found × (counter_of_record found + 1 < 2 ^ 64)
+CanResize _ reply found = Unit {0}

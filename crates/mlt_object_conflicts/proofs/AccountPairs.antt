@@ -1,0 +1,113 @@
+-- Which classes of accounts pass which: one tactic serves every pair.
+use Rattle.std.proofs.Common.{◌≡◌, ℕ, ◌+◌, ◌-◌, ◌≤◌, ◌<◌, ◌^◌, Option, None, Some, true, false, arith, refl, ap}
+use Rattle.mlt_object_kinds.specs.Accounts.{max_balance}
+use Rattle.mlt_object_kinds.specs.declared.account.AccountOp.{AccountOp}
+use Rattle.mlt_object_kinds.specs.declared.account.AccountOp.TheVariants.{Deposit, Withdraw}
+use Rattle.mlt_object_conflicts.specs.declared.accounts.AccountClass.{AccountClass}
+use Rattle.mlt_object_conflicts.specs.declared.accounts.AccountClass.TheVariants.{Opened, Exists, Closed, NotEmpty, Deposited, Over, Withdrawn, Short, Balance, Missing}
+use Rattle.mlt_object_conflicts.specs.AccountTable.{account_marks, account_breach, account_item}
+
+-- where a class with its amount is legal
+abbrev pub Legal : AccountClass → ℕ → Option ℕ → Type 0
+Legal Opened n None = Unit {0}
+Legal Exists n (Some b) = b ≤ max_balance
+Legal Closed n (Some b) = b ≡ 0
+Legal NotEmpty n (Some b) = (1 ≤ b) × (b ≤ max_balance)
+Legal Deposited n (Some b) = b + n ≤ max_balance
+Legal Over n (Some b) = (b ≤ max_balance) × (max_balance < b + n)
+Legal Withdrawn n (Some b) = (b ≤ max_balance) × (n ≤ b)
+Legal Short n (Some b) = (b ≤ max_balance) × (b < n)
+Legal Balance n (Some b) = (b ≤ max_balance) × (b ≡ n)
+Legal Missing n None = Unit {0}
+Legal _ n _ = ⊥
+
+-- what it leaves there
+abbrev pub after : AccountClass → ℕ → Option ℕ → Option ℕ
+after Opened n s = Some 0
+after Closed n s = None
+after Deposited n (Some b) = Some (b + n)
+after Withdrawn n (Some b) = Some (b - n)
+after _ n s = s
+
+-- a state as a number, 0 where it is absent
+abbrev level : Option ℕ → ℕ
+level None = 0
+level (Some b) = b + 1
+
+level_injective : (s t : Option ℕ) → level s ≡ level t → s ≡ t
+level_injective None None e = refl
+level_injective None (Some c) e = absurd (omega arith)
+level_injective (Some b) None e = absurd (omega arith)
+level_injective (Some b) (Some c) e = let same : b ≡ c = omega arith in ap Some same
+
+abbrev Passes : AccountClass → AccountClass → ℕ → ℕ → Option ℕ → Type 0
+Passes p q n k s =
+    account_marks p q ≡ false → Legal p n s → Legal q k (after p n s) →
+    Legal q k s × Legal p n (after q k s) × (level (after q k (after p n s)) ≡ level (after p n (after q k s)))
+
+at_none : (p q : AccountClass) (n k : ℕ) → Passes p q n k None
+at_none p q n k =
+    elim p as (λ p. Passes p q n k None) [
+      | Opened ↦ elim q as (λ q. Passes Opened q n k None) [ Opened ↦ λ e h i. first_of (omega arith, cc) | _ ↦ λ e h i. first_of (omega arith, cc) ]
+      | p ↦ elim q as (λ q. Passes p q n k None) [ Opened ↦ λ e h i. first_of (omega arith, cc) | _ ↦ λ e h i. first_of (omega arith, cc) ]
+    ]
+
+at_some : (p q : AccountClass) (n k b : ℕ) → Passes p q n k (Some b)
+at_some p q n k b =
+    elim p as (λ p. Passes p q n k (Some b)) [
+      | Opened ↦ elim q as (λ q. Passes Opened q n k (Some b)) [ Opened ↦ λ e h i. first_of (omega arith, cc) | _ ↦ λ e h i. first_of (omega arith, cc) ]
+      | p ↦ elim q as (λ q. Passes p q n k (Some b)) [ Opened ↦ λ e h i. first_of (omega arith, cc) | _ ↦ λ e h i. first_of (omega arith, cc) ]
+    ]
+
+passes : (p q : AccountClass) (n k : ℕ) (s : Option ℕ) → Passes p q n k s
+passes p q n k s = elim s as (λ s. Passes p q n k s) [ None ↦ at_none p q n k | Some b ↦ at_some p q n k b ]
+
+-- classes that are not marked pass
+pub account_rows_pass : (p q : AccountClass) → account_marks p q ≡ false → (n k : ℕ) (s : Option ℕ) → Legal p n s → Legal q k (after p n s) →
+    Legal q k s × Legal p n (after q k s) × (after q k (after p n s) ≡ after p n (after q k s))
+account_rows_pass p q free n k s h i = let t = passes p q n k s free h i in (t.0, t.1, level_injective _ _ t.2)
+
+-- the amount is one
+abbrev pub Fits : AccountOp → Type 0
+Fits (Deposit n) = n < 2 ^ 64
+Fits (Withdraw n) = n < 2 ^ 64
+Fits _ = Unit {0}
+
+-- the amount that a class has in its row
+abbrev pub amount_in : AccountClass → ℕ → ℕ
+amount_in Deposited n = n
+amount_in Over n = n
+amount_in Withdrawn n = n
+amount_in Short n = n
+amount_in Balance n = n
+amount_in _ n = 0
+
+abbrev pub Breaks : AccountClass → AccountClass → ℕ × ℕ × Option ℕ → Type 0
+Breaks p q x =
+    account_marks p q ≡ true →
+    (Legal p (amount_in p x.0) x.2 × Legal q (amount_in q x.1) (after p (amount_in p x.0) x.2)) ×
+    (Legal q (amount_in q x.1) x.2 → Legal p (amount_in p x.0) (after q (amount_in q x.1) x.2) →
+    level (after q (amount_in q x.1) (after p (amount_in p x.0) x.2)) ≡ level (after p (amount_in p x.0) (after q (amount_in q x.1) x.2)) → ⊥)
+
+breaks : (p q : AccountClass) → Breaks p q (account_breach p q)
+breaks p q =
+    elim p as (λ p. Breaks p q (account_breach p q)) [
+      | Opened ↦ elim q as (λ q. Breaks Opened q (account_breach Opened q)) [ Opened ↦ λ e. first_of (omega arith, cc) | _ ↦ λ e. first_of (omega arith, cc) ]
+      | p ↦ elim q as (λ q. Breaks p q (account_breach p q)) [ Opened ↦ λ e. first_of (omega arith, cc) | _ ↦ λ e. first_of (omega arith, cc) ]
+    ]
+
+-- the amounts of the breaches are amounts
+abbrev BreachFits : AccountClass → AccountClass → Type 0
+BreachFits p q = Fits (account_item p (account_breach p q).0).0 × Fits (account_item q (account_breach p q).1).0
+
+pub breach_fits : (p q : AccountClass) → BreachFits p q
+breach_fits p q =
+    elim p as (λ p. BreachFits p q) [
+      | Opened ↦ elim q as (λ q. BreachFits Opened q) [ Opened ↦ first_of (omega arith, grind arith) | _ ↦ first_of (omega arith, grind arith) ]
+      | p ↦ elim q as (λ q. BreachFits p q) [ Opened ↦ first_of (omega arith, grind arith) | _ ↦ first_of (omega arith, grind arith) ]
+    ]
+
+-- marked classes break at their breach
+pub account_rows_break : (p q : AccountClass) → account_marks p q ≡ true → let x = account_breach p q in let n = amount_in p x.0 in let k = amount_in q x.1 in
+    Legal p n x.2 × Legal q k (after p n x.2) × (Legal q k x.2 → Legal p n (after q k x.2) → after q k (after p n x.2) ≡ after p n (after q k x.2) → ⊥)
+account_rows_break p q marked = let t = breaks p q marked in (t.0.0, t.0.1, λ h i e. t.1 h i (ap level e))

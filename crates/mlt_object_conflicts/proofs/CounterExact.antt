@@ -1,0 +1,37 @@
+-- The table of counters is exact.
+use Rattle.std.proofs.Common.{◌≡◌, false, refl, arith}
+use Rattle.std.specs.Bool.{MatchBool}
+use Rattle.mlt_object_kinds.specs.Counters.{CounterStep, IsLegal, next_of}
+use Rattle.mlt_object_conflicts.specs.declared.counters.CounterClass.{CounterClass}
+use Rattle.mlt_object_conflicts.specs.declared.counters.CounterClass.TheVariants.{Counted, Read}
+use Rattle.mlt_object_conflicts.specs.CounterTable.{counter_class, counter_marks, counter_item}
+use Rattle.mlt_object_conflicts.specs.Tables.{paired, BreaksAt, ClassesConflict, ClassesPass}
+use Rattle.mlt_object_conflicts.proofs.CounterPairs.{Legal, after, Fits, amount, counter_has_rows, counter_rows_pass}
+use Rattle.mlt_object_conflicts.proofs.Rows.{classes_pass}
+
+pub counter_classes_pass : (p q : CounterClass) → counter_marks p q ≡ false → ClassesPass CounterStep counter_class p q
+counter_classes_pass p q free =
+    classes_pass counter_class IsLegal next_of amount Fits Legal after counter_has_rows p q (counter_rows_pass p q free)
+
+-- a value that is read behind an addition was not there before it
+up_then_read : BreaksAt (paired CounterStep) 0 (counter_item Counted 1) (counter_item Read 1)
+up_then_read = (1, 1, ((omega arith, omega arith), refl), ((omega arith, refl), refl), λ other h i. absurd (omega (arith, h.0.1)))
+
+-- a value that was read before an addition is not there behind it
+read_then_up : BreaksAt (paired CounterStep) 0 (counter_item Read 0) (counter_item Counted 1)
+read_then_up = (
+  0,
+  1,
+  ((omega arith, refl), refl),
+  ((omega arith, omega arith), refl),
+  λ other h i. let one : 1 ≡ other = h.1 in let none : other ≡ 0 = i.0.1 in absurd (omega arith),
+)
+
+abbrev Exact : CounterClass → CounterClass → Type 0
+Exact p q = MatchBool (counter_marks p q) (ClassesConflict CounterStep counter_class p q) (ClassesPass CounterStep counter_class p q)
+
+pub counter_exact : (p q : CounterClass) → Exact p q
+counter_exact Counted Counted = counter_classes_pass Counted Counted refl
+counter_exact Counted Read = (0, counter_item Counted 1, counter_item Read 1, refl, refl, up_then_read)
+counter_exact Read Counted = (0, counter_item Read 0, counter_item Counted 1, refl, refl, read_then_up)
+counter_exact Read Read = counter_classes_pass Read Read refl

@@ -1,0 +1,37 @@
+-- The table of elements is exact.
+use Rattle.std.proofs.Common.{◌≡◌, true, false, refl}
+use Rattle.std.specs.Bool.{MatchBool}
+use Rattle.mlt_object_kinds.specs.Elements.{ElementStep, IsLegal, next_of}
+use Rattle.mlt_object_conflicts.specs.declared.elements.ElementClass.{ElementClass}
+use Rattle.mlt_object_conflicts.specs.declared.elements.ElementClass.TheVariants.{Added}
+use Rattle.mlt_object_conflicts.specs.ElementTable.{element_class, element_marks, element_item, element_before}
+use Rattle.mlt_object_conflicts.specs.Tables.{paired, IsOfClass, BreaksAt, ClassesConflict, ClassesPass}
+use Rattle.mlt_object_conflicts.proofs.ElementPairs.{Legal, after, Fits, amount, element_has_rows, element_rows_pass, element_rows_break}
+use Rattle.mlt_object_conflicts.proofs.Rows.{classes_pass, classes_break}
+
+pub element_classes_pass : (p q : ElementClass) → element_marks p q ≡ false → ClassesPass ElementStep element_class p q
+element_classes_pass p q free =
+    classes_pass element_class IsLegal next_of amount Fits Legal after element_has_rows p q (element_rows_pass p q free)
+
+item_class : (c : ElementClass) → IsOfClass element_class (element_item c) c
+item_class c = elim c as (λ c. IsOfClass element_class (element_item c) c) [ Added ↦ refl | _ ↦ refl ]
+
+abbrev pub BreachBreaks : ElementClass → ElementClass → Type 0
+BreachBreaks p q =
+    IsOfClass element_class (element_item p) p × IsOfClass element_class (element_item q) q ×
+    BreaksAt (paired ElementStep) (element_before p) (element_item p) (element_item q)
+
+pub element_breach_breaks : (p q : ElementClass) → element_marks p q ≡ true → BreachBreaks p q
+element_breach_breaks p q marked = (
+  item_class p,
+  item_class q,
+  classes_break element_class IsLegal next_of amount Fits Legal after element_has_rows p q (element_item p) (element_item q) (element_before p)
+      (item_class p) (item_class q) tt tt (element_rows_break p q marked),
+)
+
+pub element_exact : (p q : ElementClass) → MatchBool (element_marks p q) (ClassesConflict ElementStep element_class p q) (ClassesPass ElementStep element_class p q)
+element_exact p q =
+    elim (element_marks p q) as (λ b. element_marks p q ≡ b → MatchBool b (ClassesConflict ElementStep element_class p q) (ClassesPass ElementStep element_class p q)) [
+      | true ↦ λ marked. let t = element_breach_breaks p q marked in (element_before p, element_item p, element_item q, t.0, t.1, t.2)
+      | false ↦ element_classes_pass p q
+    ] refl

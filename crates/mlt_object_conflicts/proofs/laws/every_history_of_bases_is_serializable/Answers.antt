@@ -1,0 +1,17 @@
+use Rattle.mlt_object_kinds.specs.Bases.{Step, empty_base}
+use Rattle.mlt_order.specs.Histories.{lists_of}
+use Rattle.mlt_order.proofs.Keeping.{kept_by_history, last_goes}
+use Rattle.mlt_order.proofs.UndoLaws.{one_base}
+use Rattle.mlt_object_conflicts.proofs.BaseOrder.{base_functional, base_injective}
+use Rattle.mlt_object_conflicts.proofs.laws.every_history_of_bases_is_serializable.Goals as goal
+
+pub returns-clause-serializable : goal.returns-clause-serializable
+returns-clause-serializable c = λ base history h. (kept_by_history Step empty_base base_functional base_injective history base h).serializable
+
+pub returns-clause-one : goal.returns-clause-one
+returns-clause-one c = λ base one other history h.
+    let mixed = (kept_by_history Step empty_base base_functional base_injective history base h).mixed in
+    one_base Step base_injective one other base (lists_of history).transcripts mixed.0 mixed.1
+
+pub returns-clause-undo : goal.returns-clause-undo
+returns-clause-undo c = λ base history i rest last h is. last_goes Step empty_base base_functional base_injective history base i rest last h is

@@ -1,0 +1,27 @@
+-- The table of counters. A state is the value, which is counted modulo 2^64.
+use Rattle.std.specs.Prelude.{◌≡◌, ℕ, ◌+◌, ◌-◌, ◌<◌, ◌^◌, ◌%◌}
+use Rattle.mlt_object_kinds.specs.declared.counter.CounterOp.{CounterOp}
+use Rattle.mlt_object_kinds.specs.declared.counter.CounterOp.TheVariants.{Up, Down, Read}
+use Rattle.mlt_object_kinds.specs.declared.operation.ObjReply.{ObjReply}
+use Rattle.mlt_object_kinds.specs.declared.operation.ObjReply.TheVariants.{Done, Is}
+
+-- a value in range
+abbrev pub IsCounter : ℕ → Type 0
+IsCounter value = value < 2 ^ 64
+
+-- in which states an operation is told the reply
+abbrev pub IsLegal : CounterOp → ObjReply → ℕ → Type 0
+IsLegal (Up n) Done s = (n < 2 ^ 64) × (s < 2 ^ 64)
+IsLegal (Down n) Done s = (n < 2 ^ 64) × (s < 2 ^ 64)
+IsLegal Read (Is v) s = (s < 2 ^ 64) × (s ≡ v)
+IsLegal _ _ _ = ⊥
+
+-- the state after an operation that is told the reply
+abbrev pub next_of : CounterOp → ObjReply → ℕ → ℕ
+next_of (Up n) Done s = (s + n) % 2 ^ 64
+next_of (Down n) Done s = (s + (2 ^ 64 - n)) % 2 ^ 64
+next_of _ _ s = s
+
+-- from the state before, the operation is told the reply and leads to the state after
+abbrev pub CounterStep : ℕ → CounterOp → ObjReply → ℕ → Type 0
+CounterStep before op reply after = IsLegal op reply before × (next_of op reply before ≡ after)

@@ -1,0 +1,70 @@
+-- The laws of the table of elements: one answer, one start, and states stay in range.
+use Rattle.std.proofs.Common.{◌≡◌, Bool, true, false, refl, sym, ◌∙◌, ap}
+use Rattle.mlt_object_kinds.specs.declared.element.ElementOp.{ElementOp}
+use Rattle.mlt_object_kinds.specs.declared.element.ElementOp.TheVariants.{Add, Remove, Has}
+use Rattle.mlt_object_kinds.specs.declared.operation.ObjReply.{ObjReply}
+use Rattle.mlt_object_kinds.specs.declared.operation.ObjReply.TheVariants.{Added, Present, Removed, Absent, Yes, No}
+use Rattle.mlt_object_kinds.specs.Elements.{ElementStep, IsElement, IsLegal, next_of}
+
+-- what an operation is told
+abbrev reply_of : ElementOp → Bool → ObjReply
+reply_of Add false = Added
+reply_of Add true = Present
+reply_of Remove false = Absent
+reply_of Remove true = Removed
+reply_of Has false = No
+reply_of Has true = Yes
+
+the_reply : (o : ElementOp) (r : ObjReply) (s : Bool) → IsLegal o r s → r ≡ reply_of o s
+the_reply o r s =
+    elim o as (λ o. IsLegal o r s → r ≡ reply_of o s) [
+      | Add ↦ elim s as (λ s. IsLegal Add r s → r ≡ reply_of Add s) [
+        | true ↦ elim r as (λ r. IsLegal Add r true → r ≡ Present) [ Present ↦ λ h. refl | _ ↦ λ h. absurd h ]
+        | false ↦ elim r as (λ r. IsLegal Add r false → r ≡ Added) [ Added ↦ λ h. refl | _ ↦ λ h. absurd h ]
+      ]
+      | Remove ↦ elim s as (λ s. IsLegal Remove r s → r ≡ reply_of Remove s) [
+        | true ↦ elim r as (λ r. IsLegal Remove r true → r ≡ Removed) [ Removed ↦ λ h. refl | _ ↦ λ h. absurd h ]
+        | false ↦ elim r as (λ r. IsLegal Remove r false → r ≡ Absent) [ Absent ↦ λ h. refl | _ ↦ λ h. absurd h ]
+      ]
+      | Has ↦ elim s as (λ s. IsLegal Has r s → r ≡ reply_of Has s) [
+        | true ↦ elim r as (λ r. IsLegal Has r true → r ≡ Yes) [ Yes ↦ λ h. refl | _ ↦ λ h. absurd h ]
+        | false ↦ elim r as (λ r. IsLegal Has r false → r ≡ No) [ No ↦ λ h. refl | _ ↦ λ h. absurd h ]
+      ]
+    ]
+
+pub element_one_answer : (s : Bool) (o : ElementOp) (r q : ObjReply) (t u : Bool) → ElementStep s o r t → ElementStep s o q u → (r ≡ q) × (t ≡ u)
+element_one_answer s o r q t u h k =
+    let same : r ≡ q = the_reply o r s h.0 ∙ sym (the_reply o q s k.0) in
+    (same, sym h.1 ∙ ap (λ r. next_of o r s) same ∙ k.1)
+
+-- the state before a reply
+abbrev before_of : ObjReply → Bool → Bool
+before_of Added s = false
+before_of Removed s = true
+before_of _ s = s
+
+the_start : (o : ElementOp) (r : ObjReply) (s : Bool) → IsLegal o r s → s ≡ before_of r (next_of o r s)
+the_start o r s =
+    elim o as (λ o. IsLegal o r s → s ≡ before_of r (next_of o r s)) [
+      | Add ↦ elim r as (λ r. IsLegal Add r s → s ≡ before_of r (next_of Add r s)) [
+        | Added ↦ elim s as (λ s. IsLegal Add Added s → s ≡ false) [ true ↦ λ h. absurd h | false ↦ λ h. refl ]
+        | Present ↦ λ h. refl
+        | _ ↦ λ h. absurd h
+      ]
+      | Remove ↦ elim r as (λ r. IsLegal Remove r s → s ≡ before_of r (next_of Remove r s)) [
+        | Removed ↦ elim s as (λ s. IsLegal Remove Removed s → s ≡ true) [ true ↦ λ h. refl | false ↦ λ h. absurd h ]
+        | Absent ↦ λ h. refl
+        | _ ↦ λ h. absurd h
+      ]
+      | Has ↦ elim r as (λ r. IsLegal Has r s → s ≡ before_of r (next_of Has r s)) [
+        | Yes ↦ λ h. refl
+        | No ↦ λ h. refl
+        | _ ↦ λ h. absurd h
+      ]
+    ]
+
+pub element_one_start : (s u t : Bool) (o : ElementOp) (r : ObjReply) → ElementStep s o r t → ElementStep u o r t → s ≡ u
+element_one_start s u t o r h k = the_start o r s h.0 ∙ ap (before_of r) (h.1 ∙ sym k.1) ∙ sym (the_start o r u k.0)
+
+pub element_stays : (s t : Bool) (o : ElementOp) (r : ObjReply) → ElementStep s o r t → IsElement s × IsElement t
+element_stays s t o r h = (tt, tt)

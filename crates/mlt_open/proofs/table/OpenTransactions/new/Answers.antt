@@ -1,8 +1,0 @@
-use Rattle.std.proofs.Common.{List, sym, subst}
-use Rattle.mlt_open.specs.declared.mooring.Mooring.{Mooring}
-use Rattle.mlt_open.specs.Moorings.{AreMoored}
-use Rattle.mlt_open.proofs.Moorings.{no_moorings}
-use Rattle.mlt_open.proofs.table.OpenTransactions.new.Goals as goal
-
-pub invariant_of-result : goal.invariant_of-result
-invariant_of-result c = subst (λ (moorings : List Mooring). AreMoored moorings 0) (sym c.new.ensures.items) no_moorings

@@ -1,5 +1,0 @@
-use Rattle.mlt_hash.specs.Walks.{basis_in}
-use Rattle.mlt_operation.proofs.perform.perform.Given as goal
-
-abbrev pub ghost-insert : goal.ghost-insert
-ghost-insert g a = basis_in g.P.Pseudo.bits_of a.setting.now a.subtx.now.tx

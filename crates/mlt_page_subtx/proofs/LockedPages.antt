@@ -1,0 +1,30 @@
+-- Laws of locked pages: they are there, whatever locks are granted and whatever is written. Other crates cite them.
+use Rattle.std.proofs.Common.{◌≡◌, ℕ, true, is_some, sym, subst, inl, inr, arith}
+use Rattle.std.specs.Ordering.{nat_cmp}
+use Rattle.std.specs.FinMap as map
+use Rattle.std.proofs.lemmas.Bool.{cases_eq, false≢true}
+use Rattle.std.proofs.lemmas.Bool.Decides.{nat_tests}
+use Rattle.mlt_types.specs.declared.mode.Mode.{Mode}
+use Rattle.mlt_page.specs.declared.page.Page.{Page}
+use Rattle.mlt_page_store.specs.Stores.{Pages, page_at}
+use Rattle.mlt_page_locks.proofs.Maps.{get_inserted}
+use Rattle.mlt_page_locks.specs.LockTables.{LockTable, Modes, no_locks}
+use Rattle.mlt_page_locks.specs.Requests.{granted}
+use Rattle.mlt_page_locks.proofs.LockLaws.{can_read-granted}
+use Rattle.mlt_page_subtx.specs.Locking.{LocksPagesThere}
+
+-- locked pages are there: none is locked at first,
+pub locks_there-none : (max_open : ℕ) (pages : Pages) → LocksPagesThere (no_locks max_open) pages
+locks_there-none max_open pages u p reads = absurd (false≢true (grind (arith, reads, map.get-empty {X = Modes} nat_cmp u, map.get-empty {X = Mode} nat_cmp p)))
+
+-- a lock is granted on one that is,
+pub locks_there-granted : (locks : LockTable) (pages : Pages) (tx q : ℕ) (mode : Mode) → LocksPagesThere locks pages → is_some (page_at pages q) ≡ true → LocksPagesThere (granted locks tx q mode) pages
+locks_there-granted locks pages tx q mode there is u p reads =
+    elim (cases_eq p q) [
+      | inl here ↦ subst (λ p. is_some (page_at pages p) ≡ true) (sym here) is
+      | inr elsewhere ↦ there u p (grind (arith, nat_tests, reads, can_read-granted locks tx q mode u p))
+    ]
+
+-- or a page is written or made
+pub locks_there-written : (locks : LockTable) (pages : Pages) (q : ℕ) (page : Page) → LocksPagesThere locks pages → LocksPagesThere locks (map.insert pages q page)
+locks_there-written locks pages q page there u p reads = grind (arith, nat_tests, get_inserted pages q page p, there u p reads)

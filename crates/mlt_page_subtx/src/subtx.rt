@@ -1,0 +1,270 @@
+//! Subtransactions.
+
+ghost use Rattle.std.specs.Prelude.{◌≡◌, ◌≤◌, ◌<◌, ◌+◌, ◌==◌, ◌++◌, [], ◌∷◌, ◌⊎◌, ◌↔◌, ℕ, length, true, false, is_some, None, Some, Err, IfOk, IfErr, IsOkUnless, OnOk, OnErr, option_copied};
+ghost use Rattle.std.specs.FinMap as map;
+ghost use Rattle.mlt_types.specs.declared.mode.Mode.TheVariants.{Exclusive};
+ghost use Rattle.mlt_page_store.specs.Stores.{HasBucketAt, SetsSlot, page_at};
+ghost use Rattle.mlt_page_locks.specs.LockTables.{AreCompatible};
+ghost use Rattle.mlt_page_locks.specs.Requests.{granted, released};
+ghost use Rattle.mlt_page_subtx.specs.Images.{image_of, with_image, put_back, AreThere, started};
+ghost use Rattle.mlt_page_subtx.specs.ImageLists.{images_in, images_of, IsKept};
+ghost use Rattle.mlt_page_subtx.specs.Locking.{LocksPagesThere, HasRoomForOneMore};
+
+use crate::image::{Image, find_image};
+use crate::near::NearImages;
+use indexmap::IndexMap;
+use mlt_page::{Page, Slot};
+use mlt_page_locks::{Grant, PageLocks};
+use mlt_page_store::Store;
+use mlt_types::{Mode, PageNo, Refusal, TxId};
+use std::alloc::Global;
+use std::marker::Model;
+
+/// The first images of pages behind the first two, in the order in which they came. None is looked for by a scan.
+type FarImages = IndexMap<PageNo, Option<Page>>;
+
+/// A running subtransaction of a transaction: the first images of the pages that it has written or made. Room for
+/// two images is in the value. A contract sees the number of the transaction and a map of images.
+///
+/// That a page is locked before it is read or written is the caller's part.
+#[derive(Drop)]
+pub struct Subtx {
+    tx: TxId,
+    near: NearImages,
+    far: FarImages,
+}
+
+impl Model for Subtx {
+    ghost use Rattle.std.specs.Prelude.{◌++◌};
+    ghost use Rattle.mlt_page_subtx.specs.Images.{Running, coded_running};
+    ghost use Rattle.mlt_page_subtx.specs.ImageLists.{images_in, images_of, IsKept};
+
+    ghost Value = { Running };
+
+    ghost coded = { coded_running };
+
+    ghost view = { λ s. record { tx = s.tx; images = images_of (s.near ++ images_in s.far.entries) } };
+
+    ghost invariant = { λ s. IsKept s.near (images_in s.far.entries) };
+}
+
+impl Subtx {
+    /// A subtransaction of `tx` that has written nothing.
+    pub fn start(alloc: Global, tx: TxId) -> Subtx
+        ensures { result ≡ started tx }
+    {
+        Subtx {
+            tx,
+            near: NearImages::new(),
+            far: IndexMap::new(alloc),
+        }
+    }
+
+    /// Makes it a subtransaction of `tx` that has written nothing, as [`Subtx::start`] does, in the place of this one. It
+    /// takes no memory, and gives back what is taken for images behind the first two.
+    pub fn restart(&mut self, alloc: Global, tx: TxId)
+        ensures { self.new ≡ started tx }
+    {
+        let Subtx { tx: own, near, far } = self;
+        *own = tx;
+        near.clear();
+        *far = IndexMap::new(alloc);
+    }
+
+    /// The transaction that the subtransaction is part of.
+    pub fn tx(&self) -> TxId
+        ensures { result ≡ self.now.tx }
+    {
+        self.tx
+    }
+
+    /// Reads a page.
+    pub fn read<'a>(&self, store: &'a Store, number: PageNo) -> Option<&'a Page>
+        ensures { option_copied result ≡ page_at store.now.pages number }
+    {
+        store.read(number)
+    }
+
+    /// Writes a page that is there. The first time, the page is kept as it was.
+    ///
+    /// # Errors
+    /// `OutOfMemory`, where the page is at least the third and a growth was refused. Then nothing has changed.
+    pub fn write(&mut self, store: &mut Store, number: PageNo, page: Page) -> Result<(), Refusal>
+        requires { is_some (page_at store.old.pages number) ≡ true }
+        ensures store { OnOk result
+            (store.new ≡ record store.old { pages = map.insert store.old.pages number page }) }
+        ensures images { let first = page_at store.old.pages number in
+            let images = with_image self.old.images number first in
+            OnOk result (self.new ≡ record self.old { images = images }) }
+        ensures kept { OnOk result
+            (put_back self.new.images store.new.pages ≡ put_back self.old.images store.old.pages) }
+        ensures err { OnErr result ((self.new ≡ self.old) × (store.new ≡ store.old)) }
+        ensures third { OnErr result
+            ((2 ≤ map.len self.old.images) × (image_of self.old.images number ≡ None)) }
+        ensures refusal { IsOkUnless result Refusal.OutOfMemory }
+    {
+        self.keep_first(store, number)?;
+        store.write(number, page);
+        Ok(())
+    }
+
+    /// Sets one slot of a bucket that is there. The first time, the page is kept as it was; that is its only copy.
+    ///
+    /// # Errors
+    /// `OutOfMemory`, where the page is at least the third and a growth was refused. Then nothing has changed.
+    pub fn write_slot(
+        &mut self,
+        store: &mut Store,
+        number: PageNo,
+        at: usize,
+        slot: Slot,
+    ) -> Result<(), Refusal>
+        requires bucket { HasBucketAt store.old.pages number }
+        requires at { at < 8 }
+        ensures store { OnOk result (SetsSlot store.old store.new number at slot) }
+        ensures images { let first = page_at store.old.pages number in
+            let images = with_image self.old.images number first in
+            OnOk result (self.new ≡ record self.old { images = images }) }
+        ensures kept { OnOk result
+            (put_back self.new.images store.new.pages ≡ put_back self.old.images store.old.pages) }
+        ensures err { OnErr result ((self.new ≡ self.old) × (store.new ≡ store.old)) }
+        ensures third { OnErr result
+            ((2 ≤ map.len self.old.images) × (image_of self.old.images number ≡ None)) }
+        ensures refusal { IsOkUnless result Refusal.OutOfMemory }
+    {
+        self.keep_first(store, number)?;
+        store.set_slot(number, at, slot);
+        Ok(())
+    }
+
+    /// Makes a page and locks it exclusively.
+    ///
+    /// # Errors
+    /// `NoRoom` exactly where the store has as many pages as it may have; else `OutOfMemory`, where a growth was
+    /// refused. Then nothing has changed.
+    pub fn grow(
+        &mut self,
+        store: &mut Store,
+        locks: &mut PageLocks,
+        page: Page,
+    ) -> Result<PageNo, Refusal>
+        requires there { AreThere self.old.images store.old.pages }
+        requires unlocked { LocksPagesThere locks.old store.old.pages }
+        requires room { HasRoomForOneMore locks.old self.old.tx }
+        ensures fresh { IfOk result (λ number. page_at store.old.pages number ≡ None) }
+        ensures store { IfOk result (λ number.
+            store.new ≡ record store.old { pages = map.insert store.old.pages number page }) }
+        ensures images { IfOk result (λ number.
+            self.new ≡ record self.old { images = map.insert self.old.images number None }) }
+        ensures locks { IfOk result (λ number.
+            locks.new ≡ granted locks.old self.old.tx number Exclusive) }
+        ensures kept { OnOk result
+            (put_back self.new.images store.new.pages ≡ put_back self.old.images store.old.pages) }
+        ensures err { OnErr result
+            ((self.new ≡ self.old) × (store.new ≡ store.old) × (locks.new ≡ locks.old)) }
+        ensures no_room { (result ≡ Err Refusal.NoRoom)
+            ↔ (map.len store.old.pages ≡ store.old.max_pages) }
+        ensures refusal { IfErr result (λ refusal.
+            (refusal ≡ Refusal.NoRoom) ⊎ (refusal ≡ Refusal.OutOfMemory)) }
+    {
+        let number = store.grow(page)?;
+        if let Err(refusal) = self.keep(number, None) {
+            store.drop_page(number);
+            return Err(refusal);
+        }
+        match locks.ask(self.tx, number, Mode::Exclusive) {
+            Grant::Held => Ok(number),
+            Grant::Waiting(_) => unreachable!(),
+        }
+    }
+
+    /// Puts the first images back, drops the pages that were made, the last one first, and releases all locks. The
+    /// subtransaction is then as one that has just started.
+    pub fn roll_back(&mut self, store: &mut Store, locks: &mut PageLocks)
+        requires { AreThere self.old.images store.old.pages }
+        ensures store { store.new
+            ≡ record store.old { pages = put_back self.old.images store.old.pages } }
+        ensures locks { locks.new ≡ released locks.old self.old.tx }
+        ensures images { self.new ≡ started self.old.tx }
+    {
+        put_all_back(&mut self.far, &mut self.near, store);
+        locks.release_all(self.tx);
+    }
+
+    /// Keeps what was written and releases all locks. The subtransaction is then as one that has just started.
+    pub fn end(&mut self, locks: &mut PageLocks)
+        ensures locks { locks.new ≡ released locks.old self.old.tx }
+        ensures images { self.new ≡ started self.old.tx }
+    {
+        self.near.clear();
+        self.far.clear();
+        locks.release_all(self.tx);
+    }
+
+    /// The first image of a page, if it has one: what the page had before it was written, or nothing where it was made.
+    pub fn first_image(&self, page: PageNo) -> Option<&Option<Page>>
+        ensures { option_copied result ≡ image_of self.now.images page }
+    {
+        match find_image(self.near.as_slice(), page) {
+            Some(image) => Some(&image.first),
+            None => self.far.get(&page),
+        }
+    }
+
+    fn has_image(&self, page: PageNo) -> bool
+        ensures { result ≡ is_some (image_of self.now.images page) }
+    {
+        self.first_image(page).is_some()
+    }
+
+    // Keeps a page as it is, if it has no image yet.
+    fn keep_first(&mut self, store: &Store, number: PageNo) -> Result<(), Refusal>
+        ensures images { let first = page_at store.now.pages number in
+            let images = with_image self.old.images number first in
+            OnOk result (self.new ≡ record self.old { images = images }) }
+        ensures err { OnErr result (self.new ≡ self.old) }
+        ensures third { OnErr result
+            ((2 ≤ map.len self.old.images) × (image_of self.old.images number ≡ None)) }
+        ensures refusal { IsOkUnless result Refusal.OutOfMemory }
+    {
+        if !self.has_image(number) {
+            let first = self.read(store, number);
+            self.keep(number, first)?;
+        }
+        Ok(())
+    }
+
+    // Keeps the first image of a page that has none.
+    fn keep(&mut self, page: PageNo, first: Option<&Page>) -> Result<(), Refusal>
+        requires { image_of self.old.images page ≡ None }
+        ensures ok { let images = map.insert self.old.images page (option_copied first.entry) in
+            OnOk result (self.new ≡ record self.old { images = images }) }
+        ensures err { OnErr result (self.new ≡ self.old) }
+        ensures third { OnErr result (2 ≤ map.len self.old.images) }
+        ensures refusal { IsOkUnless result Refusal.OutOfMemory }
+    {
+        if self.near.is_full() {
+            self.far.insert(page, first.copied())?;
+        } else {
+            self.near.push(page, first);
+        }
+        Ok(())
+    }
+}
+
+fn put_all_back(far: &mut FarImages, near: &mut NearImages, store: &mut Store)
+    requires kept { IsKept near.old (images_in far.old.entries) }
+    requires there { AreThere (images_of (near.old ++ images_in far.old.entries)) store.old.pages }
+    ensures store { let images = images_of (near.old ++ images_in far.old.entries) in
+        store.new ≡ record store.old { pages = put_back images store.old.pages } }
+    ensures far { far.new.entries ≡ [] }
+    ensures near { near.new ≡ [] }
+{
+    while let Some(entry) = far.pop() {
+        let (page, first) = entry;
+        Image { page, first }.put_back(store);
+    }
+    while let Some(image) = near.pop() {
+        image.put_back(store);
+    }
+}

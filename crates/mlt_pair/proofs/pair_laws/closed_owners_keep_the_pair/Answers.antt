@@ -1,5 +1,0 @@
-use Rattle.mlt_pair.proofs.Laws.{owners_close}
-use Rattle.mlt_pair.proofs.pair_laws.closed_owners_keep_the_pair.Goals as goal
-
-pub returns : goal.returns
-returns c = owners_close

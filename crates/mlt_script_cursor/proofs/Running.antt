@@ -1,0 +1,125 @@
+-- What lines ask, line by line.
+use Rattle.std.proofs.Common.{Some, None, cond, ⊎_elim, ◌≡◌, ℕ, ◌+◌, ◌<◌, ◌≤◌, List, [], ◌∷◌, length, drop, get_or, Bool, true, false, refl, sym, ap, ◌∙◌, subst, add-one, drop-cons}
+use Rattle.std.proofs.lemmas.List.{drop_all}
+use Rattle.std.proofs.lemmas.Bool.{cases_lt}
+use Rattle.mlt_object_kinds.specs.declared.account.AccountOp.TheVariants.{Open}
+use Rattle.mlt_object_kinds.specs.declared.operation.ObjOp.{ObjOp}
+use Rattle.mlt_object_kinds.specs.declared.operation.ObjOp.TheVariants.{Account}
+use Rattle.mlt_object_kinds.specs.declared.operation.ObjReply.{ObjReply}
+use Rattle.mlt_script_tree.specs.declared.statement.Line.{Line}
+use Rattle.mlt_script_tree.specs.declared.statement.Line.TheVariants as line
+use Rattle.mlt_script_tree.specs.declared.statement.Asking.TheVariants.{Fixed}
+use Rattle.mlt_script_tree.specs.declared.statement.Statement.TheVariants.{Ask}
+use Rattle.mlt_script_tree.specs.declared.statement.Ending.{Ending}
+use Rattle.mlt_script_tree.specs.declared.statement.Ending.TheVariants.{Commit, Abort}
+use Rattle.mlt_script_cursor.specs.declared.skipping.Skipping.{Skipping}
+use Rattle.mlt_script_cursor.specs.declared.skipping.Skipping.TheVariants.{Nowhere, ToElse, ToEnd}
+use Rattle.mlt_script_cursor.specs.declared.cursor.Next.{Next}
+use Rattle.mlt_script_cursor.specs.declared.cursor.Next.TheVariants as next
+use Rattle.mlt_script_cursor.specs.Follows.{Questions, Variables, IsNext, IsAsking, answered, goes_on, set_by}
+use Rattle.mlt_script_cursor.specs.Follows.Questions.{Ends, Asks}
+use Rattle.mlt_script_cursor.specs.Hearing.{question, heard, heard_values, after_hearing}
+use Rattle.mlt_script_cursor.specs.Runs.{run, passed, stops_at, is_settled}
+
+-- the line that is read past the end of lines
+abbrev pub some_line : Line
+some_line = line.Plain (Ask (Fixed (Account 0 Open)))
+
+pub passes : (l : Line) (ls : List Line) (m : Skipping) (vs : Variables) (end : Ending) → stops_at l m ≡ false
+    → run (l ∷ ls) m vs end ≡ run ls (passed l m) vs end
+unfolding run
+passes line.Else ls Nowhere vs end h = refl
+passes line.End ls Nowhere vs end h = refl
+passes (line.Plain s) ls Nowhere vs end h = absurd (cc h)
+passes (line.If a w) ls Nowhere vs end h = absurd (cc h)
+passes (line.Plain s) ls (ToElse n) vs end h = refl
+passes (line.If a w) ls (ToElse n) vs end h = refl
+passes line.Else ls (ToElse n) vs end h = refl
+passes line.End ls (ToElse n) vs end h = refl
+passes (line.Plain s) ls (ToEnd n) vs end h = refl
+passes (line.If a w) ls (ToEnd n) vs end h = refl
+passes line.Else ls (ToEnd n) vs end h = refl
+passes line.End ls (ToEnd n) vs end h = refl
+
+pub is_nowhere : (l : Line) (m : Skipping) → stops_at l m ≡ true → m ≡ Nowhere
+is_nowhere l Nowhere h = refl
+is_nowhere line.Else (ToElse n) h = absurd (cc h)
+is_nowhere line.End (ToElse n) h = absurd (cc h)
+is_nowhere (line.Plain s) (ToElse n) h = absurd (cc h)
+is_nowhere (line.If a w) (ToElse n) h = absurd (cc h)
+is_nowhere line.Else (ToEnd n) h = absurd (cc h)
+is_nowhere line.End (ToEnd n) h = absurd (cc h)
+is_nowhere (line.Plain s) (ToEnd n) h = absurd (cc h)
+is_nowhere (line.If a w) (ToEnd n) h = absurd (cc h)
+
+pub settles : (l : Line) (ls : List Line) (m : Skipping) → stops_at l m ≡ true → is_settled (l ∷ ls) ≡ true
+settles l ls m h = ap (stops_at l) (sym (is_nowhere l m h)) ∙ h
+
+pub at_end : (m : Skipping) (vs : Variables) (end : Ending) → run [] m vs end ≡ run [] Nowhere vs end
+unfolding run
+at_end m vs end = refl
+
+-- the lines from at on are the one at at, and those after it
+pub front : (ls : List Line) (at : ℕ) (d : Line) → at < length ls → drop at ls ≡ get_or ls at d ∷ drop (at + 1) ls
+front ls at d h = rw (add-one at) (drop-cons ls at d h)
+
+pub turn : (ls : List Line) (at : ℕ) (m : Skipping) (d : Line) (vs : Variables) (end : Ending) → at < length ls → stops_at (get_or ls at d) m ≡ false
+    → run (drop (at + 1) ls) (passed (get_or ls at d) m) vs end ≡ run (drop at ls) m vs end
+turn ls at m d vs end h s = sym (ap (λ (xs : List Line). run xs m vs end) (front ls at d h) ∙ passes (get_or ls at d) (drop (at + 1) ls) m vs end s)
+
+asks_first : (l : Line) (ls : List Line) (vs : Variables) (end : Ending) → stops_at l Nowhere ≡ true → IsNext (question l vs) (run (l ∷ ls) Nowhere vs end)
+unfolding run
+asks_first (line.Plain s) ls vs end h = refl
+asks_first (line.If a w) ls vs end h = refl
+asks_first line.Else ls vs end h = absurd (cc h)
+asks_first line.End ls vs end h = absurd (cc h)
+
+pub next_line : (ls : List Line) (at : ℕ) (d : Line) (vs : Variables) (end : Ending) → at < length ls → is_settled (drop at ls) ≡ true
+    → IsNext (question (get_or ls at d) vs) (run (drop at ls) Nowhere vs end)
+next_line ls at d vs end h s =
+    let e : drop at ls ≡ get_or ls at d ∷ drop (at + 1) ls = front ls at d h in
+    let t : is_settled (get_or ls at d ∷ drop (at + 1) ls) ≡ true = ap is_settled (sym e) ∙ s in
+    subst (λ (xs : List Line). IsNext (question (get_or ls at d) vs) (run xs Nowhere vs end)) (sym e) (asks_first (get_or ls at d) (drop (at + 1) ls) vs end t)
+
+pub end_of : Ending → Next
+end_of Commit = next.Commit
+end_of Abort = next.Abort
+
+ends_so : (end : Ending) → IsNext (end_of end) (Ends end)
+unfolding end_of
+ends_so Commit = refl
+ends_so Abort = refl
+
+pub run_out : (ls : List Line) (at : ℕ) (vs : Variables) (end : Ending) → length ls ≤ at → run (drop at ls) Nowhere vs end ≡ Ends end
+unfolding run
+run_out ls at vs end h = rw (drop_all at ls h) refl
+
+-- where an operation comes next, it is being asked
+pub asks : (o : ObjOp) (p : Questions) → IsNext (next.Op o) p → IsAsking p
+asks o (Asks op after) h = tt
+asks o (Ends e) h = absurd h
+
+not_past : (ls : List Line) (at : ℕ) (vs : Variables) (end : Ending) → length ls ≤ at → IsAsking (run (drop at ls) Nowhere vs end) → ⊥
+not_past ls at vs end h a = subst IsAsking (run_out ls at vs end h) a
+
+pub in_range : (ls : List Line) (at : ℕ) (vs : Variables) (end : Ending) → IsAsking (run (drop at ls) Nowhere vs end) → at < length ls
+in_range ls at vs end a = ⊎_elim (λ h. h) (λ h. absurd (not_past ls at vs end h a)) (cases_lt at (length ls))
+
+goes_or_ends : (b : Bool) (ls : List Line) (vs : Variables) (end : Ending) → cond b (run ls Nowhere vs end) (Ends Abort) ≡ after_hearing (cond b (Some Nowhere) None) ls vs end
+goes_or_ends true ls vs end = refl
+goes_or_ends false ls vs end = refl
+
+answers : (l : Line) (ls : List Line) (vs : Variables) (end : Ending) (r : ObjReply) → stops_at l Nowhere ≡ true
+    → answered (run (l ∷ ls) Nowhere vs end) r ≡ after_hearing (heard l vs r) ls (heard_values l vs r) end
+unfolding run
+answers (line.Plain s) ls vs end r h = goes_or_ends (goes_on vs s r) ls (set_by vs s r) end
+answers (line.If a w) ls vs end r h = refl
+answers line.Else ls vs end r h = absurd (cc h)
+answers line.End ls vs end r h = absurd (cc h)
+
+pub tells : (ls : List Line) (at : ℕ) (d : Line) (vs : Variables) (end : Ending) (r : ObjReply) → at < length ls → is_settled (drop at ls) ≡ true
+    → answered (run (drop at ls) Nowhere vs end) r ≡ after_hearing (heard (get_or ls at d) vs r) (drop (at + 1) ls) (heard_values (get_or ls at d) vs r) end
+tells ls at d vs end r h s =
+    let e : drop at ls ≡ get_or ls at d ∷ drop (at + 1) ls = front ls at d h in
+    let t : is_settled (get_or ls at d ∷ drop (at + 1) ls) ≡ true = ap is_settled (sym e) ∙ s in
+    ap (λ (xs : List Line). answered (run xs Nowhere vs end) r) e ∙ answers (get_or ls at d) (drop (at + 1) ls) vs end r t

@@ -1,0 +1,15 @@
+use Rattle.std.proofs.Common.{vec_capacity}
+use Rattle.mlt_script_cursor.specs.Follows.{AsksAtMost, Reaches, questions_of_script}
+use Rattle.mlt_script_cursor.specs.Cursors.{questions_of, left_of}
+use Rattle.mlt_script_cursor.specs.Plays.{Gives}
+use Rattle.mlt_script_cursor.proofs.playing.play.Given as goal
+
+abbrev pub invariant-loop-op : goal.invariant-loop-op
+invariant-loop-op g l = record {
+  asked : Reaches (questions_of_script l.script) l.done.items (questions_of l.cursor);
+  gives : Gives g.A.Answering.answers l.tx l.fn.desk l.done.items l.desk;
+  room : AsksAtMost (vec_capacity l.done) (questions_of_script l.script);
+}
+
+abbrev pub decreases-loop-op : goal.decreases-loop-op
+decreases-loop-op g l = left_of l.cursor

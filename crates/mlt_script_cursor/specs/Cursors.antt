@@ -1,0 +1,13 @@
+-- What a cursor still asks.
+use Rattle.std.specs.Prelude.{ℕ, ◌-◌, length, drop}
+use Rattle.mlt_script_cursor.specs.declared.cursor.Cursor.{Cursor}
+use Rattle.mlt_script_cursor.specs.declared.skipping.Skipping.TheVariants.{Nowhere}
+use Rattle.mlt_script_cursor.specs.Follows.{Questions}
+use Rattle.mlt_script_cursor.specs.Runs.{run}
+
+abbrev pub questions_of : Cursor → Questions
+questions_of c = run (drop c.at c.lines.now) Nowhere c.variables c.ending
+
+-- how many lines are left, of which each asks at most one operation
+abbrev pub left_of : Cursor → ℕ
+left_of c = length c.lines.now - c.at

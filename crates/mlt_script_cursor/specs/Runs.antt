@@ -1,0 +1,47 @@
+-- What the lines of a script ask, line by line, where a part that is left out is passed over.
+use Rattle.std.specs.Prelude.{ℕ, zero, suc, List, [], ◌∷◌, Bool, true, false, if◌then◌else◌}
+use Rattle.mlt_script_tree.specs.declared.statement.Line.{Line}
+use Rattle.mlt_script_tree.specs.declared.statement.Line.TheVariants as line
+use Rattle.mlt_script_tree.specs.declared.statement.Ending.{Ending}
+use Rattle.mlt_script_tree.specs.declared.statement.Ending.TheVariants.{Abort}
+use Rattle.mlt_script_cursor.specs.declared.skipping.Skipping.{Skipping}
+use Rattle.mlt_script_cursor.specs.declared.skipping.Skipping.TheVariants.{Nowhere, ToElse, ToEnd}
+use Rattle.mlt_script_cursor.specs.Follows.{Questions, Variables, asked, asked_by, goes_on, set_by, is_wanted}
+use Rattle.mlt_script_cursor.specs.Follows.Questions.{Ends, Asks}
+
+-- where it is passed over to once a line is passed over
+abbrev pub passed : Line → Skipping → Skipping
+passed line.Else Nowhere = ToEnd 0
+passed l Nowhere = Nowhere
+passed line.Else (ToElse zero) = Nowhere
+passed line.End (ToElse zero) = Nowhere
+passed line.End (ToElse (suc n)) = ToElse n
+passed (line.If a w) (ToElse n) = ToElse (suc n)
+passed l (ToElse n) = ToElse n
+passed line.End (ToEnd zero) = Nowhere
+passed line.End (ToEnd (suc n)) = ToEnd n
+passed (line.If a w) (ToEnd n) = ToEnd (suc n)
+passed l (ToEnd n) = ToEnd n
+
+unfoldable pub run : List Line → Skipping → Variables → Ending → Questions
+run [] m vs end = Ends end
+run (line.Plain s ∷ ls) Nowhere vs end = Asks (asked_by vs s) (λ r. if goes_on vs s r then run ls Nowhere (set_by vs s r) end else Ends Abort)
+run (line.If a w ∷ ls) Nowhere vs end = Asks (asked vs a) (λ r. run ls (if is_wanted vs w r then Nowhere else ToElse 0) vs end)
+run (l ∷ ls) m vs end = run ls (passed l m) vs end
+
+-- below how many ifs it is passed over
+abbrev pub level : Skipping → ℕ
+level Nowhere = 0
+level (ToElse n) = n
+level (ToEnd n) = n
+
+-- whether the line asks, and is not passed over
+abbrev pub stops_at : Line → Skipping → Bool
+stops_at (line.Plain s) Nowhere = true
+stops_at (line.If a w) Nowhere = true
+stops_at l m = false
+
+-- the lines are at their end, or begin with one that asks
+abbrev pub is_settled : List Line → Bool
+is_settled [] = true
+is_settled (l ∷ ls) = stops_at l Nowhere

@@ -1,0 +1,11 @@
+use Rattle.std.proofs.Common.{◌≡◌, take}
+use Rattle.std.specs.String.{string_bytes}
+use Rattle.mlt_script_print.specs.Again.{AreScriptsAgain}
+use Rattle.mlt_script_print.specs.Printing.{scripts_text}
+use Rattle.mlt_script_print.proofs.printer.print.Given as goal
+
+abbrev pub invariant-loop-script : goal.invariant-loop-script
+invariant-loop-script l = record {
+  text : string_bytes l.text ≡ scripts_text (take l.script-index l.scripts);
+  again : AreScriptsAgain (take l.script-index l.scripts);
+}

@@ -1,0 +1,163 @@
+-- What a session says, as a function of its whole input and of the desk's answers in order.
+use Rattle.std.specs.Prelude.{ℕ, ◌+◌, List, [], ◌∷◌, Option, Some, None, Bool, true, false, ◌||◌, if◌then◌else◌}
+use Rattle.std.specs.List.{flat_map}
+use Rattle.mlt_types.specs.declared.refusal.Refusal.TheVariants as refusal
+use Rattle.mlt_event_request.specs.declared.request.Request.TheVariants as request
+use Rattle.mlt_serve_session.specs.declared.call.Answer.{Answer}
+use Rattle.mlt_serve_session.specs.declared.call.Answer.TheVariants.{Begun, Replied, Committed, Aborted, Refused}
+use Rattle.mlt_serve_session.specs.declared.call.Call.{Call}
+use Rattle.mlt_serve_session.specs.declared.call.Call.TheVariants as call
+use Rattle.mlt_event_request.specs.declared.line.Line.{Line}
+use Rattle.mlt_event_request.specs.declared.line.Line.TheVariants.{Says, TooLong}
+use Rattle.mlt_serve_session.specs.declared.said.Said.{Said}
+use Rattle.mlt_serve_session.specs.declared.said.Said.TheVariants as said
+use Rattle.mlt_event_request.specs.Inputs.{lines_of}
+use Rattle.mlt_serve_session.specs.Texts.{said_text}
+
+-- what a line asks of the desk, with no transaction open
+abbrev pub call_alone : Line → Option Call
+call_alone (Says request.Begin) = Some call.Begin
+call_alone line = None
+
+-- what a line asks of the desk, with this transaction open
+abbrev pub call_within : ℕ → Line → Option Call
+call_within tx (Says (request.Op op)) = Some (call.Operation tx op)
+call_within tx (Says request.Commit) = Some (call.Commit tx)
+call_within tx (Says request.Abort) = Some (call.Abort tx)
+call_within tx (Says request.Quit) = Some (call.Abort tx)
+call_within tx TooLong = Some (call.Abort tx)
+call_within tx line = None
+
+abbrev pub call_for : Option ℕ → Line → Option Call
+call_for None line = call_alone line
+call_for (Some tx) line = call_within tx line
+
+-- a line, the transaction that is open before it, and what the desk answered where it was asked
+pub record Turn : Type 0 where
+  pub open_before : Option ℕ
+  pub line : Line
+  pub answer : Option Answer
+
+-- the transaction that is open after an answer
+abbrev pub open_after : Option ℕ → Option Answer → Option ℕ
+open_after before None = before
+open_after before (Some (Begun tx)) = Some tx
+open_after before (Some (Replied reply)) = before
+open_after before (Some (Committed number)) = None
+open_after before (Some Aborted) = None
+open_after before (Some (Refused r)) = before
+
+-- whether a line ends the session
+abbrev pub ends : Line → Bool
+ends (Says request.Quit) = true
+ends TooLong = true
+ends line = false
+
+abbrev pub is_long : Line → Bool
+is_long (Says request) = false
+is_long TooLong = true
+
+abbrev pub unless_ended : Line → List Turn → List Turn
+unless_ended line rest = if ends line then [] else rest
+
+-- one turn, and those of the lines behind it; where the desk did not answer the session broke off
+abbrev pub one_turn : Option ℕ → Line → Option Call → List Answer → (Option ℕ → List Answer
+    → List Turn) → List Turn
+one_turn before line None answers behind =
+    record { open_before = before; line = line; answer = None }
+    ∷ unless_ended line (behind before answers)
+one_turn before line (Some c) [] behind = []
+one_turn before line (Some c) (a ∷ answers) behind =
+    record { open_before = before; line = line; answer = Some a }
+    ∷ unless_ended line (behind (open_after before (Some a)) answers)
+
+-- the turns of these lines with these answers
+abbrev pub turns : Option ℕ → List Line → List Answer → List Turn
+turns before [] answers = []
+turns before (line ∷ lines) answers =
+    one_turn before line (call_for before line) answers (λ next rest. turns next lines rest)
+
+-- the turns of a session over an input
+abbrev pub session_turns : List ℕ → List Answer → List Turn
+session_turns bytes answers = turns None (lines_of bytes) answers
+
+-- what is said to a line that asks nothing, with no transaction open
+abbrev pub said_alone : Line → Said
+said_alone (Says request.Begin) = said.Nothing
+said_alone (Says (request.Op op)) = said.Error refusal.NoSuchTx
+said_alone (Says request.Commit) = said.Error refusal.NoSuchTx
+said_alone (Says request.Abort) = said.Error refusal.NoSuchTx
+said_alone (Says request.Quit) = said.Bye
+said_alone (Says request.Blank) = said.Nothing
+said_alone (Says request.Other) = said.Fault
+said_alone TooLong = said.Error refusal.LineTooLong
+
+-- the same with one open
+abbrev pub said_within : Line → Said
+said_within (Says request.Begin) = said.Error refusal.Running
+said_within (Says (request.Op op)) = said.Nothing
+said_within (Says request.Commit) = said.Nothing
+said_within (Says request.Abort) = said.Nothing
+said_within (Says request.Quit) = said.Bye
+said_within (Says request.Blank) = said.Nothing
+said_within (Says request.Other) = said.Fault
+said_within TooLong = said.Error refusal.LineTooLong
+
+-- what is said where the desk answered
+abbrev pub said_with : Line → Answer → Said
+said_with (Says request.Quit) answer = said.Bye
+said_with (Says request.Blank) answer = said.Nothing
+said_with (Says request.Other) answer = said.Fault
+said_with TooLong answer = said.Error refusal.LineTooLong
+said_with line answer = said.Told answer
+
+abbrev pub said_by : Option ℕ → Line → Option Answer → Said
+said_by before line (Some answer) = said_with line answer
+said_by None line None = said_alone line
+said_by (Some tx) line None = said_within line
+
+abbrev pub turn_text : Turn → List ℕ
+turn_text t = said_text (said_by t.open_before t.line t.answer)
+
+abbrev pub option_list : {A : Type 0} → Option A → List A
+option_list None = []
+option_list (Some x) = x ∷ []
+
+-- what the turns asked of the desk
+abbrev pub calls_in : List Turn → List Call
+calls_in ts = flat_map (λ t. option_list (call_for t.open_before t.line)) ts
+
+-- what the desk answered in the turns
+abbrev pub answers_in : List Turn → List Answer
+answers_in ts = flat_map (λ t. option_list t.answer) ts
+
+abbrev pub open_at_end : Option ℕ → List Turn → Option ℕ
+open_at_end before [] = before
+open_at_end before (t ∷ ts) = open_at_end (open_after before t.answer) ts
+
+-- a session that ends with a transaction open takes it back
+abbrev pub closing : Option ℕ → List Call
+closing None = []
+closing (Some tx) = call.Abort tx ∷ []
+
+abbrev pub closing_answers : Option ℕ → List Answer
+closing_answers None = []
+closing_answers (Some tx) = Aborted ∷ []
+
+-- whether a line ended the session
+abbrev pub ends_in : List Turn → Bool
+ends_in [] = false
+ends_in (t ∷ ts) = ends t.line || ends_in ts
+
+-- whether a line was too long
+abbrev pub long_in : List Turn → Bool
+long_in [] = false
+long_in (t ∷ ts) = is_long t.line || long_in ts
+
+abbrev pub commits_by : Option Answer → ℕ
+commits_by (Some (Committed number)) = 1
+commits_by answer = 0
+
+abbrev pub commits_in : List Turn → ℕ
+commits_in [] = 0
+commits_in (t ∷ ts) = commits_by t.answer + commits_in ts

@@ -1,0 +1,30 @@
+-- The lines that a session writes.
+use Rattle.std.specs.Prelude.{ℕ, List, [], ◌∷◌, ◌++◌, codes}
+use Rattle.mlt_types.specs.declared.refusal.Refusal.{Refusal}
+use Rattle.mlt_types.specs.Refusals.{number_of, name_of}
+use Rattle.mlt_object_kinds.specs.Texts.{with_number, reply_text}
+use Rattle.mlt_script_serial.specs.Texts.{line}
+use Rattle.mlt_serve_session.specs.declared.call.Answer.{Answer}
+use Rattle.mlt_serve_session.specs.declared.call.Answer.TheVariants.{Begun, Replied, Committed, Aborted, Refused}
+use Rattle.mlt_serve_session.specs.declared.said.Said.{Said}
+use Rattle.mlt_serve_session.specs.declared.said.Said.TheVariants as said
+
+-- the line of a refusal: its number and its name
+abbrev pub error_text : Refusal → List ℕ
+error_text refusal = line (with_number (codes "error") (number_of refusal) ++ 32 ∷ name_of refusal)
+
+-- the line of an answer
+abbrev pub answer_text : Answer → List ℕ
+answer_text (Begun tx) = line (with_number (codes "begun") tx)
+answer_text (Replied reply) = line (reply_text reply)
+answer_text (Committed number) = line (with_number (codes "committed") number)
+answer_text Aborted = line (codes "aborted")
+answer_text (Refused refusal) = error_text refusal
+
+-- the line that is said, if one is
+abbrev pub said_text : Said → List ℕ
+said_text (said.Told answer) = answer_text answer
+said_text (said.Error refusal) = error_text refusal
+said_text said.Fault = line (codes "error 10 ScriptFault")
+said_text said.Bye = line (codes "bye")
+said_text said.Nothing = []

@@ -1,0 +1,90 @@
+-- Turns of a session, one after the other.
+use Rattle.std.specs.Prelude.{◌≡◌, ◌<◌, ◌≤◌, ◌^◌, ℕ, ◌+◌, List, [], ◌∷◌, Option, Some, None, false}
+use Rattle.mlt_script_serial.specs.declared.outcome.Outcome.{Outcome}
+use Rattle.mlt_serve_session.specs.declared.call.Answer.{Answer}
+use Rattle.mlt_serve_session.specs.declared.call.Call.{Call}
+use Rattle.mlt_event_request.specs.declared.line.Line.{Line}
+use Rattle.mlt_serve_session.specs.declared.said.Said.{Said}
+use Rattle.mlt_serve_session.specs.declared.notes.Notes.{Notes}
+use Rattle.mlt_serve_session.specs.declared.notes.Progress.{Progress}
+use Rattle.mlt_serve_session.specs.Noting.{receipts_in, noted}
+use Rattle.mlt_serve_session.specs.Receipts.{begins_by}
+use Rattle.mlt_serve_session.specs.Talks.{Turn, call_for, said_by, ends, is_long, open_after, commits_by}
+use Rattle.mlt_serve_session.specs.Desks.{Moves}
+
+-- how far a session is, its desk and its receipts
+pub record Place (D : Type 0) : Type 0 where
+  pub progress : Progress
+  pub desk : D
+  pub receipts : List Outcome
+
+abbrev pub place : {D : Type 0} → ℕ → Notes → D → Place D
+place client notes desk =
+    record { progress = notes.progress; desk = desk; receipts = receipts_in client notes }
+
+-- a session of which nothing was read
+abbrev pub start : Progress
+start = record { tx = None; lines = 0; commits = 0; begun = 0; over = false; long = false }
+
+-- how far a session is after what the desk answered, if it was asked
+abbrev pub after_answer : Progress → Option Answer → Progress
+after_answer p answer =
+    record {
+      tx = open_after p.tx answer;
+      lines = p.lines;
+      commits = p.commits + commits_by answer;
+      begun = p.begun + begins_by answer;
+      over = p.over;
+      long = p.long;
+    }
+
+-- how far a session is after a line was answered
+abbrev pub after_line : Progress → Line → Progress
+after_line p line = record p { lines = p.lines + 1; over = ends line; long = is_long line }
+
+-- how far a session is after a turn
+abbrev pub after_turn : Progress → Turn → Progress
+after_turn p t = after_line (after_answer p t.answer) t.line
+
+-- the call was made and answered so, and noted
+pub record Told {D : Type 0} (moves : Moves D) (client : ℕ) (p : Place D) (c : Call) (a : Answer)
+    (q : Place D) : Type 0 where
+  pub moved : moves p.desk c a q.desk
+  pub noted_so : q.receipts ≡ noted client p.progress.begun p.receipts c a
+  pub after : q.progress ≡ after_answer p.progress (Some a)
+
+-- the call was made and answered, and noted; or there was none
+abbrev pub Asked : {D : Type 0} → Moves D → ℕ → Place D → Option Call → Option Answer → Place D
+    → Type 0
+Asked moves client p None None q = (q.desk ≡ p.desk) × (q.receipts ≡ p.receipts)
+Asked moves client p (Some c) (Some a) q = moves p.desk c a q.desk
+    × (q.receipts ≡ noted client p.progress.begun p.receipts c a)
+Asked moves client p None (Some a) q = ⊥
+Asked moves client p (Some c) None q = ⊥
+
+pub record Step {D : Type 0} (moves : Moves D) (client : ℕ) (p : Place D) (t : Turn)
+    (q : Place D) : Type 0 where
+  pub going : p.progress.over ≡ false
+  pub before : t.open_before ≡ p.progress.tx
+  pub asked : Asked moves client p (call_for t.open_before t.line) t.answer q
+  pub after : q.progress ≡ after_turn p.progress t
+
+-- these turns, one after the other
+abbrev pub Goes : {D : Type 0} → Moves D → ℕ → Place D → List Turn → Place D → Type 0
+Goes moves client p [] q = q ≡ p
+Goes {D} moves client p (t ∷ ts) q = (m : Place D) × Step moves client p t m
+    × Goes moves client m ts q
+
+abbrev pub turn_at : Option ℕ → Line → Option Answer → Turn
+turn_at before line answer = record { open_before = before; line = line; answer = answer }
+
+-- one turn for a line, and what is said
+pub record TakesTurn {D : Type 0} (moves : Moves D) (client : ℕ) (p : Place D) (line : Line)
+    (said : Said) (q : Place D) : Type 0 where
+  pub answer : Option Answer
+  pub step : Step moves client p (turn_at p.progress.tx line answer) q
+  pub says : said ≡ said_by p.progress.tx line answer
+
+-- the counts of a session of fewer than 2 ^ 62 lines
+abbrev pub IsSmall : Progress → Type 0
+IsSmall p = (p.lines < 2 ^ 62) × (p.commits ≤ p.lines) × (p.begun ≤ p.lines)

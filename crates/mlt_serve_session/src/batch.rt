@@ -1,0 +1,53 @@
+//! All complete lines of what was read.
+
+ghost use Rattle.std.specs.Prelude.{◌≡◌, ◌<◌, ◌≤◌, ◌+◌, ◌^◌, false, length, IfOk, OnErr, OnOk};
+ghost use Rattle.std.specs.String.{string_bytes};
+ghost use Rattle.mlt_serve_session.specs.Batches.{Answered, BrokeOff, front};
+ghost use Rattle.mlt_serve_session.specs.Desks.{moves};
+ghost use Rattle.mlt_serve_session.specs.Turns.{IsSmall, place};
+
+use crate::notes::Notes;
+use crate::said::push_said;
+use crate::turn::take_turn;
+use mlt_script_desk::Desk;
+use mlt_event_request::next_line;
+use std::alloc::AllocError;
+
+/// Answers each complete line of the text, and tells how many bytes these lines take. What is left is no
+/// whole line, or the session is over.
+///
+/// # Errors
+/// A growth was refused: some lines were answered, and their answers are not all there.
+pub fn answer_lines<D: Desk>(
+    notes: &mut Notes,
+    desk: &mut D,
+    client: u32,
+    out: &mut String,
+    text: &[u8],
+) -> Result<usize, AllocError>
+    requires going { notes.old.progress.over ≡ false }
+    requires small { IsSmall notes.old.progress }
+    requires few { notes.old.progress.lines + length text.now < 2 ^ 62 }
+    ensures ok { IfOk result
+        (λ at. Answered (moves D.begins D.answers D.commits D.aborts) client
+        (place client notes.old desk.old) (front text.now at) (string_bytes out.old)
+        (string_bytes out.new) (place client notes.new desk.new)) }
+    ensures lines { IfOk result
+        (λ at. notes.new.progress.lines ≤ notes.old.progress.lines + at) }
+    ensures commits { OnOk result (notes.new.progress.commits ≤ notes.new.progress.lines) }
+    ensures begun { OnOk result (notes.new.progress.begun ≤ notes.new.progress.lines) }
+    ensures err { OnErr result
+        (BrokeOff (moves D.begins D.answers D.commits D.aborts) client
+        (place client notes.old desk.old) text.now (place client notes.new desk.new)) }
+{
+    let mut at = 0;
+    while !notes.progress.over {
+        let Some((line, count)) = next_line(&text[at..]) else {
+            break;
+        };
+        let said = take_turn(notes, desk, client, line)?;
+        push_said(out, said)?;
+        at += count;
+    }
+    Ok(at)
+}

@@ -1,0 +1,40 @@
+//! What a session notes.
+
+ghost use Rattle.std.specs.Prelude.{◌<◌, vec_len};
+ghost use Rattle.std.specs.Option.{ForSome};
+ghost use Rattle.std.specs.Vec.{vec_capacity};
+
+use mlt_object_kinds::Done;
+use mlt_script_serial::Outcome;
+use std::alloc::Global;
+
+/// How far a session is.
+#[derive(Clone, Copy, Debug, PartialEq, Eq)]
+pub struct Progress {
+    /// The transaction that is open.
+    pub tx: Option<u64>,
+    /// How many lines were answered.
+    pub lines: u64,
+    /// How many commits the desk answered.
+    pub commits: u64,
+    /// How many transactions were begun.
+    pub begun: u64,
+    /// Whether a line ended the session.
+    pub over: bool,
+    /// Whether a line was too long.
+    pub long: bool,
+}
+
+/// How far a session is, and its receipts. While a transaction is open its receipt is not among them yet,
+/// but there is room for it.
+#[derive(Drop)]
+pub struct Notes {
+    /// How far it is.
+    pub progress: Progress,
+    /// What was done in the transaction that is open, in order.
+    pub done: Vec<Done>,
+    /// The receipts of the transactions that ended, in order.
+    pub receipts: Vec<Outcome>,
+    pub alloc: Global,
+    ghost room: { ForSome progress.tx (λ _. vec_len receipts < vec_capacity receipts) },
+}

@@ -1,0 +1,246 @@
+//! Sessions over a reader and a writer.
+
+ghost use Rattle.std.specs.Prelude.{◌≡◌, ◌<◌, ◌≤◌, ◌+◌, ◌-◌, ◌^◌, ◌⊎◌, ℕ, List, false, None, length, take, drop, vec_len, IfOk, IfErr, IsOkUnless, OnOk, OnErr, IsErrOf, ◌++◌};
+ghost use Rattle.std.specs.Io.KnownBytes.{Consumes, IsAtEnd, Keeps};
+ghost use Rattle.mlt_serve_session.specs.Batches.{front};
+ghost use Rattle.mlt_serve_session.specs.Desks.{Answers, moves};
+ghost use Rattle.mlt_serve_session.specs.Noting.{receipts_in};
+ghost use Rattle.mlt_serve_session.specs.Rounds.{Replied, Stopped, Unwritten, Talked, Broken, BrokenHeard, streams};
+ghost use Rattle.mlt_serve_session.specs.Sessions.{SessionAnswers, scene};
+ghost use Rattle.mlt_serve_session.specs.Talks.{closing, closing_answers};
+ghost use Rattle.mlt_serve_session.specs.Turns.{IsSmall, place, start};
+
+use crate::batch::answer_lines;
+use crate::notes::Notes;
+use crate::turn::abort;
+use mlt_script_desk::Desk;
+use mlt_script_serial::Outcome;
+use mlt_text::{MAX_INPUT, read_some, write_text};
+use mlt_types::Refusal;
+use std::alloc::Global;
+use std::io::{Read, Write};
+use std::mem;
+
+// How many bytes a session holds.
+const BUFFER: usize = 16_384;
+
+// Reads behind the bytes that are held, and answers how many bytes came.
+fn fill<R: Read>(
+    reader: &mut R,
+    buffer: &mut [u8],
+    held: usize,
+    most: usize,
+) -> Result<usize, Refusal>
+    requires room { held < length buffer.old }
+    requires most { 0 < most }
+    ensures ok { IfOk result (λ count. (piece : List ℕ)
+        × (take (held + count) buffer.new ≡ take held buffer.old ++ piece)
+        × (length piece ≡ count) × (count ≤ most) × (held + count ≤ length buffer.old)
+        × Consumes (R.remaining reader.old) (R.remaining reader.new) piece
+        × (count ≡ 0 → IsAtEnd (R.remaining reader.new))) }
+    ensures err { OnErr result (Keeps (R.remaining reader.old) (R.remaining reader.new)) }
+    ensures refusal { IsOkUnless result Refusal.Io }
+{
+    let room = most.min(buffer.len() - held);
+    read_some(reader, &mut buffer[held..held + room])
+}
+
+// Moves the bytes from `at` to `end` to the start, and answers how many they are.
+fn keep(buffer: &mut [u8], at: usize, end: usize) -> usize
+    requires { (at ≤ end) × (end ≤ length buffer.old) }
+    ensures held { result ≡ end - at }
+    ensures bytes { take result buffer.new ≡ drop at (take end buffer.old) }
+{
+    buffer.copy_within(at..end, 0);
+    end - at
+}
+
+// Answers all complete lines of the text in one write, and tells how many bytes these lines take.
+fn reply<W: Write, D: Desk>(
+    writer: &mut W,
+    notes: &mut Notes,
+    desk: &mut D,
+    client: u32,
+    out: &mut String,
+    text: &[u8],
+) -> Result<usize, Refusal>
+    requires going { notes.old.progress.over ≡ false }
+    requires small { IsSmall notes.old.progress }
+    requires few { notes.old.progress.lines + length text.now < 2 ^ 62 }
+    ensures ok { IfOk result
+        (λ at. Replied (moves D.begins D.answers D.commits D.aborts) client
+        (place client notes.old desk.old) (front text.now at) (W.contents writer.old)
+        (W.contents writer.new) (place client notes.new desk.new)) }
+    ensures lines { IfOk result
+        (λ at. notes.new.progress.lines ≤ notes.old.progress.lines + at) }
+    ensures commits { OnOk result (notes.new.progress.commits ≤ notes.new.progress.lines) }
+    ensures begun { OnOk result (notes.new.progress.begun ≤ notes.new.progress.lines) }
+    ensures err { OnErr result
+        (Stopped (moves D.begins D.answers D.commits D.aborts) client
+        (place client notes.old desk.old) text.now (W.contents writer.old)
+        (W.contents writer.new) (place client notes.new desk.new)) }
+    ensures io { IsErrOf result Refusal.Io
+        → Unwritten (moves D.begins D.answers D.commits D.aborts) client
+        (place client notes.old desk.old) text.now (W.contents writer.old)
+        (W.contents writer.new) (place client notes.new desk.new) }
+    ensures refusal { IfErr result
+        (λ refusal. (refusal ≡ Refusal.OutOfMemory) ⊎ (refusal ≡ Refusal.Io)) }
+{
+    out.clear();
+    let at = answer_lines(notes, desk, client, out, text)?;
+    write_text(writer, out.as_bytes())?;
+    Ok(at)
+}
+
+// Reads and answers until the input or the session ends. The buffer has room for a line that goes on, and
+// more.
+fn listen<R: Read, W: Write, D: Desk>(
+    reader: &mut R,
+    writer: &mut W,
+    notes: &mut Notes,
+    desk: &mut D,
+    client: u32,
+    buffer: &mut [u8],
+    out: &mut String,
+) -> Result<(), Refusal>
+    requires fresh { notes.old.progress ≡ start }
+    requires room { (200 < length buffer.old) × (length buffer.old < 2 ^ 32) }
+    ensures ok { OnOk result
+        (Talked (moves D.begins D.answers D.commits D.aborts) client
+        (place client notes.old desk.old)
+        (streams (R.remaining reader.old) (R.remaining reader.new)
+        (W.contents writer.old) (W.contents writer.new)) (place client notes.new desk.new)) }
+    ensures err { OnErr result
+        (Broken (moves D.begins D.answers D.commits D.aborts) client
+        (place client notes.old desk.old)
+        (streams (R.remaining reader.old) (R.remaining reader.new)
+        (W.contents writer.old) (W.contents writer.new)) (place client notes.new desk.new)) }
+    ensures io { IsErrOf result Refusal.Io
+        → BrokenHeard (moves D.begins D.answers D.commits D.aborts) client
+        (place client notes.old desk.old)
+        (streams (R.remaining reader.old) (R.remaining reader.new)
+        (W.contents writer.old) (W.contents writer.new)) (place client notes.new desk.new) }
+    ensures refusal { IfErr result
+        (λ refusal. (refusal ≡ Refusal.OutOfMemory) ⊎ (refusal ≡ Refusal.Io)) }
+{
+    let mut held = 0;
+    let mut total = 0;
+    'rounds: for _ in 0..u64::MAX {
+        let count = fill(reader, buffer, held, (MAX_INPUT - total).max(1))?;
+        if count == 0 {
+            return Ok(());
+        }
+        total += count;
+        if total > MAX_INPUT {
+            return Err(Refusal::Io);
+        }
+        let end = held + count;
+        let at = reply(writer, notes, desk, client, out, &buffer[..end])?;
+        if notes.progress.over {
+            return Ok(());
+        }
+        held = keep(buffer, at, end);
+    }
+    Err(Refusal::Io)
+}
+
+/// How a session went.
+#[derive(Clone, Copy, Debug, PartialEq, Eq)]
+pub struct Summary {
+    /// How many lines were answered: all that ended in LF, blank and faulty ones too.
+    pub lines: u64,
+    /// How many commits were answered.
+    pub commits: u64,
+}
+
+// Takes back what is open, and answers all receipts.
+fn finish<D: Desk>(mut notes: Notes, desk: &mut D, client: u32) -> Vec<Outcome>
+    ensures asked { Answers (moves D.begins D.answers D.commits D.aborts) desk.old
+        (closing notes.progress.tx) (closing_answers notes.progress.tx) desk.new }
+    ensures receipts { result.items ≡ receipts_in client notes }
+{
+    if let Some(tx) = notes.progress.tx {
+        abort(&mut notes, desk, client, tx);
+    }
+    notes.receipts
+}
+
+// A session with its buffers.
+fn converse<R: Read, W: Write, D: Desk>(
+    reader: &mut R,
+    writer: &mut W,
+    desk: &mut D,
+    client: u32,
+    receipts: &mut Vec<Outcome>,
+    alloc: Global,
+    buffer: &mut [u8],
+) -> Result<Summary, Refusal>
+    requires { (200 < length buffer.old) × (length buffer.old < 2 ^ 32) }
+    ensures answers { SessionAnswers (moves D.begins D.answers D.commits D.aborts) client
+        (scene desk.old (R.remaining reader.old) (W.contents writer.old) receipts.old.items)
+        (scene desk.new (R.remaining reader.new) (W.contents writer.new) receipts.new.items)
+        result }
+    ensures refusal { IfErr result (λ refusal. (refusal ≡ Refusal.LineTooLong)
+        ⊎ (refusal ≡ Refusal.OutOfMemory) ⊎ (refusal ≡ Refusal.Io)) }
+{
+    let mut out = String::new(alloc);
+    let mut notes = Notes::new(alloc, mem::replace(receipts, Vec::new(alloc)));
+    let listened = listen(reader, writer, &mut notes, desk, client, buffer, &mut out);
+    let progress = notes.progress;
+    *receipts = finish(notes, desk, client);
+    listened?;
+    if progress.long {
+        return Err(Refusal::LineTooLong);
+    }
+    Ok(Summary {
+        lines: progress.lines,
+        commits: progress.commits,
+    })
+}
+
+// So many zeros.
+fn zeros(alloc: Global, count: usize) -> Result<Vec<u8>, Refusal>
+    ensures length { IfOk result (λ zeros. vec_len zeros ≡ count) }
+    ensures refusal { IsOkUnless result Refusal.OutOfMemory }
+{
+    Ok(vec![in alloc; 0; count]?)
+}
+
+/// Reads lines, asks the desk and answers each, until the input or a line ends the session. A transaction
+/// that is open then is taken back. For each transaction that began a receipt of this client is added,
+/// numbered from 1, whatever the session answers. The answers to all complete lines of one read go out in
+/// one text, before the reader is asked again.
+///
+/// # Errors
+/// `LineTooLong` where a line has more than 200 bytes; its answer was written. `Io` where a read or a write
+/// failed, or more than 16,777,216 bytes came: all lines of the first 16,777,216 bytes were heard, and a
+/// prefix of the text was written, or all of it where more bytes came. `OutOfMemory` where a growth was
+/// refused: the first lines were heard, and a prefix of the text was written.
+pub fn session<R: Read, W: Write, D: Desk>(
+    alloc: Global,
+    reader: &mut R,
+    writer: &mut W,
+    desk: &mut D,
+    client: u32,
+    receipts: &mut Vec<Outcome>,
+) -> Result<Summary, Refusal>
+    ensures answers { SessionAnswers (moves D.begins D.answers D.commits D.aborts) client
+        (scene desk.old (R.remaining reader.old) (W.contents writer.old) receipts.old.items)
+        (scene desk.new (R.remaining reader.new) (W.contents writer.new) receipts.new.items)
+        result }
+    ensures refusal { IfErr result (λ refusal. (refusal ≡ Refusal.LineTooLong)
+        ⊎ (refusal ≡ Refusal.OutOfMemory) ⊎ (refusal ≡ Refusal.Io)) }
+{
+    let Ok(mut buffer) = zeros(alloc, BUFFER) else {
+        return Err(Refusal::OutOfMemory);
+    };
+    converse(
+        reader,
+        writer,
+        desk,
+        client,
+        receipts,
+        alloc,
+        buffer.as_mut_slice(),
+    )
+}

@@ -1,0 +1,54 @@
+//! What was served, as a text.
+
+use mlt_trace_check_text::check_trace;
+use mlt_manager::Manager;
+use mlt_script_serial::{Form, Outcomes, Report, write_report};
+use mlt_serve::serve_on;
+use mlt_trace::write_trace;
+use mlt_types::{Limits, Mult, Refusal};
+use std::alloc::Global;
+use std::net::TcpListener;
+use std::sync::Wait;
+use std::thread::Threads;
+use std::time::Clock;
+
+/// Each receipt with its client, its number, its replies and its end, and then the base; the history as a trace; and what the
+/// checker says of that trace.
+fn text_of(alloc: Global, outcomes: Outcomes, manager: &Manager<Mult>) -> Result<Vec<u8>, Refusal> {
+    let report = Report {
+        outcomes,
+        events: manager.events(),
+        base: manager.base()?,
+    };
+    let mut text = Vec::new(alloc);
+    write_report(alloc, &report, Form::Run, &mut text)?;
+    let mut trace = Vec::new(alloc);
+    write_trace(manager.history(), &mut trace)?;
+    text.extend_from_slice(trace.as_slice())?;
+    check_trace(alloc, &mut trace.as_slice(), &mut text)?;
+    Ok(text)
+}
+
+/// The text of what that many connections were served within these limits, by two session threads.
+pub fn served_text<R: Threads + Wait + Clock + Sync>(
+    rt: &R,
+    alloc: Global,
+    listener: &TcpListener,
+    limits: Limits,
+    connections: u32,
+) -> Result<Vec<u8>, Refusal> {
+    let (outcomes, manager) = serve_on(
+        rt,
+        alloc,
+        listener,
+        limits,
+        Mult,
+        2,
+        connections,
+        10_000,
+        None,
+    )?;
+    let text = text_of(alloc, outcomes, &manager);
+    manager.close();
+    text
+}

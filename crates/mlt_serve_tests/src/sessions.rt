@@ -1,0 +1,214 @@
+//! Sessions at a desk of answers, wherever their input is cut.
+
+use crate::talks::{Receipt, Wanted, talk_with};
+use mlt_script_desk::FakeAnswer;
+use mlt_object_kinds::{AccountOp, CounterOp, ObjOp, ObjReply};
+use mlt_script_serial::End;
+use mlt_test_tools::{FaultyReader, FaultyWriter, with_spaces};
+use mlt_types::Refusal;
+use std::alloc::Global;
+use std::io::ErrorKind;
+use std::test::Fail;
+
+/// A session, and what is wanted of it.
+struct Session {
+    /// A start, so many spaces, and an end.
+    input: (&'static [u8], usize, &'static [u8]),
+    /// What the desk answers.
+    answers: &'static [FakeAnswer],
+    /// What is wanted.
+    wanted: Wanted,
+}
+
+const OPEN: ObjOp = ObjOp::Account(1, AccountOp::Open);
+
+const DEPOSIT: ObjOp = ObjOp::Account(1, AccountOp::Deposit(5));
+
+const BALANCE: ObjOp = ObjOp::Account(1, AccountOp::Balance);
+
+const UP: ObjOp = ObjOp::Counter(7, CounterOp::Up(1));
+
+/// The lines of a session of two transactions, the second of which is left open.
+pub const LINES: &[u8] = b"begin\nopen 1\nfoo\ndeposit 1 5\ncommit\nbegin\nbalance 1\n";
+
+/// What the desk answers.
+pub const ANSWERS: &[FakeAnswer] = &[
+    FakeAnswer::Number(1),
+    FakeAnswer::Reply(ObjReply::Opened),
+    FakeAnswer::Reply(ObjReply::Done),
+    FakeAnswer::Number(1),
+    FakeAnswer::Number(2),
+    FakeAnswer::Reply(ObjReply::Is(5)),
+];
+
+/// What comes of it.
+pub const OF_LINES: Wanted = Wanted {
+    answer: Ok((7, 1)),
+    text: b"begun 1\nopened\nerror 10 ScriptFault\ndone\ncommitted 1\nbegun 2\nis 5\n",
+    receipts: &[
+        Receipt {
+            tx: 1,
+            done: &[(OPEN, ObjReply::Opened), (DEPOSIT, ObjReply::Done)],
+            end: End::Committed(1),
+        },
+        Receipt {
+            tx: 2,
+            done: &[(BALANCE, ObjReply::Is(5))],
+            end: End::Aborted,
+        },
+    ],
+};
+
+// What comes of sessions whose input is cut after each of its bytes in turn, and that get their bytes one by one.
+fn are_wherever_cut(alloc: Global, sessions: &[Session]) -> Result<(), Fail> {
+    for session in sessions {
+        let (start, spaces, end) = session.input;
+        let input = with_spaces(alloc, start, spaces, end)?;
+        for at in 1..=input.len() {
+            let reader = FaultyReader::cut_at(&input, at);
+            let found = talk_with(alloc, session.answers, reader, FaultyWriter::new(alloc))?;
+            found.is(&at, &session.wanted)?;
+        }
+        let reader = FaultyReader::of_pieces(&input, 1);
+        let found = talk_with(alloc, session.answers, reader, FaultyWriter::new(alloc))?;
+        found.is(&"one by one", &session.wanted)?;
+    }
+    Ok(())
+}
+
+const WHOLE: &[Session] = &[Session {
+    input: (LINES, 0, b""),
+    answers: ANSWERS,
+    wanted: OF_LINES,
+}];
+
+#[test]
+fn session_lines(rt: HostRuntime) -> Result<(), Fail> {
+    are_wherever_cut(rt.alloc(), WHOLE)
+}
+
+// A line of 200 bytes is none too many. Nothing behind 201 bytes is answered, whether they are a line or not.
+const LONG: &[Session] = &[
+    Session {
+        input: (b"", 200, b"\n"),
+        answers: &[],
+        wanted: Wanted {
+            answer: Ok((1, 0)),
+            text: b"",
+            receipts: &[],
+        },
+    },
+    Session {
+        input: (b"", 201, b""),
+        answers: ANSWERS,
+        wanted: Wanted {
+            answer: Err(Refusal::LineTooLong),
+            text: b"error 12 LineTooLong\n",
+            receipts: &[],
+        },
+    },
+    Session {
+        input: (b"begin\nopen 1\n", 201, b"\nbegin\n"),
+        answers: ANSWERS,
+        wanted: Wanted {
+            answer: Err(Refusal::LineTooLong),
+            text: b"begun 1\nopened\nerror 12 LineTooLong\n",
+            receipts: &[Receipt {
+                tx: 1,
+                done: &[(OPEN, ObjReply::Opened)],
+                end: End::Aborted,
+            }],
+        },
+    },
+    Session {
+        input: (OUTSIDE_AND_INSIDE, 0, b""),
+        answers: ANSWERS,
+        wanted: Wanted {
+            answer: Ok((4, 0)),
+            text: b"error 3 NoSuchTx\nbegun 1\nerror 5 Running\nbye\n",
+            receipts: &[BEGUN],
+        },
+    },
+];
+
+// An operation outside a transaction, and a begin inside one.
+const OUTSIDE_AND_INSIDE: &[u8] = b"open 1\nbegin\nbegin\nquit\n";
+
+const BEGUN: Receipt = Receipt {
+    tx: 1,
+    done: &[],
+    end: End::Aborted,
+};
+
+const BROKEN_OFF: Wanted = Wanted {
+    answer: Err(Refusal::Io),
+    text: b"",
+    receipts: &[BEGUN],
+};
+
+#[test]
+fn session_line_too_long(rt: HostRuntime) -> Result<(), Fail> {
+    are_wherever_cut(rt.alloc(), LONG)?;
+    let reader = FaultyReader::new(OUTSIDE_AND_INSIDE);
+    let writer = FaultyWriter::new(rt.alloc()).failing(0, ErrorKind::BrokenPipe);
+    talk_with(rt.alloc(), ANSWERS, reader, writer)?.is(&"closed", &BROKEN_OFF)
+}
+
+const CUT: &[Session] = &[Session {
+    input: (b"begin\nup 7 1\ncomm", 0, b""),
+    answers: &[FakeAnswer::Number(1), FakeAnswer::Reply(ObjReply::Done)],
+    wanted: Wanted {
+        answer: Ok((2, 0)),
+        text: b"begun 1\ndone\n",
+        receipts: &[Receipt {
+            tx: 1,
+            done: &[(UP, ObjReply::Done)],
+            end: End::Aborted,
+        }],
+    },
+}];
+
+#[test]
+fn session_cut_line(rt: HostRuntime) -> Result<(), Fail> {
+    are_wherever_cut(rt.alloc(), CUT)
+}
+
+// Calls that the desk refuses. The transaction stays open, and a refused begin leaves none open.
+const REFUSED: &[Session] = &[Session {
+    input: (
+        b"begin\ncommit\nbegin\nup 7 1\ncommit\n up\t7 1\r\nabort\nabort\n\nbegin\ncommit\nquit\nbegin\n",
+        0,
+        b"",
+    ),
+    answers: &[
+        FakeAnswer::Refused(Refusal::TooManyOpen),
+        FakeAnswer::Number(4),
+        FakeAnswer::Refused(Refusal::NoRoom),
+        FakeAnswer::Refused(Refusal::Running),
+        FakeAnswer::Reply(ObjReply::Done),
+        FakeAnswer::Number(6),
+        FakeAnswer::Number(18446744073709551615),
+    ],
+    wanted: Wanted {
+        answer: Ok((12, 1)),
+        text: b"error 7 TooManyOpen\nerror 3 NoSuchTx\nbegun 4\nerror 2 NoRoom\nerror 5 Running\ndone\n\
+aborted\nerror 3 NoSuchTx\nbegun 6\ncommitted 18446744073709551615\nbye\n",
+        receipts: &[
+            Receipt {
+                tx: 4,
+                done: &[(UP, ObjReply::Done)],
+                end: End::Aborted,
+            },
+            Receipt {
+                tx: 6,
+                done: &[],
+                end: End::Committed(18446744073709551615),
+            },
+        ],
+    },
+}];
+
+#[test]
+fn session_with_refused_calls(rt: HostRuntime) -> Result<(), Fail> {
+    are_wherever_cut(rt.alloc(), REFUSED)
+}

@@ -1,0 +1,125 @@
+//! What comes of a session, and what is wanted of it.
+
+use mlt_script_desk::{Desk, FakeAnswer, FakeDesk};
+use mlt_object_kinds::{Done, ObjOp, ObjReply};
+use mlt_script_serial::{End, Outcome};
+use mlt_test_tools::{FaultyReader, FaultyWriter, same_at};
+use mlt_types::Refusal;
+use mlt_serve_session::{Summary, session};
+use std::alloc::{AllocError, Global};
+use std::fmt::Debug;
+use std::test::Fail;
+
+/// The client of each session.
+const CLIENT: u32 = 3;
+
+/// What came of a session.
+#[derive(Drop)]
+pub struct Talk {
+    answer: Result<Summary, Refusal>,
+    writer: FaultyWriter,
+    receipts: Vec<Outcome>,
+}
+
+/// A receipt that is wanted.
+#[derive(Clone, Copy)]
+pub struct Receipt {
+    /// The transaction's number.
+    pub tx: u64,
+    /// What was done.
+    pub done: &'static [(ObjOp, ObjReply)],
+    /// How it ended.
+    pub end: End,
+}
+
+/// What is wanted of a session.
+#[derive(Clone, Copy)]
+pub struct Wanted {
+    /// The numbers of lines and of commits, or the refusal.
+    pub answer: Result<(u64, u64), Refusal>,
+    /// What was written.
+    pub text: &'static [u8],
+    /// The receipts, numbered from 1.
+    pub receipts: &'static [Receipt],
+}
+
+/// What came of a session at this desk.
+pub fn talk_at<D: Desk>(
+    alloc: Global,
+    desk: &mut D,
+    mut reader: FaultyReader,
+    mut writer: FaultyWriter,
+) -> Talk {
+    let mut receipts = Vec::new(alloc);
+    let answer = session(alloc, &mut reader, &mut writer, desk, CLIENT, &mut receipts);
+    Talk {
+        answer,
+        writer,
+        receipts,
+    }
+}
+
+/// What came of a session at a desk with these answers.
+pub fn talk_with(
+    alloc: Global,
+    answers: &[FakeAnswer],
+    reader: FaultyReader,
+    writer: FaultyWriter,
+) -> Result<Talk, AllocError> {
+    let mut list = Vec::new(alloc);
+    list.extend_from_slice(answers)?;
+    let mut desk = FakeDesk::new(list);
+    Ok(talk_at(alloc, &mut desk, reader, writer))
+}
+
+fn are_done(found: &[Done], wanted: &[(ObjOp, ObjReply)]) -> bool {
+    for (done, (op, reply)) in found.iter().zip(wanted) {
+        if done.op() != *op || done.reply() != *reply {
+            return false;
+        }
+    }
+    found.len() == wanted.len()
+}
+
+fn is_receipt(number: u64, found: &Outcome, wanted: &Receipt) -> bool {
+    found.client == CLIENT
+        && found.number == number
+        && found.tx == wanted.tx
+        && found.end == wanted.end
+        && are_done(found.done.as_slice(), wanted.done)
+}
+
+impl Talk {
+    // What it answered: the numbers of lines and of commits, or the refusal.
+    fn answer(&self) -> Result<(u64, u64), Refusal> {
+        match self.answer {
+            Ok(summary) => Ok((summary.lines, summary.commits)),
+            Err(refusal) => Err(refusal),
+        }
+    }
+
+    // Its receipts are these, numbered from 1.
+    fn has_receipts(&self, wanted: &[Receipt]) -> bool {
+        for (before, (found, wanted)) in self.receipts.iter().zip(wanted).enumerate() {
+            if !is_receipt(before as u64 + 1, found, wanted) {
+                return false;
+            }
+        }
+        self.receipts.len() == wanted.len()
+    }
+
+    /// The receipts.
+    pub fn receipts(&self) -> &[Outcome] {
+        self.receipts.as_slice()
+    }
+
+    /// It is what is wanted.
+    pub fn is(&self, place: &impl Debug, wanted: &Wanted) -> Result<(), Fail> {
+        let found = (
+            self.answer(),
+            self.writer.written(),
+            self.has_receipts(wanted.receipts),
+        );
+        same_at(place, &found, &(wanted.answer, wanted.text, true))
+    }
+}

@@ -1,5 +1,0 @@
-use Rattle.mlt_split.proofs.Locks.{locks_its_page_alone}
-use Rattle.mlt_split.proofs.split_laws.steps_lock_their_page_alone.Goals as goal
-
-pub returns : goal.returns
-returns c = locks_its_page_alone

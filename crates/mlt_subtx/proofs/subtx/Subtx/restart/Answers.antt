@@ -1,7 +1,0 @@
-use Rattle.std.proofs.Common.{ap}
-use Rattle.mlt_subtx.specs.ImageLists.{images_in}
-use Rattle.mlt_subtx.proofs.Lists.{kept_none}
-use Rattle.mlt_subtx.proofs.subtx.Subtx.restart.Goals as goal
-
-pub invariant_of-self : goal.invariant_of-self
-invariant_of-self c = kept_none c.clear.new.self (images_in c.new.result.entries) c.clear.ensures (ap images_in c.new.ensures.empty)

@@ -1,0 +1,132 @@
+-- Digits at the front of a text.
+use Rattle.std.proofs.Common.{◌≡◌, ℕ, suc, zero, ◌+◌, ◌-◌, ◌^◌, ◌<◌, ◌≤◌, List, [], ◌∷◌, ◌++◌, length, take, drop, map, true, false, Some, refl, sym, ap, ◌∙◌, append_assoc, arith}
+use Rattle.std.specs.List.{list_all}
+use Rattle.std.specs.Char.{digit_value}
+use Rattle.std.specs.Str.Parse.{AllDigits, digits_value}
+use Rattle.std.proofs.Math.Nat.{pow-le-pow_right}
+use Rattle.std.proofs.lemmas.Int.Digits.{digits_value-lt}
+use Rattle.std.proofs.lemmas.List.{take-append-drop}
+use Rattle.mlt_text_words.specs.declared.keyword.Keyword.{Keyword}
+use Rattle.mlt_text_words.specs.declared.keyword.Keyword.TheVariants as key
+use Rattle.mlt_text_words.specs.declared.keyword.Word.{Word}
+use Rattle.mlt_text_words.specs.declared.keyword.Word.TheVariants.{Number}
+use Rattle.mlt_text_words.specs.Fronts.{BeginsWithNumber, BeginsWithWords, begins_with_digit}
+use Rattle.mlt_text_words.specs.Lines.{is_comment}
+use Rattle.mlt_text_words.specs.Numbers.{is_digit, number_of}
+use Rattle.mlt_text_words.specs.Words.{spelling, word_of, words_of}
+use Rattle.mlt_text_words.proofs.Digits.{writes, taken}
+use Rattle.mlt_text_words.proofs.Pieces.{beside, digits_printable, digits_word, first_and, word_alone, word_is_number}
+use Rattle.mlt_text_words.proofs.Splitting.{to_the_end}
+
+digit_below : (b : ℕ) → is_digit b ≡ true → digit_value b < 10
+digit_below b h = grind arith
+
+all_digits : (ds : List ℕ) → list_all is_digit ds ≡ true → AllDigits 10 ds
+all_digits [] h = tt
+all_digits (b ∷ ds) h = let p = first_and (is_digit b) (list_all is_digit ds) h in (digit_below b p.0, all_digits ds p.1)
+
+-- so few digits write no greater number
+pub below_power : (ds : List ℕ) (n : ℕ) → list_all is_digit ds ≡ true → length ds ≤ n → digits_value 10 ds < 10 ^ n
+below_power ds n h l =
+    let p = digits_value-lt 10 ds (all_digits ds h) in
+    let q : 10 ^ length ds ≤ 10 ^ n = pow-le-pow_right (omega arith) l in
+    omega (arith, p, q)
+
+pub few_below : (text : List ℕ) (end value : ℕ) → end ≤ length text → end ≤ 18 → list_all is_digit (take end text) ≡ true → value ≡ digits_value 10 (take end text)
+    → value < 1000000000000000000
+few_below text end value l f d v =
+    let n : length (take end text) ≡ end = taken text end l in
+    let b : digits_value 10 (take end text) < 10 ^ 18 = below_power (take end text) 18 d (omega (arith, n, f)) in
+    omega (arith, b, v)
+
+pub number_few : (ds : List ℕ) (value : ℕ) → 0 < length ds → length ds ≤ 19 → list_all is_digit ds ≡ true → value ≡ digits_value 10 ds → number_of ds ≡ Some value
+number_few ds value l f d v =
+    let b : digits_value 10 ds < 10 ^ 19 = below_power ds 19 d f in
+    let h : value < 2 ^ 64 = omega (arith, b, v) in
+    writes ds value l (omega (arith, f)) d v h
+
+-- so many digits at the front, and the rest
+pub number_before : (text : List ℕ) (end value : ℕ) → 0 < end → end ≤ length text → end ≤ 19 → list_all is_digit (take end text) ≡ true → value ≡ digits_value 10 (take end text)
+    → (begins_with_digit (drop end text) ≡ true → end ≡ 19) → BeginsWithNumber text value (take (length text - end) (drop end text))
+number_before text end value p l f d v s =
+    let n : length (take end text) ≡ end = taken text end l in
+    let some : 0 < length (take end text) = omega (arith, n, p) in
+    let few : length (take end text) ≤ 19 = omega (arith, n, f) in
+    let w : number_of (take end text) ≡ Some value = number_few (take end text) value some few d v in
+    rw (to_the_end text end) (take end text, sym (take-append-drop end text), d, w, (some, few), λ h. n ∙ s h)
+
+-- where a digit stands there is no end
+pub digit_there : (text : List ℕ) (i : ℕ) → begins_with_digit (drop i text) ≡ true → i < length text
+digit_there [] zero h = absurd (cc h)
+digit_there [] (suc i) h = absurd (cc h)
+digit_there (b ∷ bs) zero h = omega arith
+digit_there (b ∷ bs) (suc i) h = let l = digit_there bs i h in omega (arith, l)
+
+-- where digits go on behind the first n bytes, and not within these, all n are digits
+pub all_of_few : (text : List ℕ) (n i : ℕ) → begins_with_digit (drop i (take n text)) ≡ false → begins_with_digit (drop i text) ≡ true → n ≤ i
+all_of_few [] n zero f t = absurd (cc t)
+all_of_few [] n (suc i) f t = absurd (cc t)
+all_of_few (b ∷ bs) zero i f t = omega arith
+all_of_few (b ∷ bs) (suc n) zero f t = absurd (let e : false ≡ true = sym f ∙ t in cc e)
+all_of_few (b ∷ bs) (suc n) (suc i) f t = let l = all_of_few bs n i f t in omega (arith, l)
+
+-- digits that write a number are its word
+pub number_words : (text rest : List ℕ) (n : ℕ) → BeginsWithNumber text n rest → BeginsWithWords text (Number n ∷ []) 20 rest
+unfolding words_of
+number_words text rest n (ds, is, digits, value, few, all) = (
+  ds,
+  is,
+  (
+    ap (map word_of) (digits_word ds [] digits ∙ word_alone ds few.0) ∙ ap (λ (w : Word). w ∷ []) (word_is_number ds n few.0 digits value),
+    digits_printable ds digits,
+    let l = few.1 in omega (arith, l),
+  ),
+)
+
+-- a piece, a space and another piece
+pub words_then : (text middle rest : List ℕ) (ws vs : List Word) (n m : ℕ) → BeginsWithWords text ws n (32 ∷ middle) → BeginsWithWords middle vs m rest
+    → BeginsWithWords text (ws ++ vs) (n + 1 + m) rest
+words_then text middle rest ws vs n m (t, e, h) (u, f, k) = (
+  t ++ 32 ∷ u,
+  e ∙ ap (λ (xs : List ℕ). t ++ 32 ∷ xs) f ∙ sym (append_assoc t (32 ∷ u) rest),
+  beside t u ws vs n m h k,
+)
+
+-- what begins with a keyword is no comment
+pub no_comment : (k : Keyword) (rest : List ℕ) → is_comment (spelling k ++ rest) ≡ false
+no_comment key.Begin rest = refl
+no_comment key.Commit rest = refl
+no_comment key.Abort rest = refl
+no_comment key.Need rest = refl
+no_comment key.Let rest = refl
+no_comment key.If rest = refl
+no_comment key.Else rest = refl
+no_comment key.End rest = refl
+no_comment key.Is rest = refl
+no_comment key.Equals rest = refl
+no_comment key.Open rest = refl
+no_comment key.Close rest = refl
+no_comment key.Deposit rest = refl
+no_comment key.Withdraw rest = refl
+no_comment key.Balance rest = refl
+no_comment key.Add rest = refl
+no_comment key.Remove rest = refl
+no_comment key.Has rest = refl
+no_comment key.Up rest = refl
+no_comment key.Down rest = refl
+no_comment key.Read rest = refl
+no_comment key.Size rest = refl
+no_comment key.Opened rest = refl
+no_comment key.Exists rest = refl
+no_comment key.Closed rest = refl
+no_comment key.NotEmpty rest = refl
+no_comment key.Done rest = refl
+no_comment key.Over rest = refl
+no_comment key.Short rest = refl
+no_comment key.Missing rest = refl
+no_comment key.Added rest = refl
+no_comment key.Present rest = refl
+no_comment key.Removed rest = refl
+no_comment key.Absent rest = refl
+no_comment key.Yes rest = refl
+no_comment key.No rest = refl

@@ -1,0 +1,15 @@
+use Rattle.std.proofs.Common.{arith, refl}
+use Rattle.mlt_trace_audit.specs.Agreement.{IsOfBegunTx}
+use Rattle.mlt_trace_audit.proofs.Loops.{at_end, one_more}
+use Rattle.mlt_trace_audit.proofs.any.are_begun.Goals as goal
+
+pub loop-receipt-preserved : goal.loop-receipt-preserved
+loop-receipt-preserved c =
+    let l = c.loop-receipt in
+    one_more (IsOfBegunTx c.args.history.now) c.args.receipts.now l.receipt-index c.receipt-item.result c.loop-receipt-test.true c.receipt-item.is l.invariant
+    (c.may_have_tx.ensures.0 c.if-not-may_have_tx.false)
+
+pub returns : goal.returns
+returns c =
+    let l = c.loop-receipt in
+    (λ _. at_end (IsOfBegunTx c.args.history.now) c.args.receipts.now l.receipt-index (omega (arith, c.loop-receipt-test.false)) l.invariant, λ _. refl)

@@ -1,0 +1,11 @@
+use Rattle.std.proofs.Common.{◌≡◌, ◌+◌, All, take}
+use Rattle.std.specs.Prelude.{sum_by}
+use Rattle.mlt_trace_audit.specs.Ordered.{told_count}
+use Rattle.mlt_trace_audit.proofs.Shares.{IsStarted, size}
+use Rattle.mlt_trace_audit.proofs.ordered.are_each_of_ordered.Given as goal
+
+abbrev pub invariant-loop-receipt : goal.invariant-loop-receipt
+invariant-loop-receipt l = record {
+  counted : l.left + sum_by size (take l.receipt-index l.receipts) ≡ told_count l.history;
+  started : All (IsStarted l.history) (take l.receipt-index l.receipts);
+}

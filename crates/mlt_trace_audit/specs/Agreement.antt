@@ -1,0 +1,37 @@
+-- Receipts that agree with a history.
+use Rattle.std.specs.Prelude.{◌≡◌, ◌≢◌, ℕ, List, ◌==◌, All, Contains, count_by}
+use Rattle.mlt_trace.specs.declared.item.TraceItem.{TraceItem}
+use Rattle.mlt_trace_history.specs.Numbers.{begun_txs}
+use Rattle.mlt_script_serial.specs.declared.outcome.Outcome.{Outcome}
+use Rattle.mlt_trace_audit.specs.Receipts.{IsOfHistory, IsWithoutTx, RisesTo}
+
+-- how many of the receipts have this number
+abbrev pub count_of : ℕ → List Outcome → ℕ
+count_of tx receipts = count_by (λ o. o.tx == tx) receipts
+
+-- the number is not 0, and stands in one of the receipts
+abbrev pub IsOnce : List Outcome → ℕ → Type 0
+IsOnce receipts tx = (tx ≢ 0) × (count_of tx receipts ≡ 1)
+
+abbrev pub IsOfBegunTx : List TraceItem → Outcome → Type 0
+IsOfBegunTx items o = o.tx ≢ 0 → Contains (begun_txs items) o.tx
+
+-- the numbers of the receipts, but for 0, differ, and are just those begun
+pub record NumbersAgree (receipts : List Outcome) (items : List TraceItem) : Type 0 where
+  pub once : (tx : ℕ) → Contains (begun_txs items) tx → IsOnce receipts tx
+  pub begun : All (IsOfBegunTx items) receipts
+
+-- so they do, and each receipt tells the operations of its transaction, and how it was closed
+abbrev pub AreOfHistory : List Outcome → List TraceItem → Type 0
+AreOfHistory receipts items = NumbersAgree receipts items × All (IsOfHistory items) receipts
+
+-- committed receipts of one client rise in commit number with the script number
+abbrev pub CommitsRise : List Outcome → Type 0
+CommitsRise receipts = All (λ one. All (λ other. RisesTo one other) receipts) receipts
+
+-- The receipts are those of the history.
+pub record Agrees (receipts : List Outcome) (items : List TraceItem) : Type 0 where
+  pub of_history : AreOfHistory receipts items
+  -- those without a number are refused and empty
+  pub without_tx : All IsWithoutTx receipts
+  pub rising : CommitsRise receipts

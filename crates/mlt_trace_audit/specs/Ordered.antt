@@ -1,0 +1,31 @@
+-- Histories in which transactions begin under the numbers 1, 2, 3 and so on, and each item stands behind its begin.
+use Rattle.std.specs.Prelude.{◌≡◌, ℕ, ◌+◌, ◌<◌, ◌≤◌, Bool, true, false, List, Some, count_by, slice_get, take}
+use Rattle.mlt_trace.specs.declared.item.TraceItem.{TraceItem}
+use Rattle.mlt_trace.specs.declared.item.TraceItem.TheVariants.{Begin, Op, Back, Commit, Abort}
+use Rattle.mlt_trace_history.specs.Numbers.{begin_count}
+
+-- the transaction of which the item is
+abbrev pub tx_of : TraceItem → ℕ
+tx_of (Begin tx) = tx
+tx_of (Op tx done) = tx
+tx_of (Back tx) = tx
+tx_of (Commit tx number) = tx
+tx_of (Abort tx) = tx
+
+-- receipts tell of it: it is an operation, or a close
+abbrev pub is_told : TraceItem → Bool
+is_told (Op tx done) = true
+is_told (Commit tx number) = true
+is_told (Abort tx) = true
+is_told other = false
+
+abbrev pub told_count : List TraceItem → ℕ
+told_count items = count_by is_told items
+
+-- behind so many begins, the item is the next begin, or of a transaction that was begun
+abbrev pub StandsBehind : ℕ → TraceItem → Type 0
+StandsBehind begun (Begin tx) = tx ≡ begun + 1
+StandsBehind begun item = (0 < tx_of item) × (tx_of item ≤ begun)
+
+abbrev pub AreOrdered : List TraceItem → Type 0
+AreOrdered items = (k : ℕ) (item : TraceItem) → slice_get items k ≡ Some item → StandsBehind (begin_count (take k items)) item

@@ -1,0 +1,70 @@
+-- What a history has of a transaction, and the receipts of transactions.
+use Rattle.std.specs.Prelude.{◌≡◌, ◌≢◌, ℕ, ◌<◌, List, [], ◌∷◌, ◌++◌, ◌==◌, if◌then◌else◌}
+use Rattle.mlt_types.specs.declared.refusal.Refusal.{Refusal}
+use Rattle.mlt_object_kinds.specs.declared.operation.ObjOp.{ObjOp}
+use Rattle.mlt_object_kinds.specs.declared.operation.ObjReply.{ObjReply}
+use Rattle.mlt_order.specs.Histories.{items_done}
+use Rattle.mlt_order.specs.Interleavings.{items_of}
+use Rattle.mlt_trace.specs.declared.item.TraceItem.{TraceItem}
+use Rattle.mlt_trace.specs.declared.item.TraceItem.TheVariants.{Commit, Abort}
+use Rattle.mlt_trace_history.specs.Entries.{entries_of}
+use Rattle.mlt_script_serial.specs.declared.outcome.End.{End}
+use Rattle.mlt_script_serial.specs.declared.outcome.End.TheVariants.{Committed, Aborted, Refused}
+use Rattle.mlt_script_serial.specs.declared.outcome.Outcome.{Outcome}
+
+-- How a transaction was closed.
+pub data Closing : Type 0 where
+  -- by a commit of this number
+  ByCommit : (number : ℕ) → Closing
+  -- by an abort
+  ByAbort : Closing
+
+-- the operations that the transaction did, taken back or not, in order
+abbrev pub ops_of : ℕ → List TraceItem → List (ObjOp × ObjReply)
+ops_of tx items = items_of tx (items_done (entries_of items))
+
+-- how the transaction was closed, each time: in the history of a manager, once at most
+abbrev pub closings_of : ℕ → List TraceItem → List Closing
+closings_of tx [] = []
+closings_of tx (Commit i number ∷ items) = if i == tx then ByCommit number ∷ closings_of tx items else closings_of tx items
+closings_of tx (Abort i ∷ items) = if i == tx then ByAbort ∷ closings_of tx items else closings_of tx items
+closings_of tx (_ ∷ items) = closings_of tx items
+
+-- how a transaction is closed whose receipt has this end: by a commit of its number, or by an abort for any other end
+abbrev pub closing_by : End → Closing
+closing_by (Committed number) = ByCommit number
+closing_by Aborted = ByAbort
+closing_by (Refused refusal) = ByAbort
+
+-- these items have of the transaction just these operations, and it is closed there once, as the end says
+pub record IsClosedSo (tx : ℕ) (done : List (ObjOp × ObjReply)) (end : End) (items : List TraceItem) : Type 0 where
+  pub ops : ops_of tx items ≡ done
+  pub closed : closings_of tx items ≡ closing_by end ∷ []
+
+-- these items have nothing of the transaction: no operation, and no close
+pub record HasNothing (tx : ℕ) (items : List TraceItem) : Type 0 where
+  pub ops : ops_of tx items ≡ []
+  pub closed : closings_of tx items ≡ []
+
+-- these items have of the transaction just these operations and one close, as the end says, and then the rest
+pub record IsClosedBefore (rest : List TraceItem) (tx : ℕ) (done : List (ObjOp × ObjReply)) (end : End)
+    (items : List TraceItem) : Type 0 where
+  pub ops : ops_of tx items ≡ done ++ ops_of tx rest
+  pub closed : closings_of tx items ≡ closing_by end ∷ closings_of tx rest
+
+-- the receipt tells what the history has of its transaction
+abbrev pub IsOfHistory : List TraceItem → Outcome → Type 0
+IsOfHistory items o = o.tx ≢ 0 → IsClosedSo o.tx o.done o.end items
+
+-- a receipt without a transaction is refused and empty
+pub record IsRefusedEmpty (o : Outcome) : Type 0 where
+  pub refused : (refusal : Refusal) × (o.end ≡ Refused refusal)
+  pub empty : o.done ≡ []
+
+abbrev pub IsWithoutTx : Outcome → Type 0
+IsWithoutTx o = o.tx ≡ 0 → IsRefusedEmpty o
+
+-- where both committed, of one client, the later script has the later commit
+abbrev pub RisesTo : Outcome → Outcome → Type 0
+RisesTo one other = (m n : ℕ) → one.end ≡ Committed m → other.end ≡ Committed n
+    → one.client ≡ other.client → one.number < other.number → m < n

@@ -1,0 +1,140 @@
+-- A text that a checker goes over, line by line.
+use Rattle.std.proofs.Common.{◌≡◌, ℕ, ◌+◌, Bool, true, false, cond, List, [], ◌∷◌, ◌++◌, length, map, Result, Ok, Err, Option, Some, None, nat_lt, refl, sym, ap, subst, ◌∙◌, inl, inr, append_assoc, length-append, arith}
+use Rattle.std.proofs.lemmas.List.{map-append}
+use Rattle.std.specs.List.{list_all}
+use Rattle.mlt_types.specs.declared.refusal.Refusal.{Refusal}
+use Rattle.mlt_types.specs.declared.refusal.Refusal.TheVariants.{OutOfMemory, TraceFault}
+use Rattle.mlt_types.specs.declared.refusal.TraceCause.{TraceCause}
+use Rattle.mlt_types.specs.declared.refusal.TraceCause.TheVariants as cause
+use Rattle.mlt_object_kinds.specs.Bases.{Base}
+use Rattle.mlt_text_words.specs.Lines.{Raw, lines, content, is_allowed}
+use Rattle.mlt_text_words.specs.Words.{raw_words}
+use Rattle.mlt_trace.specs.declared.item.TraceItem.{TraceItem}
+use Rattle.mlt_trace_check.specs.declared.checker.Checker.{Checker}
+use Rattle.mlt_trace_check.specs.declared.reading.Reading.{Reading}
+use Rattle.mlt_trace_check.specs.declared.reading.Reading.TheVariants.{Bad, Says}
+use Rattle.mlt_trace_check.specs.Answering.{Answers, TakesLine, WentOver}
+use Rattle.mlt_trace_check.specs.Checkers.{Knows, Takes}
+use Rattle.mlt_trace_check.specs.Readings.{item_of, item_or_fault, reading}
+use Rattle.mlt_trace_check.specs.Traces.{ArePlaced, HasPlace, IsAcceptedTrace, IsItemFault, IsLineFault}
+use Rattle.mlt_trace_check.proofs.Growing.{append_nil, no_cut, split_last}
+
+-- ---- a line that is faulty by itself
+
+-- a cause that a line has by itself
+abbrev IsOwn : TraceCause → Type 0
+IsOwn cause.Line = Unit {0}
+IsOwn cause.Cut = Unit {0}
+IsOwn cause.Words = Unit {0}
+IsOwn other = ⊥
+
+abbrev IsOwnReading : Reading → Type 0
+IsOwnReading (Bad fault) = IsOwn fault
+IsOwnReading (Says item) = Unit {0}
+
+own_either : (b : Bool) (x y : Reading) → IsOwnReading x → IsOwnReading y → IsOwnReading (cond b x y)
+own_either true x y h k = h
+own_either false x y h k = k
+
+own_item : (o : Option TraceItem) → IsOwnReading (item_or_fault o)
+own_item None = tt
+own_item (Some item) = tt
+
+own_reading : (raw : Raw) → IsOwnReading (reading raw)
+unfolding reading
+own_reading raw =
+    own_either (nat_lt 200 (length raw.bytes)) _ _ tt
+    (own_either (list_all is_allowed (content raw)) _ _ (own_either raw.ended _ _ (own_item (item_of (raw_words (content raw)))) tt) tt)
+
+own_fault : (fault : TraceCause) → IsOwn fault → (items : List TraceItem) (base : Base) (raw : Raw) (line : ℕ) → reading raw ≡ Bad fault → line ≡ length items + 1 → IsLineFault items base raw line fault
+own_fault cause.Line own items base raw line is at = (is, at)
+own_fault cause.Cut own items base raw line is at = (is, at)
+own_fault cause.Words own items base raw line is at = (is, at)
+own_fault other own items base raw line is at = absurd own
+
+pub bad_line : (raw : Raw) (fault : TraceCause) (items : List TraceItem) (base : Base) (line : ℕ) → reading raw ≡ Bad fault → line ≡ length items + 1 → IsLineFault items base raw line fault
+bad_line raw fault items base line is at = own_fault fault (subst IsOwnReading is (own_reading raw)) items base raw line is at
+
+-- a line that says an item has the item's faults
+fault_line : (fault : TraceCause) (items : List TraceItem) (base : Base) (raw : Raw) (item : TraceItem) (line : ℕ) → reading raw ≡ Says item
+    → IsItemFault items base item line fault → IsLineFault items base raw line fault
+fault_line cause.Line items base raw item line is found = absurd found
+fault_line cause.Cut items base raw item line is found = absurd found
+fault_line cause.Words items base raw item line is found = absurd found
+fault_line cause.Place items base raw item line is found = (item, is, found)
+fault_line cause.Reply items base raw item line is found = (item, is, found)
+
+pub item_line : (result : Result (Unit {0}) Refusal) (old new : Checker) (line : ℕ) (raw : Raw) (item : TraceItem) → reading raw ≡ Says item
+    → Takes result old new line item → TakesLine result old new line raw
+item_line (Ok done) old new line raw item is takes = (item, is, takes)
+item_line (Err OutOfMemory) old new line raw item is takes = tt
+item_line (Err (TraceFault n fault)) old new line raw item is takes = λ items h at. fault_line fault items old.base raw item n is (takes items h at)
+item_line (Err refusal) old new line raw item is takes = absurd takes
+
+-- ---- one more line
+
+pub placed_more : (items : List TraceItem) (item : TraceItem) → ArePlaced items → HasPlace items item → ArePlaced (items ++ item ∷ [])
+placed_more items item placed place before later next e =
+    elim (split_last items before later item next e) [
+      | inl inside ↦ placed before inside.0 next inside.1
+      | inr last ↦
+          let F : List TraceItem → Type 0 = λ front. HasPlace front item in
+          let G : TraceItem → Type 0 = λ one. HasPlace before one in
+          subst G last.1 (subst F last.0 place)
+    ]
+
+pub said_more : (before : List Raw) (items : List TraceItem) (raw : Raw) (item : TraceItem) → map reading before ≡ map Says items → reading raw ≡ Says item → map reading (before ++ raw ∷ []) ≡ map Says (items ++ item ∷ [])
+said_more before items raw item said is =
+    map-append reading before (raw ∷ []) ∙ ap (λ rs. rs ++ reading raw ∷ []) said ∙ ap (λ r. map Says items ++ r ∷ []) is ∙ sym (map-append Says items (item ∷ []))
+
+pub went_nowhere : (checker : Checker) (text : List ℕ) → Knows checker [] → WentOver checker 0 text text
+went_nowhere checker text knows = record {
+  before = [];
+  items = [];
+  cut = refl;
+  counted = refl;
+  said = refl;
+  placed = λ before later item e. absurd (no_cut before later item e);
+  knows = knows;
+}
+
+pub went_on : (old new : Checker) (line : ℕ) (text rest more : List ℕ) (raw : Raw) → lines rest ≡ raw ∷ lines more → TakesLine (Ok tt) old new (line + 1) raw → WentOver old line text rest → WentOver new (line + 1) text more
+went_on old new line text rest more raw first takes over =
+    let item = takes.0 in
+    let next = takes.2 over.items over.knows (ap (λ n. n + 1) over.counted) in
+    record {
+      before = over.before ++ raw ∷ [];
+      items = over.items ++ item ∷ [];
+      cut = over.cut ∙ ap (λ rs. over.before ++ rs) first ∙ sym (append_assoc over.before (raw ∷ []) (lines more));
+      counted = ap (λ n. n + 1) over.counted ∙ sym (length-append over.items (item ∷ []));
+      said = said_more over.before over.items raw item over.said takes.1;
+      placed = placed_more over.items item over.placed next.0;
+      knows = next.1;
+    }
+
+pub went_wrong : (e : Refusal) (old new : Checker) (line : ℕ) (text rest more : List ℕ) (raw : Raw) → lines rest ≡ raw ∷ lines more → TakesLine (Err e) old new (line + 1) raw → WentOver old line text rest → Answers (Err e) text
+went_wrong OutOfMemory old new line text rest more raw first takes over = tt
+went_wrong (TraceFault n fault) old new line text rest more raw first takes over = (
+  over.before,
+  raw,
+  lines more,
+  over.items,
+  old.base,
+  over.cut ∙ ap (λ rs. over.before ++ rs) first,
+  record { said = over.said; placed = over.placed; serial = over.knows.serial },
+  takes over.items over.knows (ap (λ n. n + 1) over.counted),
+)
+went_wrong e old new line text rest more raw first takes over = absurd takes
+
+no_lines : (rest : List ℕ) → length rest ≡ 0 → lines rest ≡ []
+unfolding lines
+no_lines [] e = refl
+no_lines (b ∷ bs) e = absurd (omega arith)
+
+pub went_to_end : (checker : Checker) (line : ℕ) (text rest : List ℕ) → length rest ≡ 0 → WentOver checker line text rest → IsAcceptedTrace text checker.txs.items checker.base
+went_to_end checker line text rest none over =
+    let all : lines text ≡ over.before = over.cut ∙ ap (λ rs. over.before ++ rs) (no_lines rest none) ∙ append_nil over.before in (
+      over.items,
+      record { said = ap (map reading) all ∙ over.said; placed = over.placed; serial = over.knows.serial },
+      over.knows.txs,
+    )

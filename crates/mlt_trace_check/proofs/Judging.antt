@@ -1,0 +1,245 @@
+-- Each text is an accepted trace or has a first fault, and so are items.
+use Rattle.std.proofs.Common.{◌≡◌, ◌≢◌, ◌⊎◌, inl, inr, ℕ, ◌+◌, ◌<◌, List, [], ◌∷◌, ◌++◌, length, map, Contains, refl, sym, ap, subst, ◌∙◌, append_assoc}
+use Rattle.std.proofs.lemmas.Bool.{cases_eq}
+use Rattle.std.proofs.lemmas.List.Elements.{Contains-append_cases}
+use Rattle.mlt_types.specs.declared.refusal.TraceCause.{TraceCause}
+use Rattle.mlt_types.specs.declared.refusal.TraceCause.TheVariants as cause
+use Rattle.mlt_object_kinds.specs.declared.operation.ObjOp.{ObjOp}
+use Rattle.mlt_object_kinds.specs.declared.operation.ObjReply.{ObjReply}
+use Rattle.mlt_object_kinds.specs.Bases.{Base, Step, empty_base}
+use Rattle.mlt_order.specs.Histories.{Lists, Stage}
+use Rattle.mlt_order.specs.Histories.Stage.{Fresh, Running, Ended}
+use Rattle.mlt_order.specs.Runs.{IsSerialBase, Runs}
+use Rattle.mlt_order.proofs.RunLemmas.{contains-first, contains-later, contains-nothing, serial_push}
+use Rattle.mlt_text_words.specs.Lines.{Raw, lines}
+use Rattle.mlt_trace.specs.declared.item.TraceItem.{TraceItem}
+use Rattle.mlt_trace.specs.declared.item.TraceItem.TheVariants.{Begin, Op, Back, Commit, Abort}
+use Rattle.mlt_trace_history.specs.Numbers.{begun_txs, commit_count, committed_txs}
+use Rattle.mlt_trace_check.specs.declared.reading.Reading.{Reading}
+use Rattle.mlt_trace_check.specs.declared.reading.Reading.TheVariants.{Bad, Says}
+use Rattle.mlt_trace_check.specs.AcceptedItems.{AreAccepted, IsFirstFaultIn}
+use Rattle.mlt_trace_check.specs.Readings.{reading}
+use Rattle.mlt_trace_check.specs.Traces.{ArePlaced, HasPlace, IsAcceptedTrace, IsFirstFault, IsFirstFaultOf, IsItemFault, IsLineFault, IsRunning, IsTrace, IsWhole, told}
+use Rattle.mlt_trace_check.proofs.AcceptedItems.{no_first_fault, one_base}
+use Rattle.mlt_trace_check.proofs.Faults.{SameFault, cut_twice, next_same, one_item_fault}
+use Rattle.mlt_trace_check.proofs.Going.{bad_line, placed_more, said_more}
+use Rattle.mlt_trace_check.proofs.Growing.{append_nil, no_cut, one_only, told-push}
+use Rattle.mlt_trace_check.proofs.Lasting.{one_more}
+use Rattle.mlt_trace_check.proofs.Standing.{Stands, nothing_stands, stands_more}
+use Rattle.mlt_trace_check.proofs.Stepping.{Decided, IsFalseIn, all_three, below, both, runs_or_not}
+
+-- ---- whether an item has its place
+
+running_or_not : (items : List TraceItem) (tx : ℕ) → Decided (IsRunning items tx)
+running_or_not items tx = is_running ((told items).stage tx) where
+  is_running : (stage : Stage) → Decided (stage ≡ Running)
+  is_running Fresh = inr (λ e. cc e)
+  is_running Running = inl refl
+  is_running Ended = inr (λ e. cc e)
+
+is_back_or_not : (item : TraceItem) (tx : ℕ) → Decided (item ≡ Back tx)
+is_back_or_not (Back i) tx = elim (cases_eq i tx) [ inl same ↦ inl (ap Back same) | inr apart ↦ inr (λ e. apart (cc e)) ]
+is_back_or_not (Begin i) tx = inr (λ e. cc e)
+is_back_or_not (Op i done) tx = inr (λ e. cc e)
+is_back_or_not (Commit i number) tx = inr (λ e. cc e)
+is_back_or_not (Abort i) tx = inr (λ e. cc e)
+
+first_or_later : {X : Type 0} (x : X) (xs : List X) (y : X) → Contains (x ∷ xs) y → (x ≡ y) ⊎ Contains xs y
+first_or_later x xs y h = elim (Contains-append_cases (x ∷ []) xs y h) [ inl first ↦ inl (one_only x y first) | inr later ↦ inr later ]
+
+taken_back_or_not : (items : List TraceItem) (tx : ℕ) → Decided (Contains items (Back tx))
+taken_back_or_not [] tx = inr (λ h. contains-nothing (Back tx) h)
+taken_back_or_not (item ∷ items) tx = elim (is_back_or_not item tx) [
+  | inl is ↦ inl (subst (Contains (item ∷ items)) is (contains-first item items))
+  | inr other ↦ elim (taken_back_or_not items tx) [
+    | inl later ↦ inl (contains-later item (Back tx) items later)
+    | inr none ↦ inr (λ h. elim (first_or_later item items (Back tx) h) [ inl is ↦ other is | inr later ↦ none later ])
+  ]
+]
+
+whole_or_not : (items : List TraceItem) (tx : ℕ) → Decided (IsWhole items tx)
+whole_or_not items tx = elim (taken_back_or_not items tx) [ inl back ↦ inr (λ whole. whole back) | inr whole ↦ inl whole ]
+
+empty_or_not : {X : Type 0} (xs : List X) → Decided (xs ≡ [])
+empty_or_not [] = inl refl
+empty_or_not (x ∷ xs) = inr (λ e. cc e)
+
+some_or_none : {X : Type 0} (xs : List X) → Decided (xs ≢ [])
+some_or_none xs = elim (empty_or_not xs) [ inl none ↦ inr (λ some. some none) | inr some ↦ inl some ]
+
+above_all_or_not : (txs : List ℕ) (tx : ℕ) → Decided ((other : ℕ) → Contains txs other → other < tx)
+above_all_or_not [] tx = inl (λ other h. absurd (contains-nothing other h))
+above_all_or_not (first ∷ txs) tx = elim (below first tx) [
+  | inl low ↦ elim (above_all_or_not txs tx) [
+    | inl all ↦ inl (λ other h. elim (first_or_later first txs other h) [ inl same ↦ subst (λ n. n < tx) same low | inr later ↦ all other later ])
+    | inr high ↦ inr (λ all. high (λ other h. all other (contains-later first other txs h)))
+  ]
+  | inr high ↦ inr (λ all. high (all first (contains-first first txs)))
+]
+
+place_or_not : (items : List TraceItem) (item : TraceItem) → Decided (HasPlace items item)
+place_or_not items (Begin tx) = above_all_or_not (begun_txs items) tx
+place_or_not items (Op tx done) = both (running_or_not items tx) (whole_or_not items tx)
+place_or_not items (Back tx) = both (running_or_not items tx) (some_or_none ((told items).transcripts tx))
+place_or_not items (Commit tx number) = all_three (running_or_not items tx) (whole_or_not items tx) (cases_eq number (commit_count items + 1))
+place_or_not items (Abort tx) = both (running_or_not items tx) (empty_or_not ((told items).transcripts tx))
+
+-- ---- one more item
+
+-- the items lead to the base, and their operations stand in them
+pub record LeadTo (items : List TraceItem) (base : Base) : Type 0 where
+  pub placed : ArePlaced items
+  pub serial : IsSerialBase Step empty_base (told items).committed base
+  pub stand : (tx : ℕ) → Stands items tx
+
+abbrev HasItemFault : List TraceItem → Base → TraceItem → Type 0
+HasItemFault items base item = (line : ℕ) × (fault : TraceCause) × IsItemFault items base item line fault
+
+abbrev GoesOnOrNot : List TraceItem → Base → TraceItem → Type 0
+GoesOnOrNot items base item = ((next : Base) × LeadTo (one_more items item) next) ⊎ HasItemFault items base item
+
+none_lead : LeadTo [] empty_base
+none_lead = record { placed = λ before later item e. absurd (no_cut before later item e); serial = refl; stand = nothing_stands }
+
+module _ (items : List TraceItem) (base : Base) (h : LeadTo items base) where
+  goes_on : (item : TraceItem) (next : Base) → HasPlace items item → IsSerialBase Step empty_base (told (one_more items item)).committed next → GoesOnOrNot items base item
+  goes_on item next place serial = inl (next, record { placed = placed_more items item h.placed place; serial = serial; stand = stands_more items item place h.stand })
+
+  -- an item that commits nothing
+  same_base : (item : TraceItem) → HasPlace items item → (told (one_more items item)).committed ≡ (told items).committed → GoesOnOrNot items base item
+  same_base item place same = goes_on item base place (subst (λ ts. IsSerialBase Step empty_base ts base) (sym same) h.serial)
+
+  false_commit : (tx number : ℕ) → HasPlace items (Commit tx number) → IsFalseIn base ((told items).transcripts tx) → Stands items tx → HasItemFault items base (Commit tx number)
+  false_commit tx number place f (inr none) = absurd (none.0 place.0)
+  false_commit tx number place f (inl running) =
+      let there = running.1 place.1 f.front f.rest f.done f.cut in (
+        length there.upto + 1,
+        cause.Reply,
+        (
+          tx,
+          number,
+          refl,
+          place,
+          (
+            there.upto,
+            there.later,
+            f.done,
+            f.rest,
+            f.middle,
+            there.cut,
+            refl,
+            f.cut ∙ ap (λ ds. ds ++ f.done ∷ f.rest) (sym there.same),
+            subst (λ ds. Runs Step base ds f.middle) (sym there.same) f.runs,
+            f.never,
+          ),
+        ),
+      )
+
+  commits_or_not : (tx number : ℕ) → HasPlace items (Commit tx number) → GoesOnOrNot items base (Commit tx number)
+  commits_or_not tx number place = elim (runs_or_not base ((told items).transcripts tx)) [
+    | inl all ↦ goes_on (Commit tx number) all.0 place
+        (subst (λ (l : Lists (ObjOp × ObjReply)). IsSerialBase Step empty_base l.committed all.0) (sym (told-push items (Commit tx number)))
+        (serial_push Step (told items).committed ((told items).transcripts tx) empty_base base all.0 h.serial all.1))
+    | inr f ↦ inr (false_commit tx number place f (h.stand tx))
+  ]
+
+  placed_goes_on : (item : TraceItem) → HasPlace items item → GoesOnOrNot items base item
+  placed_goes_on (Begin tx) place = same_base (Begin tx) place (ap (λ (l : Lists (ObjOp × ObjReply)). l.committed) (told-push items (Begin tx)))
+  placed_goes_on (Op tx done) place = same_base (Op tx done) place (ap (λ (l : Lists (ObjOp × ObjReply)). l.committed) (told-push items (Op tx done)))
+  placed_goes_on (Back tx) place = same_base (Back tx) place (ap (λ (l : Lists (ObjOp × ObjReply)). l.committed) (told-push items (Back tx)))
+  placed_goes_on (Commit tx number) place = commits_or_not tx number place
+  placed_goes_on (Abort tx) place = same_base (Abort tx) place (ap (λ (l : Lists (ObjOp × ObjReply)). l.committed) (told-push items (Abort tx)))
+
+  -- the item goes on from there, or has a fault
+  goes_on_or_not : (item : TraceItem) → GoesOnOrNot items base item
+  goes_on_or_not item = elim (place_or_not items item) [
+    | inl place ↦ placed_goes_on item place
+    | inr none ↦ inr (length items + 1, cause.Place, (none, refl))
+  ]
+
+-- ---- items
+
+abbrev AcceptedOrNot : List TraceItem → Type 0
+AcceptedOrNot items = ((base : Base) × AreAccepted items base) ⊎ ((line : ℕ) × (fault : TraceCause) × IsFirstFaultIn items line fault)
+
+items_from : (later items all : List TraceItem) (base : Base) → all ≡ items ++ later → LeadTo items base → AcceptedOrNot all
+items_from [] items all base e h =
+    inl (base, let F : List TraceItem → Type 0 = λ is. AreAccepted is base in subst F (sym (e ∙ append_nil items)) (record { placed = h.placed; serial = h.serial }))
+items_from (item ∷ later) items all base e h = elim (goes_on_or_not items base h item) [
+  | inl next ↦ items_from later (one_more items item) all next.0 (e ∙ sym (append_assoc items (item ∷ []) later)) next.1
+  | inr f ↦ inr (
+    f.0,
+    f.1,
+    record {
+      before = items;
+      item = item;
+      later = later;
+      base = base;
+      cut = e;
+      accepted = record { placed = h.placed; serial = h.serial };
+      faulty = f.2;
+    },
+  )
+]
+
+pub accepted_or_not : (items : List TraceItem) → AcceptedOrNot items
+accepted_or_not items = items_from items [] items empty_base refl none_lead
+
+-- items have one first fault
+pub one_first_fault_in : (items : List TraceItem) (line other : ℕ) (fault another : TraceCause) → IsFirstFaultIn items line fault → IsFirstFaultIn items other another → SameFault line other fault another
+one_first_fault_in items line other fault another h k = elim (cut_twice h.before k.before h.later k.later h.item k.item (sym h.cut ∙ k.cut)) [
+  | inl more ↦ absurd (no_first_fault k.before k.base line fault k.accepted
+      (record { before = h.before; item = h.item; later = more.0; base = h.base; cut = more.1; accepted = h.accepted; faulty = h.faulty }))
+  | inr rest ↦ elim rest [
+    | inl same ↦ at_one same
+    | inr less ↦ absurd (no_first_fault h.before h.base other another h.accepted
+        (record { before = k.before; item = k.item; later = less.0; base = k.base; cut = less.1; accepted = k.accepted; faulty = k.faulty }))
+  ]
+] where
+  at_one : h.before ≡ k.before → SameFault line other fault another
+  at_one same =
+      let rests : h.before ++ h.item ∷ h.later ≡ h.before ++ k.item ∷ k.later = sym h.cut ∙ k.cut ∙ ap (λ is. is ++ k.item ∷ k.later) (sym same) in
+      let one : k.item ≡ h.item = sym (next_same h.before h.later k.later h.item k.item rests) in
+      let base : k.base ≡ h.base = one_base h.before k.base h.base (subst (λ is. AreAccepted is k.base) (sym same) k.accepted) h.accepted in
+      let there : IsItemFault h.before h.base h.item other another = subst (λ is. IsItemFault is h.base h.item other another) (sym same)
+      (subst (λ b. IsItemFault k.before b h.item other another) base (subst (λ item. IsItemFault k.before k.base item other another) one k.faulty)) in
+      one_item_fault h.before h.base h.item line other fault another h.accepted.placed h.faulty there
+
+-- ---- lines
+
+line_of_item : (items : List TraceItem) (base : Base) (raw : Raw) (item : TraceItem) (line : ℕ) (fault : TraceCause) → reading raw ≡ Says item
+    → IsItemFault items base item line fault → IsLineFault items base raw line fault
+line_of_item items base raw item line cause.Place is h = (item, is, h)
+line_of_item items base raw item line cause.Reply is h = (item, is, h)
+line_of_item items base raw item line other is h = absurd h
+
+-- the line says an item that goes on from there, or has a fault
+abbrev LineGoesOnOrNot : List TraceItem → Base → Raw → Type 0
+LineGoesOnOrNot items base raw =
+    ((item : TraceItem) × (next : Base) × (reading raw ≡ Says item) × LeadTo (one_more items item) next)
+    ⊎ ((line : ℕ) × (fault : TraceCause) × IsLineFault items base raw line fault)
+
+line_goes_on_or_not : (items : List TraceItem) (base : Base) (raw : Raw) (found : Reading) → LeadTo items base → reading raw ≡ found → LineGoesOnOrNot items base raw
+line_goes_on_or_not items base raw (Bad fault) h is = inr (length items + 1, fault, bad_line raw fault items base (length items + 1) is refl)
+line_goes_on_or_not items base raw (Says item) h is = elim (goes_on_or_not items base h item) [
+  | inl next ↦ inl (item, next.0, is, next.1)
+  | inr f ↦ inr (f.0, f.1, line_of_item items base raw item f.0 f.1 is f.2)
+]
+
+abbrev TraceOrNot : List Raw → Type 0
+TraceOrNot raws = ((items : List TraceItem) × (base : Base) × IsTrace raws items base) ⊎ ((line : ℕ) × (fault : TraceCause) × IsFirstFaultOf raws line fault)
+
+lines_from : (later before all : List Raw) (items : List TraceItem) (base : Base) → all ≡ before ++ later → map reading before ≡ map Says items → LeadTo items base → TraceOrNot all
+lines_from [] before all items base e said h =
+    inl (items, base, record { said = ap (map reading) (e ∙ append_nil before) ∙ said; placed = h.placed; serial = h.serial })
+lines_from (raw ∷ later) before all items base e said h = elim (line_goes_on_or_not items base raw (reading raw) h refl) [
+  | inl next ↦ lines_from later (before ++ raw ∷ []) all (one_more items next.0) next.1 (e ∙ sym (append_assoc before (raw ∷ []) later))
+      (said_more before items raw next.0 said next.2) next.3
+  | inr f ↦ inr (f.0, f.1, (before, raw, later, items, base, e, record { said = said; placed = h.placed; serial = h.serial }, f.2))
+]
+
+pub trace_or_not : (text : List ℕ) → ((txs : List ℕ) × (base : Base) × IsAcceptedTrace text txs base) ⊎ ((line : ℕ) × (fault : TraceCause) × IsFirstFault text line fault)
+trace_or_not text = elim (lines_from (lines text) [] (lines text) [] empty_base refl refl none_lead) [
+  | inl one ↦ inl (committed_txs one.0, one.1, (one.0, one.2, refl))
+  | inr f ↦ inr f
+]

@@ -1,0 +1,24 @@
+use Rattle.std.proofs.Common.{subst, ◌∙◌}
+use Rattle.mlt_trace_check.specs.Answering.{Answers}
+use Rattle.mlt_trace_check.specs.Traces.{IsFirstFault}
+use Rattle.mlt_trace_check.proofs.Exactness.{all_given, only_accepted, only_faulty}
+use Rattle.mlt_trace_check.proofs.trace_check.check.Goals as goal
+
+pub returns-clause-fault : goal.returns-clause-fault
+returns-clause-fault g c = λ line cause is. (
+  c.in_ok-input.input.items,
+  c.in_ok-input.ensures.ok,
+  subst (λ text. IsFirstFault text line cause) c.as_slice.ensures.value (subst (λ r. Answers r c.as_slice.result.now) is c.check_text.ensures),
+)
+
+pub returns-clause-only_accepted : goal.returns-clause-only_accepted
+returns-clause-only_accepted g c = λ input txs base had one.
+    let whole = c.in_ok-input.ensures.ok in
+    let same = all_given _ _ input c.in_ok-input.input.items had whole.0 whole.1 in
+    only_accepted c.check_text.result input txs base (subst (Answers c.check_text.result) (c.as_slice.ensures.value ∙ same) c.check_text.ensures) one
+
+pub returns-clause-only_faulty : goal.returns-clause-only_faulty
+returns-clause-only_faulty g c = λ input line cause had one.
+    let whole = c.in_ok-input.ensures.ok in
+    let same = all_given _ _ input c.in_ok-input.input.items had whole.0 whole.1 in
+    only_faulty c.check_text.result input line cause (subst (Answers c.check_text.result) (c.as_slice.ensures.value ∙ same) c.check_text.ensures) one

@@ -1,0 +1,61 @@
+-- What a line of a trace is by itself, wherever it stands.
+use Rattle.std.specs.Prelude.{◌≡◌, ℕ, Result, Ok, Err, List, map, length, nat_lt, Option, Some, None, if◌then◌else◌, codes}
+use Rattle.std.specs.List.{list_all}
+use Rattle.std.specs.Str.{bytes_eq}
+use denote.Ref.{Bor}
+use Rattle.mlt_types.specs.declared.refusal.TraceCause.{TraceCause}
+use Rattle.mlt_types.specs.declared.refusal.TraceCause.TheVariants as cause
+use Rattle.mlt_script.specs.Forms.{◌>>=◌}
+use Rattle.mlt_text_words.specs.Lines.{Raw, content, is_allowed}
+use Rattle.mlt_text_words.specs.Words.{first_word, raw_words, word_of}
+use Rattle.mlt_trace.specs.declared.item.TraceItem.{TraceItem}
+use Rattle.mlt_trace.specs.declared.item.TraceItem.TheVariants.{Begin, Op, Back, Commit, Abort}
+use Rattle.mlt_trace_check.specs.declared.reading.Reading.{Reading}
+use Rattle.mlt_trace_check.specs.declared.reading.Reading.TheVariants.{Bad, Says}
+use Rattle.mlt_trace_check.specs.Words.{done_at, no_more, positive_at}
+
+abbrev pub alone : TraceItem → List (List ℕ) → Option TraceItem
+alone item words = no_more item words
+
+abbrev pub op_with : ℕ → List (List ℕ) → Option TraceItem
+op_with tx words = do
+  done ← done_at (map word_of words)
+  Some (Op tx done)
+
+abbrev pub commit_with : ℕ → List (List ℕ) → Option TraceItem
+commit_with tx words = do
+  number ← positive_at words
+  alone (Commit tx number.0) number.1
+
+-- a line whose first word is this, and which goes on with the number of a transaction
+unfoldable pub item_with : List ℕ → ℕ → List (List ℕ) → Option TraceItem
+item_with word tx words =
+    if bytes_eq word (codes "begin") then alone (Begin tx) words
+    else (if bytes_eq word (codes "op") then op_with tx words
+    else (if bytes_eq word (codes "back") then alone (Back tx) words
+    else (if bytes_eq word (codes "commit") then commit_with tx words
+    else (if bytes_eq word (codes "abort") then alone (Abort tx) words else None))))
+
+-- the item of a line of these words, if it has one of the five forms
+unfoldable pub item_of : List (List ℕ) → Option TraceItem
+item_of words = do
+  word ← first_word words
+  tx ← positive_at word.1
+  item_with word.0 tx.0 tx.1
+
+abbrev pub item_or_fault : Option TraceItem → Reading
+item_or_fault (Some item) = Says item
+item_or_fault None = Bad cause.Words
+
+-- a line that ends in LF
+abbrev pub in_words : Raw → Reading
+in_words raw = if raw.ended then item_or_fault (item_of (raw_words (content raw))) else Bad cause.Cut
+
+-- More than 200 bytes are a fault, a CR counted, and so is a byte that is not allowed.
+unfoldable pub reading : Raw → Reading
+reading raw = if nat_lt 200 (length raw.bytes) then Bad cause.Line else (if list_all is_allowed (content raw) then in_words raw else Bad cause.Line)
+
+-- a line is what its words say, or its words are not read
+abbrev pub Judges : Result (Bor (List ℕ)) TraceCause → Reading → Type 0
+Judges (Ok line) told = told ≡ item_or_fault (item_of (raw_words line.now))
+Judges (Err fault) told = told ≡ Bad fault

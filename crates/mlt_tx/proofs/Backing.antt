@@ -1,0 +1,35 @@
+-- The ends of inverses
+use Rattle.std.proofs.Common.{◌≡◌, List, [], ◌∷◌, ◌++◌, Option, Some, refl, sym, ap, ◌∙◌}
+use Rattle.mlt_page_subtx.specs.Images.{Running}
+use Rattle.mlt_object_undo.specs.Undo.{Undo}
+use Rattle.mlt_hash.specs.Walks.{Basis}
+use Rattle.mlt_tx_operation.specs.Operating.{OperationFields}
+use Rattle.mlt_event.specs.declared.answer.Answer.{Answer}
+use Rattle.mlt_event.specs.declared.answer.Answer.TheVariants as answer
+use Rattle.mlt_tx.specs.Endings.{workplace}
+use Rattle.mlt_tx.specs.declared.commons.Commons.{Commons}
+use Rattle.mlt_tx.specs.Steps.{EndsBack, TellsOfBack}
+
+-- a list has one last item
+last_from : {A : Type 0} → List A → A → A
+last_from [] x = x
+last_from (y ∷ ys) x = last_from ys y
+
+last_behind : {A : Type 0} (xs : List A) (x y : A) → last_from (xs ++ x ∷ []) y ≡ x
+unfolding last_from
+last_behind [] x y = refl
+last_behind (z ∷ xs) x y = last_behind xs x z
+
+pub one_last : {A : Type 0} (entries front front' : List A) (x y : A) → entries ≡ front ++ x ∷ [] → entries ≡ front' ++ y ∷ [] → x ≡ y
+one_last entries front front' x y one other =
+    sym (last_behind front x x) ∙ ap (λ l. last_from l x) (sym one ∙ other) ∙ last_behind front' y x
+
+pub same_some : {A : Type 0} (x y : A) → Some x ≡ Some y → x ≡ y
+same_some x y is = cc
+
+-- **The end of an inverse is what a step of the abort tells.**
+pub end_tells : (basis : Basis) (inverting inverting' : Option OperationFields) (running running' : Running) (undo undo' : Undo) (old new : Commons) (told : Answer)
+    → EndsBack inverting inverting' (workplace running undo old) (workplace running' undo' new) told → TellsOfBack basis inverting inverting' (workplace running undo old) (workplace running' undo' new) told
+end_tells basis inverting inverting' running running' undo undo' old new answer.Undone ends = ends
+end_tells basis inverting inverting' running running' undo undo' old new answer.Aborted ends = ends
+end_tells basis inverting inverting' running running' undo undo' old new other ends = absurd ends.takes

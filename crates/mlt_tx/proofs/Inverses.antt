@@ -1,0 +1,75 @@
+-- An inverse adds no record, so it splits nothing, stays in its first pass, and is never refused
+use Rattle.std.proofs.Common.{◌≡◌, ℕ, Bool, true, false, None, Option, Some, refl, sym, ap, subst, ◌∙◌, inl, inr}
+use Rattle.std.proofs.lemmas.Bool.{false≢true}
+use Rattle.mlt_object_kinds.specs.declared.account.AccountOp.TheVariants.{Open, Close, Deposit, Withdraw}
+use Rattle.mlt_object_kinds.specs.declared.counter.CounterOp.TheVariants.{Up, Down}
+use Rattle.mlt_object_kinds.specs.declared.element.ElementOp.TheVariants as element
+use Rattle.mlt_object_kinds.specs.declared.operation.ObjOp.{ObjOp}
+use Rattle.mlt_object_kinds.specs.declared.operation.ObjOp.TheVariants.{Account, Element, Counter, Size}
+use Rattle.mlt_object_kinds.specs.declared.operation.ObjReply.{ObjReply}
+use Rattle.mlt_object_kinds.specs.declared.operation.ObjReply.TheVariants as told
+use Rattle.mlt_object_base.specs.declared.record.RecChange.{RecChange}
+use Rattle.mlt_object_base.specs.declared.record.RecChange.TheVariants.{Add}
+use Rattle.mlt_object_base.specs.declared.request.Request.{Request}
+use Rattle.mlt_object_base.specs.declared.request.Request.TheVariants.{TakeBack}
+use Rattle.mlt_object_base.specs.Effects.{inverse_of}
+use Rattle.mlt_object_base.specs.Requests.{decision, size_key_of}
+use Rattle.mlt_hash_access.specs.Moments.{Moment}
+use Rattle.mlt_hash.specs.Walks.{Basis}
+use Rattle.mlt_tx_operation.specs.declared.answer.StepAnswer.{StepAnswer}
+use Rattle.mlt_tx_operation.specs.declared.answer.StepAnswer.TheVariants as step
+use Rattle.mlt_tx_operation.specs.Answers.{StepsOn, TellsOfStep, Waits}
+use Rattle.mlt_tx_operation.specs.Operating.{IsInFirst, OperationFields, course_for, started_for}
+use Rattle.mlt_tx_two_records.specs.Performing.{AsksToAdd}
+use Rattle.mlt_tx.specs.Steps.{IsInverting, TellsOfStart, answer_of}
+
+abbrev is_addition : Option RecChange → Bool
+is_addition (Some (Add v)) = true
+is_addition other = false
+
+never_adds : (item : ObjOp × ObjReply) → is_addition (inverse_of item) ≡ false
+never_adds (Account a Open, told.Opened) = refl
+never_adds (Account a Close, told.Closed) = refl
+never_adds (Account a (Deposit n), told.Done) = refl
+never_adds (Account a (Withdraw n), told.Done) = refl
+never_adds (Account a op, other) = refl
+never_adds (Element s e element.Add, told.Added) = refl
+never_adds (Element s e element.Remove, told.Removed) = refl
+never_adds (Element s e op, other) = refl
+never_adds (Counter c (Up n), told.Done) = refl
+never_adds (Counter c (Down n), told.Done) = refl
+never_adds (Counter c op, other) = refl
+never_adds (Size s, other) = refl
+
+no_addition : (item : ObjOp × ObjReply) (request : Request) (value : ℕ) → request ≡ TakeBack item → AsksToAdd request value → ⊥
+no_addition item request value is adds =
+    false≢true (sym (never_adds item) ∙ ap (λ (d : ObjReply × Option RecChange). is_addition d.1) (ap (λ (r : Request). decision r None) (sym is) ∙ adds.1))
+
+-- **An inverse that goes on stays in its pass.**
+pub inverse_goes_on : (basis : Basis) (old new : Moment) (item : ObjOp × ObjReply) (before after : OperationFields) → IsInverting item before
+    → TellsOfStep basis old new before after step.Going → StepsOn basis old new before after × IsInverting item after
+inverse_goes_on basis old new item before after is (inl goes) = (goes, record { asked = goes.request ∙ is.asked; first = goes.in_first is.first })
+inverse_goes_on basis old new item before after is (inr (inl splits)) = absurd (splits.later is.first)
+inverse_goes_on basis old new item before after is (inr (inr again)) = absurd (no_addition item before.request again.adds.0 is.asked again.adds.1)
+
+-- one that has taken no step is in its first pass
+starts_first : (size : Option ℕ) (request : Request) → IsInFirst (course_for request size)
+starts_first None request = refl
+starts_first (Some key) request = tt
+
+starts_inverting : (item : ObjOp × ObjReply) → IsInverting item (started_for (TakeBack item))
+starts_inverting item = record { asked = refl; first = starts_first (size_key_of (TakeBack item)) (TakeBack item) }
+
+-- **The first step of an inverse.**
+pub start_tells : (basis : Basis) (old new : Moment) (item : ObjOp × ObjReply) (before after : OperationFields) (told : StepAnswer) → before ≡ started_for (TakeBack item) → TellsOfStep basis old new before after told
+    → TellsOfStart basis item (Some after) old new (answer_of told)
+start_tells basis old new item before after step.Going is tells =
+    let goes = inverse_goes_on basis old new item (started_for (TakeBack item)) after (starts_inverting item) (subst (λ (o : OperationFields). TellsOfStep basis old new o after step.Going) is tells) in
+    record { after = after; is = refl; inverts = goes.1; tells = goes.0 }
+start_tells basis old new item before after (step.Waiting page by) is tells = record {
+  after = after;
+  is = refl;
+  inverts = subst (IsInverting item) (sym (tells.stays ∙ is)) (starts_inverting item);
+  tells = subst (λ (o : OperationFields). Waits basis old new o after page by) is tells;
+}
+start_tells basis old new item before after (step.Refused reason) is tells = absurd (tells.later (subst (λ (o : OperationFields). IsInFirst o.course) (sym is) (starts_inverting item).first))

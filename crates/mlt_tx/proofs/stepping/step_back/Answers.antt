@@ -1,0 +1,73 @@
+use Rattle.std.proofs.Common.{◌≡◌, ℕ, None, Some, IsSome, refl, sym, ap, subst, ◌∙◌}
+use Rattle.std.proofs.lemmas.Option.{none-some}
+use Rattle.mlt_object_kinds.specs.declared.operation.ObjOp.{ObjOp}
+use Rattle.mlt_object_kinds.specs.declared.operation.ObjReply.{ObjReply}
+use Rattle.mlt_object_base.specs.Effects.{inverse_of}
+use Rattle.mlt_hash_access.specs.Moments.{Moment, moment}
+use Rattle.mlt_hash.specs.Walks.{Basis, basis_in}
+use Rattle.mlt_object_base.specs.declared.request.Request.TheVariants.{TakeBack}
+use Rattle.mlt_tx_operation.specs.Operating.{MayOperate, OperationFields, started_for}
+use Rattle.mlt_tx.specs.declared.commons.Commons.{Commons}
+use Rattle.mlt_page_subtx.specs.Images.{Running}
+use Rattle.mlt_object_undo.specs.Undo.{IsLast}
+use Rattle.mlt_tx.specs.Steps.{TakesBack}
+use Rattle.mlt_tx.proofs.Backing.{end_tells, one_last, same_some}
+use Rattle.mlt_tx.proofs.stepping.step_back.Goals as goal
+
+pub step-requires-clause-untold : goal.step-requires-clause-untold
+step-requires-clause-untold g c = sym c.reply.ensures ∙ c.in-None-reply.is
+
+pub step-requires-clause-ready : goal.step-requires-clause-ready
+step-requires-clause-ready g c = c.requires.ready.goes c.in-Some.operation c.in-Some.is (sym c.reply.ensures ∙ c.in-None-reply.is)
+
+pub begin_inverse-requires : goal.begin_inverse-requires
+begin_inverse-requires g c =
+    let basis : Basis = basis_in g.P.Pseudo.bits_of c.args.setting.now c.args.subtx.now.tx in
+    let m : Moment = moment c.args.subtx.now c.args.commons.now.pages in
+    let last : IsLast (Some c.in-Some-last.last) c.args.undo.now.entries = c.in-Some-last.ensures in
+    let same : c.requires.ready.last ≡ c.in-Some-last.last = one_last c.args.undo.now.entries c.requires.ready.front last.0 c.requires.ready.last c.in-Some-last.last c.requires.ready.entries last.1 in
+    let inverse : inverse_of c.requires.ready.last ≡ Some c.in-Some-inverse.field-0 = ap inverse_of same ∙ sym c.inverse.ensures.table ∙ c.in-Some-inverse.is in
+    let may = c.requires.ready.starts c.in-None.is (subst IsSome (sym inverse) refl) in
+    record { ready = subst (λ (x : ObjOp × ObjReply). MayOperate basis m (started_for (TakeBack x))) same may }
+
+pub returns-in-Some-reply : goal.returns-in-Some-reply
+returns-in-Some-reply g c =
+    let basis : Basis = basis_in g.P.Pseudo.bits_of c.args.setting.now c.args.subtx.now.tx in
+    let old : Commons = c.args.commons.now in
+    let between : Commons = record { alloc = old.alloc; pages = record { store = old.pages.store; locks = c.end.new.locks }; objects = old.objects; history = old.history } in
+    let tx : c.tx.result ≡ c.args.subtx.now.tx = c.tx.ensures ∙ ap (λ (r : Running). r.tx) c.end.ensures.images in
+    let takes = subst (λ (tx : ℕ). TakesBack tx c.args.undo.now c.take_back.new.undo between c.take_back.new.commons c.take_back.result) tx c.take_back.ensures.tells in
+    let answered : IsSome c.in-Some.operation.reply = subst IsSome (sym c.in-Some-reply.is ∙ c.reply.ensures) refl in
+    record {
+      tells = end_tells basis c.args.inverting.now None c.args.subtx.now c.end.new.self c.args.undo.now c.take_back.new.undo old c.take_back.new.commons c.take_back.result
+          (record {
+            between = between;
+            none = refl;
+            at_once = λ is. absurd (none-some c.in-Some.operation (sym is ∙ c.in-Some.is));
+            without = λ front x is entries. absurd (none-some c.in-Some.operation (sym is ∙ c.in-Some.is));
+            at_end = λ o is. (
+              subst (λ (p : OperationFields). IsSome p.reply) (same_some c.in-Some.operation o (sym c.in-Some.is ∙ is)) answered,
+              record { running = c.end.ensures.images; locks = c.end.ensures.locks; store = refl },
+              refl,
+              refl,
+            );
+            takes = takes;
+          });
+    }
+
+pub returns-in-None-inverse : goal.returns-in-None-inverse
+returns-in-None-inverse g c =
+    let basis : Basis = basis_in g.P.Pseudo.bits_of c.args.setting.now c.args.subtx.now.tx in
+    let last : IsLast (Some c.in-Some-last.last) c.args.undo.now.entries = c.in-Some-last.ensures in
+    let takes = subst (λ (tx : ℕ). TakesBack tx c.args.undo.now c.take_back-in-None-inverse.new.undo c.args.commons.now c.take_back-in-None-inverse.new.commons c.take_back-in-None-inverse.result) c.tx-in-None-inverse.ensures c.take_back-in-None-inverse.ensures.tells in
+    record {
+      tells = end_tells basis c.args.inverting.now c.args.inverting.now c.args.subtx.now c.args.subtx.now c.args.undo.now c.take_back-in-None-inverse.new.undo c.args.commons.now c.take_back-in-None-inverse.new.commons c.take_back-in-None-inverse.result
+          (record {
+            between = c.args.commons.now;
+            none = c.in-None.is;
+            at_once = λ is. (refl, refl);
+            without = λ front x is entries. ap inverse_of (one_last c.args.undo.now.entries front last.0 x c.in-Some-last.last entries last.1) ∙ sym c.inverse.ensures.table ∙ c.in-None-inverse.is;
+            at_end = λ o is. absurd (none-some o (sym c.in-None.is ∙ is));
+            takes = takes;
+          });
+    }

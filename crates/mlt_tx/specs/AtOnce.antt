@@ -1,0 +1,74 @@
+-- What a pending operation does to its transaction that takes all of its steps at once
+use Rattle.std.specs.Prelude.{◌≡◌, ◌≤◌, ◌+◌, Option, None, Some}
+use Rattle.mlt_object_kinds.specs.declared.operation.ObjOp.{ObjOp}
+use Rattle.mlt_object_kinds.specs.declared.operation.ObjReply.{ObjReply}
+use Rattle.mlt_object_kinds.specs.Operations.{cell_of}
+use Rattle.mlt_object_base.specs.declared.request.Request.TheVariants.{Do}
+use Rattle.mlt_object_locks.specs.Locks.{reservation_of}
+use Rattle.mlt_page_subtx.specs.Images.{started}
+use Rattle.mlt_hash_access.specs.Moments.{moment}
+use Rattle.mlt_hash.specs.Walks.{Basis}
+use Rattle.mlt_tx_operation.specs.Operating.{MayOperate, started_for}
+use Rattle.mlt_tx_at_once.specs.AtOnce.{NobodyHolds}
+use Rattle.mlt_event.specs.declared.answer.Answer.{Answer}
+use Rattle.mlt_event.specs.declared.answer.Answer.TheVariants as answer
+use Rattle.mlt_tx.specs.declared.commons.Commons.{Commons}
+use Rattle.mlt_tx.specs.declared.transaction.At.TheVariants as at
+use Rattle.mlt_tx.specs.declared.transaction.Transaction.{Transaction}
+use Rattle.mlt_tx.specs.Transactions.{MakesRoom, TellsOfCall, TellsOfTransaction}
+
+-- The transaction is at nothing and has written nothing, and nobody holds a page. Were it called with this operation, it might
+-- take its steps.
+pub record MayCallAtOnce (basis : Basis) (op : ObjOp) (t : Transaction) (commons : Commons)
+    : Type 0 where
+  pub idle : t.at ≡ at.Idle
+  pub fresh : t.subtx ≡ started t.subtx.tx
+  pub free : NobodyHolds commons.pages.locks
+  pub may : MayOperate basis (moment t.subtx commons.pages) (started_for (Do op))
+
+-- There is room for the undo entry and the object lock of this operation, and for its two items of the history.
+pub record HasRoomFor (op : ObjOp) (before after : Transaction) (old new : Commons) : Type 0 where
+  pub makes : MakesRoom before after old new
+  pub at_kept : after.at ≡ before.at
+  pub spare : 1 ≤ after.undo.spare
+  pub reserved : reservation_of new.objects.reserved before.subtx.tx ≡ Some (cell_of op)
+  pub room : new.history.room ≡ old.history.room + 2
+
+-- the transaction, called with this operation, which has taken no step
+abbrev pub called_with : ObjOp → Transaction → Transaction
+called_with op t = record { subtx = t.subtx; undo = t.undo; at = at.Pending (started_for (Do op)) }
+
+-- a step of a transaction, which keeps its number
+pub record TakesStep (basis : Basis) (before after : Transaction) (old new : Commons) (told : Answer)
+    : Type 0 where
+  pub tells : TellsOfTransaction basis before after old new told
+  pub number : after.subtx.tx ≡ before.subtx.tx
+
+-- four steps one after another: to the header, to the directory page, to the bucket, and the end, which tells this reply
+pub record StepsAtOnce (basis : Basis) (before after : Transaction) (old new : Commons)
+    (reply : ObjReply) : Type 0 where
+  pub headed : Transaction
+  pub placed : Transaction
+  pub told : Transaction
+  pub with_header : Commons
+  pub with_directory : Commons
+  pub with_bucket : Commons
+  pub first : TakesStep basis before headed old with_header answer.Going
+  pub second : TakesStep basis headed placed with_header with_directory answer.Going
+  pub third : TakesStep basis placed told with_directory with_bucket answer.Going
+  pub ends : TakesStep basis told after with_bucket new (answer.Done reply)
+
+-- it is called, and takes its four steps at once
+pub record IsDoneAtOnce (basis : Basis) (op : ObjOp) (before after : Transaction) (old new : Commons)
+    (reply : ObjReply) : Type 0 where
+  pub called : Transaction
+  pub with_room : Commons
+  pub calls : TellsOfCall op before called old with_room
+  pub steps : StepsAtOnce basis called after with_room new reply
+
+-- an operation that is called is done at once, or pending
+abbrev pub CallsAtOnce : Option ObjReply → Basis → ObjOp → Transaction → Transaction → Commons
+    → Commons → Type 0
+CallsAtOnce None basis op before after old new = TellsOfCall op before after old new
+CallsAtOnce (Some reply) basis op before after old new =
+    IsDoneAtOnce basis op before after old new reply

@@ -1,0 +1,195 @@
+-- What the steps of one transaction ask and tell
+use Rattle.std.specs.Prelude.{ℕ, ◌≡◌, ◌≤◌, ◌+◌, List, [], ◌∷◌, ◌++◌, Option, None, Some, IsSome}
+use Rattle.std.specs.List.{filter}
+use Rattle.mlt_object_kinds.specs.declared.operation.ObjOp.{ObjOp}
+use Rattle.mlt_object_kinds.specs.declared.operation.ObjReply.{ObjReply}
+use Rattle.mlt_object_kinds.specs.Operations.{cell_of}
+use Rattle.mlt_object_base.specs.declared.request.Request.TheVariants.{Do, TakeBack}
+use Rattle.mlt_object_base.specs.Effects.{inverse_of}
+use Rattle.mlt_page_subtx.specs.Images.{AreThere, Running}
+use Rattle.mlt_object_undo.specs.Undo.{Undo}
+use Rattle.mlt_object_locks.specs.Locks.{SameReservations, is_of_other, reservation_of}
+use Rattle.mlt_hash_access.specs.Moments.{Moment, moment}
+use Rattle.mlt_hash.specs.Walks.{Basis}
+use Rattle.mlt_tx_operation.specs.declared.answer.StepAnswer.{StepAnswer}
+use Rattle.mlt_tx_operation.specs.declared.answer.StepAnswer.TheVariants as step
+use Rattle.mlt_tx_operation.specs.Answers.{StepsOn, TellsOfStep, Waits}
+use Rattle.mlt_tx_operation.specs.Operating.{IsInFirst, MayOperate, OperationFields, started_for}
+use Rattle.mlt_trace.specs.declared.item.TraceItem.TheVariants as trace
+use Rattle.mlt_event.specs.declared.answer.Answer.{Answer}
+use Rattle.mlt_event.specs.declared.answer.Answer.TheVariants as answer
+use Rattle.mlt_tx.specs.declared.commons.Commons.{Commons}
+use Rattle.mlt_tx.specs.Endings.{EndsSubtx, TellsOfEnd, Workplace}
+
+-- the answer to a step, as its transaction gives it
+abbrev pub answer_of : StepAnswer → Answer
+answer_of step.Going = answer.Going
+answer_of (step.Waiting page by) = answer.Waiting page by
+answer_of (step.Refused reason) = answer.Refused reason
+
+-- what the end of an operation asks
+pub record MayFinish (item : ObjOp × ObjReply) (running : Running) (undo : Undo) (commons : Commons)
+    : Type 0 where
+  pub reserved : reservation_of commons.objects.reserved running.tx ≡ Some (cell_of item.0)
+  pub spare : 1 ≤ undo.spare
+  pub room : 1 ≤ commons.history.room
+  pub there : AreThere running.images commons.pages.store.pages
+
+-- what a step of a pending operation asks: that its walk may go on, up to its end, and then that it may end
+pub record MayStepOn (basis : Basis) (o : OperationFields) (running : Running) (undo : Undo)
+    (commons : Commons) : Type 0 where
+  pub op : ObjOp
+  pub asked : o.request ≡ Do op
+  pub goes : o.reply ≡ None → MayOperate basis (moment running commons.pages) o
+  pub ends : (reply : ObjReply) → o.reply ≡ Some reply → MayFinish (op, reply) running undo commons
+
+-- nothing but the operation and the pages has changed
+pub record KeepsRest (undo undo' : Undo) (old new : Commons) : Type 0 where
+  pub undo_kept : undo' ≡ undo
+  pub objects : new.objects ≡ old.objects
+  pub history : new.history ≡ old.history
+
+-- the operation's walk took a step
+pub record Walks (basis : Basis) (o o' : OperationFields) (old new : Workplace) (told : StepAnswer)
+    : Type 0 where
+  pub unready : o.reply ≡ None
+  pub rest : KeepsRest old.undo new.undo old.commons new.commons
+  pub tells : TellsOfStep basis
+      (moment old.running old.commons.pages) (moment new.running new.commons.pages) o o' told
+
+-- the operation came to its end
+pub record Ends (o : OperationFields) (old new : Workplace) (told : Answer) : Type 0 where
+  pub op : ObjOp
+  pub reply : ObjReply
+  pub asked : o.request ≡ Do op
+  pub ready : o.reply ≡ Some reply
+  pub tells : TellsOfEnd (op, reply) old new told
+
+abbrev pub TellsOfPending : Basis → OperationFields → OperationFields → Workplace → Workplace
+    → Answer → Type 0
+TellsOfPending basis o o' old new answer.Going = Walks basis o o' old new step.Going
+TellsOfPending basis o o' old new (answer.Waiting page by) =
+    Walks basis o o' old new (step.Waiting page by)
+TellsOfPending basis o o' old new (answer.Refused reason) =
+    Walks basis o o' old new (step.Refused reason)
+TellsOfPending basis o o' old new (answer.Blocked by) =
+    Ends o old new (answer.Blocked by) × (o' ≡ started_for o.request)
+TellsOfPending basis o o' old new (answer.Done reply) = Ends o old new (answer.Done reply)
+TellsOfPending basis o o' old new other = ⊥
+
+-- The last operation is taken off, the pages stay, and the history tells it.
+pub record TakesOff (tx : ℕ) (undo undo' : Undo) (old new : Commons) : Type 0 where
+  pub last : ObjOp × ObjReply
+  pub entries : undo.entries ≡ undo'.entries ++ last ∷ []
+  pub pages : new.pages ≡ old.pages
+
+-- There are some left; and the transaction holds and reserves what it did.
+pub record TakesOne (tx : ℕ) (undo undo' : Undo) (old new : Commons) : Type 0 where
+  pub off : TakesOff tx undo undo' old new
+  pub left : undo'.entries ≡ [] → ⊥
+  pub objects : new.objects ≡ old.objects
+  pub items : new.history.items ≡ old.history.items ++ trace.Back tx ∷ []
+  pub room : new.history.room + 1 ≡ old.history.room
+
+-- It was the last; and the transaction is closed, and holds and reserves nothing.
+pub record TakesLast (tx : ℕ) (undo undo' : Undo) (old new : Commons) : Type 0 where
+  pub off : TakesOff tx undo undo' old new
+  pub none : undo'.entries ≡ []
+  pub held : new.objects.held ≡ filter (is_of_other tx) old.objects.held
+  pub unreserved : reservation_of new.objects.reserved tx ≡ None
+  pub others : SameReservations old.objects.reserved new.objects.reserved tx
+  pub items : new.history.items ≡ old.history.items ++ trace.Back tx ∷ trace.Abort tx ∷ []
+  pub room : new.history.room + 2 ≡ old.history.room
+
+abbrev pub TakesBack : ℕ → Undo → Undo → Commons → Commons → Answer → Type 0
+TakesBack tx undo undo' old new answer.Undone = TakesOne tx undo undo' old new
+TakesBack tx undo undo' old new answer.Aborted = TakesLast tx undo undo' old new
+TakesBack tx undo undo' old new other = ⊥
+
+-- an inverse that runs: it takes the item back, in its first pass
+pub record IsInverting (item : ObjOp × ObjReply) (o : OperationFields) : Type 0 where
+  pub asked : o.request ≡ TakeBack item
+  pub first : IsInFirst o.course
+
+-- What a step of an abort asks: something is left to take back, the last of which the inverse that runs takes back, or is
+-- to; and its walk may go on.
+pub record MayStepBack (basis : Basis) (inverting : Option OperationFields) (running : Running)
+    (undo : Undo) (commons : Commons) : Type 0 where
+  pub front : List (ObjOp × ObjReply)
+  pub last : ObjOp × ObjReply
+  pub entries : undo.entries ≡ front ++ last ∷ []
+  pub room : 2 ≤ commons.history.room
+  pub starts : inverting ≡ None → IsSome (inverse_of last)
+      → MayOperate basis (moment running commons.pages) (started_for (TakeBack last))
+  pub runs : (o : OperationFields) → inverting ≡ Some o → IsInverting last o
+  pub goes : (o : OperationFields) → inverting ≡ Some o → o.reply ≡ None
+      → MayOperate basis (moment running commons.pages) o
+
+-- the inverse that runs, or that is to begin
+abbrev pub inverse_from : Option OperationFields → ObjOp × ObjReply → OperationFields
+inverse_from None last = started_for (TakeBack last)
+inverse_from (Some o) last = o
+
+-- The objects, and the history, are as they were.
+pub record KeepsObjects (old new : Commons) : Type 0 where
+  pub objects : new.objects ≡ old.objects
+  pub history : new.history ≡ old.history
+
+-- the first step of the inverse of the item
+pub record StartsInverse (item : ObjOp × ObjReply) (inverting' : Option OperationFields)
+    (Is : OperationFields → OperationFields → Type 0) : Type 0 where
+  pub after : OperationFields
+  pub is : inverting' ≡ Some after
+  pub inverts : IsInverting item after
+  pub tells : Is (started_for (TakeBack item)) after
+
+abbrev pub TellsOfStart : Basis → ObjOp × ObjReply → Option OperationFields → Moment → Moment
+    → Answer → Type 0
+TellsOfStart basis item inverting' old new answer.Going =
+    StartsInverse item inverting' (λ o o'. StepsOn basis old new o o')
+TellsOfStart basis item inverting' old new (answer.Waiting page by) =
+    StartsInverse item inverting' (λ o o'. Waits basis old new o o' page by)
+TellsOfStart basis item inverting' old new other = ⊥
+
+-- The inverse takes a step, of which this is so.
+pub record InverseSteps (inverting inverting' : Option OperationFields) (undo undo' : Undo)
+    (old new : Commons) (Is : OperationFields → OperationFields → Type 0) : Type 0 where
+  pub front : List (ObjOp × ObjReply)
+  pub last : ObjOp × ObjReply
+  pub entries : undo.entries ≡ front ++ last ∷ []
+  pub begins : inverting ≡ None → IsSome (inverse_of last)
+  pub after : OperationFields
+  pub is : inverting' ≡ Some after
+  pub inverts : IsInverting last after
+  pub rest : KeepsRest undo undo' old new
+  pub tells : Is (inverse_from inverting last) after
+
+-- The inverse is at its end, or the last operation has none: it is taken back.
+pub record EndsBack (inverting inverting' : Option OperationFields) (old new : Workplace)
+    (told : Answer) : Type 0 where
+  pub between : Commons
+  pub none : inverting' ≡ None
+  pub at_once : inverting ≡ None → (between ≡ old.commons) × (new.running ≡ old.running)
+  pub without : (front : List (ObjOp × ObjReply)) (last : ObjOp × ObjReply) → inverting ≡ None
+      → old.undo.entries ≡ front ++ last ∷ [] → inverse_of last ≡ None
+  pub at_end : (o : OperationFields) → inverting ≡ Some o
+      → IsSome o.reply × EndsSubtx old.running new.running old.commons between
+      × (between.objects ≡ old.commons.objects) × (between.history ≡ old.commons.history)
+  pub takes : TakesBack old.running.tx old.undo new.undo between new.commons told
+
+-- A step of an abort goes on, or waits, or takes the last operation back. It is never refused.
+abbrev pub TellsOfBack : Basis → Option OperationFields → Option OperationFields → Workplace
+    → Workplace → Answer → Type 0
+TellsOfBack basis inverting inverting' old new answer.Going =
+    InverseSteps inverting inverting' old.undo new.undo old.commons new.commons (λ o o'.
+    StepsOn basis (moment old.running old.commons.pages) (moment new.running new.commons.pages)
+    o o')
+TellsOfBack basis inverting inverting' old new (answer.Waiting page by) =
+    InverseSteps inverting inverting' old.undo new.undo old.commons new.commons (λ o o'.
+    Waits basis (moment old.running old.commons.pages) (moment new.running new.commons.pages)
+    o o' page by)
+TellsOfBack basis inverting inverting' old new answer.Undone =
+    EndsBack inverting inverting' old new answer.Undone
+TellsOfBack basis inverting inverting' old new answer.Aborted =
+    EndsBack inverting inverting' old new answer.Aborted
+TellsOfBack basis inverting inverting' old new other = ⊥

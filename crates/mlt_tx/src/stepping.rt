@@ -1,0 +1,145 @@
+//! The steps of a pending operation, and of an abort.
+
+ghost use Rattle.std.specs.Prelude.{◌≡◌, ◌≤◌, ◌+◌, ◌++◌, [], ◌∷◌, List};
+ghost use Rattle.mlt_hash_access.specs.Moments.{moment};
+ghost use Rattle.mlt_hash.specs.Walks.{basis_in};
+ghost use Rattle.mlt_tx_operation.specs.Operating.{MayOperate, started_for};
+ghost use Rattle.mlt_object_kinds.specs.declared.operation.ObjOp.{ObjOp};
+ghost use Rattle.mlt_object_kinds.specs.declared.operation.ObjReply.{ObjReply};
+ghost use Rattle.mlt_tx.specs.Endings.{workplace};
+ghost use Rattle.mlt_tx.specs.Steps.{KeepsObjects, MayStepBack, MayStepOn, TakesBack, TellsOfBack, TellsOfPending, TellsOfStart, answer_of};
+
+use crate::commons::Commons;
+use crate::ending::finish;
+use mlt_object_base::{Request, inverse};
+use mlt_event::Answer;
+use mlt_hash::Setting;
+use mlt_object_kinds::{Done, ObjOp};
+use mlt_tx_operation::{Operation, StepAnswer};
+use mlt_page_subtx::Subtx;
+use mlt_trace::TraceItem;
+use mlt_types::{Pseudo, TxId};
+use mlt_object_undo::UndoList;
+use std::alloc::Global;
+
+fn answer_of(told: StepAnswer) -> Answer
+    ensures { result ≡ answer_of told }
+{
+    match told {
+        StepAnswer::Going => Answer::Going,
+        StepAnswer::Waiting(page, by) => Answer::Waiting { page, by },
+        StepAnswer::Refused(refusal) => Answer::Refused(refusal),
+    }
+}
+
+/// One step of a pending operation: of its walk, or its end. Where its end is blocked, it is to be run anew.
+pub(crate) fn step_on<P: Pseudo>(
+    operation: &mut Operation,
+    subtx: &mut Subtx,
+    undo: &mut UndoList,
+    commons: &mut Commons,
+    setting: &Setting<P>,
+) -> Answer
+    requires ready { MayStepOn (basis_in P.bits_of setting.now subtx.old.tx)
+        operation.old subtx.old undo.old commons.old }
+    ensures tells { TellsOfPending (basis_in P.bits_of setting.now subtx.old.tx)
+        operation.old operation.new
+        (workplace subtx.old undo.old commons.old) (workplace subtx.new undo.new commons.new)
+        result }
+{
+    match (operation.request(), operation.reply()) {
+        (_, None) => answer_of(operation.step(setting, subtx, &mut commons.pages)),
+        (Request::Do(op), Some(reply)) => {
+            let answer = finish(Done::new(op, reply), subtx, undo, commons);
+            if let Answer::Blocked { .. } = answer {
+                start_anew(operation, commons.alloc, op);
+            }
+            answer
+        }
+        (Request::TakeBack(_), Some(_)) => unreachable!(),
+    }
+}
+
+/// Puts a pending operation back to its start. It stands apart, so that no room for an operation is cleared in a step that
+/// starts none.
+#[cold]
+#[inline(never)]
+fn start_anew(operation: &mut Operation, alloc: Global, op: ObjOp)
+    ensures { operation.new ≡ started_for (Request.Do op) }
+{
+    *operation = Operation::start(alloc, Request::Do(op));
+}
+
+/// Takes the last operation off, once its inverse is done, or where it has none.
+fn take_back(tx: TxId, undo: &mut UndoList, commons: &mut Commons) -> Answer
+    requires entry { (front : List (ObjOp × ObjReply)) × (last : ObjOp × ObjReply)
+        × (undo.old.entries ≡ front ++ last ∷ []) }
+    requires room { 2 ≤ commons.old.history.room }
+    ensures tells { TakesBack tx undo.old undo.new commons.old commons.new result }
+{
+    undo.pop();
+    commons.history.push(TraceItem::Back(tx));
+    if undo.last().is_some() {
+        return Answer::Undone;
+    }
+    commons.objects.release_all(tx);
+    commons.history.push(TraceItem::Abort(tx));
+    Answer::Aborted
+}
+
+/// One step of an abort: of the inverse that runs, or its end; or the first step of the next one, of the last operation
+/// that stands. One without an inverse is taken back at once. It takes no memory.
+pub(crate) fn step_back<P: Pseudo>(
+    inverting: &mut Option<Operation>,
+    subtx: &mut Subtx,
+    undo: &mut UndoList,
+    commons: &mut Commons,
+    setting: &Setting<P>,
+) -> Answer
+    requires ready { MayStepBack (basis_in P.bits_of setting.now subtx.old.tx)
+        inverting.old subtx.old undo.old commons.old }
+    ensures tells { TellsOfBack (basis_in P.bits_of setting.now subtx.old.tx)
+        inverting.old inverting.new
+        (workplace subtx.old undo.old commons.old) (workplace subtx.new undo.new commons.new)
+        result }
+{
+    match inverting {
+        Some(operation) => match operation.reply() {
+            None => answer_of(operation.step(setting, subtx, &mut commons.pages)),
+            Some(_) => {
+                subtx.end(&mut commons.pages.locks);
+                *inverting = None;
+                take_back(subtx.tx(), undo, commons)
+            }
+        },
+        None => {
+            let Some(last) = undo.last() else {
+                unreachable!()
+            };
+            match inverse(&last) {
+                None => take_back(subtx.tx(), undo, commons),
+                Some(_) => begin_inverse(last, inverting, subtx, commons, setting),
+            }
+        }
+    }
+}
+
+/// Begins to take an operation back, and takes the first step.
+fn begin_inverse<P: Pseudo>(
+    last: Done,
+    inverting: &mut Option<Operation>,
+    subtx: &mut Subtx,
+    commons: &mut Commons,
+    setting: &Setting<P>,
+) -> Answer
+    requires ready { MayOperate (basis_in P.bits_of setting.now subtx.old.tx)
+        (moment subtx.old commons.old.pages) (started_for (Request.TakeBack last)) }
+    ensures keeps { KeepsObjects commons.old commons.new }
+    ensures tells { TellsOfStart (basis_in P.bits_of setting.now subtx.old.tx) last inverting.new
+        (moment subtx.old commons.old.pages) (moment subtx.new commons.new.pages) result }
+{
+    let mut operation = Operation::start(commons.alloc, Request::TakeBack(last));
+    let told = operation.step(setting, subtx, &mut commons.pages);
+    *inverting = Some(operation);
+    answer_of(told)
+}

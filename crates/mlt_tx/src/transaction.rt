@@ -1,0 +1,146 @@
+//! Transactions.
+
+ghost use Rattle.std.specs.Prelude.{◌≡◌, ◌≤◌, ◌+◌, [], None, OnOk, OnErr, IsOkUnless};
+ghost use Rattle.mlt_hash.specs.Walks.{basis_in};
+ghost use Rattle.mlt_page_subtx.specs.Images.{AreThere, started};
+ghost use Rattle.mlt_tx.specs.AtOnce.{HasRoomFor};
+ghost use Rattle.mlt_tx.specs.Transactions.{IsNotCalled, IsPending, MayStepIn, TellsOfCall, TellsOfCancel, TellsOfTransaction};
+
+use crate::commons::Commons;
+use crate::stepping::{step_back, step_on};
+use mlt_object_base::Request;
+use mlt_event::Answer;
+use mlt_hash::Setting;
+use mlt_object_kinds::ObjOp;
+use mlt_tx_operation::Operation;
+use mlt_page_subtx::Subtx;
+use mlt_types::{Pseudo, Refusal, TxId};
+use mlt_object_undo::UndoList;
+use std::alloc::Global;
+
+/// What an open transaction is at.
+#[derive(Drop)]
+pub enum At {
+    /// Nothing is pending.
+    Idle,
+    /// An operation that was called and not told its reply, or was told to run anew.
+    Pending(Operation),
+    /// Its abort has begun: the inverse that runs, if one does.
+    Undoing(Option<Operation>),
+}
+
+/// An open transaction.
+#[derive(Drop)]
+pub struct Transaction {
+    /// Its subtransaction, which has written nothing where none runs.
+    pub subtx: Subtx,
+    /// What it did and has not taken back.
+    pub undo: UndoList,
+    /// What it is at.
+    pub at: At,
+}
+
+impl Transaction {
+    /// A transaction of this number that has done nothing. It takes no memory.
+    pub fn begin(alloc: Global, tx: TxId) -> Transaction
+        ensures subtx { result.subtx ≡ started tx }
+        ensures entries { result.undo.entries ≡ [] }
+        ensures at { result.at ≡ At.Idle }
+    {
+        Transaction {
+            subtx: Subtx::start(alloc, tx),
+            undo: UndoList::new(alloc),
+            at: At::Idle,
+        }
+    }
+
+    /// Makes it a transaction of this number that has done nothing, as [`Transaction::begin`] does, in the place of this
+    /// one. It takes no memory; the room of its undo list stays.
+    pub fn restart(&mut self, alloc: Global, tx: TxId)
+        ensures subtx { self.new.subtx ≡ started tx }
+        ensures entries { self.new.undo.entries ≡ [] }
+        ensures at { self.new.at ≡ At.Idle }
+    {
+        self.subtx.restart(alloc, tx);
+        self.undo.clear();
+        self.at = At::Idle;
+    }
+
+    /// Calls the transaction, which is at nothing, with an operation, which is pending from then on. Room is made for its
+    /// undo entry, its object lock, and its two items of the history: that it is done, and that it is taken back.
+    ///
+    /// # Errors
+    /// `OutOfMemory`, where a growth was refused; the transaction is then still at nothing.
+    pub fn call(&mut self, commons: &mut Commons, op: ObjOp) -> Result<(), Refusal>
+        requires idle { self.old.at ≡ At.Idle }
+        ensures calls { OnOk result (TellsOfCall op self.old self.new commons.old commons.new) }
+        ensures err { OnErr result (IsNotCalled self.old self.new commons.old commons.new) }
+        ensures refusal { IsOkUnless result Refusal.OutOfMemory }
+    {
+        self.make_room(commons, op)?;
+        self.at = At::Pending(Operation::start(commons.alloc, Request::Do(op)));
+        Ok(())
+    }
+
+    /// Makes room for the undo entry of an operation, its object lock, and its two items of the history.
+    ///
+    /// # Errors
+    /// `OutOfMemory`, where a growth was refused.
+    pub(crate) fn make_room(&mut self, commons: &mut Commons, op: ObjOp) -> Result<(), Refusal>
+        ensures room { OnOk result (HasRoomFor op self.old self.new commons.old commons.new) }
+        ensures err { OnErr result (IsNotCalled self.old self.new commons.old commons.new) }
+        ensures refusal { IsOkUnless result Refusal.OutOfMemory }
+    {
+        self.undo.reserve()?;
+        commons.objects.reserve(self.subtx.tx(), &op.cell())?;
+        commons.history.reserve(2)?;
+        Ok(())
+    }
+
+    /// One step of its pending operation, or of its abort. An operation that is done or refused is pending no more, and
+    /// one that is refused gives up the room that it had in the history. A step of a first pass, or of an abort, takes no
+    /// memory.
+    pub fn step<P: Pseudo>(&mut self, commons: &mut Commons, setting: &Setting<P>) -> Answer
+        requires ready { MayStepIn (basis_in P.bits_of setting.now self.old.subtx.tx)
+            self.old commons.old }
+        ensures tells { TellsOfTransaction (basis_in P.bits_of setting.now self.old.subtx.tx)
+            self.old self.new commons.old commons.new result }
+    {
+        match &mut self.at {
+            At::Idle => unreachable!(),
+            At::Pending(operation) => {
+                let answer = step_on(operation, &mut self.subtx, &mut self.undo, commons, setting);
+                match answer {
+                    Answer::Done(_) => self.at = At::Idle,
+                    Answer::Refused(_) => {
+                        self.at = At::Idle;
+                        commons.history.release(2);
+                    }
+                    _ => {}
+                }
+                answer
+            }
+            At::Undoing(inverting) => step_back(
+                inverting,
+                &mut self.subtx,
+                &mut self.undo,
+                commons,
+                setting,
+            ),
+        }
+    }
+
+    /// Drops the pending operation, rolls its pages back, and gives up the room that it had in the history. It takes no
+    /// memory.
+    pub fn cancel(&mut self, commons: &mut Commons)
+        requires pending { IsPending self.old.at }
+        requires there { AreThere self.old.subtx.images commons.old.pages.store.pages }
+        requires room { 2 ≤ commons.old.history.room }
+        ensures tells { TellsOfCancel self.old self.new commons.old commons.new }
+    {
+        self.subtx
+            .roll_back(&mut commons.pages.store, &mut commons.pages.locks);
+        self.at = At::Idle;
+        commons.history.release(2);
+    }
+}

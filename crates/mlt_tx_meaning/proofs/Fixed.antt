@@ -1,0 +1,82 @@
+-- What the clean pages, and the history, fix: the base, and the reply to each operation.
+use Rattle.std.proofs.Common.{◌≡◌, ℕ, ◌<◌, ◌^◌, Option, Some, None, sym, subst, arith}
+use Rattle.mlt_types.specs.Cells.{IsInRange}
+use Rattle.mlt_object_kinds.specs.declared.account.AccountOp.{AccountOp}
+use Rattle.mlt_object_kinds.specs.declared.account.AccountOp.TheVariants.{Open, Close, Deposit, Withdraw, Balance}
+use Rattle.mlt_object_kinds.specs.declared.counter.CounterOp.{CounterOp}
+use Rattle.mlt_object_kinds.specs.declared.counter.CounterOp.TheVariants.{Up, Down, Read}
+use Rattle.mlt_object_kinds.specs.declared.operation.ObjOp.{ObjOp}
+use Rattle.mlt_object_kinds.specs.declared.operation.ObjOp.TheVariants.{Account, Element, Counter, Size}
+use Rattle.mlt_object_kinds.specs.declared.operation.ObjReply.{ObjReply}
+use Rattle.mlt_object_kinds.specs.declared.operation.ObjReply.TheVariants as told
+use Rattle.mlt_object_kinds.specs.Accounts.{AccountStep}
+use Rattle.mlt_object_kinds.proofs.BaseLaws.{base_one_answer, step_to}
+use Rattle.mlt_object_kinds.specs.Bases.{Base, Step, empty_base, with_state}
+use Rattle.mlt_object_kinds.specs.Cells.{CellState, CellStep}
+use Rattle.mlt_object_kinds.specs.Cells.CellState.{AccountState, ElementState, CounterState, NoState}
+use Rattle.mlt_object_kinds.specs.Counters.{CounterStep}
+use Rattle.mlt_object_kinds.specs.Operations.{cell_of}
+use Rattle.mlt_object_base.specs.Meaning.{Means}
+use Rattle.mlt_object_base.specs.Effects.{reply_of}
+use Rattle.mlt_object_base.specs.Records.{record_after, state_of_record}
+use Rattle.mlt_object_base.proofs.Meanings.{one_meaning}
+use Rattle.mlt_object_base.proofs.OperationChanges.{tells_size}
+use Rattle.mlt_object_conflicts.proofs.BaseOrder.{base_functional, base_injective}
+use Rattle.mlt_order.specs.Histories.{IsHistory, no_lists}
+use Rattle.mlt_order.proofs.Growing.{follow_to_one}
+use Rattle.mlt_hash_form.specs.Records.{live_records}
+use Rattle.mlt_tx_meaning.specs.Presences.{IsOpInRange, account_amount, amount_of, counter_amount}
+use Rattle.mlt_tx_meaning.specs.Worlds.{PagesMeanHistory, World, record_of}
+use Rattle.mlt_tx_meaning.proofs.Replies.{reply_steps}
+
+-- an operation that is a step has an amount in range
+account_small : (op : AccountOp) (reply : ObjReply) (s t : Option ℕ) → AccountStep s op reply t → account_amount op < 2 ^ 64
+account_small Open reply s t step = omega arith
+account_small Close reply s t step = omega arith
+account_small Balance reply s t step = omega arith
+account_small (Deposit n) told.Done (Some b) t step = step.0.0
+account_small (Deposit n) told.Over (Some b) t step = step.0.0
+account_small (Deposit n) told.Missing None t step = step.0
+account_small (Deposit n) _ _ t step = absurd step.0
+account_small (Withdraw n) told.Done (Some b) t step = step.0.0
+account_small (Withdraw n) told.Short (Some b) t step = step.0.0
+account_small (Withdraw n) told.Missing None t step = step.0
+account_small (Withdraw n) _ _ t step = absurd step.0
+
+counter_small : (op : CounterOp) (reply : ObjReply) (s t : ℕ) → CounterStep s op reply t → counter_amount op < 2 ^ 64
+counter_small (Up n) told.Done s t step = step.0.0
+counter_small (Up n) _ s t step = absurd step.0
+counter_small (Down n) told.Done s t step = step.0.0
+counter_small (Down n) _ s t step = absurd step.0
+counter_small Read reply s t step = omega arith
+
+step_small : (op : ObjOp) (reply : ObjReply) (s t : CellState) → CellStep s (op, reply) t → amount_of op < 2 ^ 64
+step_small (Account a op) reply (AccountState s) (AccountState t) step = account_small op reply s t step
+step_small (Element s e op) reply (ElementState p) (ElementState q) step = omega arith
+step_small (Counter c op) reply (CounterState s) (CounterState t) step = counter_small op reply s t step
+step_small (Size s) reply NoState NoState step = omega arith
+step_small _ reply _ _ step = absurd (first_of (cc, grind arith))
+
+module _ (world : World) (op : ObjOp) (h : PagesMeanHistory world) (range : IsInRange (cell_of op)) where
+  -- the reply by the record is a step,
+  steps_by_record : amount_of op < 2 ^ 64 → (after : Base) × Step world.base (op, (reply_of op (record_of world op)).0) after
+  steps_by_record small =
+      let r = reply_of op (record_of world op) in
+      let after = state_of_record (cell_of op) (record_after r.1 (record_of world op)) in
+      let cell = (reply_steps op (record_of world op) (h.records.means.can_be (cell_of op) range) small).0 in
+      (with_state world.base (cell_of op) after, step_to world.base (op, r.0) after (subst (λ (s : CellState). CellStep s (op, r.0) after) (sym (h.records.means.holds (cell_of op) range)) cell) (tells_size (live_records world.pages) world.base op h.records.means range))
+
+  -- and no other reply is
+  pub step_fixes : (reply : ObjReply) (after : Base) → Step world.base (op, reply) after → reply ≡ (reply_of op (record_of world op)).0
+  step_fixes reply after step =
+      let by_record = steps_by_record (step_small op reply _ _ step.0) in
+      (base_one_answer world.base after by_record.0 op reply (reply_of op (record_of world op)).0 step by_record.1).0
+
+pub step_there : (world : World) (op : ObjOp) → PagesMeanHistory world → IsOpInRange op → (after : Base) × Step world.base (op, (reply_of op (record_of world op)).0) after
+step_there world op h is = steps_by_record world op h is.cell is.amount
+
+pub pages_fix : (world : World) (other : Base) → PagesMeanHistory world → Means (live_records world.pages) other → other ≡ world.base
+pages_fix world other h means = one_meaning (live_records world.pages) other world.base means h.records.means
+
+pub history_fixes : (world : World) (other : Base) → PagesMeanHistory world → IsHistory Step empty_base world.history other → other ≡ world.base
+history_fixes world other h leads = follow_to_one Step base_functional base_injective world.history no_lists empty_base other world.base leads h.records.history

@@ -1,0 +1,118 @@
+-- The end of an operation keeps the match.
+use Rattle.std.proofs.Common.{◌≡◌, ℕ, List, [], ◌∷◌, ◌++◌, Contains, refl, sym, subst, ap, ◌∙◌, inl, inr, arith, slice_index_or}
+use Rattle.std.proofs.lemmas.Bool.{cases_eq}
+use Rattle.std.proofs.lemmas.List.Elements.{Contains-append_cases}
+use Rattle.std.specs.FinMap as map
+use Rattle.std.specs.Ordering.{nat_cmp}
+use Rattle.mlt_types.specs.Cells.{IsInRange}
+use Rattle.mlt_types.specs.declared.cell.Cell.{Cell}
+use Rattle.mlt_page.specs.declared.page.Page.{Page}
+use Rattle.mlt_object_kinds.specs.declared.operation.ObjOp.{ObjOp}
+use Rattle.mlt_object_kinds.specs.declared.operation.ObjReply.{ObjReply}
+use Rattle.mlt_object_kinds.specs.Bases.{Base, Step}
+use Rattle.mlt_object_kinds.specs.Operations.{cell_of}
+use Rattle.mlt_object_base.specs.declared.record.RecChange.{RecChange}
+use Rattle.mlt_object_base.specs.Meaning.{Means, changes_of, record_in, records_after, size_record_in, told_by}
+use Rattle.mlt_object_base.specs.Effects.{changes_on}
+use Rattle.mlt_object_base.specs.Records.{HasSizeToUndo, HasWhatIsUndone}
+use Rattle.mlt_object_base.proofs.OperationChanges.{means_step}
+use Rattle.mlt_object_base.proofs.SizeRecords.{has_size_now, has_size_still}
+use Rattle.mlt_object_conflicts.proofs.BaseOrder.{did_may_come}
+use Rattle.mlt_order.specs.Histories.{Lists, after_entry}
+use Rattle.mlt_order.specs.Histories.Entry.{Did}
+use Rattle.mlt_order.specs.Tables.{Gains, with_entry}
+use Rattle.mlt_order.proofs.Tables.{changed}
+use Rattle.mlt_hash_form.specs.Records.{live_records}
+use Rattle.mlt_tx_meaning.specs.Ends.{ChangesPages}
+use Rattle.mlt_tx_meaning.specs.Presences.{presence_of}
+use Rattle.mlt_tx_meaning.specs.Events.{MayDo, with_done}
+use Rattle.mlt_tx_meaning.specs.Worlds.{PagesMeanHistory, World, lists_in, record_of}
+use Rattle.mlt_tx_meaning.proofs.DoneGhosts.{done_keeps_file}
+use Rattle.mlt_tx_meaning.proofs.Matches.{FitsLists, grown, in_range_there, runs}
+use Rattle.mlt_tx_meaning.proofs.RecordChanges.{records_become}
+use Rattle.mlt_tx_meaning.proofs.RecordsAfter.{KeepsRecord, counted_now, counted_still, done_keeps}
+use Rattle.mlt_tx_meaning.proofs.Replies.{IsCount, StepsByRecord, reply_steps}
+use Rattle.mlt_tx_meaning.proofs.Standings.{gain_says, may_do_unopposed}
+
+only_one : (x y : ObjOp × ObjReply) → Contains (x ∷ []) y → x ≡ y
+only_one x y h =
+    let first : h.0 ≡ 0 = omega (arith, h.1) in
+    subst (λ k. slice_index_or (x ∷ []) k y ≡ y) first h.2
+
+-- what is listed with one item more is listed before, or is that item
+listed : (table : ℕ → List (ObjOp × ObjReply)) (tx : ℕ) (item : ObjOp × ObjReply) (F : ObjOp × ObjReply → Type 0) → ((i : ℕ) (x : ObjOp × ObjReply) → Contains (table i) x → F x) → F item
+    → (i : ℕ) (x : ObjOp × ObjReply) → Contains (with_entry table tx (table tx ++ item ∷ []) i) x → F x
+listed table tx item F before new i x there =
+    let now = changed table tx (table tx ++ item ∷ []) in
+    let InList : List (ObjOp × ObjReply) → Type 0 = λ l. Contains l x in
+    elim (cases_eq i tx) [
+      | inl e ↦ elim (Contains-append_cases (table tx) (item ∷ []) x (subst InList (ap (with_entry table tx (table tx ++ item ∷ [])) e ∙ now.0) there)) [
+        | inl old ↦ before tx x old
+        | inr one ↦ subst F (only_one item x one) new
+      ]
+      | inr n ↦ before i x (subst InList (now.1 i n) there)
+    ]
+
+module _ (world : World) (tx : ℕ) (op : ObjOp) (pages : map.FinMap nat_cmp Page) (h : PagesMeanHistory world) where
+  abbrev records : map.FinMap nat_cmp ℕ
+  records = live_records world.pages
+
+  abbrev item : ObjOp × ObjReply
+  item = (op, told_by records op)
+
+  abbrev changes : List (Cell × RecChange)
+  changes = changes_on op (changes_of records op)
+
+  abbrev lists : Lists (ObjOp × ObjReply)
+  lists = lists_in world
+
+  module _ (may : MayDo world tx item) (changed_by : ChangesPages world tx changes pages) where
+    records_are : live_records pages ≡ records_after records changes
+    records_are = records_become world tx changes pages h.file.bounded h.file.form changed_by
+
+    -- its cell makes its step
+    cell_steps : StepsByRecord op (record_of world op)
+    cell_steps = reply_steps op (record_of world op) (h.records.means.can_be (cell_of op) may.in_range.cell) may.in_range.amount
+
+    steps : (after : Base) × Step world.base item after × Means (live_records pages) after
+    steps =
+        let range = may.in_range.cell in
+        let step = means_step records world.base op h.records.means range cell_steps.1 cell_steps.0 in
+        (step.0, step.1, subst (λ (r : map.FinMap nat_cmp ℕ). Means r step.0) (sym records_are) step.2)
+
+    gains : Gains lists.transcripts (after_entry lists (Did tx item)).transcripts tx item
+    gains = changed lists.transcripts tx (lists.transcripts tx ++ item ∷ [])
+
+    in_range_then : (i : ℕ) (x : ObjOp × ObjReply) → Contains ((after_entry lists (Did tx item)).transcripts i) x → IsInRange (cell_of x.0)
+    in_range_then = listed lists.transcripts tx item (λ x. IsInRange (cell_of x.0)) (in_range_there world h) may.in_range.cell
+
+    done_fits : (base : Base) → FitsLists (with_done world tx item pages base) (after_entry lists (Did tx item))
+    done_fits base = record {
+      running = h.records.running;
+      fresh = h.records.fresh;
+      file = done_keeps_file world tx op pages (after_entry lists (Did tx item)).transcripts h may.is_open may.forward may.in_range.cell in_range_then changed_by
+          (gain_says lists.transcripts (after_entry lists (Did tx item)).transcripts tx item gains (presence_of item) refl)
+          (may_do_unopposed world h tx item may (presence_of item) refl);
+      in_range = listed lists.held tx item (λ x. IsInRange (cell_of x.0)) h.records.in_range may.in_range.cell;
+      counted = listed lists.transcripts tx item (λ x. HasWhatIsUndone x (record_in (live_records pages) (cell_of x.0)))
+          (λ i x there. then (λ r. HasWhatIsUndone x (record_in r (cell_of x.0))) (counted_still records changes keeps x (in_range_there world h i x there) (h.records.counted i x there)))
+          (then (λ r. HasWhatIsUndone item (record_in r (cell_of op))) (counted_now records op));
+      sized = listed lists.transcripts tx item (λ x. HasSizeToUndo x (size_record_in (live_records pages) x.0))
+          (λ i x there. then (λ r. HasSizeToUndo x (size_record_in r x.0)) (has_size_still records op x may.in_range.cell (in_range_there world h i x there) (h.records.sized i x there)))
+          (then (λ r. HasSizeToUndo item (size_record_in r op)) (has_size_now records world.base op h.records.means may.in_range.cell cell_steps.1 cell_steps.0));
+    }
+      where
+        then : (F : map.FinMap nat_cmp ℕ → Type 0) → F (records_after records changes) → F (live_records pages)
+        then F has = subst F (sym records_are) has
+
+        keeps : (c : Cell) → IsCount c → KeepsRecord c changes
+        keeps c on = done_keeps records c op on may.in_range.cell
+
+    pub operation_keeps : (base : Base) × Step world.base item base × PagesMeanHistory (with_done world tx item pages base)
+    operation_keeps =
+        let step = steps in (
+          step.0,
+          step.1,
+          grown (with_done world tx item pages step.0) world.history (Did tx item) world.base refl
+              step.2 h.records.history (did_may_come lists world.base step.0 tx item (runs world h tx may.is_open) step.1 may.free) (done_fits step.0),
+        )

@@ -1,0 +1,78 @@
+-- What changes leave of the map of the records.
+use Rattle.std.proofs.Common.{◌≡◌, ℕ, List, [], ◌∷◌, ◌++◌, Option, Some, None, refl, ap, ◌∙◌, inl, inr}
+use Rattle.std.specs.FinMap as map
+use Rattle.std.specs.FinSet as set
+use Rattle.std.specs.Ordering.{nat_cmp}
+use Rattle.mlt_types.specs.Cells.{key_number}
+use Rattle.mlt_types.specs.Maps.{with_entry}
+use Rattle.mlt_types.specs.declared.cell.Cell.{Cell}
+use Rattle.mlt_page.specs.Slots.{is_kept}
+use Rattle.mlt_page.specs.declared.page.Page.{Page}
+use Rattle.mlt_page.specs.declared.slot.Slot.TheVariants.{Live}
+use Rattle.mlt_object_base.specs.declared.record.RecChange.{RecChange}
+use Rattle.mlt_object_base.specs.declared.record.RecChange.TheVariants as rec
+use Rattle.mlt_object_base.specs.Meaning.{records_after}
+use Rattle.mlt_object_base.specs.Records.{record_after}
+use Rattle.mlt_hash_form.specs.File.{FilePages, GivesPseudokeys, HasForm, buckets_of, lead_of, look_up}
+use Rattle.mlt_hash_form.specs.Form.{HasSlot}
+use Rattle.mlt_hash_form.specs.Records.{live_records}
+use Rattle.mlt_hash_form.proofs.InPages.{same_option}
+use Rattle.mlt_hash_form.proofs.Lookup.{found}
+use Rattle.mlt_hash_form.proofs.MapChanges.{changed_map}
+use Rattle.mlt_hash.specs.Passes.{value_after}
+use Rattle.mlt_hash.specs.declared.pass.Change.{Change}
+use Rattle.mlt_hash_ghosts.specs.Moves.{MovesSlots}
+use Rattle.mlt_tx_two_records.specs.Performing.{Performs}
+use Rattle.mlt_tx_meaning.specs.Ends.{ChangesPages, LeavesChange}
+use Rattle.mlt_tx_meaning.specs.Worlds.{World, record_at}
+use Rattle.mlt_tx_meaning.proofs.Matches.{kept_pages}
+
+-- what is done leaves the value that the change of the record asks for
+performed : (change : RecChange) (live : Option ℕ) (done : Change) → Performs change live done → value_after done ≡ record_after (Some change) live
+performed (rec.Add v) live done (inl is) = ap value_after is
+performed (rec.Add v) live done (inr is) = ap value_after is
+performed (rec.Set v) live done is = ap value_after is
+performed rec.ToGhost live done is = ap value_after is
+performed rec.Revive live done is = ap value_after is
+performed (rec.Plus n) (Some v) done is = ap value_after is
+performed (rec.Minus n) (Some v) done is = ap value_after is
+performed (rec.Plus n) None done is = absurd is
+performed (rec.Minus n) None done is = absurd is
+
+-- where slots are moved, each key has the value that it had
+moved_values : (bits : ℕ → ℕ) (opens : set.FinSet nat_cmp) (before after : FilePages) (root : ℕ) → MovesSlots bits (is_kept opens) before after root → HasForm bits before root
+    → (key : ℕ) → look_up bits after root key ≡ look_up bits before root key
+moved_values bits opens before after root moves form key =
+    let now_found = λ (v : ℕ). found bits _ (lead_of after root) (buckets_of after) moves.form.form key v in
+    let was_found = λ (v : ℕ). found bits _ (lead_of before root) (buckets_of before) form.form key v in
+    let back = λ (v : ℕ) (h : HasSlot (buckets_of after) (Live key v)). let b = moves.stood h.0 h.1 (rw h.2 refl) in
+    let was : HasSlot (buckets_of before) (Live key v) = (b.0, h.1, b.1 ∙ h.2) in was in
+    let on = λ (v : ℕ) (h : HasSlot (buckets_of before) (Live key v)). moves.kept (Live key v) refl h in
+    same_option _ _ (λ v e. (was_found v).0 (back v ((now_found v).1 e))) (λ v e. (now_found v).0 (on v ((was_found v).1 e)))
+
+-- the record of the cell becomes what the change makes of it, and no other record changes
+changed_records : (world : World) (tx : ℕ) (cell : Cell) (change : RecChange) (pages : map.FinMap nat_cmp Page) → GivesPseudokeys world.bits → HasForm world.bits (map.get world.pages) world.root → (e : LeavesChange world tx cell change pages)
+    → live_records pages ≡ with_entry (live_records world.pages) (key_number cell) (record_after (Some change) (record_at world cell))
+changed_records world tx cell change pages bounded form e =
+    changed_map world.bits world.pages pages world.root (key_number cell) (value_after e.done) bounded form e.changes.form e.changes.here
+    (λ k ne. e.changes.others k ne ∙ moved_values world.bits world.opens (map.get world.pages) e.rest world.root e.moves form k)
+    ∙ ap (with_entry (live_records world.pages) (key_number cell)) (performed change (record_at world cell) e.done e.performs)
+
+-- **The records become what the changes make of them, one after the other.**
+pub records_become : (world : World) (tx : ℕ) (changes : List (Cell × RecChange)) (pages : map.FinMap nat_cmp Page) → GivesPseudokeys world.bits → HasForm world.bits (map.get world.pages) world.root → ChangesPages world tx changes pages
+    → live_records pages ≡ records_after (live_records world.pages) changes
+records_become world tx [] pages bounded form keeps = ap live_records (kept_pages world pages keeps)
+records_become world tx (change ∷ []) pages bounded form e = changed_records world tx change.0 change.1 pages bounded form e
+records_become world tx (change ∷ next ∷ changes) pages bounded form e =
+    records_become (record world { pages = e.0 }) tx (next ∷ changes) pages bounded e.1.changes.form e.2
+    ∙ ap (λ (records : map.FinMap nat_cmp ℕ). records_after records (next ∷ changes)) (changed_records world tx change.0 change.1 e.0 bounded form e.1)
+
+-- **Changes are made in two parts, if they are made one after the other.**
+pub changes_split : (world : World) (tx : ℕ) (first second : List (Cell × RecChange)) (pages : map.FinMap nat_cmp Page) → ChangesPages world tx (first ++ second) pages
+    → (between : map.FinMap nat_cmp Page) × ChangesPages world tx first between × ChangesPages (record world { pages = between }) tx second pages
+changes_split world tx [] second pages e = (world.pages, λ q. refl, e)
+changes_split world tx (change ∷ []) [] pages e = (pages, e, λ q. refl)
+changes_split world tx (change ∷ []) (next ∷ second) pages e = (e.0, e.1, e.2)
+changes_split world tx (change ∷ next ∷ first) second pages e =
+    let rest = changes_split (record world { pages = e.0 }) tx (next ∷ first) second pages e.2 in
+    (rest.0, (e.0, e.1, rest.1), rest.2)

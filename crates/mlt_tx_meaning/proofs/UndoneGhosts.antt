@@ -1,0 +1,44 @@
+-- All that takes an operation back keeps the file with its ghosts.
+use Rattle.std.proofs.Common.{◌≡◌, ℕ, true, Option, sym}
+use Rattle.std.specs.FinMap as map
+use Rattle.std.specs.Ordering.{nat_cmp}
+use Rattle.mlt_types.specs.Cells.{IsInRange}
+use Rattle.mlt_page.specs.declared.page.Page.{Page}
+use Rattle.mlt_object_kinds.specs.declared.operation.ObjOp.{ObjOp}
+use Rattle.mlt_object_kinds.specs.declared.operation.ObjReply.{ObjReply}
+use Rattle.mlt_object_kinds.specs.Operations.{cell_of}
+use Rattle.mlt_object_base.specs.declared.record.RecChange.{RecChange}
+use Rattle.mlt_object_base.specs.Effects.{changes_on, inverse_of, own_change_on, size_change_on, size_inverse_of}
+use Rattle.mlt_object_base.specs.Meaning.{changes_back}
+use Rattle.mlt_hash_ghosts.specs.Operations.{Presence, Standing}
+use Rattle.mlt_tx_meaning.specs.Ends.{ChangesPages}
+use Rattle.mlt_tx_meaning.specs.Presences.{op_key, presence_of}
+use Rattle.mlt_tx_meaning.specs.Events.{IsOpenAt}
+use Rattle.mlt_tx_meaning.specs.Worlds.{IsFileWithGhosts, PagesMeanHistory, World, ledger_with, stood_in}
+use Rattle.mlt_tx_meaning.proofs.ChangeGhosts.{KeepsResized, added_back, file_stays, lowered, raised, removed_back, resized}
+use Rattle.mlt_tx_meaning.proofs.Inverses.{by_inverse, by_size_inverse}
+use Rattle.mlt_tx_meaning.proofs.RecordChanges.{changes_split}
+use Rattle.mlt_tx_meaning.proofs.Standings.{Says}
+
+module _ (world : World) (tx : ℕ) (item : ObjOp × ObjReply) (pages : map.FinMap nat_cmp Page) (standing : Standing) (h : PagesMeanHistory world) (is_open : IsOpenAt world tx) (backward : world.undoing tx ≡ true) (is : IsInRange (cell_of item.0)) where
+  -- the record of its own cell
+  abbrev LeavesFile : map.FinMap nat_cmp Page → Option Presence → Option RecChange → Type 0
+  LeavesFile between said change = ChangesPages world tx (own_change_on item.0 change) between → Says said standing (stood_in world) tx (op_key item.0)
+      → IsFileWithGhosts (ledger_with (record world { pages = between }) standing) world.max_depth
+
+  own_keeps_file : (between : map.FinMap nat_cmp Page) → LeavesFile between (presence_of item) (inverse_of item)
+  own_keeps_file between = by_inverse item (LeavesFile between) (record {
+    added = added_back world tx (cell_of item.0) between (stood_in world) standing h.file is_open backward;
+    removed = removed_back world tx (cell_of item.0) between (stood_in world) standing h.file is_open;
+    lowered = lowered world tx (cell_of item.0) between (stood_in world) standing h.file is_open;
+    raised = raised world tx (cell_of item.0) between (stood_in world) standing h.file is_open;
+    stays = λ same says. file_stays world between (stood_in world) standing h.file same (sym says);
+  })
+
+  pub undone_keeps_file : ChangesPages world tx (changes_on item.0 (changes_back item)) pages → Says (presence_of item) standing (stood_in world) tx (op_key item.0)
+      → IsFileWithGhosts (ledger_with (record world { pages = pages }) standing) world.max_depth
+  undone_keeps_file changes says =
+      let split = changes_split world tx (own_change_on item.0 (inverse_of item)) (size_change_on item.0 (size_inverse_of item)) pages changes in
+      let own = own_keeps_file split.0 split.1 says in
+      let between : World = record world { pages = split.0 } in
+      by_size_inverse item (KeepsResized between tx item.0 pages standing own is_open is) (resized between tx item.0 pages standing own is_open is) split.2

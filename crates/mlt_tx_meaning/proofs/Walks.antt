@@ -1,0 +1,135 @@
+-- Walks on pages that match a history: what they find, and where they stand when others begin and end.
+use Rattle.std.proofs.Common.{◌≡◌, ℕ, ◌+◌, true, List, Option, Some, refl, sym, subst, ap, ◌∙◌, arith}
+use Rattle.std.specs.Prelude.{position, slice_index_or}
+use Rattle.std.specs.FinMap as map
+use Rattle.std.specs.FinSet as set
+use Rattle.std.proofs.lemmas.Bool.{false≢true}
+use Rattle.mlt_types.specs.Cells.{key_number}
+use Rattle.mlt_types.specs.declared.cell.Cell.{Cell}
+use Rattle.mlt_page.specs.Slots.{is_ghost_of, is_kept}
+use Rattle.mlt_page.specs.Values.{BucketFields}
+use Rattle.mlt_page.specs.declared.page.Page.{Page}
+use Rattle.mlt_page.specs.declared.slot.Slot.{Slot}
+use Rattle.mlt_page.specs.declared.slot.Slot.TheVariants.{Free, Live, Ghost}
+use Rattle.mlt_object_kinds.specs.declared.operation.ObjOp.{ObjOp}
+use Rattle.mlt_object_kinds.specs.declared.operation.ObjReply.{ObjReply}
+use Rattle.mlt_object_kinds.specs.Operations.{cell_of}
+use Rattle.mlt_object_base.specs.declared.record.RecChange.{RecChange}
+use Rattle.mlt_object_base.specs.declared.record.RecChange.TheVariants as rec
+use Rattle.mlt_object_base.specs.Effects.{inverse_of}
+use Rattle.mlt_object_base.specs.Records.{CanChange}
+use Rattle.mlt_hash_form.specs.File.{bucket_of, buckets_of, lead_of, look_up}
+use Rattle.mlt_hash_form.specs.Form.{slot_at}
+use Rattle.mlt_hash_form.specs.Held.{Agrees}
+use Rattle.mlt_hash_form.proofs.InPages.{led_at}
+use Rattle.mlt_hash_form.proofs.MapChanges.{map_is_look_up}
+use Rattle.mlt_hash_access.specs.Views.{View}
+use Rattle.mlt_hash_split.specs.Rests.{KeepsNoMore}
+use Rattle.mlt_hash.specs.Changes.{HasOwnGhost, page_of}
+use Rattle.mlt_hash.specs.Walks.{HasRead, IsAtBucket, IsStanding, Stands, WalkFields}
+use Rattle.mlt_hash.specs.declared.pass.Phase.{Phase}
+use Rattle.mlt_hash.specs.declared.pass.Phase.TheVariants as at
+use Rattle.mlt_hash.proofs.Laws.{path_taken}
+use Rattle.mlt_hash.proofs.Owners.{stands_still}
+use Rattle.mlt_hash.proofs.Passed.{read_at_bucket}
+use Rattle.mlt_hash.proofs.Standings.{found_still}
+use Rattle.mlt_hash_ghosts.specs.Ledgers.{last_by}
+use Rattle.mlt_hash_ghosts.specs.Operations.{Presence, Removed, last_of}
+use Rattle.mlt_hash_ghosts.proofs.GhostLookup.{undone_found}
+use Rattle.mlt_tx_meaning.specs.Presences.{op_key, presence_of, presences_on}
+use Rattle.mlt_tx_meaning.specs.Events.{MayUndo}
+use Rattle.mlt_tx_meaning.specs.Worlds.{PagesMeanHistory, World, basis_of, ledger_of, record_at}
+use Rattle.mlt_tx_meaning.proofs.Inverses.{by_inverse}
+use Rattle.mlt_tx_meaning.proofs.OpenNumbers.{inserted_beside, removed_was}
+use Rattle.mlt_tx_meaning.proofs.Transcripts.{last_is}
+use Rattle.mlt_tx_meaning.proofs.Undoing.{inverse_can}
+
+-- ---- what is found
+
+pub record_looked_up : (world : World) (cell : Cell) → PagesMeanHistory world → record_at world cell ≡ look_up world.bits (map.get world.pages) world.root (key_number cell)
+record_looked_up world cell h = map_is_look_up world.bits world.pages world.root h.file.bounded h.file.form (key_number cell)
+
+pub found_is_record : (world : World) (tx : ℕ) (cell : Cell) (key : ℕ) (view : View) (found : Option ℕ) → PagesMeanHistory world → HasRead (basis_of world tx) key view found → key ≡ key_number cell → Agrees view.seen (map.get world.pages)
+    → found ≡ record_at world cell
+found_is_record world tx cell key view found h read key_is agree =
+    found_still (basis_of world tx) key view found (map.get world.pages) read agree
+    ∙ ap (look_up world.bits (map.get world.pages) world.root) key_is ∙ sym (record_looked_up world cell h)
+
+-- ---- what is taken back
+
+-- what is undone by reviving a ghost was a removal
+revives_removal : (item : ObjOp × ObjReply) → inverse_of item ≡ Some rec.Revive → presence_of item ≡ Some Removed
+revives_removal item =
+    let Follows : Option Presence → Option RecChange → Type 0 = λ p c. c ≡ Some rec.Revive → p ≡ Some Removed in
+    by_inverse item Follows (record {
+      added = λ e. absurd (cc e);
+      removed = λ e. refl;
+      lowered = λ n e. absurd (cc e);
+      raised = λ n e. absurd (cc e);
+      stays = λ e. absurd (cc e);
+    })
+
+-- the ghost of a removal that is to be taken back is in the bucket of its key
+pub ghost_there : (world : World) (tx : ℕ) (item : ObjOp × ObjReply) → PagesMeanHistory world → MayUndo world tx item → inverse_of item ≡ Some rec.Revive
+    → (i : ℕ) × (position (is_ghost_of (op_key item.0) tx) (buckets_of (map.get world.pages) (lead_of (map.get world.pages) world.root (world.bits (op_key item.0)))).slots ≡ Some i)
+ghost_there world tx item h may revives =
+    let stood : last_by (ledger_of world) tx (op_key item.0) ≡ Some Removed =
+    ap (λ (t : List (ObjOp × ObjReply)). last_of (presences_on (op_key item.0) t)) may.last ∙ last_is may.rest item Removed (revives_removal item revives)
+    in
+    ((undone_found (ledger_of world) tx (op_key item.0) h.file.ghosts h.file.form may.is_open).1 stood).0
+
+module _ (world : World) (tx : ℕ) (item : ObjOp × ObjReply) (walk : WalkFields) (view : View) (bucket depth : ℕ) (found : Option ℕ)
+    (h : PagesMeanHistory world) (may : MayUndo world tx item) (phase : walk.phase ≡ at.AtBucket bucket depth found) (key_is : walk.key ≡ op_key item.0) (stands : IsStanding (basis_of world tx) walk view) (agree : Agrees view.seen (map.get world.pages)) where
+  here : IsAtBucket (basis_of world tx) walk view bucket depth found
+  here = subst (λ (p : Phase). Stands p (basis_of world tx) walk view) phase stands
+
+  undo_can : CanChange (inverse_of item) found
+  undo_can =
+      let is = found_is_record world tx (cell_of item.0) walk.key view found h (read_at_bucket (basis_of world tx) walk view bucket depth found here) key_is agree in
+      subst (CanChange (inverse_of item)) (sym is) (inverse_can world tx item h may)
+
+  own_ghost : inverse_of item ≡ Some rec.Revive → HasOwnGhost tx walk view
+  own_ghost revives =
+      let pages = map.get world.pages in
+      let Ghost : ℕ → Type 0 = λ key. (i : ℕ) × (position (is_ghost_of key tx) (buckets_of pages (lead_of pages world.root (world.bits key))).slots ≡ Some i) in
+      let ghost = subst Ghost (sym key_is) (ghost_there world tx item h may revives) in
+      let led = led_at pages world.root (world.bits walk.key) here.header here.dir bucket here.fields (path_taken (basis_of world tx) walk view bucket depth found pages here agree) in
+      let slots : (buckets_of pages (lead_of pages world.root (world.bits walk.key))).slots ≡ here.fields.slots =
+      ap (λ (n : ℕ). (buckets_of pages n).slots) led.0 ∙ ap (λ (b : BucketFields). b.slots) led.1
+      in
+      (here.fields, ghost.0, record { at = ap (λ (p : Phase). view.seen (page_of p)) phase ∙ here.at }, ap (position (is_ghost_of walk.key tx)) (sym slots) ∙ ghost.1)
+
+  pub undone_is_there : CanChange (inverse_of item) found × (inverse_of item ≡ Some rec.Revive → HasOwnGhost tx walk view)
+  undone_is_there = (undo_can, own_ghost)
+
+-- ---- others begin and end
+
+module _ (world : World) (view : View) (h : PagesMeanHistory world) (agree : Agrees view.seen (map.get world.pages)) where
+  -- the next number left no ghost
+  kept_without_new : (n i : ℕ) (slot : Slot) → slot_at (buckets_of (map.get world.pages)) n i ≡ slot → is_kept (set.insert world.opens (world.begun + 1)) slot ≡ true → is_kept world.opens slot ≡ true
+  kept_without_new n i Free is kept = absurd (false≢true kept)
+  kept_without_new n i (Live key value) is kept = refl
+  kept_without_new n i (Ghost key value owner) is kept =
+      let low = h.file.ghosts.left owner key n i (value, is) in
+      sym (inserted_beside world.opens (world.begun + 1) owner (λ e. absurd (omega (arith, low, e)))) ∙ kept
+
+  kept_by_fewer : (slot : Slot) (x : ℕ) → is_kept (set.remove world.opens x) slot ≡ true → is_kept world.opens slot ≡ true
+  kept_by_fewer Free x kept = absurd (false≢true kept)
+  kept_by_fewer (Live key value) x kept = refl
+  kept_by_fewer (Ghost key value owner) x kept = removed_was world.opens x owner kept
+
+  -- on the pages that are seen no more slots are kept than before
+  pub no_more_by_begin : KeepsNoMore world.opens (set.insert world.opens (world.begun + 1)) view
+  no_more_by_begin n p sees i kept =
+      kept_without_new n i (slice_index_or (bucket_of p).slots i Free) (ap (λ (q : Option Page). slice_index_or (bucket_of q).slots i Free) (agree n p sees)) kept
+
+  pub no_more_by_end : (other : ℕ) → KeepsNoMore world.opens (set.remove world.opens other) view
+  no_more_by_end other n p sees i kept = kept_by_fewer (slice_index_or (bucket_of p).slots i Free) other kept
+
+module _ (world : World) (tx : ℕ) (walk : WalkFields) (view : View) (h : PagesMeanHistory world) (stands : IsStanding (basis_of world tx) walk view) (agree : Agrees view.seen (map.get world.pages)) where
+  pub stands_by_begin : IsStanding (record (basis_of world tx) { opens = set.insert world.opens (world.begun + 1) }) walk view
+  stands_by_begin = stands_still (basis_of world tx) (set.insert world.opens (world.begun + 1)) walk view (map.get world.pages) (no_more_by_begin world view h agree) agree h.file.form stands
+
+  pub stands_by_end : (other : ℕ) → IsStanding (record (basis_of world tx) { opens = set.remove world.opens other }) walk view
+  stands_by_end other =
+      stands_still (basis_of world tx) (set.remove world.opens other) walk view (map.get world.pages) (no_more_by_end world view h agree other) agree h.file.form stands

@@ -1,0 +1,208 @@
+//! The table of open transactions.
+
+ghost use Rattle.std.specs.Prelude.{◌≡◌, ◌≤◌, None, Some, IsSome, OnOk, OnErr, IsOkUnless, IfOk, IfSome, IfNone, option_copied};
+ghost use Rattle.std.specs.FinMap as map;
+ghost use Rattle.mlt_types.specs.Maps.{with_entry};
+ghost use Rattle.mlt_page_subtx.specs.Images.{AreThere};
+ghost use Rattle.mlt_hash.specs.Walks.{basis_in};
+ghost use Rattle.mlt_tx.specs.declared.transaction.Transaction.{Transaction as TransactionFields};
+ghost use Rattle.mlt_tx.specs.AtOnce.{MayCallAtOnce};
+ghost use Rattle.mlt_tx.specs.Transactions.{IsPending, MayStepIn};
+ghost use Rattle.mlt_tx_open.specs.Tables.{BeginsOne, CallsNone, CallsOne, CallsOneAtOnce, CancelsOne, KeepsImage, KeepsNoImage, PutsOneAt, StepsOne};
+
+use crate::berth::Berth;
+use crate::mooring::{Mooring, free_mooring, image_in, mooring_of};
+use mlt_event::Answer;
+use mlt_hash::Setting;
+use mlt_object_kinds::{ObjOp, ObjReply};
+use mlt_page::Page;
+use mlt_tx::{At, Commons, Transaction};
+use mlt_types::{PageNo, Pseudo, Refusal, TxId};
+use std::alloc::Global;
+use std::marker::Model;
+
+/// The open transactions. A contract sees a finite map from their numbers.
+///
+/// There are so few at a time that the mooring of one is found by going through all. That of a transaction that has ended is used
+/// again, with its berth and the room of its undo list.
+#[derive(Drop)]
+pub struct OpenTransactions {
+    alloc: Global,
+    moorings: Vec<Mooring>,
+    /// How many moorings are taken.
+    taken: usize,
+}
+
+impl Model for OpenTransactions {
+    ghost use Rattle.std.specs.FinMap as map;
+    ghost use Rattle.std.specs.Ordering.{nat_cmp};
+    ghost use Rattle.std.specs.Coded.{coded_ℕ};
+    ghost use Rattle.mlt_tx.specs.declared.transaction.Transaction.{Transaction};
+    ghost use Rattle.mlt_tx.specs.contracts.transaction.Transaction.{the_row};
+    ghost use Rattle.mlt_tx_open.specs.Moorings.{AreMoored, table_of};
+
+    ghost Value = { map.FinMap nat_cmp Transaction };
+
+    ghost coded = { map.code coded_ℕ the_row.coded };
+
+    ghost view = { λ table. table_of table.moorings.items };
+
+    ghost invariant = { λ table. AreMoored table.moorings.items table.taken };
+}
+
+impl OpenTransactions {
+    /// No transaction. It takes no memory.
+    pub fn new(alloc: Global) -> OpenTransactions
+        ensures { result ≡ map.empty }
+    {
+        OpenTransactions {
+            alloc,
+            moorings: Vec::new(alloc),
+            taken: 0,
+        }
+    }
+
+    /// How many are open.
+    pub fn len(&self) -> usize
+        ensures { result ≡ map.len self.now }
+    {
+        self.taken
+    }
+
+    /// The transaction of a number, if it is open.
+    pub fn get(&self, tx: TxId) -> Option<&Transaction>
+        ensures { option_copied result ≡ map.get self.now tx }
+    {
+        let place = mooring_of(&self.moorings, tx)?;
+        Some(self.moorings[place].berth.get())
+    }
+
+    /// The first image of a page that an open transaction keeps, if one does. It takes no memory.
+    pub fn first_image(&self, page: PageNo) -> Option<&Option<Page>>
+        ensures kept { IfSome result (λ first. KeepsImage self.now page first.now) }
+        ensures none { IfNone result (KeepsNoImage self.now page) }
+    {
+        image_in(&self.moorings, page)
+    }
+
+    /// Opens a transaction of a number, which has done nothing.
+    ///
+    /// # Errors
+    /// `OutOfMemory`, where a growth was refused; the table is then as before.
+    pub fn begin(&mut self, tx: TxId) -> Result<(), Refusal>
+        ensures begins { OnOk result (BeginsOne tx self.old self.new) }
+        ensures err { OnErr result (self.new ≡ self.old) }
+        ensures refusal { IsOkUnless result Refusal.OutOfMemory }
+    {
+        if let Some(place) = mooring_of(&self.moorings, tx) {
+            self.moorings[place].berth.restart(self.alloc, tx);
+            return Ok(());
+        }
+        if let Some(place) = free_mooring(&self.moorings) {
+            self.moorings[place].give_to(self.alloc, tx);
+            self.taken += 1;
+            return Ok(());
+        }
+        let mooring = Mooring::new(self.alloc, tx)?;
+        self.moorings.push(mooring)?;
+        self.taken += 1;
+        Ok(())
+    }
+
+    /// Takes the transaction of a number out, if it is open. It takes no memory.
+    pub fn remove(&mut self, tx: TxId)
+        ensures { self.new ≡ with_entry self.old tx None }
+    {
+        if let Some(place) = mooring_of(&self.moorings, tx) {
+            self.moorings[place].is_free = true;
+            self.taken -= 1;
+        }
+    }
+
+    /// Calls the transaction of a number, which is open and at nothing, with an operation.
+    ///
+    /// # Errors
+    /// `OutOfMemory`, where a growth was refused; the transaction is then still at nothing.
+    pub fn call(&mut self, tx: TxId, commons: &mut Commons, op: ObjOp) -> Result<(), Refusal>
+        requires is_open { (t : TransactionFields) × (map.get self.old tx ≡ Some t)
+            × (t.at ≡ At.Idle) }
+        ensures calls { OnOk result (CallsOne tx op self.old self.new commons.old commons.new) }
+        ensures err { OnErr result (CallsNone tx self.old self.new commons.old commons.new) }
+        ensures refusal { IsOkUnless result Refusal.OutOfMemory }
+    {
+        let Some(place) = mooring_of(&self.moorings, tx) else {
+            unreachable!()
+        };
+        self.moorings[place].berth.call(commons, op)
+    }
+
+    /// Calls the transaction of a number, which is open and at nothing, with an operation, and takes all its steps at once, while
+    /// nobody holds a page. It answers the reply, if the operation is done; else the operation is pending.
+    ///
+    /// # Errors
+    /// `OutOfMemory`, where a growth was refused; the transaction is then still at nothing.
+    pub fn call_at_once<P: Pseudo>(
+        &mut self,
+        tx: TxId,
+        commons: &mut Commons,
+        op: ObjOp,
+        setting: &Setting<P>,
+    ) -> Result<Option<ObjReply>, Refusal>
+        requires is_open { (t : TransactionFields) × (map.get self.old tx ≡ Some t)
+            × MayCallAtOnce (basis_in P.bits_of setting.now t.subtx.tx) op t commons.old }
+        ensures calls { IfOk result (λ told. CallsOneAtOnce told (basis_in P.bits_of setting.now)
+            tx op self.old self.new commons.old commons.new) }
+        ensures err { OnErr result (CallsNone tx self.old self.new commons.old commons.new) }
+        ensures refusal { IsOkUnless result Refusal.OutOfMemory }
+    {
+        let Some(place) = mooring_of(&self.moorings, tx) else {
+            unreachable!()
+        };
+        self.moorings[place]
+            .berth
+            .call_at_once(commons, op, setting)
+    }
+
+    /// One step of the transaction of a number, which is open and not idle.
+    pub fn step<P: Pseudo>(
+        &mut self,
+        tx: TxId,
+        commons: &mut Commons,
+        setting: &Setting<P>,
+    ) -> Answer
+        requires is_open { (t : TransactionFields) × (map.get self.old tx ≡ Some t)
+            × MayStepIn (basis_in P.bits_of setting.now t.subtx.tx) t commons.old }
+        ensures steps { StepsOne (basis_in P.bits_of setting.now) tx self.old self.new
+            commons.old commons.new result }
+    {
+        match mooring_of(&self.moorings, tx) {
+            Some(place) => self.moorings[place].berth.step(commons, setting),
+            None => unreachable!(),
+        }
+    }
+
+    /// Drops the pending operation of the transaction of a number, which is open and has one. It takes no memory.
+    pub fn cancel(&mut self, tx: TxId, commons: &mut Commons)
+        requires is_open { (t : TransactionFields) × (map.get self.old tx ≡ Some t)
+            × IsPending t.at × AreThere t.subtx.images commons.old.pages.store.pages
+            × (2 ≤ commons.old.history.room) }
+        ensures cancels { CancelsOne tx self.old self.new commons.old commons.new }
+    {
+        let Some(place) = mooring_of(&self.moorings, tx) else {
+            unreachable!()
+        };
+        self.moorings[place].berth.cancel(commons);
+    }
+
+    /// Puts the transaction of a number, which is open, at something else: at an operation that it is called with, or at
+    /// its abort. It takes no memory.
+    pub fn put_at(&mut self, tx: TxId, at: At)
+        requires is_open { IsSome (map.get self.old tx) }
+        ensures puts { PutsOneAt tx at self.old self.new }
+    {
+        let Some(place) = mooring_of(&self.moorings, tx) else {
+            unreachable!()
+        };
+        self.moorings[place].berth.put_at(at);
+    }
+}

@@ -1,0 +1,272 @@
+-- What an operation leaves at its bucket
+use Rattle.std.proofs.Common.{◌≡◌, ℕ, ◌+◌, Option, None, Some, refl, sym, ap, subst, ◌∙◌, inl, inr, arith}
+use Rattle.std.specs.FinMap as map
+use Rattle.std.proofs.lemmas.Bool.Decides.{nat_tests}
+use Rattle.mlt_types.specs.declared.mode.Mode.{Mode}
+use Rattle.mlt_types.specs.declared.mode.Mode.TheVariants.{Exclusive}
+use Rattle.mlt_page.specs.declared.page.Page.{Page}
+use Rattle.mlt_object_kinds.specs.declared.operation.ObjReply.{ObjReply}
+use Rattle.mlt_object_base.specs.declared.record.RecChange.{RecChange}
+use Rattle.mlt_object_base.specs.declared.record.RecChange.TheVariants.{Add, Revive}
+use Rattle.mlt_object_base.specs.Records.{CanChange}
+use Rattle.mlt_object_base.specs.Requests.{decision, size_key_of, target_of}
+use Rattle.mlt_hash_form.specs.File.{look_up}
+use Rattle.mlt_hash_form.specs.Held.{Agrees}
+use Rattle.mlt_hash_access.specs.Moments.{Moment}
+use Rattle.mlt_hash_access.specs.PageSteps.{Leaves}
+use Rattle.mlt_hash_access.specs.PageTurns.{IsRolledBack}
+use Rattle.mlt_hash_access.specs.Views.{View, view_of}
+use Rattle.mlt_page_locks.specs.LockTables.{LockTable, pages_of}
+use Rattle.mlt_page_locks.specs.Requests.{released}
+use Rattle.mlt_page_locks.proofs.LockLaws.{pages_of-released}
+use Rattle.mlt_page_subtx.specs.Images.{Running, put_back, started}
+use Rattle.mlt_hash_access.proofs.Leaving.{leaves_it}
+use Rattle.mlt_hash_access.proofs.Views.{agrees}
+use Rattle.mlt_hash.specs.Walks.{Basis, HasRead, IsChanged, Stands, WalkFields, one_key}
+use Rattle.mlt_hash.specs.Changes.{HasNoRoom, HasOwnGhost, MayChange, MustWiden, NeedsSplit, WritesIfChanged, page_of}
+use Rattle.mlt_hash.specs.Passes.{next_of}
+use Rattle.mlt_hash.specs.Steps.{HasFound, IsSameWalk, steps_to_bucket}
+use Rattle.mlt_hash.specs.StepsLeft.{steps_to_put_at}
+use Rattle.mlt_hash.specs.declared.pass.Change.{Change}
+use Rattle.mlt_hash.specs.declared.pass.Phase.{Phase}
+use Rattle.mlt_hash.specs.declared.pass.Phase.TheVariants as at
+use Rattle.mlt_hash.specs.declared.answer.WalkAnswer.TheVariants as answer
+use Rattle.mlt_hash.specs.declared.pass.Pass.TheVariants as pass
+use Rattle.mlt_hash.proofs.Laws.{at_start, found_there}
+use Rattle.mlt_hash.proofs.Passed.{read_of}
+use Rattle.mlt_hash.proofs.Standings.{found_still}
+use Rattle.mlt_types.specs.declared.refusal.Refusal.{Refusal}
+use Rattle.mlt_types.specs.declared.refusal.Refusal.TheVariants as refusal
+use Rattle.mlt_tx_operation.specs.declared.answer.StepAnswer.TheVariants as step
+use Rattle.mlt_object_base.specs.declared.request.Request.{Request}
+use Rattle.mlt_object_base.specs.declared.request.Request.TheVariants.{Do, TakeBack}
+use Rattle.mlt_tx_operation.specs.Answers.{HasToRestart}
+use Rattle.mlt_tx_operation.specs.AtBucket.{BeginsAgain, FindsNoRoom, Finishes, SplitsInPass, IsThereFor, MayDecide, TellsAtBucket}
+use Rattle.mlt_tx_operation.specs.Walking.{FitsPhase, HasPerformed, IsToAdd, IsTold, WalkingFields}
+use Rattle.mlt_tx_two_records.specs.Performing.{AsksToAdd}
+use Rattle.mlt_tx_operation.specs.Performing.{IsMade, OfAddition, TellsOfDecision}
+use Rattle.mlt_tx_operation.proofs.Deciding.{changes_exclusively, never_revives}
+
+-- what was decided on locks the bucket exclusively
+target_exclusive : (request : Request) (found : Option ℕ) (reply : ObjReply) (change : RecChange) → decision request found ≡ (reply, Some change) → (target_of request).1 ≡ Exclusive
+target_exclusive (Do op) found reply change is = changes_exclusively op found reply change is
+target_exclusive (TakeBack done) found reply change is = refl
+
+pub may_change : (basis : Basis) (m : Moment) (o : WalkingFields) (found : Option ℕ) (reply : ObjReply) (change : RecChange)
+    → MayDecide (one_key basis) m o found → decision o.request found ≡ (reply, Some change) → MayChange (one_key basis) m o.walk
+may_change basis m o found reply change may is = record {
+  walks = may.walks;
+  exclusive = ap (λ (t : ℕ × Mode). t.1) may.target ∙ target_exclusive o.request found reply change is;
+}
+
+-- the ghost that is to be revived is there
+ghost_for : (request : Request) (basis : Basis) (walk : WalkFields) (view : View) (found : Option ℕ) (reply : ObjReply)
+    → IsThereFor request (one_key basis) walk view found → decision request found ≡ (reply, Some Revive) → HasOwnGhost basis.tx walk view
+ghost_for (Do op) basis walk view found reply there is = absurd (never_revives op found reply is)
+ghost_for (TakeBack done) basis walk view found reply there is = there.ghost (ap (λ (r : ObjReply × Option RecChange). r.1) is)
+
+pub ghost_is_there : (basis : Basis) (m : Moment) (o : WalkingFields) (found : Option ℕ) (reply : ObjReply) (change : RecChange)
+    → MayDecide (one_key basis) m o found → decision o.request found ≡ (reply, Some change) → change ≡ Revive → HasOwnGhost basis.tx o.walk (view_of m)
+ghost_is_there basis m o found reply change may is revives =
+    ghost_for o.request (one_key basis) o.walk (view_of m) found reply may.there (is ∙ ap (λ (c : RecChange). (reply, Some c)) revives)
+
+-- at the bucket, the reply fits what was found, and no step but the end is left
+fits_bucket : (phase : Phase) (basis : Basis) (o : WalkingFields) (view : View) (found : Option ℕ) → HasFound phase found → IsTold o found → FitsPhase phase (one_key basis) o view
+fits_bucket (at.AtBucket bucket depth f) basis o view found is told = subst (λ (g : Option ℕ). IsTold o g) (sym is) told
+fits_bucket other basis o view found is told = absurd is
+
+last_at_bucket : (phase : Phase) (root : ℕ) (walk : WalkFields) (view : View) (found : Option ℕ) → HasFound phase found → steps_to_bucket phase + steps_to_put_at phase root walk view + 1 ≡ 1
+last_at_bucket (at.AtBucket bucket depth f) root walk view found is = refl
+last_at_bucket other root walk view found is = absurd is
+
+-- **What asks for no change is told its reply, and all else stays.**
+pub told_finishes : (basis : Basis) (m : Moment) (before after : WalkingFields) (found : Option ℕ) (reply : ObjReply)
+    → MayDecide (one_key basis) m before found → decision before.request found ≡ (reply, None)
+    → after ≡ record before { reply = Some reply } → Finishes (one_key basis) m m before after
+told_finishes basis m before after found reply may is same =
+    let told : WalkingFields = record before { reply = Some reply } in
+    let finishes : Finishes (one_key basis) m m before told = record {
+      leaves = leaves_it m m may.walks.may refl;
+      writes = inl refl;
+      request = refl;
+      in_pass = refl;
+      operates = record {
+        alone = may.alone;
+        target = may.target;
+        stands = may.walks.stands;
+        fits = fits_bucket before.walk.phase (one_key basis) told (view_of m) found may.at_bucket (reply, refl, is);
+      };
+      last = last_at_bucket before.walk.phase basis.root before.walk (view_of m) found may.at_bucket;
+    } in
+    subst (λ (o : WalkingFields). Finishes (one_key basis) m m before o) (sym same) finishes
+
+-- what the bucket had is what the clean pages have
+found_clean : (phase : Phase) (basis : Basis) (walk : WalkFields) (view : View) (found : Option ℕ) (clean : ℕ → Option Page)
+    → HasFound phase found → Stands phase (one_key basis) walk view → Agrees view.seen clean → look_up basis.bits clean basis.root walk.key ≡ found
+found_clean (at.AtBucket bucket depth f) basis walk view found clean is stands agree = found_there (one_key basis) walk view bucket depth f clean stands agree ∙ is
+found_clean other basis walk view found clean is stands agree = absurd is
+
+-- a changed walk has read what it found
+changed_read : (basis : Basis) (walk : WalkFields) (view : View) (bucket : ℕ) (done : Change) (found : Option ℕ) (clean : ℕ → Option Page)
+    → IsChanged (one_key basis) walk view bucket done → Agrees view.seen clean → look_up basis.bits clean basis.root walk.key ≡ found → HasRead (one_key basis) walk.key view found
+changed_read basis walk view bucket done found clean changed agree is =
+    read_of (one_key basis) walk.key view changed.found found (found_still (one_key basis) walk.key view changed.found clean changed.read agree ∙ is) changed.read
+
+-- **What asks for a change is told its reply, with the change written.**
+pub change_finishes : (basis : Basis) (old new : Moment) (before after : WalkingFields) (found : Option ℕ) (reply : ObjReply) (change : RecChange)
+    → MayDecide (one_key basis) old before found → decision before.request found ≡ (reply, Some change)
+    → Leaves old new → WritesIfChanged old new (page_of before.walk.phase) answer.Changed
+    → IsMade (one_key basis) new before.walk after.walk change found
+    → after.request ≡ before.request → after.reply ≡ Some reply → Finishes (one_key basis) old new before after
+change_finishes basis old new before after found reply change may is leaves writes made request told =
+    let phase : Phase = at.Changed (page_of before.walk.phase) made.done in
+    let clean = may.walks.file.clean in
+    let agree_old : Agrees (view_of old).seen clean = agrees old clean may.walks.may may.walks.file.is_clean in
+    let agree_new : Agrees (view_of new).seen clean = agrees new clean leaves.may (leaves.clean clean may.walks.file.is_clean) in
+    let was : look_up basis.bits clean basis.root before.walk.key ≡ found = found_clean before.walk.phase (one_key basis) before.walk (view_of old) found clean may.at_bucket may.walks.stands agree_old in
+    let stays : look_up basis.bits clean basis.root after.walk.key ≡ found = ap (λ key. look_up basis.bits clean basis.root key) made.makes.same.key ∙ was in
+    let changed : IsChanged (one_key basis) after.walk (view_of new) (page_of before.walk.phase) made.done = subst (λ (p : Phase). Stands p (one_key basis) after.walk (view_of new)) made.makes.phase made.makes.stands in
+    let performed : HasPerformed (one_key basis) after (view_of new) made.done = record {
+      found = found;
+      reply = reply;
+      decided = change;
+      read = changed_read (one_key basis) after.walk (view_of new) (page_of before.walk.phase) made.done found clean changed agree_new stays;
+      told = told;
+      asked = ap (λ (r : Request). decision r found) request ∙ is;
+      performs = made.performs;
+    } in
+    record {
+      leaves = leaves;
+      writes = inr writes;
+      request = request;
+      in_pass = made.makes.same.pass;
+      operates = record {
+        alone = ap size_key_of request ∙ may.alone;
+        target = (λ i. (made.makes.same.key i, made.makes.same.mode i)) ∙ may.target ∙ ap target_of (sym request);
+        stands = made.makes.stands;
+        fits = subst (λ (p : Phase). FitsPhase p (one_key basis) after (view_of new)) (sym made.makes.phase) performed;
+      };
+      last = ap (λ (p : Phase). steps_to_bucket p + steps_to_put_at p basis.root after.walk (view_of new) + 1) made.makes.phase;
+    }
+
+-- nothing was found where a record is to be added
+absent_at : (p : Phase) (found : Option ℕ) → HasFound p found → found ≡ None → HasFound p None
+absent_at (at.AtBucket bucket depth f) found is none = is ∙ none
+absent_at other found is none = absurd is
+
+pub asks_to_add : (request : Request) (found : Option ℕ) (reply : ObjReply) (change : RecChange) (Is : ℕ → Type 0) → decision request found ≡ (reply, Some change)
+    → CanChange (Some change) found → OfAddition change Is → (value : ℕ) × AsksToAdd request value
+asks_to_add request found reply (Add value) Is is can of = (value, (reply, subst (λ (f : Option ℕ). decision request f ≡ (reply, Some (Add value))) can is))
+asks_to_add request found reply other Is is can of = absurd of
+
+pub absent_to_add : (basis : Basis) (m : Moment) (o : WalkingFields) (found : Option ℕ) (change : RecChange) (Is : ℕ → Type 0) → MayDecide (one_key basis) m o found
+    → CanChange (Some change) found → OfAddition change Is → HasFound o.walk.phase None
+absent_to_add basis m o found (Add value) Is may can of = absent_at o.walk.phase found may.at_bucket can
+absent_to_add basis m o found other Is may can of = absurd of
+
+-- an addition that lacks room is to be split for, in a later pass
+splits_for : (basis : Basis) (new : Moment) (before after : WalkingFields) (change : RecChange) (found : Option ℕ) (reply : ObjReply)
+    → MayDecide (one_key basis) new before found → decision before.request found ≡ (reply, Some change) → CanChange (Some change) found
+    → OfAddition change (λ value. NeedsSplit (one_key basis) new before.walk after.walk value) → (after.walk.pass ≡ pass.First → ⊥)
+    → after.request ≡ before.request → after.reply ≡ before.reply → SplitsInPass (one_key basis) new new before after
+splits_for basis new before after (Add value) found reply may is can needs not request same =
+    let later : before.walk.pass ≡ pass.First → ⊥ = λ first. not (needs.same.pass ∙ first) in
+    let adding = needs.later later in
+    let to_add : IsToAdd after value = (same ∙ may.untold, (reply, ap (λ (r : Request). decision r None) request ∙ subst (λ (f : Option ℕ). decision before.request f ≡ (reply, Some (Add value))) can is)) in
+    record {
+      stays = refl;
+      request = request;
+      in_pass = needs.same.pass;
+      operates = record {
+        alone = ap size_key_of request ∙ may.alone;
+        target = (λ i. (needs.same.key i, needs.same.mode i)) ∙ may.target ∙ ap target_of (sym request);
+        stands = needs.stands;
+        fits = subst (λ (p : Phase). FitsPhase p (one_key basis) after (view_of new)) (sym adding.1) to_add;
+      };
+      later = later;
+      absent = absent_at before.walk.phase found may.at_bucket can;
+      value = value;
+      needs = needs;
+    }
+splits_for basis new before after other found reply may is can needs not request same = absurd needs
+
+-- **A later pass whose bucket has no room is to split it.**
+pub splits_in_pass : (basis : Basis) (old new : Moment) (before after : WalkingFields) (change : RecChange) (found : Option ℕ) (reply : ObjReply)
+    → MayDecide (one_key basis) old before found → decision before.request found ≡ (reply, Some change) → CanChange (Some change) found
+    → new ≡ old → TellsOfDecision (one_key basis) new before.walk after.walk change found answer.NeedSplit → (after.walk.pass ≡ pass.First → ⊥)
+    → after.request ≡ before.request → after.reply ≡ before.reply → SplitsInPass (one_key basis) old new before after
+splits_in_pass basis old new before after change found reply may is can stays tells not request same =
+    let split : SplitsInPass (one_key basis) old old before after = splits_for (one_key basis) old before after change found reply may is can
+    (subst (λ (m : Moment). TellsOfDecision (one_key basis) m before.walk after.walk change found answer.NeedSplit) stays tells) not request same in
+    subst (λ (m : Moment). SplitsInPass (one_key basis) old m before after) (sym stays) split
+
+-- a moment is rolled back, to what the parts say
+pub rolls_back : (m old new : Moment) → old ≡ m → new.store ≡ record old.store { pages = put_back old.running.images old.store.pages }
+    → new.locks ≡ released old.locks old.running.tx → new.running ≡ started old.running.tx → IsRolledBack m new
+rolls_back m old new stays store locks running =
+    subst (λ (n : Moment). IsRolledBack n new) stays (record { locks = locks; running = running; store = store })
+
+-- nothing is held once all is rolled back
+pub nothing_held : (old new : Moment) → IsRolledBack old new → pages_of new.locks new.running.tx ≡ map.empty
+nothing_held old new back =
+    ap (λ (l : LockTable). pages_of l new.running.tx) back.locks ∙ ap (λ (r : Running). pages_of (released old.locks old.running.tx) r.tx) back.running
+    ∙ grind (arith, nat_tests, pages_of-released old.locks old.running.tx old.running.tx)
+
+-- **A pass that is rolled back begins again.**
+pub begins_again : (basis : Basis) (old new : Moment) (before after : WalkingFields) (found : Option ℕ) (full : WalkFields)
+    → MayDecide (one_key basis) old before found → HasFound before.walk.phase None → (value : ℕ) × AsksToAdd before.request value → IsRolledBack old new → HasToRestart (one_key basis) old before.walk full → IsSameWalk before.walk full
+    → after.walk ≡ record full { pass = next_of full.phase; phase = at.Start; split = None }
+    → after.request ≡ before.request → after.reply ≡ before.reply → BeginsAgain (one_key basis) old new before after
+begins_again basis old new before after found full may absent adds back restarts alike again request same =
+    let key : after.walk.key ≡ before.walk.key = ap (λ (w : WalkFields). w.key) again ∙ alike.key in
+    let mode : after.walk.mode ≡ before.walk.mode = ap (λ (w : WalkFields). w.mode) again ∙ alike.mode in
+    let phase : after.walk.phase ≡ at.Start = ap (λ (w : WalkFields). w.phase) again in
+    record {
+      back = back;
+      request = request;
+      untold = (may.untold, same ∙ may.untold);
+      operates = record {
+        alone = ap size_key_of request ∙ may.alone;
+        target = (λ i. (key i, mode i)) ∙ may.target ∙ ap target_of (sym request);
+        stands = subst (λ (p : Phase). Stands p (one_key basis) after.walk (view_of new)) (sym phase) (at_start new (nothing_held old new back), refl);
+        fits = subst (λ (p : Phase). FitsPhase p (one_key basis) after (view_of new)) (sym phase) (same ∙ may.untold);
+      };
+      absent = absent;
+      adds = adds;
+      full = full;
+      restarts = restarts;
+      again = again;
+    }
+
+-- which of a first pass, and of a narrow one, begins again
+pub first_restarts : (basis : Basis) (m : Moment) (walk full : WalkFields) (change : RecChange)
+    → OfAddition change (λ value. NeedsSplit (one_key basis) m walk full value) → full.pass ≡ pass.First → HasToRestart (one_key basis) m walk full × IsSameWalk walk full
+first_restarts basis m walk full (Add value) needs first = (inl (sym needs.same.pass ∙ first, (value, needs)), needs.same)
+first_restarts basis m walk full other needs first = absurd needs
+
+pub narrow_restarts : (basis : Basis) (m : Moment) (walk full : WalkFields) (change : RecChange)
+    → OfAddition change (λ value. MustWiden (one_key basis) m walk full) → HasToRestart (one_key basis) m walk full × IsSameWalk walk full
+narrow_restarts basis m walk full (Add value) widen = (inr widen, widen.same)
+narrow_restarts basis m walk full other widen = absurd widen
+
+-- **Where there is no room at all, all is rolled back.**
+pub finds_no_room : (basis : Basis) (old new : Moment) (before : WalkingFields) (change : RecChange) (found : Option ℕ) (reply : ObjReply) (after : WalkFields)
+    → MayDecide (one_key basis) old before found → decision before.request found ≡ (reply, Some change) → CanChange (Some change) found → OfAddition change (λ value. HasNoRoom (one_key basis) old before.walk after)
+    → IsRolledBack old new → FindsNoRoom (one_key basis) old new before
+finds_no_room basis old new before (Add value) found reply after may is can none back = record {
+  back = back;
+  later = none.later;
+  absent = absent_at before.walk.phase found may.at_bucket can;
+  adds = (value, (reply, subst (λ (f : Option ℕ). decision before.request f ≡ (reply, Some (Add value))) can is));
+  walk = after;
+  none = none;
+}
+finds_no_room basis old new before other found reply after may is can none back = absurd none
+
+-- what is told where the walk's change is refused
+pub refused_at_bucket : (basis : Basis) (old mid new : Moment) (before after : WalkingFields) (change : RecChange) (found : Option ℕ) (reply : ObjReply) (walk : WalkFields) (reason : Refusal)
+    → MayDecide (one_key basis) old before found → decision before.request found ≡ (reply, Some change) → CanChange (Some change) found → mid ≡ old
+    → TellsOfDecision (one_key basis) mid before.walk walk change found (answer.Refused reason) → IsRolledBack old new → TellsAtBucket (one_key basis) old new before after (step.Refused reason)
+refused_at_bucket basis old mid new before after change found reply walk refusal.NoRoom may is can stays tells back =
+    finds_no_room (one_key basis) old new before change found reply walk may is can (subst (λ (m : Moment). TellsOfDecision (one_key basis) m before.walk walk change found (answer.Refused refusal.NoRoom)) stays tells) back
+refused_at_bucket basis old mid new before after change found reply walk other may is can stays tells back = absurd tells

@@ -1,0 +1,93 @@
+-- What an operation may decide on
+use Rattle.std.proofs.Common.{◌≡◌, ℕ, ◌+◌, ◌-◌, Bool, true, false, nat_lt, ◌==◌, cond, Option, None, Some, refl, sym, ap, ◌∙◌}
+use Rattle.std.proofs.lemmas.Bool.{false≢true}
+use Rattle.mlt_types.specs.declared.mode.Mode.{Mode}
+use Rattle.mlt_types.specs.declared.mode.Mode.TheVariants.{Shared, Exclusive}
+use Rattle.mlt_object_kinds.specs.declared.account.AccountOp.{AccountOp}
+use Rattle.mlt_object_kinds.specs.declared.account.AccountOp.TheVariants.{Open, Close, Deposit, Withdraw, Balance}
+use Rattle.mlt_object_kinds.specs.declared.counter.CounterOp.TheVariants.{Up, Down, Read}
+use Rattle.mlt_object_kinds.specs.declared.element.ElementOp.TheVariants as element
+use Rattle.mlt_object_kinds.specs.declared.operation.ObjOp.{ObjOp}
+use Rattle.mlt_object_kinds.specs.declared.operation.ObjOp.TheVariants.{Account, Element, Counter, Size}
+use Rattle.mlt_object_kinds.specs.declared.operation.ObjReply.{ObjReply}
+use Rattle.mlt_object_kinds.specs.declared.operation.ObjReply.TheVariants as told
+use Rattle.mlt_object_kinds.specs.Accounts.{max_balance}
+use Rattle.mlt_object_base.specs.declared.record.RecChange.{RecChange}
+use Rattle.mlt_object_base.specs.declared.record.RecChange.TheVariants.{Revive, Set, ToGhost}
+use Rattle.mlt_object_base.specs.Effects.{account_reply_of, mode_of, reply_of}
+
+abbrev is_revival : Option RecChange → Bool
+is_revival (Some Revive) = true
+is_revival other = false
+
+either : (b : Bool) (x y : ObjReply × Option RecChange) → is_revival x.1 ≡ false → is_revival y.1 ≡ false → is_revival (cond b x y).1 ≡ false
+either true x y first second = first
+either false x y first second = second
+
+-- an account asks for no revival
+account_never : (op : AccountOp) (found : Option ℕ) → is_revival (account_reply_of op found).1 ≡ false
+account_never Open None = refl
+account_never Open (Some v) = refl
+account_never Close None = refl
+account_never Close (Some v) = either (v == 0) (told.Closed, Some ToGhost) (told.NotEmpty, None) refl refl
+account_never (Deposit n) None = refl
+account_never (Deposit n) (Some v) = either (nat_lt max_balance (v + n)) (told.Over, None) (told.Done, Some (Set (v + n))) refl refl
+account_never (Withdraw n) None = refl
+account_never (Withdraw n) (Some v) = either (nat_lt v n) (told.Short, None) (told.Done, Some (Set (v - n))) refl refl
+account_never Balance None = refl
+account_never Balance (Some v) = refl
+
+-- an operation asks for no revival
+never : (op : ObjOp) (found : Option ℕ) → is_revival (reply_of op found).1 ≡ false
+never (Account a op) found = account_never op found
+never (Element s e element.Add) None = refl
+never (Element s e element.Add) (Some v) = refl
+never (Element s e element.Remove) None = refl
+never (Element s e element.Remove) (Some v) = refl
+never (Element s e element.Has) None = refl
+never (Element s e element.Has) (Some v) = refl
+never (Counter c (Up n)) None = refl
+never (Counter c (Up n)) (Some v) = refl
+never (Counter c (Down n)) None = refl
+never (Counter c (Down n)) (Some v) = refl
+never (Counter c Read) None = refl
+never (Counter c Read) (Some v) = refl
+never (Size s) None = refl
+never (Size s) (Some v) = refl
+
+-- **Only what takes a removal back asks for a revival.**
+pub never_revives : (op : ObjOp) (found : Option ℕ) (reply : ObjReply) → reply_of op found ≡ (reply, Some Revive) → ⊥
+never_revives op found reply is = false≢true (sym (never op found) ∙ ap (λ (r : ObjReply × Option RecChange). is_revival r.1) is)
+
+-- whether the mode allows the change
+abbrev allows : Mode → Option RecChange → Bool
+allows Exclusive change = true
+allows Shared None = true
+allows Shared (Some change) = false
+
+allowed : (op : ObjOp) (found : Option ℕ) → allows (mode_of op) (reply_of op found).1 ≡ true
+allowed (Account a Open) found = refl
+allowed (Account a Close) found = refl
+allowed (Account a (Deposit n)) found = refl
+allowed (Account a (Withdraw n)) found = refl
+allowed (Account a Balance) None = refl
+allowed (Account a Balance) (Some v) = refl
+allowed (Element s e element.Add) found = refl
+allowed (Element s e element.Remove) found = refl
+allowed (Element s e element.Has) None = refl
+allowed (Element s e element.Has) (Some v) = refl
+allowed (Counter c (Up n)) found = refl
+allowed (Counter c (Down n)) found = refl
+allowed (Counter c Read) None = refl
+allowed (Counter c Read) (Some v) = refl
+allowed (Size s) None = refl
+allowed (Size s) (Some v) = refl
+
+exclusive_by : (mode : Mode) (change : RecChange) → allows mode (Some change) ≡ true → mode ≡ Exclusive
+exclusive_by Exclusive change may = refl
+exclusive_by Shared change may = absurd (false≢true may)
+
+-- **What changes its record locks the bucket exclusively.**
+pub changes_exclusively : (op : ObjOp) (found : Option ℕ) (reply : ObjReply) (change : RecChange) → reply_of op found ≡ (reply, Some change) → mode_of op ≡ Exclusive
+changes_exclusively op found reply change is =
+    exclusive_by (mode_of op) change (sym (ap (λ (r : ObjReply × Option RecChange). allows (mode_of op) r.1) is) ∙ allowed op found)

@@ -1,0 +1,156 @@
+-- Where an operation stands, on one record or on two
+use Rattle.std.proofs.Common.{◌≡◌, ◌≢◌, ℕ, Option, None, Some, true, refl, subst, ◌∙◌, arith}
+use Rattle.std.specs.Ordering.{nat_cmp}
+use Rattle.std.specs.FinMap as map
+use Rattle.std.specs.FinSet as set
+use Rattle.mlt_types.specs.Cells.{IsInRange, key_number}
+use Rattle.mlt_types.specs.declared.cell.Cell.{Cell}
+use Rattle.mlt_types.specs.declared.cell.Cell.TheVariants as cell
+use Rattle.mlt_object_kinds.specs.declared.element.ElementOp.TheVariants as element
+use Rattle.mlt_object_kinds.specs.declared.operation.ObjOp.TheVariants.{Element}
+use Rattle.mlt_object_kinds.specs.declared.operation.ObjReply.{ObjReply}
+use Rattle.mlt_object_kinds.specs.declared.operation.ObjReply.TheVariants as told
+use Rattle.mlt_object_kinds.specs.Operations.{cell_of}
+use Rattle.mlt_object_base.specs.declared.request.Request.{Request}
+use Rattle.mlt_object_base.specs.declared.request.Request.TheVariants.{Do, TakeBack}
+use Rattle.mlt_object_base.specs.Requests.{size_key_of, target_of}
+use Rattle.mlt_object_base.proofs.Meanings.{same_cell}
+use Rattle.mlt_page_locks.specs.LockTables.{pages_of}
+use Rattle.mlt_hash_form.specs.File.{FilePages, HasForm}
+use Rattle.mlt_hash_form.specs.Held.{Agrees}
+use Rattle.mlt_hash_access.proofs.Since.{nothing_written}
+use Rattle.mlt_hash_access.specs.Moments.{Moment}
+use Rattle.mlt_hash_access.specs.Views.{View, view_of}
+use Rattle.mlt_hash_split.specs.Rests.{KeepsNoMore}
+use Rattle.mlt_hash.specs.Walks.{Basis, one_key}
+use Rattle.mlt_hash.specs.declared.pass.Phase.{Phase}
+use Rattle.mlt_hash.specs.declared.pass.Phase.TheVariants as at
+use Rattle.mlt_hash_pair.proofs.Laws.{starts as pair_starts}
+use Rattle.mlt_hash.proofs.Laws.{at_start}
+use Rattle.mlt_hash.proofs.Owners.{stands_still}
+use Rattle.mlt_hash.proofs.Passed.{read_as}
+use Rattle.mlt_tx_two_records.specs.Doubles.{MayGoOn, Stands}
+use Rattle.mlt_tx_two_records.proofs.DoubleLaws.{double_still, told_still}
+use Rattle.mlt_tx_two_records.specs.declared.double.Double.{Double}
+use Rattle.mlt_tx_two_records.specs.declared.double.Double.TheVariants.{First, Owing, Wide}
+use Rattle.mlt_tx_two_records.specs.declared.double.Leg.TheVariants as leg
+use Rattle.mlt_tx_operation.specs.declared.course.Course.{Course}
+use Rattle.mlt_tx_operation.specs.declared.course.Course.TheVariants.{One, Two}
+use Rattle.mlt_tx_operation.specs.Operating.{CanDoBy, IsOperating, MayOperate, OperatesBy, OperationFields, StandsOrTold, course_for, on_one, on_two, started_for}
+use Rattle.mlt_tx_operation.specs.Walking.{FitsPhase, MayWalkOn, WalkingFields}
+
+-- ---- the start
+
+-- the cell that a request is on
+abbrev pub cell_asked : Request → Cell
+cell_asked (Do op) = cell_of op
+cell_asked (TakeBack done) = cell_of done.0
+
+-- the key of an element is not that of a size
+element_apart : (s e size : ℕ) → IsInRange (cell.Element s e) → size ≡ key_number (cell.Size s) → key_number (cell.Element s e) ≢ size
+element_apart s e size range is same = let one : cell.Element s e ≡ cell.Size s = same_cell (cell.Element s e) (cell.Size s) range range.0 (same ∙ is) in cc
+
+keys_apart : (request : Request) (size : ℕ) → IsInRange (cell_asked request) → size_key_of request ≡ Some size → (target_of request).0 ≢ size
+keys_apart (Do (Element s e element.Add)) size range is = element_apart s e size range cc
+keys_apart (Do (Element s e element.Remove)) size range is = element_apart s e size range cc
+keys_apart (TakeBack (Element s e element.Add, told.Added)) size range is = element_apart s e size range cc
+keys_apart (TakeBack (Element s e element.Remove, told.Removed)) size range is = element_apart s e size range cc
+keys_apart other size range none = absurd cc
+
+starts_by : (key : Option ℕ) (basis : Basis) (request : Request) (m : Moment) → size_key_of request ≡ key → IsInRange (cell_asked request) → pages_of m.locks m.running.tx ≡ map.empty
+    → OperatesBy (course_for request key) (one_key basis) (record { request = request; reply = None; course = course_for request key }) (view_of m)
+starts_by None basis request m is range none = record { alone = is; target = refl; stands = (at_start m none, refl); fits = refl }
+starts_by (Some size) basis request m is range none = record {
+  keys = record { own_is = refl; size_is = is; apart = keys_apart request size range is };
+  under_way = omega arith;
+  finding = pair_starts basis.bits basis.root (target_of request).0 size m (keys_apart request size range is) none;
+}
+
+-- **An operation that has taken no step stands where no page is held.**
+pub starts : (basis : Basis) (request : Request) (m : Moment) → IsInRange (cell_asked request) → pages_of m.locks m.running.tx ≡ map.empty → IsOperating (one_key basis) (started_for request) (view_of m)
+starts basis request m range none = starts_by (size_key_of request) basis request m refl range none
+
+-- ---- what a step of one asks
+
+-- **One on one record may take a step of its walk.**
+pub may_walk_on : (basis : Basis) (m : Moment) (o : WalkingFields) → MayOperate (one_key basis) m (on_one o) → MayWalkOn (one_key basis) m o
+may_walk_on basis m o may = record {
+  walks = record {
+    bounded = may.bounded;
+    small = may.small;
+    may = may.may;
+    written = nothing_written (view_of m);
+    file = may.file;
+    shallow = may.shallow;
+    stands = may.operates.stands;
+  };
+  operates = may.operates;
+  back = subst (λ (key : Option ℕ). CanDoBy key (one_key basis) may.file.clean o.request) may.operates.alone may.can;
+}
+
+-- one on two records has a key of a size
+size_key : (double : Double) (basis : Basis) (request : Request) (view : View) → Stands double basis request view → (size : ℕ) × (size_key_of request ≡ Some size)
+size_key (First pair) basis request view stands = (pair.right, stands.keys.size_is)
+size_key (Owing pair reply) basis request view stands = (pair.right, stands.keys.size_is)
+size_key (Wide leg.Own walk) basis request view stands = (stands.size, stands.keys.size_is)
+size_key (Wide leg.Size walk) basis request view stands = (walk.key, stands.keys.size_is)
+
+-- **One on two records may go on.**
+pub may_go_on : (basis : Basis) (m : Moment) (request : Request) (double : Double) → MayOperate (one_key basis) m (on_two request None double) → MayGoOn (one_key basis) m request double
+may_go_on basis m request double may = record {
+  bounded = may.bounded;
+  small = may.small;
+  may = may.may;
+  file = may.file;
+  shallow = may.shallow;
+  stands = may.operates;
+  can = subst (λ (key : Option ℕ). CanDoBy key (one_key basis) may.file.clean request) (size_key double (one_key basis) request (view_of m) may.operates).1 may.can;
+}
+
+-- ---- owners of ghosts close
+
+-- what a walk's phase says of a reply does not name who is open
+fits_for : (p : Phase) (basis : Basis) (opens : set.FinSet nat_cmp) (o : WalkingFields) (view : View) → FitsPhase p basis o view → FitsPhase p (record basis { opens = opens }) o view
+fits_for at.Start basis opens o view fits = fits
+fits_for (at.Headed dir row depth) basis opens o view fits = fits
+fits_for (at.Placed bucket depth) basis opens o view fits = fits
+fits_for (at.AtBucket bucket depth found) basis opens o view fits = fits
+fits_for (at.Full next) basis opens o view fits = fits
+fits_for (at.Adding value bucket room_depth unsplit) basis opens o view fits = fits
+fits_for (at.Splitting value room_depth) basis opens o view fits = fits
+fits_for (at.Changed bucket done) basis opens o view fits = record {
+  found = fits.found;
+  reply = fits.reply;
+  decided = fits.decided;
+  read = read_as basis opens o.walk.key view fits.found fits.read;
+  told = fits.told;
+  asked = fits.asked;
+  performs = fits.performs;
+}
+
+-- Whose ghosts are kept: on the pages that are held no more than before, and its own.
+pub record KeepsFewer (basis : Basis) (fewer : set.FinSet nat_cmp) (view : View) (clean : FilePages) : Type 0 where
+  pub no_more : KeepsNoMore basis.opens fewer view
+  pub own : set.contains basis.opens basis.tx ≡ true
+  pub agree : Agrees view.seen clean
+  pub form : HasForm basis.bits clean basis.root
+
+two_stands : (reply : Option ObjReply) (double : Double) (basis : Basis) (fewer : set.FinSet nat_cmp) (request : Request) (view : View) (clean : FilePages) → StandsOrTold reply double (one_key basis) request view → KeepsFewer basis fewer view clean
+    → StandsOrTold reply double (one_key (record basis { opens = fewer })) request view
+two_stands None double basis fewer request view clean stands keeps = double_still (one_key basis) fewer request view clean keeps.no_more keeps.own keeps.agree keeps.form double stands
+two_stands (Some reply) double basis fewer request view clean told keeps = told_still (one_key basis) fewer request view clean keeps.no_more keeps.own keeps.agree keeps.form double reply told
+
+stands_by : (c : Course) (basis : Basis) (fewer : set.FinSet nat_cmp) (o : OperationFields) (view : View) (clean : FilePages) → OperatesBy c (one_key basis) o view → KeepsFewer basis fewer view clean
+    → OperatesBy c (one_key (record basis { opens = fewer })) o view
+stands_by (One walk) basis fewer o view clean walks keeps = record {
+  alone = walks.alone;
+  target = walks.target;
+  stands = stands_still (one_key basis) fewer walk view clean keeps.no_more keeps.agree keeps.form walks.stands;
+  fits = fits_for walk.phase (one_key basis) fewer _ view walks.fits;
+}
+stands_by (Two double) basis fewer o view clean stands keeps = two_stands o.reply double basis fewer o.request view clean stands keeps
+
+-- **Where owners of ghosts close, an operation stands on.**
+pub stands_with : (basis : Basis) (fewer : set.FinSet nat_cmp) (o : OperationFields) (view : View) (clean : FilePages) → IsOperating (one_key basis) o view → KeepsFewer basis fewer view clean
+    → IsOperating (one_key (record basis { opens = fewer })) o view
+stands_with basis fewer o view clean operates keeps = stands_by o.course basis fewer o view clean operates keeps

@@ -1,0 +1,32 @@
+-- What a decision tells, from what the walk's change tells
+use Rattle.std.proofs.Common.{ℕ, Option, refl, inl, inr}
+use Rattle.mlt_types.specs.declared.refusal.Refusal.TheVariants as refusal
+use Rattle.mlt_object_base.specs.declared.record.RecChange.{RecChange}
+use Rattle.mlt_object_base.specs.declared.record.RecChange.TheVariants.{Add}
+use Rattle.mlt_hash_access.specs.Moments.{Moment}
+use Rattle.mlt_hash.specs.Walks.{Basis, WalkFields, one_key}
+use Rattle.mlt_hash.specs.Changes.{TellsOfAddition, TellsOfChange}
+use Rattle.mlt_hash.specs.declared.pass.Change.{Change}
+use Rattle.mlt_hash.specs.declared.pass.Change.TheVariants as change
+use Rattle.mlt_hash.specs.declared.answer.WalkAnswer.{WalkAnswer}
+use Rattle.mlt_hash.specs.declared.answer.WalkAnswer.TheVariants as answer
+use Rattle.mlt_tx_two_records.specs.Performing.{Performs}
+use Rattle.mlt_tx_operation.specs.Performing.{TellsOfDecision}
+
+-- an addition
+pub addition_tells : (basis : Basis) (new : Moment) (before after : WalkFields) (value : ℕ) (found : Option ℕ) (told : WalkAnswer)
+    → TellsOfAddition (one_key basis) new before after value told → TellsOfDecision (one_key basis) new before after (Add value) found told
+addition_tells basis new before after value found answer.Changed (inl makes) = record { done = change.Revive value; makes = makes; performs = inr refl }
+addition_tells basis new before after value found answer.Changed (inr makes) = record { done = change.Put value; makes = makes; performs = inl refl }
+addition_tells basis new before after value found answer.NeedSplit tells = tells
+addition_tells basis new before after value found answer.Widen tells = tells
+addition_tells basis new before after value found (answer.Refused refusal.NoRoom) tells = tells
+addition_tells basis new before after value found (answer.Refused other) tells = absurd (tells.1 refl)
+addition_tells basis new before after value found other tells = tells
+
+-- any other change
+pub change_tells : (basis : Basis) (new : Moment) (before after : WalkFields) (decided : RecChange) (found : Option ℕ) (done : Change) (told : WalkAnswer)
+    → Performs decided found done → TellsOfChange (one_key basis) new before after done told → TellsOfDecision (one_key basis) new before after decided found told
+change_tells basis new before after decided found done answer.Changed performs makes = record { done = done; makes = makes; performs = performs }
+change_tells basis new before after decided found done (answer.Refused reason) performs tells = absurd (tells.1 refl)
+change_tells basis new before after decided found done other performs tells = absurd tells

@@ -1,0 +1,38 @@
+-- How many steps an operation still takes at most, those aside that wait
+use Rattle.std.specs.Prelude.{ℕ, ◌+◌, ◌*◌, nat_eq, if◌then◌else◌, Option}
+use Rattle.mlt_object_kinds.specs.declared.operation.ObjReply.{ObjReply}
+use Rattle.mlt_hash_access.specs.Views.{View}
+use Rattle.mlt_hash.specs.Steps.{steps_to_bucket}
+use Rattle.mlt_hash.specs.Walks.{WalkFields}
+use Rattle.mlt_hash.specs.declared.pass.Pass.{Pass}
+use Rattle.mlt_hash.specs.declared.pass.Pass.TheVariants.{First, Narrow, Wide}
+use Rattle.mlt_tx_operation.specs.declared.course.Course.{Course}
+use Rattle.mlt_tx_operation.specs.declared.course.Course.TheVariants.{One, Two}
+use Rattle.mlt_tx_operation.specs.Operating.{OperationFields, steps_of_two}
+use Rattle.mlt_tx_operation.specs.Walking.{steps_of_walk}
+
+-- how many passes may still follow this one
+abbrev pub passes_after : Pass → ℕ
+passes_after First = 2
+passes_after Narrow = 1
+passes_after Wide = 0
+
+-- The most steps from a full bucket on, in a directory of depth 16 at most: those of its splits, the write of the record,
+-- and the end.
+abbrev pub most_from_bucket : ℕ
+most_from_bucket = 578
+
+-- The most steps up to the end on one record, the end among them: once the bucket is reached those that are left of the
+-- pass, and before it the way there, in this pass and in those that may follow, and what a full bucket takes.
+abbrev pub most_steps_of_walk : ℕ → WalkFields → View → ℕ
+most_steps_of_walk root walk view =
+    if nat_eq (steps_to_bucket walk.phase) 0 then steps_of_walk root walk view
+    else steps_to_bucket walk.phase + 3 * passes_after walk.pass + most_from_bucket
+
+-- on two records as many as are left
+abbrev pub most_steps_by : Course → ℕ → Option ObjReply → View → ℕ
+most_steps_by (One walk) root reply view = most_steps_of_walk root walk view
+most_steps_by (Two double) root reply view = steps_of_two reply root double view
+
+abbrev pub most_steps : ℕ → OperationFields → View → ℕ
+most_steps root o view = most_steps_by o.course root o.reply view

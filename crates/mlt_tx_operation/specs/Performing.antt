@@ -1,0 +1,37 @@
+-- How a walk makes the change of a record that an operation decides on
+use Rattle.std.specs.Prelude.{ℕ, Option}
+use Rattle.mlt_types.specs.declared.refusal.Refusal.TheVariants as refusal
+use Rattle.mlt_object_base.specs.declared.record.RecChange.{RecChange}
+use Rattle.mlt_object_base.specs.declared.record.RecChange.TheVariants.{Add}
+use Rattle.mlt_hash_access.specs.Moments.{Moment}
+use Rattle.mlt_hash.specs.Walks.{Basis, WalkFields}
+use Rattle.mlt_hash.specs.Changes.{HasNoRoom, Makes, MustWiden, NeedsSplit}
+use Rattle.mlt_hash.specs.declared.pass.Change.{Change}
+use Rattle.mlt_hash.specs.declared.answer.WalkAnswer.{WalkAnswer}
+use Rattle.mlt_hash.specs.declared.answer.WalkAnswer.TheVariants as answer
+use Rattle.mlt_tx_two_records.specs.Performing.{Performs}
+
+-- the change is made
+pub record IsMade (basis : Basis) (new : Moment) (before after : WalkFields) (decided : RecChange)
+    (found : Option ℕ) : Type 0 where
+  pub done : Change
+  pub makes : Makes basis new before after done
+  pub performs : Performs decided found done
+
+-- it is an addition, of this value, of which this is so
+abbrev pub OfAddition : RecChange → (ℕ → Type 0) → Type 0
+OfAddition (Add value) Is = Is value
+OfAddition other Is = ⊥
+
+-- The change is made; or it is an addition whose bucket has no room.
+abbrev pub TellsOfDecision : Basis → Moment → WalkFields → WalkFields → RecChange → Option ℕ
+    → WalkAnswer → Type 0
+TellsOfDecision basis new before after decided found answer.Changed =
+    IsMade basis new before after decided found
+TellsOfDecision basis new before after decided found answer.NeedSplit =
+    OfAddition decided (λ value. NeedsSplit basis new before after value)
+TellsOfDecision basis new before after decided found answer.Widen =
+    OfAddition decided (λ value. MustWiden basis new before after)
+TellsOfDecision basis new before after decided found (answer.Refused refusal.NoRoom) =
+    OfAddition decided (λ value. HasNoRoom basis new before after)
+TellsOfDecision basis new before after decided found other = ⊥

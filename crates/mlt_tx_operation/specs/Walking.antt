@@ -1,0 +1,104 @@
+-- Where an operation on one record stands between two of its steps
+use Rattle.std.specs.Prelude.{ℕ, ◌≡◌, ◌+◌, Option, None, Some}
+use Rattle.mlt_page.specs.declared.page.Page.{Page}
+use Rattle.mlt_object_kinds.specs.declared.operation.ObjReply.{ObjReply}
+use Rattle.mlt_object_base.specs.declared.record.RecChange.{RecChange}
+use Rattle.mlt_object_base.specs.declared.record.RecChange.TheVariants.{Revive}
+use Rattle.mlt_object_base.specs.declared.request.Request.{Request}
+use Rattle.mlt_object_base.specs.declared.request.Request.TheVariants.{Do, TakeBack}
+use Rattle.mlt_object_base.specs.Effects.{inverse_of}
+use Rattle.mlt_object_base.specs.Records.{CanChange}
+use Rattle.mlt_object_base.specs.Requests.{decision, size_key_of, target_of}
+use Rattle.mlt_hash_form.specs.Held.{Agrees}
+use Rattle.mlt_hash_access.specs.Moments.{Moment}
+use Rattle.mlt_hash_access.specs.Views.{View, view_of}
+use Rattle.mlt_hash.specs.Walks.{Basis, HasRead, IsAtBucket, IsStanding, MayWalk, WalkFields}
+use Rattle.mlt_hash.specs.Changes.{HasOwnGhost}
+use Rattle.mlt_hash.specs.declared.pass.Change.{Change}
+use Rattle.mlt_hash.specs.declared.pass.Pass.TheVariants as pass
+use Rattle.mlt_hash.specs.declared.pass.Phase.{Phase}
+use Rattle.mlt_hash.specs.declared.pass.Phase.TheVariants as at
+use Rattle.mlt_tx_two_records.specs.Performing.{AsksToAdd, Performs}
+use Rattle.mlt_tx_two_records.specs.WalkSteps.{steps_to_change}
+
+-- an operation on one record: what it is asked, what it is told, once its next step is its end, and its walk
+pub record WalkingFields : Type 0 where
+  pub request : Request
+  pub reply : Option ObjReply
+  pub walk : WalkFields
+
+abbrev pub walking : Request → Option ObjReply → WalkFields → WalkingFields
+walking request reply walk = record { request = request; reply = reply; walk = walk }
+
+-- the walk of one that has taken no step
+abbrev pub walk_for : Request → WalkFields
+walk_for request = record {
+  key = (target_of request).0;
+  mode = (target_of request).1;
+  pass = pass.First;
+  phase = at.Start;
+  split = None;
+}
+
+-- it is told this reply, and what it found asks for no change
+abbrev pub IsTold : WalkingFields → Option ℕ → Type 0
+IsTold o found =
+    (reply : ObjReply) × (o.reply ≡ Some reply) × (decision o.request found ≡ (reply, None))
+
+-- a record of this value is to be added, since none was found
+abbrev pub IsToAdd : WalkingFields → ℕ → Type 0
+IsToAdd o value = (o.reply ≡ None) × AsksToAdd o.request value
+
+-- what it found asked for the change that is written
+pub record HasPerformed (basis : Basis) (o : WalkingFields) (view : View) (done : Change)
+    : Type 0 where
+  pub found : Option ℕ
+  pub reply : ObjReply
+  pub decided : RecChange
+  pub read : HasRead basis o.walk.key view found
+  pub told : o.reply ≡ Some reply
+  pub asked : decision o.request found ≡ (reply, Some decided)
+  pub performs : Performs decided found done
+
+-- what the walk's phase says of the reply
+abbrev pub FitsPhase : Phase → Basis → WalkingFields → View → Type 0
+FitsPhase at.Start basis o view = o.reply ≡ None
+FitsPhase (at.Headed dir row depth) basis o view = o.reply ≡ None
+FitsPhase (at.Placed bucket depth) basis o view = o.reply ≡ None
+FitsPhase (at.AtBucket bucket depth found) basis o view = IsTold o found
+FitsPhase (at.Full next) basis o view = ⊥
+FitsPhase (at.Adding value bucket room_depth unsplit) basis o view = IsToAdd o value
+FitsPhase (at.Splitting value room_depth) basis o view = IsToAdd o value
+FitsPhase (at.Changed bucket done) basis o view = HasPerformed basis o view done
+
+-- It changes no size. Its walk is one to its key, and stands; and what it is told fits what the walk has found.
+pub record IsWalking (basis : Basis) (o : WalkingFields) (view : View) : Type 0 where
+  pub alone : size_key_of o.request ≡ None
+  pub target : (o.walk.key, o.walk.mode) ≡ target_of o.request
+  pub stands : IsStanding basis o.walk view
+  pub fits : FitsPhase o.walk.phase basis o view
+
+-- What is to be taken back is there: a walk to its key finds a record, or none, as the inverse needs it, and the
+-- transaction's own ghost where that is to be revived.
+pub record IsThere (basis : Basis) (walk : WalkFields) (view : View) (inverse : Option RecChange)
+    (found : Option ℕ) : Type 0 where
+  pub fits : CanChange inverse found
+  pub ghost : inverse ≡ Some Revive → HasOwnGhost basis.tx walk view
+
+abbrev pub CanTakeBackOne : Basis → (ℕ → Option Page) → Request → Type 0
+CanTakeBackOne basis clean (Do op) = Unit {0}
+CanTakeBackOne basis clean (TakeBack done) =
+    (walk : WalkFields) (view : View) (bucket depth : ℕ) (found : Option ℕ)
+    → walk.key ≡ (target_of (TakeBack done)).0 → walk.phase ≡ at.AtBucket bucket depth found
+    → IsAtBucket basis walk view bucket depth found → Agrees view.seen clean
+    → IsThere basis walk view (inverse_of done) found
+
+-- What a step of it asks: its walk may take a step, it stands, and what it is to take back is there.
+pub record MayWalkOn (basis : Basis) (m : Moment) (o : WalkingFields) : Type 0 where
+  pub walks : MayWalk basis m o.walk
+  pub operates : IsWalking basis o (view_of m)
+  pub back : CanTakeBackOne basis walks.file.clean o.request
+
+-- how many steps are left of the pass, its end among them, and those aside that wait
+abbrev pub steps_of_walk : ℕ → WalkFields → View → ℕ
+steps_of_walk root walk view = steps_to_change root walk view + 1

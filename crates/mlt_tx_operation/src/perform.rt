@@ -1,0 +1,53 @@
+//! How a walk makes the change that an operation decides on.
+
+ghost use Rattle.std.specs.Prelude.{◌≡◌, Some};
+ghost use Rattle.mlt_object_base.specs.Records.{CanChange};
+ghost use Rattle.mlt_hash_access.specs.Moments.{moment};
+ghost use Rattle.mlt_hash_access.specs.PageSteps.{Leaves};
+ghost use Rattle.mlt_hash_access.specs.Views.{view_of};
+ghost use Rattle.mlt_hash.specs.Walks.{basis_in};
+ghost use Rattle.mlt_hash.specs.Changes.{HasOwnGhost, MayChange, WritesIfChanged, page_of};
+ghost use Rattle.mlt_hash.specs.Steps.{HasFound};
+ghost use Rattle.mlt_tx_operation.specs.Performing.{TellsOfDecision};
+
+use mlt_object_base::RecChange;
+use mlt_hash::{Setting, Walk, WalkAnswer};
+use mlt_hash_access::LockedStore;
+use mlt_page_subtx::Subtx;
+use mlt_types::{Pseudo, Value};
+
+/// Makes a change of the record that the walk has found with this value, or not found. Only an addition may lack room.
+pub(crate) fn perform<P: Pseudo>(
+    walk: &mut Walk,
+    decided: RecChange,
+    found: Option<Value>,
+    setting: &Setting<P>,
+    subtx: &mut Subtx,
+    pages: &mut LockedStore,
+) -> WalkAnswer
+    requires ready { MayChange (basis_in P.bits_of setting.now subtx.old.tx)
+        (moment subtx.old pages.old) walk.old }
+    requires found { HasFound walk.old.phase found }
+    requires fits { CanChange (Some decided) found }
+    requires ghost_found { decided ≡ RecChange.Revive
+        → HasOwnGhost subtx.old.tx walk.old (view_of (moment subtx.old pages.old)) }
+    ensures writes { WritesIfChanged (moment subtx.old pages.old) (moment subtx.new pages.new)
+        (page_of walk.old.phase) result }
+    ensures leaves { Leaves (moment subtx.old pages.old) (moment subtx.new pages.new) }
+    ensures tells { TellsOfDecision (basis_in P.bits_of setting.now subtx.old.tx)
+        (moment subtx.new pages.new) walk.old walk.new decided found result }
+{
+    match (decided, found) {
+        (RecChange::Add(value), _) => walk.insert(value, setting, subtx, pages),
+        (RecChange::Set(value), _) => walk.update(value, subtx, pages),
+        (RecChange::ToGhost, _) => walk.remove(subtx, pages),
+        (RecChange::Revive, _) => walk.revive(0, subtx, pages),
+        (RecChange::Plus(amount), Some(value)) => {
+            walk.update(value.wrapping_add(amount), subtx, pages)
+        }
+        (RecChange::Minus(amount), Some(value)) => {
+            walk.update(value.wrapping_sub(amount), subtx, pages)
+        }
+        (RecChange::Plus(_) | RecChange::Minus(_), None) => unreachable!(),
+    }
+}

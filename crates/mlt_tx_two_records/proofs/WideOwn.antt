@@ -1,0 +1,135 @@
+-- What a wide pass does at the bucket of its own key
+use Rattle.std.proofs.Common.{◌≡◌, ℕ, Option, None, Some, refl, sym, ap, subst, ◌∙◌, inl, inr}
+use Rattle.mlt_types.specs.declared.refusal.Refusal.{Refusal}
+use Rattle.mlt_types.specs.declared.refusal.Refusal.TheVariants as refusal
+use Rattle.mlt_object_kinds.specs.declared.operation.ObjReply.{ObjReply}
+use Rattle.mlt_object_base.specs.declared.record.RecChange.{RecChange}
+use Rattle.mlt_object_base.specs.declared.record.RecChange.TheVariants.{Add}
+use Rattle.mlt_object_base.specs.declared.request.Request.{Request}
+use Rattle.mlt_object_base.specs.Requests.{decision, target_of}
+use Rattle.mlt_hash_access.specs.Moments.{Moment}
+use Rattle.mlt_hash_access.specs.PageSteps.{Leaves}
+use Rattle.mlt_hash_access.specs.PageTurns.{IsRolledBack}
+use Rattle.mlt_hash_access.specs.Views.{view_of}
+use Rattle.mlt_hash.specs.Changes.{HasNoRoom, IsAtAbsent, Makes, MayChange, NeedsSplit, TellsOfAddition, page_of}
+use Rattle.mlt_hash.specs.Splitting.{IsUnderWay}
+use Rattle.mlt_hash.specs.Steps.{HasFound, IsSameWalk}
+use Rattle.mlt_hash.specs.Walks.{Basis, WalkFields, one_key}
+use Rattle.mlt_hash.specs.declared.answer.WalkAnswer.TheVariants as answer
+use Rattle.mlt_hash.specs.declared.pass.Change.{Change}
+use Rattle.mlt_hash.specs.declared.pass.Change.TheVariants as change
+use Rattle.mlt_hash.specs.declared.pass.Pass.TheVariants as pass
+use Rattle.mlt_hash.specs.declared.pass.Phase.{Phase}
+use Rattle.mlt_hash.specs.declared.pass.Phase.TheVariants as at
+use Rattle.mlt_tx_two_records.specs.declared.wide.OwnAnswer.TheVariants as own
+use Rattle.mlt_tx_two_records.specs.AtWideBuckets.{HasJustPut, IsToSplit, MayActOnOwn, MayWalkToOwn, TellsAtOwn}
+use Rattle.mlt_tx_two_records.specs.FirstPass.{HasKeys}
+use Rattle.mlt_tx_two_records.specs.Performing.{Performs}
+use Rattle.mlt_tx_two_records.specs.WidePass.{HasToldPresent, IsGoingToOwn, IsWideTo, PutsOwn, PutsThen}
+use Rattle.mlt_tx_two_records.proofs.WideDeciding.{own_change, own_present}
+use Rattle.mlt_tx_two_records.proofs.WideTurns.{walks_on}
+
+-- ---- a walk of a wide pass after a step or a change
+
+pub not_first : (walk : WalkFields) → walk.pass ≡ pass.Wide → walk.pass ≡ pass.First → ⊥
+not_first walk wide first = let both : pass.Wide ≡ pass.First = sym wide ∙ first in cc
+
+pub not_narrow : (walk : WalkFields) → walk.pass ≡ pass.Wide → walk.pass ≡ pass.Narrow → ⊥
+not_narrow walk wide narrow = let both : pass.Wide ≡ pass.Narrow = sym wide ∙ narrow in cc
+
+pub still_wide : (before after : WalkFields) (key : ℕ) → IsWideTo before key → IsSameWalk before after → IsWideTo after key
+still_wide before after key is same = record { key_is = same.key ∙ is.key_is; wide = same.pass ∙ is.wide; mode = same.mode ∙ is.mode }
+
+pub same_keys : (request : Request) (before after : WalkFields) (size : ℕ) → HasKeys request before.key size → IsSameWalk before after → HasKeys request after.key size
+same_keys request before after size keys same = subst (λ (k : ℕ). HasKeys request k size) (sym same.key) keys
+
+-- where it is, and what it has found
+pub at_bucket : (p : Phase) (found : Option ℕ) → HasFound p found → (bucket : ℕ) × (depth : ℕ) × (p ≡ at.AtBucket bucket depth found)
+at_bucket (at.AtBucket bucket depth f) found is = (bucket, depth, ap (at.AtBucket bucket depth) is)
+at_bucket other found is = absurd is
+
+pub absent_at : (p : Phase) (found : Option ℕ) → HasFound p found → found ≡ None → IsAtAbsent p × HasFound p None
+absent_at (at.AtBucket bucket depth f) found is none = (is ∙ none, is ∙ none)
+absent_at other found is none = absurd is
+
+module _ (basis : Basis) (m : Moment) (request : Request) (walk : WalkFields) (found : Option ℕ) (ready : MayActOnOwn basis m request walk found) where
+  -- **It may put the record,**
+  pub may_put : MayChange (one_key basis) m walk
+  may_put = record { walks = ready.may.walks; exclusive = ready.may.to_key.mode }
+
+  -- **where it has found none.**
+  pub absent : (reply : ObjReply) (decided : RecChange) → decision request found ≡ (reply, Some decided) → IsAtAbsent walk.phase × HasFound walk.phase None
+  absent reply decided is = absent_at walk.phase found ready.at_bucket (own_change request found reply decided ready.may.adds is).0
+
+  -- what is put where none was found
+  pub puts_own : (reply : ObjReply) (value : ℕ) → decision request found ≡ (reply, Some (Add value)) → PutsOwn request reply value
+  puts_own reply value is = subst (λ (f : Option ℕ). decision request f ≡ (reply, Some (Add value))) (own_change request found reply (Add value) ready.may.adds is).0 is
+
+  -- **Where it has found one, it is told so, and all else stays.**
+  pub told_present : (reply : ObjReply) → decision request found ≡ (reply, None) → HasToldPresent basis request walk reply (view_of m)
+  told_present reply is =
+      let present = own_present request found reply ready.may.adds is in
+      let place = at_bucket walk.phase found ready.at_bucket in
+      record {
+        adds = ready.may.adds;
+        size = ready.may.size;
+        keys = ready.may.keys;
+        to_key = ready.may.to_key;
+        bucket = place.0;
+        depth = place.1;
+        value = present.0;
+        at_bucket = place.2 ∙ ap (at.AtBucket place.0 place.1) present.1;
+        stands = ready.may.walks.stands;
+        decided = subst (λ (f : Option ℕ). decision request f ≡ (reply, None)) present.1 is;
+        resized = present.2;
+      }
+
+  module _ (new : Moment) (after : WalkFields) where
+    may_walk : Leaves m new → (done : Change) → Makes (one_key basis) new walk after done → MayWalkToOwn basis new request after
+    may_walk leaves done makes = record {
+      adds = ready.may.adds;
+      size = ready.may.size;
+      keys = same_keys request walk after ready.may.size ready.may.keys makes.same;
+      to_key = still_wide walk after (target_of request).0 ready.may.to_key makes.same;
+      walks = walks_on (one_key basis) m new walk after ready.may.walks leaves makes.stands;
+    }
+
+    has_put : Leaves m new → (reply : ObjReply) (value : ℕ) → decision request found ≡ (reply, Some (Add value)) → (done : Change) → Makes (one_key basis) new walk after done → Performs (Add value) None done → HasJustPut basis new request after
+    has_put leaves reply value is done makes performs = record {
+      may = may_walk leaves done makes;
+      bucket = page_of walk.phase;
+      done = done;
+      phase = makes.phase;
+      reply = reply;
+      value = value;
+      decided = puts_own reply value is;
+      performs = performs;
+    }
+
+    -- **It has put the record,**
+    pub just_put : Leaves m new → (reply : ObjReply) (value : ℕ) → decision request found ≡ (reply, Some (Add value)) → TellsOfAddition (one_key basis) new walk after value answer.Changed → HasJustPut basis new request after
+    just_put leaves reply value is (inl makes) = has_put leaves reply value is (change.Revive value) makes (inr refl)
+    just_put leaves reply value is (inr makes) = has_put leaves reply value is (change.Put value) makes (inl refl)
+
+    -- **or is to split the bucket,**
+    pub is_to_split : new ≡ m → (reply : ObjReply) (value : ℕ) → decision request found ≡ (reply, Some (Add value)) → NeedsSplit (one_key basis) new walk after value
+        → IsToSplit (one_key basis) m new walk after × IsGoingToOwn basis request after (view_of new)
+    is_to_split stays reply value is needs =
+        let adding = needs.later (not_first walk ready.may.to_key.wide) in (
+          record { stays = stays; absent = (absent reply (Add value) is).1; value = value; needs = needs },
+          record {
+            adds = ready.may.adds;
+            size = ready.may.size;
+            keys = same_keys request walk after ready.may.size ready.may.keys needs.same;
+            to_key = still_wide walk after (target_of request).0 ready.may.to_key needs.same;
+            under_way = subst IsUnderWay (sym adding.1) tt;
+            stands = needs.stands;
+            puts = subst (λ (p : Phase). PutsThen p (λ v. (r : ObjReply) × PutsOwn request r v)) (sym adding.1) (reply, puts_own reply value is);
+          },
+        )
+
+    -- **or there is no room at any depth.**
+    pub no_room : (back : Moment) → new ≡ m → (reply : ObjReply) (value : ℕ) → decision request found ≡ (reply, Some (Add value)) → (reason : Refusal) → TellsOfAddition (one_key basis) new walk after value (answer.Refused reason) → IsRolledBack m back
+        → TellsAtOwn basis m back request walk after (own.Refused reason)
+    no_room back stays reply value is refusal.NoRoom none rolled = (rolled, record { absent = (absent reply (Add value) is).1; after = after; none = subst (λ (n : Moment). HasNoRoom (one_key basis) n walk after) stays none })
+    no_room back stays reply value is other lacks rolled = absurd (lacks.1 refl)

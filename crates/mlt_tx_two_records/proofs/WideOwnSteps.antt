@@ -1,0 +1,142 @@
+-- What a step of a wide pass to its own key tells
+use Rattle.std.proofs.Common.{◌≡◌, ℕ, Option, None, refl, sym, ap, subst, ◌∙◌, inl, inr}
+use Rattle.mlt_types.specs.declared.refusal.Refusal.{Refusal}
+use Rattle.mlt_types.specs.declared.refusal.Refusal.TheVariants as refusal
+use Rattle.mlt_object_kinds.specs.declared.operation.ObjReply.{ObjReply}
+use Rattle.mlt_object_base.specs.declared.request.Request.{Request}
+use Rattle.mlt_object_base.specs.Requests.{target_of}
+use Rattle.mlt_hash_access.specs.Moments.{Moment}
+use Rattle.mlt_hash_access.specs.PageSteps.{Leaves, LocksAtMost}
+use Rattle.mlt_hash_access.specs.PageTurns.{IsRolledBack, TakesTurn}
+use Rattle.mlt_hash_access.specs.Views.{view_of}
+use Rattle.mlt_hash_access.proofs.Since.{nothing_written}
+use Rattle.mlt_hash.specs.Changes.{page_of}
+use Rattle.mlt_hash.specs.Splitting.{TellsAt}
+use Rattle.mlt_hash.specs.Steps.{GoesOn, HasFound, IsSameWalk, steps_to_bucket}
+use Rattle.mlt_hash.specs.Walks.{Basis, IsStanding, MayWalk, WalkFields, one_key}
+use Rattle.mlt_hash.specs.declared.answer.WalkAnswer.TheVariants as answer
+use Rattle.mlt_hash.specs.declared.pass.Change.TheVariants as change
+use Rattle.mlt_hash.specs.declared.pass.Phase.{Phase}
+use Rattle.mlt_tx_two_records.specs.declared.double.Double.TheVariants.{Wide}
+use Rattle.mlt_tx_two_records.specs.declared.double.Leg.TheVariants as leg
+use Rattle.mlt_tx_two_records.specs.declared.wide.OwnAnswer.{OwnAnswer}
+use Rattle.mlt_tx_two_records.specs.declared.wide.OwnAnswer.TheVariants as own
+use Rattle.mlt_tx_two_records.specs.AtWideBuckets.{HasJustPut, MayActOnOwn, MayWalkToOwn, TellsAtOwn}
+use Rattle.mlt_tx_two_records.specs.Doubles.{MayGoOn}
+use Rattle.mlt_tx_two_records.specs.WalkSteps.{ReachesBucket}
+use Rattle.mlt_tx_two_records.specs.WidePass.{CauseAtOwn, IsGoingToSize, OwnRefused, PutsOwn, PutsThen, TellsOfOwn}
+use Rattle.mlt_tx_two_records.proofs.WideGoing.{goes_further, puts_behind, puts_still}
+use Rattle.mlt_tx_two_records.proofs.WideOwn.{not_first, same_keys, still_wide}
+use Rattle.mlt_tx_two_records.proofs.WideTelling.{IsWhy, found_by_path, reaches, was_last}
+use Rattle.mlt_tx_two_records.proofs.WideTurns.{lock_and_write_turn, one_step_turns, walks_on}
+
+module _ (basis : Basis) (old : Moment) (request : Request) (before : WalkFields) (may : MayGoOn basis old request (Wide leg.Own before)) where
+  -- **It may take its step.**
+  pub may_walk : MayWalk (one_key basis) old before
+  may_walk = record {
+    bounded = may.bounded;
+    small = may.small;
+    may = may.may;
+    written = nothing_written (view_of old);
+    file = may.file;
+    shallow = may.shallow;
+    stands = may.stands.stands;
+  }
+
+  module _ (mid : Moment) (walk : WalkFields) (leaves : Leaves old mid) where
+    turn : TakesTurn old mid
+    turn = one_step_turns (one_key basis) old mid before may_walk leaves
+
+    may_walk_on : IsSameWalk before walk → IsStanding (one_key basis) walk (view_of mid) → MayWalkToOwn basis mid request walk
+    may_walk_on same stands = record {
+      adds = may.stands.adds;
+      size = may.stands.size;
+      keys = same_keys request before walk may.stands.size may.stands.keys same;
+      to_key = still_wide before walk (target_of request).0 may.stands.to_key same;
+      walks = walks_on (one_key basis) old mid before walk may_walk leaves stands;
+    }
+
+    -- **It goes on,**
+    pub goes_to_own : TellsAt before.phase (one_key basis) old mid before walk answer.Going → TellsOfOwn basis old mid request before walk own.Going
+    goes_to_own tells =
+        let further = goes_further (one_key basis) old mid before walk may_walk leaves tells in (
+          turn,
+          inl further.nearer,
+          record {
+            adds = may.stands.adds;
+            size = may.stands.size;
+            keys = same_keys request before walk may.stands.size may.stands.keys further.same;
+            to_key = still_wide before walk (target_of request).0 may.stands.to_key further.same;
+            under_way = further.under_way;
+            stands = further.stands;
+            puts = puts_still before.phase (one_key basis) old mid before walk (λ v. (r : ObjReply) × PutsOwn request r v) tells may.stands.puts;
+          },
+        )
+
+    -- **is refused,**
+    cause_of : (reason : Refusal) → IsWhy reason (one_key basis) old before → CauseAtOwn reason (one_key basis) old mid before
+    cause_of refusal.NoRoom why = inr why
+    cause_of refusal.OutOfMemory why = why
+    cause_of other why = absurd why
+
+    pub is_refused : (new : Moment) (reason : Refusal) → IsWhy reason (one_key basis) old before → IsRolledBack mid new → OwnRefused basis old new before reason
+    is_refused new reason why back = record { back = record { mid = mid; turn = turn; back = back }; cause = cause_of reason why }
+
+    -- **has put the record behind splits,**
+    module _ (tells : TellsAt before.phase (one_key basis) old mid before walk answer.Changed) where
+      pub has_put_behind : HasJustPut basis mid request walk
+      has_put_behind =
+          let put = puts_behind before.phase (one_key basis) old mid before walk refl tells in
+          let decided = subst (λ (p : Phase). PutsThen p (λ v. (r : ObjReply) × PutsOwn request r v)) put.was may.stands.puts in
+          record {
+            may = may_walk_on put.makes.same put.makes.stands;
+            bucket = page_of before.phase;
+            done = change.Put put.value;
+            phase = put.makes.phase;
+            reply = decided.0;
+            value = put.value;
+            decided = decided.1;
+            performs = inl refl;
+          }
+
+      pub goes_over_behind : (after : WalkFields) → IsGoingToSize basis request after (view_of mid) → steps_to_bucket after.phase ≡ 2 → TellsOfOwn basis old mid request before after own.Over
+      goes_over_behind after goes steps =
+          let put = puts_behind before.phase (one_key basis) old mid before walk refl tells in
+          (turn, record { size = goes; changed = inr (put.value, put.bucket, put.room_depth, put.was); steps = steps })
+
+    -- **or has found its key.**
+    module _ (found : Option ℕ) (locks : LocksAtMost old mid (page_of walk.phase)) (tells : TellsAt before.phase (one_key basis) old mid before walk (answer.Found found)) where
+      path : GoesOn (one_key basis) mid before walk × HasFound walk.phase found
+      path = found_by_path before.phase (one_key basis) old mid before walk found tells
+
+      last : steps_to_bucket before.phase ≡ 1
+      last = was_last (one_key basis) mid before walk found path.0 path.1
+
+      pub may_act : MayActOnOwn basis mid request walk found
+      may_act = record { may = may_walk_on path.0.same path.0.stands; at_bucket = path.1 }
+
+      reaches_now : (new : Moment) → new ≡ mid → HasFound walk.phase None → ReachesBucket (one_key basis) new before walk
+      reaches_now new stays none = subst (λ (m : Moment). ReachesBucket (one_key basis) m before walk) (sym stays) (reaches (one_key basis) mid before walk path.0 none)
+
+      pub tells_there : (new : Moment) (after : WalkFields) (told : OwnAnswer) → TellsAtOwn basis mid new request walk after told → TellsOfOwn basis old new request before after told
+      tells_there new after own.Going (splits, goes) = (
+        subst (λ (m : Moment). TakesTurn old m) (sym splits.stays) turn,
+        inr (record {
+          walk = walk;
+          reaches = reaches_now new splits.stays splits.absent;
+          value = splits.value;
+          needs = splits.needs;
+          at_bucket = ap steps_to_bucket (splits.needs.later (not_first walk (path.0.same.pass ∙ may.stands.to_key.wide))).1;
+        }),
+        goes,
+      )
+      tells_there new after own.Over (writes, goes, steps) = (
+        lock_and_write_turn (one_key basis) old mid new before (page_of walk.phase) may_walk locks writes.writes,
+        record { size = goes; changed = inl last; steps = steps },
+      )
+      tells_there new after (own.Told reply) (stays, present) = (subst (λ (m : Moment). TakesTurn old m) (sym stays) turn, last, present)
+      tells_there new after (own.Refused refusal.NoRoom) (back, none) = record {
+        back = record { mid = mid; turn = turn; back = back };
+        cause = inl (record { walk = walk; after = none.after; reaches = reaches (one_key basis) mid before walk path.0 none.absent; none = none.none });
+      }
+      tells_there new after other never = absurd never

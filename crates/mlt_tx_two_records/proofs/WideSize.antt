@@ -1,0 +1,177 @@
+-- What a wide pass does at the bucket of the size's key, over what it wrote for the own one
+use Rattle.std.proofs.Common.{◌≡◌, ℕ, None, Option, Some, refl, sym, ap, subst, ◌∙◌, inr}
+use Rattle.mlt_types.specs.declared.refusal.Refusal.{Refusal}
+use Rattle.mlt_types.specs.declared.refusal.Refusal.TheVariants as refusal
+use Rattle.mlt_page.specs.declared.page.Page.{Page}
+use Rattle.mlt_object_kinds.specs.declared.operation.ObjReply.{ObjReply}
+use Rattle.mlt_object_base.specs.declared.record.RecChange.{RecChange}
+use Rattle.mlt_object_base.specs.declared.record.RecChange.TheVariants.{Add, Plus}
+use Rattle.mlt_object_base.specs.declared.request.Request.{Request}
+use Rattle.mlt_object_base.specs.Requests.{decision, size_decision, target_of}
+use Rattle.mlt_hash_form.specs.File.{FilePages, look_up}
+use Rattle.mlt_hash_form.specs.Held.{Agrees}
+use Rattle.mlt_hash_access.specs.Moments.{MayStep, Moment}
+use Rattle.mlt_hash_access.specs.PageSteps.{Leaves, TouchesOnePage}
+use Rattle.mlt_hash_access.specs.PageTurns.{IsRolledBack}
+use Rattle.mlt_hash_access.specs.Views.{View, rebased, view_of}
+use Rattle.mlt_hash_access.proofs.OwnSteps.{own_step_sees_more}
+use Rattle.mlt_hash_access.proofs.Rebased.{written_stays}
+use Rattle.mlt_hash.specs.Changes.{HasNoRoom, MayChange, NeedsSplit, WritesIfChanged, page_of}
+use Rattle.mlt_hash.specs.Splitting.{IsUnderWay}
+use Rattle.mlt_hash.specs.Steps.{HasFound, IsSameWalk}
+use Rattle.mlt_hash.specs.Walks.{Basis, Before, HasRead, IsChanged, Stands, WalkFields, basis_after}
+use Rattle.mlt_hash.specs.declared.answer.WalkAnswer.TheVariants as answer
+use Rattle.mlt_hash.specs.declared.pass.Phase.{Phase}
+use Rattle.mlt_hash.specs.declared.pass.Phase.TheVariants as at
+use Rattle.mlt_hash.proofs.Laws.{found_there}
+use Rattle.mlt_hash.proofs.Passed.{read_of}
+use Rattle.mlt_hash.proofs.Standings.{found_still}
+use Rattle.mlt_hash.proofs.Stood.{still_stood}
+use Rattle.mlt_tx_two_records.specs.declared.answer.DoubleAnswer.TheVariants as told
+use Rattle.mlt_tx_two_records.specs.AtWideBuckets.{IsMade, MayActOnSize, OfAddition, Raises, TellsAtSize, TellsOfRaise}
+use Rattle.mlt_tx_two_records.specs.FirstPass.{HasKeys}
+use Rattle.mlt_tx_two_records.specs.WidePass.{HasPutOwn, HasToldBoth, IsWideTo, PutsSize, PutsThen}
+use Rattle.mlt_tx_two_records.proofs.WideDeciding.{raises_size}
+use Rattle.mlt_tx_two_records.proofs.WideOwn.{absent_at, not_first}
+use Rattle.mlt_tx_two_records.proofs.WideTurns.{agrees_after, clean_agrees, clean_over}
+
+-- **What was put is put still after a step.**
+abbrev pub put_still : (basis : Basis) (request : Request) (since : Before) (old new : Moment) → MayStep old → TouchesOnePage old new → HasPutOwn basis request (view_of old) since → HasPutOwn basis request (view_of new) since
+put_still basis request since old new may touches put = record {
+  walk = put.walk;
+  to_key = put.to_key;
+  then_view = put.then_view;
+  bucket = put.bucket;
+  done = put.done;
+  phase = put.phase;
+  changed = put.changed;
+  reply = put.reply;
+  value = put.value;
+  decided = put.decided;
+  performs = put.performs;
+  since_is = put.since_is;
+  seen = λ q p sees. own_step_sees_more old new q p may touches (put.seen q p sees);
+  written = written_stays since.written old new may touches put.written;
+  stood = still_stood since.written basis.tx (view_of old) (view_of new) put.stood (λ q p sees. own_step_sees_more old new q p may touches sees);
+}
+
+-- the keys, and the pass
+pub size_keys : (request : Request) (before after : WalkFields) → HasKeys request (target_of request).0 before.key → IsSameWalk before after → HasKeys request (target_of request).0 after.key
+size_keys request before after keys same = subst (λ (k : ℕ). HasKeys request (target_of request).0 k) (sym same.key) keys
+
+pub size_wide : (before after : WalkFields) → IsWideTo before before.key → IsSameWalk before after → IsWideTo after after.key
+size_wide before after is same = record { key_is = refl; wide = same.pass ∙ is.wide; mode = same.mode ∙ is.mode }
+
+-- what the bucket had is what the clean pages have
+found_clean : (phase : Phase) (basis : Basis) (walk : WalkFields) (view : View) (found : Option ℕ) (clean : ℕ → Option Page) → HasFound phase found → Stands phase basis walk view → Agrees view.seen clean → look_up basis.bits clean basis.root walk.key ≡ found
+found_clean (at.AtBucket bucket depth f) basis walk view found clean is stands agree = found_there basis walk view bucket depth f clean stands agree ∙ is
+found_clean other basis walk view found clean is stands agree = absurd is
+
+-- what is told to be raised was to be added, where nothing was found
+added_at : (raise : RecChange) (Is : ℕ → Type 0) → OfAddition raise Is → (value : ℕ) × (raise ≡ Add value) × Is value
+added_at (Add value) Is of = (value, refl, of)
+added_at other Is of = absurd of
+
+found_none : (raise : RecChange) (found : Option ℕ) (value : ℕ) → Raises found raise → raise ≡ Add value → found ≡ None
+found_none (Add v) None value raises is = refl
+found_none (Add v) (Some w) value raises is = absurd raises
+found_none (Plus n) found value raises is = absurd (let both : Plus n ≡ Add value = is in cc)
+found_none other None value raises is = absurd raises
+found_none other (Some w) value raises is = absurd raises
+
+module _ (basis : Basis) (m : Moment) (request : Request) (walk : WalkFields) (found : Option ℕ) (since : Before) (ready : MayActOnSize basis m request walk found since) (reply : ObjReply) (told_is : (decision request None).0 ≡ reply) where
+  abbrev over : Basis
+  over = basis_after since basis
+
+  -- **It may raise the size.**
+  pub may_raise : MayChange over m walk
+  may_raise = record { walks = ready.may.walks; exclusive = ready.may.to_key.mode }
+
+  -- the reply is that of the own record
+  reply_is : reply ≡ ready.may.put.reply
+  reply_is = sym told_is ∙ ap (λ (r : ObjReply × Option RecChange). r.0) ready.may.put.decided
+
+  decided : decision request None ≡ (reply, Some (Add ready.may.put.value))
+  decided = ready.may.put.decided ∙ ap (λ (r : ObjReply). (r, Some (Add ready.may.put.value))) (sym reply_is)
+
+  module _ (raise : RecChange) (is : size_decision request reply found ≡ Some raise) where
+    pub raises_it : Raises found raise
+    raises_it = raises_size request reply ready.may.put.value found raise ready.may.adds decided is
+
+    -- what is put where none was found
+    puts_size : (value : ℕ) → raise ≡ Add value → PutsSize request ready.may.put.reply value
+    puts_size value added =
+        let none = found_none raise found value raises_it added in
+        subst (λ (r : ObjReply). size_decision request r None ≡ Some (Add value)) reply_is (subst (λ (f : Option ℕ). size_decision request reply f ≡ Some (Add value)) none (is ∙ ap Some added))
+
+    absent : (value : ℕ) → raise ≡ Add value → HasFound walk.phase None
+    absent value added = (absent_at walk.phase found ready.at_bucket (found_none raise found value raises_it added)).1
+
+    -- **It is raised,**
+    module _ (new : Moment) (after : WalkFields) (leaves : Leaves m new) (made : IsMade over new walk after raise found) where
+      abbrev clean : FilePages
+      clean = clean_over over m walk ready.may.walks
+
+      was : look_up basis.bits clean basis.root walk.key ≡ found
+      was = found_clean walk.phase over walk (rebased since.written (view_of m)) found clean ready.at_bucket ready.may.walks.stands (clean_agrees over m walk ready.may.walks)
+
+      changed : IsChanged over after (rebased since.written (view_of new)) (page_of walk.phase) made.done
+      changed = subst (λ (p : Phase). Stands p over after (rebased since.written (view_of new))) made.makes.phase made.makes.stands
+
+      read : HasRead over after.key (rebased since.written (view_of new)) found
+      read =
+          let still = found_still over after.key (rebased since.written (view_of new)) changed.found clean changed.read (agrees_after over m new walk ready.may.walks leaves) in
+          read_of over after.key (rebased since.written (view_of new)) changed.found found (still ∙ ap (λ key. look_up basis.bits clean basis.root key) made.makes.same.key ∙ was) changed.read
+
+      pub told_both : HasToldBoth basis request after reply (view_of new)
+      told_both = record {
+        adds = ready.may.adds;
+        since = since;
+        put = put_still basis request since m new ready.may.walks.may leaves.touches ready.may.put;
+        reply_is = reply_is;
+        keys = size_keys request walk after ready.may.keys made.makes.same;
+        to_key = size_wide walk after ready.may.to_key made.makes.same;
+        bucket = page_of walk.phase;
+        done = made.done;
+        phase = made.makes.phase;
+        stands = made.makes.stands;
+        found = found;
+        read = read;
+        resize = raise;
+        resized = is;
+        performs = made.performs;
+      }
+
+      pub raised : WritesIfChanged m new (page_of walk.phase) answer.Changed → TellsAtSize basis since m new request walk after (told.Told reply)
+      raised writes = (record { leaves = leaves; writes = inr writes }, told_both)
+
+    -- **is to be split for,**
+    splits_there : (after : WalkFields) (value : ℕ) → raise ≡ Add value → NeedsSplit over m walk after value → TellsAtSize basis since m m request walk after told.Going
+    splits_there after value added needs =
+        let adding = needs.later (not_first walk ready.may.to_key.wide) in (
+          record { stays = refl {a = m}; absent = absent value added; value = value; needs = needs },
+          record {
+            adds = ready.may.adds;
+            since = since;
+            put = ready.may.put;
+            keys = size_keys request walk after ready.may.keys needs.same;
+            to_key = size_wide walk after ready.may.to_key needs.same;
+            under_way = subst IsUnderWay (sym adding.1) tt;
+            stands = needs.stands;
+            puts = subst (λ (p : Phase). PutsThen p (PutsSize request ready.may.put.reply)) (sym adding.1) (puts_size value added);
+          },
+        )
+
+    pub splits_for_it : (new : Moment) (after : WalkFields) → new ≡ m → TellsOfRaise over new walk after raise found answer.NeedSplit → TellsAtSize basis since m new request walk after told.Going
+    splits_for_it new after stays tells =
+        let added = added_at raise (λ value. NeedsSplit over new walk after value) tells in
+        subst (λ (n : Moment). TellsAtSize basis since m n request walk after told.Going) (sym stays)
+        (splits_there after added.0 added.1 (subst (λ (n : Moment). NeedsSplit over n walk after added.0) stays added.2))
+
+    -- **or is refused.**
+    pub refused_there : (new back : Moment) (after last : WalkFields) (reason : Refusal) → new ≡ m → TellsOfRaise over new walk after raise found (answer.Refused reason) → IsRolledBack m back → TellsAtSize basis since m back request walk last (told.Refused reason)
+    refused_there new back after last refusal.NoRoom stays tells rolled =
+        let added = added_at raise (λ value. HasNoRoom over new walk after) tells in
+        (rolled, record { absent = absent added.0 added.1; after = after; none = subst (λ (n : Moment). HasNoRoom over n walk after) stays added.2 })
+    refused_there new back after last refusal.OutOfMemory stays tells rolled = (rolled, tt)
+    refused_there new back after last other stays tells rolled = absurd (let only : other ≡ refusal.OutOfMemory = tells in cc)

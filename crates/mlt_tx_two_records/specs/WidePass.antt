@@ -1,0 +1,230 @@
+-- The wide pass of an operation on two records, which adds an element to a set: where it stands, and what its steps tell
+use Rattle.std.specs.Prelude.{ℕ, ◌≡◌, ◌≤◌, ◌⊎◌, false, Option, None, Some}
+use Rattle.mlt_types.specs.declared.mode.Mode.TheVariants.{Exclusive}
+use Rattle.mlt_types.specs.declared.refusal.Refusal.{Refusal}
+use Rattle.mlt_types.specs.declared.refusal.Refusal.TheVariants as refusal
+use Rattle.mlt_page.specs.declared.page.Page.{Page}
+use Rattle.mlt_object_kinds.specs.declared.operation.ObjReply.{ObjReply}
+use Rattle.mlt_object_base.specs.declared.record.RecChange.{RecChange}
+use Rattle.mlt_object_base.specs.declared.record.RecChange.TheVariants.{Add}
+use Rattle.mlt_object_base.specs.declared.request.Request.{Request}
+use Rattle.mlt_object_base.specs.Requests.{decision, size_decision, target_of}
+use Rattle.mlt_hash_access.specs.Moments.{Moment}
+use Rattle.mlt_hash_access.specs.PageTurns.{TakesTurn, TurnsBack}
+use Rattle.mlt_hash_access.specs.Views.{HasWritten, View, rebased, view_of}
+use Rattle.mlt_hash.specs.Walks.{Basis, Before, HasRead, IsChanged, IsStanding, SlotsStood, WalkFields, basis_after, before_of, one_key}
+use Rattle.mlt_hash.specs.Splitting.{IsUnderWay}
+use Rattle.mlt_hash.specs.Steps.{steps_to_bucket}
+use Rattle.mlt_hash.specs.declared.pass.Change.{Change}
+use Rattle.mlt_hash.specs.declared.pass.Pass.TheVariants as pass
+use Rattle.mlt_hash.specs.declared.pass.Phase.{Phase}
+use Rattle.mlt_hash.specs.declared.pass.Phase.TheVariants as at
+use Rattle.mlt_tx_two_records.specs.declared.answer.DoubleAnswer.{DoubleAnswer}
+use Rattle.mlt_tx_two_records.specs.declared.answer.DoubleAnswer.TheVariants as answer
+use Rattle.mlt_tx_two_records.specs.declared.wide.OwnAnswer.{OwnAnswer}
+use Rattle.mlt_tx_two_records.specs.declared.wide.OwnAnswer.TheVariants as own
+use Rattle.mlt_tx_two_records.specs.FirstPass.{HasKeys}
+use Rattle.mlt_tx_two_records.specs.Performing.{AddsElement, Performs}
+use Rattle.mlt_tx_two_records.specs.WalkSteps.{BeginsToSplit, GoesNearer, LacksPage, LacksRoom, WalkWaits}
+
+-- ---- where it stands
+
+-- a wide pass to this key that has taken no step
+abbrev pub wide_to : ℕ → WalkFields
+wide_to key = record {
+  key = key;
+  mode = Exclusive;
+  pass = pass.Wide;
+  phase = at.Start;
+  split = None;
+}
+
+-- a walk to this key in a wide pass, which locks all exclusively
+pub record IsWideTo (walk : WalkFields) (key : ℕ) : Type 0 where
+  pub key_is : walk.key ≡ key
+  pub wide : walk.pass ≡ pass.Wide
+  pub mode : walk.mode ≡ Exclusive
+
+-- of the value of the record that it is to put behind its splits this is so
+abbrev pub PutsThen : Phase → (ℕ → Type 0) → Type 0
+PutsThen (at.Adding value bucket room_depth unsplit) Is = Is value
+PutsThen (at.Splitting value room_depth) Is = Is value
+PutsThen other Is = Unit {0}
+
+-- The own record, of which there was none, is put with this value.
+abbrev pub PutsOwn : Request → ObjReply → ℕ → Type 0
+PutsOwn request reply value = decision request None ≡ (reply, Some (Add value))
+
+-- so is that of the size
+abbrev pub PutsSize : Request → ObjReply → ℕ → Type 0
+PutsSize request reply value = size_decision request reply None ≡ Some (Add value)
+
+-- It goes to its own key.
+pub record IsGoingToOwn (basis : Basis) (request : Request) (walk : WalkFields) (view : View)
+    : Type 0 where
+  pub adds : AddsElement request
+  pub size : ℕ
+  pub keys : HasKeys request walk.key size
+  pub to_key : IsWideTo walk (target_of request).0
+  pub under_way : IsUnderWay walk.phase
+  pub stands : IsStanding (one_key basis) walk view
+  pub puts : PutsThen walk.phase (λ value. (reply : ObjReply) × PutsOwn request reply value)
+
+-- The own record is put, where none was found, and this is what was done then: seen as it was when the pass went on. What was
+-- seen then is seen still.
+pub record HasPutOwn (basis : Basis) (request : Request) (view : View) (since : Before) : Type 0 where
+  pub walk : WalkFields
+  pub to_key : IsWideTo walk (target_of request).0
+  pub then_view : View
+  pub bucket : ℕ
+  pub done : Change
+  pub phase : walk.phase ≡ at.Changed bucket done
+  pub changed : IsChanged (one_key basis) walk then_view bucket done
+  pub reply : ObjReply
+  pub value : ℕ
+  pub decided : PutsOwn request reply value
+  pub performs : Performs (Add value) None done
+  pub since_is : since ≡ before_of then_view
+  pub seen : (q : ℕ) (p : Option Page) → then_view.seen q ≡ Some p → view.seen q ≡ Some p
+  pub written : HasWritten since.written view
+  pub stood : SlotsStood since.written basis.tx view
+
+-- It has gone on to the key of the size, over what it wrote.
+pub record IsGoingToSize (basis : Basis) (request : Request) (walk : WalkFields) (view : View)
+    : Type 0 where
+  pub adds : AddsElement request
+  pub since : Before
+  pub put : HasPutOwn basis request view since
+  pub keys : HasKeys request (target_of request).0 walk.key
+  pub to_key : IsWideTo walk walk.key
+  pub under_way : IsUnderWay walk.phase
+  pub stands : IsStanding (basis_after since basis) walk (rebased since.written view)
+  pub puts : PutsThen walk.phase (PutsSize request put.reply)
+
+-- The own record is there: it is told so, and nothing is written. What the size is was not read.
+pub record HasToldPresent (basis : Basis) (request : Request) (walk : WalkFields) (reply : ObjReply)
+    (view : View) : Type 0 where
+  pub adds : AddsElement request
+  pub size : ℕ
+  pub keys : HasKeys request walk.key size
+  pub to_key : IsWideTo walk (target_of request).0
+  pub bucket : ℕ
+  pub depth : ℕ
+  pub value : ℕ
+  pub at_bucket : walk.phase ≡ at.AtBucket bucket depth (Some value)
+  pub stands : IsStanding (one_key basis) walk view
+  pub decided : decision request (Some value) ≡ (reply, None)
+  pub resized : (found : Option ℕ) → size_decision request reply found ≡ None
+
+-- Both records are written, the size's over what was written for the own one.
+pub record HasToldBoth (basis : Basis) (request : Request) (walk : WalkFields) (reply : ObjReply)
+    (view : View) : Type 0 where
+  pub adds : AddsElement request
+  pub since : Before
+  pub put : HasPutOwn basis request view since
+  pub reply_is : reply ≡ put.reply
+  pub keys : HasKeys request (target_of request).0 walk.key
+  pub to_key : IsWideTo walk walk.key
+  pub bucket : ℕ
+  pub done : Change
+  pub phase : walk.phase ≡ at.Changed bucket done
+  pub stands : IsStanding (basis_after since basis) walk (rebased since.written view)
+  pub found : Option ℕ
+  pub read : HasRead (basis_after since basis) walk.key (rebased since.written view) found
+  pub resize : RecChange
+  pub resized : size_decision request reply found ≡ Some resize
+  pub performs : Performs resize found done
+
+-- ---- what its steps tell
+
+-- it had split its bucket, and there was room
+abbrev pub PutsBehind : WalkFields → Type 0
+PutsBehind walk = (value bucket room_depth : ℕ) × (walk.phase ≡ at.Adding value bucket room_depth false)
+
+-- The step changed the key's record: at the bucket, or behind splits.
+abbrev pub HasChangedNow : WalkFields → Type 0
+HasChangedNow before = (steps_to_bucket before.phase ≡ 1) ⊎ PutsBehind before
+
+-- Why it is refused: no split makes room, or it lacks a page, or memory, to make a page or to keep an image. The record of its
+-- own key takes none where no bucket is split.
+abbrev pub CauseAtOwn : Refusal → Basis → Moment → Moment → WalkFields → Type 0
+CauseAtOwn refusal.NoRoom basis old mid before = LacksRoom basis mid before ⊎ LacksPage basis old before
+CauseAtOwn refusal.OutOfMemory basis old mid before =
+    (steps_to_bucket before.phase ≡ 0) × (LacksPage basis old before → ⊥)
+CauseAtOwn other basis old mid before = ⊥
+
+abbrev pub CauseAtSize : Refusal → Basis → Moment → Moment → WalkFields → Type 0
+CauseAtSize refusal.NoRoom basis old mid before = LacksRoom basis mid before ⊎ LacksPage basis old before
+CauseAtSize refusal.OutOfMemory basis old mid before =
+    (steps_to_bucket before.phase ≤ 1) × (LacksPage basis old before → ⊥)
+CauseAtSize other basis old mid before = ⊥
+
+-- It is refused, and all is rolled back.
+pub record OwnRefused (basis : Basis) (old new : Moment) (before : WalkFields) (reason : Refusal)
+    : Type 0 where
+  pub back : TurnsBack old new
+  pub cause : CauseAtOwn reason (one_key basis) old back.mid before
+
+pub record SizeRefused (basis : Basis) (old new : Moment) (request : Request) (before : WalkFields)
+    (reason : Refusal) : Type 0 where
+  pub back : TurnsBack old new
+  pub since : Before
+  pub put : HasPutOwn basis request (view_of old) since
+  pub cause : CauseAtSize reason (basis_after since basis) old back.mid before
+
+-- One step on the way to the key: nearer to the change, or at a bucket without room.
+abbrev pub WalksOn : Basis → Moment → Moment → WalkFields → WalkFields → Type 0
+WalksOn basis old new before after =
+    GoesNearer basis.root (view_of old) (view_of new) before after
+    ⊎ BeginsToSplit basis new before after
+
+-- The walk to the size's key waits over what was written for the own one.
+pub record SizeWaits (basis : Basis) (old new : Moment) (request : Request)
+    (before after : WalkFields) (page by : ℕ) : Type 0 where
+  pub since : Before
+  pub put : HasPutOwn basis request (view_of old) since
+  pub waits : WalkWaits (basis_after since basis) old new before after page by
+
+-- and so it walks on
+pub record SizeWalksOn (basis : Basis) (old new : Moment) (request : Request)
+    (before after : WalkFields) : Type 0 where
+  pub since : Before
+  pub put : HasPutOwn basis request (view_of new) since
+  pub walks : WalksOn (basis_after since basis) old new before after
+
+-- It goes on to the key of the size, since its own record is put. Two steps lead to that bucket.
+pub record GoesOver (basis : Basis) (new : Moment) (request : Request) (before after : WalkFields)
+    : Type 0 where
+  pub size : IsGoingToSize basis request after (view_of new)
+  pub changed : HasChangedNow before
+  pub steps : steps_to_bucket after.phase ≡ 2
+
+-- what a step to the own key tells
+abbrev pub TellsOfOwn : Basis → Moment → Moment → Request → WalkFields → WalkFields → OwnAnswer
+    → Type 0
+TellsOfOwn basis old new request before after own.Going =
+    TakesTurn old new × WalksOn (one_key basis) old new before after
+    × IsGoingToOwn basis request after (view_of new)
+TellsOfOwn basis old new request before after (own.Waiting page by) =
+    WalkWaits (one_key basis) old new before after page by
+TellsOfOwn basis old new request before after own.Over =
+    TakesTurn old new × GoesOver basis new request before after
+TellsOfOwn basis old new request before after (own.Told reply) =
+    TakesTurn old new × (steps_to_bucket before.phase ≡ 1)
+    × HasToldPresent basis request after reply (view_of new)
+TellsOfOwn basis old new request before after (own.Refused reason) =
+    OwnRefused basis old new before reason
+
+-- what a step to the size's key tells
+abbrev pub TellsOfSize : Basis → Moment → Moment → Request → WalkFields → WalkFields → DoubleAnswer
+    → Type 0
+TellsOfSize basis old new request before after answer.Going =
+    TakesTurn old new × SizeWalksOn basis old new request before after
+    × IsGoingToSize basis request after (view_of new)
+TellsOfSize basis old new request before after (answer.Waiting page by) =
+    SizeWaits basis old new request before after page by
+TellsOfSize basis old new request before after (answer.Told reply) =
+    TakesTurn old new × HasChangedNow before
+    × HasToldBoth basis request after reply (view_of new)
+TellsOfSize basis old new request before after (answer.Refused reason) =
+    SizeRefused basis old new request before reason

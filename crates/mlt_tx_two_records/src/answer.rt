@@ -1,0 +1,18 @@
+//! What a step of an operation on two records answers.
+
+use mlt_object_kinds::ObjReply;
+use mlt_types::{PageNo, Refusal, TxId};
+
+/// The answer to a step of an operation on two records.
+#[derive(Clone, Copy, Debug, PartialEq, Eq)]
+pub enum DoubleAnswer {
+    /// It goes on.
+    Going,
+    /// This page is held by this transaction, the lowest whose lock stands against the one asked for. Nothing has
+    /// changed.
+    Waiting(PageNo, TxId),
+    /// All that it changes is written, and it is told this: its next step is its end.
+    Told(ObjReply),
+    /// There is no room (`NoRoom`) or no memory (`OutOfMemory`). All is rolled back.
+    Refused(Refusal),
+}

@@ -1,0 +1,22 @@
+//! What a pair is asked for.
+
+ghost use Rattle.std.specs.Prelude.{◌≡◌};
+ghost use Rattle.mlt_tx_two_records.specs.Performing.{asked_of};
+
+use mlt_object_base::RecChange;
+use mlt_hash_pair::RecordChange;
+use mlt_types::Value;
+
+/// The change of a record that was decided on, where the record has this value, or there is none.
+pub(crate) fn asked_for(change: RecChange, found: Option<Value>) -> RecordChange
+    ensures { result ≡ asked_of change found }
+{
+    match change {
+        RecChange::Add(value) => RecordChange::Insert(value),
+        RecChange::Set(value) => RecordChange::Update(value),
+        RecChange::ToGhost => RecordChange::Remove,
+        RecChange::Revive => RecordChange::Insert(0),
+        RecChange::Plus(amount) => RecordChange::Update(found.unwrap_or(0).wrapping_add(amount)),
+        RecChange::Minus(amount) => RecordChange::Update(found.unwrap_or(0).wrapping_sub(amount)),
+    }
+}

@@ -1,0 +1,100 @@
+//! The first pass.
+
+ghost use Rattle.std.specs.Prelude.{◌≡◌};
+ghost use Rattle.mlt_hash_access.specs.Moments.{moment};
+ghost use Rattle.mlt_hash_pair.specs.Pairs.{FileRoot};
+ghost use Rattle.mlt_hash.specs.Walks.{basis_in};
+ghost use Rattle.mlt_tx_two_records.specs.Doubles.{MayGoOn};
+ghost use Rattle.mlt_tx_two_records.specs.FirstPass.{TellsOfFirst};
+ghost use Rattle.mlt_tx_two_records.specs.AtBuckets.{MayActOnBoth, TellsAtBuckets};
+ghost use Rattle.mlt_tx_two_records.specs.declared.double.Double.TheVariants.{First};
+
+use crate::asked::asked_for;
+use mlt_object_base::Request;
+use mlt_hash::Setting;
+use mlt_hash_access::LockedStore;
+use mlt_object_kinds::ObjReply;
+use mlt_hash_pair::{ChangeAnswer, Changes, Pair, PairAnswer};
+use mlt_page_subtx::Subtx;
+use mlt_types::{PageNo, Pseudo, TxId, Value};
+
+/// The answer to a step of a first pass, up to the one that finds both keys.
+#[derive(Clone, Copy, Debug, PartialEq, Eq)]
+pub(crate) enum FirstAnswer {
+    /// It goes on.
+    Going,
+    /// This page is held by this transaction, the lowest whose lock stands against the one asked for. Nothing has
+    /// changed.
+    Waiting(PageNo, TxId),
+    /// The later bucket is written, and the change of the earlier one is owed. The operation is told this reply.
+    OneLeft(ObjReply),
+    /// All that it changes is written, and it is told this.
+    Told(ObjReply),
+    /// A bucket has no room. All is rolled back.
+    Full,
+}
+
+/// One step of a first pass to both keys: it locks a page and reads it. In the step that finds both keys it makes the changes
+/// of their records, or that of the later bucket. It takes no memory.
+pub(crate) fn step_first<P: Pseudo>(
+    pair: &mut Pair,
+    request: &Request,
+    setting: &Setting<P>,
+    subtx: &mut Subtx,
+    pages: &mut LockedStore,
+) -> FirstAnswer
+    requires ready { MayGoOn (basis_in P.bits_of setting.now subtx.old.tx)
+        (moment subtx.old pages.old) request.now (First pair.old) }
+    ensures tells { TellsOfFirst (basis_in P.bits_of setting.now subtx.old.tx)
+        (moment subtx.old pages.old) (moment subtx.new pages.new)
+        request.now pair.old pair.new result }
+{
+    match pair.advance(setting.root, subtx, pages) {
+        PairAnswer::Going => FirstAnswer::Going,
+        PairAnswer::Waiting(page, by) => FirstAnswer::Waiting(page, by),
+        PairAnswer::Found(own, size) => {
+            act_on_both(pair, own, size, request, setting, subtx, pages)
+        }
+    }
+}
+
+/// At both buckets, where the own key has this value, or none, and the key of the size that one. The ghost is what the pair
+/// reads by.
+fn act_on_both<P: Pseudo>(
+    pair: &mut Pair,
+    own: Option<Value>,
+    size: Option<Value>,
+    request: &Request,
+    setting: &Setting<P>,
+    subtx: &mut Subtx,
+    pages: &mut LockedStore,
+) -> FirstAnswer
+    ghost read_by: { FileRoot }
+    requires read_by { read_by ≡ record {
+      bits = P.bits_of setting.now.root.now.pseudo;
+      root = setting.now.root.now.page;
+    } }
+    requires ready { MayActOnBoth (basis_in P.bits_of setting.now subtx.old.tx)
+        (moment subtx.old pages.old) request.now pair.old own size }
+    ensures tells { TellsAtBuckets (basis_in P.bits_of setting.now subtx.old.tx)
+        (moment subtx.old pages.old) (moment subtx.new pages.new)
+        request.now pair.old pair.new result }
+{
+    let (reply, change) = request.decide(own);
+    let resize = request.resize(reply, size);
+    let (Some(change), Some(resize)) = (change, resize) else {
+        return FirstAnswer::Told(reply);
+    };
+    let changes = Changes {
+        left: Some(asked_for(change, own)),
+        right: Some(asked_for(resize, size)),
+    };
+    match pair.change(&changes, subtx, pages, setting.opens) {
+        ChangeAnswer::Changed => FirstAnswer::Told(reply),
+        ChangeAnswer::OneLeft => FirstAnswer::OneLeft(reply),
+        ChangeAnswer::Full(_) => {
+            subtx.roll_back(&mut pages.store, &mut pages.locks);
+            FirstAnswer::Full
+        }
+    }
+}

@@ -1,7 +1,0 @@
-use Rattle.std.proofs.Common.{◌≡◌, drop}
-use Rattle.mlt_words.specs.Numbers.{number_of}
-use Rattle.mlt_words.proofs.Numerals.{goes_on}
-use Rattle.mlt_words.proofs.number.number.Given as goal
-
-abbrev pub invariant-loop-byte : goal.invariant-loop-byte
-invariant-loop-byte l = goes_on l.value (drop l.byte-index l.word) ≡ number_of l.word

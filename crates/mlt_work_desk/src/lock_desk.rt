@@ -1,0 +1,43 @@
+//! The form of a desk over a shared manager.
+
+ghost use Rattle.std.specs.Prelude.{◌≡◌, ◌-◌, ◌^◌, min};
+
+use crate::gate::Gate;
+use crate::made_with::MadeWith;
+use crate::shared::Shared;
+use crate::turn::Sleeper;
+use mlt_types::Pseudo;
+use mlt_work_waits::Bell;
+use std::sync::Wait;
+use std::sync::ledger::Share;
+
+/// How many tries there are. Each answer that a desk is to wait, or is blocked, spends one.
+#[derive(Clone, Copy, Debug, PartialEq, Eq)]
+pub enum Tries {
+    /// So many for all that a script asks.
+    PerScript(u64),
+    /// So many for each operation.
+    PerOperation(u64),
+}
+
+/// A desk over a shared manager. It counts its events in its share. It is counted as a desk until it is closed, so it can't
+/// be dropped.
+pub struct LockDesk<'a, P: Pseudo, L: MadeWith<P>, R: Wait, G: Gate> {
+    pub(crate) rt: &'a R,
+    pub(crate) shared: &'a Shared<P, L>,
+    pub(crate) gate: &'a G,
+    pub(crate) client: u32,
+    pub(crate) tries: Tries,
+    /// How many tries are left.
+    pub(crate) left: u64,
+    /// How often the operation has waited.
+    pub(crate) waited: u64,
+    /// What wakes it.
+    pub(crate) bell: Bell,
+    /// As whom it sleeps before its next event, if it does.
+    pub(crate) asleep: Option<Sleeper>,
+    pub(crate) share: Share<L>,
+    pub(crate) events: u64,
+    ghost part: { share.parts ≡ 1 },
+    ghost counted: { events ≡ min share.amount (2 ^ 64 - 1) },
+}

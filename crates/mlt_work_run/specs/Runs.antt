@@ -1,0 +1,28 @@
+-- What is written for an input whose scripts were run side by side.
+use Rattle.std.specs.Prelude.{◌≡◌, ℕ, List, Option}
+use Rattle.mlt_types.specs.declared.limits.Limits.{Limits}
+use Rattle.mlt_text.specs.Inputs.{GivesWhole}
+use Rattle.mlt_script.specs.Grammar.{Spells}
+use Rattle.mlt_script_tree.specs.Clients.{parts_of}
+use Rattle.mlt_script_tree.specs.Scripts.{ScriptForm}
+use Rattle.mlt_script_serial.specs.declared.report.Form.TheVariants.{Run}
+use Rattle.mlt_script_serial.specs.declared.report.Report.{Report}
+use Rattle.mlt_script_serial.specs.Texts.{report_text}
+use Rattle.mlt_manager.specs.Managers.{ManagerFields}
+use Rattle.mlt_work.specs.Runs.{HasRunAll}
+
+-- The input spells scripts, those of each client were run on this manager, made with these limits and this function from
+-- keys to pseudokeys, and the text is that of the report.
+pub record IsRunText {P : Type 0} (limits : Limits) (pseudo : P) (input text : List ℕ)
+    (manager : ManagerFields P) : Type 0 where
+  pub scripts : List ScriptForm
+  pub spells : Spells input scripts
+  pub report : Report
+  pub ran : HasRunAll (parts_of scripts) limits pseudo report manager
+  pub is : text ≡ report_text Run report.outcomes report.base
+
+-- a reader gave the input whole, and the text is that of its scripts
+abbrev pub IsRunOf : {P : Type 0} → Limits → P → Option (List ℕ) → Option (List ℕ) → List ℕ
+    → List ℕ → ManagerFields P → Type 0
+IsRunOf limits pseudo before after input text manager =
+    GivesWhole before after input × IsRunText limits pseudo input text manager

@@ -1,0 +1,201 @@
+//! The graph.
+
+ghost use Rattle.std.specs.Prelude.{ℕ, ◌≡◌, ◌++◌, ◌+◌, ◌≤◌, ◌⊎◌, ◌<◌, true, false, length};
+ghost use Rattle.mlt_work_waits.specs.Waits.{bells_in, CanJoin, CantJoin, Deadlocks, holder_among, holder_in, IsAcyclic, IsAwake, IsFor, joined, LeadsTo, LeadToAwake, nobody_waits, others_in, released, seen_along, waits_of};
+
+use crate::wait::{Awaited, Bells, Waiting, Whose};
+use arrayvec::ArrayVec;
+use mlt_types::TxId;
+use std::marker::Model;
+
+/// Which transactions wait for which, at most 64 for locks of objects and 64 for locks of pages. It takes no memory. A
+/// contract sees both lists. Nobody waits for two, or in a circle.
+#[derive(Debug, Drop)]
+pub struct WaitsFor {
+    objects: ArrayVec<Waiting, 64>,
+    pages: ArrayVec<Waiting, 64>,
+}
+
+impl Model for WaitsFor {
+    ghost use Rattle.mlt_work_waits.specs.Waits.{Waits, IsAcyclic};
+
+    ghost Value = { Waits };
+
+    ghost view = { λ graph. record { objects = graph.objects.items; pages = graph.pages.items } };
+
+    ghost invariant = { λ graph.
+        IsAcyclic (record { objects = graph.objects.items; pages = graph.pages.items }) };
+}
+
+impl WaitsFor {
+    /// Nobody waits.
+    #[tactic(auto, using(crate::proofs::Acyclic::nobody_is_acyclic))]
+    pub fn new() -> WaitsFor
+        ensures { result ≡ nobody_waits }
+    {
+        WaitsFor {
+            objects: ArrayVec::new(),
+            pages: ArrayVec::new(),
+        }
+    }
+
+    /// How many wait, 0 to 128.
+    pub fn count(&self) -> u64
+        ensures count { result ≡ length self.now.objects + length self.now.pages }
+        ensures fits { result ≤ 128 }
+    {
+        self.objects.len() as u64 + self.pages.len() as u64
+    }
+
+    /// Whether a transaction waits for nobody.
+    pub fn is_awake(&self, tx: TxId) -> bool
+        ensures awake { result ≡ true → IsAwake self.now tx }
+        ensures waits { result ≡ false → (y : ℕ) × IsFor self.now tx y }
+    {
+        self.holder_of(Along::All, tx).is_none()
+    }
+
+    /// Whether a wait is for an object, and would close a circle of such waits alone.
+    pub fn deadlocks(&self, awaited: Awaited, wait: &Waiting) -> bool
+        ensures deadlocks { result ≡ true → Deadlocks awaited wait.now self.now }
+        ensures free { result ≡ false → Deadlocks awaited wait.now self.now → ⊥ }
+    {
+        let _ = &self.objects;
+        awaited == Awaited::Objects && self.leads(Along::Objects, wait.holder, wait.waiter)
+    }
+
+    /// A transaction begins to wait. Where that would close a circle it doesn't, and it doesn't where there is no room for
+    /// one more, or where it waits already; then the answer is `false`.
+    pub fn join(&mut self, awaited: Awaited, wait: Waiting) -> bool
+        ensures can { result ≡ true → CanJoin awaited wait self.old }
+        ensures joins { result ≡ true → self.new ≡ joined awaited wait self.old }
+        ensures cant { result ≡ false → CantJoin awaited wait self.old }
+        ensures stays { result ≡ false → self.new ≡ self.old }
+        ensures awake { LeadToAwake self.new }
+    {
+        if !self.can_join(awaited, &wait) {
+            return false;
+        }
+        match awaited {
+            Awaited::Objects => self.objects.push(wait),
+            Awaited::Pages => self.pages.push(wait),
+        }
+        true
+    }
+
+    /// Such locks of one transaction, or of all, are given back: nobody waits for them from now on. The bells of those who
+    /// did join the others.
+    pub fn release(&mut self, awaited: Awaited, whose: Whose, bells: &mut Bells)
+        requires { length bells.old.items ≤ 128 }
+        ensures releases { self.new ≡ released awaited whose self.old }
+        ensures rings { bells.new.items
+            ≡ bells.old.items ++ bells_in whose (waits_of awaited self.old) }
+        ensures few { length bells.new.items ≤ length bells.old.items + 64 }
+        ensures awake { LeadToAwake self.new }
+    {
+        match awaited {
+            Awaited::Objects => release_in(&mut self.objects, whose, bells),
+            Awaited::Pages => release_in(&mut self.pages, whose, bells),
+        }
+    }
+
+    /// Whether one more wait finds room, is the first of its transaction, and closes no circle.
+    fn can_join(&self, awaited: Awaited, wait: &Waiting) -> bool
+        ensures can { IsAcyclic self.now → result ≡ true → CanJoin awaited wait.now self.now }
+        ensures cant { IsAcyclic self.now → result ≡ false → CantJoin awaited wait.now self.now }
+    {
+        if self.is_full(awaited) {
+            return false;
+        }
+        match self.holder_of(Along::All, wait.waiter) {
+            Some(_) => false,
+            None => !self.leads(Along::All, wait.holder, wait.waiter),
+        }
+    }
+
+    /// Whether there is no room for one more who waits for such locks.
+    fn is_full(&self, awaited: Awaited) -> bool
+        ensures full { result ≡ true → length (waits_of awaited self.now) ≡ 64 }
+        ensures room { result ≡ false → length (waits_of awaited self.now) < 64 }
+    {
+        match awaited {
+            Awaited::Objects => self.objects.is_full(),
+            Awaited::Pages => self.pages.is_full(),
+        }
+    }
+
+    /// For whom a transaction waits by one of the waits that are looked at, if it does.
+    fn holder_of(&self, along: Along, waiter: TxId) -> Option<TxId>
+        ensures { result ≡ holder_among along self.now waiter }
+    {
+        let object = holder_in(&self.objects, waiter);
+        match along {
+            Along::Objects => object,
+            Along::All => object.or(holder_in(&self.pages, waiter)),
+        }
+    }
+
+    /// Whether the waits that are looked at lead from one transaction to another. No more follow each other than there are.
+    fn leads(&self, along: Along, from: TxId, to: TxId) -> bool
+        ensures leads { IsAcyclic self.now
+            → LeadsTo (seen_along along self.now) from to → result ≡ true }
+        ensures cause { IsAcyclic self.now
+            → result ≡ true → LeadsTo (seen_along along self.now) from to }
+    {
+        let mut at = from;
+        for _ in 0..=self.count() {
+            if at == to {
+                return true;
+            }
+            match self.holder_of(along, at) {
+                Some(holder) => at = holder,
+                None => return false,
+            }
+        }
+        true
+    }
+}
+
+/// Which waits are looked at.
+#[derive(Clone, Copy, Debug, PartialEq, Eq)]
+pub(crate) enum Along {
+    /// Those for objects.
+    Objects,
+    All,
+}
+
+/// Takes away the waits for locks that are given back, and adds their bells to the others.
+fn release_in(waits: &mut ArrayVec<Waiting, 64>, whose: Whose, bells: &mut Bells)
+    requires { length bells.old.items ≤ 128 }
+    ensures releases { waits.new.items ≡ others_in whose waits.old.items }
+    ensures rings { bells.new.items ≡ bells.old.items ++ bells_in whose waits.old.items }
+    ensures few { length bells.new.items ≤ length bells.old.items + 64 }
+{
+    add_bells(waits, whose, bells);
+    waits.retain(|wait| !wait.is_for(whose));
+}
+
+/// Adds the bells of those who wait for locks that are given back to the others.
+fn add_bells(waits: &[Waiting], whose: Whose, bells: &mut Bells)
+    requires few { length waits.now ≤ 64 }
+    requires room { length bells.old.items ≤ 128 }
+    ensures rings { bells.new.items ≡ bells.old.items ++ bells_in whose waits.now }
+    ensures few { length bells.new.items ≤ length bells.old.items + length waits.now }
+{
+    for wait in waits {
+        let given = whose;
+        if wait.is_for(given) {
+            bells.push(wait.bell);
+        }
+    }
+}
+
+/// For whom a transaction waits, if one of these is a wait of it.
+fn holder_in(waits: &[Waiting], waiter: TxId) -> Option<TxId>
+    ensures { result ≡ holder_in waits.now waiter }
+{
+    waits
+        .iter()
+        .find(|wait| wait.waiter == waiter)
+        .map(|wait| wait.holder)
+}
