@@ -1,9 +1,13 @@
 //! The program's command line: the job that its words ask for, and what is said where they ask for none.
+//!
+//! What the program says of a fault, and the status that it ends with.
 #![tactic(auto)]
 
 mod commands;
+mod fault;
 mod report;
 mod words;
 
+pub use fault::{FaultLine, report_fault, status};
 pub use report::{command_line_status, report_command_line};
 pub use words::{Hash, Job, Run, Serve, Work, read_words};

@@ -1,2 +1,4 @@
 pub mod Going
 pub mod Deciding
+pub mod Cutting
+pub mod Splitting

@@ -19,7 +19,7 @@ use Rattle.mlt_page_subtx_laws.specs.Running.{HoldsNothing}
 use Rattle.mlt_hash_access.specs.Moments.{moment}
 use Rattle.mlt_hash.specs.Walks.{Basis, basis_by}
 use Rattle.mlt_tx_operation.specs.Operating.{MayOperate, started_for}
-use Rattle.mlt_tx_at_once.specs.AtOnce.{NobodyHolds}
+use Rattle.mlt_tx_operation.specs.AtOnce.{NobodyHolds}
 use Rattle.mlt_tx_meaning.specs.Presences.{IsOpInRange}
 use Rattle.mlt_event.specs.declared.answer.Answer.{Answer}
 use Rattle.mlt_event.specs.declared.answer.Answer.TheVariants as answer

@@ -14,8 +14,8 @@ use Rattle.mlt_object_kinds.specs.declared.operation.ObjOp.{ObjOp}
 use Rattle.mlt_object_kinds.specs.declared.operation.ObjReply.{ObjReply}
 use Rattle.mlt_trace.specs.declared.item.TraceItem.{TraceItem}
 use Rattle.mlt_trace.specs.declared.item.TraceItem.TheVariants as trace
-use Rattle.mlt_trace_history.specs.Numbers.{commit_count, commit_numbers}
-use Rattle.mlt_trace_history.proofs.ItemLaws.{commit_numbers-append}
+use Rattle.mlt_trace.specs.Numbers.{commit_count, commit_numbers}
+use Rattle.mlt_trace.proofs.ItemLaws.{commit_numbers-append}
 use Rattle.std.proofs.lemmas.List.{length-append}
 use Rattle.mlt_event.specs.declared.answer.Answer.{Answer}
 use Rattle.mlt_event.specs.declared.answer.Answer.TheVariants as answer

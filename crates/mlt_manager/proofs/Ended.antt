@@ -7,8 +7,8 @@ use Rattle.mlt_object_kinds.specs.declared.operation.ObjOp.{ObjOp}
 use Rattle.mlt_object_kinds.specs.declared.operation.ObjReply.{ObjReply}
 use Rattle.mlt_trace.specs.declared.item.TraceItem.{TraceItem}
 use Rattle.mlt_trace.specs.declared.item.TraceItem.TheVariants as trace
-use Rattle.mlt_trace_history.specs.Numbers.{commit_count}
-use Rattle.mlt_trace_history.proofs.ItemLaws.{commits_counted}
+use Rattle.mlt_trace.specs.Numbers.{commit_count}
+use Rattle.mlt_trace.proofs.ItemLaws.{commits_counted}
 use Rattle.mlt_page_subtx.specs.Images.{started}
 use Rattle.mlt_tx.specs.declared.transaction.Transaction.{Transaction}
 use Rattle.mlt_manager_invariant.specs.States.{State, pending_room}

@@ -1,7 +1,7 @@
 -- What a transaction that ends has room for, and leaves
 use Rattle.std.proofs.Common.{◌≡◌, ◌≤◌, ℕ, ◌+◌, ap, arith}
 use Rattle.mlt_trace.specs.declared.item.TraceItem.{TraceItem}
-use Rattle.mlt_trace_history.proofs.RoomLaws.{room_within_total}
+use Rattle.mlt_trace.proofs.RoomLaws.{room_within_total}
 use Rattle.mlt_manager_invariant.specs.States.{pending_room, room_of}
 use Rattle.mlt_manager.specs.Answers.{HasEnded, IsIdleWith}
 use Rattle.mlt_manager.specs.Managers.{IsManager, ManagerFields}

@@ -7,7 +7,7 @@ use Rattle.mlt_types.specs.declared.refusal.Refusal.{Refusal}
 use Rattle.mlt_types.specs.declared.refusal.Refusal.TheVariants as refusal
 use Rattle.mlt_object_kinds.specs.Bases.{empty_base}
 use Rattle.mlt_object_kinds.specs.declared.operation.ObjOp.{ObjOp}
-use Rattle.mlt_trace_history.specs.Numbers.{commit_count}
+use Rattle.mlt_trace.specs.Numbers.{commit_count}
 use Rattle.mlt_hash_form.specs.File.{GivesPseudokeys}
 use Rattle.mlt_event.specs.declared.answer.Answer.{Answer}
 use Rattle.mlt_manager_invariant.specs.Sound.{IsSound}

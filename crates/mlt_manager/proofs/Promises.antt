@@ -17,7 +17,7 @@ use Rattle.mlt_trace_check.specs.AcceptedItems.{AreAccepted}
 use Rattle.mlt_trace_laws.specs.Writable.{AllFit, AreWritable}
 use Rattle.mlt_order.specs.Runs.{IsSerialBase}
 use Rattle.mlt_trace.specs.Items.{trace_text}
-use Rattle.mlt_trace_history.specs.Numbers.{AreBegunInOrder, committed_txs}
+use Rattle.mlt_trace.specs.Numbers.{AreBegunInOrder, committed_txs}
 use Rattle.mlt_trace_check.specs.Traces.{ArePlaced, IsAcceptedTrace, told}
 use Rattle.mlt_trace_laws.proofs.Histories.{serializable}
 use Rattle.mlt_tx_meaning.specs.Worlds.{ledger_of}

@@ -1,7 +1,7 @@
 -- What a step and a cancel ask of a transaction
 use Rattle.std.proofs.Common.{◌≡◌, ◌≢◌, ◌≤◌, ℕ, Option, Some, unwrap_or, refl, ap, subst, sym, ◌∙◌, arith}
 use Rattle.std.specs.FinMap as map
-use Rattle.mlt_trace_history.proofs.RoomLaws.{room_within_total}
+use Rattle.mlt_trace.proofs.RoomLaws.{room_within_total}
 use Rattle.mlt_hash.specs.Walks.{basis_by}
 use Rattle.mlt_page_subtx.specs.Images.{AreThere, Images}
 use Rattle.mlt_tx.specs.declared.transaction.At.{At}

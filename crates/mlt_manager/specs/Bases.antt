@@ -9,7 +9,7 @@ use Rattle.mlt_object_kinds.specs.declared.operation.ObjOp.{ObjOp}
 use Rattle.mlt_object_kinds.specs.declared.operation.ObjReply.{ObjReply}
 use Rattle.mlt_order.specs.Histories.{IsHistory}
 use Rattle.mlt_order.specs.Runs.{Runs}
-use Rattle.mlt_trace_history.specs.Entries.{entries_of}
+use Rattle.mlt_trace.specs.Entries.{entries_of}
 use Rattle.mlt_object_locks.specs.Locks.{IsLowestClash}
 use Rattle.mlt_trace.specs.declared.item.TraceItem.{TraceItem}
 use Rattle.mlt_hash_form.specs.File.{depth_of, header_of}

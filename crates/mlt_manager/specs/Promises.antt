@@ -12,8 +12,8 @@ use Rattle.mlt_order.specs.Histories.{IsCommitOrderSerializable, Lists, lists_of
 use Rattle.mlt_order.specs.Histories.Stage.{Running}
 use Rattle.mlt_order.specs.Interleavings.{UndoneTo, items_of}
 use Rattle.mlt_order.specs.Runs.{IsSerialBase}
-use Rattle.mlt_trace_history.specs.Entries.{entries_of}
-use Rattle.mlt_trace_history.specs.Numbers.{AreBegunInOrder, AreCounted, committed_txs}
+use Rattle.mlt_trace.specs.Entries.{entries_of}
+use Rattle.mlt_trace.specs.Numbers.{AreBegunInOrder, AreCounted, committed_txs}
 use Rattle.mlt_page_locks.specs.LockTables.{AreCompatible}
 use Rattle.mlt_hash_form.specs.Prefixes.{IsExtendibleHashFile}
 use Rattle.mlt_hash_form.specs.Records.{live_records}

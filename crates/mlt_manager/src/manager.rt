@@ -2,7 +2,7 @@
 
 ghost use Rattle.std.specs.Prelude.{◌≡◌, ◌≤◌, IsOkUnless, IfOk, OnOk};
 ghost use Rattle.mlt_trace_check.specs.Traces.{ArePlaced};
-ghost use Rattle.mlt_trace_history.specs.Numbers.{AreBegunInOrder};
+ghost use Rattle.mlt_trace.specs.Numbers.{AreBegunInOrder};
 ghost use Rattle.mlt_manager.specs.Answers.{AnswersAbort, AnswersBegin, AnswersCall, AnswersCancel, AnswersCommit, AnswersStep, IsByAnother, counted};
 ghost use Rattle.mlt_manager.specs.Bases.{HasDepth, KeepsWhatCounts, LeavesBase, UndoingLeavesBase, WholeLeavesBase};
 ghost use Rattle.mlt_manager.specs.Events.{AreWholeEvents, Meets, NoneWaits, Plays, told_of};

@@ -31,7 +31,7 @@ use Rattle.mlt_order.proofs.Tables.{at_each, changed}
 use Rattle.mlt_order.specs.Tables.{with_entry}
 use Rattle.mlt_trace.specs.declared.item.TraceItem.{TraceItem}
 use Rattle.mlt_trace.specs.declared.item.TraceItem.TheVariants.{Begin, Op, Back, Commit, Abort}
-use Rattle.mlt_trace_history.specs.Entries.{entries_of, entry_of}
+use Rattle.mlt_trace.specs.Entries.{entries_of, entry_of}
 use Rattle.mlt_trace_check.specs.AcceptedItems.{AreAccepted}
 use Rattle.mlt_trace_check.specs.Traces.{told}
 use Rattle.mlt_trace_check.proofs.Growing.{append_nil}

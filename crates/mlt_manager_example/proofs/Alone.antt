@@ -10,7 +10,7 @@ use Rattle.mlt_event.specs.declared.answer.Answer.TheVariants as answer
 use Rattle.mlt_order.specs.Histories.{lists_of}
 use Rattle.mlt_order.specs.Histories.Stage.{Fresh, Running}
 use Rattle.mlt_order.proofs.Tables.{with_entry-other}
-use Rattle.mlt_trace_history.specs.Entries.{entries_of}
+use Rattle.mlt_trace.specs.Entries.{entries_of}
 use Rattle.mlt_trace.specs.declared.item.TraceItem.{TraceItem}
 use Rattle.mlt_trace.specs.declared.item.TraceItem.TheVariants as trace
 use Rattle.mlt_tx.specs.declared.transaction.Transaction.{Transaction}

@@ -14,7 +14,7 @@ use Rattle.mlt_object_kinds.specs.declared.operation.ObjReply.{ObjReply}
 use Rattle.mlt_object_kinds.specs.declared.operation.ObjReply.TheVariants.{Opened, Done}
 use Rattle.mlt_order.specs.Histories.{lists_of}
 use Rattle.mlt_order.specs.Runs.{IsSerialBase, Runs}
-use Rattle.mlt_trace_history.specs.Entries.{entries_of}
+use Rattle.mlt_trace.specs.Entries.{entries_of}
 use Rattle.mlt_trace.specs.declared.item.TraceItem.{TraceItem}
 use Rattle.mlt_trace.specs.declared.item.TraceItem.TheVariants as trace
 use Rattle.mlt_manager.specs.Managers.{ManagerFields}

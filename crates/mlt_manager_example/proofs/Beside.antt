@@ -12,8 +12,8 @@ use Rattle.mlt_order.specs.Histories.Entry.{Committed, Did}
 use Rattle.mlt_order.specs.Runs.{IsFunctional, IsSerialBase, Runs}
 use Rattle.mlt_order.proofs.Growing.{after_entries-push}
 use Rattle.mlt_order.proofs.RunLemmas.{serial_to_one}
-use Rattle.mlt_trace_history.specs.Entries.{entries_of, entry_of}
-use Rattle.mlt_trace_history.proofs.ItemLaws.{entries_of-append}
+use Rattle.mlt_trace.specs.Entries.{entries_of, entry_of}
+use Rattle.mlt_trace.proofs.ItemLaws.{entries_of-append}
 use Rattle.mlt_trace.specs.declared.item.TraceItem.{TraceItem}
 use Rattle.mlt_trace.specs.declared.item.TraceItem.TheVariants as trace
 use Rattle.mlt_manager_invariant.proofs.Tables.{inserted_here}

@@ -19,12 +19,12 @@ use Rattle.mlt_order.proofs.Tables.{changed}
 use Rattle.mlt_object_locks.specs.Locks.{Locks, SameReservations, is_of_other, reservation_of}
 use Rattle.mlt_trace.specs.declared.item.TraceItem.{TraceItem}
 use Rattle.mlt_trace.specs.declared.item.TraceItem.TheVariants as trace
-use Rattle.mlt_trace_history.specs.Entries.{entries_of}
-use Rattle.mlt_trace_history.specs.Items.{ItemsWithRoom}
-use Rattle.mlt_trace_history.specs.Numbers.{CountsFrom, begun_txs, commit_numbers}
-use Rattle.mlt_trace_history.specs.Rooms.{total_room}
-use Rattle.mlt_trace_history.proofs.ItemLaws.{entries_of-append, no_begin, no_commit}
-use Rattle.mlt_trace_history.proofs.RoomLaws.{total_room-remove}
+use Rattle.mlt_trace.specs.Entries.{entries_of}
+use Rattle.mlt_trace.specs.HistoryItems.{ItemsWithRoom}
+use Rattle.mlt_trace.specs.Numbers.{CountsFrom, begun_txs, commit_numbers}
+use Rattle.mlt_trace.specs.Rooms.{total_room}
+use Rattle.mlt_trace.proofs.ItemLaws.{entries_of-append, no_begin, no_commit}
+use Rattle.mlt_trace.proofs.RoomLaws.{total_room-remove}
 use Rattle.mlt_page_subtx_laws.specs.CleanPages.{clean_pages}
 use Rattle.mlt_hash_access.specs.Views.{view_of}
 use Rattle.mlt_page_subtx_laws.specs.Running.{KeepsRunning, after_close, clean_of, moment_of}

@@ -11,10 +11,10 @@ use Rattle.mlt_order.specs.Interleavings.{items_of}
 use Rattle.mlt_order.proofs.Growing.{after_entries-push}
 use Rattle.mlt_trace.specs.declared.item.TraceItem.TheVariants as trace
 use Rattle.mlt_object_locks.specs.Locks.{Locks, reservation_of}
-use Rattle.mlt_trace_history.specs.Entries.{entries_of}
-use Rattle.mlt_trace_history.specs.Numbers.{AreBegunInOrder, AreCounted, CountsFrom, begin_count}
-use Rattle.mlt_trace_history.proofs.ItemLaws.{begin_keeps_order, begins_counted, entries_of-append, no_commit}
-use Rattle.mlt_trace_history.proofs.RoomLaws.{total_room-insert_new}
+use Rattle.mlt_trace.specs.Entries.{entries_of}
+use Rattle.mlt_trace.specs.Numbers.{AreBegunInOrder, AreCounted, CountsFrom, begin_count}
+use Rattle.mlt_trace.proofs.ItemLaws.{begin_keeps_order, begins_counted, entries_of-append, no_commit}
+use Rattle.mlt_trace.proofs.RoomLaws.{total_room-insert_new}
 use Rattle.mlt_page_subtx.specs.Images.{Running}
 use Rattle.mlt_page_subtx.proofs.ImageLaws.{not_there, not_true}
 use Rattle.mlt_hash_access.specs.declared.locked_store.LockedStore.{LockedStore}

@@ -2,7 +2,7 @@
 use Rattle.std.proofs.Common.{◌≡◌, ℕ, length, Some, refl, sym, ap, subst, ◌∙◌, arith}
 use Rattle.std.specs.FinMap as map
 use Rattle.mlt_page_locks.specs.Requests.{released}
-use Rattle.mlt_trace_history.specs.Items.{ItemsWithRoom}
+use Rattle.mlt_trace.specs.HistoryItems.{ItemsWithRoom}
 use Rattle.mlt_page_subtx.specs.Images.{Running, put_back, started}
 use Rattle.mlt_object_undo.specs.Undo.{Undo}
 use Rattle.mlt_hash_access.specs.declared.locked_store.LockedStore.{LockedStore}

@@ -16,10 +16,10 @@ use Rattle.mlt_order.proofs.Growing.{after_entries-push}
 use Rattle.mlt_order.proofs.Tables.{with_entry-other, with_entry-same}
 use Rattle.mlt_object_locks.specs.Locks.{Held, HoldsClash, SameReservations}
 use Rattle.mlt_trace.specs.declared.item.TraceItem.TheVariants as trace
-use Rattle.mlt_trace_history.specs.Entries.{entries_of}
-use Rattle.mlt_trace_history.specs.Numbers.{AreBegunInOrder, AreCounted, CountsFrom, begin_count}
-use Rattle.mlt_trace_history.proofs.ItemLaws.{entries_of-append, no_begin, no_commit}
-use Rattle.mlt_trace_history.proofs.RoomLaws.{total_room-insert}
+use Rattle.mlt_trace.specs.Entries.{entries_of}
+use Rattle.mlt_trace.specs.Numbers.{AreBegunInOrder, AreCounted, CountsFrom, begin_count}
+use Rattle.mlt_trace.proofs.ItemLaws.{entries_of-append, no_begin, no_commit}
+use Rattle.mlt_trace.proofs.RoomLaws.{total_room-insert}
 use Rattle.mlt_page_subtx.specs.Images.{Running}
 use Rattle.mlt_hash_access.specs.Views.{view_of}
 use Rattle.mlt_page_subtx_laws.specs.Running.{AllRunning, HoldsNothing, KeepsRunning, after_end, clean_of, is_open, moment_of}

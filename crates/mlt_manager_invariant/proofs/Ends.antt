@@ -14,10 +14,10 @@ use Rattle.mlt_order.proofs.Tables.{changed}
 use Rattle.mlt_trace.specs.declared.item.TraceItem.{TraceItem}
 use Rattle.mlt_trace.specs.declared.item.TraceItem.TheVariants as trace
 use Rattle.mlt_object_locks.specs.Locks.{is_of_other}
-use Rattle.mlt_trace_history.specs.Entries.{entries_of, entry_of}
-use Rattle.mlt_trace_history.specs.Numbers.{AreCounted, CountsFrom, begun_txs, commit_count}
-use Rattle.mlt_trace_history.proofs.ItemLaws.{commit_keeps_counted, entries_of-append, no_begin, no_commit}
-use Rattle.mlt_trace_history.proofs.RoomLaws.{total_room-remove}
+use Rattle.mlt_trace.specs.Entries.{entries_of, entry_of}
+use Rattle.mlt_trace.specs.Numbers.{AreCounted, CountsFrom, begun_txs, commit_count}
+use Rattle.mlt_trace.proofs.ItemLaws.{commit_keeps_counted, entries_of-append, no_begin, no_commit}
+use Rattle.mlt_trace.proofs.RoomLaws.{total_room-remove}
 use Rattle.mlt_hash_access.specs.declared.locked_store.LockedStore.{LockedStore}
 use Rattle.mlt_page_subtx_laws.specs.CleanPages.{clean_pages}
 use Rattle.mlt_hash_access.specs.Views.{view_of}

@@ -5,7 +5,7 @@ use Rattle.mlt_object_kinds.specs.declared.operation.ObjOp.{ObjOp}
 use Rattle.mlt_object_kinds.specs.declared.operation.ObjReply.{ObjReply}
 use Rattle.mlt_object_base.specs.Effects.{inverse_of}
 use Rattle.mlt_order.proofs.Growing.{one_last}
-use Rattle.mlt_trace_history.specs.Items.{ItemsWithRoom}
+use Rattle.mlt_trace.specs.HistoryItems.{ItemsWithRoom}
 use Rattle.mlt_object_undo.specs.Undo.{Undo}
 use Rattle.mlt_hash_access.specs.Moments.{Moment, moment}
 use Rattle.mlt_hash_access.specs.Views.{view_of}

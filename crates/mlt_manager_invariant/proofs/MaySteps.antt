@@ -10,7 +10,7 @@ use Rattle.mlt_object_kinds.specs.declared.operation.ObjOp.{ObjOp}
 use Rattle.mlt_object_kinds.specs.declared.operation.ObjReply.{ObjReply}
 use Rattle.mlt_object_kinds.specs.Operations.{cell_of}
 use Rattle.mlt_types.specs.Cells.{IsInRange}
-use Rattle.mlt_trace_history.proofs.RoomLaws.{room_within_total}
+use Rattle.mlt_trace.proofs.RoomLaws.{room_within_total}
 use Rattle.mlt_object_locks.specs.Locks.{reservation_of}
 use Rattle.mlt_page_locks.specs.LockTables.{Modes, pages_of}
 use Rattle.mlt_page_subtx.specs.Images.{AreThere, Images}

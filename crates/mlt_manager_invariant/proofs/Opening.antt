@@ -13,9 +13,9 @@ use Rattle.mlt_order.specs.Interleavings.{items_of}
 use Rattle.mlt_object_locks.specs.Locks.{Locks}
 use Rattle.mlt_object_locks.specs.Locks as objects
 use Rattle.mlt_trace.specs.declared.item.TraceItem.{TraceItem}
-use Rattle.mlt_trace_history.specs.Entries.{entries_of}
-use Rattle.mlt_trace_history.specs.Numbers.{AreBegunInOrder, AreCounted, begin_count}
-use Rattle.mlt_trace_history.proofs.RoomLaws.{total_room-empty}
+use Rattle.mlt_trace.specs.Entries.{entries_of}
+use Rattle.mlt_trace.specs.Numbers.{AreBegunInOrder, AreCounted, begin_count}
+use Rattle.mlt_trace.proofs.RoomLaws.{total_room-empty}
 use Rattle.mlt_hash_form.specs.Changes.{IsOpening}
 use Rattle.mlt_hash_form.specs.File.{GivesPseudokeys}
 use Rattle.mlt_page_subtx_laws.specs.CleanPages.{clean_pages}

@@ -7,7 +7,7 @@ use Rattle.mlt_types.specs.Cells.{IsInRange}
 use Rattle.mlt_object_base.specs.declared.request.Request.{Request}
 use Rattle.mlt_page_locks.specs.Requests.{released}
 use Rattle.mlt_object_locks.specs.Locks.{Locks, reservation_of}
-use Rattle.mlt_trace_history.specs.Items.{ItemsWithRoom}
+use Rattle.mlt_trace.specs.HistoryItems.{ItemsWithRoom}
 use Rattle.mlt_page_subtx.specs.Images.{Running, put_back, started}
 use Rattle.mlt_object_undo.specs.Undo.{Undo}
 use Rattle.mlt_hash_access.specs.declared.locked_store.LockedStore.{LockedStore}

@@ -9,9 +9,9 @@ use Rattle.mlt_order.specs.Histories.{Entry, lists_of}
 use Rattle.mlt_order.specs.Interleavings.{items_of}
 use Rattle.mlt_object_locks.specs.Locks.{Held}
 use Rattle.mlt_trace.specs.declared.item.TraceItem.{TraceItem}
-use Rattle.mlt_trace_history.specs.Entries.{entries_of}
-use Rattle.mlt_trace_history.specs.Numbers.{AreBegunInOrder, AreCounted, begin_count}
-use Rattle.mlt_trace_history.proofs.RoomLaws.{total_room-insert}
+use Rattle.mlt_trace.specs.Entries.{entries_of}
+use Rattle.mlt_trace.specs.Numbers.{AreBegunInOrder, AreCounted, begin_count}
+use Rattle.mlt_trace.proofs.RoomLaws.{total_room-insert}
 use Rattle.mlt_page_subtx_laws.specs.CleanPages.{RunningImages, clean_pages}
 use Rattle.mlt_tx_meaning.specs.Worlds.{PagesMeanHistory, lists_in}
 use Rattle.mlt_tx_meaning.proofs.Matches.{same_pages_match}

@@ -13,12 +13,12 @@ use Rattle.mlt_order.proofs.Growing.{after_entries-push, but_last-push}
 use Rattle.mlt_order.proofs.Tables.{changed}
 use Rattle.mlt_object_locks.specs.Locks.{Locks, SameReservations, reservation_of}
 use Rattle.mlt_trace.specs.declared.item.TraceItem.TheVariants as trace
-use Rattle.mlt_trace_history.specs.Entries.{entries_of}
-use Rattle.mlt_trace_history.specs.Items.{ItemsWithRoom}
-use Rattle.mlt_trace_history.specs.Numbers.{CountsFrom, begun_txs, commit_numbers}
-use Rattle.mlt_trace_history.specs.Rooms.{total_room}
-use Rattle.mlt_trace_history.proofs.ItemLaws.{entries_of-append, no_begin, no_commit}
-use Rattle.mlt_trace_history.proofs.RoomLaws.{total_room-insert}
+use Rattle.mlt_trace.specs.Entries.{entries_of}
+use Rattle.mlt_trace.specs.HistoryItems.{ItemsWithRoom}
+use Rattle.mlt_trace.specs.Numbers.{CountsFrom, begun_txs, commit_numbers}
+use Rattle.mlt_trace.specs.Rooms.{total_room}
+use Rattle.mlt_trace.proofs.ItemLaws.{entries_of-append, no_begin, no_commit}
+use Rattle.mlt_trace.proofs.RoomLaws.{total_room-insert}
 use Rattle.mlt_tx_meaning.specs.Events.{with_undone as world_undone}
 use Rattle.mlt_tx_meaning.specs.Worlds.{PagesMeanHistory, lists_in}
 use Rattle.mlt_tx_operation.specs.Operating.{OperationFields}

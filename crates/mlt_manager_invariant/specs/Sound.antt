@@ -8,8 +8,8 @@ use Rattle.mlt_object_kinds.specs.Operations.{cell_of}
 use Rattle.mlt_order.specs.Interleavings.{items_of}
 use Rattle.mlt_object_base.specs.Effects.{inverse_of}
 use Rattle.mlt_object_locks.specs.Locks.{reservation_of}
-use Rattle.mlt_trace_history.specs.Numbers.{AreBegunInOrder, AreCounted, begin_count}
-use Rattle.mlt_trace_history.specs.Rooms.{total_room}
+use Rattle.mlt_trace.specs.Numbers.{AreBegunInOrder, AreCounted, begin_count}
+use Rattle.mlt_trace.specs.Rooms.{total_room}
 use Rattle.mlt_hash_access.specs.Views.{view_of}
 use Rattle.mlt_page_subtx_laws.specs.Running.{AllMayStep, HoldsNothing, moment_of}
 use Rattle.mlt_object_base.specs.declared.request.Request.TheVariants.{Do}

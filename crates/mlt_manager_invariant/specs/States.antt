@@ -4,7 +4,7 @@ use Rattle.std.specs.Ordering.{nat_cmp}
 use Rattle.std.specs.FinMap as map
 use Rattle.std.specs.FinSet as set
 use Rattle.mlt_object_kinds.specs.Bases.{Base}
-use Rattle.mlt_trace_history.specs.Entries.{entries_of}
+use Rattle.mlt_trace.specs.Entries.{entries_of}
 use Rattle.mlt_page_subtx_laws.specs.CleanPages.{RunningImages, clean_pages}
 use Rattle.mlt_page_subtx.specs.Images.{Images}
 use Rattle.mlt_page_subtx_laws.specs.Running.{AllRunning}

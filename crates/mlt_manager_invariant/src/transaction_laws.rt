@@ -3,7 +3,7 @@
 ghost use Rattle.std.specs.Prelude.{ℕ, ◌≡◌, ◌<◌, ◌+◌, [], Some};
 ghost use Rattle.std.specs.FinMap as map;
 ghost use Rattle.mlt_trace.specs.declared.item.TraceItem.TheVariants as trace;
-ghost use Rattle.mlt_trace_history.specs.Numbers.{commit_count};
+ghost use Rattle.mlt_trace.specs.Numbers.{commit_count};
 ghost use Rattle.mlt_tx.specs.declared.commons.Commons.{Commons};
 ghost use Rattle.mlt_tx.specs.declared.transaction.Transaction.{Transaction};
 ghost use Rattle.mlt_manager_invariant.specs.Events.{with_transaction};

@@ -10,7 +10,7 @@ use Rattle.mlt_order.specs.Histories.{IsHistory}
 use Rattle.mlt_script.specs.Grammar.{Spells}
 use Rattle.mlt_script_tree.specs.Scripts.{ScriptForm}
 use Rattle.mlt_trace.specs.declared.item.TraceItem.{TraceItem}
-use Rattle.mlt_trace_history.specs.Entries.{entries_of}
+use Rattle.mlt_trace.specs.Entries.{entries_of}
 use Rattle.mlt_hash_form.specs.File.{GivesPseudokeys}
 use Rattle.mlt_script_serial.specs.declared.outcome.Outcome.{Outcome}
 use Rattle.mlt_script_serial.specs.Serial.{AreRuns, mark_of}

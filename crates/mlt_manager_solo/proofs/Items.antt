@@ -13,8 +13,8 @@ use Rattle.mlt_order.proofs.Growing.{after_entries-push, follow_push}
 use Rattle.mlt_order.proofs.RunLemmas.{serial_to_one}
 use Rattle.mlt_trace.specs.declared.item.TraceItem.{TraceItem}
 use Rattle.mlt_trace.specs.declared.item.TraceItem.TheVariants as trace
-use Rattle.mlt_trace_history.specs.Entries.{entries_of, entry_of}
-use Rattle.mlt_trace_history.proofs.ItemLaws.{entries_of-append}
+use Rattle.mlt_trace.specs.Entries.{entries_of, entry_of}
+use Rattle.mlt_trace.proofs.ItemLaws.{entries_of-append}
 use Rattle.mlt_trace_laws.proofs.Histories.{nothing_of_others, serializable}
 use Rattle.mlt_object_conflicts.proofs.BaseOrder.{base_functional}
 use Rattle.mlt_tx.specs.declared.transaction.Transaction.{Transaction}

@@ -24,8 +24,8 @@ use Rattle.mlt_script_serial.specs.declared.outcome.End.TheVariants.{Committed, 
 use Rattle.mlt_script_serial.specs.Serial.{IsRun}
 use Rattle.mlt_script_cursor.proofs.Transcripts.{is_partial}
 use Rattle.mlt_trace.specs.declared.item.TraceItem.TheVariants as trace
-use Rattle.mlt_trace_history.specs.Entries.{entries_of}
-use Rattle.mlt_trace_history.proofs.ItemLaws.{entries_of-append}
+use Rattle.mlt_trace.specs.Entries.{entries_of}
+use Rattle.mlt_trace.proofs.ItemLaws.{entries_of-append}
 use Rattle.mlt_event.specs.declared.answer.Answer.{Answer}
 use Rattle.mlt_event.specs.declared.answer.Answer.TheVariants as answer
 use Rattle.mlt_event.specs.declared.event.Event.TheVariants as event

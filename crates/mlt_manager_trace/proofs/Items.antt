@@ -9,8 +9,8 @@ use Rattle.mlt_order.proofs.Growing.{but_last-push}
 use Rattle.mlt_order.proofs.Tables.{changed}
 use Rattle.mlt_trace.specs.declared.item.TraceItem.{TraceItem}
 use Rattle.mlt_trace.specs.declared.item.TraceItem.TheVariants as trace
-use Rattle.mlt_trace_history.specs.Items.{ItemsWithRoom}
-use Rattle.mlt_trace_history.specs.Numbers.{commit_count}
+use Rattle.mlt_trace.specs.HistoryItems.{ItemsWithRoom}
+use Rattle.mlt_trace.specs.Numbers.{commit_count}
 use Rattle.mlt_trace_check.specs.Traces.{ArePlaced, HasPlace, IsWhole, told}
 use Rattle.mlt_trace_check.proofs.Going.{placed_more}
 use Rattle.mlt_trace_check.proofs.Growing.{told-push}

@@ -8,8 +8,8 @@ use Rattle.mlt_order.specs.Histories.Stage.{Running}
 use Rattle.mlt_order.specs.Interleavings.{UndoneTo}
 use Rattle.mlt_trace.specs.declared.item.TraceItem.{TraceItem}
 use Rattle.mlt_trace.specs.Items.{trace_text}
-use Rattle.mlt_trace_history.specs.Items.{ItemsWithRoom}
-use Rattle.mlt_trace_history.specs.Numbers.{committed_txs}
+use Rattle.mlt_trace.specs.HistoryItems.{ItemsWithRoom}
+use Rattle.mlt_trace.specs.Numbers.{committed_txs}
 use Rattle.mlt_trace_check.specs.Traces.{ArePlaced, IsAcceptedTrace, IsWhole, told}
 use Rattle.mlt_trace_laws.specs.Writable.{AllFit}
 use Rattle.mlt_trace_laws.proofs.Histories.{accepted_history, accepted_where_nothing_is_open, nothing_of_others}

@@ -5,7 +5,7 @@ ghost use Rattle.std.specs.FinMap as map;
 ghost use Rattle.mlt_object_kinds.specs.Bases.{Base};
 ghost use Rattle.mlt_object_kinds.specs.declared.operation.ObjReply.{ObjReply};
 ghost use Rattle.mlt_trace.specs.declared.item.TraceItem.TheVariants as trace;
-ghost use Rattle.mlt_trace_history.specs.Numbers.{commit_count};
+ghost use Rattle.mlt_trace.specs.Numbers.{commit_count};
 ghost use Rattle.mlt_tx_operation.specs.Operating.{OperationFields};
 ghost use Rattle.mlt_event.specs.declared.answer.Answer.TheVariants as answer;
 ghost use Rattle.mlt_tx.specs.declared.commons.Commons.{Commons};

@@ -5,7 +5,7 @@ ghost use Rattle.std.specs.FinMap as map;
 ghost use Rattle.mlt_object_kinds.specs.declared.operation.ObjOp.{ObjOp};
 ghost use Rattle.mlt_object_kinds.specs.declared.operation.ObjReply.{ObjReply};
 ghost use Rattle.mlt_trace.specs.declared.item.TraceItem.TheVariants as trace;
-ghost use Rattle.mlt_trace_history.specs.Numbers.{commit_count};
+ghost use Rattle.mlt_trace.specs.Numbers.{commit_count};
 ghost use Rattle.mlt_trace_check.specs.Traces.{HasPlace, IsWhole};
 ghost use Rattle.mlt_tx.specs.declared.transaction.Transaction.{Transaction};
 ghost use Rattle.mlt_manager_invariant.specs.Sound.{IsSound};

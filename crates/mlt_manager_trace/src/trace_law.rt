@@ -5,7 +5,7 @@ ghost use Rattle.std.specs.FinMap as map;
 ghost use Rattle.mlt_object_kinds.specs.Bases.{Base, Step};
 ghost use Rattle.mlt_order.specs.Interleavings.{UndoneTo};
 ghost use Rattle.mlt_trace.specs.Items.{trace_text};
-ghost use Rattle.mlt_trace_history.specs.Numbers.{committed_txs};
+ghost use Rattle.mlt_trace.specs.Numbers.{committed_txs};
 ghost use Rattle.mlt_trace_check.specs.Traces.{IsAcceptedTrace};
 ghost use Rattle.mlt_trace_laws.specs.Writable.{AllFit};
 ghost use Rattle.mlt_tx_meaning.specs.Worlds.{lists_in};

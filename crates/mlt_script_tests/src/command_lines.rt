@@ -1,8 +1,7 @@
 //! The command line, what is said of it, and the line that tells of a fault. What the program makes of other command
 //! lines is tested of the built program.
 
-use mlt_cli::{Job, command_line_status, read_words, report_command_line};
-use mlt_cli_fault::{report_fault, status};
+use mlt_cli::{Job, command_line_status, read_words, report_command_line, report_fault, status};
 use mlt_test_tools::{FaultyWriter, KINDS, same};
 use mlt_types::{Refusal, ScriptCause};
 use std::alloc::Global;

@@ -6,13 +6,13 @@ use Rattle.std.proofs.lemmas.Grind.{flat_map-append}
 use Rattle.std.proofs.lemmas.Result.{err_from_is_err_and}
 use Rattle.std.specs.List.{flat_map}
 use Rattle.std.specs.Prelude.{Result, Ok, Err, IsErrAnd, IsErrOf, OnErr}
-use Rattle.mlt_event_request.specs.declared.line.Line.{Line}
-use Rattle.mlt_event_request.specs.declared.line.Line.TheVariants.{Says, TooLong}
+use Rattle.mlt_event_text.specs.declared.request_line.Line.{Line}
+use Rattle.mlt_event_text.specs.declared.request_line.Line.TheVariants.{Says, TooLong}
 use Rattle.mlt_serve_session.specs.declared.said.Said.{Said}
 use Rattle.mlt_serve_session.specs.Batches.{Covers, IsRest, Reaches, BrokeOff, front, lines_in}
 use Rattle.mlt_serve_session.specs.Rounds.{AreLines}
-use Rattle.mlt_event_request.specs.Inputs.{lines_of, Splits, Begins, NextLine, IsNext}
-use Rattle.mlt_event_request.proofs.Splitting.{splits_both}
+use Rattle.mlt_event_text.specs.Inputs.{lines_of, Splits, Begins, NextLine, IsNext}
+use Rattle.mlt_event_text.proofs.Splitting.{splits_both}
 use Rattle.mlt_serve_session.specs.Talks.{Turn, turn_text, ends}
 use Rattle.mlt_serve_session.specs.Texts.{said_text}
 use Rattle.mlt_serve_session.specs.Turns.{Place, Step, Goes, TakesTurn}

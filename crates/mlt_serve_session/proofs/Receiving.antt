@@ -5,13 +5,13 @@ use Rattle.mlt_object_kinds.specs.declared.operation.ObjReply.{ObjReply}
 use Rattle.mlt_script_serial.specs.declared.outcome.End.{End}
 use Rattle.mlt_script_serial.specs.declared.outcome.End.TheVariants as end
 use Rattle.mlt_script_serial.specs.declared.outcome.Outcome.{Outcome}
-use Rattle.mlt_event_request.specs.declared.request.Request.TheVariants as request
+use Rattle.mlt_event_text.specs.declared.request.Request.TheVariants as request
 use Rattle.mlt_serve_session.specs.declared.call.Answer.{Answer}
 use Rattle.mlt_serve_session.specs.declared.call.Answer.TheVariants.{Begun, Replied, Committed, Aborted, Refused}
 use Rattle.mlt_serve_session.specs.declared.call.Call.{Call}
 use Rattle.mlt_serve_session.specs.declared.call.Call.TheVariants as call
-use Rattle.mlt_event_request.specs.declared.line.Line.{Line}
-use Rattle.mlt_event_request.specs.declared.line.Line.TheVariants.{Says, TooLong}
+use Rattle.mlt_event_text.specs.declared.request_line.Line.{Line}
+use Rattle.mlt_event_text.specs.declared.request_line.Line.TheVariants.{Says, TooLong}
 use Rattle.mlt_serve_session.specs.Noting.{noted}
 use Rattle.mlt_serve_session.specs.Receipts.{outcome_of, begins_by, begun_in, done_in, end_in, call_of, up_to, before_next, all_done, ended_by, receipt_of, receipt_if, receipts_of}
 use Rattle.mlt_serve_session.proofs.Closing.{at_last_end}

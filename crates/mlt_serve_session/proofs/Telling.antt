@@ -1,16 +1,16 @@
 -- The turns that were taken are those that the whole input and the answers fix.
 use Rattle.std.proofs.Common.{◌≡◌, ℕ, ◌+◌, List, [], ◌∷◌, ◌++◌, length, take, Option, Bool, true, false, ◌||◌, Some, None, refl, sym, ap, subst, ◌∙◌, arith, append-nil, cond}
 use Rattle.std.proofs.KnownBytes.{Appends-nil, Consumes-nil}
-use Rattle.mlt_event_request.proofs.Cutting.{empty}
+use Rattle.mlt_event_text.proofs.Cutting.{empty}
 use Rattle.mlt_serve_session.proofs.Receiving.{noted_by, noted_all, all_noted}
 use Rattle.mlt_script_serial.specs.declared.outcome.Outcome.{Outcome}
 use Rattle.mlt_serve_session.specs.declared.call.Answer.{Answer}
 use Rattle.mlt_serve_session.specs.declared.call.Call.{Call}
-use Rattle.mlt_event_request.specs.declared.line.Line.{Line}
-use Rattle.mlt_event_request.specs.declared.line.Line.TheVariants.{Says, TooLong}
+use Rattle.mlt_event_text.specs.declared.request_line.Line.{Line}
+use Rattle.mlt_event_text.specs.declared.request_line.Line.TheVariants.{Says, TooLong}
 use Rattle.mlt_serve_session.specs.Batches.{lines_in}
 use Rattle.mlt_serve_session.specs.Desks.{Moves, Answers}
-use Rattle.mlt_event_request.specs.Inputs.{Begins}
+use Rattle.mlt_event_text.specs.Inputs.{Begins}
 use Rattle.mlt_serve_session.specs.Receipts.{begins_by, receipts_of}
 use Rattle.mlt_serve_session.specs.Rounds.{Talked, Broken, BrokenHeard, AreLines, EndsInput, streams}
 use Rattle.mlt_serve_session.specs.Sessions.{Spoken, SpokenLong, Summed, BrokenOff, HeardAll, all_calls, all_answers, scene}

@@ -2,16 +2,16 @@
 use Rattle.std.specs.Prelude.{ℕ, ◌+◌, List, [], ◌∷◌, Option, Some, None, Bool, true, false, ◌||◌, if◌then◌else◌}
 use Rattle.std.specs.List.{flat_map}
 use Rattle.mlt_types.specs.declared.refusal.Refusal.TheVariants as refusal
-use Rattle.mlt_event_request.specs.declared.request.Request.TheVariants as request
+use Rattle.mlt_event_text.specs.declared.request.Request.TheVariants as request
 use Rattle.mlt_serve_session.specs.declared.call.Answer.{Answer}
 use Rattle.mlt_serve_session.specs.declared.call.Answer.TheVariants.{Begun, Replied, Committed, Aborted, Refused}
 use Rattle.mlt_serve_session.specs.declared.call.Call.{Call}
 use Rattle.mlt_serve_session.specs.declared.call.Call.TheVariants as call
-use Rattle.mlt_event_request.specs.declared.line.Line.{Line}
-use Rattle.mlt_event_request.specs.declared.line.Line.TheVariants.{Says, TooLong}
+use Rattle.mlt_event_text.specs.declared.request_line.Line.{Line}
+use Rattle.mlt_event_text.specs.declared.request_line.Line.TheVariants.{Says, TooLong}
 use Rattle.mlt_serve_session.specs.declared.said.Said.{Said}
 use Rattle.mlt_serve_session.specs.declared.said.Said.TheVariants as said
-use Rattle.mlt_event_request.specs.Inputs.{lines_of}
+use Rattle.mlt_event_text.specs.Inputs.{lines_of}
 use Rattle.mlt_serve_session.specs.Texts.{said_text}
 
 -- what a line asks of the desk, with no transaction open

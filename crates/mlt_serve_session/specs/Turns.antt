@@ -3,7 +3,7 @@ use Rattle.std.specs.Prelude.{◌≡◌, ◌<◌, ◌≤◌, ◌^◌, ℕ, ◌+�
 use Rattle.mlt_script_serial.specs.declared.outcome.Outcome.{Outcome}
 use Rattle.mlt_serve_session.specs.declared.call.Answer.{Answer}
 use Rattle.mlt_serve_session.specs.declared.call.Call.{Call}
-use Rattle.mlt_event_request.specs.declared.line.Line.{Line}
+use Rattle.mlt_event_text.specs.declared.request_line.Line.{Line}
 use Rattle.mlt_serve_session.specs.declared.said.Said.{Said}
 use Rattle.mlt_serve_session.specs.declared.notes.Notes.{Notes}
 use Rattle.mlt_serve_session.specs.declared.notes.Progress.{Progress}

@@ -10,7 +10,7 @@ use crate::notes::Notes;
 use crate::said::push_said;
 use crate::turn::take_turn;
 use mlt_script_desk::Desk;
-use mlt_event_request::next_line;
+use mlt_event_text::next_line;
 use std::alloc::AllocError;
 
 /// Answers each complete line of the text, and tells how many bytes these lines take. What is left is no

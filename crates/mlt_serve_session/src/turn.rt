@@ -10,7 +10,7 @@ use crate::notes::Notes;
 use crate::said::Said;
 use mlt_script_desk::Desk;
 use mlt_object_kinds::{Done, ObjOp};
-use mlt_event_request::{Line, Request};
+use mlt_event_text::{Line, Request};
 use mlt_script_serial::End;
 use mlt_types::{Refusal, TxId};
 use std::alloc::AllocError;

@@ -3,7 +3,7 @@
 use crate::sessions::{ANSWERS, LINES};
 use mlt_script_desk::FakeDesk;
 use mlt_work_desk::NoGate;
-use mlt_work_run::run_scripts;
+use mlt_work::run_scripts;
 use mlt_test_tools::{
     Case, Engine, FaultyReader, FaultyWriter, KINDS, same_at, withstands_failures,
 };

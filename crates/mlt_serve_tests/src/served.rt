@@ -1,6 +1,6 @@
 //! What was served, as a text.
 
-use mlt_trace_check_text::check_trace;
+use mlt_trace_check::check_trace;
 use mlt_manager::Manager;
 use mlt_script_serial::{Form, Outcomes, Report, write_report};
 use mlt_serve::serve_on;

@@ -6,7 +6,7 @@ use crate::gates::{
     Latch, SecondBeginsBeside, SecondCommits, SecondMeetsLock, TwoCrossBesideThird, Until,
 };
 use mlt_work_desk::{Gate, NoGate};
-use mlt_work_run::run_scripts;
+use mlt_work::run_scripts;
 use mlt_test_tools::{same, same_at};
 use mlt_types::{Limits, Mult, Refusal};
 use std::alloc::Global;

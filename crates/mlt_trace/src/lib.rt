@@ -1,10 +1,27 @@
 //! Traces: what a manager's history holds, item by item, and the text of it.
+//!
+//! Histories: the items that a manager of transactions tells of, in order, with room for those to come.
+//!
+//! The laws say what one more item makes of a history's entries and numbers, and what the rooms of its
+//! transactions add up to. Each law is the contract of a function that does nothing.
 #![tactic(auto)]
 
+mod history;
 mod item;
 mod kept;
+mod laws;
+mod rooms;
 mod trace;
 
+pub use history::History;
 pub use item::TraceItem;
 pub use kept::KeptItem;
+pub use laws::{
+    begun_numbers_are_those_up_to_the_count, commits_stay_counted, items_begin_in_order,
+    items_count_the_committed, items_grow_by_entries,
+};
+pub use rooms::{Rooms, rooms_add_up};
 pub use trace::write_trace;
+
+#[cfg(test)]
+mod tests;

@@ -5,8 +5,8 @@ use Rattle.std.proofs.lemmas.List.Elements.{Contains-append_right}
 use Rattle.mlt_order.proofs.RunLemmas.{contains-first}
 use Rattle.mlt_trace.specs.declared.item.TraceItem.{TraceItem}
 use Rattle.mlt_trace.specs.declared.item.TraceItem.TheVariants.{Begin, Op, Back, Commit, Abort}
-use Rattle.mlt_trace_history.specs.Numbers.{begin_count, begun_txs}
-use Rattle.mlt_trace_history.proofs.ItemLaws.{begins_counted, begun_txs-append, no_begin}
+use Rattle.mlt_trace.specs.Numbers.{begin_count, begun_txs}
+use Rattle.mlt_trace.proofs.ItemLaws.{begins_counted, begun_txs-append, no_begin}
 use Rattle.mlt_trace_check.proofs.Growing.{earlier_or_last}
 use Rattle.mlt_trace_audit.proofs.Placed.{begun_in}
 

@@ -16,8 +16,8 @@ use Rattle.mlt_order.proofs.RunLemmas.{contains-first, contains-later, contains-
 use Rattle.mlt_order.proofs.Tables.{changed}
 use Rattle.mlt_trace.specs.declared.item.TraceItem.{TraceItem}
 use Rattle.mlt_trace.specs.declared.item.TraceItem.TheVariants.{Begin, Op, Back, Commit, Abort}
-use Rattle.mlt_trace_history.specs.Numbers.{AreBegunInOrder, begun_txs, commit_count, commit_numbers}
-use Rattle.mlt_trace_history.proofs.ItemLaws.{commits_counted, no_commit}
+use Rattle.mlt_trace.specs.Numbers.{AreBegunInOrder, begun_txs, commit_count, commit_numbers}
+use Rattle.mlt_trace.proofs.ItemLaws.{commits_counted, no_commit}
 use Rattle.mlt_trace_check.specs.Traces.{ArePlaced, HasPlace, IsRunning, IsWhole, told}
 use Rattle.mlt_trace_check.proofs.Growing.{append_nil, begun_stays, earlier_or_last, last_one, number_in, stage-other, told-push, transcript-other}
 use Rattle.mlt_trace_check.proofs.Lasting.{runs_begun}

@@ -5,8 +5,8 @@ use Rattle.std.proofs.lemmas.List.{length-append, take_all, take_more}
 use Rattle.std.proofs.lemmas.Option.{get_or_from_slice_get, slice_get-get_or, slice_get_within}
 use Rattle.mlt_trace.specs.declared.item.TraceItem.{TraceItem}
 use Rattle.mlt_trace.specs.declared.item.TraceItem.TheVariants.{Begin, Op, Back, Commit, Abort}
-use Rattle.mlt_trace_history.specs.Numbers.{AreBegunInOrder, CountsFrom, begin_count, begun_txs}
-use Rattle.mlt_trace_history.proofs.ItemLaws.{begin_keeps_order, begins_counted, begun_txs-append, no_begin}
+use Rattle.mlt_trace.specs.Numbers.{AreBegunInOrder, CountsFrom, begin_count, begun_txs}
+use Rattle.mlt_trace.proofs.ItemLaws.{begin_keeps_order, begins_counted, begun_txs-append, no_begin}
 use Rattle.mlt_trace_audit.specs.Ordered.{AreOrdered, StandsBehind, is_told, tx_of}
 use Rattle.mlt_trace_audit.specs.Receipts.{HasNothing}
 use Rattle.mlt_trace_audit.proofs.Apart.{IsApart, nothing_none, nothing_push}

@@ -13,9 +13,9 @@ use Rattle.mlt_order.proofs.Parts.{items_of-append, items_of-other, items_of-sam
 use Rattle.mlt_order.proofs.Tables.{changed}
 use Rattle.mlt_trace.specs.declared.item.TraceItem.{TraceItem}
 use Rattle.mlt_trace.specs.declared.item.TraceItem.TheVariants.{Begin, Op, Back, Commit, Abort}
-use Rattle.mlt_trace_history.specs.Entries.{entries_of, entry_of}
-use Rattle.mlt_trace_history.specs.Numbers.{begun_txs}
-use Rattle.mlt_trace_history.proofs.ItemLaws.{begun_txs-append, entries_of-append}
+use Rattle.mlt_trace.specs.Entries.{entries_of, entry_of}
+use Rattle.mlt_trace.specs.Numbers.{begun_txs}
+use Rattle.mlt_trace.proofs.ItemLaws.{begun_txs-append, entries_of-append}
 use Rattle.mlt_trace_check.specs.Traces.{ArePlaced, HasPlace, IsRunning, told}
 use Rattle.mlt_trace_check.proofs.Growing.{begun_stays, number_in, stage-other, told-push}
 use Rattle.mlt_trace_check.proofs.Lasting.{runs_begun}

@@ -8,7 +8,7 @@ use Rattle.std.proofs.lemmas.List.Sums.{sum_by-cons, sum_by_push}
 use Rattle.mlt_order.proofs.RunLemmas.{contains-first, contains-later}
 use Rattle.mlt_trace.specs.declared.item.TraceItem.{TraceItem}
 use Rattle.mlt_trace.specs.declared.item.TraceItem.TheVariants.{Begin, Op, Back, Commit, Abort}
-use Rattle.mlt_trace_history.specs.Numbers.{begin_count}
+use Rattle.mlt_trace.specs.Numbers.{begin_count}
 use Rattle.mlt_script_serial.specs.declared.outcome.Outcome.{Outcome}
 use Rattle.mlt_trace_audit.specs.Agreement.{NumbersAgree, count_of}
 use Rattle.mlt_trace_audit.specs.Ordered.{AreOrdered, is_told, told_count, tx_of}

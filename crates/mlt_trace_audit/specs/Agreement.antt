@@ -1,7 +1,7 @@
 -- Receipts that agree with a history.
 use Rattle.std.specs.Prelude.{◌≡◌, ◌≢◌, ℕ, List, ◌==◌, All, Contains, count_by}
 use Rattle.mlt_trace.specs.declared.item.TraceItem.{TraceItem}
-use Rattle.mlt_trace_history.specs.Numbers.{begun_txs}
+use Rattle.mlt_trace.specs.Numbers.{begun_txs}
 use Rattle.mlt_script_serial.specs.declared.outcome.Outcome.{Outcome}
 use Rattle.mlt_trace_audit.specs.Receipts.{IsOfHistory, IsWithoutTx, RisesTo}
 

@@ -2,7 +2,7 @@
 use Rattle.std.specs.Prelude.{◌≡◌, ℕ, ◌+◌, ◌<◌, ◌≤◌, Bool, true, false, List, Some, count_by, slice_get, take}
 use Rattle.mlt_trace.specs.declared.item.TraceItem.{TraceItem}
 use Rattle.mlt_trace.specs.declared.item.TraceItem.TheVariants.{Begin, Op, Back, Commit, Abort}
-use Rattle.mlt_trace_history.specs.Numbers.{begin_count}
+use Rattle.mlt_trace.specs.Numbers.{begin_count}
 
 -- the transaction of which the item is
 abbrev pub tx_of : TraceItem → ℕ

@@ -1,7 +1,7 @@
 //! Receipts against any history. It goes over all of it for each receipt.
 
 ghost use Rattle.std.specs.Prelude.{◌≡◌, ◌≤◌, ◌↔◌, ℕ, IsTrue, All, Contains, drop, length};
-ghost use Rattle.mlt_trace_history.specs.Numbers.{begun_txs};
+ghost use Rattle.mlt_trace.specs.Numbers.{begun_txs};
 ghost use Rattle.mlt_trace_audit.specs.Agreement.{AreOfHistory, IsOfBegunTx, IsOnce, NumbersAgree, count_of};
 ghost use Rattle.mlt_trace_audit.specs.Receipts.{HasNothing, IsOfHistory};
 

@@ -4,7 +4,7 @@ ghost use Rattle.std.specs.Prelude.{◌≡◌, List};
 ghost use Rattle.mlt_object_kinds.specs.Bases.{Base, Step, empty_base};
 ghost use Rattle.mlt_order.specs.Runs.{IsSerialBase};
 ghost use Rattle.mlt_trace.specs.declared.item.TraceItem.{TraceItem};
-ghost use Rattle.mlt_trace_history.specs.Numbers.{AreBegunInOrder};
+ghost use Rattle.mlt_trace.specs.Numbers.{AreBegunInOrder};
 ghost use Rattle.mlt_trace_check.specs.Traces.{ArePlaced, told};
 ghost use Rattle.mlt_script_serial.specs.declared.outcome.Outcome.{Outcome};
 ghost use Rattle.mlt_trace_audit.specs.Agreement.{Agrees};

@@ -2,7 +2,7 @@
 
 ghost use Rattle.std.specs.Prelude.{◌≡◌, ◌≤◌, ◌<◌, ◌↔◌, IsTrue, IfNone, IfSome, All, List, Some, slice_get, length, take};
 ghost use Rattle.mlt_trace.specs.declared.item.TraceItem.{TraceItem as ItemForm};
-ghost use Rattle.mlt_trace_history.specs.Numbers.{begin_count};
+ghost use Rattle.mlt_trace.specs.Numbers.{begin_count};
 ghost use Rattle.mlt_trace_audit.specs.Agreement.{AreOfHistory, NumbersAgree};
 ghost use Rattle.mlt_trace_audit.specs.Ordered.{AreOrdered, StandsBehind, told_count};
 ghost use Rattle.mlt_trace_audit.specs.Receipts.{HasNothing, IsClosedBefore, IsClosedSo, IsOfHistory};

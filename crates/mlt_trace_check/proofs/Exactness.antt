@@ -8,7 +8,7 @@ use Rattle.mlt_types.specs.declared.refusal.TraceCause.{TraceCause}
 use Rattle.mlt_text.specs.Failures.{IsWant}
 use Rattle.mlt_object_kinds.specs.Bases.{Base}
 use Rattle.mlt_text_words.specs.Lines.{lines}
-use Rattle.mlt_trace_history.specs.Numbers.{committed_txs}
+use Rattle.mlt_trace.specs.Numbers.{committed_txs}
 use Rattle.mlt_trace_check.specs.declared.trace_check.Order.{Order}
 use Rattle.mlt_trace_check.specs.Answering.{Answers}
 use Rattle.mlt_trace_check.specs.Traces.{IsAcceptedTrace, IsFirstFault}

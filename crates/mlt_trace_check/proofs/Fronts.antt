@@ -10,8 +10,8 @@ use Rattle.mlt_order.proofs.RunLemmas.{serial_to_one}
 use Rattle.mlt_text_words.specs.Lines.{Raw}
 use Rattle.mlt_trace.specs.declared.item.TraceItem.{TraceItem}
 use Rattle.mlt_trace.specs.declared.item.TraceItem.TheVariants.{Begin, Op, Back, Commit, Abort}
-use Rattle.mlt_trace_history.specs.Entries.{entries_of}
-use Rattle.mlt_trace_history.proofs.ItemLaws.{entries_of-append}
+use Rattle.mlt_trace.specs.Entries.{entries_of}
+use Rattle.mlt_trace.proofs.ItemLaws.{entries_of-append}
 use Rattle.mlt_trace_check.specs.declared.reading.Reading.TheVariants.{Says}
 use Rattle.mlt_trace_check.specs.Readings.{reading}
 use Rattle.mlt_trace_check.specs.Traces.{HasPlace, IsTrace, told}

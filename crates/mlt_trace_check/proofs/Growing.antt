@@ -10,9 +10,9 @@ use Rattle.mlt_order.proofs.RunLemmas.{contains-first}
 use Rattle.mlt_order.proofs.Tables.{changed}
 use Rattle.mlt_trace.specs.declared.item.TraceItem.{TraceItem}
 use Rattle.mlt_trace.specs.declared.item.TraceItem.TheVariants.{Begin, Op, Back, Commit, Abort}
-use Rattle.mlt_trace_history.specs.Entries.{entry_of, entries_of}
-use Rattle.mlt_trace_history.specs.Numbers.{begun_txs, committed_txs}
-use Rattle.mlt_trace_history.proofs.ItemLaws.{begun_txs-append, entries_of-append}
+use Rattle.mlt_trace.specs.Entries.{entry_of, entries_of}
+use Rattle.mlt_trace.specs.Numbers.{begun_txs, committed_txs}
+use Rattle.mlt_trace.proofs.ItemLaws.{begun_txs-append, entries_of-append}
 use Rattle.mlt_trace_check.specs.Traces.{told}
 
 -- the number of the item's transaction

@@ -14,7 +14,7 @@ use Rattle.mlt_order.proofs.RunLemmas.{contains-first, contains-later, contains-
 use Rattle.mlt_text_words.specs.Lines.{Raw, lines}
 use Rattle.mlt_trace.specs.declared.item.TraceItem.{TraceItem}
 use Rattle.mlt_trace.specs.declared.item.TraceItem.TheVariants.{Begin, Op, Back, Commit, Abort}
-use Rattle.mlt_trace_history.specs.Numbers.{begun_txs, commit_count, committed_txs}
+use Rattle.mlt_trace.specs.Numbers.{begun_txs, commit_count, committed_txs}
 use Rattle.mlt_trace_check.specs.declared.reading.Reading.{Reading}
 use Rattle.mlt_trace_check.specs.declared.reading.Reading.TheVariants.{Bad, Says}
 use Rattle.mlt_trace_check.specs.AcceptedItems.{AreAccepted, IsFirstFaultIn}

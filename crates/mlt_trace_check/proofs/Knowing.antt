@@ -21,8 +21,8 @@ use Rattle.mlt_order.proofs.RunLemmas.{runs_append, serial_push}
 use Rattle.mlt_order.proofs.Tables.{at_each, changed}
 use Rattle.mlt_trace.specs.declared.item.TraceItem.{TraceItem}
 use Rattle.mlt_trace.specs.declared.item.TraceItem.TheVariants.{Begin, Op, Back, Commit, Abort}
-use Rattle.mlt_trace_history.specs.Numbers.{begun_txs, commit_count}
-use Rattle.mlt_trace_history.proofs.ItemLaws.{begun_txs-append, committed_txs_counted, no_begin}
+use Rattle.mlt_trace.specs.Numbers.{begun_txs, commit_count}
+use Rattle.mlt_trace.proofs.ItemLaws.{begun_txs-append, committed_txs_counted, no_begin}
 use Rattle.mlt_trace_check.specs.declared.open_tx.OpenTx.{OpenTx}
 use Rattle.mlt_trace_check.specs.declared.checker.Checker.{Checker}
 use Rattle.mlt_trace_check.specs.Replaying.{DoneAt, dones, IsFalseAt, Replays, ReplaysOne}

@@ -9,9 +9,9 @@ use Rattle.mlt_order.specs.Histories.Stage.{Fresh, Running, Ended}
 use Rattle.mlt_order.proofs.Tables.{changed}
 use Rattle.mlt_trace.specs.declared.item.TraceItem.{TraceItem}
 use Rattle.mlt_trace.specs.declared.item.TraceItem.TheVariants.{Begin, Op, Back, Commit, Abort}
-use Rattle.mlt_trace_history.specs.Entries.{entry_of}
-use Rattle.mlt_trace_history.specs.Numbers.{begun_txs}
-use Rattle.mlt_trace_history.proofs.ItemLaws.{begun_txs-append}
+use Rattle.mlt_trace.specs.Entries.{entry_of}
+use Rattle.mlt_trace.specs.Numbers.{begun_txs}
+use Rattle.mlt_trace.proofs.ItemLaws.{begun_txs-append}
 use Rattle.mlt_trace_check.specs.Traces.{ArePlaced, HasPlace, IsRunning, IsWhole, told}
 use Rattle.mlt_trace_check.proofs.Growing.{append_nil, begun_stays, last_one, number_in, stage-other, told-push, transcript-other}
 

@@ -12,3 +12,4 @@ pub mod Standing
 pub mod Judging
 pub mod Allowed
 pub mod PlainItems
+pub mod Said

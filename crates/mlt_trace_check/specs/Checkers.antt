@@ -9,7 +9,7 @@ use Rattle.mlt_order.specs.Histories.Stage.{Running}
 use Rattle.mlt_order.specs.Runs.{IsSerialBase}
 use Rattle.mlt_trace.specs.declared.item.TraceItem.{TraceItem}
 use Rattle.mlt_trace.specs.declared.item.TraceItem.TheVariants.{Op, Back}
-use Rattle.mlt_trace_history.specs.Numbers.{begun_txs, committed_txs}
+use Rattle.mlt_trace.specs.Numbers.{begun_txs, committed_txs}
 use Rattle.mlt_trace_check.specs.declared.open_tx.OpenTx.{OpenTx}
 use Rattle.mlt_trace_check.specs.declared.checker.Checker.{Checker}
 use Rattle.mlt_trace_check.specs.Replaying.{DoneAt, dones}

@@ -6,3 +6,4 @@ pub mod Checkers
 pub mod AcceptedItems
 pub mod Answering
 pub mod Plain
+pub mod OrderTexts

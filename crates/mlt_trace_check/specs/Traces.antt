@@ -11,8 +11,8 @@ use Rattle.mlt_order.specs.Runs.{IsSerialBase, Runs}
 use Rattle.mlt_text_words.specs.Lines.{Raw, lines}
 use Rattle.mlt_trace.specs.declared.item.TraceItem.{TraceItem}
 use Rattle.mlt_trace.specs.declared.item.TraceItem.TheVariants.{Begin, Op, Back, Commit, Abort}
-use Rattle.mlt_trace_history.specs.Entries.{entries_of}
-use Rattle.mlt_trace_history.specs.Numbers.{begun_txs, commit_count, committed_txs}
+use Rattle.mlt_trace.specs.Entries.{entries_of}
+use Rattle.mlt_trace.specs.Numbers.{begun_txs, commit_count, committed_txs}
 use Rattle.mlt_trace_check.specs.declared.reading.Reading.TheVariants.{Bad, Says}
 use Rattle.mlt_trace_check.specs.Readings.{reading}
 

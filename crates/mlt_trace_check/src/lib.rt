@@ -1,7 +1,10 @@
 //! The check of a trace: whether its committed transactions, run alone in the order of their commits, give
 //! the replies that they were told.
+//!
+//! Traces from a reader, and what the check says of them to a writer.
 #![tactic(auto)]
 
+mod check_engine;
 mod checker;
 mod committed;
 mod laws;
@@ -11,6 +14,7 @@ mod reading;
 mod trace_check;
 mod words;
 
+pub use check_engine::check_trace;
 pub use committed::committed_base;
 pub use laws::{
     accepted_traces_have_one_answer, items_are_accepted_or_faulty, texts_are_accepted_or_faulty,

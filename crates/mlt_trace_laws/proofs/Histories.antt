@@ -9,8 +9,8 @@ use Rattle.mlt_order.specs.Runs.{IsInjective, IsSerialBase}
 use Rattle.mlt_order.proofs.Keeping.{kept_by_history}
 use Rattle.mlt_trace.specs.declared.item.TraceItem.{TraceItem}
 use Rattle.mlt_trace.specs.Items.{trace_text}
-use Rattle.mlt_trace_history.specs.Entries.{entries_of}
-use Rattle.mlt_trace_history.specs.Numbers.{committed_txs}
+use Rattle.mlt_trace.specs.Entries.{entries_of}
+use Rattle.mlt_trace.specs.Numbers.{committed_txs}
 use Rattle.mlt_trace_check.specs.Traces.{ArePlaced, IsAcceptedTrace, told}
 use Rattle.mlt_trace_check.proofs.Fronts.{base_functional}
 use Rattle.mlt_trace_laws.specs.Writable.{AreWritable}

@@ -5,8 +5,8 @@ use Rattle.std.proofs.lemmas.List.{take_more}
 use Rattle.mlt_order.proofs.RunLemmas.{contains-first, contains-nothing}
 use Rattle.mlt_trace.specs.declared.item.TraceItem.{TraceItem}
 use Rattle.mlt_trace.specs.declared.item.TraceItem.TheVariants.{Begin, Op, Back, Commit, Abort}
-use Rattle.mlt_trace_history.specs.Numbers.{AreBegunInOrder, CountsFrom, begun_txs}
-use Rattle.mlt_trace_history.proofs.ItemLaws.{begun_txs-append}
+use Rattle.mlt_trace.specs.Numbers.{AreBegunInOrder, CountsFrom, begun_txs}
+use Rattle.mlt_trace.proofs.ItemLaws.{begun_txs-append}
 use Rattle.mlt_trace_check.specs.Traces.{ArePlaced, HasPlace, IsRunning, IsWhole}
 use Rattle.mlt_trace_check.proofs.Growing.{earlier_or_last, no_cut}
 use Rattle.mlt_trace_check.proofs.Lasting.{runs_begun}

@@ -6,8 +6,8 @@ ghost use Rattle.mlt_order.specs.Histories.{IsHistory};
 ghost use Rattle.mlt_order.specs.Interleavings.{UndoneTo};
 ghost use Rattle.mlt_order.specs.Runs.{IsSerialBase};
 ghost use Rattle.mlt_trace.specs.Items.{trace_text};
-ghost use Rattle.mlt_trace_history.specs.Entries.{entries_of};
-ghost use Rattle.mlt_trace_history.specs.Numbers.{committed_txs};
+ghost use Rattle.mlt_trace.specs.Entries.{entries_of};
+ghost use Rattle.mlt_trace.specs.Numbers.{committed_txs};
 ghost use Rattle.mlt_trace_check.specs.Traces.{ArePlaced, IsAcceptedTrace, told};
 ghost use Rattle.mlt_trace_laws.specs.Writable.{AreWritable};
 

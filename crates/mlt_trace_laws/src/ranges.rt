@@ -1,7 +1,7 @@
 //! What numbers the items of a history have.
 
 ghost use Rattle.std.specs.Prelude.{◌<◌, ◌^◌, List};
-ghost use Rattle.mlt_trace_history.specs.Numbers.{AreBegunInOrder};
+ghost use Rattle.mlt_trace.specs.Numbers.{AreBegunInOrder};
 ghost use Rattle.mlt_trace_check.specs.Traces.{ArePlaced};
 ghost use Rattle.mlt_trace_laws.specs.Writable.{AllFit, AreWritable, FitsDone, FitsItem};
 

@@ -1,6 +1,6 @@
 //! What the check says of texts.
 
-use mlt_trace_check_text::check_trace;
+use mlt_trace_check::check_trace;
 use mlt_test_tools::same_at;
 use mlt_types::{Refusal, TraceCause};
 use std::alloc::Global;

@@ -9,7 +9,7 @@ use Rattle.mlt_page_subtx.specs.Images.{Running, started}
 use Rattle.mlt_hash_access.specs.Moments.{Moment, moment}
 use Rattle.mlt_hash.specs.Walks.{Basis}
 use Rattle.mlt_tx_operation.specs.Operating.{OperationFields, started_for}
-use Rattle.mlt_tx_at_once.specs.AtOnce.{GoesOn, PassesAtOnce}
+use Rattle.mlt_tx_operation.specs.AtOnce.{GoesOn, PassesAtOnce}
 use Rattle.mlt_trace.specs.declared.item.TraceItem.TheVariants as trace
 use Rattle.mlt_event.specs.declared.answer.Answer.TheVariants as answer
 use Rattle.mlt_tx.specs.AtOnce.{StepsAtOnce, TakesStep, called_with}

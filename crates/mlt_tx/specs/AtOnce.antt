@@ -9,7 +9,7 @@ use Rattle.mlt_page_subtx.specs.Images.{started}
 use Rattle.mlt_hash_access.specs.Moments.{moment}
 use Rattle.mlt_hash.specs.Walks.{Basis}
 use Rattle.mlt_tx_operation.specs.Operating.{MayOperate, started_for}
-use Rattle.mlt_tx_at_once.specs.AtOnce.{NobodyHolds}
+use Rattle.mlt_tx_operation.specs.AtOnce.{NobodyHolds}
 use Rattle.mlt_event.specs.declared.answer.Answer.{Answer}
 use Rattle.mlt_event.specs.declared.answer.Answer.TheVariants as answer
 use Rattle.mlt_tx.specs.declared.commons.Commons.{Commons}

@@ -9,11 +9,10 @@ ghost use Rattle.mlt_tx.specs.Transactions.{IsNotCalled};
 
 use crate::commons::Commons;
 use crate::transaction::{At, Transaction};
-use mlt_tx_at_once::plan_at_once;
+use mlt_tx_operation::{Operation, plan_at_once};
 use mlt_object_base::Request;
 use mlt_hash::Setting;
 use mlt_object_kinds::{Done, ObjOp, ObjReply};
-use mlt_tx_operation::Operation;
 use mlt_trace::TraceItem;
 use mlt_types::{Pseudo, Refusal};
 

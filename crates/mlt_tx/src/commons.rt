@@ -1,7 +1,7 @@
 //! What the transactions of a manager share.
 
 use mlt_hash_access::LockedStore;
-use mlt_trace_history::History;
+use mlt_trace::History;
 use mlt_object_locks::ObjectLocks;
 use std::alloc::Global;
 

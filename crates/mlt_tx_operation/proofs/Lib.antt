@@ -9,3 +9,5 @@ pub mod Performing
 pub mod Ready
 pub mod Telling
 pub mod Turns
+pub mod Free
+pub mod Passing

@@ -4,3 +4,4 @@ pub mod Operating
 pub mod Answers
 pub mod AtBucket
 pub mod MostSteps
+pub mod AtOnce

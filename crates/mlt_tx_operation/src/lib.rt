@@ -5,6 +5,12 @@
 //! An operation is a subtransaction of its transaction (Weikum, ACM TODS 16(1), 1991, section 3). What it is told is
 //! known once the bucket is read; whether it may stand beside what other transactions hold is asked at its end, by the
 //! manager.
+//!
+//! Operations that go to their end at once, while nobody holds a page.
+//!
+//! An operation on one record takes four steps: the header, a page of the directory, the bucket, and its end. Where nobody
+//! holds a page, no step of it can wait, and what the steps lock is unlocked at the end. So the record can be found and
+//! changed without a lock, and all is as after the steps.
 #![tactic(auto)]
 
 mod answer;
@@ -12,9 +18,11 @@ mod course;
 mod end_law;
 mod operation;
 mod perform;
+mod plan;
 mod walking;
 
 pub use answer::StepAnswer;
 pub use course::Course;
 pub use end_law::operations_come_to_an_end;
 pub use operation::Operation;
+pub use plan::{Plan, plan_at_once};

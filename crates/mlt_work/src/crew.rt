@@ -5,9 +5,8 @@ ghost use Rattle.mlt_work_places.specs.Places.{scripts_of_clients};
 ghost use Rattle.mlt_work_places.specs.Workers.{HasWorked, IsFresh};
 
 use crate::worker::work;
-use mlt_work_claims::Counter;
+use mlt_work_places::{Counter, Job, Worked};
 use mlt_work_desk::{Gate, MadeWith, Shared};
-use mlt_work_places::{Job, Worked};
 use mlt_script_tree::Script;
 use mlt_types::Pseudo;
 use std::alloc::{AllocError, Global};

@@ -7,10 +7,9 @@ ghost use Rattle.mlt_work.specs.Runs.{HasRunAll};
 
 use crate::crew::work_all;
 use crate::reporting::report_of;
-use mlt_work_claims::Counter;
+use mlt_work_places::{Counter, collect, empty_slots, jobs_for};
 use mlt_work_desk::{Gate, Hall, MadeWith, Shared};
 use mlt_manager::Manager;
-use mlt_work_places::{collect, empty_slots, jobs_for};
 use mlt_script_serial::Report;
 use mlt_script_tree::Script;
 use mlt_types::{Limits, Pseudo, Refusal};

@@ -4,10 +4,9 @@ ghost use Rattle.std.specs.Prelude.{◌≡◌, [], length};
 ghost use Rattle.mlt_work_places.specs.Places.{scripts_of_clients};
 ghost use Rattle.mlt_work_places.specs.Workers.{HasWorked, IsFresh};
 
-use mlt_work_claims::{Counter, Drawer};
+use mlt_work_places::{ClientRun, Counter, Drawer, Job, Worked};
 use mlt_script_desk::run_client;
 use mlt_work_desk::{Gate, LockDesk, MadeWith, Shared, Tries};
-use mlt_work_places::{ClientRun, Job, Worked};
 use mlt_script_tree::Script;
 use mlt_types::Pseudo;
 use std::alloc::Global;

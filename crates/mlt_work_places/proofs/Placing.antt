@@ -4,9 +4,9 @@ use Rattle.std.specs.Prelude.{Option, Some, None, IfSome, IsSome}
 use Rattle.std.proofs.lemmas.Bool.{lt-ltb}
 use Rattle.std.proofs.lemmas.List.{map-append, append-nil, length-set, get_or-set_same, get_or-set_other}
 use Rattle.std.proofs.lemmas.Bool.Decides.{eqb_tells, nat_tests}
-use Rattle.mlt_work_claims.specs.declared.view.View.{View}
-use Rattle.mlt_work_claims.specs.Claims.{view, times, once_below, after_draw}
-use Rattle.mlt_work_claims.proofs.Moves.{times-append}
+use Rattle.mlt_work_places.specs.declared.view.View.{View}
+use Rattle.mlt_work_places.specs.Claims.{view, times, once_below, after_draw}
+use Rattle.mlt_work_places.proofs.Moves.{times-append}
 use Rattle.mlt_script_serial.specs.declared.outcome.Outcome.{Outcome}
 use Rattle.mlt_script_tree.specs.Scripts.{ScriptForm}
 use Rattle.mlt_work_places.specs.declared.forms.ClientRun.{ClientRun}

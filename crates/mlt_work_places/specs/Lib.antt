@@ -1,2 +1,4 @@
+pub mod Claims
+pub mod Seats
 pub mod Places
 pub mod Workers

@@ -9,7 +9,7 @@ use Rattle.mlt_script_serial.specs.declared.outcome.End.{End}
 use Rattle.mlt_script_serial.specs.declared.outcome.End.TheVariants.{Refused}
 use Rattle.mlt_script_serial.specs.declared.outcome.Outcome.{Outcome}
 use Rattle.mlt_script_desk.specs.Clients.{AreOutcomes}
-use Rattle.mlt_work_claims.specs.Claims.{times}
+use Rattle.mlt_work_places.specs.Claims.{times}
 use Rattle.mlt_work_places.specs.declared.forms.ClientRun.{ClientRun}
 
 -- the scripts of each client

@@ -1,11 +1,11 @@
 -- Workers, before and after their work.
 use Rattle.std.specs.Prelude.{◌≡◌, ℕ, ◌-◌, ◌<◌, ◌≤◌, List, [], ◌∷◌, ◌++◌, All, length, map, Bool, false}
 use Rattle.mlt_script_tree.specs.Scripts.{ScriptForm}
-use Rattle.mlt_work_claims.specs.declared.view.View.{View}
-use Rattle.mlt_work_claims.specs.declared.seats.Counter.{Counter}
-use Rattle.mlt_work_claims.specs.declared.seats.Drawer.{Drawer}
-use Rattle.mlt_work_claims.specs.Claims.{new_view, times, view}
-use Rattle.mlt_work_claims.specs.Seats.{IsOf, view_of}
+use Rattle.mlt_work_places.specs.declared.view.View.{View}
+use Rattle.mlt_work_places.specs.declared.seats.Counter.{Counter}
+use Rattle.mlt_work_places.specs.declared.seats.Drawer.{Drawer}
+use Rattle.mlt_work_places.specs.Claims.{new_view, times, view}
+use Rattle.mlt_work_places.specs.Seats.{IsOf, view_of}
 use Rattle.mlt_work_places.specs.declared.forms.ClientRun.{ClientRun}
 use Rattle.mlt_work_places.specs.Places.{IsClientRun, place_of}
 

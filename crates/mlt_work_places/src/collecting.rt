@@ -1,14 +1,15 @@
 //! What the workers give back, put together.
 
 ghost use Rattle.std.specs.Prelude.{◌≡◌, ◌+◌, ◌-◌, ◌^◌, ◌<◌, ◌≤◌, All, IsOkUnless, IfOk, [], None, false, length, min, replicate, vec_len};
-ghost use Rattle.mlt_work_claims.specs.Claims.{HasAll};
-ghost use Rattle.mlt_work_claims.specs.Seats.{IsOf, view_of};
+ghost use Rattle.mlt_work_places.specs.Claims.{HasAll};
+ghost use Rattle.mlt_work_places.specs.Seats.{IsOf, view_of};
 ghost use Rattle.mlt_work_places.specs.Places.{AreAllOutcomes, HaveRuns, AllHaveRuns, AreInPlace, scripts_of_clients};
 ghost use Rattle.mlt_work_places.specs.Workers.{HasDrawnPast, HasWorked, view_after_splits};
 
 use crate::forms::{ClientRun, Worked};
 use crate::slots::place_all;
-use mlt_work_claims::{Counter, Drawer};
+use crate::seats::Counter;
+use crate::seats::Drawer;
 use mlt_script_serial::{Outcome, Outcomes};
 use mlt_script_tree::Script;
 use mlt_types::Refusal;

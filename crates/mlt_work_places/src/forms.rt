@@ -2,7 +2,7 @@
 
 ghost use Rattle.std.specs.Prelude.{◌≡◌, ◌-◌, ◌^◌, min};
 
-use mlt_work_claims::Drawer;
+use crate::seats::Drawer;
 use mlt_script_serial::Outcome;
 use std::sync::ledger::{Ledger, Share};
 

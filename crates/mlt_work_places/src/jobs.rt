@@ -1,12 +1,13 @@
 //! A job for each worker.
 
 ghost use Rattle.std.specs.Prelude.{◌≡◌, ◌+◌, ◌≤◌, All, IfOk, vec_len};
-ghost use Rattle.mlt_work_claims.specs.Claims.{first_view};
-ghost use Rattle.mlt_work_claims.specs.Seats.{IsOf, view_of};
+ghost use Rattle.mlt_work_places.specs.Claims.{first_view};
+ghost use Rattle.mlt_work_places.specs.Seats.{IsOf, view_of};
 ghost use Rattle.mlt_work_places.specs.Workers.{IsFresh, view_after_splits};
 
 use crate::forms::Job;
-use mlt_work_claims::{Counter, Drawer};
+use crate::seats::Counter;
+use crate::seats::Drawer;
 use std::alloc::{AllocError, Global};
 use std::sync::ledger::{Ledger, Share};
 

@@ -3,7 +3,7 @@ use Rattle.mlt_serve_session.specs.Rounds.{Listens, streams}
 use Rattle.std.proofs.KnownBytes.{Consumes-nil}
 use Rattle.mlt_serve_session.specs.Desks.{moves}
 use Rattle.mlt_serve_session.specs.Turns.{place}
-use Rattle.mlt_event_request.proofs.Cutting.{empty}
+use Rattle.mlt_event_text.proofs.Cutting.{empty}
 use Rattle.mlt_serve_session.proofs.Reaching.{on_err_all, same_error}
 use Rattle.mlt_serve_session.proofs.Listening.{starts, ends_here, breaks, breaks_heard, stops, stops_heard, is_over, goes_further, nothing_read}
 use Rattle.mlt_serve_session.proofs.sessions.listen.Goals as goal

@@ -1,8 +1,8 @@
 use Rattle.std.proofs.Common.{◌≡◌, ℕ, ◌<◌, ◌∷◌, [], List, length, map, get_or, sym, ap, ◌∙◌, subst, arith, Vec, Global}
 use Rattle.std.proofs.lemmas.List.{map-append, get_or-map, length-map}
 use Rattle.std.proofs.lemmas.List.Elements.{All-push}
-use Rattle.mlt_work_claims.specs.Claims.{view}
-use Rattle.mlt_work_claims.specs.Seats.{view_of}
+use Rattle.mlt_work_places.specs.Claims.{view}
+use Rattle.mlt_work_places.specs.Seats.{view_of}
 use Rattle.mlt_script_tree.specs.declared.script.Script.{Script}
 use Rattle.mlt_script_tree.specs.Scripts.{ScriptForm}
 use Rattle.mlt_work_places.specs.declared.forms.ClientRun.{ClientRun}

@@ -1,7 +1,7 @@
 use Rattle.std.proofs.Common.{◌≡◌, length, map}
 use Rattle.std.specs.Prelude.{All}
-use Rattle.mlt_work_claims.specs.Claims.{view}
-use Rattle.mlt_work_claims.specs.Seats.{IsOf, view_of}
+use Rattle.mlt_work_places.specs.Claims.{view}
+use Rattle.mlt_work_places.specs.Seats.{IsOf, view_of}
 use Rattle.mlt_work_places.specs.Places.{IsClientRun, place_of, scripts_of_clients}
 use Rattle.mlt_work.proofs.worker.run_claimed.Given as goal
 

@@ -2,9 +2,9 @@ use Rattle.std.proofs.Common.{◌≡◌, ◌<◌, ◌+◌, ◌++◌, List, ℕ, 
 use Rattle.std.specs.Prelude.{Some, false}
 use Rattle.std.proofs.lemmas.List.{length-map}
 use Rattle.std.proofs.lemmas.List.Elements.{All-pop}
-use Rattle.mlt_work_claims.specs.declared.view.View.{View}
-use Rattle.mlt_work_claims.specs.Claims.{times}
-use Rattle.mlt_work_claims.specs.Seats.{view_of}
+use Rattle.mlt_work_places.specs.declared.view.View.{View}
+use Rattle.mlt_work_places.specs.Claims.{times}
+use Rattle.mlt_work_places.specs.Seats.{view_of}
 use Rattle.mlt_script_tree.specs.declared.script.Script.{Script}
 use Rattle.mlt_script_tree.specs.Scripts.{ScriptForm}
 use Rattle.mlt_work_places.specs.Workers.{HasWorked}

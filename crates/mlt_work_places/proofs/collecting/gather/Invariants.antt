@@ -1,6 +1,6 @@
 use Rattle.std.proofs.Common.{◌≡◌, ◌⊎◌, ◌<◌, ◌+◌, ◌-◌, ◌^◌, length, vec_len, min}
 use Rattle.std.specs.Prelude.{All, false}
-use Rattle.mlt_work_claims.specs.Seats.{IsOf, view_of}
+use Rattle.mlt_work_places.specs.Seats.{IsOf, view_of}
 use Rattle.mlt_work_places.specs.Workers.{HasDrawnPast, HasWorked}
 use Rattle.mlt_work_places.specs.Places.{AreInPlace, HaveRuns, scripts_of_clients}
 use Rattle.mlt_work_places.proofs.collecting.gather.Given as goal

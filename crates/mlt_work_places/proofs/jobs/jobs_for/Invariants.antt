@@ -1,6 +1,6 @@
 use Rattle.std.proofs.Common.{◌≡◌, ◌+◌, vec_len}
 use Rattle.std.specs.Prelude.{All}
-use Rattle.mlt_work_claims.specs.Seats.{IsOf, view_of}
+use Rattle.mlt_work_places.specs.Seats.{IsOf, view_of}
 use Rattle.mlt_work_places.specs.Workers.{IsFresh, view_after_splits}
 use Rattle.mlt_work_places.proofs.jobs.jobs_for.Given as goal
 

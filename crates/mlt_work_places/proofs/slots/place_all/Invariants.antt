@@ -1,6 +1,6 @@
 use Rattle.std.proofs.Common.{◌≡◌, ◌⊎◌, ◌<◌, ℕ, length, map, vec_len}
 use Rattle.std.specs.Prelude.{All}
-use Rattle.mlt_work_claims.specs.Claims.{times}
+use Rattle.mlt_work_places.specs.Claims.{times}
 use Rattle.mlt_work_places.specs.Places.{AreInPlace, HasRunAt, IsClientRun, KeepsRuns, place_of, scripts_of_clients}
 use Rattle.mlt_work_places.proofs.slots.place_all.Given as goal
 

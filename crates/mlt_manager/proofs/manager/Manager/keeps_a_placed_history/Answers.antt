@@ -1,6 +1,6 @@
 use Rattle.std.proofs.Common.{subst}
 use Rattle.mlt_trace_check.specs.Traces.{ArePlaced}
-use Rattle.mlt_trace_history.specs.Numbers.{AreBegunInOrder}
+use Rattle.mlt_trace.specs.Numbers.{AreBegunInOrder}
 use Rattle.mlt_manager.specs.Managers.{ManagerFields}
 use Rattle.mlt_manager.proofs.manager.Manager.keeps_a_placed_history.Goals as goal
 

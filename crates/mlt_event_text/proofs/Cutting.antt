@@ -1,0 +1,99 @@
+-- The next line of a text.
+use Rattle.std.proofs.Common.{◌≡◌, ℕ, suc, zero, ◌+◌, ◌<◌, ◌≤◌, List, [], ◌∷◌, ◌++◌, length, take, drop, get_or, true, false, Some, None, refl, sym, ap, ◌∙◌, arith, append-nil, length-take, take-append-drop, add-one}
+use Rattle.std.specs.List.{position, flat_map}
+use Rattle.std.proofs.lemmas.List.Concat.{flat_map-cons}
+use Rattle.std.proofs.lemmas.List.Quantifiers.{position-Some}
+use Rattle.std.proofs.lemmas.Bool.{lt-ltb, le-ltb}
+use Rattle.mlt_event_text.specs.Inputs.{heard, lines_of, Splits, NextLine}
+use Rattle.mlt_event_text.specs.Requests.{request_of}
+use Rattle.mlt_event_text.specs.declared.request_line.Line.{Line}
+use Rattle.mlt_event_text.specs.declared.request_line.Line.TheVariants.{Says, TooLong}
+use Rattle.mlt_event_text.specs.declared.request.Request.{Request}
+use Rattle.mlt_text_words.specs.Lines.{Raw, lines, onto, is_lf, without_cr}
+use Rattle.mlt_text_words.proofs.Cutting.{not_found}
+
+at_lf : (b : ℕ) (bs : List ℕ) → is_lf b ≡ true → lines (b ∷ bs) ≡ record { bytes = []; ended = true } ∷ lines bs
+unfolding lines
+at_lf b bs h = rw h refl
+
+at_other : (b : ℕ) (bs : List ℕ) → is_lf b ≡ false → lines (b ∷ bs) ≡ onto b (lines bs)
+unfolding lines
+at_other b bs h = rw h refl
+
+up_to : (text more : List ℕ) (i : ℕ) → i < length text → is_lf (get_or text i 0) ≡ true → ((k : ℕ) → k < i → is_lf (get_or text k 0) ≡ false)
+    → lines (take (suc i) text ++ more) ≡ record { bytes = take i text; ended = true } ∷ lines more
+up_to [] more i h e o = absurd (omega arith)
+up_to (b ∷ bs) more zero h e o = at_lf b more e
+up_to (b ∷ bs) more (suc i) h e o =
+    at_other b (take (suc i) bs ++ more) (o zero (omega arith)) ∙ ap (onto b) (up_to bs more i (omega arith) e (λ k l. o (suc k) (omega arith)))
+
+-- a line that ends, whatever stands behind it
+found : (text more : List ℕ) (i : ℕ) → position is_lf text ≡ Some i → lines (take (i + 1) text ++ more) ≡ record { bytes = take i text; ended = true } ∷ lines more
+found text more i e =
+    let h = position-Some is_lf text i 0 e in
+    rw add-one (up_to text more i h.0 h.1 h.2)
+
+heard_short : (bytes : List ℕ) → length bytes ≤ 200 → heard (record { bytes = bytes; ended = true }) ≡ Says (request_of (without_cr bytes)) ∷ []
+heard_short bytes l = rw (le-ltb 200 (length bytes) l) refl
+
+heard_long : (raw : Raw) → 200 < length raw.bytes → heard raw ≡ TooLong ∷ []
+heard_long raw l = rw (lt-ltb 200 (length raw.bytes) l) refl
+
+heard_cut : (bytes : List ℕ) → length bytes ≤ 200 → heard (record { bytes = bytes; ended = false }) ≡ []
+heard_cut bytes l = rw (le-ltb 200 (length bytes) l) refl
+
+first_of : (raw : Raw) (rest : List Raw) (ls : List Line) → heard raw ≡ ls → flat_map heard (raw ∷ rest) ≡ ls ++ flat_map heard rest
+first_of raw rest ls h = flat_map-cons heard raw rest ∙ ap (λ (l : List Line). l ++ flat_map heard rest) h
+
+-- a short line, whatever stands behind it
+short : (text more : List ℕ) (i : ℕ) → position is_lf text ≡ Some i → i ≤ 200 → lines_of (take (i + 1) text ++ more) ≡ Says (request_of (without_cr (take i text))) ∷ lines_of more
+unfolding lines_of
+short text more i e l =
+    let h = position-Some is_lf text i 0 e in
+    let n : length (take i text) ≤ 200 = omega (arith, length-take i text) in
+    ap (flat_map heard) (found text more i e) ∙ first_of (record { bytes = take i text; ended = true }) (lines more) _ (heard_short (take i text) n)
+
+-- no byte has no line
+pub empty : lines_of [] ≡ []
+unfolding lines_of lines
+empty = refl
+
+alone : (text : List ℕ) (i : ℕ) → position is_lf text ≡ Some i → i ≤ 200 → lines_of (take (i + 1) text) ≡ Says (request_of (without_cr (take i text))) ∷ []
+alone text i e l =
+    ap lines_of (sym (append-nil (take (i + 1) text))) ∙ short text [] i e l ∙ ap (λ (rest : List Line). Says (request_of (without_cr (take i text))) ∷ rest) empty
+
+splits : (text : List ℕ) (i : ℕ) → position is_lf text ≡ Some i → i ≤ 200 → Splits (take (i + 1) text)
+splits text i e l more = short text more i e l ∙ ap (λ (ls : List Line). ls ++ lines_of more) (sym (alone text i e l))
+
+pub next_found : (text : List ℕ) (i : ℕ) (r : Request) → position is_lf text ≡ Some i → i ≤ 200 → r ≡ request_of (without_cr (take i text)) → NextLine text (Some (Says r, i + 1))
+next_found text i r e l q =
+    let h = position-Some is_lf text i 0 e in (
+      omega arith,
+      (let k = h.0 in omega arith),
+      (alone text i e l ∙ ap (λ (s : Request). Says s ∷ []) (sym q), splits text i e l),
+    )
+
+pub next_long : (text : List ℕ) (i : ℕ) → position is_lf text ≡ Some i → 200 < i → NextLine text (Some (TooLong, length text))
+unfolding lines_of
+next_long text i e l =
+    let h = position-Some is_lf text i 0 e in
+    let k = h.0 in
+    let n : 200 < length (take i text) = omega (arith, length-take i text) in
+    let same : lines_of text ≡ TooLong ∷ lines_of (drop (i + 1) text) =
+    ap lines_of (sym (take-append-drop (i + 1) text)) ∙ ap (flat_map heard) (found text (drop (i + 1) text) i e)
+    ∙ first_of (record { bytes = take i text; ended = true }) (lines (drop (i + 1) text)) _ (heard_long (record { bytes = take i text; ended = true }) n) in
+    (omega arith, omega arith, (lines_of (drop (i + 1) text), same))
+
+-- the only line of a text without an LF
+cut : (text : List ℕ) (ls : List Line) → 0 < length text → position is_lf text ≡ None → heard (record { bytes = text; ended = false }) ≡ ls → lines_of text ≡ ls
+unfolding lines_of
+cut text ls some e h =
+    ap (flat_map heard) (not_found text some e) ∙ first_of (record { bytes = text; ended = false }) (lines []) ls h ∙ ap (λ (rest : List Line). ls ++ rest) empty ∙ append-nil ls
+
+pub next_endless : (text : List ℕ) → position is_lf text ≡ None → 200 < length text → NextLine text (Some (TooLong, length text))
+next_endless text e l =
+    (omega arith, omega arith, ([], cut text (TooLong ∷ []) (omega arith) e (heard_long (record { bytes = text; ended = false }) l)))
+
+pub next_none : (text : List ℕ) → position is_lf text ≡ None → length text ≤ 200 → NextLine text None
+next_none [] e l = (empty, l)
+next_none (b ∷ bs) e l = (cut (b ∷ bs) [] (omega arith) e (heard_cut (b ∷ bs) l), l)

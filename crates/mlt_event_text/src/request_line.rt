@@ -1,0 +1,49 @@
+//! The lines of an input.
+
+ghost use Rattle.std.specs.Prelude.{◌≡◌};
+ghost use Rattle.std.specs.List.{position};
+ghost use Rattle.mlt_event_text.specs.Inputs.{NextLine};
+ghost use Rattle.mlt_event_text.specs.Requests.{request_of};
+ghost use Rattle.mlt_text_words.specs.Lines.{is_lf, without_cr};
+
+use crate::request::{Request, read_request};
+use mlt_text_words::trimmed;
+
+// How many bytes a line has at most before its LF, a CR among them.
+const MOST_BYTES: usize = 200;
+
+/// A line of a session.
+#[derive(Clone, Copy, Debug, PartialEq, Eq)]
+pub enum Line {
+    /// At most 200 bytes, a CR among them, and an LF.
+    Says(Request),
+    /// More than 200 bytes before an LF, or without one.
+    TooLong,
+}
+
+fn find_lf(text: &[u8]) -> Option<usize>
+    ensures { result ≡ position is_lf text.now }
+{
+    text.iter().position(|byte| *byte == b'\n')
+}
+
+// What a line asks, given its bytes before the LF.
+fn request_in(bytes: &[u8]) -> Request
+    ensures { result ≡ request_of (without_cr bytes.now) }
+{
+    read_request(trimmed(bytes))
+}
+
+/// The next line of a text, and how many of its bytes it takes, with its LF 1 to 201. A session ends at a line that is
+/// too long, so of such a line the number says nothing. `None` where the line goes on behind the text, which then has
+/// at most 200 bytes and no LF. Takes no memory.
+pub fn next_line(text: &[u8]) -> Option<(Line, usize)>
+    ensures { NextLine text.now result }
+{
+    match find_lf(text) {
+        Some(end) if end > MOST_BYTES => Some((Line::TooLong, text.len())),
+        Some(end) => Some((Line::Says(request_in(&text[..end])), end + 1)),
+        None if text.len() > MOST_BYTES => Some((Line::TooLong, text.len())),
+        None => None,
+    }
+}

@@ -1,0 +1,43 @@
+//! A history that grows in room that it reserved, and the laws at a concrete type.
+
+ghost use Rattle.std.specs.Prelude.{ℕ};
+
+use crate::{
+    History, Rooms, begun_numbers_are_those_up_to_the_count, commits_stay_counted,
+    items_begin_in_order, items_count_the_committed, items_grow_by_entries, rooms_add_up,
+};
+use crate::item::TraceItem;
+use mlt_types::{Refusal, TxId};
+
+#[test]
+fn items_come_in_reserved_room(rt: HostRuntime) -> Result<(), Refusal> {
+    let mut history = History::new(rt.alloc());
+    history.reserve(3)?;
+    history.push(TraceItem::Begin(TxId(1)));
+    history.push(TraceItem::Commit(TxId(1), 1));
+    history.release(1);
+    let items = history.items();
+    assert!(rt; items.len() == 2);
+    assert!(rt; items[0].get() == TraceItem::Begin(TxId(1)));
+    assert!(rt; items[1].get() == TraceItem::Commit(TxId(1), 1));
+    Ok(())
+}
+
+// Entries that are numbers, each with as much room as it says.
+struct Counts;
+
+impl Rooms for Counts {
+    type Entry = u64;
+
+    ghost room_of = { λ count. count };
+}
+
+#[test]
+fn laws_hold() {
+    items_grow_by_entries();
+    commits_stay_counted();
+    items_begin_in_order();
+    items_count_the_committed();
+    begun_numbers_are_those_up_to_the_count();
+    rooms_add_up::<Counts>();
+}

@@ -1,7 +1,0 @@
-use Rattle.std.proofs.Common.{◌≡◌, take}
-use Rattle.std.specs.String.{string_bytes}
-use Rattle.mlt_trace_check_text.specs.OrderTexts.{serial_lines}
-use Rattle.mlt_trace_check_text.proofs.check_engine.text_of_txs.Given as goal
-
-abbrev pub invariant-loop-tx : goal.invariant-loop-tx
-invariant-loop-tx l = string_bytes l.text ≡ serial_lines (take l.tx-index l.txs)

@@ -1,3 +1,0 @@
-pub mod BegunLaws
-pub mod ItemLaws
-pub mod RoomLaws

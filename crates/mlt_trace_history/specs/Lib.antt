@@ -1,4 +1,0 @@
-pub mod Items
-pub mod Entries
-pub mod Numbers
-pub mod Rooms

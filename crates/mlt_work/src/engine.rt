@@ -1,0 +1,100 @@
+//! Scripts from a reader, run side by side, and their text to a writer.
+
+ghost use Rattle.std.specs.Prelude.{◌≡◌, ◌≤◌, ◌<◌, ◌⊎◌, ℕ, List, Err, IfErr, IfOk};
+ghost use Rattle.std.specs.Io.KnownBytes.{Appends};
+ghost use Rattle.mlt_types.specs.declared.refusal.ScriptCause.{ScriptCause};
+ghost use Rattle.mlt_text.specs.Failures.{FailsCleanly, IsScriptFault, IsWant};
+ghost use Rattle.mlt_text.specs.Inputs.{GivesWhole};
+ghost use Rattle.mlt_script.specs.Grammar.{IsFirstFault};
+ghost use Rattle.mlt_work.specs.RunTexts.{IsRunOf, IsRunText};
+
+use mlt_work_desk::Gate;
+use mlt_manager::Manager;
+use mlt_script::parse;
+use mlt_script_serial::{Form, write_report};
+use mlt_text::read_input;
+use mlt_script_tree::{Script, by_client};
+use mlt_types::{Limits, Pseudo, Refusal};
+use crate::running::run;
+use std::alloc::Global;
+use std::io::{Read, Write};
+use std::sync::Wait;
+use std::thread;
+use std::thread::{JoinHandle, Threads};
+
+/// Frees the memory of the scripts, where there are several workers in a thread of its own, whose handle it answers.
+fn free<T: Threads>(rt: &T, workers: usize, clients: Vec<Vec<Script>>) -> Option<JoinHandle<()>> {
+    if workers == 1 {
+        return None;
+    }
+    thread::spawn(rt, move || drop(clients)).ok()
+}
+
+/// Reads scripts to the end of the input, runs those of each client one after another and the clients side by side on a
+/// new manager with these limits, and writes for each script its client, its number, the texts of its replies and how it
+/// ended, and then the base. It answers the manager.
+///
+/// # Errors
+/// `ScriptFault` exactly for an input that is no list of scripts, with its first fault; `Io` where a read or a write
+/// fails, or the input has more than 16,777,216 bytes, of which none past the first too many is read; `OutOfMemory`
+/// where a growth was refused outside a script; `Audit` where the replies do not agree with the manager's history.
+/// Nothing was written then, but for a write that fails: what went out is a prefix of the text.
+pub fn run_scripts<
+    R: Read,
+    W: Write,
+    P: Pseudo + Drop + Send,
+    T: Threads + Wait + Sync,
+    G: Gate + Sync,
+>(
+    rt: &T,
+    alloc: Global,
+    reader: &mut R,
+    writer: &mut W,
+    limits: Limits,
+    pseudo: P,
+    workers: usize,
+    tries: u64,
+    gate: &G,
+) -> Result<Manager<P>, Refusal>
+    requires some { 0 < workers }
+    requires most { workers ≤ 8 }
+    // what is written is the text of what became of the scripts read, which agrees with what the manager has done
+    ensures text { IfOk result (λ manager. (input text : List ℕ)
+        × IsRunOf limits pseudo (R.remaining reader.old) (R.remaining reader.new) input text manager
+        × Appends (W.contents writer.old) (W.contents writer.new) text) }
+    // a fault is the first one of the input
+    ensures fault { (line : ℕ) (cause : ScriptCause) → result ≡ Err (Refusal.ScriptFault line cause)
+        → (input : List ℕ) × GivesWhole (R.remaining reader.old) (R.remaining reader.new) input
+        × IsFirstFault input line cause }
+    // where it fails, nothing was written, or a prefix of such a text; and too long an input is not read on
+    ensures failure { FailsCleanly (R.remaining reader.old) (R.remaining reader.new)
+        (W.contents writer.old) (W.contents writer.new) result (IsRunText limits pseudo) }
+    ensures refusals { IfErr result
+        (λ refusal. IsWant refusal ⊎ (refusal ≡ Refusal.Audit) ⊎ IsScriptFault refusal) }
+{
+    let input = read_input(alloc, reader)?;
+    let scripts = parse(alloc, input.as_slice())?;
+    let clients = by_client(alloc, scripts)?;
+    let (report, manager) = run(
+        rt,
+        alloc,
+        limits,
+        pseudo,
+        clients.as_slice(),
+        workers,
+        tries,
+        gate,
+    )?;
+    let freeing = free(rt, workers, clients);
+    let written = write_report(alloc, &report, Form::Run, writer);
+    if let Some(freeing) = freeing {
+        freeing.join(rt);
+    }
+    match written {
+        Ok(()) => Ok(manager),
+        Err(refusal) => {
+            manager.close();
+            Err(refusal)
+        }
+    }
+}
