@@ -15,7 +15,7 @@ use Rattle.mlt_object_locks.specs.Locks.{SameReservations, reservation_of}
 use Rattle.mlt_page_locks.specs.LockTables.{is_holder}
 use Rattle.mlt_page_locks.proofs.Maps.{get_removed}
 use Rattle.mlt_page_subtx.proofs.ImageLaws.{not_true}
-use Rattle.mlt_page_subtx_laws.specs.Running.{HoldsNothing}
+use Rattle.mlt_hash_subtx_laws.specs.Running.{HoldsNothing}
 use Rattle.mlt_hash_access.specs.Moments.{moment}
 use Rattle.mlt_hash.specs.Walks.{Basis, basis_by}
 use Rattle.mlt_tx_operation.specs.Operating.{MayOperate, started_for}

@@ -11,8 +11,8 @@ use Rattle.mlt_page_store.specs.Stores.{Pages}
 use Rattle.mlt_page_subtx.specs.Images.{image_of}
 use Rattle.mlt_hash_form.specs.File.{HasForm}
 use Rattle.mlt_hash_form.specs.Records.{live_records}
-use Rattle.mlt_page_subtx_laws.specs.CleanPages.{clean_pages, image_at}
-use Rattle.mlt_page_subtx_laws.proofs.CleanLaws.{clean_page_unwritten}
+use Rattle.mlt_hash_subtx_laws.specs.CleanPages.{clean_pages, image_at}
+use Rattle.mlt_hash_subtx_laws.proofs.CleanLaws.{clean_page_unwritten}
 use Rattle.mlt_tx.specs.declared.transaction.Transaction.{Transaction}
 use Rattle.mlt_trace_check.specs.AcceptedItems.{AreAccepted}
 use Rattle.mlt_manager_invariant.specs.States.{State, images_kept}

@@ -10,8 +10,8 @@ use Rattle.mlt_page_store.specs.Stores.{Pages, page_at}
 use Rattle.mlt_page_locks.proofs.LockLaws.{writer_reads}
 use Rattle.mlt_page_subtx.specs.Images.{image_of, or_image}
 use Rattle.mlt_hash_form.specs.File.{header_of}
-use Rattle.mlt_page_subtx_laws.specs.CleanPages.{clean_pages, image_at}
-use Rattle.mlt_page_subtx_laws.proofs.CleanLaws.{clean_page_of, clean_page_unwritten, others_have_none}
+use Rattle.mlt_hash_subtx_laws.specs.CleanPages.{clean_pages, image_at}
+use Rattle.mlt_hash_subtx_laws.proofs.CleanLaws.{clean_page_of, clean_page_unwritten, others_have_none}
 use Rattle.mlt_tx.specs.declared.transaction.Transaction.{Transaction}
 use Rattle.mlt_tx_open.specs.Tables.{KeepsImage, KeepsNoImage}
 use Rattle.mlt_manager_invariant.specs.States.{images_kept}

@@ -8,7 +8,7 @@ use Rattle.std.specs.Ordering.{nat_cmp}
 use Rattle.std.specs.Cmp.{nat_cmp_total}
 use Rattle.mlt_object_kinds.specs.Bases.{Base}
 use Rattle.mlt_trace.specs.Numbers.{commit_count}
-use Rattle.mlt_page_subtx_laws.specs.CleanPages.{RunningImages}
+use Rattle.mlt_hash_subtx_laws.specs.CleanPages.{RunningImages}
 use Rattle.mlt_tx.specs.declared.commons.Commons.{Commons}
 use Rattle.mlt_tx.specs.declared.transaction.Transaction.{Transaction}
 use Rattle.mlt_manager_invariant.specs.Sound.{IsSound}

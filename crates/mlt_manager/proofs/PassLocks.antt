@@ -43,7 +43,7 @@ use Rattle.mlt_tx_operation.specs.declared.course.Course.{Course}
 use Rattle.mlt_tx_operation.specs.declared.course.Course.TheVariants.{One, Two}
 use Rattle.mlt_tx_operation.specs.Operating.{OperatesBy, OperationFields, StandsOrTold}
 use Rattle.mlt_tx_operation.specs.Walking.{FitsPhase, WalkingFields, walking}
-use Rattle.mlt_page_subtx_laws.specs.Running.{clean_of, images_by, moment_of}
+use Rattle.mlt_hash_subtx_laws.specs.Running.{clean_of, images_by, moment_of}
 use Rattle.mlt_tx_meaning.specs.Worlds.{basis_of}
 use Rattle.mlt_tx.specs.declared.transaction.At.{At}
 use Rattle.mlt_tx.specs.declared.transaction.At.TheVariants as at

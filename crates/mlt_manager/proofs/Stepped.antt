@@ -9,7 +9,7 @@ use Rattle.mlt_object_kinds.specs.declared.operation.ObjReply.{ObjReply}
 use Rattle.mlt_object_locks.specs.Locks.{IsLowestClash}
 use Rattle.mlt_trace.specs.declared.item.TraceItem.{TraceItem}
 use Rattle.mlt_trace.specs.declared.item.TraceItem.TheVariants as trace
-use Rattle.mlt_page_subtx_laws.specs.CleanPages.{RunningImages, clean_pages}
+use Rattle.mlt_hash_subtx_laws.specs.CleanPages.{RunningImages, clean_pages}
 use Rattle.mlt_hash.specs.Walks.{basis_by}
 use Rattle.mlt_tx_operation.specs.Operating.{OperationFields}
 use Rattle.mlt_object_base.specs.declared.request.Request.TheVariants.{Do}

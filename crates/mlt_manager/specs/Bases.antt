@@ -14,7 +14,7 @@ use Rattle.mlt_object_locks.specs.Locks.{IsLowestClash}
 use Rattle.mlt_trace.specs.declared.item.TraceItem.{TraceItem}
 use Rattle.mlt_hash_form.specs.File.{depth_of, header_of}
 use Rattle.mlt_trace.specs.declared.item.TraceItem.TheVariants as trace
-use Rattle.mlt_page_subtx_laws.specs.CleanPages.{RunningImages, clean_pages}
+use Rattle.mlt_hash_subtx_laws.specs.CleanPages.{RunningImages, clean_pages}
 use Rattle.mlt_object_base.specs.declared.request.Request.TheVariants.{Do}
 use Rattle.mlt_event.specs.declared.answer.Answer.{Answer}
 use Rattle.mlt_event.specs.declared.answer.Answer.TheVariants as answer

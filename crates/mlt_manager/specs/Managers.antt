@@ -7,7 +7,7 @@ use Rattle.std.specs.FinSet as set
 use Rattle.mlt_object_kinds.specs.Bases.{Base}
 use Rattle.mlt_trace.specs.Numbers.{commit_count}
 use Rattle.mlt_hash_form.specs.declared.root.Root.{Root}
-use Rattle.mlt_page_subtx_laws.specs.CleanPages.{RunningImages}
+use Rattle.mlt_hash_subtx_laws.specs.CleanPages.{RunningImages}
 use Rattle.mlt_tx.specs.declared.commons.Commons.{Commons}
 use Rattle.mlt_tx.specs.contracts.commons.Commons.{the_row as commons_row}
 use Rattle.mlt_tx.specs.contracts.transaction.Transaction.{the_row as transaction_row}

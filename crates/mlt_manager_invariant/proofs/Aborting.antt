@@ -25,10 +25,10 @@ use Rattle.mlt_trace.specs.Numbers.{CountsFrom, begun_txs, commit_numbers}
 use Rattle.mlt_trace.specs.Rooms.{total_room}
 use Rattle.mlt_trace.proofs.ItemLaws.{entries_of-append, no_begin, no_commit}
 use Rattle.mlt_trace.proofs.RoomLaws.{total_room-remove}
-use Rattle.mlt_page_subtx_laws.specs.CleanPages.{clean_pages}
+use Rattle.mlt_hash_subtx_laws.specs.CleanPages.{clean_pages}
 use Rattle.mlt_hash_access.specs.Views.{view_of}
-use Rattle.mlt_page_subtx_laws.specs.Running.{KeepsRunning, after_close, clean_of, moment_of}
-use Rattle.mlt_page_subtx_laws.proofs.AllEvents.{close_clean, close_keeps}
+use Rattle.mlt_hash_subtx_laws.specs.Running.{KeepsRunning, after_close, clean_of, moment_of}
+use Rattle.mlt_hash_subtx_laws.proofs.AllEvents.{close_clean, close_keeps}
 use Rattle.mlt_tx_meaning.specs.Events.{with_closed, with_undone as world_undone}
 use Rattle.mlt_tx_meaning.specs.Worlds.{PagesMeanHistory, lists_in}
 use Rattle.mlt_tx_meaning.proofs.OpenNumbers.{removed_beside, removed_here as closed_here}

@@ -6,7 +6,7 @@ use Rattle.std.proofs.lemmas.Bool.{cases_eq}
 use Rattle.mlt_object_kinds.specs.declared.operation.ObjOp.{ObjOp}
 use Rattle.mlt_object_kinds.specs.declared.operation.ObjReply.{ObjReply}
 use Rattle.mlt_trace.proofs.RoomLaws.{total_room-insert}
-use Rattle.mlt_page_subtx_laws.specs.Running.{HoldsNothing, KeepsRunning}
+use Rattle.mlt_hash_subtx_laws.specs.Running.{HoldsNothing, KeepsRunning}
 use Rattle.mlt_object_undo.specs.Undo.{Undo}
 use Rattle.mlt_tx_meaning.specs.Worlds.{PagesMeanHistory}
 use Rattle.mlt_tx_meaning.proofs.Transactions.{abort_keeps}

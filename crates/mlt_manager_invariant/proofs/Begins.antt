@@ -18,10 +18,10 @@ use Rattle.mlt_trace.proofs.RoomLaws.{total_room-insert_new}
 use Rattle.mlt_page_subtx.specs.Images.{Running}
 use Rattle.mlt_page_subtx.proofs.ImageLaws.{not_there, not_true}
 use Rattle.mlt_hash_access.specs.declared.locked_store.LockedStore.{LockedStore}
-use Rattle.mlt_page_subtx_laws.specs.CleanPages.{clean_pages}
+use Rattle.mlt_hash_subtx_laws.specs.CleanPages.{clean_pages}
 use Rattle.mlt_hash_access.specs.Views.{view_of}
-use Rattle.mlt_page_subtx_laws.specs.Running.{AllRunning, HoldsNothing, KeepsRunning, after_begin, clean_of, is_open, moment_of}
-use Rattle.mlt_page_subtx_laws.proofs.AllEvents.{begin_clean, begin_keeps, nothing_at_begin}
+use Rattle.mlt_hash_subtx_laws.specs.Running.{AllRunning, HoldsNothing, KeepsRunning, after_begin, clean_of, is_open, moment_of}
+use Rattle.mlt_hash_subtx_laws.proofs.AllEvents.{begin_clean, begin_keeps, nothing_at_begin}
 use Rattle.mlt_tx_meaning.specs.Events.{with_begun}
 use Rattle.mlt_tx_meaning.specs.Worlds.{PagesMeanHistory, lists_in}
 use Rattle.mlt_tx_meaning.proofs.OpenNumbers as numbers

@@ -8,8 +8,8 @@ use Rattle.mlt_object_undo.specs.Undo.{Undo}
 use Rattle.mlt_hash_access.specs.declared.locked_store.LockedStore.{LockedStore}
 use Rattle.mlt_hash_access.specs.Moments.{Moment}
 use Rattle.mlt_hash_access.specs.Views.{view_of}
-use Rattle.mlt_page_subtx_laws.specs.Running.{AllRunning, HoldsNothing, KeepsRunning, after_roll_back, clean_of, images_by, moment_of}
-use Rattle.mlt_page_subtx_laws.proofs.AllEvents.{nothing_after_roll_back}
+use Rattle.mlt_hash_subtx_laws.specs.Running.{AllRunning, HoldsNothing, KeepsRunning, after_roll_back, clean_of, images_by, moment_of}
+use Rattle.mlt_hash_subtx_laws.proofs.AllEvents.{nothing_after_roll_back}
 use Rattle.mlt_tx_meaning.specs.Worlds.{basis_of}
 use Rattle.mlt_tx_operation.specs.Operating.{IsOperating, OperationFields, started_for}
 use Rattle.mlt_object_base.specs.declared.request.Request.TheVariants.{Do}

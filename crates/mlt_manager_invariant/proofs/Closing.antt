@@ -4,7 +4,7 @@ use Rattle.std.specs.List.{filter}
 use Rattle.mlt_order.specs.Interleavings.{items_of}
 use Rattle.mlt_order.proofs.Parts.{items_of-without_other, items_of-without_same, without}
 use Rattle.mlt_object_locks.specs.Locks.{is_of_other}
-use Rattle.mlt_page_subtx_laws.specs.Running.{AllRunning, KeepsRunning}
+use Rattle.mlt_hash_subtx_laws.specs.Running.{AllRunning, KeepsRunning}
 
 filter_is_without : {P : Type 0} (i : ℕ) (xs : List (ℕ × P)) → filter (is_of_other i) xs ≡ without i xs
 filter_is_without i [] = refl

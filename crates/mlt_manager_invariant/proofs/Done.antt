@@ -22,12 +22,12 @@ use Rattle.mlt_trace.proofs.ItemLaws.{entries_of-append, no_begin, no_commit}
 use Rattle.mlt_trace.proofs.RoomLaws.{total_room-insert}
 use Rattle.mlt_page_subtx.specs.Images.{Running}
 use Rattle.mlt_hash_access.specs.Views.{view_of}
-use Rattle.mlt_page_subtx_laws.specs.Running.{AllRunning, HoldsNothing, KeepsRunning, after_end, clean_of, is_open, moment_of}
-use Rattle.mlt_page_subtx_laws.specs.CleanPages.{clean_pages}
+use Rattle.mlt_hash_subtx_laws.specs.Running.{AllRunning, HoldsNothing, KeepsRunning, after_end, clean_of, is_open, moment_of}
+use Rattle.mlt_hash_subtx_laws.specs.CleanPages.{clean_pages}
 use Rattle.mlt_object_conflicts.specs.Clashes.{clashes}
 use Rattle.std.specs.List.{Contains}
-use Rattle.mlt_page_subtx_laws.proofs.AllRunning.{agrees_with_each}
-use Rattle.mlt_page_subtx_laws.proofs.AllEvents.{end_clean, end_keeps, nothing_at_end}
+use Rattle.mlt_hash_subtx_laws.proofs.AllRunning.{agrees_with_each}
+use Rattle.mlt_hash_subtx_laws.proofs.AllEvents.{end_clean, end_keeps, nothing_at_end}
 use Rattle.mlt_tx_meaning.specs.Ends.{EndsWith}
 use Rattle.mlt_tx_meaning.specs.Events.{MayDo, with_done}
 use Rattle.mlt_tx_meaning.proofs.TwoEnds.{sees_held_alone}

@@ -19,10 +19,10 @@ use Rattle.mlt_trace.specs.Numbers.{AreCounted, CountsFrom, begun_txs, commit_co
 use Rattle.mlt_trace.proofs.ItemLaws.{commit_keeps_counted, entries_of-append, no_begin, no_commit}
 use Rattle.mlt_trace.proofs.RoomLaws.{total_room-remove}
 use Rattle.mlt_hash_access.specs.declared.locked_store.LockedStore.{LockedStore}
-use Rattle.mlt_page_subtx_laws.specs.CleanPages.{clean_pages}
+use Rattle.mlt_hash_subtx_laws.specs.CleanPages.{clean_pages}
 use Rattle.mlt_hash_access.specs.Views.{view_of}
-use Rattle.mlt_page_subtx_laws.specs.Running.{AllRunning, HoldsNothing, KeepsRunning, after_close, clean_of, moment_of}
-use Rattle.mlt_page_subtx_laws.proofs.AllEvents.{close_clean, close_keeps}
+use Rattle.mlt_hash_subtx_laws.specs.Running.{AllRunning, HoldsNothing, KeepsRunning, after_close, clean_of, moment_of}
+use Rattle.mlt_hash_subtx_laws.proofs.AllEvents.{close_clean, close_keeps}
 use Rattle.mlt_tx_meaning.specs.Events.{IsOpenAt}
 use Rattle.mlt_tx_meaning.specs.Worlds.{PagesMeanHistory, World, lists_in}
 use Rattle.mlt_tx_meaning.proofs.OpenNumbers as numbers

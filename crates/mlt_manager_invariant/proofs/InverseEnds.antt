@@ -33,10 +33,10 @@ use Rattle.mlt_tx_operation.specs.declared.course.Course.{Course}
 use Rattle.mlt_tx_operation.specs.declared.course.Course.TheVariants.{One, Two}
 use Rattle.mlt_tx_operation.specs.Operating.{OperatesBy, OperationFields, StandsOrTold}
 use Rattle.mlt_tx_operation.specs.Walking.{FitsPhase, IsWalking, WalkingFields, walking}
-use Rattle.mlt_page_subtx_laws.specs.CleanPages.{clean_pages}
-use Rattle.mlt_page_subtx_laws.specs.Running.{AllRunning, HoldsNothing, KeepsRunning, after_end, clean_of, is_open, moment_of}
-use Rattle.mlt_page_subtx_laws.proofs.AllEvents.{end_clean, end_keeps, nothing_at_end}
-use Rattle.mlt_page_subtx_laws.proofs.AllRunning.{agrees_with_each}
+use Rattle.mlt_hash_subtx_laws.specs.CleanPages.{clean_pages}
+use Rattle.mlt_hash_subtx_laws.specs.Running.{AllRunning, HoldsNothing, KeepsRunning, after_end, clean_of, is_open, moment_of}
+use Rattle.mlt_hash_subtx_laws.proofs.AllEvents.{end_clean, end_keeps, nothing_at_end}
+use Rattle.mlt_hash_subtx_laws.proofs.AllRunning.{agrees_with_each}
 use Rattle.mlt_tx_meaning.specs.Ends.{ChangesPages, EndsWith, LeavesChange}
 use Rattle.mlt_tx_meaning.specs.Worlds.{basis_of}
 use Rattle.mlt_tx_meaning.proofs.TwoEnds.{sees_held_alone, undone_leaves}

@@ -9,7 +9,7 @@ use Rattle.mlt_trace.specs.HistoryItems.{ItemsWithRoom}
 use Rattle.mlt_object_undo.specs.Undo.{Undo}
 use Rattle.mlt_hash_access.specs.Moments.{Moment, moment}
 use Rattle.mlt_hash_access.specs.Views.{view_of}
-use Rattle.mlt_page_subtx_laws.specs.Running.{AllRunning, moment_of}
+use Rattle.mlt_hash_subtx_laws.specs.Running.{AllRunning, moment_of}
 use Rattle.mlt_tx_meaning.specs.Worlds.{basis_of}
 use Rattle.mlt_object_base.specs.declared.request.Request.TheVariants.{TakeBack}
 use Rattle.mlt_tx_operation.proofs.Operations.{starts}

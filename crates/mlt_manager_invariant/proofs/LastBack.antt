@@ -10,7 +10,7 @@ use Rattle.mlt_object_kinds.specs.declared.operation.ObjOp.{ObjOp}
 use Rattle.mlt_object_kinds.specs.declared.operation.ObjReply.{ObjReply}
 use Rattle.mlt_object_kinds.specs.Operations.{cell_of}
 use Rattle.mlt_page_subtx.specs.Images.{Running}
-use Rattle.mlt_page_subtx_laws.specs.CleanPages.{clean_pages}
+use Rattle.mlt_hash_subtx_laws.specs.CleanPages.{clean_pages}
 use Rattle.mlt_tx_meaning.specs.Events.{MayUndo, with_undone}
 use Rattle.mlt_tx_meaning.specs.Worlds.{PagesMeanHistory}
 use Rattle.mlt_tx_meaning.proofs.Undoing.{undoing_keeps, undone_in_range}

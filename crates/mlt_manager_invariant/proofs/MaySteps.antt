@@ -16,8 +16,8 @@ use Rattle.mlt_page_locks.specs.LockTables.{Modes, pages_of}
 use Rattle.mlt_page_subtx.specs.Images.{AreThere, Images}
 use Rattle.mlt_hash_access.specs.Moments.{Moment, moment}
 use Rattle.mlt_hash_access.specs.Views.{view_of}
-use Rattle.mlt_page_subtx_laws.specs.Running.{AllRunning, HoldsNothing, clean_of, is_open, moment_of}
-use Rattle.mlt_page_subtx_laws.proofs.AllRunning.{clean_for_each, each_may_step}
+use Rattle.mlt_hash_subtx_laws.specs.Running.{AllRunning, HoldsNothing, clean_of, is_open, moment_of}
+use Rattle.mlt_hash_subtx_laws.proofs.AllRunning.{clean_for_each, each_may_step}
 use Rattle.mlt_hash.specs.Walks.{Stands}
 use Rattle.mlt_object_base.specs.declared.request.Request.TheVariants.{Do, TakeBack}
 use Rattle.mlt_object_base.specs.Requests.{size_key_of}

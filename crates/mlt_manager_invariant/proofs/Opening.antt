@@ -18,10 +18,10 @@ use Rattle.mlt_trace.specs.Numbers.{AreBegunInOrder, AreCounted, begin_count}
 use Rattle.mlt_trace.proofs.RoomLaws.{total_room-empty}
 use Rattle.mlt_hash_form.specs.Changes.{IsOpening}
 use Rattle.mlt_hash_form.specs.File.{GivesPseudokeys}
-use Rattle.mlt_page_subtx_laws.specs.CleanPages.{clean_pages}
+use Rattle.mlt_hash_subtx_laws.specs.CleanPages.{clean_pages}
 use Rattle.mlt_tx_meaning.proofs.Matches.{same_pages_match}
-use Rattle.mlt_page_subtx_laws.specs.Running.{AllMayStep, clean_of, nobody_running}
-use Rattle.mlt_page_subtx_laws.proofs.AllRunning.{first_clean, first_may_step}
+use Rattle.mlt_hash_subtx_laws.specs.Running.{AllMayStep, clean_of, nobody_running}
+use Rattle.mlt_hash_subtx_laws.proofs.AllRunning.{first_clean, first_may_step}
 use Rattle.mlt_tx_meaning.specs.Events.{new_world}
 use Rattle.mlt_tx_meaning.specs.Worlds.{PagesMeanHistory, lists_in}
 use Rattle.mlt_tx_meaning.proofs.Opening.{opening_matches}

@@ -8,8 +8,8 @@ use Rattle.mlt_hash_form.specs.Held.{Agrees}
 use Rattle.mlt_hash_access.specs.Views.{View, view_of}
 use Rattle.mlt_object_locks.specs.Locks.{SameReservations}
 use Rattle.mlt_hash_split.specs.Rests.{KeepsNoMore}
-use Rattle.mlt_page_subtx_laws.specs.Running.{KeepsRunning, clean_of, moment_of}
-use Rattle.mlt_page_subtx_laws.proofs.AllRunning.{agrees_with_each}
+use Rattle.mlt_hash_subtx_laws.specs.Running.{KeepsRunning, clean_of, moment_of}
+use Rattle.mlt_hash_subtx_laws.proofs.AllRunning.{agrees_with_each}
 use Rattle.mlt_tx_operation.proofs.Operations.{KeepsFewer, stands_with}
 use Rattle.mlt_tx_operation.specs.Operating.{IsOperating, OperationFields}
 use Rattle.mlt_tx_meaning.specs.Worlds.{basis_of}

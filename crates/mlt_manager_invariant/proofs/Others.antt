@@ -2,7 +2,7 @@
 use Rattle.std.proofs.Common.{◌≡◌, ◌≢◌, ℕ, ◌<◌, length, None, Some, sym, subst, ◌∙◌}
 use Rattle.mlt_hash_access.specs.Views.{View, view_of}
 use Rattle.mlt_object_locks.specs.Locks.{SameReservations}
-use Rattle.mlt_page_subtx_laws.specs.Running.{AllRunning, HoldsNothing, KeepsRunning, moment_of}
+use Rattle.mlt_hash_subtx_laws.specs.Running.{AllRunning, HoldsNothing, KeepsRunning, moment_of}
 use Rattle.mlt_tx_operation.specs.Operating.{IsOperating, OperationFields}
 use Rattle.mlt_tx_meaning.specs.Worlds.{basis_of}
 use Rattle.mlt_tx.specs.declared.transaction.At.{At}

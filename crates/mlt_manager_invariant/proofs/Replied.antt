@@ -6,10 +6,10 @@ use Rattle.mlt_object_kinds.specs.Bases.{Base, Step}
 use Rattle.mlt_object_kinds.specs.declared.operation.ObjOp.{ObjOp}
 use Rattle.mlt_object_kinds.specs.declared.operation.ObjReply.{ObjReply}
 use Rattle.mlt_hash_access.specs.Views.{view_of}
-use Rattle.mlt_page_subtx_laws.specs.CleanPages.{clean_pages}
-use Rattle.mlt_page_subtx_laws.specs.Running.{is_open, moment_of}
-use Rattle.mlt_page_subtx_laws.proofs.AllRunning.{agrees_with_each}
-use Rattle.mlt_page_subtx_laws.proofs.AllEvents.{end_clean}
+use Rattle.mlt_hash_subtx_laws.specs.CleanPages.{clean_pages}
+use Rattle.mlt_hash_subtx_laws.specs.Running.{is_open, moment_of}
+use Rattle.mlt_hash_subtx_laws.proofs.AllRunning.{agrees_with_each}
+use Rattle.mlt_hash_subtx_laws.proofs.AllEvents.{end_clean}
 use Rattle.mlt_object_base.specs.declared.request.Request.TheVariants.{Do}
 use Rattle.mlt_tx_operation.specs.Operating.{OperationFields}
 use Rattle.mlt_tx_meaning.proofs.Fixed.{step_there}

@@ -12,7 +12,7 @@ use Rattle.mlt_trace.specs.declared.item.TraceItem.{TraceItem}
 use Rattle.mlt_trace.specs.Entries.{entries_of}
 use Rattle.mlt_trace.specs.Numbers.{AreBegunInOrder, AreCounted, begin_count}
 use Rattle.mlt_trace.proofs.RoomLaws.{total_room-insert}
-use Rattle.mlt_page_subtx_laws.specs.CleanPages.{RunningImages, clean_pages}
+use Rattle.mlt_hash_subtx_laws.specs.CleanPages.{RunningImages, clean_pages}
 use Rattle.mlt_tx_meaning.specs.Worlds.{PagesMeanHistory, lists_in}
 use Rattle.mlt_tx_meaning.proofs.Matches.{same_pages_match}
 use Rattle.mlt_tx.specs.declared.commons.Commons.{Commons}

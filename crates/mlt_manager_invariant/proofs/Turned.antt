@@ -4,8 +4,8 @@ use Rattle.std.specs.FinMap as map
 use Rattle.mlt_page_subtx.specs.Images.{Images}
 use Rattle.mlt_hash_access.specs.Moments.{Moment}
 use Rattle.mlt_hash_access.proofs.OwnSteps.{step_keeps_tx}
-use Rattle.mlt_page_subtx_laws.specs.Running.{AllMayStep, AllRunning, KeepsRunning, after_roll_back, after_step, clean_of, is_open, moment_of}
-use Rattle.mlt_page_subtx_laws.proofs.AllEvents.{roll_back_clean, roll_back_keeps, step_leaves_clean, step_leaves_views}
+use Rattle.mlt_hash_subtx_laws.specs.Running.{AllMayStep, AllRunning, KeepsRunning, after_roll_back, after_step, clean_of, is_open, moment_of}
+use Rattle.mlt_hash_subtx_laws.proofs.AllEvents.{roll_back_clean, roll_back_keeps, step_leaves_clean, step_leaves_views}
 use Rattle.mlt_hash_access.specs.PageTurns.{TakesTurn, TurnsBack}
 use Rattle.mlt_manager_invariant.proofs.Tables.{inserted_here}
 

@@ -5,8 +5,8 @@ use Rattle.mlt_object_locks.specs.Locks.{Locks, reservation_of}
 use Rattle.mlt_page_subtx.specs.Images.{Images, Running}
 use Rattle.mlt_object_undo.specs.Undo.{Undo}
 use Rattle.mlt_hash_access.specs.Moments.{Moment, moment}
-use Rattle.mlt_page_subtx_laws.specs.CleanPages.{RunningImages}
-use Rattle.mlt_page_subtx_laws.specs.Running.{AllRunning, KeepsRunning, after_step, clean_of, moment_of}
+use Rattle.mlt_hash_subtx_laws.specs.CleanPages.{RunningImages}
+use Rattle.mlt_hash_subtx_laws.specs.Running.{AllRunning, KeepsRunning, after_step, clean_of, moment_of}
 use Rattle.mlt_hash_access.specs.PageTurns.{TakesTurn}
 use Rattle.mlt_tx.specs.declared.commons.Commons.{Commons}
 use Rattle.mlt_tx.specs.declared.transaction.Transaction.{Transaction}

@@ -15,7 +15,7 @@ use Rattle.mlt_tx.specs.Transactions.{IsPending}
 use Rattle.mlt_tx_open.specs.Tables.{CancelsOne, Table}
 use Rattle.mlt_manager_invariant.proofs.Calls.{cancelled_sound}
 use Rattle.mlt_manager_invariant.proofs.Tables.{inserted_elsewhere, removed_elsewhere}
-use Rattle.mlt_tx_counts.specs.OwnSteps.{view_in}
+use Rattle.mlt_tx_step_counts.specs.OwnSteps.{view_in}
 use Rattle.mlt_manager.specs.Answers.{AnswersAbort, AnswersCall, AnswersStep, ChangesOpen, HasCalled, IsOpenAt}
 use Rattle.mlt_manager.specs.Chains.{StepsBy, StepsUpTo}
 use Rattle.mlt_manager.specs.Events.{Meets}

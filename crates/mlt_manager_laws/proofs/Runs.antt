@@ -22,10 +22,10 @@ use Rattle.mlt_tx.specs.declared.transaction.Transaction.{Transaction}
 use Rattle.mlt_tx.specs.Transactions.{TellsOfTransaction}
 use Rattle.mlt_tx_open.specs.Tables.{Table}
 use Rattle.mlt_manager_invariant.proofs.Tables.{inserted_here}
-use Rattle.mlt_tx_counts.specs.Counts.{IsToTakeBack}
-use Rattle.mlt_tx_counts.specs.CountsOfTwo.{TakesBackOf}
-use Rattle.mlt_tx_counts.specs.OwnSteps.{AreOwnSteps, view_in, with_answer}
-use Rattle.mlt_tx_counts.proofs.PassesOfTwo.{inverse_of_any, pass_of}
+use Rattle.mlt_tx_step_counts.specs.Counts.{IsToTakeBack}
+use Rattle.mlt_tx_step_counts.specs.CountsOfTwo.{TakesBackOf}
+use Rattle.mlt_tx_step_counts.specs.OwnSteps.{AreOwnSteps, view_in, with_answer}
+use Rattle.mlt_tx_step_counts.proofs.PassesOfTwo.{inverse_of_any, pass_of}
 use Rattle.mlt_manager.specs.Answers.{HasStepped, counted, txs_after}
 use Rattle.mlt_manager.specs.Events.{IsRun, Meets}
 use Rattle.mlt_manager.specs.Managers.{IsManager, ManagerFields}

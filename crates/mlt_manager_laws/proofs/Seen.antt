@@ -6,8 +6,8 @@ use Rattle.mlt_page_subtx.specs.Images.{Images, Running}
 use Rattle.mlt_hash_access.specs.declared.locked_store.LockedStore.{LockedStore}
 use Rattle.mlt_hash_access.specs.Moments.{moment}
 use Rattle.mlt_hash_access.specs.Views.{view_of}
-use Rattle.mlt_page_subtx_laws.specs.Running.{AllRunning, KeepsRunning, after_end, moment_of}
-use Rattle.mlt_page_subtx_laws.proofs.AllEvents.{end_keeps}
+use Rattle.mlt_hash_subtx_laws.specs.Running.{AllRunning, KeepsRunning, after_end, moment_of}
+use Rattle.mlt_hash_subtx_laws.proofs.AllEvents.{end_keeps}
 use Rattle.mlt_hash.specs.Walks.{basis_by}
 use Rattle.mlt_tx_operation.specs.Operating.{OperationFields}
 use Rattle.mlt_tx_meaning.specs.Worlds.{basis_of}
@@ -27,7 +27,7 @@ use Rattle.mlt_manager_invariant.proofs.Inverting.{inverse_sound}
 use Rattle.mlt_manager_invariant.proofs.MaySteps.{is_open_now, same_moment}
 use Rattle.mlt_manager_invariant.proofs.Pending.{not_done_sound}
 use Rattle.mlt_manager_invariant.proofs.Tables.{inserted_elsewhere, removed_elsewhere}
-use Rattle.mlt_tx_counts.specs.OwnSteps.{view_in}
+use Rattle.mlt_tx_step_counts.specs.OwnSteps.{view_in}
 use Rattle.mlt_manager.specs.Answers.{HasStepped, txs_after}
 use Rattle.mlt_manager.specs.Managers.{IsManager, ManagerFields, state_of}
 

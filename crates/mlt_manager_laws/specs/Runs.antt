@@ -12,8 +12,8 @@ use Rattle.mlt_event.specs.declared.event.Event.TheVariants as event
 use Rattle.mlt_event.specs.declared.told.Told.{Told}
 use Rattle.mlt_event.specs.declared.told.Told.TheVariants as told
 use Rattle.mlt_tx.specs.declared.transaction.Transaction.{Transaction}
-use Rattle.mlt_tx_counts.specs.CountsOfTwo.{TakesPassOf}
-use Rattle.mlt_tx_counts.specs.OwnSteps.{AreOwnSteps, OwnStep, answers_of, view_in, with_answer}
+use Rattle.mlt_tx_step_counts.specs.CountsOfTwo.{TakesPassOf}
+use Rattle.mlt_tx_step_counts.specs.OwnSteps.{AreOwnSteps, OwnStep, answers_of, view_in, with_answer}
 use Rattle.mlt_manager.specs.Events.{IsRun}
 use Rattle.mlt_manager.specs.Managers.{ManagerFields}
 use Rattle.mlt_manager.specs.Openings.{IsNew}

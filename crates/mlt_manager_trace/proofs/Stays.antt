@@ -14,7 +14,7 @@ use Rattle.mlt_trace_check.specs.Traces.{ArePlaced, IsAcceptedTrace, IsWhole, to
 use Rattle.mlt_trace_laws.specs.Writable.{AllFit}
 use Rattle.mlt_trace_laws.proofs.Histories.{accepted_history, accepted_where_nothing_is_open, nothing_of_others}
 use Rattle.mlt_trace_laws.proofs.Places.{nothing_placed, writable}
-use Rattle.mlt_page_subtx_laws.specs.CleanPages.{RunningImages}
+use Rattle.mlt_hash_subtx_laws.specs.CleanPages.{RunningImages}
 use Rattle.mlt_hash.specs.Walks.{Basis}
 use Rattle.mlt_tx_operation.specs.Operating.{OperationFields}
 use Rattle.mlt_event.specs.declared.answer.Answer.{Answer}

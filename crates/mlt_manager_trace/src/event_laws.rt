@@ -3,7 +3,7 @@
 ghost use Rattle.std.specs.Prelude.{ℕ, ◌≡◌, [], Option, Some};
 ghost use Rattle.std.specs.FinMap as map;
 ghost use Rattle.mlt_object_kinds.specs.declared.operation.ObjReply.{ObjReply};
-ghost use Rattle.mlt_page_subtx_laws.specs.CleanPages.{RunningImages};
+ghost use Rattle.mlt_hash_subtx_laws.specs.CleanPages.{RunningImages};
 ghost use Rattle.mlt_hash.specs.Walks.{Basis};
 ghost use Rattle.mlt_tx_operation.specs.Operating.{OperationFields};
 ghost use Rattle.mlt_event.specs.declared.answer.Answer.{Answer};

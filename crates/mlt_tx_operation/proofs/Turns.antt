@@ -5,7 +5,7 @@ use Rattle.mlt_hash_access.specs.Moments.{Moment}
 use Rattle.mlt_hash_access.specs.PageSteps.{Leaves, LocksAtMost, TouchesOnePage, WritesAtMost}
 use Rattle.mlt_hash_access.specs.PageTurns.{TakesTurn}
 use Rattle.mlt_hash_access.specs.Views.{view_of}
-use Rattle.mlt_page_subtx_laws.proofs.AllEvents.{step_adds_one_page}
+use Rattle.mlt_hash_subtx_laws.proofs.AllEvents.{step_adds_one_page}
 use Rattle.mlt_hash_access.proofs.Turns.{lock_and_write_touch, step_turns}
 use Rattle.mlt_hash_access.proofs.Views.{agrees}
 use Rattle.mlt_hash.specs.Walks.{Basis, MayWalk, WalkFields, one_key}

@@ -9,7 +9,7 @@ use Rattle.mlt_hash_access.specs.PageTurns.{TakesTurn}
 use Rattle.mlt_hash_access.proofs.Rebased.{written_stays}
 use Rattle.mlt_hash_access.proofs.Since.{agrees_over}
 use Rattle.mlt_hash_access.proofs.Turns.{lock_and_write_touch, step_turns}
-use Rattle.mlt_page_subtx_laws.proofs.AllEvents.{step_adds_one_page}
+use Rattle.mlt_hash_subtx_laws.proofs.AllEvents.{step_adds_one_page}
 use Rattle.mlt_hash.specs.Walks.{Basis, IsStanding, MayWalk, WalkFields, view_for}
 use Rattle.mlt_hash.proofs.Standings.{standing_holds_few}
 

@@ -16,7 +16,7 @@ use Rattle.mlt_script_desk.specs.Clients.{AreRunsAt, IsServedAt}
 use Rattle.mlt_script_desk.specs.Runs.{ClosesAs, OnAbort, OnBegin, OnCommit, refusal_of_script}
 use Rattle.mlt_work_desk.specs.Holds.{MayAnswerBegin, MayAnswerCommit, MayAnswerOperation}
 use Rattle.mlt_work_desk.specs.Refusals.{IsOfBegin, IsOfCommit, IsOfOperation}
-use Rattle.mlt_work_places.specs.Places.{IsScriptEnd, IsScriptRefusal}
+use Rattle.mlt_work_clients.specs.Places.{IsScriptEnd, IsScriptRefusal}
 
 begin_refuses : (r : Refusal) → IsOfBegin r → IsScriptRefusal r
 begin_refuses refusal.TooManyOpen h = tt

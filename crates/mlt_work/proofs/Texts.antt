@@ -6,7 +6,7 @@ use Rattle.mlt_script.specs.Grammar.{Spells}
 use Rattle.mlt_script_tree.specs.declared.script.Script.{Script}
 use Rattle.mlt_script_tree.specs.Clients.{parts_of}
 use Rattle.mlt_script_tree.specs.Scripts.{ScriptForm}
-use Rattle.mlt_work_places.specs.Places.{scripts_of_clients}
+use Rattle.mlt_work_clients.specs.Places.{scripts_of_clients}
 use Rattle.mlt_script_serial.specs.declared.report.Form.TheVariants.{Run}
 use Rattle.mlt_script_serial.specs.declared.report.Report.{Report}
 use Rattle.mlt_script_serial.specs.Texts.{report_text}

@@ -7,7 +7,7 @@ use Rattle.mlt_trace_audit.specs.Committed.{IsBaseOfReceipts}
 use Rattle.mlt_manager.specs.Managers.{ManagerFields}
 use Rattle.mlt_manager.specs.Openings.{IsMadeWith}
 use Rattle.mlt_types.specs.declared.limits.Limits.{Limits}
-use Rattle.mlt_work_places.specs.Places.{AreAllOutcomes}
+use Rattle.mlt_work_clients.specs.Places.{AreAllOutcomes}
 
 -- The report of the scripts of each client, which were run on this manager, made with these limits and this function from
 -- keys to pseudokeys.

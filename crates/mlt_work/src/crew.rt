@@ -1,11 +1,11 @@
 //! All workers.
 
 ghost use Rattle.std.specs.Prelude.{◌≡◌, All, IfOk, length, vec_len};
-ghost use Rattle.mlt_work_places.specs.Places.{scripts_of_clients};
-ghost use Rattle.mlt_work_places.specs.Workers.{HasWorked, IsFresh};
+ghost use Rattle.mlt_work_clients.specs.Places.{scripts_of_clients};
+ghost use Rattle.mlt_work_clients.specs.Workers.{HasWorked, IsFresh};
 
 use crate::worker::work;
-use mlt_work_places::{Counter, Job, Worked};
+use mlt_work_clients::{Counter, Job, Worked};
 use mlt_work_desk::{Gate, MadeWith, Shared};
 use mlt_script_tree::Script;
 use mlt_types::Pseudo;

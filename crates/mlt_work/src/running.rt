@@ -2,12 +2,12 @@
 
 ghost use Rattle.std.specs.Prelude.{◌≡◌, ◌≤◌, ◌<◌, ◌⊎◌, IfErr, IfOk, Some};
 ghost use Rattle.mlt_work_desk.specs.Makings.{making_by};
-ghost use Rattle.mlt_work_places.specs.Places.{scripts_of_clients};
+ghost use Rattle.mlt_work_clients.specs.Places.{scripts_of_clients};
 ghost use Rattle.mlt_work.specs.Runs.{HasRunAll};
 
 use crate::crew::work_all;
 use crate::reporting::report_of;
-use mlt_work_places::{Counter, collect, empty_slots, jobs_for};
+use mlt_work_clients::{Counter, collect, empty_slots, jobs_for};
 use mlt_work_desk::{Gate, Hall, MadeWith, Shared};
 use mlt_manager::Manager;
 use mlt_script_serial::Report;

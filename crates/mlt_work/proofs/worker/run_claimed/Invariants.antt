@@ -1,8 +1,8 @@
 use Rattle.std.proofs.Common.{◌≡◌, length, map}
 use Rattle.std.specs.Prelude.{All}
-use Rattle.mlt_work_places.specs.Claims.{view}
-use Rattle.mlt_work_places.specs.Seats.{IsOf, view_of}
-use Rattle.mlt_work_places.specs.Places.{IsClientRun, place_of, scripts_of_clients}
+use Rattle.mlt_work_clients.specs.Claims.{view}
+use Rattle.mlt_work_clients.specs.Seats.{IsOf, view_of}
+use Rattle.mlt_work_clients.specs.Places.{IsClientRun, place_of, scripts_of_clients}
 use Rattle.mlt_work.proofs.worker.run_claimed.Given as goal
 
 abbrev pub invariant-claims : goal.invariant-claims

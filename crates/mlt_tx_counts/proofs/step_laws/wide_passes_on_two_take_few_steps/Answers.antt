@@ -1,5 +1,0 @@
-use Rattle.mlt_tx_counts.proofs.WideOfTwo.{wide_of_two}
-use Rattle.mlt_tx_counts.proofs.step_laws.wide_passes_on_two_take_few_steps.Goals as goal
-
-pub returns : goal.returns
-returns c = wide_of_two

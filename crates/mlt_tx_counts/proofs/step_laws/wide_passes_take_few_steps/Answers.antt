@@ -1,5 +1,0 @@
-use Rattle.mlt_tx_counts.proofs.Passes.{wide_pass}
-use Rattle.mlt_tx_counts.proofs.step_laws.wide_passes_take_few_steps.Goals as goal
-
-pub returns : goal.returns
-returns c = wide_pass

@@ -1,0 +1,164 @@
+-- One step of an inverse, of an operation on one record or on two
+use Rattle.std.proofs.Common.{ℕ, ◌≡◌, ◌⊎◌, List, [], ◌∷◌, ◌++◌, Option, None, Some, IsSome, refl, sym, ap, subst, ◌∙◌, inl, inr}
+use Rattle.mlt_object_kinds.specs.declared.operation.ObjOp.{ObjOp}
+use Rattle.mlt_object_kinds.specs.declared.operation.ObjReply.{ObjReply}
+use Rattle.mlt_object_base.specs.Effects.{inverse_of}
+use Rattle.mlt_object_undo.specs.Undo.{Undo}
+use Rattle.mlt_hash_access.specs.Moments.{moment}
+use Rattle.mlt_hash_access.specs.Views.{View, view_of}
+use Rattle.mlt_hash.specs.Walks.{Basis, one_key}
+use Rattle.mlt_tx_operation.specs.Answers.{StepsOn, Waits}
+use Rattle.mlt_tx_operation.specs.Operating.{OperationFields}
+use Rattle.mlt_event.specs.declared.answer.Answer.{Answer}
+use Rattle.mlt_event.specs.declared.answer.Answer.TheVariants as answer
+use Rattle.mlt_tx.specs.declared.transaction.At.{At}
+use Rattle.mlt_tx.specs.declared.transaction.At.TheVariants as at
+use Rattle.mlt_tx.specs.declared.transaction.Transaction.{Transaction}
+use Rattle.mlt_tx.specs.Steps.{inverse_from}
+use Rattle.mlt_tx.specs.Transactions.{StepsBack, TellsAt, TellsOfTransaction}
+use Rattle.mlt_tx_step_counts.specs.Counts.{IsTakenBack, IsToTakeBack}
+use Rattle.mlt_tx_step_counts.specs.OwnSteps.{AreOwnSteps, GoesThen, OwnStep, answers_of, basis_at, view_in, with_answer}
+
+-- a list has one last item
+last_from : {A : Type 0} → List A → A → A
+last_from [] x = x
+last_from (y ∷ ys) x = last_from ys y
+
+last_behind : {A : Type 0} (xs : List A) (x y : A) → last_from (xs ++ x ∷ []) y ≡ x
+unfolding last_from
+last_behind [] x y = refl
+last_behind (z ∷ xs) x y = last_behind xs x z
+
+one_last : {A : Type 0} (entries front front' : List A) (x y : A) → entries ≡ front ++ x ∷ [] → entries ≡ front' ++ y ∷ [] → x ≡ y
+one_last entries front front' x y one other =
+    sym (last_behind front x x) ∙ ap (λ l. last_from l x) (sym one ∙ other) ∙ last_behind front' y x
+
+not_both : {A B : Type 0} (o : Option B) → IsSome o → o ≡ None → A
+not_both None is none = cc
+not_both (Some x) is none = cc
+
+no_some : {A : Type 0} (o : OperationFields) → Some o ≡ None → A
+no_some o is = cc
+
+-- an end of an inverse comes once its reply is told
+ends_at_last : {A : Type 0} (inverting : Option OperationFields) (last : ObjOp × ObjReply) → (inverting ≡ None → IsSome (inverse_of last)) → (inverse_from inverting last).reply ≡ None
+    → (inverting ≡ None → inverse_of last ≡ None) → ((o : OperationFields) → inverting ≡ Some o → IsSome o.reply) → A
+ends_at_last None last begins untold without at_end = not_both (inverse_of last) (begins refl) (without refl)
+ends_at_last (Some o) last begins untold without at_end = not_both o.reply (at_end o refl) untold
+
+-- The abort takes this operation back, the last that stands: its inverse runs, or is to begin.
+pub record Undoes (inverting : Option OperationFields) (last : ObjOp × ObjReply) (t : Transaction) : Type 0 where
+  pub undoing : t.at ≡ at.Undoing inverting
+  pub front : List (ObjOp × ObjReply)
+  pub entries : t.undo.entries ≡ front ++ last ∷ []
+  pub begins : inverting ≡ None → IsSome (inverse_of last)
+
+-- it goes on
+pub record GoesBack (basis : Basis) (inverting : Option OperationFields) (last : ObjOp × ObjReply) (t : Transaction) (own : OwnStep) : Type 0 where
+  pub going : own.told ≡ answer.Going
+  pub next : OperationFields
+  pub undoes : Undoes (Some next) last own.after
+  pub on : StepsOn (basis_at (one_key basis) own) (moment t.subtx own.old.pages) (moment own.after.subtx own.new.pages) (inverse_from inverting last) next
+
+-- it waits, and stands where it stood
+pub record StaysBack (inverting : Option OperationFields) (last : ObjOp × ObjReply) (t : Transaction) (own : OwnStep) : Type 0 where
+  pub page : ℕ
+  pub by : ℕ
+  pub waiting : own.told ≡ answer.Waiting page by
+  pub next : Option OperationFields
+  pub undoes : Undoes next last own.after
+  pub stands : inverse_from next last ≡ inverse_from inverting last
+  pub same : view_in own.after own.new ≡ view_in t own.old
+
+-- it is at its end
+pub record Ended (inverting : Option OperationFields) (last : ObjOp × ObjReply) (own : OwnStep) : Type 0 where
+  pub taken : IsTakenBack own.told
+  pub told : (inverse_from inverting last).reply ≡ None → ⊥
+
+abbrev pub BackOutcome : Basis → Option OperationFields → ObjOp × ObjReply → Transaction → OwnStep → Type 0
+BackOutcome basis inverting last t own = StaysBack inverting last t own ⊎ GoesBack (one_key basis) inverting last t own ⊎ Ended inverting last own
+
+module _ (basis : Basis) (inverting : Option OperationFields) (last : ObjOp × ObjReply) (t : Transaction) (own : OwnStep) (undoes : Undoes inverting last t) where
+  back_step : TellsOfTransaction (basis_at (one_key basis) own) t own.after own.old own.new own.told → StepsBack (basis_at (one_key basis) own) inverting t own.after own.old own.new own.told
+  back_step tells = subst (λ (a : At). TellsAt a (basis_at (one_key basis) own) t own.after own.old own.new own.told) undoes.undoing tells
+
+  by_answer : (told : Answer) → own.told ≡ told → StepsBack (basis_at (one_key basis) own) inverting t own.after own.old own.new told → BackOutcome (one_key basis) inverting last t own
+  by_answer answer.Going is s =
+      let w = s.tells in
+      let same : w.last ≡ last = one_last t.undo.entries w.front undoes.front w.last last w.entries undoes.entries in
+      inr (inl (record {
+        going = is;
+        next = w.after;
+        undoes = record {
+          undoing = s.now_at ∙ ap at.Undoing w.is;
+          front = undoes.front;
+          entries = ap (λ (u : Undo). u.entries) w.rest.undo_kept ∙ undoes.entries;
+          begins = no_some w.after;
+        };
+        on = subst (λ (item : ObjOp × ObjReply). StepsOn (basis_at (one_key basis) own) (moment t.subtx own.old.pages) (moment own.after.subtx own.new.pages) (inverse_from inverting item) w.after) same w.tells;
+      }))
+  by_answer (answer.Waiting page by) is s =
+      let w = s.tells in
+      let same : w.last ≡ last = one_last t.undo.entries w.front undoes.front w.last last w.entries undoes.entries in
+      let waits : Waits (basis_at (one_key basis) own) (moment t.subtx own.old.pages) (moment own.after.subtx own.new.pages) (inverse_from inverting last) w.after page by =
+      subst (λ (item : ObjOp × ObjReply). Waits (basis_at (one_key basis) own) (moment t.subtx own.old.pages) (moment own.after.subtx own.new.pages) (inverse_from inverting item) w.after page by) same w.tells in
+      inl (record {
+        page = page;
+        by = by;
+        waiting = is;
+        next = Some w.after;
+        undoes = record {
+          undoing = s.now_at ∙ ap at.Undoing w.is;
+          front = undoes.front;
+          entries = ap (λ (u : Undo). u.entries) w.rest.undo_kept ∙ undoes.entries;
+          begins = no_some w.after;
+        };
+        stands = waits.stays;
+        same = ap view_of waits.pages;
+      })
+  by_answer answer.Undone is s = inr (inr (record {
+    taken = subst IsTakenBack (sym is) tt;
+    told = λ untold. ends_at_last inverting last undoes.begins untold (λ none. s.tells.without undoes.front last none undoes.entries) (λ o some. (s.tells.at_end o some).0);
+  }))
+  by_answer answer.Aborted is s = inr (inr (record {
+    taken = subst IsTakenBack (sym is) tt;
+    told = λ untold. ends_at_last inverting last undoes.begins untold (λ none. s.tells.without undoes.front last none undoes.entries) (λ o some. (s.tells.at_end o some).0);
+  }))
+  by_answer (answer.Blocked by) is s = absurd s.tells
+  by_answer (answer.Done reply) is s = absurd s.tells
+  by_answer (answer.Refused reason) is s = absurd s.tells
+
+  -- **A step of an inverse.**
+  pub inverse_step : TellsOfTransaction (basis_at (one_key basis) own) t own.after own.old own.new own.told → BackOutcome (one_key basis) inverting last t own
+  inverse_step tells = by_answer own.told refl (back_step tells)
+
+pub taken_then : (told : Answer) (rest : List Answer) → IsTakenBack told → GoesThen 0 IsTakenBack (with_answer told rest)
+taken_then answer.Undone rest is = tt
+taken_then answer.Aborted rest is = tt
+taken_then other rest is = absurd is
+
+-- one without an inverse
+at_once : (basis : Basis) (t : Transaction) (last : ObjOp × ObjReply) (seen : View) (step : OwnStep) (more : List OwnStep) → IsToTakeBack t last → inverse_of last ≡ None
+    → (told : Answer) → step.told ≡ told → StepsBack (basis_at (one_key basis) step) None t step.after step.old step.new told → IsTakenBack step.told
+at_once basis t last seen step more to none answer.Going is s =
+    let same : s.tells.last ≡ last = one_last t.undo.entries s.tells.front to.front s.tells.last last s.tells.entries to.entries in
+    not_both (inverse_of s.tells.last) (s.tells.begins refl) (ap inverse_of same ∙ none)
+at_once basis t last seen step more to none (answer.Waiting page by) is s =
+    let same : s.tells.last ≡ last = one_last t.undo.entries s.tells.front to.front s.tells.last last s.tells.entries to.entries in
+    not_both (inverse_of s.tells.last) (s.tells.begins refl) (ap inverse_of same ∙ none)
+at_once basis t last seen step more to none answer.Undone is s = subst IsTakenBack (sym is) tt
+at_once basis t last seen step more to none answer.Aborted is s = subst IsTakenBack (sym is) tt
+at_once basis t last seen step more to none (answer.Blocked by) is s = absurd s.tells
+at_once basis t last seen step more to none (answer.Done reply) is s = absurd s.tells
+at_once basis t last seen step more to none (answer.Refused reason) is s = absurd s.tells
+
+pub without_inverse : (basis : Basis) (t : Transaction) (last : ObjOp × ObjReply) (seen : View) (steps : List OwnStep) → IsToTakeBack t last → AreOwnSteps (one_key basis) t seen steps → inverse_of last ≡ None → GoesThen 0 IsTakenBack (answers_of steps)
+without_inverse basis t last seen [] to own none = tt
+without_inverse basis t last seen (step ∷ more) to own none =
+    taken_then step.told (answers_of more)
+    (at_once (one_key basis) t last seen step more to none step.told refl
+    (subst (λ (a : At). TellsAt a (basis_at (one_key basis) step) t step.after step.old step.new step.told) to.undoing own.1))
+
+-- the inverse is to begin
+pub to_begin : (t : Transaction) (last : ObjOp × ObjReply) → IsToTakeBack t last → IsSome (inverse_of last) → Undoes None last t
+to_begin t last to some = record { undoing = to.undoing; front = to.front; entries = to.entries; begins = λ none. some }

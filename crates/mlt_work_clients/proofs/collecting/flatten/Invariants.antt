@@ -1,0 +1,13 @@
+use Rattle.std.proofs.Common.{◌≡◌, ◌≤◌, ◌<◌, ℕ, length, take}
+use Rattle.std.specs.Prelude.{IfSome, None, slice_index_or}
+use Rattle.mlt_work_clients.specs.Places.{AreAllOutcomes, HasRunAt, IsClientRun, scripts_of_clients}
+use Rattle.mlt_work_clients.proofs.collecting.flatten.Given as goal
+
+abbrev pub invariant-loop-i : goal.invariant-loop-i
+invariant-loop-i l = record {
+  len : length l.slots.items ≡ length l.clients;
+  full : (j : ℕ) → l.i ≤ j → j < length l.clients → HasRunAt l.slots.items j;
+  placed : (j : ℕ) → l.i ≤ j → j < length l.clients
+      → IfSome (slice_index_or l.slots.items j None) (λ run. (run.place ≡ j) × IsClientRun (scripts_of_clients l.clients) run);
+  done : AreAllOutcomes (take l.i (scripts_of_clients l.clients)) l.outcomes.items;
+}

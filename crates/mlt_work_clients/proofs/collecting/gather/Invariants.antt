@@ -1,0 +1,23 @@
+use Rattle.std.proofs.Common.{◌≡◌, ◌⊎◌, ◌<◌, ◌+◌, ◌-◌, ◌^◌, length, vec_len, min}
+use Rattle.std.specs.Prelude.{All, false}
+use Rattle.mlt_work_clients.specs.Seats.{IsOf, view_of}
+use Rattle.mlt_work_clients.specs.Workers.{HasDrawnPast, HasWorked}
+use Rattle.mlt_work_clients.specs.Places.{AreInPlace, HaveRuns, scripts_of_clients}
+use Rattle.mlt_work_clients.proofs.collecting.gather.Given as goal
+
+abbrev pub invariant-loop-worked : goal.invariant-loop-worked
+invariant-loop-worked g l = record {
+  seat : IsOf l.counter l.first;
+  some : 0 < (view_of l.first).parts;
+  parts : (view_of l.first).parts + vec_len l.rest ≡ 9;
+  share : l.all.parts + vec_len l.rest ≡ 9;
+  events : l.events ≡ min l.all.amount (2 ^ 64 - 1);
+  each : All (λ worked. HasWorked l.counter (scripts_of_clients l.clients) worked.drawer worked.runs.items worked.failed) l.rest.items;
+  len : length l.slots.items ≡ length l.clients;
+  placed : AreInPlace (scripts_of_clients l.clients) l.slots.items;
+  filled : l.failed ≡ false → HaveRuns (view_of l.first).drawn l.slots.items;
+  past : l.failed ≡ false → (vec_len l.rest ≡ vec_len l.fn.results) ⊎ HasDrawnPast (length l.clients) (view_of l.first).drawn;
+}
+
+abbrev pub decreases-loop-worked : goal.decreases-loop-worked
+decreases-loop-worked g l = vec_len l.rest

@@ -1,0 +1,15 @@
+use Rattle.std.proofs.Common.{◌≡◌, ◌+◌, vec_len}
+use Rattle.std.specs.Prelude.{All}
+use Rattle.mlt_work_clients.specs.Seats.{IsOf, view_of}
+use Rattle.mlt_work_clients.specs.Workers.{IsFresh, view_after_splits}
+use Rattle.mlt_work_clients.proofs.jobs.jobs_for.Given as goal
+
+abbrev pub invariant-loop-i : goal.invariant-loop-i
+invariant-loop-i g l = record {
+  len : vec_len l.jobs ≡ l.i;
+  fresh : All (λ job. IsFresh l.counter l.clients job.drawer) l.jobs.items;
+  seat : IsOf l.counter l.first;
+  view : view_of l.first ≡ view_after_splits l.i l.clients;
+  parts : l.all.parts + l.i ≡ 9;
+  amount : l.all.amount ≡ 0;
+}

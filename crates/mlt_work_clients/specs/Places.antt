@@ -1,0 +1,70 @@
+-- The runs of clients, by the places of the clients in their list.
+use Rattle.std.specs.Prelude.{◌≡◌, ℕ, ◌<◌, List, [], ◌∷◌, ◌++◌, All, length, map, slice_index_or, Option, None, IfSome, IsSome}
+use Rattle.std.specs.Global.{Vec}
+use Rattle.mlt_script_tree.specs.declared.script.Script.{Script}
+use Rattle.mlt_script_tree.specs.Scripts.{ScriptForm}
+use Rattle.mlt_types.specs.declared.refusal.Refusal.{Refusal}
+use Rattle.mlt_types.specs.declared.refusal.Refusal.TheVariants as refusal
+use Rattle.mlt_script_serial.specs.declared.outcome.End.{End}
+use Rattle.mlt_script_serial.specs.declared.outcome.End.TheVariants.{Refused}
+use Rattle.mlt_script_serial.specs.declared.outcome.Outcome.{Outcome}
+use Rattle.mlt_script_desk.specs.Clients.{AreOutcomes}
+use Rattle.mlt_work_clients.specs.Claims.{times}
+use Rattle.mlt_work_clients.specs.declared.forms.ClientRun.{ClientRun}
+
+-- the scripts of each client
+abbrev pub scripts_of_clients : List (Vec Script) → List (List ScriptForm)
+scripts_of_clients clients = map (λ client. client.items) clients
+
+abbrev pub place_of : ClientRun → ℕ
+place_of run = run.place
+
+-- what a script may be refused with
+abbrev pub IsScriptRefusal : Refusal → Type 0
+IsScriptRefusal refusal.OutOfMemory = Unit {0}
+IsScriptRefusal refusal.NoRoom = Unit {0}
+IsScriptRefusal refusal.TooManyOpen = Unit {0}
+IsScriptRefusal refusal.LogFull = Unit {0}
+IsScriptRefusal refusal.IdsSpent = Unit {0}
+IsScriptRefusal refusal.GaveUp = Unit {0}
+IsScriptRefusal other = ⊥
+
+-- where a script is refused, it is so
+abbrev pub IsScriptEnd : End → Type 0
+IsScriptEnd (Refused reason) = IsScriptRefusal reason
+IsScriptEnd other = Unit {0}
+
+-- an outcome for each script of a client, in order
+abbrev pub AreClientOutcomes : List ScriptForm → List Outcome → Type 0
+AreClientOutcomes scripts outcomes =
+    AreOutcomes 0 scripts outcomes × All (λ outcome. IsScriptEnd outcome.end) outcomes
+
+-- the run has an outcome for each script of the client at its place
+abbrev pub IsClientRun : List (List ScriptForm) → ClientRun → Type 0
+IsClientRun clients run = (run.place < length clients) × AreClientOutcomes (slice_index_or clients run.place []) run.outcomes.items
+
+-- each run stands at its own place
+abbrev pub AreInPlace : List (List ScriptForm) → List (Option ClientRun) → Type 0
+AreInPlace clients slots =
+    (place : ℕ) → place < length slots → IfSome (slice_index_or slots place None) (λ run. (run.place ≡ place) × IsClientRun clients run)
+
+abbrev pub HasRunAt : List (Option ClientRun) → ℕ → Type 0
+HasRunAt slots place = IsSome (slice_index_or slots place None)
+
+-- the places that are among these numbers have their runs
+abbrev pub HaveRuns : List ℕ → List (Option ClientRun) → Type 0
+HaveRuns numbers slots = (place : ℕ) → place < length slots → 0 < times place numbers → HasRunAt slots place
+
+-- each place has its run
+abbrev pub AllHaveRuns : List (Option ClientRun) → Type 0
+AllHaveRuns slots = (place : ℕ) → place < length slots → HasRunAt slots place
+
+-- a place that had its run has one still
+abbrev pub KeepsRuns : List (Option ClientRun) → List (Option ClientRun) → Type 0
+KeepsRuns before after = (place : ℕ) → place < length before → HasRunAt before place → HasRunAt after place
+
+-- an outcome for each script of each client, clients and scripts in order
+abbrev pub AreAllOutcomes : List (List ScriptForm) → List Outcome → Type 0
+AreAllOutcomes [] outcomes = outcomes ≡ []
+AreAllOutcomes (client ∷ clients) outcomes =
+    (front : List Outcome) × (rest : List Outcome) × (outcomes ≡ front ++ rest) × AreClientOutcomes client front × AreAllOutcomes clients rest

@@ -1,0 +1,144 @@
+//! What the workers give back, put together.
+
+ghost use Rattle.std.specs.Prelude.{◌≡◌, ◌+◌, ◌-◌, ◌^◌, ◌<◌, ◌≤◌, All, IsOkUnless, IfOk, [], None, false, length, min, replicate, vec_len};
+ghost use Rattle.mlt_work_clients.specs.Claims.{HasAll};
+ghost use Rattle.mlt_work_clients.specs.Seats.{IsOf, view_of};
+ghost use Rattle.mlt_work_clients.specs.Places.{AreAllOutcomes, HaveRuns, AllHaveRuns, AreInPlace, scripts_of_clients};
+ghost use Rattle.mlt_work_clients.specs.Workers.{HasDrawnPast, HasWorked, view_after_splits};
+
+use crate::forms::{ClientRun, Worked};
+use crate::slots::place_all;
+use crate::seats::Counter;
+use crate::seats::Drawer;
+use mlt_script_serial::{Outcome, Outcomes};
+use mlt_script_tree::Script;
+use mlt_types::Refusal;
+use std::alloc::{AllocError, Global};
+use std::sync::ledger::{Ledger, Share};
+
+/// Takes in what each worker gives back: the first seat takes in its seat, the whole its share, and its runs come to their
+/// places. It answers the number of all events, and whether a worker has failed.
+fn gather<L: Ledger>(
+    counter: &Counter,
+    clients: &[Vec<Script>],
+    first: &mut Drawer,
+    all: &mut Share<L>,
+    slots: &mut Vec<Option<ClientRun>>,
+    results: Vec<Worked<L>>,
+) -> (u64, bool)
+    requires some { 0 < vec_len results }
+    requires most { vec_len results ≤ 8 }
+    requires seat { IsOf counter.now first.old }
+    requires parts { (view_of first.old).parts + vec_len results ≡ 9 }
+    requires drawn { (view_of first.old).drawn ≡ [] }
+    requires share { all.old.parts + vec_len results ≡ 9 }
+    requires amount { all.old.amount ≡ 0 }
+    requires worked { All (λ worked. HasWorked counter.now (scripts_of_clients clients.now)
+        worked.drawer worked.runs.items worked.failed) results.items }
+    requires len { length slots.old.items ≡ length clients.now }
+    requires placed { AreInPlace (scripts_of_clients clients.now) slots.old.items }
+    ensures seat { IsOf counter.now first.new }
+    ensures all { HasAll (view_of first.new) }
+    ensures share { all.new.parts ≡ 9 }
+    ensures events { result.0 ≡ min all.new.amount (2 ^ 64 - 1) }
+    ensures len { length slots.new.items ≡ length clients.now }
+    ensures placed { AreInPlace (scripts_of_clients clients.now) slots.new.items }
+    ensures filled { result.1 ≡ false → HaveRuns (view_of first.new).drawn slots.new.items }
+    ensures past { result.1 ≡ false
+        → HasDrawnPast (length clients.now) (view_of first.new).drawn }
+{
+    let mut rest = results;
+    let mut events: u64 = 0;
+    let mut failed = false;
+    while let Some(worked) = rest.pop() {
+        let Worked {
+            drawer,
+            share,
+            events: more,
+            runs,
+            failed: stopped,
+        } = worked;
+        counter.join(first, drawer);
+        all.merge(share);
+        events = events.saturating_add(more);
+        failed = either(failed, stopped);
+        place_all(clients, slots, runs);
+    }
+    (events, failed)
+}
+
+fn either(first: bool, second: bool) -> bool
+    ensures { result ≡ false → (first ≡ false) × (second ≡ false) }
+{
+    first || second
+}
+
+/// The outcomes of all clients: clients by their places, and each client's scripts in order.
+///
+/// # Errors
+/// Where a growth is refused.
+fn flatten(
+    alloc: Global,
+    clients: &[Vec<Script>],
+    slots: Vec<Option<ClientRun>>,
+) -> Result<Vec<Outcome>, AllocError>
+    requires len { length slots.items ≡ length clients.now }
+    requires placed { AreInPlace (scripts_of_clients clients.now) slots.items }
+    requires full { AllHaveRuns slots.items }
+    ensures { IfOk result
+        (λ outcomes. AreAllOutcomes (scripts_of_clients clients.now) outcomes.items) }
+{
+    let mut slots = slots;
+    let mut outcomes = Vec::new(alloc);
+    for i in 0..clients.len() {
+        let Some(run) = slots[i].take() else {
+            unreachable!()
+        };
+        let ClientRun {
+            outcomes: mut part,
+            ..
+        } = run;
+        outcomes.append(&mut part)?;
+    }
+    Ok(outcomes)
+}
+
+/// The outcomes of all clients, and the number of all events, once all workers have given back what they have. Clients stand
+/// by their places, and each client's scripts in order. The whole takes in all shares.
+///
+/// # Errors
+/// `OutOfMemory`, where a worker was refused a growth, or this call is.
+pub fn collect<L: Ledger>(
+    alloc: Global,
+    counter: Counter,
+    clients: &[Vec<Script>],
+    first: Drawer,
+    all: &mut Share<L>,
+    slots: Vec<Option<ClientRun>>,
+    results: Vec<Worked<L>>,
+) -> Result<(Outcomes, u64), Refusal>
+    requires some { 0 < vec_len results }
+    requires most { vec_len results ≤ 8 }
+    requires seat { IsOf counter first }
+    requires view { view_of first ≡ view_after_splits (vec_len results) (length clients.now) }
+    requires share { all.old.parts + vec_len results ≡ 9 }
+    requires amount { all.old.amount ≡ 0 }
+    requires worked { All (λ worked. HasWorked counter (scripts_of_clients clients.now)
+        worked.drawer worked.runs.items worked.failed) results.items }
+    requires slots { slots.items ≡ replicate (length clients.now) None }
+    ensures outcomes { IfOk result
+        (λ got. AreAllOutcomes (scripts_of_clients clients.now) got.0) }
+    ensures events { IfOk result (λ got. got.1 ≡ min all.new.amount (2 ^ 64 - 1)) }
+    ensures share { all.new.parts ≡ 9 }
+    ensures refusal { IsOkUnless result Refusal.OutOfMemory }
+{
+    let mut first = first;
+    let mut slots = slots;
+    let (events, failed) = gather(&counter, clients, &mut first, all, &mut slots, results);
+    let _drawn = counter.close(first);
+    if failed {
+        return Err(Refusal::OutOfMemory);
+    }
+    let outcomes = flatten(alloc, clients, slots)?;
+    Ok((Outcomes::of(outcomes), events))
+}
