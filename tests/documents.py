@@ -25,9 +25,9 @@ def anchors(text):
     return {re.sub(r"[^\w\- ]", "", heading).strip().replace(" ", "-") for heading in plain}
 
 
-def output_of(tool):
+def output_of(tool, *words):
     """What a tool of the repository prints."""
-    return subprocess.run([ROOT / "tools" / tool], capture_output=True, text=True, check=True, cwd=ROOT).stdout
+    return subprocess.run([ROOT / "tools" / tool, *words], capture_output=True, text=True, check=True, cwd=ROOT).stdout
 
 
 def in_text(words):
@@ -136,6 +136,21 @@ def each_library_that_is_trusted_is_named(_mltx):
     holds(linked <= named, f"README does not name {sorted(linked - named)}")
     if rt:
         same(sorted(named), sorted(linked), "the libraries that README names")
+
+
+@test
+def the_rooms_are_those_of_the_list(_mltx):
+    """Each room of crates.txt has its promise in ARCHITECTURE, in the same order, and each crate stands in its own room."""
+    known, room = {}, None
+    for line in (ROOT / "crates.txt").read_text().splitlines():
+        room = found[1] if (found := re.match(r"# (\w+): ", line)) else room
+        if crate := re.match(r"\w+(?=:)", line):
+            known.setdefault(room, []).append(crate[0])
+    text = (ROOT / "docs/ARCHITECTURE.md").read_text().partition("## The rooms\n")[2].partition("\n## ")[0]
+    same(re.findall(r"(?m)^\| `(\w+)` \| \S", text), list(known), "the rooms with a promise")
+    for room, crates in known.items():
+        strange = [crate for crate in crates if not f"{crate}_".startswith((f"mlt_{room}_", "mltx_"))]
+        same(strange, [], f"crates of other rooms that stand in {room}")
 
 
 @test

@@ -1,5 +1,5 @@
 """Pictures: what tools/picture draws of a schedule or a trace shows each transaction, operation, reply, commit and
-arrow in its place, no label lies on another, and a faulty text is refused. What has to be seen is read from the
+arrow in its place, no label lies on another, and a faulty text is refused; tools/crate-map draws the rooms. What has to be seen is read from the
 schedule and from the outputs that the documents show."""
 import re
 import shlex
@@ -72,9 +72,9 @@ class Picture:
         self.wide, self.high = float(root.get("width")), float(root.get("height"))
         self.back = root.find("rect").attrib
         self.labels = [Label(element, self.sizes) for element in root.iter("text")]
-        self.time = root.find("g[@class='time']")
+        self.time = root.find("g")
         self.names = [label for label in self.labels if label.role == "lane"]
-        self.arrows = [line for line in self.time.iter("line") if line.get("class") in ("waiting", "blocked")]
+        self.arrows = [line for line in self.time.iter("line") if line.get("class") in ("waiting", "blocked", "stands")]
 
     def lane(self, y):
         """The name of the lane at this height."""
@@ -240,13 +240,26 @@ def pictures_of_traces(mltx):
 @test(seconds=1)
 def stored_pictures_are_drawn_anew(mltx):
     """docs/pictures has what the tool draws of the examples."""
-    same(sorted(file.stem for file in (ROOT / "docs/pictures").iterdir()), sorted(STORED), "the stored pictures")
+    stored = sorted(file.stem for file in (ROOT / "docs/pictures").iterdir())
+    same(stored, sorted([*STORED, "rooms"]), "the stored pictures")
     for name, title in STORED.items():
         words = ["--title", title, *SCHEDULES[f"{name}.txt"], ROOT / f"examples/{name}.txt"]
         ran, stored = run("--program", mltx.path, *words), ROOT / f"docs/pictures/{name}.svg"
         expect(Ran(ran.status, b"", ran.err), what=name)
         made = shlex.join(["tools/picture", "-o", f"docs/pictures/{name}.svg", *map(str, words)])
         holds(ran.out == stored.read_bytes(), f"{stored.name} is not what is drawn; this draws it anew: {made}")
+
+
+@test
+def picture_of_the_rooms(_mltx):
+    """docs/pictures has what the tool draws of crates.txt: each room with its crates, and an arrow to each below it."""
+    made = subprocess.run([ROOT / "tools/crate-map", "--picture"], capture_output=True, check=True).stdout
+    holds(made == (ROOT / "docs/pictures/rooms.svg").read_bytes(), "rooms.svg is not what is drawn: tools/crate-map --write")
+    seen, listed = Picture(made), (ROOT / "crates.txt").read_text()
+    same(seen.said("lane"), re.findall(r"(?m)^# (\w+): ", listed), "the rooms")
+    named = len(re.findall(r"(?<!\w)_\w+|mlt\w+", " ".join(seen.said("crates"))))
+    same(named, len(re.findall(r"(?m)^\w+:", listed)), "how many crates are named")
+    seen.check_places()
 
 
 @test
