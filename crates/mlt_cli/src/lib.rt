@@ -1,6 +1,5 @@
-//! The program's command line: the job that its words ask for, and what is said where they ask for none.
-//!
-//! What the program says of a fault, and the status that it ends with.
+//! The program's command line: the job that its words ask for, and what is said where they ask for none. And what is
+//! said of a fault, and the status that the program ends with.
 #![tactic(auto)]
 
 mod commands;

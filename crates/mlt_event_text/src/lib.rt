@@ -1,6 +1,4 @@
-//! Texts of events, and the text of what events are told.
-//!
-//! What the lines of a session ask.
+//! Texts of events, the text of what events are told, and what the lines of a session ask.
 #![tactic(auto)]
 
 mod forms;

@@ -1,7 +1,6 @@
 //! The check of a trace: whether its committed transactions, run alone in the order of their commits, give
-//! the replies that they were told.
-//!
-//! Traces from a reader, and what the check says of them to a writer.
+//! the replies that they were told. The trace comes from a reader, and what the check says of it goes to a writer; or
+//! it is a list of items.
 #![tactic(auto)]
 
 mod check_engine;

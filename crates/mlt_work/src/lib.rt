@@ -1,6 +1,5 @@
-//! Scripts of many clients, run side by side by workers in threads on one manager.
-//!
-//! Scripts from a reader, run side by side on one manager, and their text to a writer.
+//! Scripts of many clients, run side by side by workers in threads on one manager: scripts that are given, or those
+//! that a reader has, with what became of them written as a text.
 #![tactic(auto)]
 
 mod crew;

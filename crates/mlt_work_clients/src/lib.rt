@@ -1,8 +1,8 @@
-//! The runs of clients by the places of the clients: what workers are given and what they give back, and how that is put
-//! together. Which worker ran which client is not seen any more.
+//! How clients are given out to workers, and how the runs that workers give back are put together by the places of the
+//! clients. Which worker ran which client is not seen any more.
 //!
-//! A counter from which the seats of threads draw numbers, each number once and none left out. Workers claim
-//! clients by it.
+//! Workers claim clients by a counter, from which the seats of threads draw numbers, each number once and none left
+//! out.
 #![tactic(auto)]
 
 mod collecting;
