@@ -1,6 +1,5 @@
-//! Traces: what a manager's history holds, item by item, and the text of it.
-//!
-//! Histories: the items that a manager of transactions tells of, in order, with room for those to come.
+//! Traces: what a manager's history holds, item by item, the list that a manager keeps of it, with room for items to
+//! come, and its text.
 //!
 //! The laws say what one more item makes of a history's entries and numbers, and what the rooms of its
 //! transactions add up to. Each law is the contract of a function that does nothing.
@@ -22,6 +21,3 @@ pub use laws::{
 };
 pub use rooms::{Rooms, rooms_add_up};
 pub use trace::write_trace;
-
-#[cfg(test)]
-mod tests;

@@ -1,5 +1,5 @@
-//! Tests of traces: what is accepted, the faults of other texts, and what the check says of both; and of receipts
-//! against histories. They stand here and not in the crates that they test, since a crate with tests is proved twice.
+//! Tests of traces: what is accepted, the faults of other texts, and what the check says of both; of the history that
+//! is kept; and of receipts against histories. They stand here and not in the crates that they test, since a crate with tests is proved twice.
 #![tactic(auto)]
 
 #[cfg(test)]
@@ -10,6 +10,8 @@ mod checks;
 mod failing;
 #[cfg(test)]
 mod faults;
+#[cfg(test)]
+mod histories;
 #[cfg(test)]
 mod lines;
 #[cfg(test)]

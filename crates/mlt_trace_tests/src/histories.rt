@@ -2,11 +2,10 @@
 
 ghost use Rattle.std.specs.Prelude.{ℕ};
 
-use crate::{
-    History, Rooms, begun_numbers_are_those_up_to_the_count, commits_stay_counted,
+use mlt_trace::{
+    History, Rooms, TraceItem, begun_numbers_are_those_up_to_the_count, commits_stay_counted,
     items_begin_in_order, items_count_the_committed, items_grow_by_entries, rooms_add_up,
 };
-use crate::item::TraceItem;
 use mlt_types::{Refusal, TxId};
 
 #[test]
