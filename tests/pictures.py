@@ -1,6 +1,6 @@
 """Pictures: what tools/picture draws of a schedule or a trace shows each transaction, operation, reply, commit and
-arrow in its place, no label lies on another, and a faulty text is refused; tools/crate-map draws the rooms. What has to be seen is read from the
-schedule and from the outputs that the documents show."""
+arrow in its place, no label lies on another, and a faulty text is refused. What has to be seen is read from the
+schedule and from the outputs that the documents show. And what tools/crate-map draws of the rooms."""
 import re
 import shlex
 import subprocess
