@@ -1,7 +1,7 @@
 //! Lines of sessions, and what they ask.
 
-use mlt_object_kinds::{AccountOp, CounterOp, ElementOp, ObjOp};
 use mlt_event_text::{Line, Request, next_line};
+use mlt_object_kinds::{AccountOp, CounterOp, ElementOp, ObjOp};
 use mlt_test_tools::{same_at, with_spaces};
 use std::test::Fail;
 

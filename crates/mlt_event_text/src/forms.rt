@@ -7,8 +7,8 @@ ghost use Rattle.mlt_text_words.specs.Words.{raw_words, words_of};
 use mlt_event::Event;
 use mlt_object_kinds::ObjOp;
 use mlt_script::read_op;
-use mlt_types::TxId;
 use mlt_text_words::{next_raw_word, read_number};
+use mlt_types::TxId;
 
 /// The event that a line asks for, and how many times.
 #[derive(Clone, Copy)]

@@ -5,8 +5,8 @@ ghost use Rattle.mlt_event_text.specs.Readings.{reading, said_by};
 ghost use Rattle.mlt_text_words.specs.Words.{raw_words};
 
 use crate::forms::{Asked, asked_by};
-use mlt_types::ScriptCause;
 use mlt_text_words::{is_allowed_line, is_comment_line, next_raw_word, trimmed};
+use mlt_types::ScriptCause;
 
 /// What a line is by itself.
 #[derive(Clone, Copy)]

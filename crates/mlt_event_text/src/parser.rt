@@ -9,8 +9,8 @@ ghost use Rattle.mlt_types.specs.declared.refusal.ScriptCause.{ScriptCause};
 use crate::forms::Asked;
 use crate::line::{Reading, read_line};
 use mlt_event::Event;
-use mlt_types::Refusal;
 use mlt_text_words::first_line;
+use mlt_types::Refusal;
 use std::alloc::{AllocError, Global};
 
 // Puts the event behind the others, so many times.

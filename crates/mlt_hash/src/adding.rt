@@ -21,9 +21,9 @@ use crate::change::write_change;
 use crate::pass::{Change, Phase};
 use crate::walk::Walk;
 use mlt_hash_access::{LockedStore, read_held};
-use mlt_page::Page;
 use mlt_hash_record::SlotWrite;
 use mlt_hash_split::{Setting, Split, SplitAnswer};
+use mlt_page::Page;
 use mlt_page_subtx::Subtx;
 use mlt_types::{OpenSet, PageNo, Pseudo, Refusal, Value};
 

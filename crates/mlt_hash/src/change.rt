@@ -15,9 +15,9 @@ use crate::pass::{Change, Pass, Phase};
 use crate::room::next_pass;
 use crate::walk::Walk;
 use mlt_hash_access::{LockedStore, read_held, write_slot};
-use mlt_page::{Bucket, Page};
 use mlt_hash_record::SlotWrite;
 use mlt_hash_split::Setting;
+use mlt_page::{Bucket, Page};
 use mlt_page_subtx::Subtx;
 use mlt_types::{PageNo, Pseudo, Refusal, Value};
 
@@ -48,7 +48,13 @@ impl Walk {
         if let Some(write) = mlt_hash_record::revive(number, bucket, self.key, subtx.tx(), value) {
             return write_change(self, write, Change::Revive(value), subtx, pages);
         }
-        if let Some(write) = mlt_hash_record::insert(number, bucket, self.key, value, setting.opens) {
+        if let Some(write) = mlt_hash_record::insert(
+            number,
+            bucket,
+            self.key,
+            value,
+            setting.opens,
+        ) {
             return write_change(self, write, Change::Put(value), subtx, pages);
         }
         without_room(self, value, setting, subtx, pages)
@@ -112,7 +118,8 @@ impl Walk {
             self.old (page_of self.old.phase) value }
     {
         let (number, bucket) = held_bucket(self, subtx, pages);
-        let Some(write) = mlt_hash_record::revive(number, bucket, self.key, subtx.tx(), value) else {
+        let Some(write) = mlt_hash_record::revive(number, bucket, self.key, subtx.tx(), value)
+        else {
             unreachable!()
         };
         write_change(self, write, Change::Revive(value), subtx, pages)

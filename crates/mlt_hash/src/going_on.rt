@@ -9,8 +9,8 @@ ghost use Rattle.mlt_hash.specs.declared.pass.Pass.TheVariants as pass;
 
 use crate::pass::Phase;
 use crate::walk::Walk;
-use mlt_hash_form::{Place, Root};
 use mlt_hash_access::{LockedStore, read_held};
+use mlt_hash_form::{Place, Root};
 use mlt_page::Page;
 use mlt_page_subtx::Subtx;
 use mlt_types::{Key, Mode, Pseudo};

@@ -6,8 +6,8 @@ ghost use Rattle.mlt_hash.specs.Passes.{HasRoomFrom, IsNextPass, NeverHasRoom};
 
 use crate::pass::Pass;
 use mlt_hash_form::depth_with_room;
-use mlt_page::Bucket;
 use mlt_hash_split::Setting;
+use mlt_page::Bucket;
 use mlt_types::{Key, Pseudo};
 
 /// The pass that splits a bucket without room, in a directory of depth `directory_depth`: a narrow one where the

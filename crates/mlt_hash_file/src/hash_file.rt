@@ -9,8 +9,8 @@ ghost use Rattle.mlt_hash_file.specs.HashFiles.{IsFileOf, Refuses};
 
 use crate::runner::Runner;
 use mlt_hash::{Walk, WalkAnswer, open_file};
-use mlt_hash_form::Root;
 use mlt_hash_access::LockedStore;
+use mlt_hash_form::Root;
 use mlt_page::Page;
 use mlt_page_locks::PageLocks;
 use mlt_page_store::Store;

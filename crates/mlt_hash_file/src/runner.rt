@@ -18,8 +18,8 @@ ghost use Rattle.mlt_hash.specs.declared.pass.Pass.{Pass};
 ghost use Rattle.mlt_hash.specs.declared.pass.Phase.{Phase};
 
 use mlt_hash::{Setting, Walk, WalkAnswer};
-use mlt_hash_form::Root;
 use mlt_hash_access::LockedStore;
+use mlt_hash_form::Root;
 use mlt_page_store::Store;
 use mlt_page_subtx::Subtx;
 use mlt_types::{OpenSet, Pseudo, Value};

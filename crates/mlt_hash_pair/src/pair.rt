@@ -9,8 +9,8 @@ ghost use Rattle.mlt_hash_pair.specs.Steps.{TellsOfStep, told_by};
 
 use crate::answer::PairAnswer;
 use crate::way::Way;
-use mlt_hash_form::Root;
 use mlt_hash_access::{LockedStore, lock, read_held};
+use mlt_hash_form::Root;
 use mlt_hash_record::SlotWrite;
 use mlt_page_subtx::Subtx;
 use mlt_types::{Key, Pseudo};

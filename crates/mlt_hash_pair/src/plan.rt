@@ -4,8 +4,8 @@ ghost use Rattle.std.specs.Prelude.{◌≡◌, Option, Some};
 ghost use Rattle.mlt_hash_pair.specs.Plans.{FitsSlots, IsPlanned, IsWithin, bucket_after};
 
 use crate::asked::RecordChange;
-use mlt_page::Bucket;
 use mlt_hash_record::SlotWrite;
+use mlt_page::Bucket;
 use mlt_types::{Key, OpenSet, PageNo, TxId};
 
 /// What is to be written for one key.

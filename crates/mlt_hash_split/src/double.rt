@@ -11,8 +11,8 @@ ghost use Rattle.mlt_hash_split.specs.Tells.{Tells};
 
 use crate::phase::SplitPhase;
 use crate::split::{Split, SplitAnswer};
-use mlt_hash_form::{doubled_page, first_bits};
 use mlt_hash_access::{LockedStore, lock, make_page, read_held, write_held};
+use mlt_hash_form::{doubled_page, first_bits};
 use mlt_page::{HeadPage, Page};
 use mlt_page_subtx::Subtx;
 use mlt_types::{Mode, PageNo, Refusal};

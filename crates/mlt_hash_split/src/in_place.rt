@@ -10,8 +10,8 @@ ghost use Rattle.mlt_hash_split.specs.Tells.{Tells};
 
 use crate::phase::SplitPhase;
 use crate::split::{Split, SplitAnswer};
-use mlt_hash_form::{NewPlaces, page_with_new_places};
 use mlt_hash_access::{LockedStore, lock, read_held, write_held};
+use mlt_hash_form::{NewPlaces, page_with_new_places};
 use mlt_page::Page;
 use mlt_page_subtx::Subtx;
 use mlt_types::{Mode, PageNo, Refusal};

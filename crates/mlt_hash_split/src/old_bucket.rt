@@ -11,8 +11,8 @@ ghost use Rattle.mlt_hash_split.specs.Tells.{Tells};
 
 use crate::phase::SplitPhase;
 use crate::split::{Split, SplitAnswer};
-use mlt_hash_form::NewPlaces;
 use mlt_hash_access::{LockedStore, write_held};
+use mlt_hash_form::NewPlaces;
 use mlt_page::Page;
 use mlt_page_subtx::Subtx;
 use mlt_types::Refusal;

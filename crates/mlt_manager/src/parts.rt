@@ -13,17 +13,17 @@ ghost use Rattle.mlt_manager.specs.Managers.{IsManager};
 
 use mlt_event::Answer;
 use mlt_hash::{Setting, open_file};
-use mlt_hash_form::Root;
 use mlt_hash_access::LockedStore;
-use mlt_trace::{History, TraceItem};
+use mlt_hash_form::Root;
 use mlt_object_kinds::ObjOp;
-use mlt_tx_meaning::operation_is_in_range;
 use mlt_object_locks::ObjectLocks;
-use mlt_tx_open::OpenTransactions;
 use mlt_page::Page;
 use mlt_page_locks::PageLocks;
 use mlt_page_store::Store;
+use mlt_trace::{History, TraceItem};
 use mlt_tx::{At, Commons};
+use mlt_tx_meaning::operation_is_in_range;
+use mlt_tx_open::OpenTransactions;
 use mlt_types::{Limits, OpenSet, PageNo, Pseudo, Refusal, TxId};
 use std::alloc::Global;
 

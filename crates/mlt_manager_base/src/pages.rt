@@ -11,8 +11,8 @@ ghost use Rattle.mlt_page_store.specs.Stores.{page_at};
 
 use crate::copying::copy_cell;
 use crate::records::{is_in_range, record_of};
-use mlt_object_base::Base;
 use mlt_hash_form::Root;
+use mlt_object_base::Base;
 use mlt_object_kinds::{Done, ObjOp, ObjReply};
 use mlt_page_store::Store;
 use mlt_trace::{KeptItem, TraceItem};

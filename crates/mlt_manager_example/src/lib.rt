@@ -8,10 +8,10 @@ ghost use Rattle.mlt_trace.specs.declared.item.TraceItem.TheVariants.{Op};
 ghost use Rattle.mlt_order.specs.Histories.Stage.{Fresh};
 ghost use Rattle.mlt_manager.specs.Promises.{IsCommittedBaseOf, lists_by};
 
-use mlt_object_base::Base;
 use mlt_event::Answer;
-use mlt_object_kinds::{AccountOp, ObjOp, ObjReply};
 use mlt_manager::Manager;
+use mlt_object_base::Base;
+use mlt_object_kinds::{AccountOp, ObjOp, ObjReply};
 use mlt_types::{Limits, Pseudo, Refusal, TxId};
 use std::alloc::Global;
 

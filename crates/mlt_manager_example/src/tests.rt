@@ -1,9 +1,9 @@
 //! Each caller, called once.
 
 use crate::{base_with_five, open_beside_others};
+use mlt_manager::Manager;
 use mlt_object_base::{Base, write_base};
 use mlt_object_kinds::{AccountOp, ObjOp};
-use mlt_manager::Manager;
 use mlt_types::{Limits, Mult, Refusal};
 use std::alloc::Global;
 

@@ -5,10 +5,10 @@ ghost use Rattle.std.specs.Io.KnownBytes.{Appends, Keeps};
 ghost use Rattle.mlt_text.specs.Texts.{AppendsFront};
 ghost use Rattle.mlt_manager_steps.specs.Steps.{IsTextOf, depth_line};
 
-use mlt_object_base::write_base;
 use mlt_event::Told;
 use mlt_event_text::told_text;
 use mlt_manager::Manager;
+use mlt_object_base::write_base;
 use mlt_text::write_text;
 use mlt_types::{Pseudo, Refusal};
 use std::alloc::Global;

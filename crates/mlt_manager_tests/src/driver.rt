@@ -3,10 +3,10 @@
 use crate::schedule::{
     Part, Row, Schedule, Sight, lines_of, push_lines, push_tells, tells_of, text_of,
 };
-use mlt_object_base::write_base;
 use mlt_event_text::{parse_events, told_text};
 use mlt_manager::Manager;
 use mlt_manager_steps::steps;
+use mlt_object_base::write_base;
 use mlt_test_tools::same;
 use mlt_trace::write_trace;
 use mlt_types::{Limits, Low, Mult, Pseudo};

@@ -1,6 +1,8 @@
 //! How many pairs the tables mark, their examples run, and clashes.
 
-use mlt_object_conflicts::{AccountClass, CounterClass, ElementClass, Example, SizeExample, Table, clash};
+use mlt_object_conflicts::{
+    AccountClass, CounterClass, ElementClass, Example, SizeExample, Table, clash,
+};
 use mlt_object_kinds::{
     Account, AccountOp, Counter, CounterOp, Done, Element, ElementOp, Kind, ObjOp, ObjReply,
 };

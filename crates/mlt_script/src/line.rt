@@ -8,10 +8,10 @@ ghost use Rattle.mlt_text_words.specs.Words.{words_of};
 
 use crate::forms::{LineForm, line_form};
 use crate::plain::frame_line;
-use mlt_types::ScriptCause;
 use mlt_text_words::{
     first_line, first_printable_line, has_word, is_allowed_line, is_comment_line, trimmed,
 };
+use mlt_types::ScriptCause;
 
 /// What a line is by itself.
 #[derive(Clone, Copy)]

@@ -5,8 +5,8 @@ ghost use Rattle.mlt_script_desk.specs.Fakes.{after_answer, next_answer, number_
 
 use crate::desk::Desk;
 use crate::fake_desk::{FakeAnswer, FakeDesk};
-use mlt_script_cursor::Answering;
 use mlt_object_kinds::{ObjOp, ObjReply};
+use mlt_script_cursor::Answering;
 use mlt_types::{Refusal, TxId};
 
 impl FakeDesk {

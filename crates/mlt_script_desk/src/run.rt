@@ -5,8 +5,8 @@ ghost use Rattle.mlt_script_cursor.specs.Follows.{AsksAtMost, questions_of_scrip
 ghost use Rattle.mlt_script_desk.specs.Runs.{ClosesAs, HasEndedAs, IsRunAt, refusal_of_script};
 
 use crate::desk::Desk;
-use mlt_script_cursor::{most_asked, play};
 use mlt_object_kinds::Done;
+use mlt_script_cursor::{most_asked, play};
 use mlt_script_serial::{End, Outcome, Transcript};
 use mlt_script_tree::{Ending, Script};
 use mlt_types::{Refusal, TxId};

@@ -7,9 +7,9 @@ ghost use Rattle.mlt_serve.specs.Endings.{outcome_of};
 
 use crate::accepting::Accepting;
 use crate::gathering::Gathered;
-use mlt_trace_audit::audit;
 use mlt_manager::Manager;
 use mlt_script_serial::{Outcome, Outcomes};
+use mlt_trace_audit::audit;
 use mlt_types::{Pseudo, Refusal};
 use std::alloc::Global;
 

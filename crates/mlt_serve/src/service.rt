@@ -2,8 +2,8 @@
 
 use crate::lookout::Lookout;
 use crate::turnstile::Turnstile;
-use mlt_work_desk::{MadeWith, Shared};
 use mlt_types::Pseudo;
+use mlt_work_desk::{MadeWith, Shared};
 use std::time::Duration;
 
 /// What all sessions work with.

@@ -9,8 +9,8 @@ ghost use Rattle.mlt_serve_session.specs.Turns.{IsSmall, place};
 use crate::notes::Notes;
 use crate::said::push_said;
 use crate::turn::take_turn;
-use mlt_script_desk::Desk;
 use mlt_event_text::next_line;
+use mlt_script_desk::Desk;
 use std::alloc::AllocError;
 
 /// Answers each complete line of the text, and tells how many bytes these lines take. What is left is no

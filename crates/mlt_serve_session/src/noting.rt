@@ -8,8 +8,8 @@ ghost use Rattle.mlt_serve_session.specs.Talks.{ends, is_long};
 ghost use Rattle.mlt_serve_session.specs.Turns.{after_line, start};
 
 use crate::notes::{Notes, Progress};
-use mlt_object_kinds::Done;
 use mlt_event_text::{Line, Request};
+use mlt_object_kinds::Done;
 use mlt_script_serial::{End, Outcome, Transcript};
 use std::alloc::{AllocError, Global};
 use std::mem;

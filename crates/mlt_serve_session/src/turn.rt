@@ -8,9 +8,9 @@ ghost use Rattle.mlt_serve_session.specs.Turns.{Told, TakesTurn, IsSmall, place}
 use crate::call::{Answer, Call};
 use crate::notes::Notes;
 use crate::said::Said;
-use mlt_script_desk::Desk;
-use mlt_object_kinds::{Done, ObjOp};
 use mlt_event_text::{Line, Request};
+use mlt_object_kinds::{Done, ObjOp};
+use mlt_script_desk::Desk;
 use mlt_script_serial::End;
 use mlt_types::{Refusal, TxId};
 use std::alloc::AllocError;

@@ -1,8 +1,8 @@
 //! Scripts of a client at a desk of answers.
 
-use mlt_script_desk::{FakeAnswer, FakeDesk, run_client};
 use mlt_object_kinds::ObjReply;
 use mlt_script::parse;
+use mlt_script_desk::{FakeAnswer, FakeDesk, run_client};
 use mlt_script_serial::{Outcomes, write_outcomes};
 use mlt_test_tools::same_at;
 use mlt_types::Refusal;

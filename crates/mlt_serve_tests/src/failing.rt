@@ -2,13 +2,13 @@
 
 use crate::sessions::{ANSWERS, LINES};
 use mlt_script_desk::FakeDesk;
-use mlt_work_desk::NoGate;
-use mlt_work::run_scripts;
+use mlt_serve_session::session;
 use mlt_test_tools::{
     Case, Engine, FaultyReader, FaultyWriter, KINDS, same_at, withstands_failures,
 };
 use mlt_types::{Limits, Mult, Refusal};
-use mlt_serve_session::session;
+use mlt_work::run_scripts;
+use mlt_work_desk::NoGate;
 use std::alloc::Global;
 use std::io::ErrorKind;
 use std::sync::Wait;

@@ -5,13 +5,13 @@ ghost use Rattle.mlt_work_desk.specs.Makings.{making_of};
 
 use crate::sessions::{LINES, OF_LINES};
 use crate::talks::{Receipt, Talk, Wanted, talk_at};
-use mlt_trace_audit::audit;
-use mlt_object_kinds::{AccountOp, CounterOp, ObjOp, ObjReply};
-use mlt_work_desk::{Hall, LockDesk, MadeWith, NoGate, Shared, Tries};
 use mlt_manager::Manager;
+use mlt_object_kinds::{AccountOp, CounterOp, ObjOp, ObjReply};
 use mlt_script_serial::End;
 use mlt_test_tools::{FaultyReader, FaultyWriter, same};
+use mlt_trace_audit::audit;
 use mlt_types::{Limits, Mult, Refusal};
+use mlt_work_desk::{Hall, LockDesk, MadeWith, NoGate, Shared, Tries};
 use std::alloc::Global;
 use std::io::ErrorKind;
 use std::marker::Brand;

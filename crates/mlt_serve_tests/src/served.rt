@@ -1,10 +1,10 @@
 //! What was served, as a text.
 
-use mlt_trace_check::check_trace;
 use mlt_manager::Manager;
 use mlt_script_serial::{Form, Outcomes, Report, write_report};
 use mlt_serve::serve_on;
 use mlt_trace::write_trace;
+use mlt_trace_check::check_trace;
 use mlt_types::{Limits, Mult, Refusal};
 use std::alloc::Global;
 use std::net::TcpListener;

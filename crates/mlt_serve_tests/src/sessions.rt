@@ -1,8 +1,8 @@
 //! Sessions at a desk of answers, wherever their input is cut.
 
 use crate::talks::{Receipt, Wanted, talk_with};
-use mlt_script_desk::FakeAnswer;
 use mlt_object_kinds::{AccountOp, CounterOp, ObjOp, ObjReply};
+use mlt_script_desk::FakeAnswer;
 use mlt_script_serial::End;
 use mlt_test_tools::{FaultyReader, FaultyWriter, with_spaces};
 use mlt_types::Refusal;

@@ -1,11 +1,11 @@
 //! What comes of a session, and what is wanted of it.
 
-use mlt_script_desk::{Desk, FakeAnswer, FakeDesk};
 use mlt_object_kinds::{Done, ObjOp, ObjReply};
+use mlt_script_desk::{Desk, FakeAnswer, FakeDesk};
 use mlt_script_serial::{End, Outcome};
+use mlt_serve_session::{Summary, session};
 use mlt_test_tools::{FaultyReader, FaultyWriter, same_at};
 use mlt_types::Refusal;
-use mlt_serve_session::{Summary, session};
 use std::alloc::{AllocError, Global};
 use std::fmt::Debug;
 use std::test::Fail;

@@ -5,10 +5,10 @@ ghost use Rattle.std.specs.Prelude.{◌≤◌, ◌<◌};
 use crate::gates::{
     Latch, SecondBeginsBeside, SecondCommits, SecondMeetsLock, TwoCrossBesideThird, Until,
 };
-use mlt_work_desk::{Gate, NoGate};
-use mlt_work::run_scripts;
 use mlt_test_tools::{same, same_at};
 use mlt_types::{Limits, Mult, Refusal};
+use mlt_work::run_scripts;
+use mlt_work_desk::{Gate, NoGate};
 use std::alloc::Global;
 use std::sync::Wait;
 use std::test::Fail;

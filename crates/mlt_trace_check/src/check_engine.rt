@@ -10,9 +10,8 @@ ghost use Rattle.mlt_object_kinds.specs.Bases.{Base as ObjectBase};
 ghost use Rattle.mlt_trace_check.specs.Traces.{IsAcceptedTrace, IsFirstFault};
 ghost use Rattle.mlt_trace_check.specs.OrderTexts.{IsCheckOf, IsCheckText, order_text, serial_lines};
 
+use crate::trace_check::{Order, check};
 use mlt_object_base::write_base;
-use crate::trace_check::Order;
-use crate::trace_check::check;
 use mlt_text::write_text;
 use mlt_types::{Refusal, TxId};
 use std::alloc::{AllocError, Global};

@@ -6,9 +6,9 @@ ghost use Rattle.mlt_trace_check.specs.Plain.{BeginsWithDone, BeginsWithItem, Be
 
 use mlt_object_kinds::{Done, ObjOp, ObjReply};
 use mlt_script::{front_op, front_reply};
+use mlt_text_words::{after, front_number};
 use mlt_trace::TraceItem;
 use mlt_types::TxId;
-use mlt_text_words::{after, front_number};
 
 // The number from 1 on that stands behind these bytes, and the text behind it.
 fn numbered<'a>(text: &'a [u8], bytes: &[u8]) -> Option<(u64, &'a [u8])>

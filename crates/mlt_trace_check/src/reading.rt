@@ -8,9 +8,9 @@ ghost use Rattle.mlt_text_words.specs.Words.{raw_words};
 
 use crate::plain::plain_item;
 use crate::words::{done, positive};
+use mlt_text_words::{first_line, first_printable_line, is_allowed_line, next_raw_word, trimmed};
 use mlt_trace::TraceItem;
 use mlt_types::{TraceCause, TxId};
-use mlt_text_words::{first_line, first_printable_line, is_allowed_line, next_raw_word, trimmed};
 
 /// What a line is by itself.
 #[derive(Clone, Copy)]

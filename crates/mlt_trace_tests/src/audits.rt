@@ -2,12 +2,12 @@
 //! that `docs/DEFINITIONS.md` has of it.
 
 use Item::{Abort, Back, Begin, Commit, Op};
-use mlt_trace_audit::audit;
 use mlt_object_kinds::{AccountOp, CounterOp, Done, ObjOp, ObjReply};
 use mlt_script_serial::End::{Aborted, Committed, Refused};
 use mlt_script_serial::{End, Outcome, Transcript};
 use mlt_test_tools::same_at;
 use mlt_trace::{KeptItem, TraceItem};
+use mlt_trace_audit::audit;
 use mlt_types::{Refusal, TxId};
 use std::alloc::Global;
 use std::test::Fail;

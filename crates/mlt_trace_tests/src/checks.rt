@@ -1,7 +1,7 @@
 //! What the check says of texts.
 
-use mlt_trace_check::check_trace;
 use mlt_test_tools::same_at;
+use mlt_trace_check::check_trace;
 use mlt_types::{Refusal, TraceCause};
 use std::alloc::Global;
 use std::test::Fail;

@@ -1,7 +1,7 @@
 //! The check beside readers and writers that fail, and traces that end anywhere.
 
-use mlt_trace_check::check_trace;
 use mlt_test_tools::{Case, Engine, FaultyReader, FaultyWriter, withstands_failures};
+use mlt_trace_check::check_trace;
 use mlt_types::Refusal;
 use std::alloc::Global;
 use std::test::Fail;

@@ -9,11 +9,11 @@ ghost use Rattle.mlt_tx.specs.Transactions.{IsNotCalled};
 
 use crate::commons::Commons;
 use crate::transaction::{At, Transaction};
-use mlt_tx_operation::{Operation, plan_at_once};
-use mlt_object_base::Request;
 use mlt_hash::Setting;
+use mlt_object_base::Request;
 use mlt_object_kinds::{Done, ObjOp, ObjReply};
 use mlt_trace::TraceItem;
+use mlt_tx_operation::{Operation, plan_at_once};
 use mlt_types::{Pseudo, Refusal};
 
 impl Transaction {

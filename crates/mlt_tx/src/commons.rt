@@ -1,8 +1,8 @@
 //! What the transactions of a manager share.
 
 use mlt_hash_access::LockedStore;
-use mlt_trace::History;
 use mlt_object_locks::ObjectLocks;
+use mlt_trace::History;
 use std::alloc::Global;
 
 /// The pages with their locks, the object locks, and the history.

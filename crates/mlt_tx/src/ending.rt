@@ -9,9 +9,9 @@ ghost use Rattle.mlt_tx.specs.Endings.{TellsOfEnd, workplace};
 use crate::commons::Commons;
 use mlt_event::Answer;
 use mlt_object_kinds::Done;
+use mlt_object_undo::UndoList;
 use mlt_page_subtx::Subtx;
 use mlt_trace::TraceItem;
-use mlt_object_undo::UndoList;
 
 /// Ends an operation that was told its reply: asks for its object lock. Where that clashes, all is rolled back. It takes
 /// no memory.

@@ -11,15 +11,15 @@ ghost use Rattle.mlt_tx.specs.Steps.{KeepsObjects, MayStepBack, MayStepOn, Takes
 
 use crate::commons::Commons;
 use crate::ending::finish;
-use mlt_object_base::{Request, inverse};
 use mlt_event::Answer;
 use mlt_hash::Setting;
+use mlt_object_base::{Request, inverse};
 use mlt_object_kinds::{Done, ObjOp};
-use mlt_tx_operation::{Operation, StepAnswer};
+use mlt_object_undo::UndoList;
 use mlt_page_subtx::Subtx;
 use mlt_trace::TraceItem;
+use mlt_tx_operation::{Operation, StepAnswer};
 use mlt_types::{Pseudo, TxId};
-use mlt_object_undo::UndoList;
 use std::alloc::Global;
 
 fn answer_of(told: StepAnswer) -> Answer

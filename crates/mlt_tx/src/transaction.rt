@@ -8,14 +8,14 @@ ghost use Rattle.mlt_tx.specs.Transactions.{IsNotCalled, IsPending, MayStepIn, T
 
 use crate::commons::Commons;
 use crate::stepping::{step_back, step_on};
-use mlt_object_base::Request;
 use mlt_event::Answer;
 use mlt_hash::Setting;
+use mlt_object_base::Request;
 use mlt_object_kinds::ObjOp;
-use mlt_tx_operation::Operation;
-use mlt_page_subtx::Subtx;
-use mlt_types::{Pseudo, Refusal, TxId};
 use mlt_object_undo::UndoList;
+use mlt_page_subtx::Subtx;
+use mlt_tx_operation::Operation;
+use mlt_types::{Pseudo, Refusal, TxId};
 use std::alloc::Global;
 
 /// What an open transaction is at.

@@ -10,9 +10,9 @@ ghost use Rattle.mlt_hash.specs.Changes.{HasOwnGhost, MayChange, WritesIfChanged
 ghost use Rattle.mlt_hash.specs.Steps.{HasFound};
 ghost use Rattle.mlt_tx_operation.specs.Performing.{TellsOfDecision};
 
-use mlt_object_base::RecChange;
 use mlt_hash::{Setting, Walk, WalkAnswer};
 use mlt_hash_access::LockedStore;
+use mlt_object_base::RecChange;
 use mlt_page_subtx::Subtx;
 use mlt_types::{Pseudo, Value};
 

@@ -12,13 +12,13 @@ ghost use Rattle.mlt_tx_operation.specs.Operating.{MayOperate, started_for};
 ghost use Rattle.mlt_tx_two_records.specs.Performing.{Performs};
 ghost use Rattle.mlt_tx_operation.specs.AtOnce.{CanWrite, NobodyHolds, PassesAtOnce, store_after};
 
-use mlt_object_base::{RecChange, Request};
 use mlt_hash::Setting;
-use mlt_hash_form::{Place, Root, value_in};
 use mlt_hash_access::LockedStore;
+use mlt_hash_form::{Place, Root, value_in};
+use mlt_hash_record::{SlotWrite, update};
+use mlt_object_base::{RecChange, Request};
 use mlt_object_kinds::{ObjOp, ObjReply};
 use mlt_page::{Bucket, Page};
-use mlt_hash_record::{SlotWrite, update};
 use mlt_page_store::Store;
 use mlt_page_subtx::Subtx;
 use mlt_types::{Key, PageNo, Pseudo, Value};

@@ -10,9 +10,9 @@ ghost use Rattle.mlt_tx_operation.specs.Walking.{MayWalkOn, walking};
 
 use crate::answer::StepAnswer;
 use crate::perform::perform;
-use mlt_object_base::Request;
 use mlt_hash::{Setting, Walk, WalkAnswer};
 use mlt_hash_access::LockedStore;
+use mlt_object_base::Request;
 use mlt_object_kinds::ObjReply;
 use mlt_page_subtx::Subtx;
 use mlt_types::{Pseudo, Value};

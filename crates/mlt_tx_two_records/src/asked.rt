@@ -3,8 +3,8 @@
 ghost use Rattle.std.specs.Prelude.{◌≡◌};
 ghost use Rattle.mlt_tx_two_records.specs.Performing.{asked_of};
 
-use mlt_object_base::RecChange;
 use mlt_hash_pair::RecordChange;
+use mlt_object_base::RecChange;
 use mlt_types::Value;
 
 /// The change of a record that was decided on, where the record has this value, or there is none.

@@ -10,11 +10,11 @@ ghost use Rattle.mlt_tx_two_records.specs.AtBuckets.{MayActOnBoth, TellsAtBucket
 ghost use Rattle.mlt_tx_two_records.specs.declared.double.Double.TheVariants.{First};
 
 use crate::asked::asked_for;
-use mlt_object_base::Request;
 use mlt_hash::Setting;
 use mlt_hash_access::LockedStore;
-use mlt_object_kinds::ObjReply;
 use mlt_hash_pair::{ChangeAnswer, Changes, Pair, PairAnswer};
+use mlt_object_base::Request;
+use mlt_object_kinds::ObjReply;
 use mlt_page_subtx::Subtx;
 use mlt_types::{PageNo, Pseudo, TxId, Value};
 

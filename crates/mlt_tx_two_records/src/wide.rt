@@ -15,9 +15,9 @@ ghost use Rattle.mlt_tx_two_records.specs.declared.double.Double.TheVariants.{Wi
 ghost use Rattle.mlt_tx_two_records.specs.declared.double.Leg.TheVariants as leg;
 
 use crate::answer::DoubleAnswer;
-use mlt_object_base::{RecChange, Request};
 use mlt_hash::{Setting, Walk, WalkAnswer};
 use mlt_hash_access::LockedStore;
+use mlt_object_base::{RecChange, Request};
 use mlt_object_kinds::ObjReply;
 use mlt_page_subtx::Subtx;
 use mlt_types::{PageNo, Pseudo, Refusal, TxId, Value};

@@ -5,10 +5,10 @@ ghost use Rattle.mlt_work_clients.specs.Places.{scripts_of_clients};
 ghost use Rattle.mlt_work_clients.specs.Workers.{HasWorked, IsFresh};
 
 use crate::worker::work;
-use mlt_work_clients::{Counter, Job, Worked};
-use mlt_work_desk::{Gate, MadeWith, Shared};
 use mlt_script_tree::Script;
 use mlt_types::Pseudo;
+use mlt_work_clients::{Counter, Job, Worked};
+use mlt_work_desk::{Gate, MadeWith, Shared};
 use std::alloc::{AllocError, Global};
 use std::sync::Wait;
 use std::thread;

@@ -8,14 +8,14 @@ ghost use Rattle.mlt_text.specs.Inputs.{GivesWhole};
 ghost use Rattle.mlt_script.specs.Grammar.{IsFirstFault};
 ghost use Rattle.mlt_work.specs.RunTexts.{IsRunOf, IsRunText};
 
-use mlt_work_desk::Gate;
+use crate::running::run;
 use mlt_manager::Manager;
 use mlt_script::parse;
 use mlt_script_serial::{Form, write_report};
-use mlt_text::read_input;
 use mlt_script_tree::{Script, by_client};
+use mlt_text::read_input;
 use mlt_types::{Limits, Pseudo, Refusal};
-use crate::running::run;
+use mlt_work_desk::Gate;
 use std::alloc::Global;
 use std::io::{Read, Write};
 use std::sync::Wait;

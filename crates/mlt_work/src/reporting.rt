@@ -5,10 +5,10 @@ ghost use Rattle.mlt_trace_audit.specs.Agreement.{Agrees};
 ghost use Rattle.mlt_trace_audit.specs.Committed.{IsBaseOfReceipts};
 ghost use Rattle.mlt_manager.specs.Promises.{IsCommittedBaseOf};
 
-use mlt_trace_audit::{audit, committed_receipts_are_the_committed_list};
-use mlt_object_base::Base;
 use mlt_manager::Manager;
+use mlt_object_base::Base;
 use mlt_script_serial::{Outcome, Outcomes, Report};
+use mlt_trace_audit::{audit, committed_receipts_are_the_committed_list};
 use mlt_types::{Pseudo, Refusal};
 use std::alloc::Global;
 use std::thread;

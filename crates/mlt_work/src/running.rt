@@ -7,12 +7,12 @@ ghost use Rattle.mlt_work.specs.Runs.{HasRunAll};
 
 use crate::crew::work_all;
 use crate::reporting::report_of;
-use mlt_work_clients::{Counter, collect, empty_slots, jobs_for};
-use mlt_work_desk::{Gate, Hall, MadeWith, Shared};
 use mlt_manager::Manager;
 use mlt_script_serial::Report;
 use mlt_script_tree::Script;
 use mlt_types::{Limits, Pseudo, Refusal};
+use mlt_work_clients::{Counter, collect, empty_slots, jobs_for};
+use mlt_work_desk::{Gate, Hall, MadeWith, Shared};
 use std::alloc::Global;
 use std::marker::Brand;
 use std::sync::Wait;

@@ -4,11 +4,11 @@ ghost use Rattle.std.specs.Prelude.{◌≡◌, [], length};
 ghost use Rattle.mlt_work_clients.specs.Places.{scripts_of_clients};
 ghost use Rattle.mlt_work_clients.specs.Workers.{HasWorked, IsFresh};
 
-use mlt_work_clients::{ClientRun, Counter, Drawer, Job, Worked};
 use mlt_script_desk::run_client;
-use mlt_work_desk::{Gate, LockDesk, MadeWith, Shared, Tries};
 use mlt_script_tree::Script;
 use mlt_types::Pseudo;
+use mlt_work_clients::{ClientRun, Counter, Drawer, Job, Worked};
+use mlt_work_desk::{Gate, LockDesk, MadeWith, Shared, Tries};
 use std::alloc::Global;
 use std::sync::Wait;
 

@@ -7,9 +7,8 @@ ghost use Rattle.mlt_work_clients.specs.Places.{AreAllOutcomes, HaveRuns, AllHav
 ghost use Rattle.mlt_work_clients.specs.Workers.{HasDrawnPast, HasWorked, view_after_splits};
 
 use crate::forms::{ClientRun, Worked};
+use crate::seats::{Counter, Drawer};
 use crate::slots::place_all;
-use crate::seats::Counter;
-use crate::seats::Drawer;
 use mlt_script_serial::{Outcome, Outcomes};
 use mlt_script_tree::Script;
 use mlt_types::Refusal;

@@ -6,8 +6,7 @@ ghost use Rattle.mlt_work_clients.specs.Seats.{IsOf, view_of};
 ghost use Rattle.mlt_work_clients.specs.Workers.{IsFresh, view_after_splits};
 
 use crate::forms::Job;
-use crate::seats::Counter;
-use crate::seats::Drawer;
+use crate::seats::{Counter, Drawer};
 use std::alloc::{AllocError, Global};
 use std::sync::ledger::{Ledger, Share};
 

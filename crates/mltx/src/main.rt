@@ -7,19 +7,19 @@ ghost use Rattle.std.specs.Prelude.{◌≤◌, ◌<◌};
 ghost use Rattle.mlt_cli.specs.CommandLine.{IsWithinBounds};
 
 use input::Input;
-use mlt_trace_check::check_trace;
 use mlt_cli::{Hash, Job, Run, Serve, Work, read_words, report_command_line, report_fault, status};
 use mlt_manager_laws::{
     aborts_of_a_run_take_few_steps, managers_of_a_run_keep_their_promises,
     operations_of_a_run_take_few_steps,
 };
-use mlt_work::{Shift, run_scripts};
-use mlt_serve::serve_on;
 use mlt_manager_solo::solo;
 use mlt_manager_steps::steps;
+use mlt_serve::serve_on;
 use mlt_text::write_text;
 use mlt_trace::{KeptItem, write_trace};
+use mlt_trace_check::check_trace;
 use mlt_types::{Limits, Low, Mult, Pseudo, Refusal};
+use mlt_work::{Shift, run_scripts};
 use std::fs::File;
 use std::io::ErrorKind;
 use std::net::TcpListener;
