@@ -94,7 +94,7 @@ fn talk_over_manager(
 }
 
 // The session is what is wanted, and where it was alone its receipts are those of the manager's history.
-fn is(talk: &Talk, manager: &Manager<Mult>, session: &Session) -> Result<(), Fail> {
+fn is(alloc: Global, talk: &Talk, manager: &Manager<Mult>, session: &Session) -> Result<(), Fail> {
     talk.is(&session.input, &session.wanted)?;
     same(&manager.base()?.value(7), &session.counter)?;
     if session.beside.is_none() {
@@ -112,7 +112,7 @@ fn are_over_managers(rt: &impl Wait, alloc: Global, sessions: &[Session]) -> Res
         let reader = FaultyReader::of_pieces(session.input, 7);
         let reader = reader.failing(session.reads, ErrorKind::Interrupted);
         let (talk, manager) = talk_over_manager(rt, alloc, manager, reader);
-        let result = is(&talk, &manager, session);
+        let result = is(alloc, &talk, &manager, session);
         manager.close();
         result?;
     }
