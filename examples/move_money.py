@@ -6,20 +6,22 @@
 It uses the client of clients/python, which runs a transaction again that the server gives up.
 """
 
+from __future__ import annotations
+
 import sys
 from pathlib import Path
 
 sys.path.insert(0, str(Path(__file__).resolve().parent.parent / "clients/python"))
-from mltx import Client, MltxError, Operation, Reply  # noqa: E402
+from mltx import Client, MltxError, Operation, Reply, Transaction  # noqa: E402
 
 
-def open_with(tx, account, amount):
+def open_with(tx: Transaction, account: int, amount: int) -> None:
     """Opens an account with an amount in it, if there is none."""
     if tx.open(account) is Reply.OPENED:
         tx.deposit(account, amount)
 
 
-def move(tx, source, target, amount):
+def move(tx: Transaction, source: int, target: int, amount: int) -> bool:
     """Moves an amount, or nothing where the source is short of it. Answers whether it was moved."""
     told = tx.ask_all([Operation.withdraw(source, amount), Operation.deposit(target, amount)])
     if told == [Reply.DONE, Reply.DONE]:
@@ -28,12 +30,12 @@ def move(tx, source, target, amount):
     return False
 
 
-def balances(tx, *accounts):
+def balances(tx: Transaction, *accounts: int) -> list[int | None]:
     """The balances of accounts, at one moment."""
     return tx.ask_all([Operation.balance(account) for account in accounts])
 
 
-def main():
+def main() -> None:
     if len(sys.argv) != 3 or not sys.argv[2].isdecimal():
         sys.exit("move_money.py: it needs a host and a port, as 127.0.0.1 7000")
     with Client(sys.argv[1], int(sys.argv[2])) as client:

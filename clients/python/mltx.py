@@ -268,11 +268,13 @@ _UP = Form("up", (COUNTER, AMOUNT), "the counter so much higher, modulo 2^64", _
 _DOWN = Form("down", (COUNTER, AMOUNT), "the counter so much lower, modulo 2^64", _words(Reply.DONE))
 _READ: Form[int] = Form("read", (COUNTER,), "the counter's value", {}, tells_number=True)
 
+_ALL: tuple[Form[Any], ...] = (
+    *(_OPEN, _CLOSE, _DEPOSIT, _WITHDRAW, _BALANCE),
+    *(_ADD, _REMOVE, _HAS, _SIZE),
+    *(_UP, _DOWN, _READ),
+)
 # The form of each operation by its word.
-FORMS: dict[str, Form[Any]] = {
-    form.word: form
-    for form in (_OPEN, _CLOSE, _DEPOSIT, _WITHDRAW, _BALANCE, _ADD, _REMOVE, _HAS, _SIZE, _UP, _DOWN, _READ)
-}
+FORMS: dict[str, Form[Any]] = {form.word: form for form in _ALL}
 
 
 @dataclass(frozen=True)
@@ -336,6 +338,7 @@ class Operation(Generic[Result]):
         """What the answer stands for. Raises `Refused` where it is an error, and `UnexpectedAnswer` where it is
         none."""
         if self.form.tells_number and answer.startswith("is "):
+            # A form that tells a number has a `Result` that may be one, which no type says.
             return _number_behind("is", answer)  # type: ignore[return-value]
         for reply, result in self.form.results.items():
             if reply.value == answer:

@@ -35,7 +35,8 @@ from mltx import (
 
 try:
     import readline
-except ImportError:  # Lines are read without history and completion.
+except ImportError:
+    # Lines are read without history and completion. The name is that of a module, which mypy does not let be None.
     readline = None  # type: ignore[assignment]
 
 # How many files may run one another by `source`.
@@ -270,8 +271,8 @@ class Shell(cmd.Cmd):
     def completenames(self, text: str, *_ignored: Any) -> list[str]:
         return [f"{word} " for word in (*FORMS, *COMMANDS) if word.startswith(text)]
 
-    def complete_help(self, text: str, *_ignored: Any) -> list[str]:
-        return self.completenames(text)
+    def complete_help(self, *args: Any) -> list[str]:
+        return self.completenames(*args)
 
     def complete_source(self, text: str, line: str, begin: int, end: int) -> list[str]:
         before = line[len("source ") : end].lstrip()
