@@ -1,11 +1,12 @@
 """Writes a scene as an SVG."""
 import re
+from collections.abc import Iterator
 from xml.sax.saxutils import escape
 
 from . import legend
 from .fonts import FAMILY, wrapped
-from .layout import BEFORE_NOTE, EDGE, LABEL_SIZE, MARGIN, MOST_WIDTH, NAME_SIZE, rows
-from .scene import PILL_SIZE
+from .layout import BEFORE_NOTE, EDGE, MARGIN, MOST_WIDTH, NAME_SIZE, Row, rows
+from .scene import LABEL_SIZE, PILL_SIZE, Arrow, Bar, Label, Lane, Mark, Scene
 
 LEAST_WIDTH = 720
 TITLE_SIZE, NOTE_SIZE, NOTE_LINE = 20, 13, 19
@@ -57,33 +58,33 @@ HATCH = (
 )
 
 
-def shape(name, **attributes):
+def shape(name: str, **attributes: float | str) -> str:
     """An element without content. `_` in a name stands for `-`, and a trailing one is dropped."""
     written = (f'{key.rstrip("_").replace("_", "-")}="{_short(value)}"' for key, value in attributes.items())
     return f"<{name} {' '.join(written)}/>"
 
 
-def _short(value):
+def _short(value: float | str) -> str:
     return f"{round(value, 1):g}" if isinstance(value, float) else escape(str(value), {'"': "&quot;"})
 
 
-def text(x, y, words, role, anchor="start"):
+def text(x: float, y: float, words: str, role: str, anchor: str = "start") -> str:
     """A line of text. Words in backticks are set apart."""
     inner = re.sub(r"`([^`]+)`", r'<tspan class="code">\1</tspan>', escape(words))
     anchored = "" if anchor == "start" else f' text-anchor="{anchor}"'
     return f'<text class="{role}" x="{_short(float(x))}" y="{_short(float(y))}"{anchored}>{inner}</text>'
 
 
-def line(role, x1, y1, x2, y2):
+def line(role: str, x1: float, y1: float, x2: float, y2: float) -> str:
     return shape("line", class_=role, x1=float(x1), y1=float(y1), x2=float(x2), y2=float(y2))
 
 
-def box(role, x, y, wide, high, round_=0):
+def box(role: str, x: float, y: float, wide: float, high: float, round_: int = 0) -> str:
     more = {"rx": round_} if round_ else {}
     return shape("rect", class_=role, x=float(x), y=float(y), width=float(wide), height=float(high), **more)
 
 
-def sign(kind, x, y):
+def sign(kind: str, x: float, y: float) -> str:
     """The sign of what happens at a point: two strokes for one that waits, a bar for one that is blocked."""
     if kind == "begin":
         return shape("circle", class_="begin", cx=float(x), cy=float(y), r=5)
@@ -98,7 +99,7 @@ def sign(kind, x, y):
     return inner if kind == "cancelled" else around + inner
 
 
-def head(kind, x, y, up):
+def head(kind: str, x: float, y: float, up: bool) -> str:
     """The head of an arrow, with its point at x, y."""
     back = 9 if up else -9
     path = f"M{_short(float(x))} {_short(float(y))}l-5 {back}h10z"
@@ -108,7 +109,7 @@ def head(kind, x, y, up):
 class _RowDrawing:
     """One row of time: its lanes from `top` down."""
 
-    def __init__(self, scene, row, left, right, top):
+    def __init__(self, scene: Scene, row: Row, left: float, right: float, top: int) -> None:
         self.scene, self.row, self.left, self.right, self.top = scene, row, left, right, top
         is_last = row.last == len(scene.note_at) - 1
         # Where what goes on behind the row ends.
@@ -117,10 +118,10 @@ class _RowDrawing:
         self.tops = {id(lane): first + at * (LANE + LANE_GAP) for at, lane in enumerate(row.lanes)}
         self.bottom = first + len(row.lanes) * (LANE + LANE_GAP) - LANE_GAP + 4
 
-    def middle(self, lane):
+    def middle(self, lane: Lane) -> float:
         return self.tops[id(lane)] + BAR_AT + BAR / 2
 
-    def drawn(self):
+    def drawn(self) -> Iterator[str]:
         """All shapes, those below before those above."""
         yield from self._notes()
         for lane in self.row.lanes:
@@ -134,7 +135,7 @@ class _RowDrawing:
         for label in self.row.labels:
             yield from self._label(label)
 
-    def _notes(self):
+    def _notes(self) -> Iterator[str]:
         """A band for each note's span of time, with its number. Every second one is darker."""
         notes = self.scene.note_at[self.row.first:self.row.last + 1]
         starts = [at for at, note in enumerate(notes) if at == 0 or note != notes[at - 1]]
@@ -147,7 +148,7 @@ class _RowDrawing:
                 yield shape("circle", class_="badge", cx=float(begin + 18), cy=float(self.top + 15), r=ROUND)
                 yield text(begin + 18, self.top + 19, str(note), "number", "middle")
 
-    def _lane(self, lane):
+    def _lane(self, lane: Lane) -> Iterator[str]:
         yield text(MARGIN, self.middle(lane) + 5, lane.name(), "lane")
         if not lane.is_open and lane.closed is None:
             return
@@ -158,24 +159,24 @@ class _RowDrawing:
                 begin, end = self._span(lane.held_from, lane.closed)
                 yield box("held", begin, self.middle(lane) - HELD / 2, end - begin, HELD)
 
-    def _span(self, first, last):
+    def _span(self, first: int, last: int | None) -> tuple[float, float]:
         """Where what lasts from one point to another begins and ends in this row."""
         return self.row.x(first), self.edge if last is None or last > self.row.last else self.row.x(last)
 
-    def _bar(self, bar):
+    def _bar(self, bar: Bar) -> Iterator[str]:
         top = self.tops[id(bar.lane)] + BAR_AT
         begin, end = self._span(bar.first, bar.last)
         yield box(bar.kind, begin, top, end - begin, BAR, 3)
-        for since, until in bar.still:
-            until = bar.last if until is None else until
-            if since <= self.row.last and (until is None or until > max(since, self.row.first)):
-                begin, end = self._span(since, until)
+        for pause in bar.still:
+            until = bar.last if pause.until is None else pause.until
+            if pause.since <= self.row.last and (until is None or until > max(pause.since, self.row.first)):
+                begin, end = self._span(pause.since, until)
                 yield box("still", begin, top, end - begin, BAR)
         for point in bar.ticks:
             if self.row.first <= point <= self.row.last:
                 yield line("tick", self.row.x(point), top + 5, self.row.x(point), top + BAR - 5)
 
-    def _arrow(self, arrow):
+    def _arrow(self, arrow: Arrow) -> Iterator[str]:
         x, up = self.row.x(arrow.point), arrow.goes_up()
         edge = (BAR if arrow.kind == "waiting" else HELD) / 2 + 2
         begin = self.middle(arrow.lane) + (-BAR / 2 if up else BAR / 2)
@@ -184,10 +185,10 @@ class _RowDrawing:
         yield line(arrow.kind, x, begin, x, end + (8 if up else -8))
         yield head(arrow.kind, x, end, up)
 
-    def _mark(self, mark):
+    def _mark(self, mark: Mark) -> Iterator[str]:
         yield sign(mark.kind, self.row.x(mark.point), self.middle(mark.lane))
 
-    def _label(self, label):
+    def _label(self, label: Label) -> Iterator[str]:
         x, top = self.row.x(label.point), self.tops[id(label.lane)]
         middle = x + (label.right - label.left) / 2
         at = {"start": x - label.left, "middle": middle, "end": x + label.right}[label.anchor]
@@ -199,7 +200,7 @@ class _RowDrawing:
             yield text(at, top + down, label.text, label.role, label.anchor)
 
 
-def _left_by_commits(lines):
+def _left_by_commits(lines: list[str]) -> str:
     """The base and the depth at the end, in words."""
     said = {"account": "account {} has {}", "element": "set {} has {}", "counter": "counter {} is {}"}
     *base, depth = [line.split() for line in lines]
@@ -207,9 +208,9 @@ def _left_by_commits(lines):
     return f"What the commits leave: {cells or 'nothing'}. The depth of the directory is {depth[1]}."
 
 
-def _paragraphs(scene, top, wide):
+def _paragraphs(scene: Scene, top: int, wide: float) -> tuple[list[str], int]:
     """The notes and the base at the end, from `top` down, and where they end."""
-    drawn = []
+    drawn: list[str] = []
     for number, note in enumerate(scene.story.notes, 1):
         drawn.append(shape("circle", class_="badge", cx=float(MARGIN + ROUND), cy=float(top - 4), r=ROUND))
         drawn.append(text(MARGIN + ROUND, top, str(number), "number", "middle"))
@@ -225,12 +226,14 @@ def _paragraphs(scene, top, wide):
     return drawn, top
 
 
-def picture(scene, title, about):
+def picture(scene: Scene, title: str, about: str) -> str:
     """The whole SVG, with a title and a line about it."""
     placed, left = rows(scene)
     wide = max([LEAST_WIDTH, *(row.right for row in placed)])
     wide = max(wide, MOST_WIDTH) if len(placed) > 1 else wide
-    heading, drawn, top = [], [], 34
+    heading: list[str] = []
+    drawn: list[str] = []
+    top = 34
     for part in wrapped(title, TITLE_SIZE * 1.13, wide - 2 * MARGIN):
         heading.append(text(MARGIN, top, part, "picture"))
         top += 26
@@ -259,5 +262,5 @@ def picture(scene, title, about):
     ])
 
 
-def _group(name, shapes):
+def _group(name: str, shapes: list[str]) -> list[str]:
     return [f'<g class="{name}">', *shapes, "</g>"]

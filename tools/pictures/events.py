@@ -1,13 +1,16 @@
 """Reads schedules with their answers, and traces, by docs/FORMATS.md: what comes out is a list of moments."""
 import re
+from collections.abc import Iterator
 from dataclasses import dataclass
+from typing import NamedTuple
 
 MOST_BYTES = 200
 MOST_STEPS = 1_000
 BIG, CELL, SET = 2**64, 2**32, 2**16
 # Of each operation the ends of its numbers' ranges: those that name its cell, and that of its amount.
+Ends = tuple[int, ...]
 ACCOUNT, ELEMENT, COUNTER = (CELL,), (SET, CELL), (CELL,)
-OPERATIONS = {
+OPERATIONS: dict[str, tuple[Ends, Ends]] = {
     **dict.fromkeys(("open", "close", "balance"), (ACCOUNT, ())),
     **dict.fromkeys(("deposit", "withdraw"), (ACCOUNT, (BIG,))),
     **dict.fromkeys(("add", "remove", "has"), (ELEMENT, ())),
@@ -41,8 +44,26 @@ BASE = r"account \d{1,20} \d{1,20}|element \d{1,20} \d{1,20}|counter \d{1,20} \d
 class Faulty(Exception):
     """A text is none that can be drawn."""
 
-    def __init__(self, name, line, why):
+    def __init__(self, name: str, line: int, why: str) -> None:
         super().__init__(f"{name} line {line}: {why}")
+
+
+class Event(NamedTuple):
+    """An event of a schedule: its kind, its transaction, its operation, and how many times it is asked for."""
+
+    kind: str
+    number: int | None
+    operation: str
+    times: int
+
+
+class Item(NamedTuple):
+    """A line of a trace: its kind, its transaction, its operation, and what would be told of it."""
+
+    kind: str
+    number: int
+    operation: str
+    answer: str
 
 
 @dataclass(frozen=True)
@@ -51,23 +72,23 @@ class Moment:
     `place` says where it was told, as an error names it."""
 
     kind: str
-    number: "int | None"
+    number: int | None
     operation: str
     answer: str
     note: int
-    place: tuple
+    place: tuple[str, int]
 
 
 @dataclass(frozen=True)
 class Story:
     """All moments, the comments by their numbers, and the lines that tell of the end."""
 
-    moments: list
-    notes: list
-    end: list
+    moments: list[Moment]
+    notes: list[str]
+    end: list[str]
 
 
-def _lines(name, data):
+def _lines(name: str, data: bytes) -> Iterator[tuple[int, bytes]]:
     """The lines of a text with their numbers."""
     parts = data.split(b"\n")
     for number, line in enumerate(parts if parts[-1] else parts[:-1], 1):
@@ -76,38 +97,39 @@ def _lines(name, data):
         yield number, (line[:-1] if line.endswith(b"\r") else line)
 
 
-def _words(name, number, line):
+def _words(name: str, number: int, line: bytes) -> list[str]:
     """The words of a line that is no comment."""
     if any(not (byte == 9 or 0x20 <= byte <= 0x7E) for byte in line):
         raise Faulty(name, number, "a byte that is not allowed")
     return line.decode("ascii").split()
 
 
-def _number(word, end, least=0):
+def _number(word: str, end: int, least: int = 0) -> int | None:
     """The number that a word is, or None."""
     if not re.fullmatch(r"[0-9]{1,20}", word):
         return None
     return int(word) if least <= int(word) < end else None
 
 
-def _operation(words):
+def _operation(words: list[str]) -> str | None:
     """The operation that these words are, as it is printed, or None."""
     if not words or words[0] not in OPERATIONS:
         return None
-    ends = sum(OPERATIONS[words[0]], ())
+    of_cell, of_amount = OPERATIONS[words[0]]
+    ends = of_cell + of_amount
     numbers = [_number(word, end) for word, end in zip(words[1:], ends)]
     if len(words) - 1 != len(ends) or None in numbers:
         return None
     return " ".join([words[0], *map(str, numbers)])
 
 
-def cell(operation):
+def cell(operation: str) -> tuple[str, ...]:
     """The cell of an operation: its kind and the numbers that name it."""
     name, *numbers = operation.split()
     return (KINDS[name], *numbers[:len(OPERATIONS[name][0])])
 
 
-def meet(one, other):
+def meet(one: str, other: str) -> bool:
     """Whether two operations are on one cell, or one of them is on the size of a set, and the other puts an element into
     that set or takes one out."""
     words = [operation.split() for operation in (one, other)]
@@ -115,24 +137,24 @@ def meet(one, other):
     return cell(one) == cell(other) or cell(one) in sizes or cell(other) in sizes
 
 
-def _event(words):
-    """The kind, the transaction, the operation and the count of the event that these words are, or None."""
+def _event(words: list[str]) -> Event | None:
+    """The event that these words are, or None."""
     kind, rest = words[0], words[1:]
     if kind == "begin":
-        return (kind, None, "", 1) if not rest else None
+        return Event(kind, None, "", 1) if not rest else None
     number = _number(rest[0], BIG) if rest else None
     if kind not in ANSWERS or number is None:
         return None
     if kind in ("call", "whole"):
         operation = _operation(rest[1:])
-        return (kind, number, operation, 1) if operation else None
+        return Event(kind, number, operation, 1) if operation else None
     if kind == "step" and len(rest) == 2:
-        count = _number(rest[1], MOST_STEPS + 1, 1)
-        return (kind, number, "", count) if count else None
-    return (kind, number, "", 1) if len(rest) == 1 else None
+        times = _number(rest[1], MOST_STEPS + 1, 1)
+        return Event(kind, number, "", times) if times else None
+    return Event(kind, number, "", 1) if len(rest) == 1 else None
 
 
-def printable(text):
+def printable(text: str) -> str:
     """The text with a space for each character that a picture can't have."""
     return re.sub(r"[^\x20-\x7e\u00a1-\ud7ff\ue000-\ufffd]", " ", text)
 
@@ -140,11 +162,12 @@ def printable(text):
 class _Notes:
     """Comments, put together where they follow one another."""
 
-    def __init__(self):
-        self.texts, self.inside = [], False
+    def __init__(self) -> None:
+        self.texts: list[str] = []
+        self.inside = False
 
-    def say(self, line):
-        """Takes a comment, and returns nothing."""
+    def say(self, line: bytes) -> None:
+        """Takes a comment."""
         text = printable(line.decode(errors="replace")).strip().lstrip("#").strip()
         if self.inside and text:
             self.texts[-1] = f"{self.texts[-1]} {text}".strip()
@@ -153,7 +176,7 @@ class _Notes:
         self.inside = self.inside or bool(text)
 
 
-def _events(name, data, notes):
+def _events(name: str, data: bytes, notes: _Notes) -> Iterator[tuple[int, Event, int]]:
     """Each event of a schedule: its line, what it is, and the number of its note."""
     for number, line in _lines(name, data):
         if line.lstrip(b" \t").startswith(b"#"):
@@ -169,19 +192,20 @@ def _events(name, data, notes):
         yield number, event, len(notes.texts)
 
 
-def check_schedule(name, data):
+def check_schedule(name: str, data: bytes) -> None:
     """Nothing, where the text is a schedule."""
     for _ in _events(name, data, _Notes()):
         pass
 
 
-def schedule(name, data, answers_name, answers):
+def schedule(name: str, data: bytes, answers_name: str, answers: bytes) -> Story:
     """The story of a schedule and what `steps` wrote of it."""
-    notes, moments = _Notes(), []
+    notes = _Notes()
+    moments: list[Moment] = []
     told = [(number, line.decode(errors="replace")) for number, line in _lines(answers_name, answers)]
     events = list(_events(name, data, notes))
-    for line, (kind, number, operation, count), note in events:
-        for _ in range(count):
+    for line, (kind, number, operation, times), note in events:
+        for _ in range(times):
             if len(moments) == len(told):
                 raise Faulty(answers_name, len(told) + 1, f"no answer to `{kind}` of line {line} of {name}")
             place, answer = told[len(moments)]
@@ -189,32 +213,32 @@ def schedule(name, data, answers_name, answers):
                 raise Faulty(answers_name, place, f"`{answer}` is no answer to `{kind}` of line {line} of {name}")
             moments.append(Moment(kind, number, operation, answer, note, (answers_name, place)))
     end = told[len(moments):]
-    for at, (place, line) in enumerate(end):
-        if not re.fullmatch(r"depth \d{1,2}" if at == len(end) - 1 else BASE, line):
-            why = f"`{line}` is no line of the base or of the depth, or is not in its place"
+    for at, (place, words) in enumerate(end):
+        if not re.fullmatch(r"depth \d{1,2}" if at == len(end) - 1 else BASE, words):
+            why = f"`{words}` is no line of the base or of the depth, or is not in its place"
             raise Faulty(answers_name, place, why)
     if not end:
         raise Faulty(answers_name, len(told) + 1, "the base and the depth are missing")
-    return Story(moments, notes.texts, [line for _, line in end])
+    return Story(moments, notes.texts, [words for _, words in end])
 
 
-def _item(words):
-    """The kind, the transaction, the operation and the answer of the item that these words are, or None."""
+def _item(words: list[str]) -> Item | None:
+    """The item that these words are, or None."""
     kind, number = words[0], _number(words[1], BIG, 1) if len(words) > 1 else None
     if number is None:
         return None
     if kind == "op":
         split = len(words) - (2 if words[-2] == "is" else 1)
         operation, reply = _operation(words[2:split]), " ".join(words[split:])
-        return ("whole", number, operation, f"done {reply}") if operation and re.fullmatch(REPLY, reply) else None
+        return Item("whole", number, operation, f"done {reply}") if operation and re.fullmatch(REPLY, reply) else None
     if kind == "commit":
         commit = _number(words[2], BIG, 1) if len(words) == 3 else None
-        return ("commit", number, "", f"committed {commit}") if commit else None
+        return Item("commit", number, "", f"committed {commit}") if commit else None
     answer = {"begin": f"begun {number}", "back": "undone", "abort": "aborted"}.get(kind)
-    return (kind, number, "", answer) if answer and len(words) == 2 else None
+    return Item(kind, number, "", answer) if answer and len(words) == 2 else None
 
 
-def trace(name, data):
+def trace(name: str, data: bytes) -> Story:
     """The story of a trace."""
     moments = []
     for number, line in _lines(name, data):

@@ -11,13 +11,13 @@ _WIDTH = {character: width for width, characters in _WIDTHS.items() for characte
 _WIDEST, _BOLD = 101, 1.13
 
 
-def width(text, size, bold=False):
+def width(text: str, size: float, bold: bool = False) -> float:
     """The most pixels that the text takes."""
     hundredths = sum(_WIDTH.get(character, _WIDEST) for character in text)
     return hundredths * size / 100 * (_BOLD if bold else 1)
 
 
-def wrapped(text, size, room):
+def wrapped(text: str, size: float, room: float) -> list[str]:
     """The lines of the text in so many pixels. A word that is longer has a line of its own; words with a no-break space
     between them stay together."""
     lines = [""]

@@ -1,9 +1,11 @@
 """Gives points their places. Time that does not fit into one width goes on in the next row, as in a score."""
+from collections.abc import Iterator
 from dataclasses import dataclass
 from itertools import accumulate
+from math import inf
 
 from .fonts import width
-from .scene import LABEL_SIZE, Label
+from .scene import LABEL_SIZE, Arrow, Bar, Label, Lane, Mark, Scene
 
 # The most pixels of a picture's width, and what is left free at its edges.
 MOST_WIDTH, MARGIN = 1000, 16
@@ -19,6 +21,9 @@ SPARES = (0, 60, 120)
 # What it costs to begin a row, to cut a bar or an open transaction by that, and to begin one inside a note.
 ROW_COST, BAR_COST, LANE_COST, NOTE_COST = 10, 8, 1, 3
 
+# Two points, and how many pixels have to lie between them.
+Demand = tuple[int, int, float]
+
 
 @dataclass(frozen=True)
 class Row:
@@ -29,25 +34,25 @@ class Row:
     base: int
     first: int
     last: int
-    places: list
-    lanes: list
-    bars: list
-    labels: list
-    arrows: list
-    marks: list
+    places: list[float]
+    lanes: list[Lane]
+    bars: list[Bar]
+    labels: list[Label]
+    arrows: list[Arrow]
+    marks: list[Mark]
     right: float
 
-    def x(self, point):
+    def x(self, point: int) -> float:
         """The place of a point, or of the end of the row that it lies beyond."""
         return self.places[min(max(point, self.base), self.last) - self.base]
 
 
-def rows(scene):
+def rows(scene: Scene) -> tuple[list[Row], float]:
     """The rows of a scene, and how many pixels the names of lanes take."""
     left = MARGIN + max((width(lane.name(), NAME_SIZE, bold=True) for lane in scene.lanes.values()), default=0) + 24
     if not scene.note_at:
         return [], left
-    placed = []
+    placed: list[Row] = []
     for spare in SPARES:
         parts = [_Part(scene, first, last) for first, last in _breaks(scene, MOST_WIDTH - left - MARGIN - EDGE - spare)]
         placed = [part.row(left) for part in parts]
@@ -56,11 +61,11 @@ def rows(scene):
     return placed, left
 
 
-def _breaks(scene, room):
+def _breaks(scene: Scene, room: float) -> list[tuple[int, int]]:
     """The first and the last point of each row, at the least cost."""
     count, prices = len(scene.note_at), _prices(scene)
     reaches = _Part(scene, 0, count - 1).reaches()
-    costs, froms = [0] + [None] * count, [0] * (count + 1)
+    costs, froms = [0] + [inf] * count, [0] * (count + 1)
     for end in range(1, count + 1):
         low, high = reaches[end - 1]
         for begin in range(end - 1, -1, -1):
@@ -68,7 +73,7 @@ def _breaks(scene, room):
             if begin < end - 1 and high - low > room:
                 break
             cost = costs[begin] + prices[begin]
-            if costs[end] is None or cost < costs[end]:
+            if cost < costs[end]:
                 costs[end], froms[end] = cost, begin
     found, end = [], count
     while end:
@@ -77,7 +82,7 @@ def _breaks(scene, room):
     return found[::-1]
 
 
-def _prices(scene):
+def _prices(scene: Scene) -> list[int]:
     """What it costs to begin a row at each point."""
     count, notes = len(scene.note_at), scene.note_at
     prices = [ROW_COST + NOTE_COST * (point > 0 and notes[point] == notes[point - 1]) for point in range(count)]
@@ -92,7 +97,7 @@ def _prices(scene):
 class _Part:
     """What of a scene lies between two points."""
 
-    def __init__(self, scene, first, last):
+    def __init__(self, scene: Scene, first: int, last: int) -> None:
         self.scene, self.first, self.last = scene, first, last
         self.base = first - 1 if first else first
         self.lanes = [lane for lane in scene.ordered() if lane.first <= last and first <= lane.seen]
@@ -103,14 +108,14 @@ class _Part:
         self.labels += [self._title(bar) for bar in self.bars]
         self.labels.sort(key=lambda label: label.point)
 
-    def _title(self, bar):
+    def _title(self, bar: Bar) -> Label:
         """What stands over a bar, with dots where it began in an earlier row."""
         text = bar.title() if bar.first >= self.first else f".. {bar.title()}"
         return Label(bar.lane, "top", max(bar.first, self.base), text, "title", 0, width(text, LABEL_SIZE), "start")
 
-    def _demands(self):
-        """What has to lie how far apart: two points, and the pixels between them."""
-        by_row = {}
+    def _demands(self) -> Iterator[Demand]:
+        """What has to lie how far apart."""
+        by_row: dict[tuple[int, str], list[Label]] = {}
         for label in self.labels:
             by_row.setdefault((id(label.lane), label.row), []).append(label)
         for labels in by_row.values():
@@ -126,7 +131,7 @@ class _Part:
                 yield from _around(arrow.point, by_row.get((id(lane), row), []))
         yield from self._between_notes()
 
-    def _between_notes(self):
+    def _between_notes(self) -> Iterator[Demand]:
         """A note's part begins behind the signs of the one before."""
         signs = {label.point: label.right for label in self.labels if label.row == "bar"}
         for point in range(self.first, self.last):
@@ -134,7 +139,7 @@ class _Part:
                 for before in range(max(self.first, point - 4), point + 1):
                     yield before, point + 1, signs.get(before, 0) + BEFORE_NOTE + 6
 
-    def _crossed(self, arrow):
+    def _crossed(self, arrow: Arrow) -> list[tuple[Lane, str]]:
         """The rows of labels that an arrow crosses."""
         near, far = ("top", "low") if arrow.goes_up() else ("low", "top")
         low, high = sorted((arrow.lane.order(), arrow.target.order()))
@@ -142,9 +147,9 @@ class _Part:
         whole = [(lane, row) for lane in between for row in ("top", "bar", "low")]
         return [(arrow.lane, near), (arrow.target, far), *whole]
 
-    def places(self):
+    def places(self) -> list[float]:
         """The places of the points, the first of which is at 0. What is too close is drawn apart evenly."""
-        gaps = [LEAST] * (self.last - self.base)
+        gaps: list[float] = [LEAST] * (self.last - self.base)
         short = [(high - low, low, high, room) for low, high, room in self._demands() if room > LEAST * (high - low)]
         for count, low, high, room in sorted(short):
             low, high = low - self.base, high - self.base
@@ -153,7 +158,7 @@ class _Part:
                 gaps[gap] += lacking / count
         return list(accumulate(gaps, initial=0))
 
-    def reaches(self):
+    def reaches(self) -> list[tuple[float, float]]:
         """How far to the left and to the right each point with its labels reaches."""
         reaches = [(place, place + LEAST / 2) for place in self.places()]
         places = [place for place, _ in reaches]
@@ -163,7 +168,7 @@ class _Part:
             reaches[at] = min(low, places[at] - label.left), max(high, places[at] + label.right)
         return reaches
 
-    def row(self, left):
+    def row(self, left: float) -> Row:
         reaches, edge = self.reaches(), left - EDGE * (self.base < self.first)
         shift = max(edge, edge - min(low for low, _ in reaches))
         places = [shift + place for place in self.places()]
@@ -172,7 +177,7 @@ class _Part:
         return Row(self.base, self.first, self.last, places, *kept, right)
 
 
-def _around(point, labels):
+def _around(point: int, labels: list[Label]) -> Iterator[Demand]:
     """What the nearest labels before and behind an arrow demand of it."""
     before = [label for label in labels if label.point < point]
     behind = [label for label in labels if label.point > point]

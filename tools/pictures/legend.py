@@ -1,7 +1,10 @@
 """The legend: what each operation and each sign means, of those alone that occur."""
+from collections.abc import Iterator
+
 from . import draw
 from .fonts import width
 from .layout import MARGIN
+from .scene import Scene
 
 SAMPLE, BETWEEN, LINE = 40, 24, 26
 # What an operation asks for.
@@ -36,7 +39,7 @@ SIGNS = {
 }
 
 
-def _sample(kind, x, y):
+def _sample(kind: str, x: float, y: int) -> list[str]:
     """A sample of a sign, `SAMPLE` pixels wide, around y."""
     if kind in ("operation", "undo", "still"):
         return [draw.box(kind, x, y - 8, SAMPLE, 16, 0 if kind == "still" else 3)]
@@ -52,9 +55,9 @@ def _sample(kind, x, y):
     return [draw.sign(kind, x + SAMPLE / 2, y)]
 
 
-def _operations(scene):
+def _operations(scene: Scene) -> Iterator[str]:
     """The first operation of each name, with what it asks for."""
-    first = {}
+    first: dict[str, str] = {}
     for bar in scene.bars:
         if bar.kind == "operation":
             first.setdefault(bar.text.split()[0], bar.text)
@@ -62,14 +65,15 @@ def _operations(scene):
         yield f"`{operation}` {ASKED[name].format(*operation.split()[1:])}"
 
 
-def drawn(scene, top, wide):
+def drawn(scene: Scene, top: int, wide: float) -> tuple[list[str], int]:
     """The legend from `top` down, and where the picture ends."""
     kinds = scene.kinds()
     signs = SIGNS if "tick" in kinds else {**SIGNS, "operation": "an operation with its reply"}
     items = [("", words) for words in _operations(scene)] + [it for it in signs.items() if it[0] in kinds]
     if not items:
         return [], top
-    shapes, x = [draw.line("life", MARGIN, top - 6, wide - MARGIN, top - 6)], MARGIN
+    shapes = [draw.line("life", MARGIN, top - 6, wide - MARGIN, top - 6)]
+    x: float = MARGIN
     top += 16
     for at, (kind, words) in enumerate(items):
         room = width(words, draw.NOTE_SIZE) + (SAMPLE + 8 if kind else 0)

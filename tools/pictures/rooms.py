@@ -1,4 +1,5 @@
 """Draws the rooms of the crates, from what is lowest up: what each is, its crates, and the rooms that it stands on."""
+from collections.abc import Iterator
 from dataclasses import dataclass
 from xml.sax.saxutils import escape
 
@@ -33,14 +34,14 @@ class Room:
 
     name: str
     about: str
-    crates: list
-    below: list
+    crates: list[str]
+    below: list[str]
 
 
 class _Box:
     """Where a room is drawn, with its lines of text."""
 
-    def __init__(self, room, left, right):
+    def __init__(self, room: Room, left: float, right: float) -> None:
         self.room, self.left, self.right = room, left, right
         inner = right - left - 2 * INSIDE
         self.shift = width(room.name, NAME_SIZE, bold=True) + 10
@@ -50,10 +51,10 @@ class _Box:
         self.high = LINE * (len(self.about) + len(self.crates)) + 12
         self.top = self.bottom = 0.0
 
-    def put(self, top, high):
+    def put(self, top: float, high: float) -> None:
         self.top, self.bottom = top, top + high
 
-    def drawn(self, is_apart):
+    def drawn(self, is_apart: bool) -> Iterator[str]:
         yield box("apart" if is_apart else "room", self.left, self.top, self.right - self.left, self.bottom - self.top, 4)
         x, y = self.left + INSIDE, self.top + LINE
         yield text(x, y, self.room.name, "lane")
@@ -64,34 +65,38 @@ class _Box:
                 yield text(x, y, words, role)
 
 
-def _short(room):
+def _short(room: Room) -> list[str]:
     """The names of the crates of a room, each but the first one without what it shares with all."""
     whole = room.crates[0] if len(room.crates) == 1 else f"mlt_{room.name}"
     first = whole if whole in room.crates else room.crates[0]
     return [first, *(crate.removeprefix(whole) for crate in room.crates if crate != first)]
 
 
-def _levels(rooms):
+def _levels(rooms: list[Room]) -> tuple[list[list[str]], dict[str, list[str]]]:
     """The names of the rooms level by level, the lowest first: each lies as near as may be below what stands on it."""
-    below, heights = {room.name: room.below for room in rooms}, {}
+    below = {room.name: room.below for room in rooms}
+    heights: dict[str, int] = {}
 
-    def height(name):
+    def height(name: str) -> int:
         if name not in heights:
             heights[name] = 1 + max(map(height, below[name]), default=-1)
         return heights[name]
 
     above = {name: [other for other in below if name in below[other]] for name in below}
-    levels = {}
+    levels: dict[str, int] = {}
     for name in sorted(below, key=height, reverse=True):
         levels[name] = min((levels[other] - 1 for other in above[name]), default=height(name))
     return [[name for name in below if levels[name] == level] for level in range(max(levels.values()) + 1)], above
 
 
-def _placed(rooms, levels, above, right):
+def _placed(
+    rooms: list[Room], levels: list[list[str]], above: dict[str, list[str]], right: float
+) -> dict[str, _Box]:
     """A box for each room, side by side on its level, below what stands on it; those that nothing stands on come first."""
-    known, placed = {room.name: room for room in rooms}, {}
+    known = {room.name: room for room in rooms}
+    placed: dict[str, _Box] = {}
 
-    def middle(name):
+    def middle(name: str) -> float:
         over = [placed[other] for other in above[name]]
         return sum((it.left + it.right) / 2 for it in over) / max(len(over), 1)
 
@@ -102,7 +107,7 @@ def _placed(rooms, levels, above, right):
     return placed
 
 
-def _put(levels, placed, top):
+def _put(levels: list[list[str]], placed: dict[str, _Box], top: float) -> float:
     """Gives the boxes their heights, the highest level first, and answers where they end."""
     for names in reversed(levels):
         high = max(placed[name].high for name in names)
@@ -112,9 +117,10 @@ def _put(levels, placed, top):
     return top - ABOVE
 
 
-def _lanes(rooms, level_of):
+def _lanes(rooms: list[Room], level_of: dict[str, int]) -> tuple[dict[tuple[str, str], int], int]:
     """For each arrow that passes by a level its lane at the right edge: the first one that is free all along it."""
-    taken, lanes = [], {}
+    taken: list[set[int]] = []
+    lanes: dict[tuple[str, str], int] = {}
     for room in reversed(rooms):
         for name in room.below:
             span = set(range(level_of[name], level_of[room.name] + 1))
@@ -127,13 +133,13 @@ def _lanes(rooms, level_of):
     return lanes, len(taken)
 
 
-def _head(x, y, to_left):
+def _head(x: float, y: float, to_left: bool) -> str:
     """The head of an arrow that ends at x, y."""
     tail = "l9 -5v10z" if to_left else "l-5 -9h10z"
     return shape("path", class_="head-stands", d=f"M{x:g} {y:g}{tail}")
 
 
-def _down(upper, lower):
+def _down(upper: _Box, lower: _Box) -> Iterator[str]:
     """An arrow to the next level, straight where one box lies above the other."""
     low, high = max(upper.left, lower.left), min(upper.right, lower.right)
     ends = [(low + high) / 2] * 2 if low < high else [(it.left + it.right) / 2 for it in (upper, lower)]
@@ -146,7 +152,7 @@ def _down(upper, lower):
     yield _head(end, lower.top, False)
 
 
-def _beside(upper, lower, x):
+def _beside(upper: _Box, lower: _Box, x: float) -> Iterator[str]:
     """An arrow that passes by what lies between, from one right side to another."""
     begin, end = ((it.top + it.bottom) / 2 + shift for it, shift in ((upper, 6), (lower, -6)))
     yield line("stands", upper.right, begin, x, begin)
@@ -155,7 +161,7 @@ def _beside(upper, lower, x):
     yield _head(lower.right, end, True)
 
 
-def picture(rooms, apart):
+def picture(rooms: list[Room], apart: str) -> str:
     """The whole SVG. The room `apart` is one that tests alone stand on."""
     levels, above = _levels(rooms)
     level_of = {name: level for level, names in enumerate(levels) for name in names}

@@ -1,8 +1,11 @@
 """What is to be seen of a story: lanes, bars, marks, arrows and labels, each at its points of time. Points are counted
 from 0; how far apart they are is left to the layout."""
-from dataclasses import dataclass, field
+from __future__ import annotations
 
-from .events import Faulty, meet
+from dataclasses import dataclass, field
+from typing import NoReturn
+
+from .events import Faulty, Moment, Story, meet
 from .fonts import width
 
 LABEL_SIZE, PILL_SIZE, PILL_PAD = 13, 12, 7
@@ -13,20 +16,28 @@ ENDING = ("1", "2")
 
 
 @dataclass
+class Pause:
+    """What stood still from one point to another, which is not known yet while it does."""
+
+    since: int
+    until: int | None = None
+
+
+@dataclass
 class Bar:
     """An operation (`operation`), or what takes one back (`undo`), from its first point to its last. It stood still
-    between the points of each of `still`."""
+    in each of `still`."""
 
-    lane: "Lane"
+    lane: Lane
     kind: str
     first: int
     text: str
-    last: "int | None" = None
+    last: int | None = None
     reply: str = ""
-    ticks: list = field(default_factory=list)
-    still: list = field(default_factory=list)
+    ticks: list[int] = field(default_factory=list)
+    still: list[Pause] = field(default_factory=list)
 
-    def title(self):
+    def title(self) -> str:
         return f"takes back {self.text}" if self.kind == "undo" else self.text
 
 
@@ -34,21 +45,21 @@ class Bar:
 class Lane:
     """A transaction. `closed` is the point of its end, `seen` the last at which something is drawn in it."""
 
-    number: "int | None"
+    number: int | None
     first: int
     is_open: bool
-    closed: "int | None" = None
+    closed: int | None = None
     seen: int = 0
-    bar: "Bar | None" = None
+    bar: Bar | None = None
     undoing: bool = False
-    standing: list = field(default_factory=list)
-    held: list = field(default_factory=list)
-    held_from: "int | None" = None
+    standing: list[str] = field(default_factory=list)
+    held: list[str] = field(default_factory=list)
+    held_from: int | None = None
 
-    def name(self):
+    def name(self) -> str:
         return "no transaction" if self.number is None else f"transaction {self.number}"
 
-    def order(self):
+    def order(self) -> int:
         return -1 if self.number is None else self.number
 
 
@@ -75,7 +86,7 @@ class Arrow:
     target: Lane
     point: int
 
-    def goes_up(self):
+    def goes_up(self) -> bool:
         return self.target.order() < self.lane.order()
 
 
@@ -91,9 +102,15 @@ class Mark:
 class Scene:
     """All that is to be seen. `note_at` has the number of the note of each point."""
 
-    def __init__(self, story):
-        self.story, self.lanes, self.note_at = story, {}, []
-        self.bars, self.labels, self.arrows, self.marks = [], [], [], []
+    def __init__(self, story: Story) -> None:
+        self.story = story
+        # By their transactions; that without one has None.
+        self.lanes: dict[int | None, Lane] = {}
+        self.note_at: list[int] = []
+        self.bars: list[Bar] = []
+        self.labels: list[Label] = []
+        self.arrows: list[Arrow] = []
+        self.marks: list[Mark] = []
         self.commits, self.latest = 0, 0
         for moment in story.moments:
             self._tell(moment)
@@ -102,18 +119,18 @@ class Scene:
                 lane.seen = len(self.note_at) - 1
                 self._label(lane, "bar", lane.seen, "still open", "open", "behind")
 
-    def ordered(self):
+    def ordered(self) -> list[Lane]:
         """The lanes from top to bottom."""
         return sorted(self.lanes.values(), key=Lane.order)
 
-    def kinds(self):
+    def kinds(self) -> set[str]:
         """The kinds of all that occurs, for the legend."""
-        found = {it.kind for it in (*self.marks, *self.bars)} | {label.role for label in self.labels}
+        found = {mark.kind for mark in self.marks} | {bar.kind for bar in self.bars} | {label.role for label in self.labels}
         found |= {"tick" for bar in self.bars if bar.ticks}
-        found |= {"still" for bar in self.bars if any(until is None or since < until for since, until in bar.still)}
+        found |= {"still" for bar in self.bars if any(it.until is None or it.since < it.until for it in bar.still)}
         return found | {"held" for lane in self.lanes.values() if lane.held}
 
-    def _tell(self, moment):
+    def _tell(self, moment: Moment) -> None:
         word, _, rest = moment.answer.partition(" ")
         if moment.kind == "begin" and word == "begun":
             self._begin(moment, int(rest))
@@ -126,24 +143,24 @@ class Scene:
             self._fault(moment, f"transaction {moment.number} is not open")
         getattr(self, f"_{moment.kind}")(lane, moment)
 
-    def _fault(self, moment, why):
+    def _fault(self, moment: Moment, why: str) -> NoReturn:
         raise Faulty(*moment.place, f"`{moment.answer}`: {why}")
 
-    def _point(self, moment, *lanes):
+    def _point(self, moment: Moment, *lanes: Lane) -> int:
         self.note_at.append(moment.note)
         point = len(self.note_at) - 1
         for lane in lanes:
             lane.seen = max(lane.seen, point)
         return point
 
-    def _begin(self, moment, number):
+    def _begin(self, moment: Moment, number: int) -> None:
         if number <= self.latest:
             self._fault(moment, f"the number is not above {self.latest}, which has begun")
         self.latest = number
         lane = self.lanes[number] = Lane(number, len(self.note_at), is_open=True)
         self.marks.append(Mark("begin", lane, self._point(moment, lane)))
 
-    def _refuse(self, lane, moment, why):
+    def _refuse(self, lane: Lane | None, moment: Moment, why: str) -> None:
         if lane is None:
             lane = self.lanes[moment.number] = Lane(moment.number, len(self.note_at), is_open=False)
         ends = moment.kind in ("step", "whole") and why.split()[0] in ENDING
@@ -153,31 +170,31 @@ class Scene:
         self.marks.append(Mark("refused", lane, point))
         self.labels.append(Label(lane, "bar", point, "", "sign", 8, 8, "middle"))
         if lane.bar and ends:
-            self._stop(lane, point, moment.answer)
+            self._stop(lane.bar, point, moment.answer)
         else:
             self._label(lane, "top", point, f"{moment.kind} {moment.operation}".strip(), "event", "middle")
             self._label(lane, "low", point, moment.answer, "reply", "middle")
 
-    def _call(self, lane, moment):
+    def _call(self, lane: Lane, moment: Moment) -> None:
         if lane.bar or lane.undoing:
             self._fault(moment, f"transaction {lane.number} has an operation that runs, or is undone")
         self._start(lane, "operation", moment.operation, self._point(moment, lane))
 
-    def _whole(self, lane, moment):
+    def _whole(self, lane: Lane, moment: Moment) -> None:
         self._call(lane, moment)
         self._step(lane, moment)
         if lane.bar:
-            self._stop(lane, lane.seen)
+            self._stop(lane.bar, lane.seen)
 
-    def _back(self, lane, moment):
+    def _back(self, lane: Lane, moment: Moment) -> None:
         """A line of a trace: an operation is taken back."""
         if not lane.standing:
             self._fault(moment, f"transaction {lane.number} has no operation left")
         lane.undoing = True
-        self._start(lane, "undo", lane.standing.pop(), self._point(moment, lane))
-        self._stop(lane, self._point(moment, lane))
+        bar = self._start(lane, "undo", lane.standing.pop(), self._point(moment, lane))
+        self._stop(bar, self._point(moment, lane))
 
-    def _step(self, lane, moment):
+    def _step(self, lane: Lane, moment: Moment) -> None:
         bar, word = lane.bar, moment.answer.split()[0]
         may_be_told = ("undone", "aborted") if lane.undoing else ("done", "blocked")
         if bar is None or word not in (*may_be_told, "going", "waiting"):
@@ -190,21 +207,22 @@ class Scene:
             lane.standing.append(bar.text)
             lane.held.append(bar.text)
             lane.held_from = point if lane.held_from is None else lane.held_from
-            self._stop(lane, point, moment.answer.partition(" ")[2])
+            self._stop(bar, point, moment.answer.partition(" ")[2])
         elif word == "undone":
             lane.standing.pop()
-            self._stop(lane, point, word)
+            self._stop(bar, point, word)
             self._take_back(lane, moment, point)
         elif word == "aborted":
             bar.text = _named(lane.standing[::-1], " then ")
-            self._stop(lane, point)
+            self._stop(bar, point)
             self._close(lane, point, word, "aborted")
         else:
-            self._stand_still(lane, moment, point)
+            self._stand_still(bar, moment, point)
 
     _undo = _step
 
-    def _stand_still(self, lane, moment, point):
+    def _stand_still(self, bar: Bar, moment: Moment, point: int) -> None:
+        lane = bar.lane
         kind, _, number = moment.answer.split()
         target = self.lanes.get(int(number))
         if target is None or target is lane or target.closed is not None:
@@ -212,34 +230,34 @@ class Scene:
         arrow = Arrow(kind, lane, target, point)
         self.arrows.append(arrow)
         self.marks.append(Mark(kind, lane, point))
-        lane.bar.still.append([point, None])
+        bar.still.append(Pause(point))
         anchor = "middle" if moment.kind != "whole" else "end"
         self._label(lane, "low", point, moment.answer, "reply", anchor if arrow.goes_up() else "beside")
         held = "the page"
         if kind == "blocked":
-            here = [it for it in target.held if meet(it, lane.bar.text)]
+            here = [it for it in target.held if meet(it, bar.text)]
             if not here:
-                self._fault(moment, f"transaction {number} has done nothing to what `{lane.bar.text}` is on")
+                self._fault(moment, f"transaction {number} has done nothing to what `{bar.text}` is on")
             held = _named(here)
         self._label(target, "low" if arrow.goes_up() else "top", point, f"holds {held}", "event", "beside")
         target.seen = max(target.seen, point)
 
-    def _cancel(self, lane, moment):
+    def _cancel(self, lane: Lane, moment: Moment) -> None:
         if lane.bar is None or lane.undoing:
             self._fault(moment, f"transaction {lane.number} has no operation that runs")
         point = self._point(moment, lane)
         self._resume(lane.bar, point)
         self.marks.append(Mark("cancelled", lane, point))
-        self._stop(lane, point, moment.answer)
+        self._stop(lane.bar, point, moment.answer)
 
-    def _commit(self, lane, moment):
+    def _commit(self, lane: Lane, moment: Moment) -> None:
         number = int(moment.answer.split()[1])
         if lane.bar or lane.undoing or number != self.commits + 1:
             self._fault(moment, f"transaction {lane.number} can't commit, or not under this number")
         self.commits = number
         self._close(lane, self._point(moment, lane), moment.answer, "committed")
 
-    def _abort(self, lane, moment):
+    def _abort(self, lane: Lane, moment: Moment) -> None:
         closes = moment.answer == "aborted"
         if lane.bar or closes == bool(lane.standing):
             left = "an" if lane.standing else "no"
@@ -251,32 +269,33 @@ class Scene:
             lane.undoing = True
             self._take_back(lane, moment, point)
 
-    def _take_back(self, lane, moment, point):
+    def _take_back(self, lane: Lane, moment: Moment, point: int) -> None:
         if not lane.standing:
             self._fault(moment, f"transaction {lane.number} has no operation left")
         self._start(lane, "undo", lane.standing[-1], point)
 
-    def _start(self, lane, kind, text, point):
+    def _start(self, lane: Lane, kind: str, text: str, point: int) -> Bar:
         lane.bar = Bar(lane, kind, point, text)
         self.bars.append(lane.bar)
+        return lane.bar
 
-    def _resume(self, bar, point):
-        if bar.still and bar.still[-1][1] is None:
-            bar.still[-1][1] = point
+    def _resume(self, bar: Bar, point: int) -> None:
+        if bar.still and bar.still[-1].until is None:
+            bar.still[-1].until = point
 
-    def _stop(self, lane, point, reply=""):
-        bar, lane.bar = lane.bar, None
+    def _stop(self, bar: Bar, point: int, reply: str = "") -> None:
+        bar.lane.bar = None
         self._resume(bar, point)
         bar.last, bar.reply = point, reply
         if reply:
-            self._label(lane, "low", point, reply, "reply", "end")
+            self._label(bar.lane, "low", point, reply, "reply", "end")
 
-    def _close(self, lane, point, text, role):
+    def _close(self, lane: Lane, point: int, text: str, role: str) -> None:
         lane.closed, lane.is_open = point, False
         room = width(text, PILL_SIZE, bold=True) + 2 * PILL_PAD
         self.labels.append(Label(lane, "bar", point, text, role, 0, room, "middle"))
 
-    def _label(self, lane, row, point, text, role, anchor):
+    def _label(self, lane: Lane, row: str, point: int, text: str, role: str, anchor: str) -> None:
         room = width(text, LABEL_SIZE)
         left, right, anchor = {
             "middle": (room / 2, room / 2, anchor),
@@ -287,7 +306,7 @@ class Scene:
         self.labels.append(Label(lane, row, point, text, role, left, right, anchor))
 
 
-def _named(operations, between=", "):
+def _named(operations: list[str], between: str = ", ") -> str:
     """The operations in words: the first ones by name."""
     rest = len(operations) - MOST_NAMED
     named = between.join(operations[:MOST_NAMED])
