@@ -11,9 +11,11 @@ import socket
 import subprocess
 import sys
 import time
+from collections.abc import Iterator, Sequence
 from contextlib import contextmanager
 from dataclasses import dataclass
 from pathlib import Path
+from typing import Any, cast
 
 HERE = Path(__file__).resolve().parent
 ROOT = HERE.parent
@@ -23,6 +25,9 @@ PATIENCE = 600
 # How long a server may take to come up, in seconds.
 START = 20
 
+# A command. Its words may be numbers and paths, which are written as text.
+Words = Sequence[object]
+Process = subprocess.Popen[bytes]
 # Both outputs of a process are kept.
 PIPES = {"stdout": subprocess.PIPE, "stderr": subprocess.PIPE}
 
@@ -36,11 +41,11 @@ class Failed(Exception):
 
 
 @contextmanager
-def started(words, **how):
+def started(words: Words, **how: Any) -> Iterator[Process]:
     """A process, as long as the block lasts. Where it has not ended by then it is killed, with what it started itself; and it
-    ends where this process does."""
+    ends where this process does. The options are those of `Popen`."""
     how = {"stdin": subprocess.DEVNULL, "start_new_session": True, "preexec_fn": _end_with_parent, **how}
-    process = subprocess.Popen([*map(str, words)], **how)
+    process: Process = subprocess.Popen([*map(str, words)], **how)
     try:
         yield process
     finally:
@@ -49,13 +54,18 @@ def started(words, **how):
         process.communicate()
 
 
-def _end_with_parent():
+def _end_with_parent() -> None:
     LIBRARY.prctl(SIGNAL_AT_PARENTS_END, signal.SIGKILL)
 
 
-def ended(process):
+def name_of(process: Process) -> str:
+    """The name of the program that it runs, which is the first of the words that it was started with."""
+    return Path(cast(list[str], process.args)[0]).name
+
+
+def ended(process: Process) -> tuple[bytes, bytes]:
     """What a process wrote, once it ended well."""
-    name = Path(process.args[0]).name
+    name = name_of(process)
     try:
         out, err = process.communicate(timeout=PATIENCE)
     except subprocess.TimeoutExpired:
@@ -65,13 +75,13 @@ def ended(process):
     return out, err
 
 
-def run(words, **how):
+def run(words: Words, **how: Any) -> tuple[bytes, bytes]:
     """Runs a command to its end: both outputs."""
     with started(words, **{**PIPES, **how}) as process:
         return ended(process)
 
 
-def seconds_of(words, out=None):
+def seconds_of(words: Words, out: Path | None = None) -> float:
     """How long a command takes. Its standard output goes into a file, or nowhere."""
     with open(out or os.devnull, "wb") as file:
         began = time.monotonic()
@@ -86,44 +96,47 @@ class Server:
     port: int
     process: int
 
-    def resident_bytes(self):
+    def resident_bytes(self) -> int:
         """How much of its memory is in use."""
         pages = int(Path(f"/proc/{self.process}/statm").read_text().split()[1])
         return pages * os.sysconf("SC_PAGE_SIZE")
 
 
 @contextmanager
-def listening(words):
+def listening(words: Words) -> Iterator[Server]:
     """A server that listens at port 0 and says on standard error which port it had."""
     with started(words, stdout=subprocess.DEVNULL, stderr=subprocess.PIPE) as process:
-        came, _, _ = select.select([process.stderr], [], [], START)
-        line = process.stderr.readline().decode() if came else ""
+        heard = process.stderr
+        came, _, _ = select.select([heard], [], [], START)
+        line = heard.readline().decode() if heard and came else ""
         said = re.search(r"listening on [\d.]+:(\d+)$", line.strip())
         if not said:
-            raise Failed(f"{Path(words[0]).name} does not say where it listens, but {line!r}")
+            raise Failed(f"{Path(str(words[0])).name} does not say where it listens, but {line!r}")
         yield Server(int(said[1]), process.pid)
 
 
-def free_port():
+def free_port() -> int:
     """A port that nobody listens at just now."""
     with socket.socket() as free:
         free.bind((LOCAL, 0))
-        return free.getsockname()[1]
+        port: int = free.getsockname()[1]
+    return port
 
 
-def wait_for(port, process):
+def wait_for(port: int, process: Process) -> None:
     """Waits until a process listens at a port."""
     until = time.monotonic() + START
     while time.monotonic() < until and process.poll() is None:
         try:
-            return socket.create_connection((LOCAL, port), START).close()
+            socket.create_connection((LOCAL, port), START).close()
+            return
         except OSError:
             time.sleep(0.01)
-    raise Failed(f"{Path(process.args[0]).name} does not listen at port {port}")
+    raise Failed(f"{name_of(process)} does not listen at port {port}")
 
 
 @contextmanager
-def redis(folder):
+def redis(folder: Path) -> Iterator[Server]:
     """A Redis that keeps nothing on disk."""
     port = free_port()
     words = ["redis-server", "--bind", LOCAL, "--port", port, "--dir", folder, "--save", "", "--appendonly", "no"]
@@ -133,7 +146,7 @@ def redis(folder):
 
 
 @contextmanager
-def busy(count):
+def busy(count: int) -> Iterator[None]:
     """So many processes beside that do nothing but compute."""
     if count == 0:
         yield

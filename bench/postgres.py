@@ -6,10 +6,11 @@ import shutil
 import signal
 import statistics
 import time
+from collections.abc import Iterator
 from contextlib import contextmanager, suppress
 from pathlib import Path
 
-from machine import LOCAL, START, Failed, free_port, run, started, wait_for
+from machine import LOCAL, START, Failed, Process, Words, free_port, run, started, wait_for
 
 PROGRAMS = ("initdb", "postgres", "pg_isready", "psql", "pgbench")
 # The server refuses to run for the superuser of the machine, who runs it for this user.
@@ -23,7 +24,7 @@ TABLE = (
 TRIES = 1_000
 
 
-def find(folder):
+def find(folder: Path) -> Path | None:
     """The folder with its programs; None where there is none, or no user who can run it in this folder."""
     if os.geteuid() == 0 and not (has_user() and all(above.stat().st_mode & 1 for above in folder.parents)):
         return None
@@ -33,16 +34,16 @@ def find(folder):
     return next((folder for folder in folders if all((folder / name).exists() for name in PROGRAMS)), None)
 
 
-def has_user():
+def has_user() -> bool:
     return any(entry.pw_name == USER for entry in pwd.getpwall())
 
 
-def owner():
-    """By whom the server and its files are owned."""
+def owner() -> dict[str, object]:
+    """By whom the server and its files are owned, as options of `started`."""
     return {"user": USER, "group": USER, "extra_groups": []} if os.geteuid() == 0 else {}
 
 
-def home(programs, folder):
+def home(programs: Path, folder: Path) -> Path:
     """A folder with a cluster, which is made once."""
     path = folder / "postgres"
     if not path.exists():
@@ -50,17 +51,17 @@ def home(programs, folder):
         if owner():
             folder.chmod(0o711)
             shutil.chown(path, USER, USER)
-        words = ["--pgdata", path / "data", "--username", USER, "--auth", "trust", "--no-sync", "--no-locale"]
+        words: Words = ["--pgdata", path / "data", "--username", USER, "--auth", "trust", "--no-sync", "--no-locale"]
         run([programs / "initdb", *words], cwd=path, **owner())
     return path
 
 
 @contextmanager
-def server(programs, folder, counters):
+def server(programs: Path, folder: Path, counters: int) -> Iterator[int]:
     """A server with so many counters, as long as a block lasts: its port."""
     port, place = free_port(), home(programs, folder)
-    words = [programs / "postgres", "-D", place / "data", "-h", LOCAL, "-p", port]
-    words += [word for name, value in SETTINGS.items() for word in ("-c", f"{name}={value}")]
+    settings = [word for name, value in SETTINGS.items() for word in ("-c", f"{name}={value}")]
+    words = [programs / "postgres", "-D", place / "data", "-h", LOCAL, "-p", port, *settings]
     with open(place / "log", "wb") as log, started(words, stdout=log, stderr=log, cwd=place, **owner()) as process:
         try:
             wait_until_ready(programs, port, process)
@@ -71,31 +72,34 @@ def server(programs, folder, counters):
             process.wait(START)
 
 
-def wait_until_ready(programs, port, process):
+def wait_until_ready(programs: Path, port: int, process: Process) -> None:
     """It listens before it is ready."""
     wait_for(port, process)
     until = time.monotonic() + START
     while time.monotonic() < until:
         with suppress(Failed):
-            return run([programs / "pg_isready", "--host", LOCAL, "--port", port])
+            run([programs / "pg_isready", "--host", LOCAL, "--port", port])
+            return
         time.sleep(0.01)
     raise Failed("PostgreSQL does not get ready")
 
 
-def ask(programs, port, text):
+def ask(programs: Path, port: int, text: str) -> None:
     """Has the server do these statements."""
     statements = [word for statement in text.split(";") for word in ("--command", statement)]
     run([programs / "psql", "--host", LOCAL, "--port", port, "--username", USER, "--dbname", USER, "--quiet", *statements])
 
 
-def script(count, counters):
+def script(count: int, counters: int) -> str:
     """What pgbench sends over and over: a transaction that adds to so many counters, a statement a round trip."""
     drawn = [f"\\set drawn{place} random(0, {counters - 1})" for place in range(count)]
     updates = [f"UPDATE counter SET value = value + 1 WHERE id = :drawn{place};" for place in range(count)]
     return "\n".join([*drawn, "BEGIN;", *updates, "END;", ""])
 
 
-def load(programs, folder, connections, count, counters, limit):
+def load(
+    programs: Path, folder: Path, connections: int, count: int, counters: int, limit: Words
+) -> tuple[float, list[float]]:
     """What pgbench tells of so many connections: transactions in a second, and the sorted microseconds of each. The limit is
     one of its own options."""
     place = home(programs, folder)
@@ -113,6 +117,6 @@ def load(programs, folder, connections, count, counters, limit):
     return float(found[1]), sorted(float(line.split()[2]) for line in lines)
 
 
-def percentiles(times):
+def percentiles(times: list[float]) -> tuple[float, float]:
     """The median and the 99th percentile of sorted times."""
     return statistics.median(times), times[(len(times) - 1) * 99 // 100]

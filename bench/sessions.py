@@ -3,13 +3,15 @@ import os
 import statistics
 import sys
 import time
-from contextlib import ExitStack, closing
+from collections.abc import Iterator
+from contextlib import AbstractContextManager, ExitStack, closing
 from dataclasses import dataclass, replace
 from functools import partial
+from pathlib import Path
 
 import postgres
-from machine import LOCAL, PATIENCE, PIPES, ROOT, Failed, busy, ended, listening, redis, started
-from works import SECONDS, Sample, Side, Work
+from machine import LOCAL, PATIENCE, PIPES, ROOT, Failed, Process, Server, busy, ended, listening, redis, started
+from works import SECONDS, Bench, Group, Limit, Sample, Side, Work
 
 sys.path.insert(0, str(ROOT / "clients/python"))
 from mltx import MltxError, Session, TimedOut  # noqa: E402
@@ -36,76 +38,77 @@ class Load:
     threads: int = 1
     redis: bool = False
 
-    def for_redis(self):
+    def for_redis(self) -> "Load":
         words = {BEGIN: "MULTI", COMMIT: "EXEC"}
         lines = tuple(words.get(line, line.replace("up ", "INCRBY ")) for line in self.lines)
         return replace(self, lines=lines, redis=True)
 
 
-def transaction(*operations):
+def transaction(*operations: str) -> tuple[str, ...]:
     return (BEGIN, *operations, COMMIT)
 
 
-def loading(bench, port, load, seconds, transactions=None):
-    """The load generator, as long as a block lasts. It ends after so many seconds, or after so many transactions."""
-    words = [bench.tools.paths["load"], "--port", port, "--connections", load.connections, "--counters", load.counters]
-    words += ["--seed", bench.seed, "--seconds", seconds, "--threads", load.threads]
-    words += ["--transactions", transactions] if transactions else []
+def loading(bench: Bench, port: int, load: Load, limit: Limit) -> AbstractContextManager[Process]:
+    """The load generator, as long as a block lasts. It ends by itself at the limit."""
+    words: list[object] = [bench.tools.paths["load"], "--port", port]
+    words += ["--connections", load.connections, "--counters", load.counters]
+    words += ["--seed", bench.seed, "--seconds", limit.seconds, "--threads", load.threads]
+    words += ["--transactions", limit.transactions] if limit.transactions else []
     words += [*["--whole"] * load.whole, *["--redis"] * load.redis, "--", *load.lines]
     return started(words, **PIPES)
 
 
-def figures(process):
+def figures(process: Process) -> dict[str, float]:
     """What the load generator tells at its end, by name."""
     words = ended(process)[0].decode().split()
     return dict(zip(words[::2], map(float, words[1::2])))
 
 
-def figures_of(bench, port, load, **limits):
+def figures_of(bench: Bench, port: int, load: Load, limit: Limit | None = None) -> dict[str, float]:
     """What it tells of a load by which some transactions ended."""
-    with loading(bench, port, load, **(limits or bench.limits())) as process:
+    with loading(bench, port, load, limit or bench.limit()) as process:
         told = figures(process)
     if told["transactions"] == 0:
         raise Failed("no transaction ended")
     return told
 
 
-def rate(told, **more):
+def rate(told: dict[str, float], **more: float) -> Sample:
     """How many transactions ended in a second, and how long each took."""
     return Sample(told["transactions"] / told["seconds"], told["median"], told["ninety_ninth"], more)
 
 
-def mltx_server(program, *options):
+def mltx_server(program: Path, *options: object) -> AbstractContextManager[Server]:
     return listening([program, "serve", f"{LOCAL}:0", "--limit", 1_000_000, "--sessions", SESSIONS, *options])
 
 
-def echo_server(bench):
+def echo_server(bench: Bench) -> AbstractContextManager[Server]:
     return listening([bench.tools.paths["echo"]])
 
 
-def load_on_mltx(load, bench, program):
+def load_on_mltx(load: Load, bench: Bench, program: Path) -> Sample:
     with mltx_server(program) as server:
         return rate(figures_of(bench, server.port, load))
 
 
-def load_on_redis(load, bench, _program):
+def load_on_redis(load: Load, bench: Bench, _program: Path) -> Sample:
     with redis(bench.folder) as server:
         return rate(figures_of(bench, server.port, load.for_redis()))
 
 
-def load_on_echo(load, bench, _program):
+def load_on_echo(load: Load, bench: Bench, _program: Path) -> Sample:
     with echo_server(bench) as server:
         return rate(figures_of(bench, server.port, load))
 
 
-def load_on_postgres(load, bench, _program):
+def load_on_postgres(load: Load, bench: Bench, _program: Path) -> Sample:
     limit = bench.pick(["--time", SECONDS], ["--transactions", 20])
     programs, operations = bench.tools.paths["postgres"], len(load.lines) - 2
     per_second, times = postgres.load(programs, bench.folder, load.connections, operations, load.counters, limit)
     return Sample(per_second, *postgres.percentiles(times))
 
 
-def sides_of(load, *others):
+def sides_of(load: Load, *others: str) -> tuple[Side, ...]:
     """A load on this program, and on these others."""
     known = {
         "Redis": Side("Redis", partial(load_on_redis, load), ("load", "redis-server")),
@@ -119,13 +122,13 @@ WAYS = {False: "a line a round trip", True: "a transaction a write"}
 THREE = transaction(*["up ? 1"] * 3)
 
 
-def named(connections, threads):
+def named(connections: int, threads: int) -> str:
     """The words for so many connections, in so many threads where these are several."""
     words = f"{connections} connection{'s' * (connections > 1)}"
     return f"{words} of {threads} threads" if threads > 1 else words
 
 
-def serve_works():
+def serve_works() -> Iterator[Work]:
     for connections, threads in ((8, 1), (8, CLIENT_THREADS), (1, 1)):
         for whole, way in WAYS.items():
             load = Load(THREE, connections, whole, counters=50_000, threads=threads)
@@ -133,25 +136,27 @@ def serve_works():
             yield Work("serve", f"{named(connections, threads)}, {way}", "transactions/s", sides_of(load, *others))
 
 
-def connections_works():
+def connections_works() -> Iterator[Work]:
     for connections in (1, 2, 4, 8, 16, 32, SESSIONS):
         threads = min(connections, CLIENT_THREADS)
         load = Load(THREE, connections, counters=50_000, threads=threads)
         yield Work("connections", f"{named(connections, threads)}, a line a round trip", "transactions/s", sides_of(load, "Redis"))
 
 
-def with_tail(side, beside):
+def with_tail(side: Side, beside: int) -> Side:
     """The same with so many busy processes beside, and how many times the median the 99th percentile is."""
 
-    def measure(bench, program):
+    def measure(bench: Bench, program: Path) -> Sample:
         with busy(beside):
             sample = side.measure(bench, program)
+        if sample.median is None or sample.ninety_ninth is None:
+            raise Failed(f"{side.name} tells no times")
         return replace(sample, more={"99th/median": sample.ninety_ninth / sample.median})
 
     return replace(side, measure=measure)
 
 
-def hot_works():
+def hot_works() -> Iterator[Work]:
     for whole, way in WAYS.items():
         for beside, what in {0: "quiet", 2: "2 busy processes beside"}.items():
             sides = sides_of(Load(transaction("up 0 1", "up 1 1", "up 2 1"), 8, whole), "Redis")
@@ -161,12 +166,12 @@ def hot_works():
 # Sessions that hold something.
 
 
-def session(server, patience=PATIENCE):
+def session(server: Server, patience: float = PATIENCE) -> AbstractContextManager[Session]:
     """A session of a server, as long as a block lasts. It waits so many seconds for an answer."""
     return closing(Session(LOCAL, server.port, PATIENCE, patience))
 
 
-def must_answer(asked, *lines):
+def must_answer(asked: Session, *lines: str) -> list[str]:
     """The answers of a session to these lines, none of which may be refused."""
     answers = asked.ask(*lines)
     if refused := [answer for answer in answers if answer.startswith("error ")]:
@@ -179,18 +184,18 @@ HELD_BY_ONE, ASKED = 1_000, 100
 HELD, ANOTHER = 0, 1
 
 
-def up_beside_held(counter, held, bench, program):
+def up_beside_held(counter: int, held: int, bench: Bench, program: Path) -> Sample:
     """How long an `up` of a counter takes while so many operations of counter `HELD` are held."""
     load = Load(transaction(*[f"up {counter} 1"] * ASKED), whole=True)
     with mltx_server(program) as server, ExitStack() as stack:
         for _ in range(held // HELD_BY_ONE):
             holder = stack.enter_context(session(server))
             must_answer(holder, BEGIN, *[f"up {HELD} 1"] * HELD_BY_ONE)
-        told = figures_of(bench, server.port, load, **bench.limits(few=10))
+        told = figures_of(bench, server.port, load, bench.limit(few=10))
     return Sample(told["median"] / ASKED)
 
 
-def held_works():
+def held_works() -> Iterator[Work]:
     for held in (0, 1_000, 4_000, 16_000):
         sides = (
             Side("mltx", partial(up_beside_held, HELD, held), ("load",)),
@@ -199,18 +204,18 @@ def held_works():
         yield Work("held", f"an up of a counter of which {held:,} are held", "microseconds", sides)
 
 
-def up_beside_open(count, bench, program):
+def up_beside_open(count: int, bench: Bench, program: Path) -> Sample:
     """How long an `up` takes while so many transactions are open, each of which holds a counter of its own."""
     load = Load(transaction(*[f"up {ANOTHER} 1"] * ASKED), whole=True)
     with mltx_server(program) as server, ExitStack() as stack:
         for place in range(count):
             holder = stack.enter_context(session(server))
             must_answer(holder, BEGIN, f"up {100 + place} 1")
-        told = figures_of(bench, server.port, load, **bench.limits(few=10))
+        told = figures_of(bench, server.port, load, bench.limit(few=10))
     return Sample(told["median"] / ASKED)
 
 
-def open_works():
+def open_works() -> Iterator[Work]:
     for count in (0, 15, 63):
         side = Side("mltx", partial(up_beside_open, count), ("load",))
         yield Work("open", f"an up beside {count} open transactions", "microseconds", (side,))
@@ -220,21 +225,21 @@ OTHERS = Load(transaction("up 11 1", "up 12 1", "up 13 1"))
 CROSSED = [Load(transaction("up 1 1", "read 2")), Load(transaction("up 2 1", "read 1"))]
 
 
-def beside_deadlock(bench, program):
+def beside_deadlock(bench: Bench, program: Path) -> Sample:
     """The rate of a client while two others stand in each other's way, and what became of those two."""
-    seconds = bench.pick(SECONDS, 0.1) + 0.2
+    limit = Limit(bench.pick(SECONDS, 0.1) + 0.2)
     with ExitStack() as stack:
         server = stack.enter_context(mltx_server(program))
-        two = [stack.enter_context(loading(bench, server.port, load, seconds)) for load in CROSSED]
+        two = [stack.enter_context(loading(bench, server.port, load, limit)) for load in CROSSED]
         told = figures_of(bench, server.port, OTHERS)
         ends = [figures(process) for process in two]
-    more = {}
+    more: dict[str, float] = {}
     for place, end in zip(("first", "second"), ends):
         more |= {f"{place} GaveUp": end["refused"], f"{place} commits": end["transactions"]}
     return rate(told, **more)
 
 
-def told_gave_up(reader):
+def told_gave_up(reader: Session) -> tuple[float, bool]:
     """How long a session waits for the answer to a `read`, and whether it is GaveUp."""
     began = time.monotonic()
     try:
@@ -244,20 +249,20 @@ def told_gave_up(reader):
     return time.monotonic() - began, answer == GAVE_UP
 
 
-def blocked_by_silent_holder(bench, program):
+def blocked_by_silent_holder(bench: Bench, program: Path) -> Sample:
     """How long a `read` that a silent session blocks waits for its answer, while two clients commit."""
     seconds = bench.pick(5.0, 0.3)
     load = Load(OTHERS.lines, connections=2)
     with mltx_server(program) as server, session(server) as holder, session(server, seconds) as reader:
         must_answer(holder, BEGIN, "up 1 1")
         must_answer(reader, BEGIN)
-        with loading(bench, server.port, load, seconds + 0.1) as process:
+        with loading(bench, server.port, load, Limit(seconds + 0.1)) as process:
             waited, gave_up = told_gave_up(reader)
             told = figures(process)
     return Sample(waited, more={"GaveUp": float(gave_up), "commits beside": told["transactions"]})
 
 
-def bystander_works():
+def bystander_works() -> Iterator[Work]:
     alone = Side("without them", partial(load_on_mltx, OTHERS), ("load",))
     deadlock = (Side("mltx", beside_deadlock, ("load",)), alone)
     yield Work("bystander", "a client beside two that deadlock", "transactions/s", deadlock)
@@ -275,7 +280,7 @@ START_OF_READERS = 0.1
 READS = Load(transaction(*["balance ?"] * 50), connections=READERS, whole=True, counters=8)
 
 
-def time_doubling(server):
+def time_doubling(server: Server) -> tuple[float, str]:
     """How long the account that doubles the directory takes to be opened, in milliseconds, and the answer."""
     with session(server) as inserter:
         must_answer(inserter, BEGIN)
@@ -287,14 +292,14 @@ def time_doubling(server):
     return milliseconds, answer
 
 
-def one_doubling(with_readers, bench, program):
+def one_doubling(with_readers: bool, bench: Bench, program: Path) -> tuple[float, str]:
     """The same on a server of its own, with or without readers that go on all the while."""
     with mltx_server(program, "--hash", "low", "--tries", 100) as server:
         with session(server) as first:
             must_answer(first, BEGIN, *(f"open {account}" for account in CROWD), COMMIT)
         if not with_readers:
             return time_doubling(server)
-        with loading(bench, server.port, READS, seconds=PATIENCE) as readers:
+        with loading(bench, server.port, READS, Limit(PATIENCE)) as readers:
             time.sleep(START_OF_READERS)
             timed = time_doubling(server)
             if readers.poll() is not None:
@@ -302,7 +307,7 @@ def one_doubling(with_readers, bench, program):
             return timed
 
 
-def doublings(with_readers, bench, program):
+def doublings(with_readers: bool, bench: Bench, program: Path) -> Sample:
     found = [one_doubling(with_readers, bench, program) for _ in range(bench.pick(20, 2))]
     times = [milliseconds for milliseconds, _ in found]
     refused = sum(answer == GAVE_UP for _, answer in found)
@@ -310,7 +315,7 @@ def doublings(with_readers, bench, program):
     return Sample(statistics.median(times), more=more)
 
 
-def readers_works():
+def readers_works() -> Iterator[Work]:
     sides = (
         Side("mltx", partial(doublings, True), ("load",)),
         Side("without them", partial(doublings, False), ("load",)),
@@ -318,29 +323,29 @@ def readers_works():
     yield Work("readers", f"an insert that doubles the directory beside {READERS} readers", "ms", sides)
 
 
-def memory(bench, program):
+def memory(bench: Bench, program: Path) -> Sample:
     """By how many bytes a server grows for a transaction that committed."""
     count = bench.pick(200_000, 5_000)
     load = Load(transaction("up 0 1", "up 1 1", "up 2 1"), 8, whole=True)
     with mltx_server(program) as server:
-        figures_of(bench, server.port, load, seconds=PATIENCE, transactions=count // 10)
+        figures_of(bench, server.port, load, Limit(PATIENCE, count // 10))
         before = server.resident_bytes()
-        told = figures_of(bench, server.port, load, seconds=PATIENCE, transactions=count)
+        told = figures_of(bench, server.port, load, Limit(PATIENCE, count))
         return Sample((server.resident_bytes() - before) / told["transactions"])
 
 
-def memory_works():
+def memory_works() -> Iterator[Work]:
     yield Work("memory", "kept for a transaction of three operations", "bytes", (Side("mltx", memory, ("load",)),))
 
 
 # By its name what a group measures, and its works.
 GROUPS = {
-    "serve": ("sessions that add to 3 of 50,000 counters, against Redis, PostgreSQL and a bare echo", serve_works),
-    "connections": ("1 to 64 sessions that add to 3 of 50,000 counters, against Redis", connections_works),
-    "hot": ("8 sessions on 3 counters, quiet and beside busy processes, against Redis", hot_works),
-    "held": ("an up of a counter of which many operations are held, against one of another counter", held_works),
-    "open": ("an up beside up to 63 open transactions", open_works),
-    "bystander": ("who has no part in a deadlock, and who waits for a silent session", bystander_works),
-    "readers": ("an insert that doubles the directory, beside readers that never pause", readers_works),
-    "memory": ("bytes that a server keeps for a transaction", memory_works),
+    "serve": Group("sessions that add to 3 of 50,000 counters, against Redis, PostgreSQL and a bare echo", serve_works),
+    "connections": Group("1 to 64 sessions that add to 3 of 50,000 counters, against Redis", connections_works),
+    "hot": Group("8 sessions on 3 counters, quiet and beside busy processes, against Redis", hot_works),
+    "held": Group("an up of a counter of which many operations are held, against one of another counter", held_works),
+    "open": Group("an up beside up to 63 open transactions", open_works),
+    "bystander": Group("who has no part in a deadlock, and who waits for a silent session", bystander_works),
+    "readers": Group("an insert that doubles the directory, beside readers that never pause", readers_works),
+    "memory": Group("bytes that a server keeps for a transaction", memory_works),
 }

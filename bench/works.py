@@ -1,14 +1,25 @@
 """What a benchmark is: works with their sides, what all measurements share, and what one of them comes to."""
 import random
-from collections.abc import Callable
+from collections.abc import Callable, Iterator
 from dataclasses import dataclass, field
 from pathlib import Path
+from typing import NamedTuple, TypeVar
 
 from machine import PATIENCE
+from texts import Scripts
 from tools import Tools
 
 # How long a load lasts.
 SECONDS = 2
+
+Size = TypeVar("Size")
+
+
+class Limit(NamedTuple):
+    """Where a load ends: after so many seconds, or after so many transactions."""
+
+    seconds: float
+    transactions: int | None = None
 
 
 @dataclass
@@ -19,23 +30,23 @@ class Bench:
     tools: Tools
     quick: bool
     seed: int
-    files: dict = field(default_factory=dict)
+    files: dict[str, tuple[Path, int]] = field(default_factory=dict)
 
-    def pick(self, full, quick):
+    def pick(self, full: Size, quick: Size) -> Size:
         """A size: the full one, or one that is quick to try."""
         return quick if self.quick else full
 
-    def limits(self, few=200):
+    def limit(self, few: int = 200) -> Limit:
         """Where a load ends: after so many seconds, or where it is quick after a few transactions, however long they take."""
-        return self.pick({"seconds": SECONDS}, {"seconds": PATIENCE, "transactions": few})
+        return self.pick(Limit(SECONDS), Limit(PATIENCE, few))
 
-    def file(self, name, make):
-        """A file with a text that is made once, and what else was made with it."""
+    def file(self, name: str, make: Callable[[random.Random], Scripts]) -> tuple[Path, int]:
+        """A file with scripts that are made once, and how many operations they ask."""
         if name not in self.files:
-            text, more = make(random.Random(self.seed))
+            text, operations = make(random.Random(self.seed))
             path = self.folder / name
             path.write_text(text)
-            self.files[name] = path, more
+            self.files[name] = path, operations
         return self.files[name]
 
 
@@ -46,7 +57,7 @@ class Sample:
     value: float
     median: float | None = None
     ninety_ninth: float | None = None
-    more: dict = field(default_factory=dict)
+    more: dict[str, float] = field(default_factory=dict)
 
 
 @dataclass(frozen=True)
@@ -67,3 +78,10 @@ class Work:
     unit: str
     sides: tuple[Side, ...]
     most_runs: int = 1_000
+
+
+class Group(NamedTuple):
+    """What a group measures, and its works."""
+
+    what: str
+    works: Callable[[], Iterator[Work]]
