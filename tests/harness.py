@@ -3,6 +3,8 @@
 A test is a function under `@test` that takes the program and raises where something else comes than is wanted. Its name
 on the command line is the function's, with `-` for `_`. A table of cases is `@each(TABLE)`: each case is a test of its
 own."""
+from __future__ import annotations
+
 import dataclasses
 import difflib
 import errno
@@ -13,8 +15,10 @@ import socket
 import subprocess
 import tempfile
 import time
+from collections.abc import Callable, Iterable, Iterator, Mapping
 from contextlib import contextmanager
 from pathlib import Path
+from typing import IO, TypeVar, overload
 
 ROOT = Path(__file__).resolve().parent.parent
 # The greatest number of bytes of an input.
@@ -25,8 +29,16 @@ PATIENCE = 120
 # What a client is told of a connection that the server has broken off.
 BROKEN_OFF = (errno.ECONNRESET, errno.EPIPE, errno.ENOTCONN)
 
+# What is given and compared: a text stands for its bytes.
+Text = str | bytes
+Address = tuple[str, int]
+Case = TypeVar("Case")
+# A function that is listed as a test and stays as it is, and one that is so for each case of a table.
+Listed = TypeVar("Listed", bound=Callable[..., object])
+OfCase = Callable[["Program", Case], object]
+
 # Each test by its name.
-TESTS = {}
+TESTS: dict[str, Test] = {}
 # The seed of random tests, and how many times as many cases they try as in a usual run. `tests/run` sets both.
 SEED, CASES = 1, 1
 
@@ -42,31 +54,45 @@ class Test:
     name: str
     group: str
     seconds: float
-    call: object
+    call: Callable[[Program], object]
 
 
-def test(function=None, *, seconds=0.1):
+@overload
+def test(function: Listed) -> Listed:
+    ...
+
+
+@overload
+def test(*, seconds: float = 0.1) -> Callable[[Listed], Listed]:
+    ...
+
+
+def test(function: Listed | None = None, *, seconds: float = 0.1) -> Listed | Callable[[Listed], Listed]:
     """Lists a function as a test. Where it takes some time, `seconds` says how much, so that it begins early."""
 
-    def enlist(function):
+    def enlist(function: Listed) -> Listed:
         _enlist(function.__name__.replace("_", "-"), function, seconds, function)
         return function
 
     return enlist(function) if function else enlist
 
 
-def each(table, *, seconds=0.1):
+def each(table: Mapping[str, Case], *, seconds: float = 0.1) -> Callable[[OfCase[Case]], OfCase[Case]]:
     """Lists a test for each case of a table, a dictionary by name. The function takes the program and the case."""
 
-    def enlist(function):
+    def enlist(function: OfCase[Case]) -> OfCase[Case]:
         for name, case in table.items():
-            _enlist(name, function, seconds, lambda mltx, case=case: function(mltx, case))
+            _enlist(name, function, seconds, _with_case(function, case))
         return function
 
     return enlist
 
 
-def _enlist(name, function, seconds, call):
+def _with_case(function: OfCase[Case], case: Case) -> Callable[[Program], object]:
+    return lambda mltx: function(mltx, case)
+
+
+def _enlist(name: str, function: Callable[..., object], seconds: float, call: Callable[[Program], object]) -> None:
     if name in TESTS:
         raise ValueError(f"two tests have the name {name}")
     TESTS[name] = Test(name, function.__module__.replace("_", "-"), seconds, call)
@@ -80,50 +106,50 @@ class Ran:
     out: bytes
     err: bytes
 
-    def __str__(self):
+    def __str__(self) -> str:
         return f"status {self.status}, standard output {_short(self.out)}, standard error {_short(self.err)}"
 
 
-def _short(value, most=600):
+def _short(value: object, most: int = 600) -> str:
     shown = repr(value)
     return shown if len(shown) <= most else f"{shown[:most]}.. ({len(shown)} characters)"
 
 
-def as_bytes(text):
+def as_bytes(text: Text) -> bytes:
     return text.encode() if isinstance(text, str) else text
 
 
-def lines(row):
+def lines(row: str) -> str:
     """The text of a worked row: its lines stand between bars, and each ends in a line feed."""
     return "".join(line + "\n" for line in row.split("|")) if row else ""
 
 
-def expect(ran, *, status=0, out=b"", err=b"", what=""):
+def expect(ran: Ran, *, status: int = 0, out: Text = b"", err: Text = b"", what: str = "") -> None:
     """Fails where a run came to anything else: its status and both outputs are compared whole."""
     wanted = Ran(status, as_bytes(out), as_bytes(err))
     if ran != wanted:
         raise Failed(f"{what + ': ' if what else ''}{ran}\nwanted {wanted}\n{_difference(wanted.out, ran.out)}")
 
 
-def same(found, wanted, what=""):
+def same(found: object, wanted: object, what: str = "") -> None:
     """Fails where two values differ."""
     if found != wanted:
         raise Failed(f"{what + ': ' if what else ''}{_short(found)}\nwanted {_short(wanted)}")
 
 
-def holds(is_so, what):
+def holds(is_so: object, what: str) -> None:
     """Fails where something is not so."""
     if not is_so:
         raise Failed(what)
 
 
-def _difference(wanted, found, most=20):
-    pair = [text.decode(errors="replace").splitlines() for text in (wanted, found)]
-    return "\n".join(list(difflib.unified_diff(*pair, "wanted", "found", lineterm="", n=1))[:most])
+def _difference(wanted: bytes, found: bytes, most: int = 20) -> str:
+    before, after = (text.decode(errors="replace").splitlines() for text in (wanted, found))
+    return "\n".join(list(difflib.unified_diff(before, after, "wanted", "found", lineterm="", n=1))[:most])
 
 
 @contextmanager
-def may_break_off():
+def may_break_off() -> Iterator[None]:
     """What stands here may find that the server has broken the connection off."""
     try:
         yield
@@ -132,21 +158,21 @@ def may_break_off():
             raise
 
 
-def _compile(source, library):
+def _compile(source: Path, library: Path) -> None:
     try:
-        words = ["cc", "-O1", "-shared", "-fPIC", "-o", library, source, "-ldl"]
+        words = ["cc", "-O1", "-shared", "-fPIC", "-o", str(library), str(source), "-ldl"]
         made = subprocess.run(words, capture_output=True, text=True)
     except FileNotFoundError:
         raise Failed("there is no C compiler `cc`: this test needs one") from None
     holds(made.returncode == 0, f"cc does not compile {source}: {made.stderr}")
 
 
-def state_of(folder):
+def state_of(folder: Path | str) -> str:
     """The state of the process or thread with this folder of /proc: S is asleep, T is stopped."""
     return Path(folder, "stat").read_text(encoding="ascii").rpartition(") ")[2][0]
 
 
-def all_threads_are(process, state):
+def all_threads_are(process: subprocess.Popen[bytes], state: str) -> bool:
     """Whether each thread of a process is in this state. A thread may end as it is looked at: then not yet."""
     try:
         return all(state_of(thread) == state for thread in Path(f"/proc/{process.pid}/task").iterdir())
@@ -157,16 +183,24 @@ def all_threads_are(process, state):
 class Program:
     """The program under test, run in a folder of its own that is removed afterwards."""
 
-    def __init__(self, path, folder):
+    def __init__(self, path: Path | str, folder: Path | str) -> None:
         self.path, self.folder = str(path), Path(folder)
 
-    def file(self, name, text):
+    def file(self, name: str, text: Text) -> str:
         """Writes a file into the folder and returns its path."""
         path = self.folder / name
         path.write_bytes(as_bytes(text))
         return str(path)
 
-    def run(self, *words, given=b"", env=None, stdout=subprocess.PIPE, redirect="", timeout=PATIENCE):
+    def run(
+        self,
+        *words: object,
+        given: Text = b"",
+        env: Mapping[str, str] | None = None,
+        stdout: int | IO[bytes] = subprocess.PIPE,
+        redirect: str = "",
+        timeout: float = PATIENCE,
+    ) -> Ran:
         """Runs the program with these words and this standard input, to its end. `redirect` is what a shell is to do
         with its streams before, as `>/dev/full`."""
         try:
@@ -183,7 +217,7 @@ class Program:
             raise Failed(f"{' '.join(map(str, words))} had not ended after {timeout} seconds") from None
         return Ran(ran.returncode, ran.stdout or b"", ran.stderr)
 
-    def shim(self, **told):
+    def shim(self, **told: str) -> dict[str, str]:
         """The environment in which tests/shim.c is loaded into the program, and told these things."""
         library, counted = self.folder / "shim.so", self.folder / "counted"
         if not library.exists():
@@ -191,20 +225,28 @@ class Program:
         counted.unlink(missing_ok=True)
         return {"LD_PRELOAD": str(library), "COUNTED": str(counted), **told}
 
-    def counted(self):
+    def counted(self) -> tuple[int, ...]:
         """How many requests for memory, and how many calls, the shim counted in the last run."""
         counted = self.folder / "counted"
         holds(counted.exists(), "the run did not end by itself")
         return tuple(map(int, counted.read_text().split()))
 
-    def check(self, trace):
+    def check(self, trace: Path | Text) -> Ran:
         """What `check` says of a trace: the text of one, or the path of its file."""
         if isinstance(trace, Path):
             return self.run("check", trace)
         return self.run("check", "-", given=trace)
 
     @contextmanager
-    def serve(self, *options, limit=1, address=None, env=None, redirect="", timeout=PATIENCE):
+    def serve(
+        self,
+        *options: object,
+        limit: int | None = 1,
+        address: Address | None = None,
+        env: Mapping[str, str] | None = None,
+        redirect: str = "",
+        timeout: float = PATIENCE,
+    ) -> Iterator[Server]:
         """A server on a port of its own, or at this address, as long as the block lasts. It ends by itself once `limit`
         connections have ended; where the block ends earlier, it is killed. With `limit` None the option is left out."""
         words = [*options, *(["--limit", limit] if limit is not None else [])]
@@ -218,13 +260,27 @@ class Program:
 class Server:
     """A running `mltx serve`."""
 
-    def __init__(self, mltx, address, options, env, redirect, timeout):
+    def __init__(
+        self,
+        mltx: Program,
+        address: Address,
+        options: Iterable[object],
+        env: Mapping[str, str] | None,
+        redirect: str,
+        timeout: float,
+    ) -> None:
         self.address, self.timeout = address, timeout
-        words = command([mltx.path, "serve", "%s:%d" % address, *options], redirect)
-        how = {"stdout": subprocess.PIPE, "stderr": subprocess.PIPE, "bufsize": 0, "cwd": mltx.folder}
-        self.process = subprocess.Popen(words, stdin=subprocess.DEVNULL, env={**os.environ, **(env or {})}, **how)
+        self.process = subprocess.Popen(
+            command([mltx.path, "serve", "%s:%d" % address, *options], redirect),
+            bufsize=0,
+            stdin=subprocess.DEVNULL,
+            stdout=subprocess.PIPE,
+            stderr=subprocess.PIPE,
+            cwd=mltx.folder,
+            env={**os.environ, **(env or {})},
+        )
 
-    def connect(self):
+    def connect(self) -> Peer:
         """A new connection, as soon as the server is there."""
         for _ in range(int(self.timeout / 0.01)):
             try:
@@ -236,16 +292,17 @@ class Server:
                 time.sleep(0.01)
         raise Failed(f"the server does not answer at {self.address}; its status is {self.process.poll()}")
 
-    def talk(self, sent):
+    def talk(self, sent: Text) -> bytes:
         """All that is answered to these bytes, sent at once, with the end of the input after them."""
         with self.connect() as peer:
             return peer.say_all(sent)
 
-    def first_line(self):
+    def first_line(self) -> str:
         """The first line that it writes on standard error, which `end` then leaves out."""
+        assert self.process.stderr
         return self.process.stderr.readline().decode()
 
-    def end(self):
+    def end(self) -> Ran:
         """What the server came to, once it ended by itself. The line that says where it listens is left out."""
         try:
             out, err = self.process.communicate(timeout=self.timeout)
@@ -253,7 +310,7 @@ class Server:
             raise Failed(f"the server had not ended after {self.timeout} seconds") from None
         return Ran(self.process.returncode, out, err.removeprefix(listening(self.address).encode()))
 
-    def stop(self):
+    def stop(self) -> None:
         """Stops it, and returns once each of its threads has stopped: a signal reaches them one after another."""
         self.process.send_signal(signal.SIGSTOP)
         deadline = time.monotonic() + PATIENCE
@@ -262,7 +319,7 @@ class Server:
                 raise Failed("the server did not stop")
             time.sleep(0.001)
 
-    def kill(self):
+    def kill(self) -> None:
         self.process.kill()
         self.process.communicate()
 
@@ -270,24 +327,24 @@ class Server:
 class Peer:
     """One connection of a client."""
 
-    def __init__(self, connected):
+    def __init__(self, connected: socket.socket) -> None:
         self.socket, self.heard = connected, b""
         connected.setsockopt(socket.IPPROTO_TCP, socket.TCP_NODELAY, 1)
 
-    def __enter__(self):
+    def __enter__(self) -> Peer:
         return self
 
-    def __exit__(self, *_):
+    def __exit__(self, *_: object) -> None:
         self.socket.close()
 
-    def send(self, text):
+    def send(self, text: Text) -> None:
         self.socket.sendall(as_bytes(text))
 
-    def end(self):
+    def end(self) -> None:
         """Says that nothing more will be sent."""
         self.socket.shutdown(socket.SHUT_WR)
 
-    def line(self):
+    def line(self) -> str:
         """The next line that the server answers, without its line feed."""
         while b"\n" not in self.heard:
             piece = self.socket.recv(65_536)
@@ -297,12 +354,12 @@ class Peer:
         line, _, self.heard = self.heard.partition(b"\n")
         return line.decode()
 
-    def ask(self, line):
+    def ask(self, line: str) -> str:
         """Sends one line and returns the line that answers it."""
         self.send(line + "\n")
         return self.line()
 
-    def say_all(self, text):
+    def say_all(self, text: Text) -> bytes:
         """All that is answered to this text, until the connection ends or the server breaks it off, be it early."""
         with may_break_off():
             self.send(text)
@@ -312,34 +369,35 @@ class Peer:
                 self.heard += piece
         return self.heard
 
-    def rest(self):
+    def rest(self) -> bytes:
         """All that is answered to the end of the connection."""
         heard = [self.heard, *iter(lambda: self.socket.recv(65_536), b"")]
         self.heard = b""
         return b"".join(heard)
 
 
-def command(words, redirect=""):
+def command(words: Iterable[object], redirect: str = "") -> list[str]:
     """The words of a command, or of a shell that redirects its streams and then becomes it."""
     shell = ["/bin/sh", "-c", f'exec "$0" "$@" {redirect}'] if redirect else []
     return [*shell, *map(str, words)]
 
 
-def listening(address):
+def listening(address: Address) -> str:
     """The line by which a server says on standard error that it listens at this address."""
     return "mltx: listening on %s:%d\n" % address
 
 
-def free_address():
+def free_address() -> Address:
     """An address that nobody else takes before a server does: that of this process, by its number, and a free port."""
     process = os.getpid()
     with socket.socket() as free:
         free.bind(("127.%d.%d.%d" % (64 + (process >> 16 & 63), process >> 8 & 255, process & 255), 0))
-        return free.getsockname()
+        address: Address = free.getsockname()
+    return address
 
 
 @contextmanager
-def folder():
+def folder() -> Iterator[Path]:
     """A folder that is removed afterwards."""
     path = tempfile.mkdtemp(prefix="mltx-test-")
     try:
