@@ -3,7 +3,9 @@ from harness import each, holds, lines, same, test
 
 # How often a run is tried until something is seen that a schedule need not show.
 ATTEMPTS = 20
-CLIENTS, SCRIPTS = 12, 3_000
+CLIENTS, SCRIPTS = 12, 12_000
+# Who was at work is often the first to begin again, so all of eight workers are at work at once in one run of ten or twenty.
+ENOUGH = 6
 
 
 def outcomes(out):
@@ -36,15 +38,16 @@ WORKERS = {f"clients-side-by-side-by-{workers or 'the-usual'}-workers": workers 
 
 @each(WORKERS, seconds=2)
 def clients_side_by_side(mltx, workers):
-    """So many clients run side by side as there are workers, which are 4 where no number is given, and never more."""
+    """So many clients run side by side as there are workers, which are 4 where no number is given, six of eight at least, and
+    never more."""
     text = "".join(lines(f"begin {client}|up 7 1|commit") * SCRIPTS for client in range(CLIENTS))
-    file, seen = mltx.file("scripts.txt", text), []
-    while len(seen) < ATTEMPTS and (workers or 4) not in seen:
+    file, seen, most = mltx.file("scripts.txt", text), [], workers or 4
+    while len(seen) < ATTEMPTS and max(seen, default=0) < min(most, ENOUGH):
         ran = mltx.run("run", *(["--workers", workers] if workers else []), file)
         same((ran.status, ran.err), (0, b""), f"{workers} workers")
         same(ran.out.splitlines()[-1], b"counter 7 %d" % (CLIENTS * SCRIPTS), "the base")
         seen.append(most_side_by_side(ran.out))
-    same(max(seen), workers or 4, f"how many clients were side by side in {len(seen)} runs, at most")
+    holds(min(most, ENOUGH) <= max(seen) <= most, f"so many clients were side by side in {len(seen)} runs: {seen}")
 
 
 def gave_up(mltx, *options):
