@@ -7,14 +7,14 @@ use Rattle.mlt_object_kinds.specs.declared.operation.ObjReply.{ObjReply}
 use Rattle.mlt_object_conflicts.specs.declared.accounts.AccountClass.{AccountClass}
 use Rattle.mlt_object_conflicts.specs.declared.accounts.AccountClass.TheVariants.{Opened}
 use Rattle.mlt_object_conflicts.specs.AccountTable.{account_class, account_marks, account_item, account_breach}
-use Rattle.mlt_object_conflicts.specs.Tables.{paired, IsOfClass, BreaksAt, ClassesConflict, ClassesPass}
-use Rattle.mlt_object_conflicts.proofs.AccountPairs.{Legal, after, Fits, amount_in, account_rows_pass, account_rows_break, breach_fits}
+use Rattle.mlt_object_conflicts.specs.Tables.{paired, IsOfClass, BreaksAt, ClassesConflict, ClassesCommute}
+use Rattle.mlt_object_conflicts.proofs.AccountPairs.{Legal, after, Fits, amount_in, account_rows_commute, account_rows_break, breach_fits}
 use Rattle.mlt_object_conflicts.proofs.AccountRows.{amount, account_has_rows}
-use Rattle.mlt_object_conflicts.proofs.Rows.{classes_pass, classes_break, RowsBreak}
+use Rattle.mlt_object_conflicts.proofs.Rows.{classes_commute, classes_break, RowsBreak}
 
-pub account_classes_pass : (p q : AccountClass) → account_marks p q ≡ false → ClassesPass AccountStep account_class p q
-account_classes_pass p q free =
-    classes_pass account_class IsLegal next_of amount Fits Legal after account_has_rows p q (account_rows_pass p q free)
+pub account_classes_commute : (p q : AccountClass) → account_marks p q ≡ false → ClassesCommute AccountStep account_class p q
+account_classes_commute p q free =
+    classes_commute account_class IsLegal next_of amount Fits Legal after account_has_rows p q (account_rows_commute p q free)
 
 item_class : (c : AccountClass) (n : ℕ) → IsOfClass account_class (account_item c n) c
 item_class c n = elim c as (λ c. IsOfClass account_class (account_item c n) c) [ Opened ↦ refl | _ ↦ refl ]
@@ -48,9 +48,9 @@ account_breach_breaks p q marked =
       classes_break account_class IsLegal next_of amount Fits Legal after account_has_rows p q first second x.2 (item_class p x.0) (item_class q x.1) fits.0 fits.1 rows,
     )
 
-pub account_exact : (p q : AccountClass) → MatchBool (account_marks p q) (ClassesConflict AccountStep account_class p q) (ClassesPass AccountStep account_class p q)
+pub account_exact : (p q : AccountClass) → MatchBool (account_marks p q) (ClassesConflict AccountStep account_class p q) (ClassesCommute AccountStep account_class p q)
 account_exact p q =
-    elim (account_marks p q) as (λ b. account_marks p q ≡ b → MatchBool b (ClassesConflict AccountStep account_class p q) (ClassesPass AccountStep account_class p q)) [
+    elim (account_marks p q) as (λ b. account_marks p q ≡ b → MatchBool b (ClassesConflict AccountStep account_class p q) (ClassesCommute AccountStep account_class p q)) [
       | true ↦ λ marked. let t = account_breach_breaks p q marked in ((account_breach p q).2, held_item p q, requested_item p q, t.0, t.1, t.2)
-      | false ↦ account_classes_pass p q
+      | false ↦ account_classes_commute p q
     ] refl

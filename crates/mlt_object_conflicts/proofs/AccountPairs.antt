@@ -1,4 +1,4 @@
--- Which classes of accounts pass which: one tactic serves every pair.
+-- Which classes of accounts right commute backward: one tactic serves every pair.
 use Rattle.std.proofs.Common.{◌≡◌, ℕ, ◌+◌, ◌-◌, ◌≤◌, ◌<◌, ◌^◌, Option, None, Some, true, false, arith, refl, ap}
 use Rattle.mlt_object_kinds.specs.Accounts.{max_balance}
 use Rattle.mlt_object_kinds.specs.declared.account.AccountOp.{AccountOp}
@@ -40,32 +40,32 @@ level_injective None (Some c) e = absurd (omega arith)
 level_injective (Some b) None e = absurd (omega arith)
 level_injective (Some b) (Some c) e = let same : b ≡ c = omega arith in ap Some same
 
-abbrev Passes : AccountClass → AccountClass → ℕ → ℕ → Option ℕ → Type 0
-Passes p q n k s =
+abbrev Commute : AccountClass → AccountClass → ℕ → ℕ → Option ℕ → Type 0
+Commute p q n k s =
     account_marks p q ≡ false → Legal p n s → Legal q k (after p n s) →
     Legal q k s × Legal p n (after q k s) × (level (after q k (after p n s)) ≡ level (after p n (after q k s)))
 
-at_none : (p q : AccountClass) (n k : ℕ) → Passes p q n k None
+at_none : (p q : AccountClass) (n k : ℕ) → Commute p q n k None
 at_none p q n k =
-    elim p as (λ p. Passes p q n k None) [
-      | Opened ↦ elim q as (λ q. Passes Opened q n k None) [ Opened ↦ λ e h i. first_of (omega arith, cc) | _ ↦ λ e h i. first_of (omega arith, cc) ]
-      | p ↦ elim q as (λ q. Passes p q n k None) [ Opened ↦ λ e h i. first_of (omega arith, cc) | _ ↦ λ e h i. first_of (omega arith, cc) ]
+    elim p as (λ p. Commute p q n k None) [
+      | Opened ↦ elim q as (λ q. Commute Opened q n k None) [ Opened ↦ λ e h i. first_of (omega arith, cc) | _ ↦ λ e h i. first_of (omega arith, cc) ]
+      | p ↦ elim q as (λ q. Commute p q n k None) [ Opened ↦ λ e h i. first_of (omega arith, cc) | _ ↦ λ e h i. first_of (omega arith, cc) ]
     ]
 
-at_some : (p q : AccountClass) (n k b : ℕ) → Passes p q n k (Some b)
+at_some : (p q : AccountClass) (n k b : ℕ) → Commute p q n k (Some b)
 at_some p q n k b =
-    elim p as (λ p. Passes p q n k (Some b)) [
-      | Opened ↦ elim q as (λ q. Passes Opened q n k (Some b)) [ Opened ↦ λ e h i. first_of (omega arith, cc) | _ ↦ λ e h i. first_of (omega arith, cc) ]
-      | p ↦ elim q as (λ q. Passes p q n k (Some b)) [ Opened ↦ λ e h i. first_of (omega arith, cc) | _ ↦ λ e h i. first_of (omega arith, cc) ]
+    elim p as (λ p. Commute p q n k (Some b)) [
+      | Opened ↦ elim q as (λ q. Commute Opened q n k (Some b)) [ Opened ↦ λ e h i. first_of (omega arith, cc) | _ ↦ λ e h i. first_of (omega arith, cc) ]
+      | p ↦ elim q as (λ q. Commute p q n k (Some b)) [ Opened ↦ λ e h i. first_of (omega arith, cc) | _ ↦ λ e h i. first_of (omega arith, cc) ]
     ]
 
-passes : (p q : AccountClass) (n k : ℕ) (s : Option ℕ) → Passes p q n k s
-passes p q n k s = elim s as (λ s. Passes p q n k s) [ None ↦ at_none p q n k | Some b ↦ at_some p q n k b ]
+rows_commute : (p q : AccountClass) (n k : ℕ) (s : Option ℕ) → Commute p q n k s
+rows_commute p q n k s = elim s as (λ s. Commute p q n k s) [ None ↦ at_none p q n k | Some b ↦ at_some p q n k b ]
 
--- classes that are not marked pass
-pub account_rows_pass : (p q : AccountClass) → account_marks p q ≡ false → (n k : ℕ) (s : Option ℕ) → Legal p n s → Legal q k (after p n s) →
+-- classes that are not marked right commute backward
+pub account_rows_commute : (p q : AccountClass) → account_marks p q ≡ false → (n k : ℕ) (s : Option ℕ) → Legal p n s → Legal q k (after p n s) →
     Legal q k s × Legal p n (after q k s) × (after q k (after p n s) ≡ after p n (after q k s))
-account_rows_pass p q free n k s h i = let t = passes p q n k s free h i in (t.0, t.1, level_injective _ _ t.2)
+account_rows_commute p q free n k s h i = let t = rows_commute p q n k s free h i in (t.0, t.1, level_injective _ _ t.2)
 
 -- the amount is one
 abbrev pub Fits : AccountOp → Type 0

@@ -22,7 +22,7 @@ use Rattle.std.specs.Bool.{MatchBool}
 use Rattle.mlt_order.specs.Runs.{RightCommutesBackward}
 use Rattle.mlt_object_conflicts.specs.declared.elements.ElementClass.{ElementClass}
 use Rattle.mlt_object_conflicts.specs.declared.elements.ElementClass.TheVariants.{Added, Removed}
-use Rattle.mlt_object_conflicts.proofs.BasePasses.{clash_free_pass}
+use Rattle.mlt_object_conflicts.proofs.BaseCommutes.{clash_free_commute}
 use Rattle.mlt_object_conflicts.proofs.SizeBreaks.{added_breaks, removed_breaks}
 use Rattle.mlt_object_conflicts.specs.AccountTable.{account_class, account_marks}
 use Rattle.mlt_object_conflicts.specs.ElementTable.{element_class, element_item, element_marks}
@@ -238,5 +238,5 @@ pub clash_exact : (held requested : ObjOp × ObjReply) → MatchBool (clashes he
 clash_exact held requested =
     elim (clashes held requested) as (λ b. clashes held requested ≡ b → MatchBool b (SomeLikeThemBreak held requested) (RightCommutesBackward Step held requested)) [
       | true ↦ clashing_break held requested
-      | false ↦ clash_free_pass held requested
+      | false ↦ clash_free_commute held requested
     ] refl

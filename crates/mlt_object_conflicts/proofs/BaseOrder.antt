@@ -9,7 +9,7 @@ use Rattle.mlt_order.specs.Histories.Entry.{Did}
 use Rattle.mlt_order.specs.Histories.Stage.{Running}
 use Rattle.mlt_order.specs.Runs.{IsFunctional, IsInjective, Runs as RunsOf}
 use Rattle.mlt_object_conflicts.specs.Clashes.{clashes}
-use Rattle.mlt_object_conflicts.proofs.BasePasses.{clash_free_pass}
+use Rattle.mlt_object_conflicts.proofs.BaseCommutes.{clash_free_commute}
 
 pub base_functional : IsFunctional Step
 base_functional before one other item h k = (base_one_answer before one other item.0 item.1 item.1 h k).1
@@ -34,4 +34,4 @@ pub did_may_come : (lists : Lists (ObjOp × ObjReply)) (before after : Base) (i 
     ((j : ℕ) (held : ObjOp × ObjReply) → j ≢ i → Contains (lists.held j) held → clashes held item ≡ false) →
     MayCome Step lists before (Did i item) after
 did_may_come lists before after i item running step free =
-    (running, λ j held n in_list. clash_free_pass held item (free j held n in_list), step)
+    (running, λ j held n in_list. clash_free_commute held item (free j held n in_list), step)

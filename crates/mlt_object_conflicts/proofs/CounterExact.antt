@@ -5,13 +5,13 @@ use Rattle.mlt_object_kinds.specs.Counters.{CounterStep, IsLegal, next_of}
 use Rattle.mlt_object_conflicts.specs.declared.counters.CounterClass.{CounterClass}
 use Rattle.mlt_object_conflicts.specs.declared.counters.CounterClass.TheVariants.{Counted, Read}
 use Rattle.mlt_object_conflicts.specs.CounterTable.{counter_class, counter_marks, counter_item}
-use Rattle.mlt_object_conflicts.specs.Tables.{paired, BreaksAt, ClassesConflict, ClassesPass}
-use Rattle.mlt_object_conflicts.proofs.CounterPairs.{Legal, after, Fits, amount, counter_has_rows, counter_rows_pass}
-use Rattle.mlt_object_conflicts.proofs.Rows.{classes_pass}
+use Rattle.mlt_object_conflicts.specs.Tables.{paired, BreaksAt, ClassesConflict, ClassesCommute}
+use Rattle.mlt_object_conflicts.proofs.CounterPairs.{Legal, after, Fits, amount, counter_has_rows, counter_rows_commute}
+use Rattle.mlt_object_conflicts.proofs.Rows.{classes_commute}
 
-pub counter_classes_pass : (p q : CounterClass) → counter_marks p q ≡ false → ClassesPass CounterStep counter_class p q
-counter_classes_pass p q free =
-    classes_pass counter_class IsLegal next_of amount Fits Legal after counter_has_rows p q (counter_rows_pass p q free)
+pub counter_classes_commute : (p q : CounterClass) → counter_marks p q ≡ false → ClassesCommute CounterStep counter_class p q
+counter_classes_commute p q free =
+    classes_commute counter_class IsLegal next_of amount Fits Legal after counter_has_rows p q (counter_rows_commute p q free)
 
 -- a value that is read behind an addition was not there before it
 up_then_read : BreaksAt (paired CounterStep) 0 (counter_item Counted 1) (counter_item Read 1)
@@ -28,10 +28,10 @@ read_then_up = (
 )
 
 abbrev Exact : CounterClass → CounterClass → Type 0
-Exact p q = MatchBool (counter_marks p q) (ClassesConflict CounterStep counter_class p q) (ClassesPass CounterStep counter_class p q)
+Exact p q = MatchBool (counter_marks p q) (ClassesConflict CounterStep counter_class p q) (ClassesCommute CounterStep counter_class p q)
 
 pub counter_exact : (p q : CounterClass) → Exact p q
-counter_exact Counted Counted = counter_classes_pass Counted Counted refl
+counter_exact Counted Counted = counter_classes_commute Counted Counted refl
 counter_exact Counted Read = (0, counter_item Counted 1, counter_item Read 1, refl, refl, up_then_read)
 counter_exact Read Counted = (0, counter_item Read 0, counter_item Counted 1, refl, refl, read_then_up)
-counter_exact Read Read = counter_classes_pass Read Read refl
+counter_exact Read Read = counter_classes_commute Read Read refl

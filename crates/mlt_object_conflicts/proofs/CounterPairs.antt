@@ -1,4 +1,4 @@
--- The rows of counters, and which classes pass which.
+-- The rows of counters, and which classes right commute backward.
 use Rattle.std.proofs.Common.{◌≡◌, ℕ, ◌+◌, ◌-◌, ◌<◌, ◌%◌, ◌^◌, false, refl, arith}
 use Rattle.mlt_object_kinds.specs.Counters.{IsLegal, next_of}
 use Rattle.mlt_object_kinds.specs.declared.counter.CounterOp.{CounterOp}
@@ -59,10 +59,10 @@ below s = omega arith
 either_order : (s n k : ℕ) → ((s + n) % 2 ^ 64 + k) % 2 ^ 64 ≡ ((s + k) % 2 ^ 64 + n) % 2 ^ 64
 either_order s n k = omega arith
 
--- classes that are not marked pass
-pub counter_rows_pass : (p q : CounterClass) → counter_marks p q ≡ false → (n k s : ℕ) → Legal p n s → Legal q k (after p n s) →
+-- classes that are not marked right commute backward
+pub counter_rows_commute : (p q : CounterClass) → counter_marks p q ≡ false → (n k s : ℕ) → Legal p n s → Legal q k (after p n s) →
     Legal q k s × Legal p n (after q k s) × (after q k (after p n s) ≡ after p n (after q k s))
-counter_rows_pass class.Counted class.Counted free n k s h i = (h, below (s + k), either_order s n k)
-counter_rows_pass class.Counted class.Read free n k s h i = absurd (cc free)
-counter_rows_pass class.Read class.Counted free n k s h i = absurd (cc free)
-counter_rows_pass class.Read class.Read free n k s h i = (i, h, refl)
+counter_rows_commute class.Counted class.Counted free n k s h i = (h, below (s + k), either_order s n k)
+counter_rows_commute class.Counted class.Read free n k s h i = absurd (cc free)
+counter_rows_commute class.Read class.Counted free n k s h i = absurd (cc free)
+counter_rows_commute class.Read class.Read free n k s h i = (i, h, refl)

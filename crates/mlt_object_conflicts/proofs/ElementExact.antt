@@ -5,13 +5,13 @@ use Rattle.mlt_object_kinds.specs.Elements.{ElementStep, IsLegal, next_of}
 use Rattle.mlt_object_conflicts.specs.declared.elements.ElementClass.{ElementClass}
 use Rattle.mlt_object_conflicts.specs.declared.elements.ElementClass.TheVariants.{Added}
 use Rattle.mlt_object_conflicts.specs.ElementTable.{element_class, element_marks, element_item, element_before}
-use Rattle.mlt_object_conflicts.specs.Tables.{paired, IsOfClass, BreaksAt, ClassesConflict, ClassesPass}
-use Rattle.mlt_object_conflicts.proofs.ElementPairs.{Legal, after, Fits, amount, element_has_rows, element_rows_pass, element_rows_break}
-use Rattle.mlt_object_conflicts.proofs.Rows.{classes_pass, classes_break}
+use Rattle.mlt_object_conflicts.specs.Tables.{paired, IsOfClass, BreaksAt, ClassesConflict, ClassesCommute}
+use Rattle.mlt_object_conflicts.proofs.ElementPairs.{Legal, after, Fits, amount, element_has_rows, element_rows_commute, element_rows_break}
+use Rattle.mlt_object_conflicts.proofs.Rows.{classes_commute, classes_break}
 
-pub element_classes_pass : (p q : ElementClass) → element_marks p q ≡ false → ClassesPass ElementStep element_class p q
-element_classes_pass p q free =
-    classes_pass element_class IsLegal next_of amount Fits Legal after element_has_rows p q (element_rows_pass p q free)
+pub element_classes_commute : (p q : ElementClass) → element_marks p q ≡ false → ClassesCommute ElementStep element_class p q
+element_classes_commute p q free =
+    classes_commute element_class IsLegal next_of amount Fits Legal after element_has_rows p q (element_rows_commute p q free)
 
 item_class : (c : ElementClass) → IsOfClass element_class (element_item c) c
 item_class c = elim c as (λ c. IsOfClass element_class (element_item c) c) [ Added ↦ refl | _ ↦ refl ]
@@ -29,9 +29,9 @@ element_breach_breaks p q marked = (
       (item_class p) (item_class q) tt tt (element_rows_break p q marked),
 )
 
-pub element_exact : (p q : ElementClass) → MatchBool (element_marks p q) (ClassesConflict ElementStep element_class p q) (ClassesPass ElementStep element_class p q)
+pub element_exact : (p q : ElementClass) → MatchBool (element_marks p q) (ClassesConflict ElementStep element_class p q) (ClassesCommute ElementStep element_class p q)
 element_exact p q =
-    elim (element_marks p q) as (λ b. element_marks p q ≡ b → MatchBool b (ClassesConflict ElementStep element_class p q) (ClassesPass ElementStep element_class p q)) [
+    elim (element_marks p q) as (λ b. element_marks p q ≡ b → MatchBool b (ClassesConflict ElementStep element_class p q) (ClassesCommute ElementStep element_class p q)) [
       | true ↦ λ marked. let t = element_breach_breaks p q marked in (element_before p, element_item p, element_item q, t.0, t.1, t.2)
-      | false ↦ element_classes_pass p q
+      | false ↦ element_classes_commute p q
     ] refl

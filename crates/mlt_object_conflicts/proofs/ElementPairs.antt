@@ -1,4 +1,4 @@
--- The rows of elements, and which classes pass which: one tactic serves every pair.
+-- The rows of elements, and which classes right commute backward: one tactic serves every pair.
 use Rattle.std.proofs.Common.{◌≡◌, ℕ, Bool, true, false, refl, arith}
 use Rattle.mlt_object_kinds.specs.Elements.{IsLegal, next_of}
 use Rattle.mlt_object_kinds.specs.declared.element.ElementOp.{ElementOp}
@@ -57,28 +57,28 @@ element_has_rows = record {
   next = λ o r s h. (fitting o r s).2 h;
 }
 
-abbrev Passes : ElementClass → ElementClass → Bool → Type 0
-Passes p q s =
+abbrev Commute : ElementClass → ElementClass → Bool → Type 0
+Commute p q s =
     element_marks p q ≡ false → element_before p ≡ s → element_before q ≡ left_by p s →
     (element_before q ≡ s) × (element_before p ≡ left_by q s) × (left_by q (left_by p s) ≡ left_by p (left_by q s))
 
-passes : (p q : ElementClass) (s : Bool) → Passes p q s
-passes p q s =
-    elim p as (λ p. Passes p q s) [
-      | Added ↦ elim q as (λ q. Passes Added q s) [
-        | Added ↦ elim s as (λ s. Passes Added Added s) [ true ↦ λ e h i. (cc, cc, cc) | false ↦ λ e h i. (cc, cc, cc) ]
-        | q ↦ elim s as (λ s. Passes Added q s) [ true ↦ λ e h i. (cc, cc, cc) | false ↦ λ e h i. (cc, cc, cc) ]
+rows_commute : (p q : ElementClass) (s : Bool) → Commute p q s
+rows_commute p q s =
+    elim p as (λ p. Commute p q s) [
+      | Added ↦ elim q as (λ q. Commute Added q s) [
+        | Added ↦ elim s as (λ s. Commute Added Added s) [ true ↦ λ e h i. (cc, cc, cc) | false ↦ λ e h i. (cc, cc, cc) ]
+        | q ↦ elim s as (λ s. Commute Added q s) [ true ↦ λ e h i. (cc, cc, cc) | false ↦ λ e h i. (cc, cc, cc) ]
       ]
-      | p ↦ elim q as (λ q. Passes p q s) [
-        | Added ↦ elim s as (λ s. Passes p Added s) [ true ↦ λ e h i. (cc, cc, cc) | false ↦ λ e h i. (cc, cc, cc) ]
-        | q ↦ elim s as (λ s. Passes p q s) [ true ↦ λ e h i. (cc, cc, cc) | false ↦ λ e h i. (cc, cc, cc) ]
+      | p ↦ elim q as (λ q. Commute p q s) [
+        | Added ↦ elim s as (λ s. Commute p Added s) [ true ↦ λ e h i. (cc, cc, cc) | false ↦ λ e h i. (cc, cc, cc) ]
+        | q ↦ elim s as (λ s. Commute p q s) [ true ↦ λ e h i. (cc, cc, cc) | false ↦ λ e h i. (cc, cc, cc) ]
       ]
     ]
 
--- classes that are not marked pass
-pub element_rows_pass : (p q : ElementClass) → element_marks p q ≡ false → (n k : ℕ) (s : Bool) → Legal p n s → Legal q k (after p n s) →
+-- classes that are not marked right commute backward
+pub element_rows_commute : (p q : ElementClass) → element_marks p q ≡ false → (n k : ℕ) (s : Bool) → Legal p n s → Legal q k (after p n s) →
     Legal q k s × Legal p n (after q k s) × (after q k (after p n s) ≡ after p n (after q k s))
-element_rows_pass p q free n k s h i = passes p q s free h i
+element_rows_commute p q free n k s h i = rows_commute p q s free h i
 
 abbrev Breaks : ElementClass → ElementClass → Type 0
 Breaks p q =

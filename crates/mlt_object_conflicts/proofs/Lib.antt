@@ -6,7 +6,7 @@ pub mod CounterPairs
 pub mod AccountExact
 pub mod ElementExact
 pub mod CounterExact
-pub mod BasePasses
+pub mod BaseCommutes
 pub mod SizeBreaks
 pub mod BaseBreaks
 pub mod BaseOrder

@@ -3,7 +3,7 @@
 use Rattle.std.proofs.Common.{◌≡◌, ℕ, Bool, false, Option, None, Some, refl, sym, ap, subst, ◌∙◌}
 use Rattle.mlt_order.specs.Runs.{RightCommutesBackward}
 use Rattle.mlt_object_conflicts.specs.Clashes.{marked_classes}
-use Rattle.mlt_object_conflicts.specs.Tables.{paired, IsOfClass, BreaksAt, ClassesPass}
+use Rattle.mlt_object_conflicts.specs.Tables.{paired, IsOfClass, BreaksAt, ClassesCommute}
 
 module _ {S O R C : Type 0}
     (class_of : O → R → Option C) (IsLegal : O → R → S → Type 0) (next_of : O → R → S → S)
@@ -28,9 +28,9 @@ module _ {S O R C : Type 0}
     pub from : (o : O) (r : R) (s : S) → RowIsLegal (class_of o r) (amount o r) s → Fits o → IsLegal o r s
     pub next : (o : O) (r : R) (s : S) → RowIsLegal (class_of o r) (amount o r) s → next_of o r s ≡ row_after (class_of o r) (amount o r) s
 
-  -- classes with amounts pass in every state
-  abbrev pub RowsPass : C → C → Type 0
-  RowsPass p q =
+  -- classes with amounts commute in every state
+  abbrev pub RowsCommute : C → C → Type 0
+  RowsCommute p q =
       (n k : ℕ) (s : S) → Legal p n s → Legal q k (after p n s) →
       Legal q k s × Legal p n (after q k s) × (after q k (after p n s) ≡ after p n (after q k s))
 
@@ -56,14 +56,14 @@ module _ {S O R C : Type 0}
         let row = subst F (sym is) legal in
         (rows.from x.0 x.1 s row fits, subst G is (rows.next x.0 x.1 s row))
 
-    pub classes_pass : (p q : C) → RowsPass p q → ClassesPass StepBy class_of p q
-    classes_pass p q pass x y x_is y_is b m s h i =
+    pub classes_commute : (p q : C) → RowsCommute p q → ClassesCommute StepBy class_of p q
+    classes_commute p q commute x y x_is y_is b m s h i =
         let n = amount x.0 x.1 in
         let k = amount y.0 y.1 in
         let first = step_into x p b m x_is h in
         let second = step_into y q m s y_is i in
         let F : S → Type 0 = Legal q k in
-        let t = pass n k b first.0 (subst F (sym first.2) second.0) in
+        let t = commute n k b first.0 (subst F (sym first.2) second.0) in
         let other = after q k b in
         let back = step_from x p other x_is t.1 first.1 in
         (other, step_from y q b y_is t.0 second.1, (back.0, back.1 ∙ sym t.2 ∙ ap (after q k) first.2 ∙ second.2))
@@ -85,10 +85,10 @@ module _ {S O R C : Type 0}
               break.2 second.0 (subst F (sym second.2) first.0) (sym first.2 ∙ ap (after p n) (sym second.2)),
         )
 
-    -- items whose classes are not marked pass, and those without a class are never legal
-    pub items_pass : (marks : C → C → Bool) → ((p q : C) → marks p q ≡ false → RowsPass p q) →
+    -- items whose classes are not marked commute, and those without a class are never legal
+    pub items_commute : (marks : C → C → Bool) → ((p q : C) → marks p q ≡ false → RowsCommute p q) →
         (x y : O × R) → marked_classes marks (class_of x.0 x.1) (class_of y.0 y.1) ≡ false → RightCommutesBackward (paired StepBy) x y
-    items_pass marks sound x y free =
+    items_commute marks sound x y free =
         let Goal : Option C → Option C → Type 0 = λ p q.
         class_of x.0 x.1 ≡ p → class_of y.0 y.1 ≡ q → marked_classes marks p q ≡ false → RightCommutesBackward (paired StepBy) x y in
         let none : (z : O × R) (s t : S) → class_of z.0 z.1 ≡ None → StepBy s z.0 z.1 t → ⊥ = λ z s t is h.
@@ -98,6 +98,6 @@ module _ {S O R C : Type 0}
           | None ↦ λ p_is q_is e b m s h i. absurd (none x b m p_is h)
           | Some p ↦ elim (class_of y.0 y.1) as (λ q. Goal (Some p) q) [
             | None ↦ λ p_is q_is e b m s h i. absurd (none y m s q_is i)
-            | Some q ↦ λ p_is q_is e. classes_pass p q (sound p q e) x y p_is q_is
+            | Some q ↦ λ p_is q_is e. classes_commute p q (sound p q e) x y p_is q_is
           ]
         ] refl refl free

@@ -16,9 +16,9 @@ use Rattle.mlt_object_conflicts.specs.declared.elements.ElementClass.{ElementCla
 use Rattle.mlt_object_conflicts.specs.declared.elements.ElementClass.TheVariants.{Added, Removed}
 use Rattle.mlt_object_conflicts.specs.ElementTable.{element_class, element_item}
 use Rattle.mlt_object_conflicts.specs.Clashes.{clashes}
-use Rattle.mlt_object_conflicts.specs.Sizes.{BreaksSizes, ConflictsWithSizes, PassesSizes, base_of_one, changes_told, counts, on_element, told_size}
+use Rattle.mlt_object_conflicts.specs.Sizes.{BreaksSizes, ConflictsWithSizes, CommutesWithSizes, base_of_one, changes_told, counts, on_element, told_size}
 use Rattle.mlt_object_conflicts.specs.Tables.{BreaksAt, IsOfClass}
-use Rattle.mlt_object_conflicts.proofs.BasePasses.{clash_free_pass}
+use Rattle.mlt_object_conflicts.proofs.BaseCommutes.{clash_free_commute}
 
 -- each size may be asked for
 size_step : (b : Base) (s : ℕ) → Step b (told_size s (size_at b s)) b
@@ -98,10 +98,10 @@ no_clash s e item class t n is free =
     λ b. ap (λ x. b && x) not ∙ elim b as (λ b. (b && false) ≡ false) [ true ↦ refl | false ↦ refl ] in
     (never (nat_eq s t), never (nat_eq t s))
 
-pub uncounted_pass : (class : ElementClass) → counts class ≡ false → PassesSizes class
-uncounted_pass class free s e t n item is =
+pub uncounted_commute : (class : ElementClass) → counts class ≡ false → CommutesWithSizes class
+uncounted_commute class free s e t n item is =
     let no = no_clash s e item class t n is free in
-    (clash_free_pass (on_element s e item) (told_size t n) no.0, clash_free_pass (told_size t n) (on_element s e item) no.1)
+    (clash_free_commute (on_element s e item) (told_size t n) no.0, clash_free_commute (told_size t n) (on_element s e item) no.1)
 
 pub others_do_not_count : (class : ElementClass) → class ≢ Added → class ≢ Removed → counts class ≡ false
 others_do_not_count Added added removed = absurd (added refl)
@@ -113,9 +113,9 @@ counted_conflict Added is = let break = added_breaks 0 0 in (base_of_one 0 0 fal
 counted_conflict Removed is = let break = removed_breaks 0 0 in (base_of_one 0 0 true, 0, 0, element_item Removed, 1, 0, refl, break)
 counted_conflict _ is = absurd (cc is)
 
-pub counts_exact : (class : ElementClass) → MatchBool (counts class) (ConflictsWithSizes class) (PassesSizes class)
+pub counts_exact : (class : ElementClass) → MatchBool (counts class) (ConflictsWithSizes class) (CommutesWithSizes class)
 counts_exact class =
-    elim (counts class) as (λ b. counts class ≡ b → MatchBool b (ConflictsWithSizes class) (PassesSizes class)) [
+    elim (counts class) as (λ b. counts class ≡ b → MatchBool b (ConflictsWithSizes class) (CommutesWithSizes class)) [
       | true ↦ counted_conflict class
-      | false ↦ uncounted_pass class
+      | false ↦ uncounted_commute class
     ] refl

@@ -39,8 +39,8 @@ abbrev pub told_size : ℕ → ℕ → ObjOp × ObjReply
 told_size set n = (Size set, Is n)
 
 -- an operation of the class right commutes backward with each size that is told, and each size with it
-abbrev pub PassesSizes : ElementClass → Type 0
-PassesSizes class =
+abbrev pub CommutesWithSizes : ElementClass → Type 0
+CommutesWithSizes class =
     (set element other n : ℕ) (item : ElementOp × ObjReply) → IsOfClass element_class item class →
     RightCommutesBackward Step (on_element set element item) (told_size other n) ×
     RightCommutesBackward Step (told_size other n) (on_element set element item)

@@ -27,9 +27,9 @@ ClassesConflict {S} {O} {R} step class_of held requested =
     BreaksAt (paired step) state first second
 
 -- each item of the requested class right commutes backward with each of the held class: the classes are not to be marked
-abbrev pub ClassesPass
+abbrev pub ClassesCommute
     : {S O R C : Type 0} → (S → O → R → S → Type 0) → (O → R → Option C) → C → C → Type 0
-ClassesPass {S} {O} {R} step class_of held requested =
+ClassesCommute {S} {O} {R} step class_of held requested =
     (first second : O × R) → IsOfClass class_of first held → IsOfClass class_of second requested →
     RightCommutesBackward (paired step) first second
 

@@ -20,7 +20,7 @@ ghost use Rattle.mlt_order.specs.Tables.{AreFinitelyMany};
 pub fn clashes_are_exact()
     ensures apart { (held requested : ObjOp × ObjReply) → AreApart held.0 requested.0
         → clashes held requested ≡ false }
-    ensures passes { (held requested : ObjOp × ObjReply) → clashes held requested ≡ false
+    ensures commutes { (held requested : ObjOp × ObjReply) → clashes held requested ≡ false
         → RightCommutesBackward Step held requested }
     ensures breaks { (held requested : ObjOp × ObjReply) → clashes held requested ≡ true
         → SomeLikeThemBreak held requested }

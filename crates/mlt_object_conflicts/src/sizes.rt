@@ -2,7 +2,7 @@
 
 ghost use Rattle.std.specs.Prelude.{◌≡◌, MatchBool, MatchOption};
 ghost use Rattle.mlt_object_conflicts.specs.ElementTable.{element_class};
-ghost use Rattle.mlt_object_conflicts.specs.Sizes.{ConflictsWithSizes, IsSizeExample, PassesSizes, changes_told, counts};
+ghost use Rattle.mlt_object_conflicts.specs.Sizes.{ConflictsWithSizes, IsSizeExample, CommutesWithSizes, changes_told, counts};
 
 use crate::elements::ElementClass;
 use crate::table::Table;
@@ -29,7 +29,7 @@ impl ElementClass {
     /// some size, in some base, do not right commute backward.
     pub fn counts(self) -> bool
         ensures table { result ≡ counts self }
-        ensures exact { MatchBool result (ConflictsWithSizes self) (PassesSizes self) }
+        ensures exact { MatchBool result (ConflictsWithSizes self) (CommutesWithSizes self) }
     {
         is_counted(self)
     }
@@ -37,7 +37,7 @@ impl ElementClass {
     /// An operation of the class and sizes of its set that do not right commute backward; None where there are
     /// none.
     pub fn size_example(self) -> Option<SizeExample>
-        ensures breaks { MatchOption result (PassesSizes self) (IsSizeExample self) }
+        ensures breaks { MatchOption result (CommutesWithSizes self) (IsSizeExample self) }
     {
         match self {
             ElementClass::Added => Some(SizeExample {

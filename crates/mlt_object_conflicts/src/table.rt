@@ -1,7 +1,7 @@
 //! What a conflict table is.
 
 ghost use Rattle.std.specs.Prelude.{◌≡◌, Bool, IfNone, IfSome, MatchBool, MatchOption, Option};
-ghost use Rattle.mlt_object_conflicts.specs.Tables.{ClassesConflict, ClassesPass, HasLegalItem, IsExample};
+ghost use Rattle.mlt_object_conflicts.specs.Tables.{ClassesConflict, ClassesCommute, HasLegalItem, IsExample};
 
 use crate::example::Example;
 use mlt_object_kinds::Kind;
@@ -29,7 +29,7 @@ pub trait Table: Kind {
     fn conflicts(held: Self::Class, requested: Self::Class) -> bool
         ensures table { result ≡ marks held requested }
         ensures exact { MatchBool result (ClassesConflict Self.step class_of held requested)
-            (ClassesPass Self.step class_of held requested) };
+            (ClassesCommute Self.step class_of held requested) };
 
     /// A state and two operations of the classes that do not right commute backward there; None where there
     /// are none.
@@ -37,7 +37,7 @@ pub trait Table: Kind {
         held: Self::Class,
         requested: Self::Class,
     ) -> Option<Example<Self::State, Self::Op, Self::Reply>>
-        ensures breaks { MatchOption result (ClassesPass Self.step class_of held requested)
+        ensures breaks { MatchOption result (ClassesCommute Self.step class_of held requested)
             (λ x. IsExample Self.step class_of held requested x) }
         ensures state { IfSome result (λ x. Self.is_state x.state) };
 

@@ -1,4 +1,4 @@
 pub mod BaseLaws
 mod Packings
-pub mod PassingLaws
+pub mod CommutingLaws
 pub mod Sizes

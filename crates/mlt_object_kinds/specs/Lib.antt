@@ -8,6 +8,5 @@ pub mod ElementLaws
 pub mod Elements
 pub mod Operations
 pub mod Packing
-pub mod Passing
 pub mod Sizes
 pub mod Texts

@@ -4,7 +4,7 @@ ghost use Rattle.std.specs.Prelude.{◌≡◌, ◌+◌, ◌<◌, ◌≤◌, ℕ,
 ghost use Rattle.mlt_object_kinds.specs.Bases.{Base, TellsSize, element_at, empty_base, size_at, state_at, Step, with_state};
 ghost use Rattle.mlt_object_kinds.specs.Cells.{CellState, CellStep};
 ghost use Rattle.mlt_object_kinds.specs.Operations.{AreApart, cell_of, cells_of};
-ghost use Rattle.mlt_object_kinds.specs.Passing.{Passes, PassesOnCell};
+ghost use Rattle.mlt_order.specs.Runs.{RightCommutesBackward};
 ghost use Rattle.mlt_object_kinds.specs.Sizes.{put_into, taken_from};
 ghost use Rattle.mlt_object_kinds.specs.declared.operation.ObjReply.{ObjReply};
 ghost use Rattle.mlt_object_kinds.specs.declared.operation.ObjOp.{ObjOp};
@@ -26,12 +26,12 @@ pub fn steps_of_bases_are_fixed()
     ensures few { (op : ObjOp) → length (cells_of op) ≤ 2 }
 {}
 
-/// Operations that are locked on no cell of both pass each other in every base, and operations on one cell do where
-/// they do so on the cell: then the second may come before the first, with the same end.
-pub fn steps_of_bases_pass()
-    ensures apart { (p q : ObjOp × ObjReply) → AreApart p.0 q.0 → Passes p q }
-    ensures on_one_cell { (p q : ObjOp × ObjReply) → cell_of p.0 ≡ cell_of q.0 → PassesOnCell p q
-        → Passes p q }
+/// Operations that are locked on no cell of both right commute backward with each other in every base, and operations on
+/// one cell do where they do so on the cell: then the second may come before the first, with the same end (Weihl 1988).
+pub fn steps_of_bases_commute()
+    ensures apart { (p q : ObjOp × ObjReply) → AreApart p.0 q.0 → RightCommutesBackward Step p q }
+    ensures on_one_cell { (p q : ObjOp × ObjReply) → cell_of p.0 ≡ cell_of q.0
+        → RightCommutesBackward CellStep p q → RightCommutesBackward Step p q }
 {}
 
 /// No set of the empty base has an element. The size of a set after a step, with what the step took out of the set, is

@@ -18,6 +18,6 @@ pub use counter::{Counter, CounterOp};
 pub use done::Done;
 pub use element::{Element, ElementOp};
 pub use kind::Kind;
-pub use laws::{sizes_follow_steps, steps_of_bases_are_fixed, steps_of_bases_pass};
+pub use laws::{sizes_follow_steps, steps_of_bases_are_fixed, steps_of_bases_commute};
 pub use operation::{ObjOp, ObjReply};
 pub use packed::{OpKind, Packed, ReplyKind};

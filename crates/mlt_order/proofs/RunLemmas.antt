@@ -35,7 +35,7 @@ module _ {S P : Type 0} (step : S → P → S → Type 0) where
       let same : e.0 ≡ f.0 = runs_from_one inj items e.0 f.0 s e.2 f.2 in
       inj b c f.0 p (subst (step b p) same e.1) f.1
 
-  -- an item that may pass each item of a run goes to the front of it
+  -- an item that right commutes backward with each item of a run goes to the front of it
   pub to_front : (items : List P) (p : P) (b s t : S) → ((q : P) → Contains items q → RightCommutesBackward step q p) → Runs step b items s → step s p t → Runs step b (p ∷ items) t
   to_front [] p b s t may e h = let F : S → Type 0 = λ x. step x p t in (t, subst F (sym e) h, refl)
   to_front (q ∷ items) p b s t may r h =

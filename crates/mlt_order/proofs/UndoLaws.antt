@@ -20,9 +20,9 @@ module _ {S P : Type 0} (step : S → P → S → Type 0) where
   begin b s i f g none emptied = undone_to_same b s f g (at_each i (λ j. g j ≡ f j) (emptied.0 ∙ sym none) emptied.1)
 
   -- what stands behind the last item of i is of others
-  passes : (i : ℕ) (p : P) (f g : ℕ → List P) → ((j : ℕ) (q : P) → j ≢ i → Contains (f j) q → RightCommutesBackward step q p) → Gains f g i p →
+  commutes : (i : ℕ) (p : P) (f g : ℕ → List P) → ((j : ℕ) (q : P) → j ≢ i → Contains (f j) q → RightCommutesBackward step q p) → Gains f g i p →
       (m : List (ℕ × P)) → IsInterleaving g m → (l : Last i m (f i) p) → (q : P) → Contains (all_items l.1) q → RightCommutesBackward step q p
-  passes i p f g may gains m mixes l q k =
+  commutes i p f g may gains m mixes l q k =
       let o = in_all_items l.1 q k in
       let F : List P → Type 0 = λ z. Contains z q in
       elim (cases_eq i o.0) [
@@ -44,7 +44,7 @@ module _ {S P : Type 0} (step : S → P → S → Type 0) where
       let l = popped.0 in
       let run = back (l.0 ++ l.1) popped.1 in
       let parts = runs_split step (all_items l.0) (all_items l.1) b s (subst (λ z. Runs step b z s) (all_items-append l.0 l.1) run) in
-      let moved = to_front step (all_items l.1) p parts.0 s t (passes i p f g may gains m mixes l) parts.2 h in
+      let moved = to_front step (all_items l.1) p parts.0 s t (commutes i p f g may gains m mixes l) parts.2 h in
       let all = runs_append step (all_items l.0) (p ∷ all_items l.1) b parts.0 t parts.1 moved in
       subst (λ z. Runs step b z t) (sym (ap all_items l.2 ∙ all_items-append l.0 ((i, p) ∷ l.1))) all
 

@@ -79,8 +79,8 @@ items_done (Did i item ∷ entries) = (i, item) ∷ items_done entries
 items_done (_ ∷ entries) = items_done entries
 
 -- the item right commutes backward with each item that the transaction of another number holds
-abbrev pub PassesOthers : {S P : Type 0} → (S → P → S → Type 0) → (ℕ → List P) → ℕ → P → Type 0
-PassesOthers {S} {P} step held i item =
+abbrev pub CommutesWithOthers : {S P : Type 0} → (S → P → S → Type 0) → (ℕ → List P) → ℕ → P → Type 0
+CommutesWithOthers {S} {P} step held i item =
     (j : ℕ) (earlier : P) → j ≢ i → Contains (held j) earlier → RightCommutesBackward step earlier item
 
 -- the entry may come, and leads from one state to another
@@ -89,7 +89,7 @@ abbrev pub MayCome : {S P : Type 0} → (S → P → S → Type 0) → Lists P �
 MayCome step lists before (Begun i) after = (lists.stage i ≡ Stage.Fresh) × (before ≡ after)
 -- an item is done by a running transaction, past all that others hold
 MayCome step lists before (Did i item) after =
-    (lists.stage i ≡ Stage.Running) × PassesOthers step lists.held i item × step before item after
+    (lists.stage i ≡ Stage.Running) × CommutesWithOthers step lists.held i item × step before item after
 -- the last item is taken back, and the state is one from which it leads here
 MayCome {S} {P} step lists before (TookBack i) after =
     (rest : List P) × (last : P) × (lists.transcripts i ≡ rest ++ last ∷ []) × step after last before

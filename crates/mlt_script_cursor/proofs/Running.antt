@@ -19,14 +19,14 @@ use Rattle.mlt_script_cursor.specs.declared.cursor.Next.TheVariants as next
 use Rattle.mlt_script_cursor.specs.Follows.{Questions, Variables, IsNext, IsAsking, answered, goes_on, set_by}
 use Rattle.mlt_script_cursor.specs.Follows.Questions.{Ends, Asks}
 use Rattle.mlt_script_cursor.specs.Hearing.{question, heard, heard_values, after_hearing}
-use Rattle.mlt_script_cursor.specs.Runs.{run, passed, stops_at, is_settled}
+use Rattle.mlt_script_cursor.specs.Runs.{run, skipped, stops_at, is_settled}
 
 -- the line that is read past the end of lines
 abbrev pub some_line : Line
 some_line = line.Plain (Ask (Fixed (Account 0 Open)))
 
 pub passes : (l : Line) (ls : List Line) (m : Skipping) (vs : Variables) (end : Ending) → stops_at l m ≡ false
-    → run (l ∷ ls) m vs end ≡ run ls (passed l m) vs end
+    → run (l ∷ ls) m vs end ≡ run ls (skipped l m) vs end
 unfolding run
 passes line.Else ls Nowhere vs end h = refl
 passes line.End ls Nowhere vs end h = refl
@@ -64,7 +64,7 @@ pub front : (ls : List Line) (at : ℕ) (d : Line) → at < length ls → drop a
 front ls at d h = rw (add-one at) (drop-cons ls at d h)
 
 pub turn : (ls : List Line) (at : ℕ) (m : Skipping) (d : Line) (vs : Variables) (end : Ending) → at < length ls → stops_at (get_or ls at d) m ≡ false
-    → run (drop (at + 1) ls) (passed (get_or ls at d) m) vs end ≡ run (drop at ls) m vs end
+    → run (drop (at + 1) ls) (skipped (get_or ls at d) m) vs end ≡ run (drop at ls) m vs end
 turn ls at m d vs end h s = sym (ap (λ (xs : List Line). run xs m vs end) (front ls at d h) ∙ passes (get_or ls at d) (drop (at + 1) ls) m vs end s)
 
 asks_first : (l : Line) (ls : List Line) (vs : Variables) (end : Ending) → stops_at l Nowhere ≡ true → IsNext (question l vs) (run (l ∷ ls) Nowhere vs end)

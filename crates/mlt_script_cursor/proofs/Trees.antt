@@ -19,7 +19,7 @@ regroup : (first second : List Line) (e f : Line) (rest more : List Line) → (f
 regroup first second e f rest more =
     append_assoc first (e ∷ (second ++ f ∷ rest)) more ∙ ap (λ (xs : List Line). first ++ e ∷ xs) (append_assoc second (f ∷ rest) more)
 
--- a part is passed over whole
+-- a part is skipped whole
 skips_else : (b : Block) (more : List Line) (n : ℕ) (vs : Variables) (end : Ending) → run (lines_of b ++ more) (ToElse n) vs end ≡ run more (ToElse n) vs end
 unfolding run
 skips_else Nothing more n vs end = refl

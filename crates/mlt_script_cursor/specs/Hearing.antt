@@ -18,7 +18,7 @@ question (line.Plain s) vs = next.Op (asked_by vs s)
 question (line.If a w) vs = next.Op (asked vs a)
 question l vs = next.Abort
 
--- up to where it is passed over at the reply; None where the script aborts
+-- up to where it is skipped at the reply; None where the script aborts
 abbrev pub heard : Line → Variables → ObjReply → Option Skipping
 heard (line.Plain s) vs r = if goes_on vs s r then Some Nowhere else None
 heard (line.If a w) vs r = Some (if is_wanted vs w r then Nowhere else ToElse 0)

@@ -1,14 +1,14 @@
-//! Lines of a script that are passed over.
+//! Lines of a script that are skipped.
 
 ghost use Rattle.std.specs.Prelude.{◌≡◌, true, ℕ, List, ◌<◌, ◌≤◌, ◌+◌, ◌^◌, length, drop};
 ghost use Rattle.mlt_script_cursor.specs.Follows.{Variables};
-ghost use Rattle.mlt_script_cursor.specs.Runs.{run, passed, level, stops_at, is_settled};
+ghost use Rattle.mlt_script_cursor.specs.Runs.{run, skipped, level, stops_at, is_settled};
 ghost use Rattle.mlt_script_cursor.specs.declared.skipping.Skipping.TheVariants.{Nowhere};
 ghost use Rattle.mlt_script_tree.specs.declared.statement.Ending.{Ending};
 
 use mlt_script_tree::Line;
 
-/// Up to where lines are passed over.
+/// Up to where lines are skipped.
 #[derive(Clone, Copy)]
 pub enum Skipping {
     /// None is.
@@ -19,9 +19,9 @@ pub enum Skipping {
     ToEnd(usize),
 }
 
-fn pass(line: Line, skipping: Skipping) -> Skipping
+fn skip(line: Line, skipping: Skipping) -> Skipping
     requires { level skipping < 2 ^ 63 }
-    ensures passed { result ≡ passed line skipping }
+    ensures skipped { result ≡ skipped line skipping }
     ensures level { level result ≤ level skipping + 1 }
 {
     match skipping {
@@ -62,7 +62,7 @@ fn stops(line: Line, skipping: Skipping) -> bool
     }
 }
 
-/// The first line from `at` on that asks and is not passed over, or the number of lines.
+/// The first line from `at` on that asks and is not skipped, or the number of lines.
 pub fn settled(lines: &[Line], at: usize, skipping: Skipping) -> usize
     requires level { level skipping ≤ at }
     requires at { at ≤ length lines.now }
@@ -79,7 +79,7 @@ pub fn settled(lines: &[Line], at: usize, skipping: Skipping) -> usize
         if stops(line, skipping) {
             return place;
         }
-        skipping = pass(line, skipping);
+        skipping = skip(line, skipping);
         place += 1;
     }
     place

@@ -105,7 +105,7 @@ impl Notes {
     }
 
     /// Notes that the line was answered.
-    pub fn pass(&mut self, line: Line)
+    pub fn note_answered(&mut self, line: Line)
         requires small { self.old.progress.lines < 2 ^ 62 }
         ensures progress { self.new.progress ≡ after_line self.old.progress line }
         ensures receipts { (client : ℕ)

@@ -193,12 +193,12 @@ pub fn take_turn<D: Desk>(
     match call_for(notes.progress.tx, line) {
         Some(call) => {
             let answer = ask(notes, desk, client, call)?;
-            notes.pass(line);
+            notes.note_answered(line);
             Ok(said_with(line, answer))
         }
         None => {
             let said = said_alone(notes.progress.tx, line);
-            notes.pass(line);
+            notes.note_answered(line);
             Ok(said)
         }
     }

@@ -1,5 +1,5 @@
 use Rattle.mlt_object_kinds.proofs.BaseLaws.{base_one_answer, base_one_start, same_base, step_to}
-use Rattle.mlt_object_kinds.proofs.PassingLaws.{few_cells}
+use Rattle.mlt_object_kinds.proofs.CommutingLaws.{few_cells}
 use Rattle.mlt_object_kinds.proofs.laws.steps_of_bases_are_fixed.Goals as goal
 
 pub returns-clause-cells : goal.returns-clause-cells

@@ -13,8 +13,8 @@ loop-place-preserved c =
     record {
       from = let f = l.invariant.from in omega (arith, f);
       within = let t = c.loop-place-test.true in omega (arith, t);
-      deep = let d = l.invariant.deep in let p = c.pass-skipping.ensures.level in omega (arith, d, p);
-      same = λ vs end. rw c.pass-skipping.ensures.passed
+      deep = let d = l.invariant.deep in let p = c.skip-skipping.ensures.level in omega (arith, d, p);
+      same = λ vs end. rw c.skip-skipping.ensures.skipped
           (turn c.args.lines.now l.place l.skipping some_line vs end c.loop-place-test.true (sym c.stops.ensures ∙ c.if-stops.false) ∙ l.invariant.same vs end);
     }
 

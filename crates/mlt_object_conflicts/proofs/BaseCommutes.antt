@@ -1,4 +1,4 @@
--- What passes or breaks on one cell does so over whole bases.
+-- What commutes or breaks on one cell does so over whole bases.
 use Rattle.std.proofs.Common.{◌≡◌, ℕ, true, false, cond, ◌&&◌, nat_eq, refl, ap, inl, inr, arith}
 use Rattle.std.proofs.lemmas.Bool.{cases_eq, eq-eqb, ne_eqb}
 use Rattle.std.specs.Cmp.{nat_eq_equiv}
@@ -17,10 +17,10 @@ use Rattle.mlt_object_kinds.specs.Accounts.{AccountStep, IsLegal as account_lega
 use Rattle.mlt_object_kinds.specs.Elements.{ElementStep, IsLegal as element_legal, next_of as element_next}
 use Rattle.mlt_object_kinds.specs.Counters.{CounterStep, IsLegal as counter_legal, next_of as counter_next}
 use Rattle.mlt_object_kinds.specs.Cells.CellState.{AccountState, ElementState, CounterState, NoState}
+use Rattle.mlt_object_kinds.specs.Cells.{CellStep}
 use Rattle.mlt_object_kinds.specs.Bases.{Step}
-use Rattle.mlt_object_kinds.proofs.PassingLaws.{apart_on_two_cells, cell_steps_pass, two_cells_pass}
+use Rattle.mlt_object_kinds.proofs.CommutingLaws.{apart_on_two_cells, cell_steps_commute, two_cells_commute}
 use Rattle.mlt_object_kinds.specs.Operations.{AreApart}
-use Rattle.mlt_object_kinds.specs.Passing.{PassesOnCell}
 use Rattle.mlt_object_conflicts.specs.AccountTable.{account_class, account_marks}
 use Rattle.mlt_object_conflicts.specs.ElementTable.{element_class, element_marks}
 use Rattle.mlt_object_conflicts.specs.CounterTable.{counter_class, counter_marks}
@@ -31,52 +31,52 @@ use Rattle.mlt_object_conflicts.proofs.AccountPairs as account
 use Rattle.mlt_object_conflicts.proofs.AccountRows as account_rows
 use Rattle.mlt_object_conflicts.proofs.ElementPairs as element
 use Rattle.mlt_object_conflicts.proofs.CounterPairs as counter
-use Rattle.mlt_object_conflicts.proofs.Rows.{items_pass}
+use Rattle.mlt_object_conflicts.proofs.Rows.{items_commute}
 
-account_on_cell : (a b : ℕ) (x y : AccountOp × ObjReply) → RightCommutesBackward (paired AccountStep) x y → PassesOnCell (Account a x.0, x.1) (Account b y.0, y.1)
+account_on_cell : (a b : ℕ) (x y : AccountOp × ObjReply) → RightCommutesBackward (paired AccountStep) x y → RightCommutesBackward CellStep (Account a x.0, x.1) (Account b y.0, y.1)
 account_on_cell a b x y may (AccountState s) (AccountState m) (AccountState t) h k = let w = may s m t h k in (AccountState w.0, w.1, w.2)
 account_on_cell a b x y may _ _ _ h k = absurd (first_of (cc, grind arith))
 
-element_on_cell : (s e t f : ℕ) (x y : ElementOp × ObjReply) → RightCommutesBackward (paired ElementStep) x y → PassesOnCell (Element s e x.0, x.1) (Element t f y.0, y.1)
+element_on_cell : (s e t f : ℕ) (x y : ElementOp × ObjReply) → RightCommutesBackward (paired ElementStep) x y → RightCommutesBackward CellStep (Element s e x.0, x.1) (Element t f y.0, y.1)
 element_on_cell s e t f x y may (ElementState b) (ElementState m) (ElementState d) h k = let w = may b m d h k in (ElementState w.0, w.1, w.2)
 element_on_cell s e t f x y may _ _ _ h k = absurd (first_of (cc, grind arith))
 
-counter_on_cell : (c d : ℕ) (x y : CounterOp × ObjReply) → RightCommutesBackward (paired CounterStep) x y → PassesOnCell (Counter c x.0, x.1) (Counter d y.0, y.1)
+counter_on_cell : (c d : ℕ) (x y : CounterOp × ObjReply) → RightCommutesBackward (paired CounterStep) x y → RightCommutesBackward CellStep (Counter c x.0, x.1) (Counter d y.0, y.1)
 counter_on_cell c d x y may (CounterState s) (CounterState m) (CounterState t) h k = let w = may s m t h k in (CounterState w.0, w.1, w.2)
 counter_on_cell c d x y may _ _ _ h k = absurd (first_of (cc, grind arith))
 
-accounts_pass : (a b : ℕ) (x y : AccountOp × ObjReply) → clashes (Account a x.0, x.1) (Account b y.0, y.1) ≡ false → RightCommutesBackward Step (Account a x.0, x.1) (Account b y.0, y.1)
-accounts_pass a b x y free =
+accounts_commute : (a b : ℕ) (x y : AccountOp × ObjReply) → clashes (Account a x.0, x.1) (Account b y.0, y.1) ≡ false → RightCommutesBackward Step (Account a x.0, x.1) (Account b y.0, y.1)
+accounts_commute a b x y free =
     elim (cases_eq a b) [
       | inl e ↦
-          let pass = items_pass account_class account_legal account_next account_rows.amount account.Fits account.Legal account.after account_rows.account_has_rows
-          account_marks account.account_rows_pass x y (rw (eq-eqb a b e) at free) in
-          cell_steps_pass (Account a x.0, x.1) (Account b y.0, y.1) (ap cell.Account e) (account_on_cell a b x y pass)
-      | inr n ↦ two_cells_pass (Account a x.0, x.1) (Account b y.0, y.1) (λ e. n (cc)) tt tt
+          let commute = items_commute account_class account_legal account_next account_rows.amount account.Fits account.Legal account.after account_rows.account_has_rows
+          account_marks account.account_rows_commute x y (rw (eq-eqb a b e) at free) in
+          cell_steps_commute (Account a x.0, x.1) (Account b y.0, y.1) (ap cell.Account e) (account_on_cell a b x y commute)
+      | inr n ↦ two_cells_commute (Account a x.0, x.1) (Account b y.0, y.1) (λ e. n (cc)) tt tt
     ]
 
-counters_pass : (c d : ℕ) (x y : CounterOp × ObjReply) → clashes (Counter c x.0, x.1) (Counter d y.0, y.1) ≡ false → RightCommutesBackward Step (Counter c x.0, x.1) (Counter d y.0, y.1)
-counters_pass c d x y free =
+counters_commute : (c d : ℕ) (x y : CounterOp × ObjReply) → clashes (Counter c x.0, x.1) (Counter d y.0, y.1) ≡ false → RightCommutesBackward Step (Counter c x.0, x.1) (Counter d y.0, y.1)
+counters_commute c d x y free =
     elim (cases_eq c d) [
       | inl e ↦
-          let pass = items_pass counter_class counter_legal counter_next counter.amount counter.Fits counter.Legal counter.after counter.counter_has_rows
-          counter_marks counter.counter_rows_pass x y (rw (eq-eqb c d e) at free) in
-          cell_steps_pass (Counter c x.0, x.1) (Counter d y.0, y.1) (ap cell.Counter e) (counter_on_cell c d x y pass)
-      | inr n ↦ two_cells_pass (Counter c x.0, x.1) (Counter d y.0, y.1) (λ e. n (cc)) tt tt
+          let commute = items_commute counter_class counter_legal counter_next counter.amount counter.Fits counter.Legal counter.after counter.counter_has_rows
+          counter_marks counter.counter_rows_commute x y (rw (eq-eqb c d e) at free) in
+          cell_steps_commute (Counter c x.0, x.1) (Counter d y.0, y.1) (ap cell.Counter e) (counter_on_cell c d x y commute)
+      | inr n ↦ two_cells_commute (Counter c x.0, x.1) (Counter d y.0, y.1) (λ e. n (cc)) tt tt
     ]
 
-elements_pass : (s e t f : ℕ) (x y : ElementOp × ObjReply) → clashes (Element s e x.0, x.1) (Element t f y.0, y.1) ≡ false →
+elements_commute : (s e t f : ℕ) (x y : ElementOp × ObjReply) → clashes (Element s e x.0, x.1) (Element t f y.0, y.1) ≡ false →
     RightCommutesBackward Step (Element s e x.0, x.1) (Element t f y.0, y.1)
-elements_pass s e t f x y free =
+elements_commute s e t f x y free =
     elim (cases_eq s t) [
       | inl p ↦ elim (cases_eq e f) [
         | inl q ↦
-            let pass = items_pass element_class element_legal element_next element.amount element.Fits element.Legal element.after element.element_has_rows
-            element_marks element.element_rows_pass x y (rw (eq-eqb e f q) at (rw (eq-eqb s t p) at free)) in
-            cell_steps_pass (Element s e x.0, x.1) (Element t f y.0, y.1) (λ i. cell.Element (p i) (q i)) (element_on_cell s e t f x y pass)
-        | inr n ↦ two_cells_pass (Element s e x.0, x.1) (Element t f y.0, y.1) (λ h. n (cc)) tt tt
+            let commute = items_commute element_class element_legal element_next element.amount element.Fits element.Legal element.after element.element_has_rows
+            element_marks element.element_rows_commute x y (rw (eq-eqb e f q) at (rw (eq-eqb s t p) at free)) in
+            cell_steps_commute (Element s e x.0, x.1) (Element t f y.0, y.1) (λ i. cell.Element (p i) (q i)) (element_on_cell s e t f x y commute)
+        | inr n ↦ two_cells_commute (Element s e x.0, x.1) (Element t f y.0, y.1) (λ h. n (cc)) tt tt
       ]
-      | inr n ↦ two_cells_pass (Element s e x.0, x.1) (Element t f y.0, y.1) (λ h. n (cc)) tt tt
+      | inr n ↦ two_cells_commute (Element s e x.0, x.1) (Element t f y.0, y.1) (λ h. n (cc)) tt tt
     ]
 
 -- an operation on an element that does not clash with a size of that set changes it by nothing
@@ -86,51 +86,51 @@ uncounted s e Add reply.Added t n free = (elim (nat_eq s t) as (λ b. (b && true
 uncounted s e Remove reply.Removed t n free = (refl, elim (nat_eq s t) as (λ b. (b && true) ≡ false → ◌≡◌ {A = ℕ} (cond b 1 0) 0) [ true ↦ λ f. absurd (cc f) | false ↦ λ f. refl ] free)
 uncounted s e o r t n free = (refl, refl)
 
-element_size_pass : (s e : ℕ) (o : ElementOp) (r : ObjReply) (t : ℕ) (a : ObjReply) → clashes (Element s e o, r) (Size t, a) ≡ false →
+element_size_commute : (s e : ℕ) (o : ElementOp) (r : ObjReply) (t : ℕ) (a : ObjReply) → clashes (Element s e o, r) (Size t, a) ≡ false →
     RightCommutesBackward Step (Element s e o, r) (Size t, a)
-element_size_pass s e o r t a =
+element_size_commute s e o r t a =
     elim a as (λ a. clashes (Element s e o, r) (Size t, a) ≡ false → RightCommutesBackward Step (Element s e o, r) (Size t, a)) [
-      | reply.Is n ↦ λ free. two_cells_pass (Element s e o, r) (Size t, reply.Is n) (λ h. cc) (uncounted s e o r t n free) tt
+      | reply.Is n ↦ λ free. two_cells_commute (Element s e o, r) (Size t, reply.Is n) (λ h. cc) (uncounted s e o r t n free) tt
       | _ ↦ λ free b m c h k. absurd k.0
     ]
 
-size_element_pass : (s : ℕ) (a : ObjReply) (t f : ℕ) (o : ElementOp) (r : ObjReply) → clashes (Size s, a) (Element t f o, r) ≡ false →
+size_element_commute : (s : ℕ) (a : ObjReply) (t f : ℕ) (o : ElementOp) (r : ObjReply) → clashes (Size s, a) (Element t f o, r) ≡ false →
     RightCommutesBackward Step (Size s, a) (Element t f o, r)
-size_element_pass s a t f o r =
+size_element_commute s a t f o r =
     elim a as (λ a. clashes (Size s, a) (Element t f o, r) ≡ false → RightCommutesBackward Step (Size s, a) (Element t f o, r)) [
-      | reply.Is n ↦ λ free. two_cells_pass (Size s, reply.Is n) (Element t f o, r) (λ h. cc) tt (uncounted t f o r s n (rw (nat_eq_equiv.symm s t) at free))
+      | reply.Is n ↦ λ free. two_cells_commute (Size s, reply.Is n) (Element t f o, r) (λ h. cc) tt (uncounted t f o r s n (rw (nat_eq_equiv.symm s t) at free))
       | _ ↦ λ free b m c h k. absurd h.0
     ]
 
-sizes_on_cell : (s t : ℕ) (r a : ObjReply) → PassesOnCell (Size s, r) (Size t, a)
+sizes_on_cell : (s t : ℕ) (r a : ObjReply) → RightCommutesBackward CellStep (Size s, r) (Size t, a)
 sizes_on_cell s t r a NoState NoState NoState h k = (NoState, k, h)
 sizes_on_cell s t r a _ _ _ h k = absurd (first_of (cc, grind arith))
 
-sizes_pass : (s t : ℕ) (r a : ObjReply) → RightCommutesBackward Step (Size s, r) (Size t, a)
-sizes_pass s t r a =
+sizes_commute : (s t : ℕ) (r a : ObjReply) → RightCommutesBackward Step (Size s, r) (Size t, a)
+sizes_commute s t r a =
     elim (cases_eq s t) [
-      | inl e ↦ cell_steps_pass (Size s, r) (Size t, a) (ap cell.Size e) (sizes_on_cell s t r a)
-      | inr n ↦ two_cells_pass (Size s, r) (Size t, a) (λ e. n (cc)) (refl, refl) (refl, refl)
+      | inl e ↦ cell_steps_commute (Size s, r) (Size t, a) (ap cell.Size e) (sizes_on_cell s t r a)
+      | inr n ↦ two_cells_commute (Size s, r) (Size t, a) (λ e. n (cc)) (refl, refl) (refl, refl)
     ]
 
--- operations that do not clash pass
-pub clash_free_pass : (held requested : ObjOp × ObjReply) → clashes held requested ≡ false → RightCommutesBackward Step held requested
-clash_free_pass (Account a op, reply) (Account b other, answer) free = accounts_pass a b (op, reply) (other, answer) free
-clash_free_pass (Element s e op, reply) (Element t f other, answer) free = elements_pass s e t f (op, reply) (other, answer) free
-clash_free_pass (Counter c op, reply) (Counter d other, answer) free = counters_pass c d (op, reply) (other, answer) free
-clash_free_pass (Element s e op, reply) (Size t, answer) free = element_size_pass s e op reply t answer free
-clash_free_pass (Size s, reply) (Element t f other, answer) free = size_element_pass s reply t f other answer free
-clash_free_pass (Size s, reply) (Size t, answer) free = sizes_pass s t reply answer
-clash_free_pass (Account a op, reply) (Element t f other, answer) free = two_cells_pass (Account a op, reply) (Element t f other, answer) (λ h. cc) tt tt
-clash_free_pass (Account a op, reply) (Counter d other, answer) free = two_cells_pass (Account a op, reply) (Counter d other, answer) (λ h. cc) tt tt
-clash_free_pass (Account a op, reply) (Size t, answer) free = two_cells_pass (Account a op, reply) (Size t, answer) (λ h. cc) (refl, refl) tt
-clash_free_pass (Element s e op, reply) (Account b other, answer) free = two_cells_pass (Element s e op, reply) (Account b other, answer) (λ h. cc) tt tt
-clash_free_pass (Element s e op, reply) (Counter d other, answer) free = two_cells_pass (Element s e op, reply) (Counter d other, answer) (λ h. cc) tt tt
-clash_free_pass (Counter c op, reply) (Account b other, answer) free = two_cells_pass (Counter c op, reply) (Account b other, answer) (λ h. cc) tt tt
-clash_free_pass (Counter c op, reply) (Element t f other, answer) free = two_cells_pass (Counter c op, reply) (Element t f other, answer) (λ h. cc) tt tt
-clash_free_pass (Counter c op, reply) (Size t, answer) free = two_cells_pass (Counter c op, reply) (Size t, answer) (λ h. cc) (refl, refl) tt
-clash_free_pass (Size s, reply) (Account b other, answer) free = two_cells_pass (Size s, reply) (Account b other, answer) (λ h. cc) tt (refl, refl)
-clash_free_pass (Size s, reply) (Counter d other, answer) free = two_cells_pass (Size s, reply) (Counter d other, answer) (λ h. cc) tt (refl, refl)
+-- operations that do not clash commute
+pub clash_free_commute : (held requested : ObjOp × ObjReply) → clashes held requested ≡ false → RightCommutesBackward Step held requested
+clash_free_commute (Account a op, reply) (Account b other, answer) free = accounts_commute a b (op, reply) (other, answer) free
+clash_free_commute (Element s e op, reply) (Element t f other, answer) free = elements_commute s e t f (op, reply) (other, answer) free
+clash_free_commute (Counter c op, reply) (Counter d other, answer) free = counters_commute c d (op, reply) (other, answer) free
+clash_free_commute (Element s e op, reply) (Size t, answer) free = element_size_commute s e op reply t answer free
+clash_free_commute (Size s, reply) (Element t f other, answer) free = size_element_commute s reply t f other answer free
+clash_free_commute (Size s, reply) (Size t, answer) free = sizes_commute s t reply answer
+clash_free_commute (Account a op, reply) (Element t f other, answer) free = two_cells_commute (Account a op, reply) (Element t f other, answer) (λ h. cc) tt tt
+clash_free_commute (Account a op, reply) (Counter d other, answer) free = two_cells_commute (Account a op, reply) (Counter d other, answer) (λ h. cc) tt tt
+clash_free_commute (Account a op, reply) (Size t, answer) free = two_cells_commute (Account a op, reply) (Size t, answer) (λ h. cc) (refl, refl) tt
+clash_free_commute (Element s e op, reply) (Account b other, answer) free = two_cells_commute (Element s e op, reply) (Account b other, answer) (λ h. cc) tt tt
+clash_free_commute (Element s e op, reply) (Counter d other, answer) free = two_cells_commute (Element s e op, reply) (Counter d other, answer) (λ h. cc) tt tt
+clash_free_commute (Counter c op, reply) (Account b other, answer) free = two_cells_commute (Counter c op, reply) (Account b other, answer) (λ h. cc) tt tt
+clash_free_commute (Counter c op, reply) (Element t f other, answer) free = two_cells_commute (Counter c op, reply) (Element t f other, answer) (λ h. cc) tt tt
+clash_free_commute (Counter c op, reply) (Size t, answer) free = two_cells_commute (Counter c op, reply) (Size t, answer) (λ h. cc) (refl, refl) tt
+clash_free_commute (Size s, reply) (Account b other, answer) free = two_cells_commute (Size s, reply) (Account b other, answer) (λ h. cc) tt (refl, refl)
+clash_free_commute (Size s, reply) (Counter d other, answer) free = two_cells_commute (Size s, reply) (Counter d other, answer) (λ h. cc) tt (refl, refl)
 
 -- operations that are locked on no cell of both do not clash
 has_changes_nothing : (r a : ObjReply) → changes_told (element_class Has r) a ≡ false

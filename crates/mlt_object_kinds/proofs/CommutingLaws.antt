@@ -1,4 +1,4 @@
--- Which steps of whole bases pass each other: those on different cells that change no size that the other tells, and those
+-- Which steps of whole bases right commute backward: those on different cells that change no size that the other tells, and those
 -- that do so on their one cell.
 use Rattle.std.proofs.Common.{◌≡◌, ◌≢◌, inl, inr, ℕ, ◌≤◌, length, Contains, refl, sym, ap, subst, ◌∙◌, arith}
 use Rattle.mlt_types.specs.declared.cell.Cell.{Cell}
@@ -11,7 +11,7 @@ use Rattle.mlt_object_kinds.specs.declared.operation.ObjReply.TheVariants.{Is}
 use Rattle.mlt_object_kinds.specs.Bases.{Base, Step, TellsSize, size_at, state_at, with_state}
 use Rattle.mlt_object_kinds.specs.Cells.{CellStep}
 use Rattle.mlt_object_kinds.specs.Operations.{AreApart, cell_of, cells_of}
-use Rattle.mlt_object_kinds.specs.Passing.{Passes, PassesOnCell}
+use Rattle.mlt_order.specs.Runs.{RightCommutesBackward}
 use Rattle.mlt_object_kinds.specs.Sizes.{put_into, taken_from}
 use Rattle.mlt_object_kinds.proofs.BaseLaws.{cell_step_states, one_cell_or_two, state_beside, state_here, step_to}
 use Rattle.mlt_object_kinds.proofs.Sizes.{other_set_untouched, size_after_step}
@@ -63,7 +63,7 @@ one_cell_leaves_told p (op.Account a o, reply) one = tt
 one_cell_leaves_told p (op.Element s e o, reply) one = tt
 one_cell_leaves_told p (op.Counter c o, reply) one = tt
 
--- ---- passing
+-- ---- commuting
 
 -- operations that are locked on no cell of both are on different cells
 own_cell : (op : ObjOp) → Contains (cells_of op) (cell_of op)
@@ -78,9 +78,9 @@ few_cells _ = omega arith
 pub apart_on_two_cells : (op other : ObjOp) → AreApart op other → cell_of op ≢ cell_of other
 apart_on_two_cells op other apart e = apart (cell_of op) (own_cell op) (subst (Contains (cells_of other)) (sym e) (own_cell other))
 
--- operations on different cells pass, where neither changes a size that the other tells
-pub two_cells_pass : (p q : ObjOp × ObjReply) → cell_of p.0 ≢ cell_of q.0 → LeavesTold p q → LeavesTold q p → Passes p q
-two_cells_pass p q apart left other_left b m s h k =
+-- operations on different cells right commute backward, where neither changes a size that the other tells
+pub two_cells_commute : (p q : ObjOp × ObjReply) → cell_of p.0 ≢ cell_of q.0 → LeavesTold p q → LeavesTold q p → RightCommutesBackward Step p q
+two_cells_commute p q apart left other_left b m s h k =
     let c = cell_of p.0 in
     let d = cell_of q.0 in
     let back : d ≢ c = λ e. apart (sym e) in
@@ -104,18 +104,18 @@ two_cells_pass p q apart left other_left b m s h k =
       ),
     )
 
--- operations that are locked on no cell of both pass
-pub apart_steps_pass : (p q : ObjOp × ObjReply) → AreApart p.0 q.0 → Passes p q
-apart_steps_pass p q apart =
-    two_cells_pass p q (apart_on_two_cells p.0 q.0 apart) (apart_leaves_told p q apart) (apart_leaves_told q p (λ c there here. apart c here there))
+-- operations that are locked on no cell of both right commute backward
+pub apart_steps_commute : (p q : ObjOp × ObjReply) → AreApart p.0 q.0 → RightCommutesBackward Step p q
+apart_steps_commute p q apart =
+    two_cells_commute p q (apart_on_two_cells p.0 q.0 apart) (apart_leaves_told p q apart) (apart_leaves_told q p (λ c there here. apart c here there))
 
--- operations on one cell pass, where they do so on the cell
-pub cell_steps_pass : (p q : ObjOp × ObjReply) → cell_of p.0 ≡ cell_of q.0 → PassesOnCell p q → Passes p q
-cell_steps_pass p q one pass b m s h k =
+-- operations on one cell right commute backward, where they do so on the cell
+pub cell_steps_commute : (p q : ObjOp × ObjReply) → cell_of p.0 ≡ cell_of q.0 → RightCommutesBackward CellStep p q → RightCommutesBackward Step p q
+cell_steps_commute p q one commute b m s h k =
     let c = cell_of p.0 in
     let d = cell_of q.0 in
     let h' : CellStep (state_at b d) p (state_at m d) = subst (λ (x : Cell). CellStep (state_at b x) p (state_at m x)) one h.0 in
-    let way = pass (state_at b d) (state_at m d) (state_at s d) h' k.0 in
+    let way = commute (state_at b d) (state_at m d) (state_at s d) h' k.0 in
     let n = with_state b d way.0 in
     let to : Step b q n = step_to b q way.0 way.1 (told_before p q b m (one_cell_leaves_told p q one) h k.2) in
     let here : way.0 ≡ state_at n d = sym (state_here b d way.0 (cell_step_states q _ _ way.1).1) in
