@@ -1,3 +1,3 @@
 pub mod AtOnce
-pub mod Moorings
+pub mod TxSlots
 pub mod Images

@@ -2,7 +2,7 @@
 #![tactic(auto)]
 
 mod berth;
-mod mooring;
+mod tx_slot;
 mod table;
 
 pub use table::OpenTransactions;

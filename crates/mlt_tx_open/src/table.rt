@@ -11,7 +11,7 @@ ghost use Rattle.mlt_tx.specs.Transactions.{IsPending, MayStepIn};
 ghost use Rattle.mlt_tx_open.specs.Tables.{BeginsOne, CallsNone, CallsOne, CallsOneAtOnce, CancelsOne, KeepsImage, KeepsNoImage, PutsOneAt, StepsOne};
 
 use crate::berth::Berth;
-use crate::mooring::{Mooring, free_mooring, image_in, mooring_of};
+use crate::tx_slot::{TxSlot, free_slot, image_in, slot_of};
 use mlt_event::Answer;
 use mlt_hash::Setting;
 use mlt_object_kinds::{ObjOp, ObjReply};
@@ -23,13 +23,13 @@ use std::marker::Model;
 
 /// The open transactions. A contract sees a finite map from their numbers.
 ///
-/// There are so few at a time that the mooring of one is found by going through all. That of a transaction that has ended is used
+/// There are so few at a time that the slot of one is found by going through all. That of a transaction that has ended is used
 /// again, with its berth and the room of its undo list.
 #[derive(Drop)]
 pub struct OpenTransactions {
     alloc: Global,
-    moorings: Vec<Mooring>,
-    /// How many moorings are taken.
+    slots: Vec<TxSlot>,
+    /// How many slots are taken.
     taken: usize,
 }
 
@@ -39,15 +39,15 @@ impl Model for OpenTransactions {
     ghost use Rattle.std.specs.Coded.{coded_ℕ};
     ghost use Rattle.mlt_tx.specs.declared.transaction.Transaction.{Transaction};
     ghost use Rattle.mlt_tx.specs.contracts.transaction.Transaction.{the_row};
-    ghost use Rattle.mlt_tx_open.specs.Moorings.{AreMoored, table_of};
+    ghost use Rattle.mlt_tx_open.specs.TxSlots.{AreTxSlots, table_of};
 
     ghost Value = { map.FinMap nat_cmp Transaction };
 
     ghost coded = { map.code coded_ℕ the_row.coded };
 
-    ghost view = { λ table. table_of table.moorings.items };
+    ghost view = { λ table. table_of table.slots.items };
 
-    ghost invariant = { λ table. AreMoored table.moorings.items table.taken };
+    ghost invariant = { λ table. AreTxSlots table.slots.items table.taken };
 }
 
 impl OpenTransactions {
@@ -57,7 +57,7 @@ impl OpenTransactions {
     {
         OpenTransactions {
             alloc,
-            moorings: Vec::new(alloc),
+            slots: Vec::new(alloc),
             taken: 0,
         }
     }
@@ -73,8 +73,8 @@ impl OpenTransactions {
     pub fn get(&self, tx: TxId) -> Option<&Transaction>
         ensures { option_copied result ≡ map.get self.now tx }
     {
-        let place = mooring_of(&self.moorings, tx)?;
-        Some(self.moorings[place].berth.get())
+        let place = slot_of(&self.slots, tx)?;
+        Some(self.slots[place].berth.get())
     }
 
     /// The first image of a page that an open transaction keeps, if one does. It takes no memory.
@@ -82,7 +82,7 @@ impl OpenTransactions {
         ensures kept { IfSome result (λ first. KeepsImage self.now page first.now) }
         ensures none { IfNone result (KeepsNoImage self.now page) }
     {
-        image_in(&self.moorings, page)
+        image_in(&self.slots, page)
     }
 
     /// Opens a transaction of a number, which has done nothing.
@@ -94,17 +94,17 @@ impl OpenTransactions {
         ensures err { OnErr result (self.new ≡ self.old) }
         ensures refusal { IsOkUnless result Refusal.OutOfMemory }
     {
-        if let Some(place) = mooring_of(&self.moorings, tx) {
-            self.moorings[place].berth.restart(self.alloc, tx);
+        if let Some(place) = slot_of(&self.slots, tx) {
+            self.slots[place].berth.restart(self.alloc, tx);
             return Ok(());
         }
-        if let Some(place) = free_mooring(&self.moorings) {
-            self.moorings[place].give_to(self.alloc, tx);
+        if let Some(place) = free_slot(&self.slots) {
+            self.slots[place].give_to(self.alloc, tx);
             self.taken += 1;
             return Ok(());
         }
-        let mooring = Mooring::new(self.alloc, tx)?;
-        self.moorings.push(mooring)?;
+        let slot = TxSlot::new(self.alloc, tx)?;
+        self.slots.push(slot)?;
         self.taken += 1;
         Ok(())
     }
@@ -113,8 +113,8 @@ impl OpenTransactions {
     pub fn remove(&mut self, tx: TxId)
         ensures { self.new ≡ with_entry self.old tx None }
     {
-        if let Some(place) = mooring_of(&self.moorings, tx) {
-            self.moorings[place].is_free = true;
+        if let Some(place) = slot_of(&self.slots, tx) {
+            self.slots[place].is_free = true;
             self.taken -= 1;
         }
     }
@@ -130,10 +130,10 @@ impl OpenTransactions {
         ensures err { OnErr result (CallsNone tx self.old self.new commons.old commons.new) }
         ensures refusal { IsOkUnless result Refusal.OutOfMemory }
     {
-        let Some(place) = mooring_of(&self.moorings, tx) else {
+        let Some(place) = slot_of(&self.slots, tx) else {
             unreachable!()
         };
-        self.moorings[place].berth.call(commons, op)
+        self.slots[place].berth.call(commons, op)
     }
 
     /// Calls the transaction of a number, which is open and at nothing, with an operation, and takes all its steps at once, while
@@ -155,10 +155,10 @@ impl OpenTransactions {
         ensures err { OnErr result (CallsNone tx self.old self.new commons.old commons.new) }
         ensures refusal { IsOkUnless result Refusal.OutOfMemory }
     {
-        let Some(place) = mooring_of(&self.moorings, tx) else {
+        let Some(place) = slot_of(&self.slots, tx) else {
             unreachable!()
         };
-        self.moorings[place]
+        self.slots[place]
             .berth
             .call_at_once(commons, op, setting)
     }
@@ -175,8 +175,8 @@ impl OpenTransactions {
         ensures steps { StepsOne (basis_in P.bits_of setting.now) tx self.old self.new
             commons.old commons.new result }
     {
-        match mooring_of(&self.moorings, tx) {
-            Some(place) => self.moorings[place].berth.step(commons, setting),
+        match slot_of(&self.slots, tx) {
+            Some(place) => self.slots[place].berth.step(commons, setting),
             None => unreachable!(),
         }
     }
@@ -188,10 +188,10 @@ impl OpenTransactions {
             × (2 ≤ commons.old.history.room) }
         ensures cancels { CancelsOne tx self.old self.new commons.old commons.new }
     {
-        let Some(place) = mooring_of(&self.moorings, tx) else {
+        let Some(place) = slot_of(&self.slots, tx) else {
             unreachable!()
         };
-        self.moorings[place].berth.cancel(commons);
+        self.slots[place].berth.cancel(commons);
     }
 
     /// Puts the transaction of a number, which is open, at something else: at an operation that it is called with, or at
@@ -200,9 +200,9 @@ impl OpenTransactions {
         requires is_open { IsSome (map.get self.old tx) }
         ensures puts { PutsOneAt tx at self.old self.new }
     {
-        let Some(place) = mooring_of(&self.moorings, tx) else {
+        let Some(place) = slot_of(&self.slots, tx) else {
             unreachable!()
         };
-        self.moorings[place].berth.put_at(at);
+        self.slots[place].berth.put_at(at);
     }
 }

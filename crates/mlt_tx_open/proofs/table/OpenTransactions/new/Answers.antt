@@ -1,8 +1,8 @@
 use Rattle.std.proofs.Common.{List, sym, subst}
-use Rattle.mlt_tx_open.specs.declared.mooring.Mooring.{Mooring}
-use Rattle.mlt_tx_open.specs.Moorings.{AreMoored}
-use Rattle.mlt_tx_open.proofs.Moorings.{no_moorings}
+use Rattle.mlt_tx_open.specs.declared.tx_slot.TxSlot.{TxSlot}
+use Rattle.mlt_tx_open.specs.TxSlots.{AreTxSlots}
+use Rattle.mlt_tx_open.proofs.TxSlots.{no_slots}
 use Rattle.mlt_tx_open.proofs.table.OpenTransactions.new.Goals as goal
 
 pub invariant_of-result : goal.invariant_of-result
-invariant_of-result c = subst (λ (moorings : List Mooring). AreMoored moorings 0) (sym c.new.ensures.items) no_moorings
+invariant_of-result c = subst (λ (slots : List TxSlot). AreTxSlots slots 0) (sym c.new.ensures.items) no_slots
