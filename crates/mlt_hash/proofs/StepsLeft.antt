@@ -18,7 +18,7 @@ one_split : (l g d : ℕ) → l < d → steps_of_splits (d - l) l g ≡ 2 + dire
 unfolding steps_of_splits
 one_split l g d deep = let next : d - l ≡ suc (d - (l + 1)) = omega (arith, deep) in ap (λ n. steps_of_splits n l g) next
 
-some_is_one : (x y : SplitFields) (o : Option SplitFields) → o ≡ Some x → o ≡ Some y → x ≡ y
+pub some_is_one : {X : Type 0} (x y : X) (o : Option X) → o ≡ Some x → o ≡ Some y → x ≡ y
 some_is_one x y o is_x is_y = let e : Some x ≡ Some y = sym is_x ∙ is_y in cc
 
 module _ (basis : Basis) (old new : Moment) (before after : WalkFields) (clean : ℕ → Option Page) (agree : Agrees (view_for basis new).seen clean) (form : HasForm basis.bits clean basis.root) where
