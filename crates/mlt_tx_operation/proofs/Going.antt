@@ -12,7 +12,7 @@ use Rattle.mlt_hash.specs.Walks.{Basis, HasRead, IsChanged, IsStanding, Stands, 
 use Rattle.mlt_hash.specs.Changes.{page_of}
 use Rattle.mlt_hash.specs.Splitting.{TellsAt}
 use Rattle.mlt_hash.specs.Steps.{GoesOn, IsSameWalk, steps_to_bucket}
-use Rattle.mlt_hash.specs.StepsLeft.{IsPutting, bucket_depth, directory_depth, steps_to_put_at}
+use Rattle.mlt_hash.specs.StepsLeft.{bucket_depth, directory_depth, steps_to_put_at}
 use Rattle.mlt_hash.specs.declared.answer.WalkAnswer.TheVariants as answer
 use Rattle.mlt_hash.specs.declared.pass.Change.TheVariants as change
 use Rattle.mlt_hash.specs.declared.pass.Phase.{Phase}
@@ -23,6 +23,7 @@ use Rattle.mlt_object_base.specs.declared.request.Request.{Request}
 use Rattle.mlt_tx_operation.specs.Answers.{StepsOn}
 use Rattle.mlt_tx_operation.specs.Operating.{on_one}
 use Rattle.mlt_tx_two_records.specs.WalkSteps.{steps_to_change}
+use Rattle.mlt_tx_two_records.proofs.WideGoing.{IsAddingPhase, is_putting, none_to_bucket}
 use Rattle.mlt_tx_operation.specs.Walking.{FitsPhase, HasPerformed, IsToAdd, MayWalkOn, WalkingFields, steps_of_walk}
 use Rattle.mlt_tx_operation.proofs.Depths.{goes_down}
 use Rattle.mlt_tx_operation.proofs.Turns.{one_step_turns}
@@ -69,26 +70,10 @@ on_way basis old new before after may leaves goes more request same =
       how = record { in_pass = goes.same.pass; goes = inl (record { nearer = omega (arith, goes.fewer); by_one = by_one; down = inl was }) };
     }
 
--- the phase of a walk that adds or splits
-abbrev IsAddingPhase : Phase → ℕ → Type 0
-IsAddingPhase (at.Adding v bucket depth unsplit) value = v ≡ value
-IsAddingPhase (at.Splitting v depth) value = v ≡ value
-IsAddingPhase other value = ⊥
-
 fits_adding : (p : Phase) (basis : Basis) (o : WalkingFields) (view : View) (value : ℕ) → IsAddingPhase p value → IsToAdd o value → FitsPhase p (one_key basis) o view
 fits_adding (at.Adding v bucket depth unsplit) basis o view value is adds = subst (IsToAdd o) (sym is) adds
 fits_adding (at.Splitting v depth) basis o view value is adds = subst (IsToAdd o) (sym is) adds
 fits_adding other basis o view value is adds = absurd is
-
-none_to_bucket : (p : Phase) (value : ℕ) → IsAddingPhase p value → steps_to_bucket p ≡ 0
-none_to_bucket (at.Adding v bucket depth unsplit) value is = refl
-none_to_bucket (at.Splitting v depth) value is = refl
-none_to_bucket other value is = absurd is
-
-is_putting : (p : Phase) (value : ℕ) → IsAddingPhase p value → IsPutting p
-is_putting (at.Adding v bucket depth unsplit) value is = tt
-is_putting (at.Splitting v depth) value is = tt
-is_putting other value is = absurd is
 
 -- what is still to be added
 still_adds : (before after : WalkingFields) (value : ℕ) → IsToAdd before value → after.request ≡ before.request → after.reply ≡ before.reply → IsToAdd after value
