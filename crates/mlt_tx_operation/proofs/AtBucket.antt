@@ -44,7 +44,8 @@ use Rattle.mlt_tx_operation.specs.Answers.{HasToRestart}
 use Rattle.mlt_tx_operation.specs.AtBucket.{BeginsAgain, FindsNoRoom, Finishes, SplitsInPass, IsThereFor, MayDecide, TellsAtBucket}
 use Rattle.mlt_tx_operation.specs.Walking.{FitsPhase, HasPerformed, IsToAdd, IsTold, WalkingFields}
 use Rattle.mlt_tx_two_records.specs.Performing.{AsksToAdd}
-use Rattle.mlt_tx_operation.specs.Performing.{IsMade, OfAddition, TellsOfDecision}
+use Rattle.mlt_tx_two_records.specs.AtWideBuckets.{IsMade, OfAddition}
+use Rattle.mlt_tx_operation.specs.Performing.{TellsOfDecision}
 use Rattle.mlt_tx_operation.proofs.Deciding.{changes_exclusively, never_revives}
 
 -- what was decided on locks the bucket exclusively
