@@ -11,6 +11,7 @@ use Rattle.mlt_page.specs.declared.page.Page.TheVariants as page
 use Rattle.mlt_page.specs.Values.{BucketFields, HeadFields}
 use Rattle.mlt_page_locks.specs.LockTables.{Modes, mode_held}
 use Rattle.mlt_page_locks.specs.Requests.{stronger, with_page}
+use Rattle.mlt_page_locks.proofs.LockLaws.{stronger_exclusive}
 use Rattle.mlt_hash_form.specs.File.{HasForm, dir_of}
 use Rattle.mlt_hash_form.specs.Held.{Agrees, own_or}
 use Rattle.mlt_hash_access.specs.Moments.{MayStep, Moment}
@@ -25,7 +26,6 @@ use Rattle.mlt_hash_split.specs.Splits.{IsUnderWay, SplitFields}
 use Rattle.mlt_hash_split.specs.Steps.{IsDone, IsKeysPage, IsMaking, IsNextPage}
 use Rattle.mlt_hash_split.specs.declared.split.SplitAnswer.TheVariants as split_answer
 use Rattle.mlt_hash_split.proofs.HeldPages.{exclusive_after_make, grows_by_make}
-use Rattle.mlt_hash_split.proofs.Later.{stronger_exclusive}
 use Rattle.mlt_hash_split.proofs.Locks.{done_writes_what_it_locks, locks_its_page_alone}
 use Rattle.mlt_hash_split.proofs.Narrow.{narrow_leaves_header, narrow_makes_none, narrow_next_page}
 use Rattle.mlt_hash.specs.Passes.{MayHoldMore, bucket_held, bucket_mode, directory_held, directory_mode, header_held, header_mode}

@@ -9,6 +9,7 @@ use Rattle.mlt_page.specs.declared.page.Page.TheVariants as page
 use Rattle.mlt_page_locks.specs.LockTables.{Modes, can_read}
 use Rattle.mlt_page_locks.specs.Requests.{with_page}
 use Rattle.mlt_page_locks.proofs.Maps.{same_entries}
+use Rattle.mlt_page_locks.proofs.LockLaws.{stronger_exclusive}
 use Rattle.mlt_page.specs.declared.slot.Slot.{Slot}
 use Rattle.mlt_hash_form.specs.File.{buckets_of, dir_of, header_of, row_of}
 use Rattle.mlt_hash_form.specs.Form.{is_used, slot_at}
@@ -20,7 +21,6 @@ use Rattle.mlt_hash_access.proofs.Views.{agrees, may_read, mode_of_others, mode_
 use Rattle.mlt_hash_split.specs.Rests.{held_page}
 use Rattle.mlt_hash_split.proofs.Closing.{held_page_over}
 use Rattle.mlt_hash_split.proofs.HeldPages.{reads_as, same_header}
-use Rattle.mlt_hash_split.proofs.Later.{stronger_exclusive}
 use Rattle.mlt_hash.specs.Passes.{header_held, header_mode, slot_after}
 use Rattle.mlt_hash.specs.Walks.{Basis, Before, GoesAfter, HoldsBeside, IsChanged, IsHeaded, IsOwnSlot, MayWalk, SlotsStood, Stands, WalkFields, basis_after, before_of, nothing_before, one_key, slot_on}
 use Rattle.mlt_hash.specs.Changes.{IsChangedPhase}

@@ -3,11 +3,12 @@ use Rattle.std.proofs.Common.{◌≡◌, ℕ, ◌-◌, ◌<◌, ◌≤◌, ◌^�
 use Rattle.std.specs.FinMap as map
 use Rattle.std.proofs.lemmas.Bool.{cases_eq, false≢true}
 use Rattle.mlt_types.specs.declared.mode.Mode.{Mode}
-use Rattle.mlt_types.specs.declared.mode.Mode.TheVariants.{Exclusive, Shared}
+use Rattle.mlt_types.specs.declared.mode.Mode.TheVariants.{Exclusive}
 use Rattle.mlt_page.specs.declared.page.Page.{Page}
 use Rattle.mlt_page.specs.Values.{HeadFields}
 use Rattle.mlt_page_locks.specs.LockTables.{Modes, can_read, can_write}
 use Rattle.mlt_page_locks.specs.Requests.{stronger, with_page}
+use Rattle.mlt_page_locks.proofs.LockLaws.{stronger_exclusive}
 use Rattle.mlt_hash_form.specs.File.{FilePages, HasForm}
 use Rattle.mlt_hash_form.specs.Held.{Agrees, over, own_or}
 use Rattle.mlt_hash_form.proofs.HeldPages.{keeps_more}
@@ -51,11 +52,6 @@ rewrites view mid view' q was page reads writes = record {
 seen_as : (o : Option (Option Page)) → is_some o ≡ true → (p : Option Page) × (o ≡ Some p)
 seen_as None h = absurd (false≢true h)
 seen_as (Some p) h = (p, refl)
-
-pub stronger_exclusive : (held : Option Mode) → stronger held Exclusive ≡ Exclusive
-stronger_exclusive None = refl
-stronger_exclusive (Some Shared) = refl
-stronger_exclusive (Some Exclusive) = refl
 
 -- a page that is locked exclusively is held so,
 pub exclusive_here : (modes : Modes) (q : ℕ) → map.get (with_page modes q Exclusive) q ≡ Some Exclusive

@@ -4,7 +4,7 @@ use Rattle.std.specs.Ordering.{nat_cmp}
 use Rattle.std.specs.FinMap as map
 use Rattle.std.proofs.lemmas.Bool.{cases_Bool, cases_eq, false≢true}
 use Rattle.mlt_types.specs.declared.mode.Mode.{Mode}
-use Rattle.mlt_types.specs.declared.mode.Mode.TheVariants.{Exclusive, Shared}
+use Rattle.mlt_types.specs.declared.mode.Mode.TheVariants.{Exclusive}
 use Rattle.mlt_object_kinds.specs.declared.operation.ObjReply.{ObjReply}
 use Rattle.mlt_object_base.specs.declared.request.Request.{Request}
 use Rattle.mlt_object_base.specs.Requests.{target_of}
@@ -12,6 +12,7 @@ use Rattle.mlt_page.specs.declared.page.Page.{Page}
 use Rattle.mlt_page.specs.declared.page.Page.TheVariants as page
 use Rattle.mlt_page_locks.specs.LockTables.{Modes, is_holder, mode_held}
 use Rattle.mlt_page_locks.specs.Requests.{stronger, with_page}
+use Rattle.mlt_page_locks.proofs.LockLaws.{stronger_exclusive}
 use Rattle.mlt_page_subtx.specs.Images.{Images, image_of}
 use Rattle.mlt_page_subtx.proofs.ImageLaws.{not_true}
 use Rattle.mlt_hash_form.specs.File.{FilePages, dir_of, row_of}
@@ -163,12 +164,6 @@ module _ (basis : Basis) (m : Moment) (clean : FilePages) (agree : Agrees (view_
     locks = holds;
   }
 
--- a lock that is asked for exclusively is exclusive then, and so is one that was
-asked_exclusively : (held : Option Mode) → stronger held Exclusive ≡ Exclusive
-asked_exclusively None = refl
-asked_exclusively (Some Shared) = refl
-asked_exclusively (Some Exclusive) = refl
-
 still_exclusive : (modes : Modes) (q : ℕ) (mode : Mode) (p : ℕ) → map.get modes p ≡ Some Exclusive → map.get (with_page modes q mode) p ≡ Some Exclusive
 still_exclusive modes q mode p held =
     elim (cases_eq p q) [
@@ -252,7 +247,7 @@ module _ (basis : Basis) (request : Request) (walk : WalkFields) (m : Moment) (c
       both_held (λ q. q ≡ dir)
       (λ q was. ap (λ (modes : Modes). map.get modes q) here.held ∙ still_exclusive one dir (directory_mode walk.pass) q (still_exclusive since.held basis.root (header_mode walk.pass) q was))
       (λ q is. ap (λ (modes : Modes). map.get modes q) here.held ∙ ap (map.get (directory_held since.held walk.pass basis.root dir)) is ∙ mode_of_page one dir (directory_mode walk.pass)
-      ∙ ap (λ p. Some (stronger (map.get one dir) (directory_mode p))) wide ∙ ap Some (asked_exclusively (map.get one dir)))
+      ∙ ap (λ p. Some (stronger (map.get one dir) (directory_mode p))) wide ∙ ap Some (stronger_exclusive (map.get one dir)))
       (λ q away not none held. absurd (false≢true (sym none
       ∙ ap is_some (sym (mode_of_others since.held basis.root (header_mode walk.pass) q away)) ∙ ap is_some (sym (mode_of_others one dir (directory_mode walk.pass) q not))
       ∙ ap (λ (modes : Modes). is_some (map.get modes q)) (sym here.held) ∙ held)))

@@ -107,6 +107,12 @@ pub not_some : {X : Type 0} (o : Option X) → ¬ (is_some o ≡ true) → o ≡
 not_some None h = refl
 not_some (Some x) h = absurd (h refl)
 
+-- nothing is stronger than an exclusive lock
+pub stronger_exclusive : (held : Option Mode) → stronger held Exclusive ≡ Exclusive
+stronger_exclusive None = refl
+stronger_exclusive (Some Shared) = refl
+stronger_exclusive (Some Exclusive) = refl
+
 -- a map whose keys stand in a list has no more entries than the list
 pub keys_within : {X : Type 0} (numbers : List ℕ) (m : map.FinMap nat_cmp X) → ((k : ℕ) → is_some (map.get m k) ≡ true → list_any (λ n. eqb n k) numbers ≡ true) → map.len m ≤ length numbers
 keys_within {X = X} [] m within =
