@@ -11,6 +11,7 @@ use Rattle.mlt_order.specs.Histories.{Lists, Stage}
 use Rattle.mlt_order.specs.Histories.Stage.{Fresh, Running, Ended}
 use Rattle.mlt_order.specs.Runs.{IsSerialBase, Runs}
 use Rattle.mlt_order.proofs.RunLemmas.{contains-first, contains-later, contains-nothing, serial_push}
+use Rattle.mlt_order.proofs.Stages.{contains-one}
 use Rattle.mlt_text_words.specs.Lines.{Raw, lines}
 use Rattle.mlt_trace.specs.declared.item.TraceItem.{TraceItem}
 use Rattle.mlt_trace.specs.declared.item.TraceItem.TheVariants.{Begin, Op, Back, Commit, Abort}
@@ -23,7 +24,7 @@ use Rattle.mlt_trace_check.specs.Traces.{ArePlaced, HasPlace, IsAcceptedTrace, I
 use Rattle.mlt_trace_check.proofs.AcceptedItems.{no_first_fault, one_base}
 use Rattle.mlt_trace_check.proofs.Faults.{SameFault, cut_twice, next_same, one_item_fault}
 use Rattle.mlt_trace_check.proofs.Going.{bad_line, placed_more, said_more}
-use Rattle.mlt_trace_check.proofs.Growing.{append_nil, no_cut, one_only, told-push}
+use Rattle.mlt_trace_check.proofs.Growing.{append_nil, no_cut, told-push}
 use Rattle.mlt_trace_check.proofs.Lasting.{one_more}
 use Rattle.mlt_trace_check.proofs.Standing.{Stands, nothing_stands, stands_more}
 use Rattle.mlt_trace_check.proofs.Stepping.{Decided, IsFalseIn, all_three, below, both, runs_or_not}
@@ -45,7 +46,7 @@ is_back_or_not (Commit i number) tx = inr (λ e. cc e)
 is_back_or_not (Abort i) tx = inr (λ e. cc e)
 
 first_or_later : {X : Type 0} (x : X) (xs : List X) (y : X) → Contains (x ∷ xs) y → (x ≡ y) ⊎ Contains xs y
-first_or_later x xs y h = elim (Contains-append_cases (x ∷ []) xs y h) [ inl first ↦ inl (one_only x y first) | inr later ↦ inr later ]
+first_or_later x xs y h = elim (Contains-append_cases (x ∷ []) xs y h) [ inl first ↦ inl (contains-one x y first) | inr later ↦ inr later ]
 
 taken_back_or_not : (items : List TraceItem) (tx : ℕ) → Decided (Contains items (Back tx))
 taken_back_or_not [] tx = inr (λ h. contains-nothing (Back tx) h)
