@@ -202,6 +202,14 @@ mode_of_page modes q mode = grind (arith, nat_tests, get_inserted modes q (stron
 pub mode_of_others : (modes : Modes) (q : ℕ) (mode : Mode) (p : ℕ) → p ≢ q → map.get (with_page modes q mode) p ≡ map.get modes p
 mode_of_others modes q mode p ne = grind (arith, nat_tests, get_inserted modes q (stronger (map.get modes q) mode) p)
 
+-- a page that is held exclusively stays so, whatever page is locked
+pub exclusive_stays : (modes : Modes) (q : ℕ) (mode : Mode) (p : ℕ) → map.get modes p ≡ Some Exclusive → map.get (with_page modes q mode) p ≡ Some Exclusive
+exclusive_stays modes q mode p held =
+    elim (cases_eq p q) [
+      | inl here ↦ ap (map.get (with_page modes q mode)) here ∙ mode_of_page modes q mode ∙ ap (λ o. Some (stronger o mode)) (ap (map.get modes) (sym here) ∙ held)
+      | inr elsewhere ↦ mode_of_others modes q mode p elsewhere ∙ held
+    ]
+
 has_image : (images : Images) (q : ℕ) (first page : Option Page) → page_written (image_of (with_image images q first) q) page ≡ page
 has_image images q first page = grind (arith, nat_tests, image_of-with_image images q first q)
 
