@@ -14,6 +14,7 @@ use Rattle.mlt_page.specs.declared.slot.Slot.{Slot}
 use Rattle.mlt_hash_form.specs.File.{buckets_of, dir_of, header_of, row_of}
 use Rattle.mlt_hash_form.specs.Form.{is_used, slot_at}
 use Rattle.mlt_hash_form.specs.Held.{Agrees, over, own_or}
+use Rattle.mlt_hash_form.proofs.HeldPages.{seen_as}
 use Rattle.mlt_hash_access.specs.Moments.{Moment}
 use Rattle.mlt_hash_access.specs.Views.{ReadsHeldPage, view_of, view_over}
 use Rattle.mlt_hash_access.proofs.Since.{all_written, nothing_since, read_is_seen}
@@ -30,7 +31,6 @@ use Rattle.mlt_hash.specs.declared.pass.Pass.TheVariants as pass
 use Rattle.mlt_hash.specs.declared.pass.Phase.{Phase}
 use Rattle.mlt_hash.specs.declared.pass.Phase.TheVariants as at
 use Rattle.mlt_hash.proofs.Beside.{still_beside}
-use Rattle.mlt_hash.proofs.Owners.{seen_as}
 use Rattle.mlt_hash.proofs.Stood.{own_after, slot_cases}
 
 -- where it stands

@@ -1,7 +1,6 @@
 -- What stays of a split under way as its walk locks, writes and makes pages
 use Rattle.std.proofs.Common.{◌≡◌, ℕ, ◌-◌, ◌<◌, ◌≤◌, ◌^◌, Bool, cond, false, true, List, Option, None, Some, is_some, unwrap_or, refl, sym, ap, subst, ◌∙◌, inl, inr, arith}
 use Rattle.std.specs.FinMap as map
-use Rattle.std.proofs.lemmas.Bool.{false≢true}
 use Rattle.mlt_types.specs.declared.mode.Mode.TheVariants.{Exclusive}
 use Rattle.mlt_page.specs.declared.page.Page.{Page}
 use Rattle.mlt_page.specs.Values.{HeadFields}
@@ -10,7 +9,7 @@ use Rattle.mlt_page_locks.specs.Requests.{with_page}
 use Rattle.mlt_page_locks.proofs.LockLaws.{stronger_exclusive}
 use Rattle.mlt_hash_form.specs.File.{FilePages, HasForm}
 use Rattle.mlt_hash_form.specs.Held.{Agrees, over, own_or}
-use Rattle.mlt_hash_form.proofs.HeldPages.{keeps_more}
+use Rattle.mlt_hash_form.proofs.HeldPages.{keeps_more, seen_as}
 use Rattle.mlt_hash_access.specs.Moments.{MayStep, Moment}
 use Rattle.mlt_hash_access.specs.Views.{MakesPage, ReadsPage, View, WritesPage, view_of, view_over, HasWritten}
 use Rattle.mlt_hash_access.proofs.Since.{held_over_seen}
@@ -47,10 +46,6 @@ rewrites view mid view' q was page reads writes = record {
   here = writes.here;
   others = λ p ne. writes.others p ne ∙ reads.own p;
 }
-
-seen_as : (o : Option (Option Page)) → is_some o ≡ true → (p : Option Page) × (o ≡ Some p)
-seen_as None h = absurd (false≢true h)
-seen_as (Some p) h = (p, refl)
 
 -- a page that is locked exclusively is held so,
 pub exclusive_here : (modes : Modes) (q : ℕ) → map.get (with_page modes q Exclusive) q ≡ Some Exclusive
