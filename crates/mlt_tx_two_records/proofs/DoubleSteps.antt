@@ -1,14 +1,12 @@
 -- Operations on two records come to an end
-use Rattle.std.proofs.Common.{ℕ, ◌≡◌, ◌≤◌, ◌<◌, ◌+◌, ◌-◌, true, is_some, unwrap_or, nat_eq, Option, None, Some, refl, ap, subst, ◌∙◌, inl, inr, arith}
-use Rattle.std.proofs.lemmas.Bool.{cases_lt, cond-false, cond-true, eq-eqb, false≢true, ne_eqb}
+use Rattle.std.proofs.Common.{ℕ, ◌≡◌, ◌≤◌, ◌<◌, ◌+◌, ◌-◌, true, nat_eq, ap, subst, ◌∙◌, inl, inr, arith}
+use Rattle.std.proofs.lemmas.Bool.{cases_lt, cond-false, cond-true, eq-eqb, ne_eqb}
 use Rattle.mlt_object_kinds.specs.declared.operation.ObjReply.{ObjReply}
 use Rattle.mlt_object_base.specs.declared.request.Request.{Request}
-use Rattle.mlt_page.specs.declared.page.Page.{Page}
 use Rattle.mlt_hash_form.specs.File.{header_of}
-use Rattle.mlt_hash_form.specs.Held.{own_or}
 use Rattle.mlt_hash_access.specs.Moments.{Moment}
-use Rattle.mlt_hash_access.specs.Views.{HasWritten, View, seen_with, view_of}
-use Rattle.mlt_hash_access.proofs.Since.{nothing_written}
+use Rattle.mlt_hash_access.specs.Views.{HasWritten, View, view_of}
+use Rattle.mlt_hash_access.proofs.Since.{nothing_written, read_over_writes}
 use Rattle.mlt_hash.specs.Changes.{page_of}
 use Rattle.mlt_hash.specs.Steps.{steps_to_bucket}
 use Rattle.mlt_hash.specs.StepsLeft.{bucket_depth, directory_depth, steps_of_splits, steps_to_put, steps_to_put_at}
@@ -60,15 +58,9 @@ nearer root old new before after s =
           ]
     ]
 
--- a page that is held reads as it does where what was written before is taken as seen
-reads_alike : (before own : Option Page) (seen : Option (Option Page)) → (is_some before ≡ true → is_some own ≡ true) → own_or own (unwrap_or (seen_with before seen) None) ≡ own_or own (unwrap_or seen None)
-reads_alike None own seen written = refl
-reads_alike (Some page) None seen written = absurd (false≢true (written refl))
-reads_alike (Some page) (Some mine) seen written = refl
-
 same_depth : (basis : Basis) (m : Moment) → HasWritten basis.before.written (view_of m) → directory_depth (view_for basis m) basis.root ≡ directory_depth (view_of m) basis.root
 same_depth basis m written =
-    ap (λ p. (header_of p).depth) (reads_alike (basis.before.written basis.root) ((view_of m).own basis.root) ((view_of m).seen basis.root) (λ some. (written basis.root some).1))
+    ap (λ p. (header_of p).depth) (read_over_writes (basis.before.written basis.root) ((view_of m).own basis.root) ((view_of m).seen basis.root) (λ some. (written basis.root some).1))
 
 not_first : (p : Pass) → p ≡ pass.Wide → p ≡ pass.First → ⊥
 not_first p wide first = cc
