@@ -9,6 +9,7 @@ use Rattle.mlt_types.specs.declared.mode.Mode.{Mode}
 use Rattle.mlt_types.specs.declared.mode.Mode.TheVariants.{Exclusive, Shared}
 use Rattle.mlt_page.specs.declared.page.Page.{Page}
 use Rattle.mlt_page_store.specs.Stores.{Pages, page_at}
+use Rattle.mlt_page_store.proofs.Numbered.{page_inserted}
 use Rattle.mlt_page_locks.proofs.Maps.{get_inserted}
 use Rattle.mlt_page_locks.specs.LockTables.{LockTable, Modes, allows_write, can_read, can_write, page_count, pages_of}
 use Rattle.mlt_page_locks.specs.Requests.{granted, stronger, with_page}
@@ -212,9 +213,6 @@ exclusive_stays modes q mode p held =
 
 has_image : (images : Images) (q : ℕ) (first page : Option Page) → page_written (image_of (with_image images q first) q) page ≡ page
 has_image images q first page = grind (arith, nat_tests, image_of-with_image images q first q)
-
-pub page_inserted : (pages : Pages) (q : ℕ) (page : Page) → page_at (map.insert pages q page) q ≡ Some page
-page_inserted pages q page = grind (arith, nat_tests, get_inserted pages q page q)
 
 other_image : (images : Images) (q : ℕ) (first : Option Page) (p : ℕ) → p ≢ q → image_of (with_image images q first) p ≡ image_of images p
 other_image images q first p ne = grind (arith, nat_tests, image_of-with_image images q first p)
