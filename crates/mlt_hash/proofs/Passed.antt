@@ -50,7 +50,7 @@ read_of basis key view found other same read = record {
 head_is_no_dir : (view : View) (p q : ℕ) (header : HeadFields) (dir : List ℕ) → view.seen p ≡ Some (Some (page.Head header)) → view.seen q ≡ Some (Some (page.Dir dir)) → p ≡ q → ⊥
 head_is_no_dir view p q header dir head listed same = let both : Some (Some (page.Head header)) ≡ Some (Some (page.Dir dir)) = sym head ∙ ap view.seen same ∙ listed in cc
 
-head_is_no_bucket : (view : View) (p q : ℕ) (header : HeadFields) (fields : BucketFields) → view.seen p ≡ Some (Some (page.Head header)) → view.seen q ≡ Some (Some (page.Bucket fields)) → p ≡ q → ⊥
+pub head_is_no_bucket : (view : View) (p q : ℕ) (header : HeadFields) (fields : BucketFields) → view.seen p ≡ Some (Some (page.Head header)) → view.seen q ≡ Some (Some (page.Bucket fields)) → p ≡ q → ⊥
 head_is_no_bucket view p q header fields head at same = let both : Some (Some (page.Head header)) ≡ Some (Some (page.Bucket fields)) = sym head ∙ ap view.seen same ∙ at in cc
 
 dir_is_no_bucket : (view : View) (p q : ℕ) (dir : List ℕ) (fields : BucketFields) → view.seen p ≡ Some (Some (page.Dir dir)) → view.seen q ≡ Some (Some (page.Bucket fields)) → p ≡ q → ⊥
