@@ -16,7 +16,7 @@ none_unless : {X Y : Type 0} (w : Option X) (o : Option Y) → o ≡ None → (i
 none_unless None o none held = refl
 none_unless (Some x) o none held = absurd (false≢true (sym (ap is_some none) ∙ held refl))
 
-same_some : {X : Type 0} (x y : X) → Some x ≡ Some y → x ≡ y
+pub same_some : {X : Type 0} (x y : X) → Some x ≡ Some y → x ≡ y
 same_some x y same = cc
 
 -- one page, of which `w` was written before
