@@ -113,7 +113,7 @@ LeavesBase answer.Aborted old new tx =
     × TakesStepBack old new tx [] last (trace.Back tx ∷ trace.Abort tx ∷ [])
 LeavesBase other old new tx = KeepsWhatCounts old new
 
--- what a whole operation that was told this does to them
+-- what a whole operation that was told this does to the base, the clean pages and the history
 abbrev pub WholeLeavesBase : {P : Type 0} → Answer → ManagerFields P → ManagerFields P → ℕ → ObjOp
     → Type 0
 WholeLeavesBase (answer.Done reply) old new tx op = AddsStep old new tx (op, reply)

@@ -4,7 +4,7 @@ use Rattle.std.specs.List.{slice_get}
 use Rattle.mlt_text_words.specs.declared.letter.Letter.{Letter}
 use Rattle.mlt_text_words.specs.declared.letter.Letter.TheVariants as letter
 
--- from 0 for a to 25 for z
+-- the place of a letter, from 0 for a to 25 for z
 abbrev pub index_of : Letter → ℕ
 index_of letter.A = 0
 index_of letter.B = 1

@@ -46,7 +46,8 @@ pub record IsTrace (raws : List Raw) (items : List TraceItem) (base : Base) : Ty
   pub placed : ArePlaced items
   pub serial : IsSerialBase Step empty_base (told items).committed base
 
--- the text is a trace with this committed order and this base
+-- The text is a trace with this committed order and this base: each line is an item, each item has
+-- its place, and the committed transcripts lead to the base.
 abbrev pub IsAcceptedTrace : List ℕ → List ℕ → Base → Type 0
 IsAcceptedTrace text txs base = (items : List TraceItem) × IsTrace (lines text) items base × (txs ≡ committed_txs items)
 
@@ -80,5 +81,7 @@ IsFirstFaultOf raws line fault =
     (before : List Raw) × (raw : Raw) × (after : List Raw) × (items : List TraceItem) × (base : Base)
     × (raws ≡ before ++ raw ∷ after) × IsTrace before items base × IsLineFault items base raw line fault
 
+-- the first line at which a text stops being an accepted trace, counted from 1, and the first cause
+-- there
 abbrev pub IsFirstFault : List ℕ → ℕ → TraceCause → Type 0
 IsFirstFault text line fault = IsFirstFaultOf (lines text) line fault

@@ -33,7 +33,7 @@ abbrev pub course_for : Request → Option ℕ → Course
 course_for request None = One (walk_for request)
 course_for request (Some size) = Two (find_both (target_of request).0 size)
 
--- one that has taken no step
+-- an operation that has taken no step
 abbrev pub started_for : Request → OperationFields
 started_for request = record {
   request = request;

@@ -167,5 +167,7 @@ abbrev pub TakesBackBy : Option ℕ → ObjOp × ObjReply → List OwnStep → T
 TakesBackBy None last steps = TakesBackInFour last steps
 TakesBackBy (Some size) last steps = TakesBackInSeven steps
 
+-- An operation is taken back: at its fourth step or its first where it is on one record, and at its
+-- fourth to seventh where it is on two.
 abbrev pub TakesBackOf : ObjOp × ObjReply → List OwnStep → Type 0
 TakesBackOf last steps = TakesBackBy (size_key_of (TakeBack last)) last steps
