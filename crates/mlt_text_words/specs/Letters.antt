@@ -48,5 +48,6 @@ byte_of l = 97 + index_of l
 unfoldable pub letter_of : ℕ → Option Letter
 letter_of byte = if nat_lt byte 97 then None else slice_get all_letters (byte - 97)
 
+-- how a letter is written
 abbrev pub letter_text : Letter → List ℕ
 letter_text l = byte_of l ∷ []

@@ -27,7 +27,9 @@ IsRunning items tx = (told items).stage tx ≡ Running
 abbrev pub IsWhole : List TraceItem → ℕ → Type 0
 IsWhole items tx = Contains items (Back tx) → ⊥
 
--- the item may stand behind these items
+-- The item may stand behind these items: a begin is of a number above all begun before; who does
+-- anything else is running; who does an operation or commits has taken nothing back; something is
+-- left to take back, and nothing at an abort; and commits are counted from 1.
 abbrev pub HasPlace : List TraceItem → TraceItem → Type 0
 HasPlace items (Begin tx) = (other : ℕ) → Contains (begun_txs items) other → other < tx
 HasPlace items (Op tx done) = IsRunning items tx × IsWhole items tx

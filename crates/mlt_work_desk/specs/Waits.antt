@@ -105,6 +105,7 @@ abbrev pub TurnsIfWaits : ℕ → Option (Awaited × Waiting) → Waits → Turn
 TurnsIfWaits count None before taken after = (taken ≡ turn.Goes) × (after ≡ before)
 TurnsIfWaits count (Some wait) before taken after = Turns count wait.0 wait.1 before taken after
 
+-- the bells that ring then
 abbrev pub rung_if_waits : Option (Awaited × Waiting) → Turn → Waits → List Bell
 rung_if_waits None taken waits = []
 rung_if_waits (Some wait) taken waits = rung_at taken wait.0 waits
