@@ -105,6 +105,7 @@ abbrev pub TurnsIfWaits : ℕ → Option (Awaited × Waiting) → Waits → Turn
 TurnsIfWaits count None before taken after = (taken ≡ turn.Goes) × (after ≡ before)
 TurnsIfWaits count (Some wait) before taken after = Turns count wait.0 wait.1 before taken after
 
+-- who is woken then
 abbrev pub woken_if_waits : Option (Awaited × Waiting) → Turn → Waits → List Waker
 woken_if_waits None taken waits = []
 woken_if_waits (Some wait) taken waits = woken_at taken wait.0 waits
