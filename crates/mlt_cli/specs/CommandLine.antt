@@ -172,6 +172,7 @@ IsWithinBounds other = Unit {0}
 abbrev pub plain_run : Text → RunForm
 plain_run input = record { input = input; hash = Mult; trace = None }
 
+-- the subcommands of the program
 pub data Subcommand : Type 0 where
   solo : Subcommand
   steps : Subcommand
@@ -179,6 +180,7 @@ pub data Subcommand : Type 0 where
   check : Subcommand
   serve : Subcommand
 
+-- the word that asks for a subcommand
 abbrev pub subcommand_name : Subcommand → Text
 subcommand_name solo = codes "solo"
 subcommand_name steps = codes "steps"

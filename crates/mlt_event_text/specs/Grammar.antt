@@ -36,7 +36,7 @@ pub record AreEvents (raws : List Raw) (events : List Event) : Type 0 where
   pub lawful : AreLawful raws
   pub appended : events ≡ flat_map events_of raws
 
--- the text is just these events
+-- the text writes just these events: each line is blank, a comment or one of the eight forms
 abbrev pub Spells : List ℕ → List Event → Type 0
 Spells text events = AreEvents (lines text) events
 
@@ -51,6 +51,7 @@ abbrev pub IsFirstFaultOf : List Raw → ℕ → ScriptCause → Type 0
 IsFirstFaultOf raws line fault = (before : List Raw) × (raw : Raw) × (after : List Raw)
     × (raws ≡ before ++ raw ∷ after) × (line ≡ length before + 1) × AreLawful before × IsFault raw fault
 
+-- the first line at which a text stops being events, counted from 1, and why
 abbrev pub IsFirstFault : List ℕ → ℕ → ScriptCause → Type 0
 IsFirstFault text line fault = IsFirstFaultOf (lines text) line fault
 

@@ -4,9 +4,8 @@ use Rattle.std.specs.Prelude.{IsSome, position, slice_index_or, unwrap_or}
 use Rattle.std.specs.FinMap as map
 use Rattle.std.specs.Option.{option_map}
 use Rattle.std.proofs.lemmas.Bool.{false≢true}
-use Rattle.mlt_types.specs.declared.mode.Mode.{Mode}
 use Rattle.mlt_types.specs.declared.refusal.Refusal.TheVariants as refusal
-use Rattle.mlt_types.specs.declared.mode.Mode.TheVariants.{Exclusive, Shared}
+use Rattle.mlt_types.specs.declared.mode.Mode.TheVariants.{Exclusive}
 use Rattle.mlt_page.specs.Slots.{is_live_of}
 use Rattle.mlt_page.specs.declared.slot.Slot.{Slot}
 use Rattle.mlt_page.specs.declared.slot.Slot.TheVariants.{Free, Ghost, Live}
@@ -15,7 +14,8 @@ use Rattle.mlt_page.specs.declared.page.Page.TheVariants as page
 use Rattle.mlt_page.specs.Pages.{page_with_slot}
 use Rattle.mlt_page.specs.Values.{BucketFields}
 use Rattle.mlt_page_locks.specs.LockTables.{Modes, can_write}
-use Rattle.mlt_page_locks.specs.Requests.{stronger, with_page}
+use Rattle.mlt_page_locks.specs.Requests.{with_page}
+use Rattle.mlt_page_locks.proofs.LockLaws.{stronger_exclusive}
 use Rattle.mlt_hash_form.specs.Changes.{ChangesRecord, IsHome, slot_change}
 use Rattle.mlt_hash_form.specs.File.{HasForm, IsPath, Writes, dir_of}
 use Rattle.mlt_hash_form.specs.Form.{value_in, slot_value}
@@ -76,11 +76,6 @@ bucket_mode_exclusive : (pass : Pass) → bucket_mode pass Exclusive ≡ Exclusi
 bucket_mode_exclusive pass.First = refl
 bucket_mode_exclusive pass.Narrow = refl
 bucket_mode_exclusive pass.Wide = refl
-
-stronger_exclusive : (held : Option Mode) → stronger held Exclusive ≡ Exclusive
-stronger_exclusive None = refl
-stronger_exclusive (Some Shared) = refl
-stronger_exclusive (Some Exclusive) = refl
 
 -- **A walk whose own mode is exclusive holds its bucket so.**
 pub bucket_is_exclusive : (basis : Basis) (walk : WalkFields) (view : View) (bucket depth : ℕ) (found : Option ℕ) → IsAtBucket basis walk view bucket depth found → walk.mode ≡ Exclusive → map.get view.modes bucket ≡ Some Exclusive

@@ -20,6 +20,7 @@ use Rattle.mlt_hash.specs.Walks.{Basis, IsSplitting, aim_of, view_for}
 use Rattle.mlt_hash.specs.declared.answer.WalkAnswer.TheVariants as answer
 use Rattle.mlt_hash.specs.declared.pass.Pass.TheVariants as pass
 use Rattle.mlt_hash.proofs.Passed.{narrow_holds_next}
+use Rattle.mlt_hash.proofs.StepsLeft.{some_is_one}
 
 against_is_held : (o : Option Mode) (mode : Mode) → is_against o mode ≡ true → is_some o ≡ true
 against_is_held None mode against = absurd (false≢true against)
@@ -34,9 +35,6 @@ nobody_against m q by may held against =
           let stands : is_against (mode_held m.locks by q) Exclusive ≡ true = grind (arith, nat_tests, against) in
           differ (sym (may.compatible m.running.tx by q (may_write m q held) (against_is_held (mode_held m.locks by q) Exclusive stands)))
     ]
-
-some_is_one : (x y : SplitFields) (o : Option SplitFields) → o ≡ Some x → o ≡ Some y → x ≡ y
-some_is_one x y o is_x is_y = let e : Some x ≡ Some y = sym is_x ∙ is_y in cc
 
 -- **A narrow pass that splits never waits.**
 pub narrow_never_waits : (basis : Basis) (step : WalkStep) (value room_depth page by : ℕ) (clean : ℕ → Option Page) → MayStep step.old → IsSplitting basis step.before (view_for basis step.old) room_depth → step.before.pass ≡ pass.Narrow

@@ -1,19 +1,20 @@
 -- Owners of ghosts close: what is known of slots whose room is kept
-use Rattle.std.proofs.Common.{◌≡◌, ℕ, Bool, true, slice_index_or, List, Option, None, Some, is_some, refl, sym, ap, ◌∙◌, inl, inr}
+use Rattle.std.proofs.Common.{◌≡◌, ℕ, Bool, true, slice_index_or, List, Option, None, Some, is_some, sym, ap, ◌∙◌, inl, inr}
 use Rattle.std.specs.Ordering.{nat_cmp}
 use Rattle.std.specs.FinSet as set
 use Rattle.std.proofs.lemmas.Bool.{false≢true}
 use Rattle.mlt_page.specs.Slots.{is_kept}
 use Rattle.mlt_page.specs.declared.slot.Slot.{Slot}
-use Rattle.mlt_page.specs.declared.slot.Slot.TheVariants.{Free, Live, Ghost}
+use Rattle.mlt_page.specs.declared.slot.Slot.TheVariants.{Free}
 use Rattle.mlt_page.specs.declared.page.Page.{Page}
 use Rattle.mlt_page.specs.declared.page.Page.TheVariants as page
 use Rattle.mlt_page.specs.Values.{BucketFields, HeadFields}
 use Rattle.mlt_page_subtx.proofs.ImageLaws.{not_true}
 use Rattle.mlt_hash_form.specs.File.{HasForm, bucket_of, buckets_of}
-use Rattle.mlt_hash_form.specs.Form.{is_used, slot_at}
+use Rattle.mlt_hash_form.specs.Form.{slot_at}
 use Rattle.mlt_hash_form.specs.Held.{Agrees, KeepsFile, over}
-use Rattle.mlt_hash_form.proofs.HeldPages.{keeps_fewer}
+use Rattle.mlt_hash_form.proofs.HeldPages.{keeps_fewer, seen_as}
+use Rattle.mlt_hash_form.proofs.Splitting.{used_from_kept}
 use Rattle.mlt_hash_access.specs.Views.{View}
 use Rattle.mlt_hash_split.specs.Rests.{IsAtRest, KeepsNoMore}
 use Rattle.mlt_hash_split.proofs.Laws.{rest_with_fewer, under_way_with_fewer}
@@ -25,21 +26,12 @@ use Rattle.mlt_hash.specs.declared.pass.Phase.TheVariants as at
 use Rattle.mlt_hash.proofs.Passed.{read_as}
 use Rattle.mlt_hash.proofs.Standing.{at_bucket_for, headed_for, placed_for}
 
-pub seen_as : (seen : Option (Option Page)) → is_some seen ≡ true → (p : Option Page) × (seen ≡ Some p)
-seen_as None held = absurd (false≢true held)
-seen_as (Some p) held = (p, refl)
-
-pub kept_is_used : (opens : set.FinSet nat_cmp) (slot : Slot) → is_kept opens slot ≡ true → is_used slot ≡ true
-kept_is_used opens Free kept = absurd (false≢true kept)
-kept_is_used opens (Live key value) kept = refl
-kept_is_used opens (Ghost key value owner) kept = refl
-
 module _ (basis : Basis) (fewer : set.FinSet nat_cmp) (walk : WalkFields) (view : View) (clean : ℕ → Option Page) (no_more : KeepsNoMore basis.opens fewer view) (agree : Agrees view.seen clean) (form : HasForm basis.bits clean basis.root) where
   -- a slot of a held page of what is written so far was kept, if it is now
   kept_before : (own : ℕ → Option Page) (n i : ℕ) → KeepsFile basis.bits basis.opens basis.root view.seen own → is_some (view.seen n) ≡ true
       → is_kept fewer (slot_at (buckets_of (over clean own)) n i) ≡ true → is_kept basis.opens (slot_at (buckets_of (over clean own)) n i) ≡ true
   kept_before own n i keeps held kept =
-      let stood = (keeps clean agree form).stood n i (kept_is_used fewer (slot_at (buckets_of (over clean own)) n i) kept) in
+      let stood = (keeps clean agree form).stood n i (used_from_kept fewer (slot_at (buckets_of (over clean own)) n i) kept) in
       let o_held : is_some (view.seen stood.0) ≡ true = elim stood.2 [ inl same ↦ ap (λ n. is_some (view.seen n)) same ∙ held | inr other ↦ other ] in
       let p = seen_as (view.seen stood.0) o_held in
       let here : slot_at (buckets_of clean) stood.0 i ≡ slice_index_or (bucket_of p.0).slots i Free = ap (λ q. slice_index_or (bucket_of q).slots i Free) (agree stood.0 p.0 p.1) in

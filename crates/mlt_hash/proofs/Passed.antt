@@ -11,6 +11,7 @@ use Rattle.mlt_page.specs.declared.page.Page.TheVariants as page
 use Rattle.mlt_page.specs.Values.{BucketFields, HeadFields}
 use Rattle.mlt_page_locks.specs.LockTables.{Modes, mode_held}
 use Rattle.mlt_page_locks.specs.Requests.{stronger, with_page}
+use Rattle.mlt_page_locks.proofs.LockLaws.{stronger_exclusive}
 use Rattle.mlt_hash_form.specs.File.{HasForm, dir_of}
 use Rattle.mlt_hash_form.specs.Held.{Agrees, own_or}
 use Rattle.mlt_hash_access.specs.Moments.{MayStep, Moment}
@@ -19,13 +20,12 @@ use Rattle.mlt_hash_access.specs.Views.{MakesPage, View, WritesPage}
 use Rattle.mlt_hash_access.proofs.Reading.{bucket_still}
 use Rattle.mlt_hash_access.proofs.OwnSteps.{own_step_writes_more, step_keeps_tx}
 use Rattle.mlt_hash_access.proofs.Since.{over_sees_more}
-use Rattle.mlt_hash_access.proofs.Views.{mode_of_others, mode_of_page}
+use Rattle.mlt_hash_access.proofs.Views.{exclusive_stays, mode_of_others, mode_of_page}
 use Rattle.mlt_hash_split.specs.Rests.{Aim}
 use Rattle.mlt_hash_split.specs.Splits.{IsUnderWay, SplitFields}
 use Rattle.mlt_hash_split.specs.Steps.{IsDone, IsKeysPage, IsMaking, IsNextPage}
 use Rattle.mlt_hash_split.specs.declared.split.SplitAnswer.TheVariants as split_answer
 use Rattle.mlt_hash_split.proofs.HeldPages.{exclusive_after_make, grows_by_make}
-use Rattle.mlt_hash_split.proofs.Later.{stronger_exclusive}
 use Rattle.mlt_hash_split.proofs.Locks.{done_writes_what_it_locks, locks_its_page_alone}
 use Rattle.mlt_hash_split.proofs.Narrow.{narrow_leaves_header, narrow_makes_none, narrow_next_page}
 use Rattle.mlt_hash.specs.Passes.{MayHoldMore, bucket_held, bucket_mode, directory_held, directory_mode, header_held, header_mode}
@@ -50,7 +50,7 @@ read_of basis key view found other same read = record {
 head_is_no_dir : (view : View) (p q : ℕ) (header : HeadFields) (dir : List ℕ) → view.seen p ≡ Some (Some (page.Head header)) → view.seen q ≡ Some (Some (page.Dir dir)) → p ≡ q → ⊥
 head_is_no_dir view p q header dir head listed same = let both : Some (Some (page.Head header)) ≡ Some (Some (page.Dir dir)) = sym head ∙ ap view.seen same ∙ listed in cc
 
-head_is_no_bucket : (view : View) (p q : ℕ) (header : HeadFields) (fields : BucketFields) → view.seen p ≡ Some (Some (page.Head header)) → view.seen q ≡ Some (Some (page.Bucket fields)) → p ≡ q → ⊥
+pub head_is_no_bucket : (view : View) (p q : ℕ) (header : HeadFields) (fields : BucketFields) → view.seen p ≡ Some (Some (page.Head header)) → view.seen q ≡ Some (Some (page.Bucket fields)) → p ≡ q → ⊥
 head_is_no_bucket view p q header fields head at same = let both : Some (Some (page.Head header)) ≡ Some (Some (page.Bucket fields)) = sym head ∙ ap view.seen same ∙ at in cc
 
 dir_is_no_bucket : (view : View) (p q : ℕ) (dir : List ℕ) (fields : BucketFields) → view.seen p ≡ Some (Some (page.Dir dir)) → view.seen q ≡ Some (Some (page.Bucket fields)) → p ≡ q → ⊥
@@ -68,14 +68,6 @@ held_still modes q mode p held =
     elim (cases_eq p q) [
       | inl here ↦ ap (λ p. is_some (map.get (with_page modes q mode) p)) here ∙ ap is_some (mode_of_page modes q mode)
       | inr elsewhere ↦ ap is_some (mode_of_others modes q mode p elsewhere) ∙ held
-    ]
-
--- and exclusively, if it was held so
-exclusive_still : (modes : Modes) (q : ℕ) (mode : Mode) (p : ℕ) → map.get modes p ≡ Some Exclusive → map.get (with_page modes q mode) p ≡ Some Exclusive
-exclusive_still modes q mode p held =
-    elim (cases_eq p q) [
-      | inl here ↦ ap (λ p. map.get (with_page modes q mode) p) here ∙ mode_of_page modes q mode ∙ ap (λ o. Some (stronger o mode)) (ap (map.get modes) (sym here) ∙ held)
-      | inr elsewhere ↦ mode_of_others modes q mode p elsewhere ∙ held
     ]
 
 module _ (before : Before) (walk : WalkFields) (follows : GoesAfter walk.pass before) (root dir bucket : ℕ) (apart : root ≢ dir) (beside : root ≢ bucket) (below : dir ≢ bucket) where
@@ -102,7 +94,7 @@ module _ (before : Before) (walk : WalkFields) (follows : GoesAfter walk.pass be
         ∙ ap (λ o. Some (stronger o (bucket_mode walk.pass walk.mode))) (mode_of_others one dir (directory_mode walk.pass) bucket (λ e. below (sym e)) ∙ mode_of_others before.held root (header_mode walk.pass) bucket (λ e. beside (sym e)))
         ∙ ap Some (takes_mode walk.pass before follows bucket (bucket_mode walk.pass walk.mode) (λ wide. ap (λ pass. bucket_mode pass walk.mode) wide));
     kept = λ q some. ap (λ (modes : Modes). is_some (map.get modes q)) held ∙ held_still two bucket (bucket_mode walk.pass walk.mode) q (held_still one dir (directory_mode walk.pass) q (held_still before.held root (header_mode walk.pass) q some));
-    exclusive = λ q was. ap (λ (modes : Modes). map.get modes q) held ∙ exclusive_still two bucket (bucket_mode walk.pass walk.mode) q (exclusive_still one dir (directory_mode walk.pass) q (exclusive_still before.held root (header_mode walk.pass) q was));
+    exclusive = λ q was. ap (λ (modes : Modes). map.get modes q) held ∙ exclusive_stays two bucket (bucket_mode walk.pass walk.mode) q (exclusive_stays one dir (directory_mode walk.pass) q (exclusive_stays before.held root (header_mode walk.pass) q was));
     others = λ q away further last none some. absurd (false≢true (sym none ∙ sym (ap is_some (ap (λ (modes : Modes). map.get modes q) held ∙ not_among q away further last)) ∙ some));
   }
 

@@ -14,12 +14,13 @@ use Rattle.mlt_page.specs.declared.slot.Slot.TheVariants.{Free}
 use Rattle.mlt_page.specs.declared.page.Page.{Page}
 use Rattle.mlt_page.specs.declared.page.Page.TheVariants as page
 use Rattle.mlt_page.specs.Values.{BucketFields}
+use Rattle.mlt_page_subtx.proofs.ImageLaws.{not_there}
 use Rattle.mlt_hash_form.specs.Changes.{IsHome}
 use Rattle.mlt_hash_form.specs.File.{HasForm, bucket_of, buckets_of, dir_of, header_of, lead_of}
 use Rattle.mlt_hash_form.specs.Held.{Agrees, KeepsFile, RearrangesSlots, over, own_or}
 use Rattle.mlt_hash_form.specs.Room.{crowds, is_crowded}
 use Rattle.mlt_hash_form.proofs.Crowd.{crowded_at_own_depth}
-use Rattle.mlt_hash_form.proofs.HeldPages.{keeps_none}
+use Rattle.mlt_hash_form.proofs.HeldPages.{keeps_none, seen_as}
 use Rattle.mlt_hash_form.proofs.Paths.{path_depths}
 use Rattle.mlt_hash_access.specs.Moments.{HasFileOver, MayStep, Moment}
 use Rattle.mlt_hash_access.specs.Views.{View}
@@ -176,14 +177,6 @@ tells_next_by own basis same fields key depth next least told =
     let here : TellsNext (one_key basis) fields key depth next least = subst (λ (b : Basis). TellsNext b fields key depth next least) same told in
     record { follows = here.follows; room = here.room; narrow = here.narrow }
 
-none_is : {X : Type 0} (o : Option X) → is_some o ≡ false → o ≡ None
-none_is None h = refl
-none_is (Some x) h = absurd (false≢true (sym h))
-
-some_is : {X : Type 0} (o : Option X) → is_some o ≡ true → (x : X) × (o ≡ Some x)
-some_is None h = absurd (false≢true h)
-some_is (Some x) h = (x, refl)
-
 first_is_not_narrow : pass.First ≡ pass.Narrow → ⊥
 first_is_not_narrow same = cc
 
@@ -231,7 +224,7 @@ module _ (basis : Basis) (walk after : WalkFields) (m : Moment) (fields : Bucket
       fields = fields;
       full = full;
       shallow = shallow;
-      never = subst (λ o. MatchOption o (NeverHasRoom (crowded_at basis walk fields) fields.depth basis.max_depth) (λ d. HasRoomFrom (crowded_at basis walk fields) fields.depth basis.max_depth d)) (none_is least none) told.room;
+      never = subst (λ o. MatchOption o (NeverHasRoom (crowded_at basis walk fields) fields.depth basis.max_depth) (λ d. HasRoomFrom (crowded_at basis walk fields) fields.depth basis.max_depth d)) (not_there least none) told.room;
       later = later;
       narrow = λ narrow. subst (λ p. IsNext basis walk fields p) (next_is_narrow narrow) told.follows;
       stays = stays;

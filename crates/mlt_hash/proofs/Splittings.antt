@@ -35,6 +35,7 @@ use Rattle.mlt_hash.specs.declared.answer.WalkAnswer.TheVariants as answer
 use Rattle.mlt_hash.specs.declared.pass.Pass.TheVariants as pass
 use Rattle.mlt_hash.specs.declared.pass.Phase.{Phase}
 use Rattle.mlt_hash.specs.declared.pass.Phase.TheVariants as at
+use Rattle.mlt_hash.proofs.StepsLeft.{some_is_one}
 
 -- a lock more takes no right away
 granted_keeps : (locks new : LockTable) (tx q root : ℕ) (mode : Mode) → new ≡ granted locks tx q mode → can_write locks tx root ≡ true → can_write new tx root ≡ true
@@ -62,9 +63,6 @@ stays_exclusive_in_step old new root may touches held =
 -- where a walk that splits stands
 splitting_at : (basis : Basis) (walk : WalkFields) (old : Moment) (value room_depth : ℕ) → walk.phase ≡ at.Splitting value room_depth → IsStanding basis walk (view_for basis old) → IsSplitting basis walk (view_for basis old) room_depth
 splitting_at basis walk old value room_depth phase stands = subst (λ p. Stands p basis walk (view_for basis old)) phase stands
-
-some_is_one : {X : Type 0} (x y : X) (o : Option X) → o ≡ Some x → o ≡ Some y → x ≡ y
-some_is_one x y o is_x is_y = let e : Some x ≡ Some y = sym is_x ∙ is_y in cc
 
 -- a walk that splits may go on with its split
 pub may_advance : (basis : Basis) (walk : WalkFields) (old : Moment) (value room_depth : ℕ) (was : SplitFields) → walk.phase ≡ at.Splitting value room_depth → walk.split ≡ Some was → MayWalk basis old walk → MayAdvance (aim_of basis walk room_depth) old was

@@ -1,10 +1,11 @@
 -- Each step of the splits of a pass is one of those that are left
-use Rattle.std.proofs.Common.{ℕ, suc, ◌≡◌, ◌<◌, ◌+◌, ◌-◌, Bool, Option, Some, refl, sym, ◌∙◌, ap, subst, inl, inr, arith}
+use Rattle.std.proofs.Common.{ℕ, zero, suc, ◌≡◌, ◌<◌, ◌+◌, ◌-◌, Bool, Option, Some, refl, sym, ◌∙◌, ap, subst, inl, inr, arith}
 use Rattle.std.proofs.lemmas.Bool.{cases_eq, cond-false, cond-true, eq-eqb, ne_eqb}
 use Rattle.mlt_page.specs.declared.page.Page.{Page}
 use Rattle.mlt_hash_form.specs.File.{HasForm, bucket_of, header_of}
 use Rattle.mlt_hash_form.specs.Held.{Agrees}
 use Rattle.mlt_hash_access.specs.Moments.{Moment}
+use Rattle.mlt_hash_access.specs.Views.{View}
 use Rattle.mlt_hash_split.specs.Splits.{SplitFields, directory_steps, steps_left}
 use Rattle.mlt_hash.specs.Splitting.{BeginsSplit, SplitCloses, SplitGoesOn, TellsAt, walk_step}
 use Rattle.mlt_hash.specs.StepsLeft.{IsPutting, bucket_depth, depth_after, directory_depth, steps_of_splits, steps_to_put, steps_to_put_at, steps_with_split}
@@ -12,13 +13,14 @@ use Rattle.mlt_hash.specs.Walks.{Basis, IsSplitting, Stands, WalkFields, view_fo
 use Rattle.mlt_hash.specs.declared.answer.WalkAnswer.TheVariants as answer
 use Rattle.mlt_hash.specs.declared.pass.Phase.{Phase}
 use Rattle.mlt_hash.specs.declared.pass.Phase.TheVariants as at
+use Rattle.mlt_hash.specs.Steps.{steps_to_bucket}
 
 -- a bucket that is less deep than is needed is split once more
 one_split : (l g d : ℕ) → l < d → steps_of_splits (d - l) l g ≡ 2 + directory_steps l g + steps_of_splits (d - (l + 1)) (l + 1) (depth_after l g)
 unfolding steps_of_splits
 one_split l g d deep = let next : d - l ≡ suc (d - (l + 1)) = omega (arith, deep) in ap (λ n. steps_of_splits n l g) next
 
-some_is_one : (x y : SplitFields) (o : Option SplitFields) → o ≡ Some x → o ≡ Some y → x ≡ y
+pub some_is_one : {X : Type 0} (x y : X) (o : Option X) → o ≡ Some x → o ≡ Some y → x ≡ y
 some_is_one x y o is_x is_y = let e : Some x ≡ Some y = sym is_x ∙ is_y in cc
 
 module _ (basis : Basis) (old new : Moment) (before after : WalkFields) (clean : ℕ → Option Page) (agree : Agrees (view_for basis new).seen clean) (form : HasForm basis.bits clean basis.root) where
@@ -74,6 +76,19 @@ module _ (basis : Basis) (old new : Moment) (before after : WalkFields) (clean :
   fewer_at (at.AtBucket bucket depth found) is putting tells = absurd putting
   fewer_at (at.Full next) is putting tells = absurd putting
   fewer_at (at.Changed bucket done) is putting tells = absurd putting
+
+-- on the way nothing is to be put yet
+pub put_on_way : (p : Phase) (root : ℕ) (walk : WalkFields) (view : View) → 0 < steps_to_bucket p → steps_to_put_at p root walk view ≡ 0
+put_on_way at.Start root walk view more = refl
+put_on_way (at.Headed dir row depth) root walk view more = refl
+put_on_way (at.Placed bucket depth) root walk view more = refl
+put_on_way other root walk view more = absurd (omega (arith, more))
+
+-- a walk puts its record in the last step of those that are left
+pub put_is_left : (n l g : ℕ) → 0 < steps_of_splits n l g
+unfolding steps_of_splits
+put_is_left zero l g = omega arith
+put_is_left (suc n) l g = omega (arith)
 
 -- **Each step of the splits of a pass is one of those that are left.**
 pub one_fewer : (basis : Basis) (old new : Moment) (before after : WalkFields) (clean : ℕ → Option Page) → Agrees (view_for basis new).seen clean → HasForm basis.bits clean basis.root → IsPutting before.phase → TellsAt before.phase basis old new before after answer.Going

@@ -10,13 +10,13 @@ use Rattle.mlt_page.specs.declared.page.Page.{Page}
 use Rattle.mlt_page.specs.Values.{BucketFields}
 use Rattle.mlt_hash_form.specs.File.{FilePages}
 use Rattle.mlt_hash_form.specs.Form.{SetsOneSlot, slot_at}
+use Rattle.mlt_hash_form.proofs.Splitting.{used_from_kept}
 use Rattle.mlt_hash_access.specs.Views.{View, rebased, seen_with}
 use Rattle.mlt_hash_split.specs.Rests.{KeepsNoMore}
 use Rattle.mlt_hash.specs.Passes.{slot_after}
 use Rattle.mlt_hash.specs.Walks.{IsOwnSlot, SlotsStood, slot_on}
 use Rattle.mlt_hash.specs.declared.pass.Change.{Change}
 use Rattle.mlt_hash.specs.declared.pass.Change.TheVariants as change
-use Rattle.mlt_hash.proofs.Owners.{kept_is_used}
 
 -- a slot of a list in which one was set is that one's new content, or as before
 set_cases : (slots : List Slot) (i j : ℕ) (s : Slot) → (slice_index_or (slice_set slots i s) j Free ≡ s) ⊎ (slice_index_or (slice_set slots i s) j Free ≡ slice_index_or slots j Free)
@@ -55,7 +55,7 @@ still_stood written tx old new stood more n p is i used = elim (stood n p is i u
 module _ (written : FilePages) (tx : ℕ) (opens fewer : set.FinSet nat_cmp) (view : View) (stood : SlotsStood written tx view) (is_open : set.contains opens tx ≡ true) (no_more : KeepsNoMore opens fewer view) where
   kept_on : (n : ℕ) (page : Page) (i : ℕ) → written n ≡ Some page → is_kept fewer (slot_on (Some page) i) ≡ true → is_kept opens (slot_on (Some page) i) ≡ true
   kept_on n page i is kept =
-      elim (stood n page is i (kept_is_used fewer (slot_on (Some page) i) kept)) [
+      elim (stood n page is i (used_from_kept fewer (slot_on (Some page) i) kept)) [
         | inl own ↦ own_is_kept opens tx (slot_on (Some page) i) is_open own
         | inr was ↦ ap (is_kept opens) (sym was.3) ∙ no_more was.0 was.1 was.2 i (ap (is_kept fewer) was.3 ∙ kept)
       ]

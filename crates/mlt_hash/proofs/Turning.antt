@@ -9,10 +9,12 @@ use Rattle.mlt_page.specs.declared.page.Page.TheVariants as page
 use Rattle.mlt_page_locks.specs.LockTables.{Modes, can_read}
 use Rattle.mlt_page_locks.specs.Requests.{with_page}
 use Rattle.mlt_page_locks.proofs.Maps.{same_entries}
+use Rattle.mlt_page_locks.proofs.LockLaws.{stronger_exclusive}
 use Rattle.mlt_page.specs.declared.slot.Slot.{Slot}
 use Rattle.mlt_hash_form.specs.File.{buckets_of, dir_of, header_of, row_of}
 use Rattle.mlt_hash_form.specs.Form.{is_used, slot_at}
 use Rattle.mlt_hash_form.specs.Held.{Agrees, over, own_or}
+use Rattle.mlt_hash_form.proofs.HeldPages.{seen_as}
 use Rattle.mlt_hash_access.specs.Moments.{Moment}
 use Rattle.mlt_hash_access.specs.Views.{ReadsHeldPage, view_of, view_over}
 use Rattle.mlt_hash_access.proofs.Since.{all_written, nothing_since, read_is_seen}
@@ -20,7 +22,6 @@ use Rattle.mlt_hash_access.proofs.Views.{agrees, may_read, mode_of_others, mode_
 use Rattle.mlt_hash_split.specs.Rests.{held_page}
 use Rattle.mlt_hash_split.proofs.Closing.{held_page_over}
 use Rattle.mlt_hash_split.proofs.HeldPages.{reads_as, same_header}
-use Rattle.mlt_hash_split.proofs.Later.{stronger_exclusive}
 use Rattle.mlt_hash.specs.Passes.{header_held, header_mode, slot_after}
 use Rattle.mlt_hash.specs.Walks.{Basis, Before, GoesAfter, HoldsBeside, IsChanged, IsHeaded, IsOwnSlot, MayWalk, SlotsStood, Stands, WalkFields, basis_after, before_of, nothing_before, one_key, slot_on}
 use Rattle.mlt_hash.specs.Changes.{IsChangedPhase}
@@ -30,7 +31,6 @@ use Rattle.mlt_hash.specs.declared.pass.Pass.TheVariants as pass
 use Rattle.mlt_hash.specs.declared.pass.Phase.{Phase}
 use Rattle.mlt_hash.specs.declared.pass.Phase.TheVariants as at
 use Rattle.mlt_hash.proofs.Beside.{still_beside}
-use Rattle.mlt_hash.proofs.Owners.{seen_as}
 use Rattle.mlt_hash.proofs.Stood.{own_after, slot_cases}
 
 -- where it stands

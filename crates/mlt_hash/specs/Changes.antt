@@ -75,11 +75,11 @@ pub record MayChange (basis : Basis) (m : Moment) (walk : WalkFields) : Type 0 w
   pub walks : MayWalk basis m walk
   pub exclusive : walk.mode ≡ Exclusive
 
--- the same of a walk of transaction tx, whatever it goes by
+-- what a change asks of a walk of transaction tx, whatever it goes by
 abbrev pub MayChangeBy : ℕ → Moment → WalkFields → Type 0
 MayChangeBy tx m walk = (basis : Basis) × (basis.tx ≡ tx) × MayChange basis m walk
 
--- and of one that went to no key before
+-- what a change asks of a walk of transaction tx that went to no key before
 abbrev pub MayChangeFirst : ℕ → Moment → WalkFields → Type 0
 MayChangeFirst tx m walk =
     (basis : Basis) × (basis.tx ≡ tx) × MayChange basis m walk × (basis.before ≡ nothing_before)
@@ -140,6 +140,8 @@ abbrev pub LacksMemory : Basis → WalkFields → WalkFields → Refusal → Typ
 LacksMemory basis before after reason =
     (reason ≡ refusal.OutOfMemory) × (basis.before ≡ nothing_before → ⊥) × (after ≡ before)
 
+-- A change of the record that was found is made, or memory was refused for it and the walk is as it
+-- was; the first change of a walk takes none.
 abbrev pub TellsOfChange : Basis → Moment → WalkFields → WalkFields → Change → WalkAnswer → Type 0
 TellsOfChange basis new before after done answer.Changed = Makes basis new before after done
 TellsOfChange basis new before after done (answer.Refused reason) =

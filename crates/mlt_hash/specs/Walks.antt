@@ -85,10 +85,11 @@ pub record Basis : Type 0 where
   pub tx : ℕ
   pub before : Before
 
--- the same after this, and of a walk to its first key
+-- what a walk goes by that did this before
 abbrev pub basis_after : Before → Basis → Basis
 basis_after before basis = record basis { before = before }
 
+-- what a walk to its first key goes by: it did nothing before
 abbrev pub one_key : Basis → Basis
 one_key basis = basis_after nothing_before basis
 
@@ -160,7 +161,8 @@ pub record IsPlaced (basis : Basis) (walk : WalkFields) (view : View) (bucket de
   pub depth_is : depth ≡ header.depth
   pub shallow : header.depth ≤ basis.max_depth
 
--- so is the bucket that the key leads to, and what it has of the key is known
+-- The header, the directory page and the bucket that the key leads to are read, and what the bucket
+-- has of the key is known.
 pub record IsAtBucket (basis : Basis) (walk : WalkFields) (view : View) (bucket depth : ℕ)
     (found : Option ℕ) : Type 0 where
   pub goes_after : GoesAfter walk.pass basis.before
@@ -293,6 +295,7 @@ pub record IsChanged (basis : Basis) (walk : WalkFields) (view : View) (bucket :
   pub changes : ChangesFile basis.bits basis.opens basis.root view.seen rest view.own
       (slot_change walk.key (value_after done) bucket slot (slot_after done walk.key basis.tx))
 
+-- where a walk stands that is in this phase
 abbrev pub Stands : Phase → Basis → WalkFields → View → Type 0
 Stands at.Start basis walk view = StartsAnew basis view
 Stands (at.Headed dir row depth) basis walk view = IsHeaded basis walk view dir row depth
@@ -303,7 +306,9 @@ Stands (at.Adding value bucket room_depth unsplit) basis walk view = IsAdding ba
 Stands (at.Splitting value room_depth) basis walk view = IsSplitting basis walk view room_depth
 Stands (at.Changed bucket done) basis walk view = IsChanged basis walk view bucket done
 
--- where a walk stands
+-- Where a walk stands, by its phase: at its start; with the header read, and then the directory
+-- page; at its bucket; at one without room, before another pass; with the file at rest before a
+-- split, or in a split; or with its change written.
 abbrev pub IsStanding : Basis → WalkFields → View → Type 0
 IsStanding basis walk view = Stands walk.phase basis walk view
 

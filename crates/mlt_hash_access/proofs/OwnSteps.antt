@@ -1,23 +1,20 @@
 -- What a transaction's own step leaves of what it saw and wrote
-use Rattle.std.proofs.Common.{◌≡◌, ℕ, true, Option, None, Some, is_some, refl, sym, ap, ◌∙◌, inl, inr}
-use Rattle.std.proofs.lemmas.Bool.{cases_eq, false≢true}
+use Rattle.std.proofs.Common.{◌≡◌, ℕ, true, Option, None, Some, is_some, sym, ap, ◌∙◌, inl, inr}
+use Rattle.std.proofs.lemmas.Bool.{cases_eq}
 use Rattle.mlt_types.specs.declared.mode.Mode.{Mode}
 use Rattle.mlt_page.specs.declared.page.Page.{Page}
 use Rattle.mlt_page_store.specs.Stores.{page_at}
 use Rattle.mlt_page_subtx.specs.Images.{Running}
+use Rattle.mlt_hash_form.proofs.HeldPages.{seen_as}
 use Rattle.mlt_hash_access.specs.Moments.{MayStep, Moment}
 use Rattle.mlt_hash_access.specs.PageSteps.{LocksAtMost, LocksPage, TouchesOnePage, WritesAtMost}
 use Rattle.mlt_hash_access.specs.Views.{MakesPage, ReadsPage, View, view_of}
 use Rattle.mlt_hash_access.proofs.Views.{lock_reads, make_makes, write_writes}
 
-some_page : (p : Option Page) → is_some p ≡ true → (page : Page) × (p ≡ Some page)
-some_page None there = absurd (false≢true there)
-some_page (Some page) there = (page, refl)
-
 -- a page that is locked is there, and is read
 pub lock_reads_some : (old new : Moment) (q : ℕ) (mode : Mode) → MayStep old → LocksPage old new q mode → (page : Page) × ReadsPage (view_of old) (view_of new) q mode (Some page)
 lock_reads_some old new q mode may step =
-    let page = some_page (page_at old.store.pages q) step.there in
+    let page = seen_as (page_at old.store.pages q) step.there in
     (page.0, lock_reads old new q mode page.0 may step page.1)
 
 -- what a view sees the later one sees

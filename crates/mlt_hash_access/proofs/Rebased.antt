@@ -6,20 +6,17 @@ use Rattle.mlt_types.specs.declared.mode.Mode.{Mode}
 use Rattle.mlt_page.specs.declared.page.Page.{Page}
 use Rattle.mlt_hash_form.specs.File.{FilePages}
 use Rattle.mlt_hash_form.specs.Held.{Agrees, over, own_or}
+use Rattle.mlt_hash_form.proofs.HeldPages.{seen_as}
 use Rattle.mlt_hash_access.specs.Moments.{MayStep, Moment}
 use Rattle.mlt_hash_access.specs.PageSteps.{TouchesOnePage}
 use Rattle.mlt_hash_access.specs.Views.{HasWritten, MakesPage, ReadsHeldPage, ReadsPage, View, WritesPage, rebased, seen_with, view_of}
 use Rattle.mlt_hash_access.proofs.OwnSteps.{own_step_sees_more, own_step_writes_more}
 
-some_seen : {X : Type 0} (o : Option X) → is_some o ≡ true → (x : X) × (o ≡ Some x)
-some_seen None held = absurd (false≢true held)
-some_seen (Some x) held = (x, refl)
-
 none_unless : {X Y : Type 0} (w : Option X) (o : Option Y) → o ≡ None → (is_some w ≡ true → is_some o ≡ true) → w ≡ None
 none_unless None o none held = refl
 none_unless (Some x) o none held = absurd (false≢true (sym (ap is_some none) ∙ held refl))
 
-same_some : {X : Type 0} (x y : X) → Some x ≡ Some y → x ≡ y
+pub same_some : {X : Type 0} (x y : X) → Some x ≡ Some y → x ≡ y
 same_some x y same = cc
 
 -- one page, of which `w` was written before
@@ -49,7 +46,7 @@ read_first : (w own : Option Page) (seen : Option (Option Page)) (first : Option
     → (was : Option Page) × (seen ≡ Some was) × (own_or own was ≡ Some page)
 read_first None own seen first page written sees reads = (first, sees, reads)
 read_first (Some before) None seen first page written sees reads = absurd (false≢true (written refl).1)
-read_first (Some before) (Some own) seen first page written sees reads = let was = some_seen seen (written refl).0 in (was.0, was.1, reads)
+read_first (Some before) (Some own) seen first page written sees reads = let was = seen_as seen (written refl).0 in (was.0, was.1, reads)
 
 module _ (before : FilePages) (view : View) where
   -- **What agrees with the view is, with the writes over it, what agrees with the rebased view,**
@@ -109,5 +106,5 @@ rebased_writes_page before old new q page writes = record {
 -- **What was written before stays held and written through the transaction's own steps.**
 pub written_stays : (before : FilePages) (old new : Moment) → MayStep old → TouchesOnePage old new → HasWritten before (view_of old) → HasWritten before (view_of new)
 written_stays before old new may touches written q some =
-    let was = some_seen ((view_of old).seen q) (written q some).0 in
+    let was = seen_as ((view_of old).seen q) (written q some).0 in
     (ap is_some (own_step_sees_more old new q was.0 may touches was.1), own_step_writes_more old new may touches q (written q some).1)

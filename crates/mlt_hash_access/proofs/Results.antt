@@ -15,6 +15,8 @@ use Rattle.mlt_page_locks.proofs.LockLaws.{writer_reads}
 use Rattle.mlt_page_locks.specs.Requests.{IsNobody, conflicts, granted}
 use Rattle.mlt_page_subtx.specs.Images.{Running, with_image}
 use Rattle.mlt_hash_form.specs.Held.{own_or}
+use Rattle.mlt_hash_form.proofs.HeldPages.{seen_as}
+use Rattle.mlt_hash_form.proofs.Paths.{one_page}
 use Rattle.mlt_hash_access.specs.Moments.{MayStep, Moment, page_before}
 use Rattle.mlt_hash_access.specs.PageSteps.{Leaves, LocksPage, MakesLockedPage, WritesHeldPage, WritesHeldSlot}
 use Rattle.mlt_hash_access.specs.Views.{MakesPage, ReadsHeldBucket, ReadsHeldPage, WritesPage, WritesSlot, own_at, seen_at, view_of}
@@ -32,26 +34,18 @@ lock_granted m locks tx q mode own there answer = record {
   store = refl;
 }
 
--- the page that is there
-pub page_there : (o : Option Page) → is_some o ≡ true → (page : Page) × (o ≡ Some page)
-page_there None is = cc
-page_there (Some page) is = (page, refl)
-
 -- what a held page has is read in the view
 pub read_in_view : (m : Moment) (q : ℕ) (page : Page) → MayStep m → can_read m.locks m.running.tx q ≡ true → page_at m.store.pages q ≡ Some page → (first : Option Page) × (seen_at m q ≡ Some first) × (own_or (own_at m q) first ≡ Some page)
 read_in_view m q page may held is = (page_before m.running.images m.store.pages q, seen_held m q held, reads_what_is_there m q page may is)
 
-same_option : (o : Option Page) (a b : Page) → o ≡ Some a → o ≡ Some b → a ≡ b
-same_option o a b is is' = let both : Some a ≡ Some b = sym is ∙ is' in cc
-
 -- and what is read in the view of a held page is there
 pub read_is_there : (m : Moment) (q : ℕ) (page : Page) → MayStep m → can_read m.locks m.running.tx q ≡ true → ReadsHeldPage (view_of m) q page → page_at m.store.pages q ≡ Some page
 read_is_there m q page may held reads =
-    let there = page_there (page_at m.store.pages q) (may.locks_there m.running.tx q held) in
+    let there = seen_as (page_at m.store.pages q) (may.locks_there m.running.tx q held) in
     let own = read_in_view m q there.0 may held there.1 in
     let firsts : ◌≡◌ {A = Option (Option Page)} (Some reads.0) (Some own.0) = sym reads.1 ∙ own.1 in
     let first : reads.0 ≡ own.0 = cc in
-    there.1 ∙ ap Some (same_option (own_or (own_at m q) own.0) there.0 page own.2 (subst (λ (o : Option Page). own_or (own_at m q) o ≡ Some page) first reads.2))
+    there.1 ∙ ap Some (one_page (own_or (own_at m q) own.0) there.0 page own.2 (subst (λ (o : Option Page). own_or (own_at m q) o ≡ Some page) first reads.2))
 
 -- a write that was done, or refused
 abbrev pub WriteTold : {A E : Type 0} → Moment → Moment → ℕ → Page → Result A E → Type 0

@@ -9,6 +9,7 @@ use Rattle.mlt_types.specs.declared.mode.Mode.{Mode}
 use Rattle.mlt_types.specs.declared.mode.Mode.TheVariants.{Exclusive, Shared}
 use Rattle.mlt_page.specs.declared.page.Page.{Page}
 use Rattle.mlt_page_store.specs.Stores.{Pages, page_at}
+use Rattle.mlt_page_store.proofs.Numbered.{page_inserted}
 use Rattle.mlt_page_locks.proofs.Maps.{get_inserted}
 use Rattle.mlt_page_locks.specs.LockTables.{LockTable, Modes, allows_write, can_read, can_write, page_count, pages_of}
 use Rattle.mlt_page_locks.specs.Requests.{granted, stronger, with_page}
@@ -202,11 +203,16 @@ mode_of_page modes q mode = grind (arith, nat_tests, get_inserted modes q (stron
 pub mode_of_others : (modes : Modes) (q : ℕ) (mode : Mode) (p : ℕ) → p ≢ q → map.get (with_page modes q mode) p ≡ map.get modes p
 mode_of_others modes q mode p ne = grind (arith, nat_tests, get_inserted modes q (stronger (map.get modes q) mode) p)
 
+-- a page that is held exclusively stays so, whatever page is locked
+pub exclusive_stays : (modes : Modes) (q : ℕ) (mode : Mode) (p : ℕ) → map.get modes p ≡ Some Exclusive → map.get (with_page modes q mode) p ≡ Some Exclusive
+exclusive_stays modes q mode p held =
+    elim (cases_eq p q) [
+      | inl here ↦ ap (map.get (with_page modes q mode)) here ∙ mode_of_page modes q mode ∙ ap (λ o. Some (stronger o mode)) (ap (map.get modes) (sym here) ∙ held)
+      | inr elsewhere ↦ mode_of_others modes q mode p elsewhere ∙ held
+    ]
+
 has_image : (images : Images) (q : ℕ) (first page : Option Page) → page_written (image_of (with_image images q first) q) page ≡ page
 has_image images q first page = grind (arith, nat_tests, image_of-with_image images q first q)
-
-pub page_inserted : (pages : Pages) (q : ℕ) (page : Page) → page_at (map.insert pages q page) q ≡ Some page
-page_inserted pages q page = grind (arith, nat_tests, get_inserted pages q page q)
 
 other_image : (images : Images) (q : ℕ) (first : Option Page) (p : ℕ) → p ≢ q → image_of (with_image images q first) p ≡ image_of images p
 other_image images q first p ne = grind (arith, nat_tests, image_of-with_image images q first p)

@@ -15,6 +15,7 @@ use Rattle.mlt_hash_form.specs.File.{FilePages}
 use Rattle.mlt_hash_form.specs.Held.{own_or}
 use Rattle.mlt_hash_access.specs.Moments.{Moment, page_before}
 
+-- What a walk holds, seen apart from all that it does not hold.
 pub record View : Type 0 where
   -- the pages that the transaction holds, each with its mode
   pub modes : Modes
@@ -59,7 +60,7 @@ abbrev pub ReadsHeldPage : View → ℕ → Page → Type 0
 ReadsHeldPage view q page =
     (first : Option Page) × (view.seen q ≡ Some first) × (own_or (view.own q) first ≡ Some page)
 
--- and as this bucket
+-- page q, which is held, reads as this bucket, on whatever clean pages agree with the view
 abbrev pub ReadsHeldBucket : View → ℕ → BucketFields → Type 0
 ReadsHeldBucket view q bucket = ReadsHeldPage view q (page.Bucket bucket)
 

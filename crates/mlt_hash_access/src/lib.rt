@@ -7,7 +7,9 @@ mod pages;
 mod view_laws;
 
 pub use locked_store::LockedStore;
-pub use pages::{lock, make_page, read_held, write_held, write_slot};
+pub use pages::{
+    lock, make_page, read_held, read_held_bucket, read_held_dir, read_held_head, write_held, write_slot,
+};
 pub use view_laws::{
     own_steps_see_more, rebased_views_agree_with_what_was_written, rebased_views_step_alike,
     view_agrees_with_clean_pages, written_pages_are_held_exclusively,

@@ -1,8 +1,9 @@
 //! Steps on one page.
 
-ghost use Rattle.std.specs.Prelude.{◌≡◌, ◌<◌, ◌≤◌, ◌⊎◌, ◌↔◌, Err, IfErr, IsOkUnless, IfOk, None, OnErr, OnOk, Some, is_some, true};
+ghost use Rattle.std.specs.Prelude.{ℕ, List, ◌≡◌, ◌<◌, ◌≤◌, ◌⊎◌, ◌↔◌, Err, IfErr, IsOkUnless, IfOk, None, OnErr, OnOk, Some, is_some, true};
 ghost use Rattle.std.specs.FinMap as map;
-ghost use Rattle.mlt_page.specs.Values.{BucketFields};
+ghost use Rattle.mlt_page.specs.Values.{BucketFields, HeadFields};
+ghost use Rattle.mlt_page.specs.declared.page.Page.TheVariants as page;
 ghost use Rattle.mlt_page_store.specs.Stores.{page_at};
 ghost use Rattle.mlt_page_locks.specs.LockTables.{can_read, can_write, page_count};
 ghost use Rattle.mlt_page_locks.specs.Requests.{IsLowest, conflicts};
@@ -12,7 +13,7 @@ ghost use Rattle.mlt_hash_access.specs.PageSteps.{HasNoPageLeft, Leaves, LocksPa
 ghost use Rattle.mlt_hash_access.specs.Views.{MakesPage, ReadsHeldBucket, ReadsHeldPage, SeesPage, WritesPage, WritesSlot, view_of};
 
 use crate::locked_store::LockedStore;
-use mlt_page::{Page, Slot};
+use mlt_page::{Bucket, DirPage, HeadPage, Page, Slot};
 use mlt_page_locks::Grant;
 use mlt_page_subtx::Subtx;
 use mlt_types::{Mode, PageNo, Refusal, TxId};
@@ -51,6 +52,47 @@ pub fn read_held<'a>(subtx: &Subtx, pages: &'a LockedStore, number: PageNo) -> &
     match subtx.read(&pages.store, number) {
         Some(page) => page,
         None => unreachable!(),
+    }
+}
+
+/// Reads the header, which is held.
+pub fn read_held_head<'a>(subtx: &Subtx, pages: &'a LockedStore, number: PageNo) -> &'a HeadPage
+    requires may { MayStep (moment subtx.now pages.now) }
+    requires head { (head : HeadFields)
+        × ReadsHeldPage (view_of (moment subtx.now pages.now)) number (page.Head head) }
+    ensures reads { let view = view_of (moment subtx.now pages.now) in
+        ReadsHeldPage view number (page.Head result.now) }
+{
+    match read_held(subtx, pages, number) {
+        Page::Head(head) => head,
+        Page::Dir(_) | Page::Bucket(_) => unreachable!(),
+    }
+}
+
+/// Reads a directory page that is held.
+pub fn read_held_dir<'a>(subtx: &Subtx, pages: &'a LockedStore, number: PageNo) -> &'a DirPage
+    requires may { MayStep (moment subtx.now pages.now) }
+    requires dir { (entries : List ℕ)
+        × ReadsHeldPage (view_of (moment subtx.now pages.now)) number (page.Dir entries) }
+    ensures reads { let view = view_of (moment subtx.now pages.now) in
+        ReadsHeldPage view number (page.Dir result.now) }
+{
+    match read_held(subtx, pages, number) {
+        Page::Dir(dir) => dir,
+        Page::Head(_) | Page::Bucket(_) => unreachable!(),
+    }
+}
+
+/// Reads a bucket that is held.
+pub fn read_held_bucket<'a>(subtx: &Subtx, pages: &'a LockedStore, number: PageNo) -> &'a Bucket
+    requires may { MayStep (moment subtx.now pages.now) }
+    requires bucket { (bucket : BucketFields)
+        × ReadsHeldBucket (view_of (moment subtx.now pages.now)) number bucket }
+    ensures reads { ReadsHeldBucket (view_of (moment subtx.now pages.now)) number result.now }
+{
+    match read_held(subtx, pages, number) {
+        Page::Bucket(bucket) => bucket,
+        Page::Head(_) | Page::Dir(_) => unreachable!(),
     }
 }
 

@@ -1,9 +1,8 @@
 -- A change that a walk makes alone: what is in the store then
-use Rattle.std.proofs.Common.{◌≡◌, ℕ, ◌≤◌, Option, Some, refl, sym, ap, subst, ◌∙◌, inl, inr, arith}
+use Rattle.std.proofs.Common.{◌≡◌, ℕ, ◌≤◌, Option, refl, sym, ap, subst, ◌∙◌, inl, inr, arith}
 use Rattle.std.specs.FinSet as set
 use Rattle.std.specs.Ordering.{nat_cmp}
 use Rattle.std.proofs.lemmas.Bool.Decides.{nat_tests}
-use Rattle.mlt_page.specs.Values.{BucketFields, HeadFields}
 use Rattle.mlt_page.specs.declared.page.Page.{Page}
 use Rattle.mlt_page.specs.declared.page.Page.TheVariants as page
 use Rattle.mlt_page_store.specs.Stores.{PageStore, page_at}
@@ -25,6 +24,7 @@ use Rattle.mlt_hash.specs.declared.answer.WalkAnswer.TheVariants as answer
 use Rattle.mlt_hash.specs.declared.pass.Change.{Change}
 use Rattle.mlt_hash.specs.declared.pass.Phase.{Phase}
 use Rattle.mlt_hash.specs.declared.pass.Phase.TheVariants as at
+use Rattle.mlt_hash.proofs.Passed.{head_is_no_bucket}
 use Rattle.mlt_hash_file.proofs.Alone.{alone_after_write, before_is_clean, sees_since, store_is_since, unwritten_store, write_keeps_before}
 use Rattle.mlt_hash_file.proofs.AloneWalks.{file_kept}
 
@@ -60,10 +60,6 @@ other_page_stays old new q p step ne =
       | inr writes ↦ ap (λ (s : PageStore). page_at s.pages p) writes.1.store ∙ grind (arith, nat_tests, get_inserted old.store.pages q writes.0 p)
     ]
 
--- a bucket is not the header
-pub not_the_header : (view : View) (root bucket : ℕ) (header : HeadFields) (fields : BucketFields) → view.seen root ≡ Some (Some (page.Head header)) → view.seen bucket ≡ Some (Some (page.Bucket fields)) → root ≡ bucket → ⊥
-not_the_header view root bucket header fields head at same = let both : Some (Some (page.Head header)) ≡ Some (Some (page.Bucket fields)) = sym head ∙ ap view.seen same ∙ at in cc
-
 -- a walk that has found its key stands at its bucket
 pub stands_at_bucket : (basis : Basis) (walk : WalkFields) (view : View) (phase : Phase) → IsAtRecord phase → Stands phase basis walk view → (depth : ℕ) × (found : Option ℕ) × IsAtBucket basis walk view (page_of phase) depth found
 stands_at_bucket basis walk view (at.AtBucket bucket depth found) record_there stands = (depth, found, stands)
@@ -80,7 +76,7 @@ pub shallow_after_write : (basis : Basis) (old new : Moment) (walk : WalkFields)
     → IsAtBucket basis walk (view_for basis old) bucket depth found → WritesAtMost old new bucket → depth_of (page_at new.store.pages) basis.root ≤ basis.max_depth
 shallow_after_write basis old new walk bucket depth found may written file at step =
     let stored : page_at old.store.pages ≡ pages_since basis.before old = unwritten_store basis.before old may written at.unwritten in
-    let stays : page_at new.store.pages basis.root ≡ pages_since basis.before old basis.root = other_page_stays old new bucket basis.root step (not_the_header (view_for basis old) basis.root bucket at.header at.fields at.head at.at) ∙ (λ i. stored i basis.root) in
+    let stays : page_at new.store.pages basis.root ≡ pages_since basis.before old basis.root = other_page_stays old new bucket basis.root step (head_is_no_bucket (view_for basis old) basis.root bucket at.header at.fields at.head at.at) ∙ (λ i. stored i basis.root) in
     subst (λ (p : Option Page). (header_of p).depth ≤ basis.max_depth) (sym stays) file.shallow
 
 is_changed : (phase : Phase) (bucket : ℕ) (done : Change) → phase ≡ at.Changed bucket done → IsChangedPhase phase

@@ -3,8 +3,9 @@ use Rattle.std.proofs.Common.{◌≡◌, ℕ, ◌<◌, ◌+◌, ◌∙◌, Optio
 use Rattle.std.specs.FinMap as map
 use Rattle.mlt_types.specs.declared.refusal.Refusal.TheVariants as refusal
 use Rattle.mlt_page.specs.declared.page.Page.{Page}
+use Rattle.mlt_page_store.proofs.Numbered.{same_pages}
 use Rattle.mlt_page_subtx.specs.Images.{put_back}
-use Rattle.mlt_page_subtx.proofs.ImageLaws.{page_at-put_back, same_pages}
+use Rattle.mlt_page_subtx.proofs.ImageLaws.{page_at-put_back}
 use Rattle.mlt_hash_access.specs.Moments.{Moment}
 use Rattle.mlt_hash_file.specs.Alone.{KeepsBefore, basis_of, pages_before}
 use Rattle.mlt_hash_file.specs.AloneWalks.{HasChanged, IsFullFor, MayAdd, NeedsRoom, NeedsSplits, NeverHasRoomFor, TellsOfLater, TellsOfPass, TellsOfSplits, added_value, bounded_before}

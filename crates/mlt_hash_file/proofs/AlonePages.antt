@@ -5,9 +5,10 @@ use Rattle.std.specs.FinMap as map
 use Rattle.mlt_page.specs.Values.{BucketFields}
 use Rattle.mlt_page.specs.declared.page.Page.{Page}
 use Rattle.mlt_page_store.specs.Stores.{PageStore, Pages, page_at}
+use Rattle.mlt_page_store.proofs.Numbered.{same_pages}
 use Rattle.mlt_page_locks.proofs.LockLaws.{writer_reads}
 use Rattle.mlt_page_subtx.specs.Images.{put_back}
-use Rattle.mlt_page_subtx.proofs.ImageLaws.{page_at-put_back, same_pages}
+use Rattle.mlt_page_subtx.proofs.ImageLaws.{page_at-put_back}
 use Rattle.mlt_hash_access.specs.Moments.{MayStep, Moment}
 use Rattle.mlt_hash_access.specs.PageSteps.{MakesLockedPage, WritesHeldPage}
 use Rattle.mlt_hash_split.specs.Rests.{Aim}

@@ -44,7 +44,7 @@ use Rattle.mlt_hash_file.proofs.Alone.{before_is_clean, keeps_both, sees_since, 
 use Rattle.mlt_hash_file.proofs.AloneChanges.{made_alone, other_page_stays}
 use Rattle.mlt_hash_file.proofs.AlonePages.{made, may_stand, pages_close, pages_go_on}
 use Rattle.mlt_hash.proofs.Puts.{found_below, kept_is_shallow}
-use Rattle.mlt_hash.proofs.StepsLeft.{one_fewer}
+use Rattle.mlt_hash.proofs.StepsLeft.{one_fewer, some_is_one}
 use Rattle.mlt_hash_file.proofs.AlonePasses.{retell_made}
 use Rattle.mlt_hash_file.proofs.SplitPages.{MayStandAt, begun, one_at_least, one_is_left}
 use Rattle.mlt_hash_file.proofs.AloneWalks.{file_kept, same_basis, same_walks}
@@ -93,9 +93,6 @@ effort walk m = effort_at walk.phase walk m
 
 split_effort_is : (split : Option SplitFields) (is : SplitFields) → split ≡ Some is → split_effort split ≡ 1000 * (16 - is.depth) + steps_left is
 split_effort_is split is same = ap split_effort same
-
-some_is_one : (x y : SplitFields) (o : Option SplitFields) → o ≡ Some x → o ≡ Some y → x ≡ y
-some_is_one x y o is_x is_y = let e : Some x ≡ Some y = sym is_x ∙ is_y in cc
 
 -- a walk alone that splits
 pub record IsSplittingOn (basis : Basis) (old now : Moment) (before walk : WalkFields) : Type 0 where

@@ -27,15 +27,15 @@ use Rattle.mlt_hash_pair.specs.declared.way.Way.TheVariants as at
 use Rattle.mlt_hash_pair.proofs.Laws.{holds_read}
 use Rattle.mlt_hash_pair.proofs.Slots.{plan_number}
 use Rattle.mlt_hash_pair.proofs.Together.{later_left, later_right}
+use Rattle.mlt_hash.proofs.Passed.{head_is_no_bucket}
 use Rattle.mlt_hash_file.specs.AloneWalks.{IsFullFor, IsHashFile}
 use Rattle.mlt_hash_file.specs.SplitPages.{bucket_for}
 use Rattle.mlt_hash_file.specs.TwoKeys.{AsksToAdd, ChangesTwo, DoesAsked, FitsValues, HasNoRoomFor, two_keys, value_then}
-use Rattle.mlt_hash_file.proofs.AloneChanges.{not_the_header}
 use Rattle.mlt_hash_file.proofs.BothRecords.{IsBetween, does_one, side_leads}
 
 -- a header is no bucket
 not_head : (bits : ℕ → ℕ) (root key : ℕ) (view : View) (way : Way) → IsThere way → HasRead bits root key view way → root ≢ page_of way
-not_head bits root key view (at.AtBucket dir bucket found) there has = not_the_header view root bucket has.placed.header has.fields has.placed.head has.at
+not_head bits root key view (at.AtBucket dir bucket found) there has = head_is_no_bucket view root bucket has.placed.header has.fields has.placed.head has.at
 not_head bits root key view at.Start there has = absurd there
 not_head bits root key view (at.Headed place dir row) there has = absurd there
 not_head bits root key view (at.Placed dir bucket) there has = absurd there

@@ -6,7 +6,7 @@ use Rattle.std.specs.FinSet as set
 use Rattle.mlt_types.specs.declared.refusal.Refusal.{Refusal}
 use Rattle.mlt_types.specs.declared.refusal.Refusal.TheVariants as refusal
 use Rattle.mlt_page_store.specs.Stores.{Pages, page_at}
-use Rattle.mlt_page_subtx.proofs.ImageLaws.{same_pages}
+use Rattle.mlt_page_store.proofs.Numbered.{same_pages}
 use Rattle.mlt_hash_form.specs.File.{FilePages, look_up}
 use Rattle.mlt_hash_access.specs.Moments.{Moment}
 use Rattle.mlt_hash_access.specs.Views.{HasWritten, view_of, view_over}

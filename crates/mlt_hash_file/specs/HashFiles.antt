@@ -17,11 +17,11 @@ pub record HashFileFields (P : Type 0) : Type 0 where
   pub max_pages : ℕ
   pub pseudo : P
 
--- its pages are a hash file
+-- the pages of this file are a hash file, whose directory is no deeper than it may get
 abbrev pub IsFileOf : {P : Type 0} → (P → ℕ → ℕ) → HashFileFields P → Type 0
 IsFileOf bits_of file = IsHashFile (bits_of file.pseudo) (page_at file.pages) file.root file.max_depth
 
--- it, with its bounds
+-- the file with its bounds: how deep its directory may get, and how many pages there may be
 abbrev pub bounded_by : {P : Type 0} → (P → ℕ → ℕ) → HashFileFields P → BoundedFile
 bounded_by bits_of file = record {
   bits = bits_of file.pseudo;

@@ -52,7 +52,7 @@ abbrev pub with_change : map.FinMap nat_cmp ℕ → ℕ → Option RecordChange 
 with_change records key None = records
 with_change records key (Some change) = with_entry records key (value_after change)
 
--- once it is done for both keys
+-- the records once what is asked of both keys is done
 abbrev pub with_changes : map.FinMap nat_cmp ℕ → TwoKeys → map.FinMap nat_cmp ℕ
 with_changes records two =
     with_change (with_change records two.left two.changes.left) two.right two.changes.right

@@ -18,8 +18,8 @@ use Rattle.mlt_hash_form.proofs.InPages.{same_option}
 use Rattle.mlt_hash_form.proofs.Lookup.{found}
 use Rattle.mlt_hash_form.proofs.RecordMap.{tied, tied_itself}
 
--- what the walk saw of a page that it holds
-seen_as : (o : Option (Option Page)) → is_some o ≡ true → (p : Option Page) × (o ≡ Some p)
+-- what an option has that has something, as a page that a walk holds was seen as some page
+pub seen_as : {X : Type 0} (o : Option X) → is_some o ≡ true → (x : X) × (o ≡ Some x)
 seen_as None h = absurd (both_ways _ refl h)
 seen_as (Some p) h = (p, refl)
 

@@ -25,7 +25,7 @@ pub record Spot : Type 0 where
   pub at : ℕ
   pub bucket : BucketFields
 
--- what stands there
+-- what stands at a spot
 abbrev pub slot_of : Spot → Slot
 slot_of spot = slice_index_or spot.bucket.slots spot.at Free
 
@@ -34,7 +34,7 @@ pub record IsAtHome (bits : ℕ → ℕ) (pages : FilePages) (root key : ℕ) (s
   pub home : IsHome bits pages root key spot.number spot.bucket
   pub within : spot.at < 8
 
--- s is written there, and no other slot or page changes
+-- s is written at the spot, and no other slot or page changes
 abbrev pub WritesSpot : FilePages → FilePages → Spot → Slot → Type 0
 WritesSpot pages pages' spot s =
     Writes pages pages' spot.number (page_with_slot spot.bucket spot.at s)

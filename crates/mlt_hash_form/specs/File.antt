@@ -29,6 +29,7 @@ entries_of (Some (page.Dir dir)) = dir
 entries_of (Some (page.Bucket bucket)) = []
 entries_of None = []
 
+-- the bucket that a page is, and an empty one of depth 0 for any other page
 abbrev pub bucket_of : Option Page → BucketFields
 bucket_of (Some (page.Head header)) = record { depth = 0; slots = [] }
 bucket_of (Some (page.Dir dir)) = record { depth = 0; slots = [] }

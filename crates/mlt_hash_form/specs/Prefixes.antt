@@ -28,6 +28,8 @@ HasOnePrefix names g l n =
 abbrev pub named_at : FilePages → ℕ → ℕ → ℕ
 named_at pages root place = entry pages (dirs_of pages root) place
 
+-- An extendible hash file: its header, its directory, and where its records and ghosts lie.
+-- `HasForm` says nearly the same, of pseudokeys.
 pub record IsExtendibleHashFile (bits : ℕ → ℕ) (opens : set.FinSet nat_cmp) (pages : FilePages)
     (root : ℕ) : Type 0 where
   -- the header names the depth g, at most 16, and the directory's pages: one where g is at most 8, and above

@@ -15,12 +15,13 @@ abbrev pub target : (ℕ → ℕ) → ℕ → ℕ → ℕ → ℕ → ℕ → �
 target old g g' l prefix new place =
     if place / 2 ^ (g' - (l + 1)) == prefix then new else old (place / 2 ^ (g' - g))
 
--- The bucket on page n, to which the pseudokey x leads, has depth l: these are the l + 1 bits of the pseudokeys that go
--- to the new bucket,
+-- The l + 1 bits of the pseudokeys that go to the new bucket, where the bucket on page n has depth
+-- l and the pseudokey x leads to it.
 abbrev pub prefix_of : FilePages → ℕ → ℕ → ℕ
 prefix_of pages n x = 2 * first_bits (buckets_of pages n).depth x + 1
 
--- and this is what its split leaves at a place
+-- What the split of this bucket leaves at a place of the directory, which gets depth g': page new
+-- at the places of those bits, and else what stood there.
 abbrev pub target_of : FilePages → ℕ → ℕ → ℕ → ℕ → ℕ → ℕ → ℕ
 target_of pages root n new x g' =
     target (entry pages (dirs_of pages root)) (depth_of pages root) g' (buckets_of pages n).depth

@@ -4,7 +4,7 @@ use Rattle.std.specs.Prelude.{◌⊎◌}
 use Rattle.std.specs.List.{last_or}
 use Rattle.mlt_hash_ghosts.specs.Operations.{Presence, Added, Removed, TakeTurns, last_of}
 
-last_append_from : (o : Option Presence) (xs : List Presence) (p : Presence) → last_or o (xs ++ p ∷ []) ≡ Some p
+pub last_append_from : (o : Option Presence) (xs : List Presence) (p : Presence) → last_or o (xs ++ p ∷ []) ≡ Some p
 last_append_from o [] p = refl
 last_append_from o (x ∷ xs) p = last_append_from (Some x) xs p
 

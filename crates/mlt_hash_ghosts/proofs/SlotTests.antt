@@ -11,6 +11,7 @@ use Rattle.mlt_page.specs.Slots.{is_ghost_of, is_live_of}
 use Rattle.mlt_page.specs.declared.slot.Slot.{Slot}
 use Rattle.mlt_page.specs.declared.slot.Slot.TheVariants.{Free, Live, Ghost}
 use Rattle.mlt_hash_form.specs.Form.{value_in}
+use Rattle.mlt_hash_form.proofs.Lookup.{live_passes}
 
 -- what the tests of a slot say
 pub live_from : (k : ℕ) (s : Slot) → is_live_of k s ≡ true → (v : ℕ) × (s ≡ Live k v)
@@ -37,9 +38,6 @@ ghost_from k t (Ghost j v u) h =
 
 pub ghost_passes : (k v t : ℕ) (s : Slot) → s ≡ Ghost k v t → is_ghost_of k t s ≡ true
 ghost_passes k v t s e = rw e (and_from _ _ (eq-eqb k k refl) (eq-eqb t t refl))
-
-pub live_passes : (k v : ℕ) (s : Slot) → s ≡ Live k v → is_live_of k s ≡ true
-live_passes k v s e = rw e (eq-eqb k k refl)
 
 pub used_within : (slots : List Slot) (i : ℕ) → (get_or slots i Free ≡ Free → ⊥) → i < length slots
 used_within slots i used = elim (cases_lt i (length slots)) [ inl h ↦ h | inr h ↦ absurd (used (get_or_past slots i Free h)) ]

@@ -49,7 +49,8 @@ pub record IsInStep (bits : ℕ → ℕ) (undoing : Bool) (last : Option Presenc
   pub once : HasOneGhost pages owner key
   pub forward : undoing ≡ false → (n i : ℕ) → IsGhostAt pages owner key n i → last ≡ Some Removed
 
--- what keeps the ghosts kept: the pages and the standing operations agree
+-- What keeps the ghosts kept: for each key and open transaction the pages have what its last
+-- standing operation on the key asks for.
 pub record PagesMatchOperations (ledger : Ledger) : Type 0 where
   pub step : (owner key : ℕ) → IsOpenIn ledger owner
       → IsInStep ledger.bits (ledger.undoing owner) (last_by ledger owner key) ledger.pages

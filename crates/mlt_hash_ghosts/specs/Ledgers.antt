@@ -6,6 +6,8 @@ use Rattle.mlt_page.specs.declared.slot.Slot.{Slot}
 use Rattle.mlt_hash_form.specs.File.{FilePages, buckets_of, lead_of}
 use Rattle.mlt_hash_ghosts.specs.Operations.{Presence, Standing, last_of}
 
+-- What the laws of ghosts are about: a file, its transactions, and what these did to the presence
+-- of keys.
 pub record Ledger : Type 0 where
   -- the file: the function from keys to pseudokeys, the page of the header, and the clean pages
   pub bits : ℕ → ℕ
@@ -27,11 +29,11 @@ IsOpenIn ledger owner = set.contains ledger.opens owner ≡ true
 abbrev pub home_of : Ledger → ℕ → ℕ
 home_of ledger key = lead_of ledger.pages ledger.root (ledger.bits key)
 
--- and the slots of the bucket there
+-- the slots of the bucket that a key leads to
 abbrev pub home_slots : Ledger → ℕ → List Slot
 home_slots ledger key = (buckets_of ledger.pages (home_of ledger key)).slots
 
--- the last of its standing operations on the key's presence, if there is one
+-- the last standing operation of a transaction on the presence of a key, if there is one
 abbrev pub last_by : Ledger → ℕ → ℕ → Option Presence
 last_by ledger owner key = last_of (ledger.standing owner key)
 

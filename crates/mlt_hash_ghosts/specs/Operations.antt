@@ -11,7 +11,7 @@ pub data Presence : Type 0 where
 abbrev pub Standing : Type 0
 Standing = ℕ → ℕ → List Presence
 
--- the last of them, if there is one
+-- the last of the standing operations, if there is one
 abbrev pub last_of : List Presence → Option Presence
 last_of ps = last_or None ps
 

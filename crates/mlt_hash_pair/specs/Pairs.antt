@@ -75,10 +75,11 @@ IsUnderWay pair = 0 < most_steps pair.left_way pair.right_way
 abbrev pub IsFound : PairFields → Type 0
 IsFound pair = IsThere pair.left_way × IsThere pair.right_way
 
--- the later of two pages, and of the pages of the two buckets: it is read last
+-- the later of two pages
 abbrev pub later_of : ℕ → ℕ → ℕ
 later_of left right = if nat_lt left right then right else left
 
+-- the later of the pages of the two buckets, which is read last
 abbrev pub later_page : PairFields → ℕ
 later_page pair = later_of (page_of pair.left_way) (page_of pair.right_way)
 

@@ -1,34 +1,18 @@
 -- The pages that a walk holds stand in a list
-use Rattle.std.proofs.Common.{ℕ, ◌≡◌, ◌<◌, ◌≤◌, ◌+◌, ◌-◌, ◌^◌, eqb, true, is_some, List, [], ◌∷◌, length, Option, Some, None, refl, sym, ◌∙◌, ap, subst, inl, inr, arith}
-use Rattle.std.specs.List.{list_any}
-use Rattle.std.specs.Ordering.{nat_cmp}
-use Rattle.std.specs.Cmp.{nat_cmp_total}
+use Rattle.std.proofs.Common.{ℕ, ◌≡◌, ◌<◌, ◌≤◌, ◌+◌, ◌-◌, ◌^◌, true, is_some, List, ◌∷◌, sym, ◌∙◌, ap, subst, inl, inr, arith}
 use Rattle.std.specs.FinMap as map
-use Rattle.std.proofs.lemmas.Bool.{cases_eq, false≢true}
+use Rattle.std.proofs.lemmas.Bool.{cases_eq}
 use Rattle.std.proofs.lemmas.Bool.Decides.{nat_tests}
 use Rattle.std.proofs.Math.Nat.{pow-le-pow_right}
 use Rattle.mlt_types.specs.declared.mode.Mode.{Mode}
 use Rattle.mlt_page_locks.specs.LockTables.{Modes, page_count}
-use Rattle.mlt_page_locks.proofs.Maps.{get_removed, same_entries}
 use Rattle.mlt_page_locks.specs.Requests.{with_page}
+use Rattle.mlt_page_locks.proofs.LockLaws.{keys_within}
 use Rattle.mlt_hash_form.specs.File.{FilePages}
 use Rattle.mlt_hash_access.specs.Moments.{Moment}
 use Rattle.mlt_hash_access.specs.Views.{View, view_over}
 use Rattle.mlt_hash_split.specs.Rests.{HoldsAmong, IsIn, most_held}
 use Rattle.mlt_hash_access.proofs.Views.{mode_of_others, page_count_of_view}
-
-not_some : {X : Type 0} (o : Option X) → (is_some o ≡ true → ⊥) → o ≡ None
-not_some None h = refl
-not_some (Some x) h = absurd (h refl)
-
--- a map whose keys stand in a list has no more entries than the list
-keys_within : {X : Type 0} (numbers : List ℕ) (m : map.FinMap nat_cmp X) → ((k : ℕ) → is_some (map.get m k) ≡ true → list_any (λ n. eqb n k) numbers ≡ true) → map.len m ≤ length numbers
-keys_within {X = X} [] m within =
-    let none : m ≡ map.empty = same_entries m map.empty (λ q. not_some (map.get m q) (λ some. false≢true (within q some)) ∙ sym (map.get-empty {X = X} nat_cmp q)) in
-    grind (arith, ap map.len none, map.len-empty nat_cmp X)
-keys_within (n ∷ numbers) m within =
-    let fewer : map.len (map.remove m n) ≤ length numbers = keys_within numbers (map.remove m n) (λ k some. grind (arith, nat_tests, get_removed m n k, within k)) in
-    grind (arith, map.len-remove nat_cmp_total m n)
 
 -- a walk holds no more pages than the list has
 pub few_are_held : (view : View) (dirs made : List ℕ) (k count j most : ℕ) → HoldsAmong view dirs made k count j most → map.len view.modes ≤ most

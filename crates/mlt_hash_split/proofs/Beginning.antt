@@ -6,6 +6,7 @@ use Rattle.mlt_page.specs.Values.{BucketFields, HeadFields}
 use Rattle.mlt_page.specs.declared.page.Page.{Page}
 use Rattle.mlt_page.specs.declared.page.Page.TheVariants as page
 use Rattle.mlt_page_store.specs.Stores.{PageStore, Pages, page_at}
+use Rattle.mlt_page_store.proofs.Numbered.{page_inserted}
 use Rattle.mlt_hash_form.specs.File.{HasForm, Writes, bucket_of, buckets_of, depth_of, header_of, lead_of}
 use Rattle.mlt_hash_form.specs.Form.{half_of}
 use Rattle.mlt_hash_form.specs.Held.{Agrees, over, own_or}
@@ -20,7 +21,7 @@ use Rattle.mlt_page_locks.specs.LockTables.{page_count}
 use Rattle.mlt_hash_split.proofs.Among.{among_after_make, count_is_few, most_is_small}
 use Rattle.mlt_hash_split.proofs.Closing.{HasClean, held_page_over}
 use Rattle.mlt_hash_split.proofs.HeldPages.{exclusive_after_make, grows_by_make, mode_after_make, reads_after_make, same_bucket, same_header, seen_after_make}
-use Rattle.mlt_hash_access.proofs.Views.{agrees_before_make, made_is_not_clean, makes_over, page_inserted}
+use Rattle.mlt_hash_access.proofs.Views.{agrees_before_make, made_is_not_clean, makes_over}
 
 module _ (aim : Aim) (view : View) (n : ℕ) (header : HeadFields) (bucket : BucketFields) (rest : IsAtRest aim view n header bucket) where
   -- over any clean pages that agree the walk's file at rest has its header and its bucket

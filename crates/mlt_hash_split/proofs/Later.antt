@@ -1,16 +1,15 @@
 -- What stays of a split under way as its walk locks, writes and makes pages
 use Rattle.std.proofs.Common.{◌≡◌, ℕ, ◌-◌, ◌<◌, ◌≤◌, ◌^◌, Bool, cond, false, true, List, Option, None, Some, is_some, unwrap_or, refl, sym, ap, subst, ◌∙◌, inl, inr, arith}
 use Rattle.std.specs.FinMap as map
-use Rattle.std.proofs.lemmas.Bool.{cases_eq, false≢true}
-use Rattle.mlt_types.specs.declared.mode.Mode.{Mode}
-use Rattle.mlt_types.specs.declared.mode.Mode.TheVariants.{Exclusive, Shared}
+use Rattle.mlt_types.specs.declared.mode.Mode.TheVariants.{Exclusive}
 use Rattle.mlt_page.specs.declared.page.Page.{Page}
 use Rattle.mlt_page.specs.Values.{HeadFields}
 use Rattle.mlt_page_locks.specs.LockTables.{Modes, can_read, can_write}
-use Rattle.mlt_page_locks.specs.Requests.{stronger, with_page}
+use Rattle.mlt_page_locks.specs.Requests.{with_page}
+use Rattle.mlt_page_locks.proofs.LockLaws.{stronger_exclusive}
 use Rattle.mlt_hash_form.specs.File.{FilePages, HasForm}
 use Rattle.mlt_hash_form.specs.Held.{Agrees, over, own_or}
-use Rattle.mlt_hash_form.proofs.HeldPages.{keeps_more}
+use Rattle.mlt_hash_form.proofs.HeldPages.{keeps_more, seen_as}
 use Rattle.mlt_hash_access.specs.Moments.{MayStep, Moment}
 use Rattle.mlt_hash_access.specs.Views.{MakesPage, ReadsPage, View, WritesPage, view_of, view_over, HasWritten}
 use Rattle.mlt_hash_access.proofs.Since.{held_over_seen}
@@ -25,7 +24,7 @@ use Rattle.mlt_types.specs.declared.refusal.Refusal.{Refusal}
 use Rattle.mlt_types.specs.declared.refusal.Refusal.TheVariants as refusal
 use Rattle.std.specs.Prelude.{◌⊎◌, ◌↔◌, Result, Err}
 use Rattle.std.proofs.Math.Nat.{pow-le-pow_right}
-use Rattle.mlt_hash_access.proofs.Views.{agrees, may_write, mode_of_others, mode_of_page}
+use Rattle.mlt_hash_access.proofs.Views.{agrees, exclusive_stays, may_write, mode_of_page}
 
 -- what was seen is seen still, what was held exclusively is held so, and the header is not written
 pub record IsLater (root : ℕ) (view view' : View) : Type 0 where
@@ -48,26 +47,9 @@ rewrites view mid view' q was page reads writes = record {
   others = λ p ne. writes.others p ne ∙ reads.own p;
 }
 
-seen_as : (o : Option (Option Page)) → is_some o ≡ true → (p : Option Page) × (o ≡ Some p)
-seen_as None h = absurd (false≢true h)
-seen_as (Some p) h = (p, refl)
-
-pub stronger_exclusive : (held : Option Mode) → stronger held Exclusive ≡ Exclusive
-stronger_exclusive None = refl
-stronger_exclusive (Some Shared) = refl
-stronger_exclusive (Some Exclusive) = refl
-
 -- a page that is locked exclusively is held so,
 pub exclusive_here : (modes : Modes) (q : ℕ) → map.get (with_page modes q Exclusive) q ≡ Some Exclusive
 exclusive_here modes q = mode_of_page modes q Exclusive ∙ ap Some (stronger_exclusive (map.get modes q))
-
--- and one that was held so stays so, whatever page is locked
-pub exclusive_stays : (modes : Modes) (q : ℕ) (mode : Mode) (p : ℕ) → map.get modes p ≡ Some Exclusive → map.get (with_page modes q mode) p ≡ Some Exclusive
-exclusive_stays modes q mode p was =
-    elim (cases_eq p q) [
-      | inl here ↦ subst (λ (p : ℕ). map.get modes p ≡ Some Exclusive → map.get (with_page modes q mode) p ≡ Some Exclusive) (sym here) (λ (e : map.get modes q ≡ Some Exclusive). mode_of_page modes q mode ∙ ap (λ o. Some (stronger o mode)) e) was
-      | inr elsewhere ↦ mode_of_others modes q mode p elsewhere ∙ was
-    ]
 
 pub later_by_rewrite : (root : ℕ) (view view' : View) (q : ℕ) (page : Page) → (root ≡ q → ⊥) → Rewrites view view' q page → IsLater root view view'
 later_by_rewrite root view view' q page ne rewrites = record {

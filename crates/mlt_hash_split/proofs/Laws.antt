@@ -1,9 +1,8 @@
 -- What a walk knows of its splits once owners have closed
-use Rattle.std.proofs.Common.{ℕ, ◌≡◌, true, is_some, Option, Some, None, refl, sym, ◌∙◌, ap, subst, inl, inr}
+use Rattle.std.proofs.Common.{ℕ, ◌≡◌, true, is_some, Option, sym, ◌∙◌, ap, subst, inl, inr}
 use Rattle.std.specs.Prelude.{slice_index_or}
 use Rattle.std.specs.Ordering.{nat_cmp}
 use Rattle.std.specs.FinSet as set
-use Rattle.std.proofs.lemmas.Bool.{both_ways}
 use Rattle.mlt_page.specs.Slots.{is_kept}
 use Rattle.mlt_page.specs.declared.slot.Slot.TheVariants.{Free}
 use Rattle.mlt_page.specs.Values.{BucketFields, HeadFields}
@@ -12,7 +11,7 @@ use Rattle.mlt_hash_form.specs.Form.{slot_at}
 use Rattle.mlt_hash_form.specs.File.{HasForm, bucket_of, buckets_of}
 use Rattle.mlt_hash_form.specs.Held.{Agrees, KeepsFile, over}
 use Rattle.mlt_hash_form.proofs.Crowd.{crowded_with_fewer}
-use Rattle.mlt_hash_form.proofs.HeldPages.{keeps_fewer}
+use Rattle.mlt_hash_form.proofs.HeldPages.{keeps_fewer, seen_as}
 use Rattle.mlt_hash_form.proofs.Splitting.{used_from_kept}
 use Rattle.mlt_hash_access.specs.Views.{View}
 use Rattle.mlt_hash_split.specs.Rests.{Aim, IsAtRest, KeepsNoMore, seed_of}
@@ -20,10 +19,6 @@ use Rattle.mlt_hash_split.specs.Splits.{IsUnderWay, SplitFields, StandsAt}
 use Rattle.mlt_hash_split.specs.declared.phase.SplitPhase.{SplitPhase}
 use Rattle.mlt_hash_split.specs.declared.phase.SplitPhase.TheVariants as at
 use Rattle.mlt_hash_split.proofs.Closing.{held_page_over, not_true}
-
-seen_as : (o : Option (Option Page)) → is_some o ≡ true → (p : Option Page) × (o ≡ Some p)
-seen_as None h = absurd (both_ways _ refl h)
-seen_as (Some p) h = (p, refl)
 
 -- the slots of a held page of the walk's file were on held clean pages, so no more of them are kept than were
 kept_before : (bits : ℕ → ℕ) (opens fewer : set.FinSet nat_cmp) (root : ℕ) (view : View) (own clean : ℕ → Option Page) → KeepsFile bits opens root view.seen own → KeepsNoMore opens fewer view → Agrees view.seen clean → HasForm bits clean root

@@ -4,7 +4,7 @@ use Rattle.std.proofs.lemmas.Bool.{cases_eq}
 use Rattle.std.proofs.lemmas.Bool.Decides.{nat_tests}
 use Rattle.mlt_types.specs.declared.mode.Mode.TheVariants.{Exclusive}
 use Rattle.mlt_page_store.specs.Stores.{page_at}
-use Rattle.mlt_page_locks.proofs.LockLaws.{mode_held-granted}
+use Rattle.mlt_page_locks.proofs.LockLaws.{mode_held-granted, stronger_exclusive}
 use Rattle.mlt_page_locks.specs.LockTables.{LockTable, mode_held}
 use Rattle.mlt_page_locks.specs.Requests.{granted, stronger}
 use Rattle.mlt_hash_access.specs.Moments.{MayStep, Moment}
@@ -17,7 +17,6 @@ use Rattle.mlt_hash_split.specs.declared.phase.SplitPhase.{SplitPhase}
 use Rattle.mlt_hash_split.specs.declared.phase.SplitPhase.TheVariants as at
 use Rattle.mlt_hash_split.specs.declared.split.SplitAnswer.{SplitAnswer}
 use Rattle.mlt_hash_split.specs.declared.split.SplitAnswer.TheVariants as answer
-use Rattle.mlt_hash_split.proofs.Later.{stronger_exclusive}
 
 granted_here : (table : LockTable) (tx q : ℕ) → mode_held (granted table tx q Exclusive) tx q ≡ Some Exclusive
 granted_here table tx q =

@@ -8,11 +8,12 @@ use Rattle.std.proofs.lemmas.Bool.{false≢true, cases_eq}
 use Rattle.std.proofs.lemmas.Bool.Decides.{nat_tests}
 use Rattle.mlt_page.specs.declared.page.Page.{Page}
 use Rattle.mlt_page_store.specs.Stores.{Pages, page_at}
+use Rattle.mlt_page_store.proofs.Numbered.{same_pages}
 use Rattle.mlt_page_locks.proofs.Maps.{get_inserted, get_removed}
 use Rattle.mlt_page_locks.specs.LockTables.{LockTable, can_read, can_write, AreCompatible}
 use Rattle.mlt_page_locks.proofs.LockLaws.{writer_reads}
 use Rattle.mlt_page_subtx.specs.Images.{Images, image_of, or_image, put_back, with_image}
-use Rattle.mlt_page_subtx.proofs.ImageLaws.{not_there, not_true, page_at-put_back, image_of-with_image, same_pages}
+use Rattle.mlt_page_subtx.proofs.ImageLaws.{not_there, not_true, page_at-put_back, image_of-with_image}
 use Rattle.mlt_hash_subtx_laws.specs.CleanPages.{RunningImages, image_at, all_put_back, clean_pages, ImagesAreLocked, ImagesAreApart, ImagesAreThere, DropsImages}
 
 -- images of different subtransactions are of different pages

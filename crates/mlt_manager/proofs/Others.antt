@@ -3,7 +3,7 @@ use Rattle.std.proofs.lemmas.Bool.{false≢true}
 use Rattle.std.proofs.lemmas.Bool.Decides.{nat_tests}
 use Rattle.std.proofs.lemmas.Bool.{cases_eq}
 use Rattle.std.proofs.lemmas.List.Elements.{Contains-append_cases}
-use Rattle.std.proofs.Common.{zero, suc, inl, inr, ◌≡◌, ◌≢◌, ℕ, true, List, [], ◌∷◌, Option, None, Some, is_some, Contains, Result, Ok, Err, IfOk, refl, sym, ap, subst, ◌∙◌, arith}
+use Rattle.std.proofs.Common.{inl, inr, ◌≡◌, ◌≢◌, ℕ, true, List, [], ◌∷◌, Option, None, Some, is_some, Contains, Result, Ok, Err, IfOk, refl, sym, ap, subst, ◌∙◌, arith}
 use Rattle.std.specs.Option.{IsSome}
 use Rattle.std.specs.FinMap as map
 use Rattle.std.specs.Ordering.{nat_cmp}
@@ -16,6 +16,7 @@ use Rattle.mlt_order.specs.Histories.Stage.{Ended, Fresh, Running}
 use Rattle.mlt_order.specs.Interleavings.{items_of}
 use Rattle.mlt_order.proofs.Parts.{items_of-other, items_of-same}
 use Rattle.mlt_order.proofs.RunLemmas.{contains-first, contains-later, contains-nothing}
+use Rattle.mlt_order.proofs.Stages.{contains-one}
 use Rattle.mlt_page_locks.specs.LockTables.{LockTable, Modes, is_holder}
 use Rattle.mlt_page_locks.specs.Requests.{IsLowest, conflicts}
 use Rattle.mlt_object_locks.specs.Locks.{Held}
@@ -54,17 +55,13 @@ other_holds table tx q by mode against = (
   way_of table tx q by mode (map.get table.held by) refl against,
 )
 
-only_one : {A : Type 0} (e x : A) → Contains (e ∷ []) x → e ≡ x
-only_one e x (zero, lt, is) = is
-only_one e x (suc k, lt, is) = absurd (omega (arith, lt))
-
 -- what is held is held under its number
 under_number : (j : ℕ) (held : List Held) (x : ObjOp × ObjReply) → Contains held (j, x) → Contains (items_of j held) x
 under_number j [] x is = absurd (contains-nothing (j, x) is)
 under_number j (e ∷ held) x is =
     elim (Contains-append_cases (e ∷ []) held (j, x) is) [
       | inl here ↦
-          subst (λ (y : Held). Contains (items_of j (y ∷ held)) x) (sym (only_one e (j, x) here))
+          subst (λ (y : Held). Contains (items_of j (y ∷ held)) x) (sym (contains-one e (j, x) here))
           (subst (λ (l : List (ObjOp × ObjReply)). Contains l x) (sym (items_of-same j (j, x) held refl)) (contains-first x (items_of j held)))
       | inr later ↦
           let rest = under_number j held x later in

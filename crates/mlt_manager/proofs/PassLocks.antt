@@ -2,16 +2,17 @@
 use Rattle.std.proofs.Common.{◌≡◌, ◌≢◌, ◌⊎◌, ℕ, Bool, true, false, Option, None, Some, is_some, unwrap_or, slice_index, refl, sym, ap, subst, ◌∙◌, inl, inr, arith}
 use Rattle.std.specs.Ordering.{nat_cmp}
 use Rattle.std.specs.FinMap as map
-use Rattle.std.proofs.lemmas.Bool.{cases_Bool, cases_eq, false≢true}
+use Rattle.std.proofs.lemmas.Bool.{cases_Bool, false≢true}
 use Rattle.mlt_types.specs.declared.mode.Mode.{Mode}
-use Rattle.mlt_types.specs.declared.mode.Mode.TheVariants.{Exclusive, Shared}
+use Rattle.mlt_types.specs.declared.mode.Mode.TheVariants.{Exclusive}
 use Rattle.mlt_object_kinds.specs.declared.operation.ObjReply.{ObjReply}
 use Rattle.mlt_object_base.specs.declared.request.Request.{Request}
 use Rattle.mlt_object_base.specs.Requests.{target_of}
 use Rattle.mlt_page.specs.declared.page.Page.{Page}
 use Rattle.mlt_page.specs.declared.page.Page.TheVariants as page
 use Rattle.mlt_page_locks.specs.LockTables.{Modes, is_holder, mode_held}
-use Rattle.mlt_page_locks.specs.Requests.{stronger, with_page}
+use Rattle.mlt_page_locks.specs.Requests.{stronger}
+use Rattle.mlt_page_locks.proofs.LockLaws.{stronger_exclusive}
 use Rattle.mlt_page_subtx.specs.Images.{Images, image_of}
 use Rattle.mlt_page_subtx.proofs.ImageLaws.{not_true}
 use Rattle.mlt_hash_form.specs.File.{FilePages, dir_of, row_of}
@@ -20,7 +21,7 @@ use Rattle.mlt_hash_access.specs.Moments.{Moment, page_before}
 use Rattle.mlt_hash_access.specs.Reading.{HasReadPlace}
 use Rattle.mlt_hash_access.specs.Views.{View, rebased, view_of}
 use Rattle.mlt_hash_access.proofs.Rebased.{rebased_agrees}
-use Rattle.mlt_hash_access.proofs.Views.{holds_exclusively, mode_of_others, mode_of_page, own_has_image, seen_held}
+use Rattle.mlt_hash_access.proofs.Views.{exclusive_stays, holds_exclusively, mode_of_others, mode_of_page, own_has_image, seen_held}
 use Rattle.mlt_hash_pair.specs.Pairs.{HoldsWays, PairFields}
 use Rattle.mlt_hash_pair.specs.Ways as pair_read
 use Rattle.mlt_hash_pair.specs.declared.way.Way.{Way}
@@ -163,19 +164,6 @@ module _ (basis : Basis) (m : Moment) (clean : FilePages) (agree : Agrees (view_
     locks = holds;
   }
 
--- a lock that is asked for exclusively is exclusive then, and so is one that was
-asked_exclusively : (held : Option Mode) → stronger held Exclusive ≡ Exclusive
-asked_exclusively None = refl
-asked_exclusively (Some Shared) = refl
-asked_exclusively (Some Exclusive) = refl
-
-still_exclusive : (modes : Modes) (q : ℕ) (mode : Mode) (p : ℕ) → map.get modes p ≡ Some Exclusive → map.get (with_page modes q mode) p ≡ Some Exclusive
-still_exclusive modes q mode p held =
-    elim (cases_eq p q) [
-      | inl here ↦ ap (map.get (with_page modes q mode)) here ∙ mode_of_page modes q mode ∙ ap (λ o. Some (stronger o mode)) (ap (map.get modes) (sym here) ∙ held)
-      | inr elsewhere ↦ mode_of_others modes q mode p elsewhere ∙ held
-    ]
-
 -- a wide pass that has gone on to the key of the size
 module _ (basis : Basis) (request : Request) (walk : WalkFields) (m : Moment) (clean : FilePages) (agree : Agrees (view_of m).seen clean) (since : Before) (put : HasPutOwn (one_key basis) request (view_of m) since)
     (wide : walk.pass ≡ pass.Wide) where
@@ -240,7 +228,7 @@ module _ (basis : Basis) (request : Request) (walk : WalkFields) (m : Moment) (c
   -- on its way to the size's key
   headed : (dir row depth : ℕ) → IsHeaded (basis_after since basis) walk (rebased since.written (view_of m)) dir row depth → HoldsBoth basis.root read.dir read.bucket (λ q. ⊥) m.running.images (view_of m).modes
   headed dir row depth here = both_held (λ q. ⊥)
-      (λ q was. ap (λ (modes : Modes). map.get modes q) here.held ∙ still_exclusive since.held basis.root (header_mode walk.pass) q was)
+      (λ q was. ap (λ (modes : Modes). map.get modes q) here.held ∙ exclusive_stays since.held basis.root (header_mode walk.pass) q was)
       (λ q none. absurd none)
       (λ q away not none held. absurd (false≢true (sym none ∙ ap is_some (sym (mode_of_others since.held basis.root (header_mode walk.pass) q away)) ∙ ap (λ (modes : Modes). is_some (map.get modes q)) (sym here.held) ∙ held)))
 
@@ -250,9 +238,9 @@ module _ (basis : Basis) (request : Request) (walk : WalkFields) (m : Moment) (c
       let dir = dir_of here.header (basis.bits walk.key) in
       let one = header_held since.held walk.pass basis.root in
       both_held (λ q. q ≡ dir)
-      (λ q was. ap (λ (modes : Modes). map.get modes q) here.held ∙ still_exclusive one dir (directory_mode walk.pass) q (still_exclusive since.held basis.root (header_mode walk.pass) q was))
+      (λ q was. ap (λ (modes : Modes). map.get modes q) here.held ∙ exclusive_stays one dir (directory_mode walk.pass) q (exclusive_stays since.held basis.root (header_mode walk.pass) q was))
       (λ q is. ap (λ (modes : Modes). map.get modes q) here.held ∙ ap (map.get (directory_held since.held walk.pass basis.root dir)) is ∙ mode_of_page one dir (directory_mode walk.pass)
-      ∙ ap (λ p. Some (stronger (map.get one dir) (directory_mode p))) wide ∙ ap Some (asked_exclusively (map.get one dir)))
+      ∙ ap (λ p. Some (stronger (map.get one dir) (directory_mode p))) wide ∙ ap Some (stronger_exclusive (map.get one dir)))
       (λ q away not none held. absurd (false≢true (sym none
       ∙ ap is_some (sym (mode_of_others since.held basis.root (header_mode walk.pass) q away)) ∙ ap is_some (sym (mode_of_others one dir (directory_mode walk.pass) q not))
       ∙ ap (λ (modes : Modes). is_some (map.get modes q)) (sym here.held) ∙ held)))

@@ -100,7 +100,10 @@ pub record TakesStepBack {P : Type 0} (old new : ManagerFields P) (tx : ℕ)
   pub leads : (base : Base) → HasBase old base
       → (before : Base) × Step before last base × HasBase new before
 
--- what a step that was told this does to the base, the clean pages and the history
+-- What a step does that was told this. Done: the base makes the step of the operation, and the
+-- history has it. Blocked: the operation would be a step, and clashes with what another holds.
+-- Undone, Aborted: the base is one from which the last operation leads to what it was. Else, and
+-- where Blocked: what is clean stays, and the history and what is held.
 abbrev pub LeavesBase : {P : Type 0} → Answer → ManagerFields P → ManagerFields P → ℕ → Type 0
 LeavesBase (answer.Done reply) old new tx = (op : ObjOp) × MakesStep old new tx (op, reply)
 LeavesBase (answer.Blocked by) old new tx =
@@ -113,7 +116,9 @@ LeavesBase answer.Aborted old new tx =
     × TakesStepBack old new tx [] last (trace.Back tx ∷ trace.Abort tx ∷ [])
 LeavesBase other old new tx = KeepsWhatCounts old new
 
--- what a whole operation that was told this does to them
+-- What a whole operation does that was told this. Done: the base makes its step. Blocked: it would
+-- be a step, and clashes with what another holds. Unless Done, what is clean stays, and the history
+-- and what is held.
 abbrev pub WholeLeavesBase : {P : Type 0} → Answer → ManagerFields P → ManagerFields P → ℕ → ObjOp
     → Type 0
 WholeLeavesBase (answer.Done reply) old new tx op = AddsStep old new tx (op, reply)
@@ -134,7 +139,8 @@ pub record TakesStepsBack {P : Type 0} (old new : ManagerFields P) (tx : ℕ)
   pub leads : (base : Base) → HasBase old base
       → (before : Base) × Runs Step before taken base × HasBase new before
 
--- what a whole undoing that was told this does to the base and the history
+-- What a whole undoing does that was told this: the last operations of the transaction are taken
+-- back, one after another, and all of them where it is Aborted.
 abbrev pub UndoingLeavesBase : {P : Type 0} → Answer → ManagerFields P → ManagerFields P → ℕ → Type 0
 UndoingLeavesBase answer.Aborted old new tx = TakesStepsBack old new tx [] (trace.Abort tx ∷ [])
 UndoingLeavesBase (answer.Waiting page by) old new tx =

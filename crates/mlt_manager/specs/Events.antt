@@ -79,6 +79,7 @@ IsWholeEvent (event.Abort tx) = Unit {0}
 IsWholeEvent (event.WholeUndo tx) = Unit {0}
 IsWholeEvent other = ⊥
 
+-- whole events alone: begins, whole operations, commits, aborts and whole undoings
 abbrev pub AreWholeEvents : List Event → Type 0
 AreWholeEvents [] = Unit {0}
 AreWholeEvents (event ∷ events) = IsWholeEvent event × AreWholeEvents events
@@ -88,6 +89,7 @@ abbrev pub IsNoWait : Told → Type 0
 IsNoWait (told.Answered (answer.Waiting page by)) = ⊥
 IsNoWait other = Unit {0}
 
+-- none is told that it waits
 abbrev pub NoneWaits : List Told → Type 0
 NoneWaits [] = Unit {0}
 NoneWaits (told ∷ tolds) = IsNoWait told × NoneWaits tolds

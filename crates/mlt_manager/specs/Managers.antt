@@ -16,6 +16,7 @@ use Rattle.mlt_manager_invariant.specs.Sound.{IsSound}
 use Rattle.mlt_manager_invariant.specs.States.{State}
 use Rattle.mlt_manager_trace.specs.Traced.{IsTraced}
 
+-- what contracts see of a manager
 pub record ManagerFields (P : Type 0) : Type 0 where
   -- how many transactions may be open, how many numbers are given out in all, how many pages there may be, and how many
   -- operations a transaction may have

@@ -8,6 +8,7 @@ use Rattle.mlt_manager.specs.Answers.{IsIdleWith, IsNotOpen, IsOpenAt, IsUndoing
 use Rattle.mlt_tx_open.specs.Tables.{Table}
 use Rattle.mlt_manager.specs.Managers.{ManagerFields}
 
+-- a manager as contracts see it, of its parts
 abbrev pub fields_of : {P : Type 0} → Parts P → ManagerFields P
 fields_of parts = record {
   max_open = parts.limits.max_open;

@@ -14,6 +14,7 @@ use Rattle.mlt_trace.specs.declared.item.TraceItem.TheVariants as trace
 abbrev pub CalledOps : Type 0
 CalledOps = ℕ → Option ObjOp
 
+-- nobody was called
 abbrev pub none_called : CalledOps
 none_called tx = None
 
@@ -26,7 +27,9 @@ called_after (event.Step tx) (told.Answered (answer.Refused reason)) called =
 called_after (event.Cancel tx) told.Cancelled called = with_entry called tx None
 called_after event told called = called
 
--- the items that an event that was told this adds to the history
+-- The items that an event that was told this adds to the history: that a transaction began; that it
+-- did the operation that it was called with; that it took its last one back; that it committed or
+-- was closed. Any other event adds none.
 abbrev pub AddsItems : Event → Told → CalledOps → List TraceItem → Type 0
 AddsItems event.Begin (told.Begun tx) called items = items ≡ trace.Begin tx ∷ []
 AddsItems (event.Step tx) (told.Answered (answer.Done reply)) called items =

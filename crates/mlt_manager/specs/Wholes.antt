@@ -60,7 +60,8 @@ pub record HasRun {P : Type 0} (bits_of : P → ℕ → ℕ) (old new : ManagerF
   pub calls : HasCalled old called tx op
   pub runs : RunsToEnd bits_of called new tx told
 
--- a whole operation is refused as its call is
+-- A whole operation is a call and its steps, up to the first that does not go on; if that one waits
+-- or is blocked, the operation is dropped. It is refused as its call is.
 abbrev pub AnswersWhole : {P : Type 0} → (P → ℕ → ℕ) → ManagerFields P → ManagerFields P → ℕ → ObjOp
     → Result Answer Refusal → Type 0
 AnswersWhole bits_of old new tx op (Ok told) = HasRun bits_of old new tx op told

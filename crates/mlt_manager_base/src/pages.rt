@@ -10,7 +10,7 @@ ghost use Rattle.mlt_manager_base.specs.Made.{made_by, made_cell};
 ghost use Rattle.mlt_page_store.specs.Stores.{page_at};
 
 use crate::copying::copy_cell;
-use crate::records::{is_in_range, record_of};
+use crate::records::record_of;
 use mlt_hash_form::Root;
 use mlt_object_base::Base;
 use mlt_object_kinds::{Done, ObjOp, ObjReply};
@@ -62,7 +62,7 @@ pub fn base_of_pages<P: Pseudo>(
     let mut base = Base::new(alloc);
     for item in items {
         if let Some(cell) = made_cell(&item.get()) {
-            is_in_range(&cell);
+            cell.is_in_range();
             let record = record_of(store, root, &cell);
             copy_cell(&mut base, &cell, record)?;
         }

@@ -1,11 +1,11 @@
 //! The record of a cell, read through the directory.
 
-ghost use Rattle.std.specs.Prelude.{◌≡◌, ◌<◌, ◌^◌};
+ghost use Rattle.std.specs.Prelude.{◌≡◌};
 ghost use Rattle.std.specs.FinMap as map;
 ghost use Rattle.mlt_hash_form.specs.File.{HasForm};
 ghost use Rattle.mlt_hash_form.specs.Records.{live_records};
 ghost use Rattle.mlt_page_store.specs.Stores.{page_at};
-ghost use Rattle.mlt_types.specs.Cells.{IsInRange, key_number};
+ghost use Rattle.mlt_types.specs.Cells.{key_number};
 
 use mlt_hash_form::{Place, Root, value_in};
 use mlt_page::Page;
@@ -30,26 +30,3 @@ pub(crate) fn record_of<P: Pseudo>(store: &Store, root: &Root<P>, cell: &Cell) -
     };
     value_in(bucket, key)
 }
-
-/// What the types of its numbers say of a cell.
-pub(crate) fn is_in_range(cell: &Cell)
-    ensures { IsInRange cell.now }
-{
-    match *cell {
-        Cell::Account(account) => has_32_bits(account),
-        Cell::Counter(counter) => has_32_bits(counter),
-        Cell::Element(set, element) => {
-            has_16_bits(set);
-            has_32_bits(element);
-        },
-        Cell::Size(set) => has_16_bits(set),
-    }
-}
-
-fn has_16_bits(number: u16)
-    ensures { number < 2 ^ 16 }
-{}
-
-fn has_32_bits(number: u32)
-    ensures { number < 2 ^ 32 }
-{}

@@ -1,5 +1,5 @@
 -- Held operations, by their transactions
-use Rattle.std.proofs.Common.{◌≡◌, ◌≢◌, ℕ, zero, suc, Bool, true, false, List, [], ◌∷◌, ◌++◌, refl, sym, ap, subst, ◌∙◌, inl, inr, arith}
+use Rattle.std.proofs.Common.{◌≡◌, ◌≢◌, ℕ, Bool, true, false, List, [], ◌∷◌, ◌++◌, refl, sym, ap, subst, ◌∙◌, inl, inr, arith}
 use Rattle.std.specs.List.{Contains}
 use Rattle.std.proofs.lemmas.Bool.{cases_eq}
 use Rattle.std.proofs.lemmas.List.Elements.{Contains-append_cases, Contains-append_right}
@@ -8,13 +8,9 @@ use Rattle.mlt_object_kinds.specs.declared.operation.ObjOp.{ObjOp}
 use Rattle.mlt_object_kinds.specs.declared.operation.ObjReply.{ObjReply}
 use Rattle.mlt_order.specs.Interleavings.{items_of}
 use Rattle.mlt_order.proofs.Parts.{items_of-append, items_of-other, items_of-same}
+use Rattle.mlt_order.proofs.Stages.{contains-one}
 use Rattle.mlt_object_conflicts.specs.Clashes.{clashes}
 use Rattle.mlt_object_locks.specs.Locks.{Held, HoldsClash}
-
--- the only item of a list
-only : {A : Type 0} (e x : A) → Contains (e ∷ []) x → e ≡ x
-only e x (zero, lt, is) = is
-only e x (suc k, lt, is) = absurd (omega (arith, lt))
 
 first_item : {A : Type 0} (e x : A) (es : List A) → e ≡ x → Contains (e ∷ es) x
 first_item e x es is = (0, omega arith, is)
@@ -26,7 +22,7 @@ in_list j (e ∷ held) x h =
     elim (cases_eq e.0 j) [
       | inl same ↦
           elim (Contains-append_cases (e.1 ∷ []) (items_of j held) x (subst (λ l. Contains l x) (items_of-same j e held same) h)) [
-            | inl here ↦ first_item e (j, x) held (λ i. (same i, only e.1 x here i))
+            | inl here ↦ first_item e (j, x) held (λ i. (same i, contains-one e.1 x here i))
             | inr later ↦ Contains-append_right (e ∷ []) held (j, x) (in_list j held x later)
           ]
       | inr differ ↦ Contains-append_right (e ∷ []) held (j, x) (in_list j held x (subst (λ l. Contains l x) (items_of-other j e held differ) h))

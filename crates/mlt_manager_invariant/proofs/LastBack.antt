@@ -16,12 +16,13 @@ use Rattle.mlt_tx_meaning.specs.Worlds.{PagesMeanHistory}
 use Rattle.mlt_tx_meaning.proofs.Undoing.{undoing_keeps, undone_in_range}
 use Rattle.mlt_tx_operation.specs.Operating.{OperationFields}
 use Rattle.mlt_event.specs.declared.answer.Answer.{Answer}
+use Rattle.mlt_hash_access.proofs.Rebased.{same_some}
 use Rattle.mlt_tx.specs.declared.commons.Commons.{Commons}
 use Rattle.mlt_tx.specs.declared.transaction.At.{At}
 use Rattle.mlt_tx.specs.declared.transaction.At.TheVariants as at
 use Rattle.mlt_tx.specs.declared.transaction.Transaction.{Transaction}
 use Rattle.mlt_tx.specs.Steps.{TakesOff}
-use Rattle.mlt_tx.proofs.Backing.{one_last, same_some}
+use Rattle.mlt_tx.proofs.Backing.{one_last}
 use Rattle.mlt_manager_invariant.specs.Sound.{FitsAt, IsSound}
 use Rattle.mlt_manager_invariant.specs.States.{State, images_kept, is_undoing, is_undoing_at, pending_room, room_of, world_of}
 use Rattle.mlt_manager_invariant.specs.Undoing.{TakesLastBack}

@@ -8,14 +8,8 @@ use Rattle.mlt_hash_subtx_laws.specs.Running.{AllMayStep, AllRunning, KeepsRunni
 use Rattle.mlt_hash_subtx_laws.proofs.AllEvents.{roll_back_clean, roll_back_keeps, step_leaves_clean, step_leaves_views}
 use Rattle.mlt_hash_access.specs.PageTurns.{TakesTurn, TurnsBack}
 use Rattle.mlt_manager_invariant.proofs.Tables.{inserted_here}
+use Rattle.mlt_manager_invariant.proofs.Closing.{one_after_another}
 
--- two events of one transaction
-keeps_both : (i : ℕ) (one two three : AllRunning) → KeepsRunning i one two → KeepsRunning i two three → KeepsRunning i one three
-keeps_both i one two three first second = record {
-  may = second.may;
-  views = λ u ne. second.views u ne ∙ first.views u ne;
-  images = λ u ne. second.images u ne ∙ first.images u ne;
-  holders = λ u ne. second.holders u ne ∙ first.holders u ne;
 }
 
 -- what the next step of the transaction works on, after one that led here
@@ -55,4 +49,4 @@ turn_back_leaves all i new may opened back =
     let turned = turn_leaves all i back.mid may opened back.turn in
     let middle = after_step all back.mid in
     let rolled = rolled_back middle i turned.0.keeps.may (still_open all i may opened back.mid turned.1) in
-    record { keeps = keeps_both i all middle (after_roll_back middle i) turned.0.keeps rolled.keeps; clean = rolled.clean ∙ turned.0.clean }
+    record { keeps = one_after_another i all middle (after_roll_back middle i) turned.0.keeps rolled.keeps; clean = rolled.clean ∙ turned.0.clean }

@@ -6,7 +6,7 @@ use Rattle.mlt_object_kinds.specs.Bases.{empty_base}
 use Rattle.mlt_tx.specs.declared.commons.Commons.{Commons}
 use Rattle.mlt_manager_invariant.specs.States.{State}
 
--- nobody has begun
+-- the state in which nobody has begun
 abbrev pub opening_state : (ℕ → ℕ) → ℕ → ℕ → ℕ → Commons → State
 opening_state bits root max_depth max_ops commons = record {
   bits = bits;

@@ -14,6 +14,7 @@ use Rattle.mlt_tx.specs.declared.transaction.At.{At}
 use Rattle.mlt_tx.specs.declared.transaction.At.TheVariants as at
 use Rattle.mlt_tx.specs.declared.transaction.Transaction.{Transaction}
 
+-- what the laws see of a manager, with its first images and its base
 pub record State : Type 0 where
   -- the function from keys to pseudokeys, the page of the header, how deep the directory may get, and how many operations
   -- a transaction may have
@@ -32,7 +33,7 @@ pub record State : Type 0 where
   -- the base that the history leads to
   pub base : Base
 
--- its running subtransactions
+-- the running subtransactions of a state
 abbrev pub all_of : State → AllRunning
 all_of s = record {
   images = s.images;
@@ -53,7 +54,7 @@ is_undoing_at (Some t) = is_undoing t.at
 abbrev pub undoing_of : map.FinMap nat_cmp Transaction → ℕ → Bool
 undoing_of txs i = is_undoing_at (map.get txs i)
 
--- its clean pages and its history
+-- the world of a state: its clean pages and its history
 abbrev pub world_of : State → World
 world_of s = record {
   bits = s.bits;

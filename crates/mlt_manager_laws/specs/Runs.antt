@@ -82,7 +82,7 @@ pub record HasOwnSteps (basis : Basis) (t : Transaction) (seen : View) (tx : ℕ
   pub own : AreOwnSteps basis t seen steps
   pub answers : answers_of steps ≡ answers_to tx events tolds
 
--- They are, and of these steps this is so.
+-- The steps of a transaction in a run are steps of its own, of which this is so.
 abbrev pub TakesOwnSteps : Basis → Transaction → View → ℕ → List Event → List Told
     → (List OwnStep → Type 0) → Type 0
 TakesOwnSteps basis t seen tx events tolds Takes =

@@ -6,8 +6,8 @@ use Rattle.mlt_object_kinds.specs.declared.operation.ObjReply.{ObjReply}
 use Rattle.mlt_order.proofs.RunLemmas.{contains-nothing}
 use Rattle.mlt_trace.specs.declared.item.TraceItem.TheVariants as trace
 use Rattle.mlt_trace.specs.Numbers.{CountsFrom, begun_txs, commit_count}
+use Rattle.mlt_trace.proofs.BegunLaws.{first_or_later}
 use Rattle.mlt_trace_check.specs.Traces.{HasPlace, IsRunning, IsWhole}
-use Rattle.mlt_trace_laws.proofs.Places.{first_or_later}
 use Rattle.mlt_tx.specs.declared.transaction.Transaction.{Transaction}
 use Rattle.mlt_manager_invariant.specs.Sound.{IsSound}
 use Rattle.mlt_manager_invariant.specs.States.{State}

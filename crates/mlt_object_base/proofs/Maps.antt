@@ -12,7 +12,7 @@ use Rattle.std.specs.Map.{lookup, keys_of}
 use Rattle.std.specs.BTreeMap.{is_at}
 use Rattle.std.proofs.lemmas.Cmp.{eq_by_cmp_equiv}
 use Rattle.mlt_types.specs.Maps.{with_entry}
-use Rattle.mlt_object_kinds.proofs.BaseLaws.{element_cmp_total, element_cmp_tells_apart}
+use Rattle.mlt_object_kinds.proofs.BaseLaws.{element_cmp_tells_apart, element_cmp_total, same_element}
 use Rattle.mlt_object_kinds.specs.Bases.{counter_entry, counter_value, element_cmp, element_entry}
 use Rattle.mlt_object_base.specs.Kept.{AreNotZero, IsNotZero, less_one, with_nothing}
 
@@ -78,12 +78,6 @@ found_key (x ∷ keys) k =
 pub element_in_map : (keys : List (ℕ × ℕ)) (k : ℕ × ℕ) → is_some (finmap.get (finmap.from_entries {R = element_cmp} (with_nothing keys)) k) ≡ list_any (is_at (element_cmp k)) keys
 element_in_map keys k = ap is_some (in_map element_cmp_total (with_nothing keys) k) ∙ found_key keys k
 
-same_nothing : (p q : Option (Unit {0})) → is_some p ≡ is_some q → p ≡ q
-same_nothing None None e = refl
-same_nothing None (Some y) e = absurd (cc)
-same_nothing (Some x) None e = absurd (cc)
-same_nothing (Some x) (Some y) e = refl
-
 there : (b present : Bool) (o : Option (Unit {0})) → is_some (cond b (element_entry present) o) ≡ cond b present (is_some o)
 there true true o = refl
 there true false o = refl
@@ -94,7 +88,7 @@ pub element_map_updated : (old new : List (ℕ × ℕ)) (k : ℕ × ℕ) (presen
     → finmap.from_entries {R = element_cmp} (with_nothing new) ≡ with_entry (finmap.from_entries (with_nothing old)) k (element_entry present)
 element_map_updated old new k present h =
     map_updated element_cmp_total element_cmp_tells_apart (with_nothing old) (with_nothing new) k (element_entry present) (λ q.
-    same_nothing _ _ (
+    same_element _ _ (
     found_key new q ∙ h q
     ∙ ap (cond (is_at (element_cmp k) q) present) (sym (found_key old q))
     ∙ sym (there (is_at (element_cmp k) q) present (lookup (is_at (element_cmp q)) (with_nothing old)))

@@ -41,7 +41,8 @@ element_lines elements = flat_map element_line (map.entries elements)
 abbrev pub counter_lines : map.FinMap nat_cmp ℕ → List ℕ
 counter_lines counters = flat_map counter_line (map.entries counters)
 
--- the accounts, then the elements, then the counters that are not 0
+-- a line for each account, then for each element, then for each counter that is not 0, each by
+-- rising numbers
 abbrev pub base_text : Base → List ℕ
 base_text base =
     account_lines base.accounts ++ (element_lines base.elements ++ counter_lines base.counters)

@@ -29,7 +29,7 @@ mode_of (Counter c Read) = Shared
 mode_of (Size s) = Shared
 mode_of _ = Exclusive
 
--- the key, and the mode in which its bucket is locked
+-- the key of the record that an operation is on, and the mode in which its bucket is locked
 abbrev pub access_of : ObjOp → ℕ × Mode
 access_of op = (key_number (cell_of op), mode_of op)
 
@@ -66,6 +66,7 @@ abbrev pub size_reply_of : Option ℕ → ObjReply × Option RecChange
 size_reply_of (Some v) = (told.Is v, None)
 size_reply_of None = (told.Is 0, None)
 
+-- what an operation is told, where its cell has this record or none, and how it changes that record
 abbrev pub reply_of : ObjOp → Option ℕ → ObjReply × Option RecChange
 reply_of (Account a op) live = account_reply_of op live
 reply_of (Element s e op) live = element_reply_of op (is_some live)
@@ -81,16 +82,18 @@ size_change_of (Element s e element.Add, told.Added) (Some v) = Some (Plus 1)
 size_change_of (Element s e element.Remove, told.Removed) found = Some (Minus 1)
 size_change_of _ _ = None
 
--- The changes of records, each with the cell whose record it is, one after the other: of the operation's own cell, and
--- then of its set's size. Only an operation on an element has a set.
+-- the change of the record of the operation's own cell, if there is one
 abbrev pub own_change_on : ObjOp → Option RecChange → List (Cell × RecChange)
 own_change_on op None = []
 own_change_on op (Some change) = (cell_of op, change) ∷ []
 
+-- the change of the set's size record, if there is one; only an operation on an element has a set
 abbrev pub size_change_on : ObjOp → Option RecChange → List (Cell × RecChange)
 size_change_on (Element s e op) (Some change) = (cell.Size s, change) ∷ []
 size_change_on _ _ = []
 
+-- the changes of records that an operation makes, each with its cell: of its own record, and then
+-- of its set's size
 abbrev pub changes_on : ObjOp → Changes → List (Cell × RecChange)
 changes_on op changes = own_change_on op changes.own ++ size_change_on op changes.size
 
@@ -112,6 +115,8 @@ counter_inverse_of (Up n) told.Done = Some (Minus n)
 counter_inverse_of (Down n) told.Done = Some (Plus n)
 counter_inverse_of _ _ = None
 
+-- The change that undoes the operation that was told the reply, on the record as it is then: it
+-- takes off what was added, modulo 2^64, or makes a record a ghost, or a ghost a record.
 abbrev pub inverse_of : ObjOp × ObjReply → Option RecChange
 inverse_of (Account a op, reply) = account_inverse_of op reply
 inverse_of (Element s e op, reply) = element_inverse_of op reply

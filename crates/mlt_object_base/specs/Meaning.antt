@@ -75,7 +75,7 @@ pub record Undergoes (records : map.FinMap nat_cmp ℕ) (op : ObjOp) : Type 0 wh
       (op, told_by records op)
       (state_of_record (cell_of op) (own_record records op (changes_of records op).own))
 
--- And undoing it changes that record so that the cell goes back before the step.
+-- Undoing the operation changes the record of its cell so that the cell goes back before the step.
 pub record UndergoesBack (records : map.FinMap nat_cmp ℕ) (x : ObjOp × ObjReply) : Type 0 where
   pub in_range : IsInRange (cell_of x.0)
   pub can_be : IsRecord (cell_of x.0) (own_record records x.0 (inverse_of x))

@@ -73,7 +73,8 @@ HasWhatIsUndone (Counter c (Up n), reply) live = IsSome live
 HasWhatIsUndone (Counter c (Down n), reply) live = IsSome live
 HasWhatIsUndone _ live = Unit {0}
 
--- and a set of which an element was added or removed has a size record, since none of these is ever removed either
+-- a set of which an element was added or removed has a size record, since none of these is ever
+-- removed
 abbrev pub HasSizeToUndo : ObjOp × ObjReply → Option ℕ → Type 0
 HasSizeToUndo (Element s e element.Add, told.Added) live = IsSome live
 HasSizeToUndo (Element s e element.Remove, told.Removed) live = IsSome live

@@ -16,12 +16,13 @@ use Rattle.mlt_object_base.specs.declared.request.Request.TheVariants.{Do, TakeB
 use Rattle.mlt_object_base.specs.Effects.{access_of, inverse_of, reply_of, size_change_of, size_inverse_of}
 use Rattle.mlt_object_base.specs.Records.{CanChange, counter_of_record}
 
--- the key that it walks to, and the mode in which it locks the key's bucket
+-- the key that a request walks to, and the mode in which it locks the key's bucket
 abbrev pub target_of : Request → ℕ × Mode
 target_of (Do op) = access_of op
 target_of (TakeBack done) = (key_number (cell_of done.0), Exclusive)
 
--- the key of the size record that it may change: where an element may be added or removed, and where it was
+-- the key of the size record that a request may change: where an element may be added or removed,
+-- and where it was
 abbrev pub size_key_of : Request → Option ℕ
 size_key_of (Do (Element s e element.Add)) = Some (key_number (cell.Size s))
 size_key_of (Do (Element s e element.Remove)) = Some (key_number (cell.Size s))
@@ -29,7 +30,8 @@ size_key_of (TakeBack (Element s e element.Add, told.Added)) = Some (key_number 
 size_key_of (TakeBack (Element s e element.Remove, told.Removed)) = Some (key_number (cell.Size s))
 size_key_of _ = None
 
--- what it is told and changes, where it finds a record with this value or none; what is taken back was told its reply
+-- what a request is told and changes, where it finds a record with this value or none; what is
+-- taken back was told its reply
 abbrev pub decision : Request → Option ℕ → ObjReply × Option RecChange
 decision (Do op) found = reply_of op found
 decision (TakeBack done) found = (done.1, inverse_of done)
@@ -39,7 +41,8 @@ abbrev pub IsPossible : Request → Option ℕ → Type 0
 IsPossible (Do op) found = Unit {0}
 IsPossible (TakeBack done) found = CanChange (inverse_of done) found
 
--- what it changes of its set's size record, where it is told the reply and that record has this value, or there is none
+-- what a request that is told the reply changes of its set's size record, where that has this
+-- value, or there is none
 abbrev pub size_decision : Request → ObjReply → Option ℕ → Option RecChange
 size_decision (Do op) reply found = size_change_of (op, reply) found
 size_decision (TakeBack done) reply found = size_inverse_of done
@@ -55,6 +58,8 @@ size_before (Element s e element.Add, told.Added) size = size - 1
 size_before (Element s e element.Remove, told.Removed) size = size + 1
 size_before _ size = size
 
+-- the size of the set once the request is carried out and told the reply: one more, one less, or
+-- the same
 abbrev pub resized : Request → ObjReply → ℕ → ℕ
 resized (Do op) reply size = size_after (op, reply) size
 resized (TakeBack done) reply size = size_before done size

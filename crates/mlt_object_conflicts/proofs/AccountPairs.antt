@@ -1,8 +1,9 @@
 -- Which classes of accounts right commute backward: one tactic serves every pair.
-use Rattle.std.proofs.Common.{◌≡◌, ℕ, ◌+◌, ◌-◌, ◌≤◌, ◌<◌, ◌^◌, Option, None, Some, true, false, arith, refl, ap}
+use Rattle.std.proofs.Common.{◌≡◌, ℕ, ◌+◌, ◌-◌, ◌≤◌, ◌<◌, ◌^◌, Option, None, Some, true, false, arith, ap}
 use Rattle.mlt_object_kinds.specs.Accounts.{max_balance}
 use Rattle.mlt_object_kinds.specs.declared.account.AccountOp.{AccountOp}
 use Rattle.mlt_object_kinds.specs.declared.account.AccountOp.TheVariants.{Deposit, Withdraw}
+use Rattle.mlt_object_kinds.specs.AccountLaws.{level, level_injective}
 use Rattle.mlt_object_conflicts.specs.declared.accounts.AccountClass.{AccountClass}
 use Rattle.mlt_object_conflicts.specs.declared.accounts.AccountClass.TheVariants.{Opened, Exists, Closed, NotEmpty, Deposited, Over, Withdrawn, Short, Balance, Missing}
 use Rattle.mlt_object_conflicts.specs.AccountTable.{account_marks, account_breach, account_item}
@@ -28,17 +29,6 @@ after Closed n s = None
 after Deposited n (Some b) = Some (b + n)
 after Withdrawn n (Some b) = Some (b - n)
 after _ n s = s
-
--- a state as a number, 0 where it is absent
-abbrev level : Option ℕ → ℕ
-level None = 0
-level (Some b) = b + 1
-
-level_injective : (s t : Option ℕ) → level s ≡ level t → s ≡ t
-level_injective None None e = refl
-level_injective None (Some c) e = absurd (omega arith)
-level_injective (Some b) None e = absurd (omega arith)
-level_injective (Some b) (Some c) e = let same : b ≡ c = omega arith in ap Some same
 
 abbrev Commute : AccountClass → AccountClass → ℕ → ℕ → Option ℕ → Type 0
 Commute p q n k s =

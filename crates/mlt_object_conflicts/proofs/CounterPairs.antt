@@ -5,6 +5,7 @@ use Rattle.mlt_object_kinds.specs.declared.counter.CounterOp.{CounterOp}
 use Rattle.mlt_object_kinds.specs.declared.counter.CounterOp.TheVariants.{Up, Down, Read}
 use Rattle.mlt_object_kinds.specs.declared.operation.ObjReply.{ObjReply}
 use Rattle.mlt_object_kinds.specs.declared.operation.ObjReply.TheVariants.{Done, Is}
+use Rattle.mlt_object_kinds.specs.CounterLaws.{below}
 use Rattle.mlt_object_conflicts.specs.declared.counters.CounterClass.{CounterClass}
 use Rattle.mlt_object_conflicts.specs.declared.counters.CounterClass.TheVariants as class
 use Rattle.mlt_object_conflicts.specs.CounterTable.{counter_class, counter_marks}
@@ -51,9 +52,6 @@ fitting o r s =
 
 pub counter_has_rows : HasRows counter_class IsLegal next_of amount Fits Legal after
 counter_has_rows = record { into = λ o r s. (fitting o r s).0; from = λ o r s. (fitting o r s).1; next = λ o r s. (fitting o r s).2 }
-
-below : (s : ℕ) → s % 2 ^ 64 < 2 ^ 64
-below s = omega arith
 
 -- sums modulo 2^64 may be taken in either order
 either_order : (s n k : ℕ) → ((s + n) % 2 ^ 64 + k) % 2 ^ 64 ≡ ((s + k) % 2 ^ 64 + n) % 2 ^ 64

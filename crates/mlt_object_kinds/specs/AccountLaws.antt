@@ -69,11 +69,11 @@ account_one_answer s o r q t u h k =
     (same, sym h.1 ∙ ap (λ r. next_of o r s) same ∙ k.1)
 
 -- a state as a number, 0 where it is absent
-abbrev level : Option ℕ → ℕ
+abbrev pub level : Option ℕ → ℕ
 level None = 0
 level (Some b) = b + 1
 
-level_injective : (s t : Option ℕ) → level s ≡ level t → s ≡ t
+pub level_injective : (s t : Option ℕ) → level s ≡ level t → s ≡ t
 level_injective None None e = refl
 level_injective None (Some c) e = absurd (omega arith)
 level_injective (Some b) None e = absurd (omega arith)

@@ -48,7 +48,7 @@ counter_one_start s u t o r h k = starts o r s u h.0 k.0 (h.1 ∙ sym k.1)
 abbrev Stays : CounterOp → ObjReply → ℕ → Type 0
 Stays o r s = IsLegal o r s → IsCounter s × IsCounter (next_of o r s)
 
-below : (s : ℕ) → s % 2 ^ 64 < 2 ^ 64
+pub below : (s : ℕ) → s % 2 ^ 64 < 2 ^ 64
 below s = omega arith
 
 stays : (o : CounterOp) (r : ObjReply) (s : ℕ) → Stays o r s

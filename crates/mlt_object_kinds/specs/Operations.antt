@@ -6,6 +6,7 @@ use Rattle.mlt_object_kinds.specs.declared.operation.ObjOp.{ObjOp}
 use Rattle.mlt_object_kinds.specs.declared.operation.ObjOp.TheVariants.{Account, Element, Counter, Size}
 use Rattle.mlt_object_kinds.specs.declared.element.ElementOp.TheVariants.{Add, Remove}
 
+-- the cell that an operation is on
 abbrev pub cell_of : ObjOp → Cell
 cell_of (Account a op) = cell.Account a
 cell_of (Element s e op) = cell.Element s e

@@ -33,12 +33,14 @@ counter_op_text c (Up n) = with_number (with_number (codes "up") c) n
 counter_op_text c (Down n) = with_number (with_number (codes "down") c) n
 counter_op_text c Read = with_number (codes "read") c
 
+-- the text of an operation, as a script has it
 abbrev pub op_text : ObjOp → List ℕ
 op_text (Account a op) = account_op_text a op
 op_text (Element s e op) = element_op_text s e op
 op_text (Counter c op) = counter_op_text c op
 op_text (Size s) = with_number (codes "size") s
 
+-- the text of a reply, as a trace has it
 abbrev pub reply_text : ObjReply → List ℕ
 reply_text Opened = codes "opened"
 reply_text Exists = codes "exists"

@@ -14,6 +14,7 @@ pub record Locks : Type 0 where
   pub held : List Held
   pub reserved : List (ℕ × Cell)
 
+-- nothing is held, and nothing reserved
 abbrev pub no_locks : Locks
 no_locks = record { held = []; reserved = [] }
 
@@ -26,12 +27,13 @@ reservation_of (entry ∷ entries) tx = if entry.0 == tx then Some entry.1 else 
 abbrev pub SameReservations : List (ℕ × Cell) → List (ℕ × Cell) → ℕ → Type 0
 SameReservations before after tx = (other : ℕ) → other ≢ tx → reservation_of after other ≡ reservation_of before other
 
--- another transaction, of this number, holds an operation with which the requested one conflicts
+-- another transaction, of this number, holds an operation with which the requested one clashes
 abbrev pub HoldsClash : List Held → ℕ → ObjOp × ObjReply → ℕ → Type 0
 HoldsClash held tx requested holder =
     (holder ≢ tx) × ((earlier : ObjOp × ObjReply) × Contains held (holder, earlier) × IsTrue (clashes earlier requested))
 
--- this is the lowest such number
+-- the lowest number of another transaction that holds an operation with which the requested one
+-- clashes
 abbrev pub IsLowestClash : List Held → ℕ → ObjOp × ObjReply → ℕ → Type 0
 IsLowestClash held tx requested holder =
     HoldsClash held tx requested holder × ((other : ℕ) → HoldsClash held tx requested other → holder ≤ other)

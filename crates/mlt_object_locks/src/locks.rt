@@ -11,7 +11,7 @@ use crate::cells::{
 };
 use crate::held::HeldList;
 use crate::noted::Noted;
-use crate::places::{is_in_range, looked_at, places_if_any, places_of};
+use crate::places::{looked_at, places_if_any, places_of};
 use crate::reserved::Reserved;
 use indexmap::IndexMap;
 use mlt_object_kinds::Done;
@@ -104,7 +104,7 @@ impl ObjectLocks {
         ensures err { OnErr result (self.new ≡ self.old) }
     {
         let cell = done.cell();
-        is_in_range(&cell);
+        cell.is_in_range();
         let looked = looked_at(&done.op());
         if let Some(holder) = lowest_clash(&self.cells, looked.as_slice(), self.latest, tx, done) {
             return Err(holder);

@@ -4,8 +4,8 @@
 //! looks whoever asks for the set's size. Those that asked for the size stand at the key of the size's cell, and there
 //! looks, beside its own cell, an operation on an element. So neither goes over its like, with which it never clashes.
 
-ghost use Rattle.std.specs.Prelude.{◌≡◌, ◌<◌, ◌^◌};
-ghost use Rattle.mlt_types.specs.Cells.{IsInRange, key_number};
+ghost use Rattle.std.specs.Prelude.{◌≡◌};
+ghost use Rattle.mlt_types.specs.Cells.{key_number};
 ghost use Rattle.mlt_object_locks.specs.Places.{looked_at, place_of_set, places_if_any, places_of};
 
 use arrayvec::ArrayVec;
@@ -68,26 +68,3 @@ fn number_of(cell: &Cell) -> u64
 {
     Key::of(cell).number()
 }
-
-/// What the types of its numbers say of a cell.
-pub(crate) fn is_in_range(cell: &Cell)
-    ensures { IsInRange cell.now }
-{
-    match *cell {
-        Cell::Account(account) => has_32_bits(account),
-        Cell::Counter(counter) => has_32_bits(counter),
-        Cell::Element(set, element) => {
-            has_16_bits(set);
-            has_32_bits(element);
-        },
-        Cell::Size(set) => has_16_bits(set),
-    }
-}
-
-fn has_16_bits(number: u16)
-    ensures { number < 2 ^ 16 }
-{}
-
-fn has_32_bits(number: u32)
-    ensures { number < 2 ^ 32 }
-{}

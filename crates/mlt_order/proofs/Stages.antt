@@ -12,7 +12,7 @@ use Rattle.mlt_order.proofs.RunLemmas.{contains-first, contains-later, contains-
 use Rattle.mlt_order.proofs.Parts.{items_of-same, items_of-other}
 use Rattle.mlt_order.proofs.Tables.{changed}
 
-contains-one : {X : Type 0} (x y : X) → Contains (x ∷ []) y → x ≡ y
+pub contains-one : {X : Type 0} (x y : X) → Contains (x ∷ []) y → x ≡ y
 contains-one x y h =
     let first : h.0 ≡ 0 = omega (arith, h.1) in
     subst (λ k. slice_index_or (x ∷ []) k y ≡ y) first h.2

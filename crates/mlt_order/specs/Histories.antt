@@ -83,7 +83,9 @@ abbrev pub CommutesWithOthers : {S P : Type 0} → (S → P → S → Type 0) �
 CommutesWithOthers {S} {P} step held i item =
     (j : ℕ) (earlier : P) → j ≢ i → Contains (held j) earlier → RightCommutesBackward step earlier item
 
--- the entry may come, and leads from one state to another
+-- An entry may come, and leads from one state to another: who begins has not begun; who does an
+-- item, commits or is closed is running; an item right commutes backward with all that others hold;
+-- what is taken back was the last; and who is closed has no item left.
 abbrev pub MayCome : {S P : Type 0} → (S → P → S → Type 0) → Lists P → S → Entry P → S → Type 0
 -- a number is given out once
 MayCome step lists before (Begun i) after = (lists.stage i ≡ Stage.Fresh) × (before ≡ after)

@@ -3,7 +3,7 @@
 use Rattle.std.specs.Prelude.{ℕ, List, slice_set}
 use Rattle.mlt_page.specs.declared.slot.Slot.{Slot}
 
--- the depth of the directory, and the places of its pages
+-- the depth of the directory, and the numbers of its pages
 pub record HeadFields : Type 0 where
   pub depth : ℕ
   pub dirs : List ℕ

@@ -103,12 +103,18 @@ no_holder-released table tx = grind (arith, nat_tests, get_removed table.held tx
 pub among_released : (table : LockTable) (tx : ℕ) (opens : List ℕ) → HoldersAreAmong table opens → HoldersAreAmong (released table tx) opens
 among_released table tx opens among u holds = grind (arith, nat_tests, get_removed table.held tx u, among u)
 
-not_some : {X : Type 0} (o : Option X) → ¬ (is_some o ≡ true) → o ≡ None
+pub not_some : {X : Type 0} (o : Option X) → ¬ (is_some o ≡ true) → o ≡ None
 not_some None h = refl
 not_some (Some x) h = absurd (h refl)
 
+-- nothing is stronger than an exclusive lock
+pub stronger_exclusive : (held : Option Mode) → stronger held Exclusive ≡ Exclusive
+stronger_exclusive None = refl
+stronger_exclusive (Some Shared) = refl
+stronger_exclusive (Some Exclusive) = refl
+
 -- a map whose keys stand in a list has no more entries than the list
-keys_within : {X : Type 0} (numbers : List ℕ) (m : map.FinMap nat_cmp X) → ((k : ℕ) → is_some (map.get m k) ≡ true → list_any (λ n. eqb n k) numbers ≡ true) → map.len m ≤ length numbers
+pub keys_within : {X : Type 0} (numbers : List ℕ) (m : map.FinMap nat_cmp X) → ((k : ℕ) → is_some (map.get m k) ≡ true → list_any (λ n. eqb n k) numbers ≡ true) → map.len m ≤ length numbers
 keys_within {X = X} [] m within =
     let none : m ≡ map.empty = same_entries m map.empty (λ q. not_some (map.get m q) (λ some. false≢true (within q some)) ∙ sym (map.get-empty {X = X} nat_cmp q)) in
     grind (arith, ap map.len none, map.len-empty nat_cmp X)

@@ -47,7 +47,7 @@ count (Some page ∷ slots) k =
 pub pages_counted : (slab : Slab Page) → map.len (pages_of slab) ≡ slab_len slab
 pages_counted slab = count slab.slots 0
 
-same_pages : (a b : Pages) → ((q : ℕ) → page_at a q ≡ page_at b q) → a ≡ b
+pub same_pages : (a b : Pages) → ((q : ℕ) → page_at a q ≡ page_at b q) → a ≡ b
 same_pages a b same = map.same_map nat_cmp_total map.nat_cmp-IsAntisymmetric a b same
 
 pub page_put : (old new : Slab Page) (key : ℕ) (page : Page) → Updates old new key (Some page) → pages_of new ≡ map.insert (pages_of old) key page

@@ -18,6 +18,7 @@ Pages = map.FinMap nat_cmp Page
 abbrev pub page_at : Pages → ℕ → Option Page
 page_at pages number = map.get pages number
 
+-- a store: its pages by their numbers, and how many there may be
 pub record PageStore : Type 0 where
   pub pages : Pages
   pub max_pages : ℕ

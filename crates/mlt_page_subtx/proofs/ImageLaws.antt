@@ -8,7 +8,8 @@ use Rattle.std.proofs.lemmas.Bool.{eqb-true, false≢true}
 use Rattle.std.proofs.lemmas.Bool.Decides.{nat_tests}
 use Rattle.mlt_page.specs.declared.page.Page.{Page}
 use Rattle.mlt_page_store.specs.Stores.{Pages, page_at}
-use Rattle.mlt_page_locks.proofs.Maps.{get_inserted, get_removed, same_entries}
+use Rattle.mlt_page_store.proofs.Numbered.{same_pages}
+use Rattle.mlt_page_locks.proofs.Maps.{get_inserted, get_removed}
 use Rattle.mlt_page_subtx.specs.Images.{Images, image_of, or_image, with_first, with_firsts, with_new, with_image, put_back, AreThere}
 
 pub page_at-with_first : (pages : Pages) (k : ℕ) (first : Option Page) (q : ℕ) → page_at (with_first pages k first) q ≡ cond (eqb q k) first (page_at pages q)
@@ -28,10 +29,6 @@ page_at-with_firsts (e ∷ es) pages q =
 -- a page with an image has its image, and any other what it had
 pub page_at-put_back : (images : Images) (pages : Pages) (q : ℕ) → page_at (put_back images pages) q ≡ or_image (image_of images q) (page_at pages q)
 page_at-put_back images pages q = page_at-with_firsts (map.entries images) pages q ∙ ap (λ o. or_image o (page_at pages q)) (sym (map.get-entries images q))
-
--- two stores of pages that have the same in each are equal
-pub same_pages : (a b : Pages) → ((q : ℕ) → page_at a q ≡ page_at b q) → a ≡ b
-same_pages = same_entries
 
 -- without images nothing is put back
 pub put_back-none : (pages : Pages) → put_back map.empty pages ≡ pages

@@ -11,10 +11,11 @@ use Rattle.std.proofs.lemmas.Bool.{false≢true}
 use Rattle.std.proofs.lemmas.Bool.Decides.{nat_tests}
 use Rattle.mlt_page.specs.declared.page.Page.{Page}
 use Rattle.mlt_page_store.specs.Stores.{PageStore, Pages, page_at}
+use Rattle.mlt_page_store.proofs.Numbered.{same_pages}
 use Rattle.mlt_page_locks.proofs.Maps.{get_inserted, same_entries}
 use Rattle.mlt_page_subtx.specs.declared.image.Image.{Image}
 use Rattle.mlt_page_subtx.specs.Images.{image_of, with_first, put_back, AreThere}
-use Rattle.mlt_page_subtx.proofs.ImageLaws.{not_there, page_at-put_back, page_at-with_first, same_pages, put_back-none}
+use Rattle.mlt_page_subtx.proofs.ImageLaws.{not_there, page_at-put_back, page_at-with_first, put_back-none}
 use Rattle.mlt_page_subtx.specs.ImageLists.{images_in, images_of, IsKept}
 
 -- whether an image is of page q

@@ -1,21 +1,17 @@
 -- Locks of small numbers are few.
-use Rattle.std.proofs.Common.{◌≡◌, ℕ, zero, suc, ◌≤◌, ◌<◌, ◌+◌, true, Option, Some, None, is_some, refl, sym, ap, subst, ◌∙◌, arith}
+use Rattle.std.proofs.Common.{◌≡◌, ℕ, zero, suc, ◌≤◌, ◌<◌, ◌+◌, true, is_some, sym, ap, subst, ◌∙◌, arith}
 use Rattle.std.specs.Ordering.{nat_cmp}
 use Rattle.std.specs.Cmp.{nat_cmp_total}
 use Rattle.std.specs.FinMap as map
 use Rattle.std.proofs.lemmas.Bool.Decides.{nat_tests}
 use Rattle.mlt_types.specs.declared.mode.Mode.{Mode}
 use Rattle.mlt_page_locks.proofs.Maps.{get_inserted, get_removed, same_entries}
-use Rattle.mlt_page_locks.proofs.LockLaws.{can_read-granted, can_read-released}
+use Rattle.mlt_page_locks.proofs.LockLaws.{can_read-granted, can_read-released, not_some}
 use Rattle.mlt_page_locks.specs.LockTables.{no_locks, Modes, LockTable, pages_of, HasAtMost}
 use Rattle.mlt_page_locks.specs.Requests.{Answers, granted, released, with_page}
 use Rattle.mlt_page_locks.specs.declared.page_locks.Grant.{Grant}
 use Rattle.mlt_page_locks.specs.declared.page_locks.Grant.TheVariants.{Held, Waiting}
 use Rattle.mlt_page_tests.specs.Desks.{IsSmall, IsOfSmallNumbers}
-
-not_some : {X : Type 0} (o : Option X) → ¬ (is_some o ≡ true) → o ≡ None
-not_some None h = refl
-not_some (Some x) h = absurd (h refl)
 
 -- a map whose keys are below n, or so far above b, has at most twice n entries
 keys_within : {X : Type 0} (n b : ℕ) (m : map.FinMap nat_cmp X) → ((k : ℕ) → is_some (map.get m k) ≡ true → n ≤ k → (b ≤ k) × (k < b + n)) → map.len m ≤ n + n

@@ -143,7 +143,7 @@ abbrev pub fixed : Asking → List Word → Option (ObjOp × List Word)
 fixed (Fixed op) rest = Some (op, rest)
 fixed (By op l) rest = None
 
--- an OP whose amount, if it has one, is a number
+-- the operation that a list of words begins with, its amount a number, and the words after it
 unfoldable pub op_at : List Word → Option (ObjOp × List Word)
 op_at words = do
   k ← key_at words
@@ -181,7 +181,7 @@ unfoldable pub reply_after : Keyword → List Word → Option (ObjReply × List 
 reply_after key.Is rest = value_at rest
 reply_after keyword rest = with_reply rest (reply_word keyword)
 
--- the text of a reply: a word, or is v
+-- the reply that a list of words begins with, a word or `is v`, and the words after it
 unfoldable pub reply_at : List Word → Option (ObjReply × List Word)
 reply_at words = do
   k ← key_at words

@@ -102,7 +102,7 @@ AreOpen raws scripts client o =
     × AreLawful raws
     × AreSpelledOpen scripts client o (forms_of raws)
 
--- the text is just these scripts
+-- the text writes just these scripts: each line is blank, a comment or one of the forms
 abbrev pub Spells : List ℕ → List ScriptForm → Type 0
 Spells text scripts = AreWhole (lines text) scripts
 
@@ -160,6 +160,7 @@ abbrev pub IsFirstFaultOf : List Raw → ℕ → ScriptCause → Type 0
 IsFirstFaultOf raws line fault = (before : List Raw) × (raw : Raw) × (after : List Raw)
     × (raws ≡ before ++ raw ∷ after) × (line ≡ length before + 1) × IsFault before raw after fault
 
+-- the first line at which a text stops being scripts, counted from 1, and why
 abbrev pub IsFirstFault : List ℕ → ℕ → ScriptCause → Type 0
 IsFirstFault text line fault = IsFirstFaultOf (lines text) line fault
 

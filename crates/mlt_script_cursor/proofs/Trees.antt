@@ -1,5 +1,5 @@
 -- The lines of a tree ask what the tree asks.
-use Rattle.std.proofs.Common.{◌≡◌, ℕ, suc, List, [], ◌∷◌, ◌++◌, Bool, true, false, cond, refl, sym, ap, ◌∙◌, append_assoc}
+use Rattle.std.proofs.Common.{◌≡◌, ℕ, suc, List, [], ◌∷◌, ◌++◌, Bool, true, false, cond, refl, sym, ap, ◌∙◌}
 use Rattle.std.proofs.lemmas.List.{append-nil}
 use Rattle.mlt_script_tree.specs.declared.statement.Line.{Line}
 use Rattle.mlt_script_tree.specs.declared.statement.Line.TheVariants as line
@@ -8,16 +8,13 @@ use Rattle.mlt_script_tree.specs.declared.statement.Ending.TheVariants.{Abort}
 use Rattle.mlt_script_cursor.specs.declared.skipping.Skipping.TheVariants.{Nowhere, ToElse, ToEnd}
 use Rattle.mlt_script_tree.specs.Blocks.{Block, lines_of}
 use Rattle.mlt_script_tree.specs.Blocks.Block.{Nothing, Then, If}
+use Rattle.mlt_script_tree.specs.TreeLaws.{regroup}
 use Rattle.mlt_script_cursor.specs.Follows.{Questions, Variables, questions, asked, asked_by, goes_on, set_by, is_wanted}
 use Rattle.mlt_script_cursor.specs.Follows.Questions.{Ends, Asks}
 use Rattle.mlt_script_cursor.specs.Runs.{run}
 
 ext : {A : Type 0} {B : Type 0} (f g : A → B) → ((x : A) → f x ≡ g x) → f ≡ g
 ext f g h = λ i. λ x. h x i
-
-regroup : (first second : List Line) (e f : Line) (rest more : List Line) → (first ++ e ∷ (second ++ f ∷ rest)) ++ more ≡ first ++ e ∷ (second ++ f ∷ (rest ++ more))
-regroup first second e f rest more =
-    append_assoc first (e ∷ (second ++ f ∷ rest)) more ∙ ap (λ (xs : List Line). first ++ e ∷ xs) (append_assoc second (f ∷ rest) more)
 
 -- a part is skipped whole
 skips_else : (b : Block) (more : List Line) (n : ℕ) (vs : Variables) (end : Ending) → run (lines_of b ++ more) (ToElse n) vs end ≡ run more (ToElse n) vs end

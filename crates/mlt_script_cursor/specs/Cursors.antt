@@ -5,6 +5,7 @@ use Rattle.mlt_script_cursor.specs.declared.skipping.Skipping.TheVariants.{Nowhe
 use Rattle.mlt_script_cursor.specs.Follows.{Questions}
 use Rattle.mlt_script_cursor.specs.Runs.{run}
 
+-- what a script still asks, from the cursor on
 abbrev pub questions_of : Cursor → Questions
 questions_of c = run (drop c.at c.lines.now) Nowhere c.variables c.ending
 

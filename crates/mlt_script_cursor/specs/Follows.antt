@@ -107,6 +107,7 @@ questions (If a w first second rest) vs after =
     then questions first vs (λ us. questions rest us after)
     else questions second vs (λ us. questions rest us after))
 
+-- what a script asks, up to its ending
 abbrev pub questions_of_script : ScriptForm → Questions
 questions_of_script s = questions s.block no_values (λ vs. Ends s.ending)
 
@@ -128,13 +129,14 @@ IsPartial s t = (more : Transcript) × (end : Ending) × Follows s (t ++ more) e
 abbrev pub AsksAtMost : ℕ → Questions → Type 0
 AsksAtMost most p = (t : Transcript) (q : Questions) → Reaches p t q → length t ≤ most
 
--- what comes next of these questions
+-- what comes next of these questions: the operation that they ask, or their ending
 abbrev pub IsNext : Next → Questions → Type 0
 IsNext (next.Op o) (Asks op after) = o ≡ op
 IsNext next.Commit (Ends e) = e ≡ Commit
 IsNext next.Abort (Ends e) = e ≡ Abort
 IsNext n p = ⊥
 
+-- these questions ask an operation: they are not at their end
 abbrev pub IsAsking : Questions → Type 0
 IsAsking (Asks op after) = Unit {0}
 IsAsking (Ends e) = ⊥

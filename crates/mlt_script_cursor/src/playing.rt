@@ -23,7 +23,7 @@ pub fn play<A: Answering>(
 ) -> Result<Ending, Refusal>
     requires empty { done.old.items ≡ [] }
     requires room { AsksAtMost (vec_capacity done.old) (questions_of_script script.now) }
-    ensures { PlaysAt A.answers script.now tx desk.old done.new.items result desk.new }
+    ensures { PlaysAt A.moves script.now tx desk.old done.new.items result desk.new }
 {
     let mut cursor = Cursor::new(script);
     while let Next::Op(op) = cursor.next() {

@@ -18,6 +18,7 @@ use Rattle.mlt_script_print.specs.Printing.{as_line, begin_text, second_part, bl
 use Rattle.mlt_script_print.specs.Ranges.{FitsLine}
 use Rattle.mlt_script.specs.Readings.{reading}
 use Rattle.mlt_script_tree.specs.Scripts.{ScriptForm, IsScript}
+use Rattle.mlt_script_tree.specs.TreeLaws.{regroup}
 use Rattle.mlt_text_words.specs.Fronts.{is_printable}
 use Rattle.mlt_text_words.proofs.Cutting.{line_cut}
 use Rattle.mlt_script_print.proofs.Rereading.{line_again, line_printable, begin_again, ending_again}
@@ -76,11 +77,6 @@ spelled (If a w first Nothing rest) = (written first, [], written rest, spelled 
 spelled (If a w first (Then s more) rest) = (written first, written (Then s more), written rest, spelled first, spelled (Then s more), spelled rest, inl refl)
 spelled (If a w first (If b v one two more) rest) =
     (written first, written (If b v one two more), written rest, spelled first, spelled (If b v one two more), spelled rest, inl refl)
-
--- what is written of a block's lines
-regroup : (first second : List Line) (e f : Line) (rest more : List Line) → (first ++ e ∷ (second ++ f ∷ rest)) ++ more ≡ first ++ e ∷ (second ++ f ∷ (rest ++ more))
-regroup first second e f rest more =
-    append_assoc first (e ∷ (second ++ f ∷ rest)) more ∙ ap (λ (xs : List Line). first ++ e ∷ xs) (append_assoc second (f ∷ rest) more)
 
 at_else : (b : Block) (tail : List Line) (after : List ℕ) → shown (lines_of b ++ line.End ∷ tail) ≡ block_text b ++ after → shown (line.Else ∷ (lines_of b ++ line.End ∷ tail)) ≡ second_part b (block_text b) ++ after
 at_else Nothing tail after h = h

@@ -32,6 +32,8 @@ block_text (If a w first second rest) =
 abbrev pub script_text : ScriptForm → List ℕ
 script_text s = as_line (begin_text s.client) ++ (block_text s.block ++ as_line (ending_text s.ending))
 
+-- The lines of scripts, with one space between words: `begin` alone for client 0, and no else
+-- before an empty part.
 abbrev pub scripts_text : List ScriptForm → List ℕ
 scripts_text = flat_map script_text
 

@@ -31,6 +31,7 @@ FitsCounter (counter.Up n) = n < 2 ^ 64
 FitsCounter (counter.Down n) = n < 2 ^ 64
 FitsCounter counter.Read = Unit {0}
 
+-- the numbers of the operation are those of their types
 abbrev pub FitsOp : ObjOp → Type 0
 FitsOp (Account a op) = (a < 2 ^ 32) × FitsAccount op
 FitsOp (Element s e op) = (s < 2 ^ 16) × (e < 2 ^ 32)
@@ -47,6 +48,7 @@ abbrev pub FitsAsking : Asking → Type 0
 FitsAsking (Fixed op) = FitsOp op
 FitsAsking (By op l) = FitsAmount op
 
+-- the number of the reply, if it has one, has 64 bits
 abbrev pub FitsReply : ObjReply → Type 0
 FitsReply (Is v) = v < 2 ^ 64
 FitsReply r = Unit {0}

@@ -31,6 +31,8 @@ abbrev pub mark_of_end : Transcript → End → Option (ℕ × Refusal)
 mark_of_end t (Refused refusal) = Some (length t, refusal)
 mark_of_end t end = None
 
+-- the mark of an outcome, if its script was refused: how many replies it was told before, and the
+-- refusal
 abbrev pub mark_of : Outcome → Option (ℕ × Refusal)
 mark_of o = mark_of_end o.done o.end
 

@@ -14,7 +14,7 @@ pub(crate) struct BaseDesk {
 impl Answering for BaseDesk {
     ghost use Rattle.mlt_script_serial.specs.Answering.{AnswersOf};
 
-    ghost answers = { λ old tx op answer new. AnswersOf old.base op answer new.base };
+    ghost moves = { λ old call answer new. AnswersOf old.base call answer new.base };
 
     fn operation(&mut self, _tx: TxId, op: ObjOp) -> Result<ObjReply, Refusal> {
         self.base.apply(&op)

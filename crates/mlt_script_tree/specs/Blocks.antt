@@ -31,7 +31,7 @@ join Nothing more = more
 join (Then s rest) more = Then s (join rest more)
 join (If a w first second rest) more = If a w first second (join rest more)
 
--- its lines as a script keeps them: each if with its else and its end
+-- the lines of statements as a script keeps them: each if with its else and its end
 abbrev pub lines_of : Block → List Line
 lines_of Nothing = []
 lines_of (Then s rest) = line.Plain s ∷ lines_of rest

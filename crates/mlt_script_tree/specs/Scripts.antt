@@ -7,6 +7,7 @@ use Rattle.mlt_script_tree.specs.Blocks.{Block, longest, nesting, Open, grow}
 use Rattle.mlt_script_tree.specs.Blocks.Block.{Nothing, Then, If}
 use Rattle.mlt_script_tree.specs.Blocks.Open.{Top, InFirst, InSecond}
 
+-- a script: the number of its client, its statements, and whether it ends in a commit or an abort
 pub record ScriptForm : Type 0 where
   pub client : ℕ
   pub block : Block

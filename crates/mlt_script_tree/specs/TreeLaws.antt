@@ -33,7 +33,7 @@ grow_twice (Top b) c d = ap Top (join_assoc b c d)
 grow_twice (InFirst o a w first) c d = ap (InFirst o a w) (join_assoc first c d)
 grow_twice (InSecond o a w first second) c d = ap (InSecond o a w first) (join_assoc second c d)
 
-regroup : (first second : List Line) (e f : Line) (rest more : List Line)
+pub regroup : (first second : List Line) (e f : Line) (rest more : List Line)
     → (first ++ e ∷ (second ++ f ∷ rest)) ++ more ≡ first ++ e ∷ (second ++ f ∷ (rest ++ more))
 regroup first second e f rest more =
     append_assoc first (e ∷ (second ++ f ∷ rest)) more

@@ -16,7 +16,7 @@ pub record GrowsFor (client : ℕ) (before after : List Outcome) : Type 0 where
 abbrev pub IsOfClient : ℕ → Outcome → Type 0
 IsOfClient limit o = (1 ≤ o.client) × (o.client ≤ limit)
 
--- so is each of these
+-- each receipt is that of one of the first connections, which have the numbers from 1 to the limit
 abbrev pub AreOfClients : ℕ → List Outcome → Type 0
 AreOfClients limit receipts = All (IsOfClient limit) receipts
 
@@ -24,6 +24,7 @@ AreOfClients limit receipts = All (IsOfClient limit) receipts
 abbrev pub MayPrecede : Outcome → Outcome → Type 0
 MayPrecede one other = (one.client < other.client) ⊎ ((one.client ≡ other.client) × (one.number ≤ other.number))
 
--- each may precede all that stand behind it
+-- each receipt is of an earlier client than any that stands behind it, or of the same one with no
+-- greater number
 abbrev pub AreByClientAndNumber : List Outcome → Type 0
 AreByClientAndNumber receipts = AllPairs MayPrecede receipts

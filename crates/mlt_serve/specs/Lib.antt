@@ -1,3 +1,3 @@
 pub mod Clients
-pub mod Crews
+pub mod Threads
 pub mod Endings

@@ -12,9 +12,9 @@ use std::net::{TcpListener, TcpStream};
 use std::sync::Wait;
 use std::sync::atomic::{AtomicBool, Ordering};
 
-/// A connection.
+/// A connection that was accepted.
 #[derive(Drop)]
-pub(crate) struct Visit {
+pub(crate) struct Connection {
     /// Its number among those accepted, from 1.
     pub(crate) client: u32,
     pub(crate) stream: TcpStream,
@@ -47,7 +47,7 @@ impl Accepting {
     }
 }
 
-/// The next connection. One that broke off before it was accepted is passed over, so that its accept is tried again.
+/// The next connection. One that broke off before it was accepted is skipped: its accept is tried again.
 ///
 /// # Errors
 /// Where an accept fails for any other reason.
@@ -68,7 +68,7 @@ fn next_stream<R: Wait>(rt: &R, listener: &TcpListener) -> io::Result<TcpStream>
 pub(crate) fn accept_all<R: Wait>(
     rt: &R,
     listener: &TcpListener,
-    visits: Sender<Visit, Global>,
+    connections: Sender<Connection, Global>,
     is_short: &AtomicBool,
     limit: u32,
 ) -> Accepting {
@@ -77,7 +77,7 @@ pub(crate) fn accept_all<R: Wait>(
             return Accepting::Failed;
         };
         let client = before + 1;
-        let sent = visits.send(rt, Visit { client, stream });
+        let sent = connections.send(rt, Connection { client, stream });
         if sent.is_err() || is_short.load(Ordering::SeqCst) {
             return Accepting::Short;
         }

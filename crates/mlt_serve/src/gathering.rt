@@ -1,36 +1,36 @@
-//! What all threads have served, put together.
+//! What all session threads have served, put together.
 
 ghost use Rattle.std.specs.Prelude.{◌≡◌, ◌+◌, ◌-◌, ◌*◌, ◌^◌, ◌≤◌, ◌++◌, [], IfOk, IsPermutation, false, min, vec_len};
-ghost use Rattle.mlt_serve.specs.Crews.{AllHaveMemory, all_receipts};
+ghost use Rattle.mlt_serve.specs.Threads.{AllHaveMemory, all_receipts};
 
-use crate::desk_work::Served;
+use crate::session_thread::SessionThread;
 use mlt_script_serial::Outcome;
 use std::alloc::{AllocError, Global};
 use std::mem;
 use std::sync::ledger::{Ledger, Share};
 
-/// Who is to serve: so many that have served nothing yet, each with two parts of the ledger.
+/// So many session threads that have served nothing yet, each with two parts of the ledger.
 ///
 /// # Errors
 /// Where a growth is refused.
-pub(crate) fn new_crew<L: Ledger>(
+pub(crate) fn new_threads<L: Ledger>(
     alloc: Global,
     all: &mut Share<L>,
     sessions: usize,
-) -> Result<Vec<Served<L>>, AllocError>
+) -> Result<Vec<SessionThread<L>>, AllocError>
     requires most { sessions ≤ 64 }
     requires parts { all.old.parts ≡ 129 }
     requires amount { all.old.amount ≡ 0 }
-    ensures len { IfOk result (λ crew. vec_len crew ≡ sessions) }
+    ensures len { IfOk result (λ threads. vec_len threads ≡ sessions) }
     ensures parts { IfOk result (λ _. all.new.parts + 2 * sessions ≡ 129) }
     ensures amount { IfOk result (λ _. all.new.amount ≡ 0) }
 {
-    let mut crew = Vec::with_capacity(alloc, sessions)?;
+    let mut threads = Vec::with_capacity(alloc, sessions)?;
     for _ in 0..sessions {
         let share = all.split_off(2, 0);
-        crew.push(Served::new(alloc, share))?;
+        threads.push(SessionThread::new(alloc, share))?;
     }
-    Ok(crew)
+    Ok(threads)
 }
 
 /// Puts two lists into one, of which only the shorter one is moved.
@@ -74,23 +74,23 @@ impl Gathered {
     }
 
     /// Takes in what one thread has served, and the whole its share.
-    fn take_in<L: Ledger>(&mut self, all: &mut Share<L>, served: Served<L>)
+    fn take_in<L: Ledger>(&mut self, all: &mut Share<L>, thread: SessionThread<L>)
         requires { self.old.events ≡ min all.old.amount (2 ^ 64 - 1) }
         ensures events { self.new.events ≡ min all.new.amount (2 ^ 64 - 1) }
         ensures parts { all.new.parts ≡ all.old.parts + 2 }
         ensures receipts { self.new.is_short ≡ false
-            → IsPermutation (self.old.receipts.items ++ served.receipts.items)
+            → IsPermutation (self.old.receipts.items ++ thread.receipts.items)
             self.new.receipts.items }
         ensures short { self.new.is_short ≡ false
-            → (self.old.is_short ≡ false) × (served.is_short ≡ false) }
+            → (self.old.is_short ≡ false) × (thread.is_short ≡ false) }
     {
-        let Served {
+        let SessionThread {
             share,
             events,
             receipts,
             connections,
             is_short,
-        } = served;
+        } = thread;
         all.merge(share);
         self.events = self.events.saturating_add(events);
         self.connections = self.connections.saturating_add(connections);
@@ -100,19 +100,23 @@ impl Gathered {
 }
 
 /// Takes in what all threads have served, and the whole their shares. Unless a growth was refused, no receipt is missing.
-pub(crate) fn gather<L: Ledger>(alloc: Global, all: &mut Share<L>, crew: Vec<Served<L>>) -> Gathered
-    requires parts { all.old.parts + 2 * vec_len crew ≡ 129 }
+pub(crate) fn gather<L: Ledger>(
+    alloc: Global,
+    all: &mut Share<L>,
+    threads: Vec<SessionThread<L>>,
+) -> Gathered
+    requires parts { all.old.parts + 2 * vec_len threads ≡ 129 }
     requires amount { all.old.amount ≡ 0 }
     ensures parts { all.new.parts ≡ 129 }
     ensures events { result.events ≡ min all.new.amount (2 ^ 64 - 1) }
     ensures receipts { result.is_short ≡ false
-        → IsPermutation (all_receipts crew.items) result.receipts.items }
-    ensures short { result.is_short ≡ false → AllHaveMemory crew.items }
+        → IsPermutation (all_receipts threads.items) result.receipts.items }
+    ensures short { result.is_short ≡ false → AllHaveMemory threads.items }
 {
-    let mut rest = crew;
+    let mut rest = threads;
     let mut gathered = Gathered::new(alloc);
-    while let Some(served) = rest.pop() {
-        gathered.take_in(all, served);
+    while let Some(thread) = rest.pop() {
+        gathered.take_in(all, thread);
     }
     gathered
 }

@@ -2,17 +2,17 @@
 #![tactic(auto)]
 
 mod accepting;
-mod crew;
-mod desk_work;
+mod admission;
+mod admission_queue;
 mod gathering;
-mod lookout;
-mod parting;
-mod passage;
+mod lingering_close;
 mod reporting;
 mod service;
 mod serving;
+mod session_thread;
+mod session_threads;
 mod socket;
+mod spin_policy;
 mod talking;
-mod turnstile;
 
 pub use serving::serve_on;

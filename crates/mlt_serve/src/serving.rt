@@ -6,16 +6,16 @@ ghost use Rattle.mlt_work_desk.specs.Makings.{making_by};
 ghost use Rattle.mlt_trace_audit.specs.Agreement.{Agrees};
 ghost use Rattle.mlt_serve.specs.Clients.{AreByClientAndNumber, AreOfClients};
 
-use crate::crew::serve_connections;
-use crate::gathering::{gather, new_crew};
-use crate::lookout::Lookout;
+use crate::admission_queue::AdmissionQueue;
+use crate::gathering::{gather, new_threads};
 use crate::reporting::receipts_of;
 use crate::service::Service;
-use crate::turnstile::Turnstile;
+use crate::session_threads::serve_connections;
+use crate::spin_policy::SpinPolicy;
 use mlt_manager::Manager;
 use mlt_script_serial::Outcomes;
 use mlt_types::{Limits, Pseudo, Refusal};
-use mlt_work_desk::{Hall, MadeWith, Shared};
+use mlt_work_desk::{LockedState, MadeWith, Shared};
 use std::alloc::Global;
 use std::marker::Brand;
 use std::net::TcpListener;
@@ -56,20 +56,20 @@ fn serve_with<
         (refusal ≡ Refusal.Io) ⊎ (refusal ≡ Refusal.OutOfMemory) ⊎ (refusal ≡ Refusal.Audit)) }
 {
     let (book, mut all) = blank.open::<L>();
-    let mut crew = new_crew(alloc, &mut all, sessions)?;
+    let mut threads = new_threads(alloc, &mut all, sessions)?;
     let manager = Manager::new(alloc, limits, pseudo)?;
-    let shared = Shared::new(Hall::new(manager, book));
-    let turnstile = Turnstile::new();
-    let lookout = Lookout::new(rt);
+    let shared = Shared::new(LockedState::new(manager, book));
+    let admission_queue = AdmissionQueue::new();
+    let spin_policy = SpinPolicy::new(rt);
     let service = Service {
         shared: &shared,
-        turnstile: &turnstile,
-        lookout: &lookout,
+        admission_queue: &admission_queue,
+        spin_policy: &spin_policy,
         tries,
         idle,
     };
-    let accepting = serve_connections(rt, alloc, listener, &service, &mut crew, limit);
-    let gathered = gather(alloc, &mut all, crew);
+    let accepting = serve_connections(rt, alloc, listener, &service, &mut threads, limit);
+    let gathered = gather(alloc, &mut all, threads);
     let events = gathered.events;
     let manager = shared.close(&mut all);
     match receipts_of(alloc, accepting, gathered, limit, &manager) {

@@ -3,7 +3,7 @@
 ghost use Rattle.std.specs.Prelude.{IfSome};
 ghost use Rattle.std.specs.Io.{ReadsAtMost, WritesAtMost};
 
-use crate::lookout::Lookout;
+use crate::spin_policy::SpinPolicy;
 use std::cell::Cell;
 use std::hint::spin_loop;
 use std::io;
@@ -14,7 +14,7 @@ use std::time::{Clock, Duration, Instant};
 // How often a read looks for bytes before it sleeps, each time by a call of the system: in some ten microseconds.
 const LOOKS: u32 = 50;
 
-// Where a look was in vain so many reads do not look, or twice as many as the time before, up to the most.
+// Where a spin was in vain so many reads do not spin, or twice as many as the time before, up to the most.
 const FIRST_GAP: u32 = 1;
 
 const MOST_GAP: u32 = 64;
@@ -28,14 +28,14 @@ const MOST_GAP: u32 = 64;
 pub(crate) struct Socket<'a, C: Clock> {
     clock: &'a C,
     stream: &'a TcpStream,
-    lookout: &'a Lookout,
+    spin_policy: &'a SpinPolicy,
     /// For how long a read or a write waits, if that has an end.
     idle: Option<Duration>,
     /// Whether a read or a write that can't go on at once waits until it can.
     waits: Cell<bool>,
-    /// How many reads are to come that do not look.
+    /// How many reads are to come that do not spin.
     rest: Cell<u32>,
-    /// How many these are after the next look in vain.
+    /// How many these are after the next spin in vain.
     gap: Cell<u32>,
 }
 
@@ -44,18 +44,18 @@ impl<'a, C: Clock> Socket<'a, C> {
     pub(crate) fn new(
         clock: &'a C,
         stream: &'a TcpStream,
-        lookout: &'a Lookout,
+        spin_policy: &'a SpinPolicy,
         idle: Option<Duration>,
     ) -> Socket<'a, C> {
         // Without this an answer may be held back; where it fails it still comes.
         let _ = stream.set_nodelay(true);
         // Where this fails, a wait has no end; an open socket takes it.
         let _ = put_patience(stream, idle);
-        lookout.enter();
+        spin_policy.enter();
         Socket {
             clock,
             stream,
-            lookout,
+            spin_policy,
             idle,
             waits: Cell::new(true),
             rest: Cell::new(0),
@@ -67,7 +67,7 @@ impl<'a, C: Clock> Socket<'a, C> {
     pub(crate) fn close(self) {
         // Where this fails, what the client still sends is not waited for.
         let _ = self.put_waits(true);
-        self.lookout.leave();
+        self.spin_policy.leave();
     }
 
     /// From now on a read or a write that can't go on at once waits, or it fails.
@@ -79,15 +79,15 @@ impl<'a, C: Clock> Socket<'a, C> {
         Ok(())
     }
 
-    /// Counts a read, and answers whether it is to look.
-    fn is_to_look(&self) -> bool {
+    /// Counts a read, and answers whether it is to spin.
+    fn is_to_spin(&self) -> bool {
         let rest = self.rest.get();
         self.rest.set(rest.saturating_sub(1));
-        rest == 0 && self.lookout.is_open()
+        rest == 0 && self.spin_policy.allows_spinning()
     }
 
     /// What a read gives at one of some looks, if it gives anything but that it would wait.
-    fn look(&self, buf: &mut [u8]) -> Option<io::Result<usize>>
+    fn spin(&self, buf: &mut [u8]) -> Option<io::Result<usize>>
         ensures { IfSome result (λ read. ReadsAtMost read buf.new) }
     {
         let mut stream = self.stream;
@@ -109,8 +109,8 @@ impl<'a, C: Clock> Socket<'a, C> {
     pub(crate) fn read(&self, buf: &mut [u8]) -> io::Result<usize>
         ensures { ReadsAtMost result buf.new }
     {
-        if self.is_to_look() && self.put_waits(false).is_ok() {
-            if let Some(read) = self.look(buf) {
+        if self.is_to_spin() && self.put_waits(false).is_ok() {
+            if let Some(read) = self.spin(buf) {
                 return read;
             }
         }

@@ -111,11 +111,13 @@ said_with (Says request.Other) answer = said.Fault
 said_with TooLong answer = said.Error refusal.LineTooLong
 said_with line answer = said.Told answer
 
+-- what is said of a line: the answer of the desk, or what the line itself calls for
 abbrev pub said_by : Option ℕ → Line → Option Answer → Said
 said_by before line (Some answer) = said_with line answer
 said_by None line None = said_alone line
 said_by (Some tx) line None = said_within line
 
+-- the text of a turn: the line that is said, if one is
 abbrev pub turn_text : Turn → List ℕ
 turn_text t = said_text (said_by t.open_before t.line t.answer)
 

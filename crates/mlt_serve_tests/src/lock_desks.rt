@@ -11,7 +11,7 @@ use mlt_script_serial::End;
 use mlt_test_tools::{FaultyReader, FaultyWriter, same};
 use mlt_trace_audit::audit;
 use mlt_types::{Limits, Mult, Refusal};
-use mlt_work_desk::{Hall, LockDesk, MadeWith, NoGate, Shared, Tries};
+use mlt_work_desk::{LockDesk, LockedState, MadeWith, NoGate, Shared, Tries};
 use std::alloc::Global;
 use std::io::ErrorKind;
 use std::marker::Brand;
@@ -75,7 +75,7 @@ fn talk_over<L: MadeWith<Mult>>(
 {
     let (book, mut all) = blank.open::<L>();
     let share = all.split_off(1, 0);
-    let shared = Shared::new(Hall::of(manager, book, &mut all));
+    let shared = Shared::new(LockedState::of(manager, book, &mut all));
     let mut desk = LockDesk::new(rt, &shared, &NoGate, share, Tries::PerOperation(3));
     let talk = talk_at(alloc, &mut desk, reader, FaultyWriter::new(alloc));
     let (share, _events) = desk.close();

@@ -13,6 +13,7 @@ is_printable byte = nat_le 32 byte && nat_le byte 126
 abbrev pub TextIs : List ℕ → List Word → ℕ → Type 0
 TextIs t ws n = (words_of t ≡ ws) × (list_all is_printable t ≡ true) × (length t ≤ n)
 
+-- whether the text begins with a digit
 abbrev pub begins_with_digit : List ℕ → Bool
 begins_with_digit [] = false
 begins_with_digit (b ∷ bs) = is_digit b

@@ -4,7 +4,7 @@ use Rattle.std.specs.List.{slice_get}
 use Rattle.mlt_text_words.specs.declared.letter.Letter.{Letter}
 use Rattle.mlt_text_words.specs.declared.letter.Letter.TheVariants as letter
 
--- from 0 for a to 25 for z
+-- the place of a letter, from 0 for a to 25 for z
 abbrev pub index_of : Letter → ℕ
 index_of letter.A = 0
 index_of letter.B = 1
@@ -48,5 +48,6 @@ byte_of l = 97 + index_of l
 unfoldable pub letter_of : ℕ → Option Letter
 letter_of byte = if nat_lt byte 97 then None else slice_get all_letters (byte - 97)
 
+-- how a letter is written
 abbrev pub letter_text : Letter → List ℕ
 letter_text l = byte_of l ∷ []

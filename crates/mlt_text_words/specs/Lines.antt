@@ -20,6 +20,7 @@ unfoldable pub lines : List ℕ → List Raw
 lines [] = []
 lines (b ∷ bs) = if is_lf b then record { bytes = []; ended = true } ∷ lines bs else onto b (lines bs)
 
+-- the line without a CR at its end
 abbrev pub without_cr : List ℕ → List ℕ
 without_cr bytes = if nat_lt 0 (length bytes) && (slice_index bytes (length bytes - 1) == 13) then take (length bytes - 1) bytes else bytes
 

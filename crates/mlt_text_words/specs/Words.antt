@@ -10,6 +10,7 @@ use Rattle.mlt_text_words.specs.declared.letter.Letter.{Letter}
 use Rattle.mlt_text_words.specs.Letters.{letter_of}
 use Rattle.mlt_text_words.specs.Numbers.{number_of}
 
+-- how a keyword is written
 abbrev pub spelling : Keyword → List ℕ
 spelling key.Begin = codes "begin"
 spelling key.Commit = codes "commit"
@@ -112,11 +113,12 @@ words_from begun (b ∷ bs) = if is_blank b then word_if begun ++ words_from [] 
 abbrev pub raw_words : List ℕ → List (List ℕ)
 raw_words line = words_from [] line
 
--- of words as their bytes the first, and those after it
+-- the first of some words as their bytes, and those after it
 abbrev pub first_word : List (List ℕ) → Option (List ℕ × List (List ℕ))
 first_word [] = None
 first_word (word ∷ words) = Some (word, words)
 
+-- the words of a line: keywords, letters, numbers and others, separated by spaces and tabs
 unfoldable pub words_of : List ℕ → List Word
 words_of line = map word_of (raw_words line)
 

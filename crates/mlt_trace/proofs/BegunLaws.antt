@@ -14,7 +14,7 @@ at_place x xs y zero within is = inl is
 at_place x xs y (suc k) within is = inr (k, omega arith, is)
 
 -- an element of a list is its first one or one of the others
-first_or_later : {X : Type 0} (x : X) (xs : List X) (y : X) → Contains (x ∷ xs) y → (x ≡ y) ⊎ Contains xs y
+pub first_or_later : {X : Type 0} (x : X) (xs : List X) (y : X) → Contains (x ∷ xs) y → (x ≡ y) ⊎ Contains xs y
 first_or_later x xs y h = at_place x xs y h.0 h.1 h.2
 
 abbrev IsBetween : ℕ → List TraceItem → ℕ → Type 0

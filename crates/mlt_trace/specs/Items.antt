@@ -5,6 +5,7 @@ use Rattle.mlt_object_kinds.specs.Texts.{with_number, done_text}
 use Rattle.mlt_trace.specs.declared.item.TraceItem.{TraceItem}
 use Rattle.mlt_trace.specs.declared.item.TraceItem.TheVariants.{Begin, Op, Back, Commit, Abort}
 
+-- the line of an item
 abbrev pub item_text : TraceItem → List ℕ
 item_text (Begin tx) = with_number (codes "begin") tx
 item_text (Op tx done) = with_number (codes "op") tx ++ 32 ∷ done_text done

@@ -26,6 +26,7 @@ commit_numbers [] = []
 commit_numbers (Commit tx number ∷ items) = number ∷ commit_numbers items
 commit_numbers (_ ∷ items) = commit_numbers items
 
+-- how many transactions were begun, and how many committed
 abbrev pub begin_count : List TraceItem → ℕ
 begin_count items = length (begun_txs items)
 

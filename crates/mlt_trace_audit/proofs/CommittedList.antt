@@ -20,7 +20,8 @@ use Rattle.mlt_trace.specs.Numbers.{AreBegunInOrder, begun_txs, commit_count, co
 use Rattle.mlt_trace.proofs.ItemLaws.{commits_counted, no_commit}
 use Rattle.mlt_trace_check.specs.Traces.{ArePlaced, HasPlace, IsRunning, IsWhole, told}
 use Rattle.mlt_trace_check.proofs.Growing.{append_nil, begun_stays, earlier_or_last, last_one, number_in, stage-other, told-push, transcript-other}
-use Rattle.mlt_trace_check.proofs.Lasting.{runs_begun}
+use Rattle.mlt_trace_check.proofs.Lasting.{one_more, runs_begun}
+use Rattle.mlt_trace_check.proofs.Standing.{was_whole}
 use Rattle.mlt_script_serial.specs.declared.outcome.End.{End}
 use Rattle.mlt_script_serial.specs.declared.outcome.End.TheVariants.{Committed, Aborted, Refused}
 use Rattle.mlt_script_serial.specs.declared.outcome.Outcome.{Outcome}
@@ -29,9 +30,6 @@ use Rattle.mlt_trace_audit.specs.Committed.{AreCommittedOf, CommitFrom, IsBaseOf
 use Rattle.mlt_trace_audit.specs.Receipts.{Closing, IsClosedSo, IsOfHistory, IsWithoutTx, closing_by, closings_of, ops_of}
 use Rattle.mlt_trace_audit.specs.Receipts.Closing.{ByAbort, ByCommit}
 use Rattle.mlt_trace_audit.proofs.Placed.{behind_commit, begun_in, closings_abort, closings_commit, closings_of-append, closings_other, ops_of-append, ops_other, ops_own, stage_at}
-
-abbrev one_more : List TraceItem → TraceItem → List TraceItem
-one_more items item = items ++ item ∷ []
 
 -- ---- one more item
 
@@ -49,9 +47,6 @@ record Stands (items : List TraceItem) (tx : ℕ) : Type 0 where
   ended : (told items).stage tx ≡ Ended → Contains (begun_txs items) tx
   whole : IsWhole items tx → ((told items).stage tx ≡ Ended → ⊥) → (told items).transcripts tx ≡ ops_of tx items
 
-whole_before : (items : List TraceItem) (item : TraceItem) (tx : ℕ) → IsWhole (one_more items item) tx → IsWhole items tx
-whole_before items item tx whole back = whole (Contains-append_left items (item ∷ []) (Back tx) back)
-
 not_both : (stage one other : Stage) → stage ≡ one → stage ≡ other → one ≢ other → ⊥
 not_both stage one other e f apart = apart (sym e ∙ f)
 
@@ -59,7 +54,7 @@ module _ (items : List TraceItem) (tx : ℕ) (stands : Stands items tx) where
   stands_apart : (item : TraceItem) → tx ≢ number_in item → Stands (one_more items item) tx
   stands_apart item apart = record {
     ended = λ e. begun_stays items item tx (stands.ended (sym (stage-other items item tx apart) ∙ e));
-    whole = λ whole going. transcript-other items item tx apart ∙ stands.whole (whole_before items item tx whole) (λ e. going (stage-other items item tx apart ∙ e))
+    whole = λ whole going. transcript-other items item tx apart ∙ stands.whole (was_whole items item tx whole) (λ e. going (stage-other items item tx apart ∙ e))
         ∙ sym (ops_past tx items item (ops_other tx item [] apart));
   }
 
@@ -71,7 +66,7 @@ module _ (items : List TraceItem) (tx : ℕ) (stands : Stands items tx) where
       record {
         ended = λ e. absurd (not_both ((told (one_more items (Begin i))).stage tx) Running Ended
             (subst (λ n. (told (one_more items (Begin i))).stage n ≡ Running) own (stage_at items (Begin i) i Running (changed (told items).stage i Running).0)) e (λ f. cc f));
-        whole = λ whole going. ap (λ (l : Lists (ObjOp × ObjReply)). l.transcripts tx) lists ∙ stands.whole (whole_before items (Begin i) tx whole) fresh ∙ sym (ops_past tx items (Begin i) refl);
+        whole = λ whole going. ap (λ (l : Lists (ObjOp × ObjReply)). l.transcripts tx) lists ∙ stands.whole (was_whole items (Begin i) tx whole) fresh ∙ sym (ops_past tx items (Begin i) refl);
       }
   stands_own (Op i done) own place =
       let lists = told-push items (Op i done) in
@@ -81,7 +76,7 @@ module _ (items : List TraceItem) (tx : ℕ) (stands : Stands items tx) where
         whole = λ whole going.
             subst (λ n. (told (one_more items (Op i done))).transcripts n ≡ ops_of n (one_more items (Op i done))) own
             (ap (λ (l : Lists (ObjOp × ObjReply)). l.transcripts i) lists ∙ (changed (told items).transcripts i _).0
-            ∙ ap (λ l. l ++ done ∷ []) (subst (λ n. (told items).transcripts n ≡ ops_of n items) (sym own) (stands.whole (whole_before items (Op i done) tx whole) (λ e. not_both ((told items).stage tx) Running Ended runs e (λ f. cc f))))
+            ∙ ap (λ l. l ++ done ∷ []) (subst (λ n. (told items).transcripts n ≡ ops_of n items) (sym own) (stands.whole (was_whole items (Op i done) tx whole) (λ e. not_both ((told items).stage tx) Running Ended runs e (λ f. cc f))))
             ∙ sym (ops_of-append i items (Op i done ∷ []) ∙ ap (λ l. ops_of i items ++ l) (ops_own i done [])));
       }
   stands_own (Back i) own place =

@@ -29,7 +29,8 @@ AreOfHistory receipts items = NumbersAgree receipts items × All (IsOfHistory it
 abbrev pub CommitsRise : List Outcome → Type 0
 CommitsRise receipts = All (λ one. All (λ other. RisesTo one other) receipts) receipts
 
--- The receipts are those of the history.
+-- The receipts are those of the history: each number that was begun stands in one of them, with its
+-- operations and its end.
 pub record Agrees (receipts : List Outcome) (items : List TraceItem) : Type 0 where
   pub of_history : AreOfHistory receipts items
   -- those without a number are refused and empty

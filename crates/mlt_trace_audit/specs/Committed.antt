@@ -13,6 +13,7 @@ abbrev pub CommitFrom : ℕ → List Outcome → Type 0
 CommitFrom number [] = Unit {0}
 CommitFrom number (o ∷ os) = (o.end ≡ Committed number) × CommitFrom (number + 1) os
 
+-- the transcripts of receipts, in their order
 abbrev pub transcripts_of : List Outcome → List (List (ObjOp × ObjReply))
 transcripts_of receipts = map (λ o. o.done) receipts
 

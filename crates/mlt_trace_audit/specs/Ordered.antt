@@ -19,6 +19,7 @@ is_told (Commit tx number) = true
 is_told (Abort tx) = true
 is_told other = false
 
+-- how many of the items receipts tell of
 abbrev pub told_count : List TraceItem → ℕ
 told_count items = count_by is_told items
 
@@ -27,5 +28,7 @@ abbrev pub StandsBehind : ℕ → TraceItem → Type 0
 StandsBehind begun (Begin tx) = tx ≡ begun + 1
 StandsBehind begun item = (0 < tx_of item) × (tx_of item ≤ begun)
 
+-- each item stands behind the begins before it: transactions begin under the numbers 1, 2, 3 and so
+-- on
 abbrev pub AreOrdered : List TraceItem → Type 0
 AreOrdered items = (k : ℕ) (item : TraceItem) → slice_get items k ≡ Some item → StandsBehind (begin_count (take k items)) item

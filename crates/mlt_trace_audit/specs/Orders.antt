@@ -3,6 +3,7 @@ use Rattle.std.specs.Prelude.{◌≡◌, ◌⊎◌, ℕ, ◌<◌, List, Some, sl
 use Rattle.mlt_script_serial.specs.declared.outcome.End.TheVariants.{Committed}
 use Rattle.mlt_script_serial.specs.declared.outcome.Outcome.{Outcome}
 
+-- a receipt whose end is a commit
 abbrev pub IsCommitted : Outcome → Type 0
 IsCommitted o = (number : ℕ) × (o.end ≡ Committed number)
 

@@ -1,5 +1,5 @@
 -- What one more item makes of what the items tell.
-use Rattle.std.proofs.Common.{◌≡◌, ◌≢◌, ◌⊎◌, ℕ, List, [], ◌∷◌, ◌++◌, Contains, refl, sym, ap, subst, ◌∙◌, inl, inr, slice_index_or, arith}
+use Rattle.std.proofs.Common.{◌≡◌, ◌≢◌, ◌⊎◌, ℕ, List, [], ◌∷◌, ◌++◌, Contains, refl, sym, ap, subst, ◌∙◌, inl, inr}
 use Rattle.std.proofs.lemmas.List.Elements.{Contains-append_cases, Contains-append_left, Contains-append_right}
 use Rattle.mlt_object_kinds.specs.declared.operation.ObjOp.{ObjOp}
 use Rattle.mlt_object_kinds.specs.declared.operation.ObjReply.{ObjReply}
@@ -8,6 +8,7 @@ use Rattle.mlt_order.specs.Histories.Stage.{Running, Ended}
 use Rattle.mlt_order.proofs.Growing.{after_entries-push}
 use Rattle.mlt_order.proofs.RunLemmas.{contains-first}
 use Rattle.mlt_order.proofs.Tables.{changed}
+use Rattle.mlt_order.proofs.Stages.{contains-one}
 use Rattle.mlt_trace.specs.declared.item.TraceItem.{TraceItem}
 use Rattle.mlt_trace.specs.declared.item.TraceItem.TheVariants.{Begin, Op, Back, Commit, Abort}
 use Rattle.mlt_trace.specs.Entries.{entry_of, entries_of}
@@ -61,16 +62,11 @@ append_nil (x ∷ xs) = ap (λ ys. x ∷ ys) (append_nil xs)
 pub no_commit : (items : List TraceItem) (item : TraceItem) → committed_txs (item ∷ []) ≡ [] → committed_txs (items ++ item ∷ []) ≡ committed_txs items
 no_commit items item none = committed_txs-append items (item ∷ []) ∙ ap (λ ns. committed_txs items ++ ns) none ∙ append_nil (committed_txs items)
 
-pub one_only : {X : Type 0} (x y : X) → Contains (x ∷ []) y → x ≡ y
-one_only x y h =
-    let first : h.0 ≡ 0 = omega (arith, h.1) in
-    subst (λ k. slice_index_or (x ∷ []) k y ≡ y) first h.2
-
 pub last_one : {X : Type 0} (xs : List X) (x : X) → Contains (xs ++ x ∷ []) x
 last_one xs x = Contains-append_right xs (x ∷ []) x (contains-first x [])
 
 pub earlier_or_last : {X : Type 0} (xs : List X) (x y : X) → Contains (xs ++ x ∷ []) y → Contains xs y ⊎ (x ≡ y)
-earlier_or_last xs x y h = elim (Contains-append_cases xs (x ∷ []) y h) [ inl before ↦ inl before | inr last ↦ inr (one_only x y last) ]
+earlier_or_last xs x y h = elim (Contains-append_cases xs (x ∷ []) y h) [ inl before ↦ inl before | inr last ↦ inr (contains-one x y last) ]
 
 pub begun_stays : (items : List TraceItem) (item : TraceItem) (tx : ℕ) → Contains (begun_txs items) tx → Contains (begun_txs (items ++ item ∷ [])) tx
 begun_stays items item tx h = subst (λ ns. Contains ns tx) (sym (begun_txs-append items (item ∷ []))) (Contains-append_left (begun_txs items) (begun_txs (item ∷ [])) tx h)

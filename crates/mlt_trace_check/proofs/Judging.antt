@@ -1,7 +1,6 @@
 -- Each text is an accepted trace or has a first fault, and so are items.
 use Rattle.std.proofs.Common.{◌≡◌, ◌≢◌, ◌⊎◌, inl, inr, ℕ, ◌+◌, ◌<◌, List, [], ◌∷◌, ◌++◌, length, map, Contains, refl, sym, ap, subst, ◌∙◌, append_assoc}
 use Rattle.std.proofs.lemmas.Bool.{cases_eq}
-use Rattle.std.proofs.lemmas.List.Elements.{Contains-append_cases}
 use Rattle.mlt_types.specs.declared.refusal.TraceCause.{TraceCause}
 use Rattle.mlt_types.specs.declared.refusal.TraceCause.TheVariants as cause
 use Rattle.mlt_object_kinds.specs.declared.operation.ObjOp.{ObjOp}
@@ -15,6 +14,7 @@ use Rattle.mlt_text_words.specs.Lines.{Raw, lines}
 use Rattle.mlt_trace.specs.declared.item.TraceItem.{TraceItem}
 use Rattle.mlt_trace.specs.declared.item.TraceItem.TheVariants.{Begin, Op, Back, Commit, Abort}
 use Rattle.mlt_trace.specs.Numbers.{begun_txs, commit_count, committed_txs}
+use Rattle.mlt_trace.proofs.BegunLaws.{first_or_later}
 use Rattle.mlt_trace_check.specs.declared.reading.Reading.{Reading}
 use Rattle.mlt_trace_check.specs.declared.reading.Reading.TheVariants.{Bad, Says}
 use Rattle.mlt_trace_check.specs.AcceptedItems.{AreAccepted, IsFirstFaultIn}
@@ -23,7 +23,7 @@ use Rattle.mlt_trace_check.specs.Traces.{ArePlaced, HasPlace, IsAcceptedTrace, I
 use Rattle.mlt_trace_check.proofs.AcceptedItems.{no_first_fault, one_base}
 use Rattle.mlt_trace_check.proofs.Faults.{SameFault, cut_twice, next_same, one_item_fault}
 use Rattle.mlt_trace_check.proofs.Going.{bad_line, placed_more, said_more}
-use Rattle.mlt_trace_check.proofs.Growing.{append_nil, no_cut, one_only, told-push}
+use Rattle.mlt_trace_check.proofs.Growing.{append_nil, no_cut, told-push}
 use Rattle.mlt_trace_check.proofs.Lasting.{one_more}
 use Rattle.mlt_trace_check.proofs.Standing.{Stands, nothing_stands, stands_more}
 use Rattle.mlt_trace_check.proofs.Stepping.{Decided, IsFalseIn, all_three, below, both, runs_or_not}
@@ -43,9 +43,6 @@ is_back_or_not (Begin i) tx = inr (λ e. cc e)
 is_back_or_not (Op i done) tx = inr (λ e. cc e)
 is_back_or_not (Commit i number) tx = inr (λ e. cc e)
 is_back_or_not (Abort i) tx = inr (λ e. cc e)
-
-first_or_later : {X : Type 0} (x : X) (xs : List X) (y : X) → Contains (x ∷ xs) y → (x ≡ y) ⊎ Contains xs y
-first_or_later x xs y h = elim (Contains-append_cases (x ∷ []) xs y h) [ inl first ↦ inl (one_only x y first) | inr later ↦ inr later ]
 
 taken_back_or_not : (items : List TraceItem) (tx : ℕ) → Decided (Contains items (Back tx))
 taken_back_or_not [] tx = inr (λ h. contains-nothing (Back tx) h)

@@ -35,7 +35,7 @@ stands_still items item tx front done h = record {
   same = h.same;
 }
 
-was_whole : (items : List TraceItem) (item : TraceItem) (tx : ℕ) → IsWhole (one_more items item) tx → IsWhole items tx
+pub was_whole : (items : List TraceItem) (item : TraceItem) (tx : ℕ) → IsWhole (one_more items item) tx → IsWhole items tx
 was_whole items item tx whole back = whole (Contains-append_left items (item ∷ []) (Back tx) back)
 
 others_stand : (items : List TraceItem) (item : TraceItem) (tx : ℕ) → tx ≢ number_in item → Stands items tx → Stands (one_more items item) tx

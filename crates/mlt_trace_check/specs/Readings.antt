@@ -51,7 +51,8 @@ item_or_fault None = Bad cause.Words
 abbrev pub in_words : Raw → Reading
 in_words raw = if raw.ended then item_or_fault (item_of (raw_words (content raw))) else Bad cause.Cut
 
--- More than 200 bytes are a fault, a CR counted, and so is a byte that is not allowed.
+-- what a line of a trace says, or its fault: more than 200 bytes, a CR counted, or a byte that is
+-- not allowed, or words that are none of the five forms
 unfoldable pub reading : Raw → Reading
 reading raw = if nat_lt 200 (length raw.bytes) then Bad cause.Line else (if list_all is_allowed (content raw) then in_words raw else Bad cause.Line)
 

@@ -27,7 +27,9 @@ IsRunning items tx = (told items).stage tx ≡ Running
 abbrev pub IsWhole : List TraceItem → ℕ → Type 0
 IsWhole items tx = Contains items (Back tx) → ⊥
 
--- the item may stand behind these items
+-- The item may stand behind these items: a begin is of a number above all begun before; who does
+-- anything else is running; who does an operation or commits has taken nothing back; something is
+-- left to take back, and nothing at an abort; and commits are counted from 1.
 abbrev pub HasPlace : List TraceItem → TraceItem → Type 0
 HasPlace items (Begin tx) = (other : ℕ) → Contains (begun_txs items) other → other < tx
 HasPlace items (Op tx done) = IsRunning items tx × IsWhole items tx
@@ -46,7 +48,8 @@ pub record IsTrace (raws : List Raw) (items : List TraceItem) (base : Base) : Ty
   pub placed : ArePlaced items
   pub serial : IsSerialBase Step empty_base (told items).committed base
 
--- the text is a trace with this committed order and this base
+-- The text is a trace with this committed order and this base: each line is an item, each item has
+-- its place, and the committed transcripts lead to the base.
 abbrev pub IsAcceptedTrace : List ℕ → List ℕ → Base → Type 0
 IsAcceptedTrace text txs base = (items : List TraceItem) × IsTrace (lines text) items base × (txs ≡ committed_txs items)
 
@@ -80,5 +83,7 @@ IsFirstFaultOf raws line fault =
     (before : List Raw) × (raw : Raw) × (after : List Raw) × (items : List TraceItem) × (base : Base)
     × (raws ≡ before ++ raw ∷ after) × IsTrace before items base × IsLineFault items base raw line fault
 
+-- the first line at which a text stops being an accepted trace, counted from 1, and the first cause
+-- there
 abbrev pub IsFirstFault : List ℕ → ℕ → TraceCause → Type 0
 IsFirstFault text line fault = IsFirstFaultOf (lines text) line fault

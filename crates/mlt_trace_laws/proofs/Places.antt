@@ -1,12 +1,13 @@
 -- The places of items.
-use Rattle.std.proofs.Common.{◌≡◌, ◌≢◌, ◌⊎◌, ℕ, ◌+◌, ◌<◌, ◌≤◌, List, [], ◌∷◌, ◌++◌, length, Contains, sym, ap, subst, inl, inr, get_or, take, ◌∙◌, arith}
-use Rattle.std.proofs.lemmas.List.Elements.{Contains-append_cases, Contains-append_left, Contains-append_right}
+use Rattle.std.proofs.Common.{◌≡◌, ◌≢◌, ℕ, ◌+◌, ◌<◌, ◌≤◌, List, [], ◌∷◌, ◌++◌, length, Contains, sym, ap, subst, inl, inr, get_or, take, ◌∙◌, arith}
+use Rattle.std.proofs.lemmas.List.Elements.{Contains-append_left, Contains-append_right}
 use Rattle.std.proofs.lemmas.List.{take_more}
 use Rattle.mlt_order.proofs.RunLemmas.{contains-first, contains-nothing}
 use Rattle.mlt_trace.specs.declared.item.TraceItem.{TraceItem}
 use Rattle.mlt_trace.specs.declared.item.TraceItem.TheVariants.{Begin, Op, Back, Commit, Abort}
 use Rattle.mlt_trace.specs.Numbers.{AreBegunInOrder, CountsFrom, begun_txs}
 use Rattle.mlt_trace.proofs.ItemLaws.{begun_txs-append}
+use Rattle.mlt_trace.proofs.BegunLaws.{first_or_later}
 use Rattle.mlt_trace_check.specs.Traces.{ArePlaced, HasPlace, IsRunning, IsWhole}
 use Rattle.mlt_trace_check.proofs.Growing.{earlier_or_last, no_cut}
 use Rattle.mlt_trace_check.proofs.Lasting.{runs_begun}
@@ -20,10 +21,6 @@ whole_more items item tx other whole back = elim (earlier_or_last items item (Ba
 
 -- ---- an item stands somewhere
 
-pub first_or_later : {X : Type 0} (x : X) (xs : List X) (y : X) → Contains (x ∷ xs) y → (x ≡ y) ⊎ Contains xs y
-first_or_later x xs y h = elim (Contains-append_cases (x ∷ []) xs y h) [
-  | inl first ↦ elim (earlier_or_last [] x y first) [ inl none ↦ absurd (contains-nothing y none) | inr same ↦ inl same ]
-  | inr later ↦ inr later
 ]
 
 abbrev StandsIn : {X : Type 0} → List X → X → Type 0

@@ -32,8 +32,10 @@ pub record IsWritable (item : TraceItem) : Type 0 where
   pub fits : FitsItem item
   pub numbered : IsNumbered item
 
+-- the numbers of all items are those of their types
 abbrev pub AllFit : List TraceItem → Type 0
 AllFit items = (item : TraceItem) → Contains items item → FitsItem item
 
+-- the lines of all items can be read again
 abbrev pub AreWritable : List TraceItem → Type 0
 AreWritable items = (item : TraceItem) → Contains items item → IsWritable item

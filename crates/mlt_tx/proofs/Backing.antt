@@ -1,5 +1,5 @@
 -- The ends of inverses
-use Rattle.std.proofs.Common.{◌≡◌, List, [], ◌∷◌, ◌++◌, Option, Some, refl, sym, ap, ◌∙◌}
+use Rattle.std.proofs.Common.{◌≡◌, List, [], ◌∷◌, ◌++◌, Option, refl, sym, ap, ◌∙◌}
 use Rattle.mlt_page_subtx.specs.Images.{Running}
 use Rattle.mlt_object_undo.specs.Undo.{Undo}
 use Rattle.mlt_hash.specs.Walks.{Basis}
@@ -23,9 +23,6 @@ last_behind (z ∷ xs) x y = last_behind xs x z
 pub one_last : {A : Type 0} (entries front front' : List A) (x y : A) → entries ≡ front ++ x ∷ [] → entries ≡ front' ++ y ∷ [] → x ≡ y
 one_last entries front front' x y one other =
     sym (last_behind front x x) ∙ ap (λ l. last_from l x) (sym one ∙ other) ∙ last_behind front' y x
-
-pub same_some : {A : Type 0} (x y : A) → Some x ≡ Some y → x ≡ y
-same_some x y is = cc
 
 -- **The end of an inverse is what a step of the abort tells.**
 pub end_tells : (basis : Basis) (inverting inverting' : Option OperationFields) (running running' : Running) (undo undo' : Undo) (old new : Commons) (told : Answer)

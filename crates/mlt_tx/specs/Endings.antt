@@ -54,6 +54,7 @@ pub record IsBlocked (item : ObjOp × ObjReply) (old new : Workplace) (by : ℕ)
   pub history : new.commons.history ≡ old.commons.history
   pub kept : new.undo ≡ old.undo
 
+-- what the end of an operation is told: it is done, or blocked
 abbrev pub TellsOfEnd : ObjOp × ObjReply → Workplace → Workplace → Answer → Type 0
 TellsOfEnd item old new (answer.Done reply) = (reply ≡ item.1) × IsDone item old new
 TellsOfEnd item old new (answer.Blocked by) = IsBlocked item old new by

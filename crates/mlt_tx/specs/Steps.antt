@@ -65,6 +65,8 @@ pub record Ends (o : OperationFields) (old new : Workplace) (told : Answer) : Ty
   pub ready : o.reply ≡ Some reply
   pub tells : TellsOfEnd (op, reply) old new told
 
+-- What a step of a pending operation is told: what its walk tells, or its end. Blocked, it has
+-- taken no step again.
 abbrev pub TellsOfPending : Basis → OperationFields → OperationFields → Workplace → Workplace
     → Answer → Type 0
 TellsOfPending basis o o' old new answer.Going = Walks basis o o' old new step.Going
@@ -101,6 +103,7 @@ pub record TakesLast (tx : ℕ) (undo undo' : Undo) (old new : Commons) : Type 0
   pub items : new.history.items ≡ old.history.items ++ trace.Back tx ∷ trace.Abort tx ∷ []
   pub room : new.history.room + 2 ≡ old.history.room
 
+-- The last operation is taken back; and where none is left, the transaction is closed.
 abbrev pub TakesBack : ℕ → Undo → Undo → Commons → Commons → Answer → Type 0
 TakesBack tx undo undo' old new answer.Undone = TakesOne tx undo undo' old new
 TakesBack tx undo undo' old new answer.Aborted = TakesLast tx undo undo' old new

@@ -68,6 +68,7 @@ MayStepAt (at.Pending o) basis t commons =
 MayStepAt (at.Undoing inverting) basis t commons =
     MayStepBack basis inverting t.subtx t.undo commons
 
+-- what a step asks, by what the transaction is at; where it is at nothing there is none
 abbrev pub MayStepIn : Basis → Transaction → Commons → Type 0
 MayStepIn basis t commons = MayStepAt t.at basis t commons
 
@@ -79,6 +80,7 @@ TellsAt (at.Pending o) basis before after old new told =
 TellsAt (at.Undoing inverting) basis before after old new told =
     StepsBack basis inverting before after old new told
 
+-- what a step tells, by what the transaction is at: a pending operation, or its abort
 abbrev pub TellsOfTransaction : Basis → Transaction → Transaction → Commons → Commons → Answer
     → Type 0
 TellsOfTransaction basis before after old new told = TellsAt before.at basis before after old new told
@@ -101,7 +103,7 @@ pub record TellsOfCall (op : ObjOp) (before after : Transaction) (old new : Comm
   pub reserved : reservation_of new.objects.reserved before.subtx.tx ≡ Some (cell_of op)
   pub room : new.history.room ≡ old.history.room + 2
 
--- none is pending, and the history has the room that it had
+-- no operation is pending, and the history has the room that it had
 pub record IsNotCalled (before after : Transaction) (old new : Commons) : Type 0 where
   pub makes : MakesRoom before after old new
   pub idle : after.at ≡ before.at

@@ -1,5 +1,5 @@
 -- What a transcript says of keys' presence, and how that changes with an item at its end.
-use Rattle.std.proofs.Common.{◌≡◌, ◌≢◌, ℕ, Option, Some, None, List, [], ◌∷◌, ◌++◌, refl, sym, subst, ap, ◌∙◌, inl, inr, Contains}
+use Rattle.std.proofs.Common.{◌≡◌, ◌≢◌, ℕ, Option, Some, None, [], ◌∷◌, ◌++◌, refl, sym, subst, ap, ◌∙◌, inl, inr, Contains}
 use Rattle.std.specs.Prelude.{◌⊎◌}
 use Rattle.std.specs.List.{cons_option, last_or}
 use Rattle.std.proofs.lemmas.Bool.{cases_eq, eq-eqb, ne_eqb}
@@ -11,6 +11,7 @@ use Rattle.mlt_object_kinds.specs.declared.operation.ObjReply.{ObjReply}
 use Rattle.mlt_order.specs.Tables.{Gains}
 use Rattle.mlt_order.proofs.RunLemmas.{contains-first, contains-later}
 use Rattle.mlt_hash_ghosts.specs.Operations.{Appends, Presence, last_of}
+use Rattle.mlt_hash_ghosts.proofs.Lists.{last_append_from}
 use Rattle.mlt_tx_meaning.specs.Presences.{op_key, presence_at, presence_of, presences_on, standing_of}
 
 presence_here : (item : ObjOp × ObjReply) → presence_at (op_key item.0) item ≡ presence_of item
@@ -60,15 +61,11 @@ last_from key t p e =
       | inr r ↦ let from = presence_from key r.0 p r.2 in (r.0, r.1, from.0, from.1)
     ]
 
-last_append : (before : Option Presence) (ps : List Presence) (p : Presence) → last_or before (ps ++ p ∷ []) ≡ Some p
-last_append before [] p = refl
-last_append before (x ∷ ps) p = last_append (Some x) ps p
-
 -- the last item of a transcript says what comes last of its key
 pub last_is : (t : Transcript) (item : ObjOp × ObjReply) (p : Presence) → presence_of item ≡ Some p → last_of (presences_on (op_key item.0) (t ++ item ∷ [])) ≡ Some p
 last_is t item p is =
     let key = op_key item.0 in
-    ap last_of (filter_map-append (presence_at key) t (item ∷ []) ∙ ap (λ (o : Option Presence). presences_on key t ++ cons_option o []) (presence_here item ∙ is)) ∙ last_append None (presences_on key t) p
+    ap last_of (filter_map-append (presence_at key) t (item ∷ []) ∙ ap (λ (o : Option Presence). presences_on key t ++ cons_option o []) (presence_here item ∙ is)) ∙ last_append_from None (presences_on key t) p
 
 module _ (transcripts transcripts' : ℕ → Transcript) (tx : ℕ) (item : ObjOp × ObjReply) (gains : Gains transcripts transcripts' tx item) where
   said : (key : ℕ) (o : Option Presence) → presence_at key item ≡ o → presences_on key (transcripts' tx) ≡ presences_on key (transcripts tx) ++ cons_option o []

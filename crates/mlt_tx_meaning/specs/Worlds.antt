@@ -22,6 +22,7 @@ use Rattle.mlt_hash_ghosts.specs.Ledgers.{Ledger}
 use Rattle.mlt_hash_ghosts.specs.Operations.{Standing}
 use Rattle.mlt_tx_meaning.specs.Presences.{standing_of}
 
+-- a hash file with its transactions, what these did, and the base that this leads to
 pub record World : Type 0 where
   -- the hash file: the function from keys to pseudokeys, the page of the header, how deep the directory may get, and
   -- the clean pages
@@ -38,7 +39,7 @@ pub record World : Type 0 where
   pub history : List (Entry (ObjOp × ObjReply))
   pub base : Base
 
--- what the history tells of
+-- what the history of a world tells of
 abbrev pub lists_in : World → Lists (ObjOp × ObjReply)
 lists_in world = lists_of world.history
 

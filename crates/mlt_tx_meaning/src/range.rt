@@ -9,40 +9,16 @@ use mlt_object_kinds::{AccountOp, CounterOp, ObjOp};
 pub fn operation_is_in_range(op: &ObjOp)
     ensures { IsOpInRange op.now }
 {
+    let cell = op.cell();
+    cell.is_in_range();
     match *op {
-        ObjOp::Account(account, op) => {
-            has_32_bits(account);
-            match op {
-                AccountOp::Deposit(amount) => has_64_bits(amount),
-                AccountOp::Withdraw(amount) => has_64_bits(amount),
-                _ => (),
-            }
-        },
-        ObjOp::Counter(counter, op) => {
-            has_32_bits(counter);
-            match op {
-                CounterOp::Up(amount) => has_64_bits(amount),
-                CounterOp::Down(amount) => has_64_bits(amount),
-                CounterOp::Read => (),
-            }
-        },
-        ObjOp::Element(set, element, _) => {
-            has_16_bits(set);
-            has_32_bits(element);
-        },
-        ObjOp::Size(set) => has_16_bits(set),
+        ObjOp::Account(_, AccountOp::Deposit(amount) | AccountOp::Withdraw(amount))
+        | ObjOp::Counter(_, CounterOp::Up(amount) | CounterOp::Down(amount)) => has_64_bits(amount),
+        _ => (),
     }
 }
 
 // What the type of a number says of it.
-fn has_16_bits(number: u16)
-    ensures { number < 2 ^ 16 }
-{}
-
-fn has_32_bits(number: u32)
-    ensures { number < 2 ^ 32 }
-{}
-
 fn has_64_bits(number: u64)
     ensures { number < 2 ^ 64 }
 {}

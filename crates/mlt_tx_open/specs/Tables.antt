@@ -45,7 +45,7 @@ pub record CallsOne (tx : ℕ) (op : ObjOp) (old new : Table) (commons commons' 
   pub changes : ChangesOne tx old new
   pub tells : TellsOfCall op changes.before changes.after commons commons'
 
--- it is not, for want of memory
+-- the transaction of this number is not called, for want of memory
 pub record CallsNone (tx : ℕ) (old new : Table) (commons commons' : Commons) : Type 0 where
   pub changes : ChangesOne tx old new
   pub tells : IsNotCalled changes.before changes.after commons commons'
@@ -104,7 +104,7 @@ pub record KeepsImage (table : Table) (page : ℕ) (first : Option Page) : Type 
   pub there : map.get table tx ≡ Some one
   pub keeps : image_of one.subtx.images page ≡ Some first
 
--- no open transaction keeps one
+-- no open transaction keeps a first image of the page
 abbrev pub KeepsNoImage : Table → ℕ → Type 0
 KeepsNoImage table page =
     (tx : ℕ) (one : Transaction) → map.get table tx ≡ Some one

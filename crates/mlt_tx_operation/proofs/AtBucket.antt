@@ -1,7 +1,6 @@
 -- What an operation leaves at its bucket
-use Rattle.std.proofs.Common.{◌≡◌, ℕ, ◌+◌, Option, None, Some, refl, sym, ap, subst, ◌∙◌, inl, inr, arith}
+use Rattle.std.proofs.Common.{◌≡◌, ℕ, ◌+◌, Option, None, Some, refl, sym, ap, subst, ◌∙◌, inl, inr}
 use Rattle.std.specs.FinMap as map
-use Rattle.std.proofs.lemmas.Bool.Decides.{nat_tests}
 use Rattle.mlt_types.specs.declared.mode.Mode.{Mode}
 use Rattle.mlt_types.specs.declared.mode.Mode.TheVariants.{Exclusive}
 use Rattle.mlt_page.specs.declared.page.Page.{Page}
@@ -16,10 +15,6 @@ use Rattle.mlt_hash_access.specs.Moments.{Moment}
 use Rattle.mlt_hash_access.specs.PageSteps.{Leaves}
 use Rattle.mlt_hash_access.specs.PageTurns.{IsRolledBack}
 use Rattle.mlt_hash_access.specs.Views.{View, view_of}
-use Rattle.mlt_page_locks.specs.LockTables.{LockTable, pages_of}
-use Rattle.mlt_page_locks.specs.Requests.{released}
-use Rattle.mlt_page_locks.proofs.LockLaws.{pages_of-released}
-use Rattle.mlt_page_subtx.specs.Images.{Running, put_back, started}
 use Rattle.mlt_hash_access.proofs.Leaving.{leaves_it}
 use Rattle.mlt_hash_access.proofs.Views.{agrees}
 use Rattle.mlt_hash.specs.Walks.{Basis, HasRead, IsChanged, Stands, WalkFields, one_key}
@@ -44,7 +39,9 @@ use Rattle.mlt_tx_operation.specs.Answers.{HasToRestart}
 use Rattle.mlt_tx_operation.specs.AtBucket.{BeginsAgain, FindsNoRoom, Finishes, SplitsInPass, IsThereFor, MayDecide, TellsAtBucket}
 use Rattle.mlt_tx_operation.specs.Walking.{FitsPhase, HasPerformed, IsToAdd, IsTold, WalkingFields}
 use Rattle.mlt_tx_two_records.specs.Performing.{AsksToAdd}
-use Rattle.mlt_tx_operation.specs.Performing.{IsMade, OfAddition, TellsOfDecision}
+use Rattle.mlt_tx_two_records.specs.AtWideBuckets.{IsMade, OfAddition}
+use Rattle.mlt_tx_two_records.proofs.RollingBack.{nothing_held}
+use Rattle.mlt_tx_operation.specs.Performing.{TellsOfDecision}
 use Rattle.mlt_tx_operation.proofs.Deciding.{changes_exclusively, never_revives}
 
 -- what was decided on locks the bucket exclusively
@@ -199,18 +196,6 @@ splits_in_pass basis old new before after change found reply may is can stays te
     let split : SplitsInPass (one_key basis) old old before after = splits_for (one_key basis) old before after change found reply may is can
     (subst (λ (m : Moment). TellsOfDecision (one_key basis) m before.walk after.walk change found answer.NeedSplit) stays tells) not request same in
     subst (λ (m : Moment). SplitsInPass (one_key basis) old m before after) (sym stays) split
-
--- a moment is rolled back, to what the parts say
-pub rolls_back : (m old new : Moment) → old ≡ m → new.store ≡ record old.store { pages = put_back old.running.images old.store.pages }
-    → new.locks ≡ released old.locks old.running.tx → new.running ≡ started old.running.tx → IsRolledBack m new
-rolls_back m old new stays store locks running =
-    subst (λ (n : Moment). IsRolledBack n new) stays (record { locks = locks; running = running; store = store })
-
--- nothing is held once all is rolled back
-pub nothing_held : (old new : Moment) → IsRolledBack old new → pages_of new.locks new.running.tx ≡ map.empty
-nothing_held old new back =
-    ap (λ (l : LockTable). pages_of l new.running.tx) back.locks ∙ ap (λ (r : Running). pages_of (released old.locks old.running.tx) r.tx) back.running
-    ∙ grind (arith, nat_tests, pages_of-released old.locks old.running.tx old.running.tx)
 
 -- **A pass that is rolled back begins again.**
 pub begins_again : (basis : Basis) (old new : Moment) (before after : WalkingFields) (found : Option ℕ) (full : WalkFields)

@@ -15,10 +15,7 @@ use Rattle.mlt_object_kinds.specs.Accounts.{max_balance}
 use Rattle.mlt_object_base.specs.declared.record.RecChange.{RecChange}
 use Rattle.mlt_object_base.specs.declared.record.RecChange.TheVariants.{Revive, Set, ToGhost}
 use Rattle.mlt_object_base.specs.Effects.{account_reply_of, mode_of, reply_of}
-
-abbrev is_revival : Option RecChange → Bool
-is_revival (Some Revive) = true
-is_revival other = false
+use Rattle.mlt_tx_two_records.proofs.Asking.{is_revival}
 
 either : (b : Bool) (x y : ObjReply × Option RecChange) → is_revival x.1 ≡ false → is_revival y.1 ≡ false → is_revival (cond b x y).1 ≡ false
 either true x y first second = first

@@ -13,10 +13,8 @@ use Rattle.mlt_hash.specs.Walks.{Basis, IsSplitting, Stands, WalkFields, one_key
 use Rattle.mlt_hash.specs.declared.answer.WalkAnswer.TheVariants as answer
 use Rattle.mlt_hash.specs.declared.pass.Phase.{Phase}
 use Rattle.mlt_hash.specs.declared.pass.Phase.TheVariants as at
+use Rattle.mlt_hash.proofs.StepsLeft.{some_is_one}
 use Rattle.mlt_tx_two_records.specs.Depths.{GoesDown, depths_at, depths_with_split}
-
-some_is_one : (x y : SplitFields) (o : Option SplitFields) → o ≡ Some x → o ≡ Some y → x ≡ y
-some_is_one x y o is_x is_y = let e : Some x ≡ Some y = sym is_x ∙ is_y in cc
 
 module _ (basis : Basis) (old new : Moment) (before after : WalkFields) where
   -- a split has begun

@@ -1,5 +1,5 @@
 -- How an operation goes on within its pass
-use Rattle.std.proofs.Common.{◌≡◌, ℕ, zero, suc, ◌+◌, ◌-◌, ◌<◌, None, Option, Some, refl, sym, ap, subst, ◌∙◌, inl, inr, arith}
+use Rattle.std.proofs.Common.{◌≡◌, ℕ, ◌+◌, ◌-◌, ◌<◌, None, Option, Some, refl, sym, ap, subst, ◌∙◌, inl, inr, arith}
 use Rattle.mlt_object_kinds.specs.declared.operation.ObjReply.{ObjReply}
 use Rattle.mlt_object_base.specs.declared.record.RecChange.{RecChange}
 use Rattle.mlt_object_base.specs.declared.record.RecChange.TheVariants.{Add}
@@ -8,21 +8,22 @@ use Rattle.mlt_hash_access.specs.Moments.{Moment}
 use Rattle.mlt_hash_access.specs.PageSteps.{Leaves}
 use Rattle.mlt_hash_access.specs.Views.{View, view_of}
 use Rattle.mlt_hash_access.proofs.Views.{agrees}
-use Rattle.mlt_hash.specs.Walks.{Basis, HasRead, IsChanged, IsStanding, Stands, WalkFields, one_key}
+use Rattle.mlt_hash.specs.Walks.{Basis, HasRead, IsChanged, IsStanding, Stands, one_key}
 use Rattle.mlt_hash.specs.Changes.{page_of}
 use Rattle.mlt_hash.specs.Splitting.{TellsAt}
 use Rattle.mlt_hash.specs.Steps.{GoesOn, IsSameWalk, steps_to_bucket}
-use Rattle.mlt_hash.specs.StepsLeft.{IsPutting, bucket_depth, directory_depth, steps_of_splits, steps_to_put_at}
+use Rattle.mlt_hash.specs.StepsLeft.{bucket_depth, directory_depth, steps_to_put_at}
 use Rattle.mlt_hash.specs.declared.answer.WalkAnswer.TheVariants as answer
 use Rattle.mlt_hash.specs.declared.pass.Change.TheVariants as change
 use Rattle.mlt_hash.specs.declared.pass.Phase.{Phase}
 use Rattle.mlt_hash.specs.declared.pass.Phase.TheVariants as at
 use Rattle.mlt_hash.proofs.Passed.{read_of}
-use Rattle.mlt_hash.proofs.StepsLeft.{one_fewer}
+use Rattle.mlt_hash.proofs.StepsLeft.{one_fewer, put_is_left, put_on_way}
 use Rattle.mlt_object_base.specs.declared.request.Request.{Request}
 use Rattle.mlt_tx_operation.specs.Answers.{StepsOn}
 use Rattle.mlt_tx_operation.specs.Operating.{on_one}
 use Rattle.mlt_tx_two_records.specs.WalkSteps.{steps_to_change}
+use Rattle.mlt_tx_two_records.proofs.WideGoing.{IsAddingPhase, is_putting, none_to_bucket}
 use Rattle.mlt_tx_operation.specs.Walking.{FitsPhase, HasPerformed, IsToAdd, MayWalkOn, WalkingFields, steps_of_walk}
 use Rattle.mlt_tx_operation.proofs.Depths.{goes_down}
 use Rattle.mlt_tx_operation.proofs.Turns.{one_step_turns}
@@ -39,12 +40,6 @@ untold_on_way at.Start basis o view more fits = fits
 untold_on_way (at.Headed dir row depth) basis o view more fits = fits
 untold_on_way (at.Placed bucket depth) basis o view more fits = fits
 untold_on_way other basis o view more fits = absurd (omega (arith, more))
-
-pub put_on_way : (p : Phase) (root : ℕ) (walk : WalkFields) (view : View) → 0 < steps_to_bucket p → steps_to_put_at p root walk view ≡ 0
-put_on_way at.Start root walk view more = refl
-put_on_way (at.Headed dir row depth) root walk view more = refl
-put_on_way (at.Placed bucket depth) root walk view more = refl
-put_on_way other root walk view more = absurd (omega (arith, more))
 
 -- the target of a walk that is the same but for its phase
 pub same_target : (before after : WalkingFields) → (before.walk.key, before.walk.mode) ≡ target_of before.request → IsSameWalk before.walk after.walk → after.request ≡ before.request
@@ -75,26 +70,10 @@ on_way basis old new before after may leaves goes more request same =
       how = record { in_pass = goes.same.pass; goes = inl (record { nearer = omega (arith, goes.fewer); by_one = by_one; down = inl was }) };
     }
 
--- the phase of a walk that adds or splits
-abbrev IsAddingPhase : Phase → ℕ → Type 0
-IsAddingPhase (at.Adding v bucket depth unsplit) value = v ≡ value
-IsAddingPhase (at.Splitting v depth) value = v ≡ value
-IsAddingPhase other value = ⊥
-
 fits_adding : (p : Phase) (basis : Basis) (o : WalkingFields) (view : View) (value : ℕ) → IsAddingPhase p value → IsToAdd o value → FitsPhase p (one_key basis) o view
 fits_adding (at.Adding v bucket depth unsplit) basis o view value is adds = subst (IsToAdd o) (sym is) adds
 fits_adding (at.Splitting v depth) basis o view value is adds = subst (IsToAdd o) (sym is) adds
 fits_adding other basis o view value is adds = absurd is
-
-none_to_bucket : (p : Phase) (value : ℕ) → IsAddingPhase p value → steps_to_bucket p ≡ 0
-none_to_bucket (at.Adding v bucket depth unsplit) value is = refl
-none_to_bucket (at.Splitting v depth) value is = refl
-none_to_bucket other value is = absurd is
-
-is_putting : (p : Phase) (value : ℕ) → IsAddingPhase p value → IsPutting p
-is_putting (at.Adding v bucket depth unsplit) value is = tt
-is_putting (at.Splitting v depth) value is = tt
-is_putting other value is = absurd is
 
 -- what is still to be added
 still_adds : (before after : WalkingFields) (value : ℕ) → IsToAdd before value → after.request ≡ before.request → after.reply ≡ before.reply → IsToAdd after value
@@ -153,12 +132,6 @@ goes_on basis old new before after may leaves tells request same = by before.wal
         splits_on (one_key basis) old new before after value may leaves tells closes.on.same closes.on.stands
         (subst (λ (p : Phase). IsAddingPhase p value) (sym is) refl) (subst (λ (p : Phase). IsAddingPhase p value) (sym closes.phase) refl) adds request same
     by other is told = on_way (one_key basis) old new before after may leaves told.0 told.1 request same
-
--- a pass puts its record at its last step
-put_is_left : (n l g : ℕ) → 0 < steps_of_splits n l g
-unfolding steps_of_splits
-put_is_left zero l g = omega arith
-put_is_left (suc n) l g = omega (arith)
 
 -- **Where its walk has put the record behind splits, the operation is told its reply.**
 pub puts : (basis : Basis) (old new : Moment) (before after : WalkingFields) → MayWalkOn (one_key basis) old before → Leaves old new

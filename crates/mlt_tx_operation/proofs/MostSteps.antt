@@ -14,6 +14,7 @@ use Rattle.mlt_hash.specs.Walks.{Basis, IsAdding, IsStanding, Stands, WalkFields
 use Rattle.mlt_hash.specs.declared.pass.Pass.{Pass}
 use Rattle.mlt_hash.specs.declared.pass.Pass.TheVariants as pass
 use Rattle.mlt_hash.specs.declared.pass.Phase.{Phase}
+use Rattle.mlt_hash.proofs.StepsLeft.{put_on_way}
 use Rattle.mlt_tx_operation.specs.declared.answer.StepAnswer.TheVariants as step
 use Rattle.mlt_tx_two_records.specs.Doubles.{most_to_change, most_to_put, steps_of_double}
 use Rattle.mlt_tx_two_records.specs.declared.double.Double.{Double}
@@ -26,7 +27,6 @@ use Rattle.mlt_tx_two_records.specs.WalkSteps.{GoesNearer}
 use Rattle.mlt_tx_operation.specs.MostSteps.{most_from_bucket, most_steps, most_steps_by, most_steps_of_walk, passes_after}
 use Rattle.mlt_tx_operation.specs.Operating.{IsInFirst, OperatesBy, OperationFields, steps_by}
 use Rattle.mlt_tx_operation.specs.Walking.{steps_of_walk}
-use Rattle.mlt_tx_operation.proofs.Going.{put_on_way}
 use Rattle.mlt_tx_two_records.proofs.SplitSteps.{few_splits}
 
 from_bucket : (root : ℕ) (walk : WalkFields) (view : View) → steps_to_bucket walk.phase ≡ 0 → most_steps_of_walk root walk view ≡ steps_of_walk root walk view

@@ -22,6 +22,7 @@ use Rattle.mlt_hash.specs.declared.pass.Pass.TheVariants as pass
 use Rattle.mlt_hash.specs.declared.pass.Phase.{Phase}
 use Rattle.mlt_hash.specs.declared.pass.Phase.TheVariants as at
 use Rattle.mlt_hash.proofs.Splittings.{none_left}
+use Rattle.mlt_hash.proofs.StepsLeft.{put_on_way}
 use Rattle.mlt_tx_operation.specs.declared.answer.StepAnswer.{StepAnswer}
 use Rattle.mlt_tx_operation.specs.declared.answer.StepAnswer.TheVariants as step
 use Rattle.mlt_tx_operation.specs.declared.course.Course.TheVariants.{One}
@@ -33,7 +34,7 @@ use Rattle.mlt_tx_two_records.specs.WalkSteps.{AsksForAt, LacksPage, ReachesBuck
 use Rattle.mlt_tx_operation.specs.AtBucket.{IsThereFor, MayDecide, TellsAtBucket}
 use Rattle.mlt_tx_operation.specs.Operating.{on_one}
 use Rattle.mlt_tx_operation.specs.Walking.{CanTakeBackOne, MayWalkOn, WalkingFields}
-use Rattle.mlt_tx_operation.proofs.Going.{put_on_way, same_target, untold_on_way}
+use Rattle.mlt_tx_operation.proofs.Going.{same_target, untold_on_way}
 use Rattle.mlt_tx_operation.proofs.Turns.{lock_and_write_turn, one_step_turns}
 
 -- **Where its walk waits, so does the operation.**

@@ -29,10 +29,12 @@ most_steps_of_walk root walk view =
     if nat_eq (steps_to_bucket walk.phase) 0 then steps_of_walk root walk view
     else steps_to_bucket walk.phase + 3 * passes_after walk.pass + most_from_bucket
 
--- on two records as many as are left
+-- the same by the course: on two records as many as are left
 abbrev pub most_steps_by : Course → ℕ → Option ObjReply → View → ℕ
 most_steps_by (One walk) root reply view = most_steps_of_walk root walk view
 most_steps_by (Two double) root reply view = steps_of_two reply root double view
 
+-- How many steps an operation still takes at most, its end among them, and those that wait aside:
+-- at most 587 on one record, and 1165 on two.
 abbrev pub most_steps : ℕ → OperationFields → View → ℕ
 most_steps root o view = most_steps_by o.course root o.reply view

@@ -33,7 +33,7 @@ abbrev pub course_for : Request → Option ℕ → Course
 course_for request None = One (walk_for request)
 course_for request (Some size) = Two (find_both (target_of request).0 size)
 
--- one that has taken no step
+-- an operation that has taken no step
 abbrev pub started_for : Request → OperationFields
 started_for request = record {
   request = request;
@@ -56,6 +56,7 @@ abbrev pub OperatesBy : Course → Basis → OperationFields → View → Type 0
 OperatesBy (One walk) basis o view = IsWalking basis (walking o.request o.reply walk) view
 OperatesBy (Two double) basis o view = StandsOrTold o.reply double basis o.request view
 
+-- an operation under way: it stands where its course is, and its reply fits what was found
 abbrev pub IsOperating : Basis → OperationFields → View → Type 0
 IsOperating basis o view = OperatesBy o.course basis o view
 
@@ -64,6 +65,8 @@ abbrev pub CanDoBy : Option ℕ → Basis → FilePages → Request → Type 0
 CanDoBy None basis clean request = CanTakeBackOne basis clean request
 CanDoBy (Some size) basis clean request = CanDoBoth basis clean request
 
+-- what an operation is to change is there: of one record where it is to be taken back, and both of
+-- two
 abbrev pub CanDo : Basis → FilePages → Request → Type 0
 CanDo basis clean request = CanDoBy (size_key_of request) basis clean request
 

@@ -2,26 +2,12 @@
 use Rattle.std.specs.Prelude.{ℕ, Option}
 use Rattle.mlt_types.specs.declared.refusal.Refusal.TheVariants as refusal
 use Rattle.mlt_object_base.specs.declared.record.RecChange.{RecChange}
-use Rattle.mlt_object_base.specs.declared.record.RecChange.TheVariants.{Add}
 use Rattle.mlt_hash_access.specs.Moments.{Moment}
 use Rattle.mlt_hash.specs.Walks.{Basis, WalkFields}
-use Rattle.mlt_hash.specs.Changes.{HasNoRoom, Makes, MustWiden, NeedsSplit}
-use Rattle.mlt_hash.specs.declared.pass.Change.{Change}
+use Rattle.mlt_hash.specs.Changes.{HasNoRoom, MustWiden, NeedsSplit}
 use Rattle.mlt_hash.specs.declared.answer.WalkAnswer.{WalkAnswer}
 use Rattle.mlt_hash.specs.declared.answer.WalkAnswer.TheVariants as answer
-use Rattle.mlt_tx_two_records.specs.Performing.{Performs}
-
--- the change is made
-pub record IsMade (basis : Basis) (new : Moment) (before after : WalkFields) (decided : RecChange)
-    (found : Option ℕ) : Type 0 where
-  pub done : Change
-  pub makes : Makes basis new before after done
-  pub performs : Performs decided found done
-
--- it is an addition, of this value, of which this is so
-abbrev pub OfAddition : RecChange → (ℕ → Type 0) → Type 0
-OfAddition (Add value) Is = Is value
-OfAddition other Is = ⊥
+use Rattle.mlt_tx_two_records.specs.AtWideBuckets.{IsMade, OfAddition}
 
 -- The change is made; or it is an addition whose bucket has no room.
 abbrev pub TellsOfDecision : Basis → Moment → WalkFields → WalkFields → RecChange → Option ℕ

@@ -16,22 +16,9 @@ use Rattle.mlt_tx.specs.declared.transaction.At.TheVariants as at
 use Rattle.mlt_tx.specs.declared.transaction.Transaction.{Transaction}
 use Rattle.mlt_tx.specs.Steps.{inverse_from}
 use Rattle.mlt_tx.specs.Transactions.{StepsBack, TellsAt, TellsOfTransaction}
+use Rattle.mlt_tx.proofs.Backing.{one_last}
 use Rattle.mlt_tx_step_counts.specs.Counts.{IsTakenBack, IsToTakeBack}
 use Rattle.mlt_tx_step_counts.specs.OwnSteps.{AreOwnSteps, GoesThen, OwnStep, answers_of, basis_at, view_in, with_answer}
-
--- a list has one last item
-last_from : {A : Type 0} → List A → A → A
-last_from [] x = x
-last_from (y ∷ ys) x = last_from ys y
-
-last_behind : {A : Type 0} (xs : List A) (x y : A) → last_from (xs ++ x ∷ []) y ≡ x
-unfolding last_from
-last_behind [] x y = refl
-last_behind (z ∷ xs) x y = last_behind xs x z
-
-one_last : {A : Type 0} (entries front front' : List A) (x y : A) → entries ≡ front ++ x ∷ [] → entries ≡ front' ++ y ∷ [] → x ≡ y
-one_last entries front front' x y one other =
-    sym (last_behind front x x) ∙ ap (λ l. last_from l x) (sym one ∙ other) ∙ last_behind front' y x
 
 not_both : {A B : Type 0} (o : Option B) → IsSome o → o ≡ None → A
 not_both None is none = cc

@@ -17,6 +17,7 @@ use Rattle.mlt_hash.specs.declared.pass.Pass.{Pass}
 use Rattle.mlt_hash.specs.declared.pass.Pass.TheVariants as pass
 use Rattle.mlt_hash.specs.declared.pass.Phase.{Phase}
 use Rattle.mlt_hash.specs.declared.pass.Phase.TheVariants as phase
+use Rattle.mlt_hash.proofs.StepsLeft.{put_on_way}
 use Rattle.mlt_tx_operation.specs.Answers.{HasToRestart, PutsBehindSplits, Restarts, SplitsFromHere, StepsOn}
 use Rattle.mlt_tx_operation.specs.Operating.{on_one}
 use Rattle.mlt_tx_operation.specs.Walking.{FitsPhase, IsToAdd, WalkingFields, steps_of_walk, walk_for, walking}
@@ -28,7 +29,7 @@ use Rattle.mlt_tx_step_counts.specs.Counts.{BeginsSplits, FindsNoRoom, IsDoneOrB
 use Rattle.mlt_tx_step_counts.specs.OwnSteps.{AreOwnSteps, GoesThen, GoesToTurn, GoesUpTo, OwnStep, answers_of, basis_at, view_in}
 use Rattle.mlt_tx_step_counts.proofs.Answers.{ended_then, refused_in, then_after_going, then_after_wait, turn_after_going, turn_after_wait, turn_here, up_to_after_wait, up_to_after_going}
 use Rattle.mlt_tx_step_counts.proofs.PendingSteps.{last_step, one_step}
-use Rattle.mlt_tx_step_counts.proofs.Stages.{GoesOnOne, Stage, goes_on_one, left_at, on_stage, one_fewer_after, put_on_way, still_stage, told_at_last, untold_before}
+use Rattle.mlt_tx_step_counts.proofs.Stages.{GoesOnOne, Stage, goes_on_one, left_at, on_stage, one_fewer_after, still_stage, told_at_last, untold_before}
 use Rattle.mlt_tx_step_counts.proofs.Splitting.{PutsNow, SplitOutcome, SplitsOn, one_step_left, splits_and_puts}
 
 -- at the step to the bucket two steps are left

@@ -1,5 +1,5 @@
 -- Where an operation on one record stands, by the steps that are left of its pass; and what its next step makes of that
-use Rattle.std.proofs.Common.{ℕ, ◌≡◌, ◌≤◌, ◌<◌, ◌+◌, ◌-◌, Option, None, Some, IsSome, is_some, refl, sym, ap, subst, ◌∙◌, inl, inr, arith}
+use Rattle.std.proofs.Common.{ℕ, ◌≡◌, ◌≤◌, ◌+◌, ◌-◌, Option, None, Some, IsSome, is_some, refl, sym, ap, subst, ◌∙◌, inl, inr, arith}
 use Rattle.mlt_object_kinds.specs.declared.operation.ObjOp.{ObjOp}
 use Rattle.mlt_object_kinds.specs.declared.operation.ObjReply.{ObjReply}
 use Rattle.mlt_object_base.specs.declared.request.Request.{Request}
@@ -35,13 +35,6 @@ some_behind o split d is =
     let some = one_at_least (d - (split.depth + 1)) (split.depth + 1) (depth_after split.depth split.directory_depth) in
     let one : 1 ≤ steps_with_split (Some split) d = omega (arith, some) in
     subst (λ (x : Option SplitFields). 1 ≤ steps_with_split x d) (sym is) one
-
--- on the way nothing is to be put
-pub put_on_way : (p : Phase) (root : ℕ) (walk : WalkFields) (view : View) → 0 < steps_to_bucket p → steps_to_put_at p root walk view ≡ 0
-put_on_way phase.Start root walk view more = refl
-put_on_way (phase.Headed dir row depth) root walk view more = refl
-put_on_way (phase.Placed bucket depth) root walk view more = refl
-put_on_way other root walk view more = absurd (omega (arith, more))
 
 -- at the last step the reply is told
 pub told_at_last : (p : Phase) (basis : Basis) (o : WalkingFields) (view : View) → Stands p (one_key basis) o.walk view → FitsPhase p (one_key basis) o view

@@ -17,6 +17,7 @@ use Rattle.mlt_hash.specs.Walks.{Basis, IsAdding, Stands, WalkFields, basis_afte
 use Rattle.mlt_hash.specs.declared.pass.Pass.TheVariants as pass
 use Rattle.mlt_hash.specs.declared.pass.Phase.{Phase}
 use Rattle.mlt_hash.specs.declared.pass.Phase.TheVariants as phase
+use Rattle.mlt_hash.proofs.StepsLeft.{put_on_way}
 use Rattle.mlt_tx_two_records.specs.declared.double.Double.{Double}
 use Rattle.mlt_tx_two_records.specs.declared.double.Double.TheVariants.{First, Owing, Wide}
 use Rattle.mlt_tx_two_records.specs.declared.double.Leg.{Leg}
@@ -35,7 +36,7 @@ use Rattle.mlt_tx_step_counts.specs.OwnSteps.{AreOwnSteps, GoesThen, GoesToTurn,
 use Rattle.mlt_tx_step_counts.proofs.Answers.{refused_in, then_after_going, then_after_wait, turn_after_going, turn_after_wait, turn_here, up_to_after_going, up_to_after_wait}
 use Rattle.mlt_tx_step_counts.proofs.Extra.{one_at_least, one_or_four}
 use Rattle.mlt_tx_step_counts.proofs.Splitting.{PutsNow, SplitOutcome, splits_and_puts}
-use Rattle.mlt_tx_step_counts.proofs.Stages.{put_on_way, some_behind}
+use Rattle.mlt_tx_step_counts.proofs.Stages.{some_behind}
 use Rattle.mlt_tx_step_counts.proofs.StagesOfTwo.{GoesAt, WaitsAt, IsReady, StandsAt, end_comes_of_two, pending_at, step_of_two}
 
 -- ---- what a walk sees of pages that it wrote before

@@ -151,7 +151,8 @@ pub record IsToTakeBack (t : Transaction) (last : ObjOp × ObjReply) : Type 0 wh
   pub front : List (ObjOp × ObjReply)
   pub entries : t.undo.entries ≡ front ++ last ∷ []
 
--- It is taken back at the fourth step, told Going at the three before it; or at the first step, where it has no inverse.
+-- An operation on one record is taken back at the fourth step, told Going at the three before it;
+-- or at the first step, where it has no inverse.
 pub record TakesBackInFour (last : ObjOp × ObjReply) (steps : List OwnStep) : Type 0 where
   pub inverse : IsSome (inverse_of last) → GoesThen 3 IsTakenBack (answers_of steps)
   pub none : inverse_of last ≡ None → GoesThen 0 IsTakenBack (answers_of steps)

@@ -98,11 +98,11 @@ pub record GoesOver (Then : List OwnStep → Type 0) (before : Transaction) (ste
   pub steps : steps_to_bucket after.phase ≡ 2
   pub later : Then back
 
--- A wide pass takes three steps to the bucket of its own key, told Going. There the record is found, and Done or Blocked comes
--- next; or it is put, at the third of them; or it is refused by then; or the bucket is split first, as long as that takes, and then
--- the record is put. Once it is put, the size is changed. So the end comes at its fourth step, where there is a record; at its
--- sixth, where both buckets have room; at its step 7 + 3 * k + c, where one of them is split, and 8 + 3 * k + c where both are,
--- k times in all.
+-- A wide pass: three steps, told Going, to the bucket of its own key, whose record is there, or is
+-- put at the third step or behind splits; then, unless it was there, two more to that of the size,
+-- the same. Done or Blocked comes at step 4 where the record is there, at 6 where nothing is split,
+-- at 7 + 3 * k + c where one bucket is and 8 + 3 * k + c where both are, k times in all; or it is
+-- refused before.
 abbrev pub TakesWidePassOfTwo : Basis → List OwnStep → Type 0
 TakesWidePassOfTwo basis steps =
     GoesThen 3 IsDoneOrBlocked (answers_of steps)
@@ -167,5 +167,7 @@ abbrev pub TakesBackBy : Option ℕ → ObjOp × ObjReply → List OwnStep → T
 TakesBackBy None last steps = TakesBackInFour last steps
 TakesBackBy (Some size) last steps = TakesBackInSeven steps
 
+-- An operation is taken back: at its fourth step or its first where it is on one record, and at its
+-- fourth to seventh where it is on two.
 abbrev pub TakesBackOf : ObjOp × ObjReply → List OwnStep → Type 0
 TakesBackOf last steps = TakesBackBy (size_key_of (TakeBack last)) last steps

@@ -26,7 +26,7 @@ asked_fits Revive found can = can
 asked_fits (Plus n) found can = can
 asked_fits (Minus n) found can = can
 
-abbrev is_revival : Option RecChange → Bool
+abbrev pub is_revival : Option RecChange → Bool
 is_revival (Some Revive) = true
 is_revival other = false
 

@@ -1,14 +1,12 @@
 -- Operations on two records come to an end
-use Rattle.std.proofs.Common.{ℕ, zero, suc, ◌≡◌, ◌≤◌, ◌<◌, ◌+◌, ◌-◌, true, is_some, unwrap_or, nat_eq, Option, None, Some, refl, ap, subst, ◌∙◌, inl, inr, arith}
-use Rattle.std.proofs.lemmas.Bool.{cases_lt, cond-false, cond-true, eq-eqb, false≢true, ne_eqb}
+use Rattle.std.proofs.Common.{ℕ, ◌≡◌, ◌≤◌, ◌<◌, ◌+◌, ◌-◌, true, nat_eq, ap, subst, ◌∙◌, inl, inr, arith}
+use Rattle.std.proofs.lemmas.Bool.{cases_lt, cond-false, cond-true, eq-eqb, ne_eqb}
 use Rattle.mlt_object_kinds.specs.declared.operation.ObjReply.{ObjReply}
 use Rattle.mlt_object_base.specs.declared.request.Request.{Request}
-use Rattle.mlt_page.specs.declared.page.Page.{Page}
 use Rattle.mlt_hash_form.specs.File.{header_of}
-use Rattle.mlt_hash_form.specs.Held.{own_or}
 use Rattle.mlt_hash_access.specs.Moments.{Moment}
-use Rattle.mlt_hash_access.specs.Views.{HasWritten, View, seen_with, view_of}
-use Rattle.mlt_hash_access.proofs.Since.{nothing_written}
+use Rattle.mlt_hash_access.specs.Views.{HasWritten, View, view_of}
+use Rattle.mlt_hash_access.proofs.Since.{nothing_written, read_over_writes}
 use Rattle.mlt_hash.specs.Changes.{page_of}
 use Rattle.mlt_hash.specs.Steps.{steps_to_bucket}
 use Rattle.mlt_hash.specs.StepsLeft.{bucket_depth, directory_depth, steps_of_splits, steps_to_put, steps_to_put_at}
@@ -17,6 +15,7 @@ use Rattle.mlt_hash.specs.declared.pass.Pass.{Pass}
 use Rattle.mlt_hash.specs.declared.pass.Pass.TheVariants as pass
 use Rattle.mlt_hash.specs.declared.pass.Phase.{Phase}
 use Rattle.mlt_hash.specs.declared.pass.Phase.TheVariants as at
+use Rattle.mlt_hash.proofs.StepsLeft.{put_is_left, put_on_way}
 use Rattle.mlt_tx_two_records.specs.declared.answer.DoubleAnswer.TheVariants as answer
 use Rattle.mlt_tx_two_records.specs.declared.double.Double.{Double}
 use Rattle.mlt_tx_two_records.specs.declared.double.Double.TheVariants.{First, Owing, Wide}
@@ -34,13 +33,6 @@ at_bucket root walk view there = cond-true (nat_eq (steps_to_bucket walk.phase) 
 
 on_way : (root : ℕ) (walk : WalkFields) (view : View) → 0 < steps_to_bucket walk.phase → most_to_change root walk view ≡ steps_to_bucket walk.phase + most_to_put
 on_way root walk view more = cond-false (nat_eq (steps_to_bucket walk.phase) 0) _ _ (ne_eqb _ _ (λ (there : steps_to_bucket walk.phase ≡ 0). omega (arith, more, there)))
-
--- on the way nothing is to be put yet
-put_on_way : (p : Phase) (root : ℕ) (walk : WalkFields) (view : View) → 0 < steps_to_bucket p → steps_to_put_at p root walk view ≡ 0
-put_on_way at.Start root walk view more = refl
-put_on_way (at.Headed dir row depth) root walk view more = refl
-put_on_way (at.Placed bucket depth) root walk view more = refl
-put_on_way other root walk view more = absurd (omega (arith, more))
 
 -- one step to the bucket, or of a split
 nearer : (root : ℕ) (old new : View) (before after : WalkFields) → GoesNearer root old new before after → most_to_change root after new < most_to_change root before old
@@ -66,15 +58,9 @@ nearer root old new before after s =
           ]
     ]
 
--- a page that is held reads as it does where what was written before is taken as seen
-reads_alike : (before own : Option Page) (seen : Option (Option Page)) → (is_some before ≡ true → is_some own ≡ true) → own_or own (unwrap_or (seen_with before seen) None) ≡ own_or own (unwrap_or seen None)
-reads_alike None own seen written = refl
-reads_alike (Some page) None seen written = absurd (false≢true (written refl))
-reads_alike (Some page) (Some mine) seen written = refl
-
 same_depth : (basis : Basis) (m : Moment) → HasWritten basis.before.written (view_of m) → directory_depth (view_for basis m) basis.root ≡ directory_depth (view_of m) basis.root
 same_depth basis m written =
-    ap (λ p. (header_of p).depth) (reads_alike (basis.before.written basis.root) ((view_of m).own basis.root) ((view_of m).seen basis.root) (λ some. (written basis.root some).1))
+    ap (λ p. (header_of p).depth) (read_over_writes (basis.before.written basis.root) ((view_of m).own basis.root) ((view_of m).seen basis.root) (λ some. (written basis.root some).1))
 
 not_first : (p : Pass) → p ≡ pass.Wide → p ≡ pass.First → ⊥
 not_first p wide first = cc
@@ -103,12 +89,6 @@ walks_on : (basis : Basis) (old new : Moment) (before after : WalkFields) → ba
     → most_to_change basis.root after (view_of new) < most_to_change basis.root before (view_of old)
 walks_on basis old new before after small written wide (inl goes) = nearer basis.root (view_of old) (view_of new) before after goes
 walks_on basis old new before after small written wide (inr begins) = splits basis (view_of old) new before after small written wide begins
-
--- a walk puts its record in the last step of those that are left
-put_is_left : (n l g : ℕ) → 0 < steps_of_splits n l g
-unfolding steps_of_splits
-put_is_left zero l g = omega arith
-put_is_left (suc n) l g = omega (arith)
 
 change_is_left : (root : ℕ) (walk : WalkFields) (view : View) → HasChangedNow walk → 0 < most_to_change root walk view
 change_is_left root walk view (inl last) =

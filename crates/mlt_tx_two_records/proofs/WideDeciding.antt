@@ -9,11 +9,9 @@ use Rattle.mlt_object_base.specs.declared.request.Request.{Request}
 use Rattle.mlt_object_base.specs.declared.request.Request.TheVariants.{Do}
 use Rattle.mlt_object_base.specs.Effects.{size_change_of}
 use Rattle.mlt_object_base.specs.Requests.{IsPossible, decision, size_decision}
+use Rattle.mlt_hash_access.proofs.Rebased.{same_some}
 use Rattle.mlt_tx_two_records.specs.AtWideBuckets.{Raises}
 use Rattle.mlt_tx_two_records.specs.Performing.{AddsElement}
-
-same_some : {X : Type 0} (x y : X) → Some x ≡ Some y → x ≡ y
-same_some x y same = cc
 
 -- whatever is found it is possible
 pub is_possible : (request : Request) (found : Option ℕ) → AddsElement request → IsPossible request found

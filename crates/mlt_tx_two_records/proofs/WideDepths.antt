@@ -15,6 +15,7 @@ use Rattle.mlt_hash.specs.Walks.{Basis, IsSplitting, Stands, WalkFields, view_fo
 use Rattle.mlt_hash.specs.declared.answer.WalkAnswer.TheVariants as answer
 use Rattle.mlt_hash.specs.declared.pass.Phase.{Phase}
 use Rattle.mlt_hash.specs.declared.pass.Phase.TheVariants as at
+use Rattle.mlt_hash.proofs.StepsLeft.{some_is_one}
 use Rattle.mlt_tx_two_records.specs.Depths.{GoesDown, depths_at, depths_with_split}
 
 -- ---- what a walk sees over what was written before it reads as it reads without
@@ -38,9 +39,6 @@ module _ (basis : Basis) (m : Moment) (written : HasWritten basis.before.written
   same_steps other walk = refl
 
 -- ---- the steps of a split
-
-some_is_one : (x y : SplitFields) (o : Option SplitFields) → o ≡ Some x → o ≡ Some y → x ≡ y
-some_is_one x y o is_x is_y = let e : Some x ≡ Some y = sym is_x ∙ is_y in cc
 
 module _ (basis : Basis) (old new : Moment) (before after : WalkFields) where
   -- a split has begun

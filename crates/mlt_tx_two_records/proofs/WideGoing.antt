@@ -2,18 +2,18 @@
 use Rattle.std.proofs.Common.{◌≡◌, ℕ, ◌<◌, false, refl, sym, subst, inl, inr, arith}
 use Rattle.mlt_hash_access.specs.Moments.{Moment}
 use Rattle.mlt_hash_access.specs.PageSteps.{Leaves}
-use Rattle.mlt_hash_access.specs.Views.{View, view_of}
+use Rattle.mlt_hash_access.specs.Views.{view_of}
 use Rattle.mlt_hash_access.proofs.Rebased.{written_stays}
 use Rattle.mlt_hash.specs.Changes.{Makes}
 use Rattle.mlt_hash.specs.Splitting.{IsUnderWay, TellsAt}
 use Rattle.mlt_hash.specs.Steps.{GoesOn, IsSameWalk, steps_to_bucket}
-use Rattle.mlt_hash.specs.StepsLeft.{IsPutting, steps_to_put, steps_to_put_at}
+use Rattle.mlt_hash.specs.StepsLeft.{IsPutting, steps_to_put}
 use Rattle.mlt_hash.specs.Walks.{Basis, IsStanding, MayWalk, WalkFields, view_for}
 use Rattle.mlt_hash.specs.declared.answer.WalkAnswer.TheVariants as answer
 use Rattle.mlt_hash.specs.declared.pass.Change.TheVariants as change
 use Rattle.mlt_hash.specs.declared.pass.Phase.{Phase}
 use Rattle.mlt_hash.specs.declared.pass.Phase.TheVariants as at
-use Rattle.mlt_hash.proofs.StepsLeft.{one_fewer}
+use Rattle.mlt_hash.proofs.StepsLeft.{one_fewer, put_on_way}
 use Rattle.mlt_tx_two_records.specs.WalkSteps.{GoesNearer}
 use Rattle.mlt_tx_two_records.specs.WidePass.{PutsThen}
 use Rattle.mlt_tx_two_records.proofs.WideDepths.{goes_down, same_steps}
@@ -25,12 +25,6 @@ under_way_there at.Start more = tt
 under_way_there (at.Headed dir row depth) more = tt
 under_way_there (at.Placed bucket depth) more = tt
 under_way_there other more = absurd (omega (arith, more))
-
-none_on_way : (p : Phase) (root : ℕ) (walk : WalkFields) (view : View) → 0 < steps_to_bucket p → steps_to_put_at p root walk view ≡ 0
-none_on_way at.Start root walk view more = refl
-none_on_way (at.Headed dir row depth) root walk view more = refl
-none_on_way (at.Placed bucket depth) root walk view more = refl
-none_on_way other root walk view more = absurd (omega (arith, more))
 
 puts_none_on_way : (p : Phase) (Is : ℕ → Type 0) → 0 < steps_to_bucket p → PutsThen p Is
 puts_none_on_way at.Start Is more = tt
@@ -46,17 +40,17 @@ pub record GoesFurther (basis : Basis) (old new : Moment) (before after : WalkFi
   pub stands : IsStanding basis after (view_for basis new)
 
 -- the phase of a walk that adds or splits
-abbrev IsAddingPhase : Phase → ℕ → Type 0
+abbrev pub IsAddingPhase : Phase → ℕ → Type 0
 IsAddingPhase (at.Adding v bucket depth unsplit) value = v ≡ value
 IsAddingPhase (at.Splitting v depth) value = v ≡ value
 IsAddingPhase other value = ⊥
 
-none_to_bucket : (p : Phase) (value : ℕ) → IsAddingPhase p value → steps_to_bucket p ≡ 0
+pub none_to_bucket : (p : Phase) (value : ℕ) → IsAddingPhase p value → steps_to_bucket p ≡ 0
 none_to_bucket (at.Adding v bucket depth unsplit) value is = refl
 none_to_bucket (at.Splitting v depth) value is = refl
 none_to_bucket other value is = absurd is
 
-is_putting : (p : Phase) (value : ℕ) → IsAddingPhase p value → IsPutting p
+pub is_putting : (p : Phase) (value : ℕ) → IsAddingPhase p value → IsPutting p
 is_putting (at.Adding v bucket depth unsplit) value is = tt
 is_putting (at.Splitting v depth) value is = tt
 is_putting other value is = absurd is
@@ -76,8 +70,8 @@ module _ (basis : Basis) (old new : Moment) (before after : WalkFields) (may : M
   on_way : GoesOn basis new before after → 0 < steps_to_bucket after.phase → GoesFurther basis old new before after
   on_way goes more =
       let was : 0 < steps_to_bucket before.phase = omega (arith, goes.fewer, more) in
-      let none_before = none_on_way before.phase basis.root before (view_of old) was in
-      let none_after = none_on_way after.phase basis.root after (view_of new) more in
+      let none_before = put_on_way before.phase basis.root before (view_of old) was in
+      let none_after = put_on_way after.phase basis.root after (view_of new) more in
       record {
         nearer = record {
           nearer = omega (arith, goes.fewer);

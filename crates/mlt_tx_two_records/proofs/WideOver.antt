@@ -5,6 +5,7 @@ use Rattle.mlt_object_base.specs.declared.request.Request.{Request}
 use Rattle.mlt_object_base.specs.Requests.{size_key_of, target_of}
 use Rattle.mlt_hash_access.specs.Moments.{Moment}
 use Rattle.mlt_hash_access.specs.Views.{view_of}
+use Rattle.mlt_hash_access.proofs.Rebased.{same_some}
 use Rattle.mlt_hash.specs.Walks.{Basis, Before, IsChanged, MayWalk, SlotsStood, Stands, WalkFields, basis_after, before_of, nothing_before, one_key}
 use Rattle.mlt_hash.specs.Splitting.{IsUnderWay}
 use Rattle.mlt_hash.specs.Changes.{IsChangedPhase}
@@ -13,9 +14,6 @@ use Rattle.mlt_hash.specs.declared.pass.Phase.TheVariants as at
 use Rattle.mlt_tx_two_records.specs.FirstPass.{HasKeys}
 use Rattle.mlt_tx_two_records.specs.AtWideBuckets.{HasJustPut}
 use Rattle.mlt_tx_two_records.specs.WidePass.{HasPutOwn, IsGoingToSize, PutsSize, PutsThen}
-
-same_some : (x y : ℕ) → Some x ≡ Some y → x ≡ y
-same_some x y same = cc
 
 module _ (basis : Basis) (m : Moment) (request : Request) (walk : WalkFields) (just : HasJustPut basis m request walk) where
   -- It may go on,

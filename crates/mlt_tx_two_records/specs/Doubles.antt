@@ -19,7 +19,7 @@ use Rattle.mlt_tx_two_records.specs.declared.double.Leg.TheVariants as leg
 use Rattle.mlt_tx_two_records.specs.FirstPass.{HasToldFirst, IsFindingBoth, OwesOne}
 use Rattle.mlt_tx_two_records.specs.WidePass.{HasToldBoth, HasToldPresent, IsGoingToOwn, IsGoingToSize}
 
--- one that has taken no step
+-- an operation on two records that has taken no step
 abbrev pub find_both : ℕ → ℕ → Double
 find_both own size = First (find_by own size)
 

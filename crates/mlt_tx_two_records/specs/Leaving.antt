@@ -56,6 +56,8 @@ pub record LeavesAll (basis : Basis) (request : Request) (reply : ObjReply) (siz
   pub resized : size_decision request reply (look_up basis.bits clean basis.root size_key) ≡ None
   pub unwritten : (q : ℕ) → view.own q ≡ None
 
+-- what is told goes with what the clean pages have of both keys, and just the changes that this
+-- asks for are left
 abbrev pub LeavesAsTold : Basis → Request → ObjReply → View → FilePages → Type 0
 LeavesAsTold basis request reply view clean =
     (size : ℕ) × (size_key_of request ≡ Some size)

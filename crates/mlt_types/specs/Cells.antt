@@ -3,7 +3,7 @@ use Rattle.std.specs.Prelude.{ℕ, ◌+◌, ◌*◌, ◌^◌, ◌<◌}
 use Rattle.mlt_types.specs.declared.cell.Cell.{Cell}
 use Rattle.mlt_types.specs.declared.cell.Cell.TheVariants.{Account, Element, Counter, Size}
 
--- the number of a cell's key
+-- the number of a cell's key, which no other cell has
 abbrev pub key_number : Cell → ℕ
 key_number (Account a) = 2 ^ 48 + a
 key_number (Counter c) = 2 * 2 ^ 48 + c

@@ -7,6 +7,7 @@ use Rattle.mlt_types.specs.declared.refusal.ScriptCause.TheVariants as script
 use Rattle.mlt_types.specs.declared.refusal.TraceCause.{TraceCause}
 use Rattle.mlt_types.specs.declared.refusal.TraceCause.TheVariants as trace
 
+-- the name of the cause of a faulty script
 abbrev pub script_cause_name : ScriptCause → List ℕ
 script_cause_name script.Line = codes "Line"
 script_cause_name script.Words = codes "Words"
@@ -15,6 +16,7 @@ script_cause_name script.Deep = codes "Deep"
 script_cause_name script.Long = codes "Long"
 script_cause_name script.Unfinished = codes "Unfinished"
 
+-- the name of the cause of a faulty trace
 abbrev pub trace_cause_name : TraceCause → List ℕ
 trace_cause_name trace.Line = codes "Line"
 trace_cause_name trace.Cut = codes "Cut"
@@ -22,6 +24,7 @@ trace_cause_name trace.Words = codes "Words"
 trace_cause_name trace.Place = codes "Place"
 trace_cause_name trace.Reply = codes "Reply"
 
+-- the number of a refusal, from 1 to 16
 abbrev pub number_of : Refusal → ℕ
 number_of refusal.OutOfMemory = 1
 number_of refusal.NoRoom = 2
@@ -40,6 +43,7 @@ number_of refusal.GaveUp = 14
 number_of refusal.Audit = 15
 number_of refusal.BadLimits = 16
 
+-- the name of a refusal
 abbrev pub name_of : Refusal → List ℕ
 name_of refusal.OutOfMemory = codes "OutOfMemory"
 name_of refusal.NoRoom = codes "NoRoom"

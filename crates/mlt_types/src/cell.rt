@@ -1,6 +1,6 @@
 //! Cells, the objects that operations are on, and their keys.
 
-ghost use Rattle.std.specs.Prelude.{◌≡◌, ℕ};
+ghost use Rattle.std.specs.Prelude.{◌≡◌, ◌<◌, ◌^◌, ℕ};
 ghost use Rattle.mlt_types.specs.Cells.{key_number, IsInRange};
 ghost use Rattle.mlt_types.specs.declared.cell.Cell.{Cell};
 
@@ -18,6 +18,31 @@ pub enum Cell {
     /// How many elements a set has, by the set's number.
     Size(u16),
 }
+
+impl Cell {
+    /// What the types of its numbers say of a cell.
+    pub fn is_in_range(&self)
+        ensures { IsInRange self.now }
+    {
+        match *self {
+            Cell::Account(account) => has_32_bits(account),
+            Cell::Counter(counter) => has_32_bits(counter),
+            Cell::Element(set, element) => {
+                has_16_bits(set);
+                has_32_bits(element);
+            },
+            Cell::Size(set) => has_16_bits(set),
+        }
+    }
+}
+
+fn has_16_bits(number: u16)
+    ensures { number < 2 ^ 16 }
+{}
+
+fn has_32_bits(number: u32)
+    ensures { number < 2 ^ 32 }
+{}
 
 /// The key of a cell's record. A contract sees its number.
 #[derive(Clone, Copy, Debug, PartialEq, Eq, PartialOrd, Ord, Hash)]

@@ -2,13 +2,13 @@
 //! that a reader has, with what became of them written as a text.
 #![tactic(auto)]
 
-mod crew;
+mod begin_queue;
 mod engine;
 mod reporting;
 mod running;
-mod shift;
 mod worker;
+mod workers;
 
+pub use begin_queue::BeginQueue;
 pub use engine::run_scripts;
 pub use running::run;
-pub use shift::Shift;

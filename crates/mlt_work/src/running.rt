@@ -5,14 +5,14 @@ ghost use Rattle.mlt_work_desk.specs.Makings.{making_by};
 ghost use Rattle.mlt_work_clients.specs.Places.{scripts_of_clients};
 ghost use Rattle.mlt_work.specs.Runs.{HasRunAll};
 
-use crate::crew::work_all;
 use crate::reporting::report_of;
+use crate::workers::work_all;
 use mlt_manager::Manager;
 use mlt_script_serial::Report;
 use mlt_script_tree::Script;
 use mlt_types::{Limits, Pseudo, Refusal};
 use mlt_work_clients::{Counter, collect, empty_slots, jobs_for};
-use mlt_work_desk::{Gate, Hall, MadeWith, Shared};
+use mlt_work_desk::{Gate, LockedState, MadeWith, Shared};
 use std::alloc::Global;
 use std::marker::Brand;
 use std::sync::Wait;
@@ -58,7 +58,7 @@ fn run_with<
         workers,
     )?;
     let manager = Manager::new(alloc, limits, pseudo)?;
-    let shared = Shared::new(Hall::new(manager, book));
+    let shared = Shared::new(LockedState::new(manager, book));
     let results = match work_all(rt, alloc, &shared, gate, &counter, clients, tries, jobs) {
         Ok(results) => results,
         Err(_) => {

@@ -26,9 +26,11 @@ abbrev pub total : (View → ℕ) → List View → ℕ
 total of_view [] = 0
 total of_view (v ∷ vs) = of_view v + total of_view vs
 
+-- the parts of a seat
 abbrev pub parts_of : View → ℕ
 parts_of v = v.parts
 
+-- how many numbers past the last client a seat may draw
 abbrev pub overruns_of : View → ℕ
 overruns_of v = v.overruns
 

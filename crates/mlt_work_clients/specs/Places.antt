@@ -16,6 +16,7 @@ use Rattle.mlt_work_clients.specs.declared.forms.ClientRun.{ClientRun}
 abbrev pub scripts_of_clients : List (Vec Script) → List (List ScriptForm)
 scripts_of_clients clients = map (λ client. client.items) clients
 
+-- the place of the client of a run
 abbrev pub place_of : ClientRun → ℕ
 place_of run = run.place
 
@@ -48,6 +49,7 @@ abbrev pub AreInPlace : List (List ScriptForm) → List (Option ClientRun) → T
 AreInPlace clients slots =
     (place : ℕ) → place < length slots → IfSome (slice_index_or slots place None) (λ run. (run.place ≡ place) × IsClientRun clients run)
 
+-- this place has its run
 abbrev pub HasRunAt : List (Option ClientRun) → ℕ → Type 0
 HasRunAt slots place = IsSome (slice_index_or slots place None)
 

@@ -12,7 +12,7 @@ pub record Making (P : Type 0) : Type 0 where
   pub max_ops : ℕ
   pub pseudo : P
 
--- what this manager has of them, from its beginning on
+-- the limits of a manager, and its function from keys to pseudokeys, from its beginning on
 abbrev pub making_of : {P : Type 0} → ManagerFields P → Making P
 making_of m = record {
   max_open = m.max_open;

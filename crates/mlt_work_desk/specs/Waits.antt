@@ -6,10 +6,10 @@ use Rattle.mlt_event.specs.declared.event.Event.{Event}
 use Rattle.mlt_event.specs.declared.event.Event.TheVariants as event
 use Rattle.mlt_event.specs.declared.told.Told.{Told}
 use Rattle.mlt_event.specs.declared.told.Told.TheVariants as told
-use Rattle.mlt_work_waits.specs.Waits.{Waits, bells_in, CanJoin, CantJoin, Deadlocks, joined, nobody_waits, released}
+use Rattle.mlt_work_waits.specs.Waits.{Waits, CanJoin, CantJoin, Deadlocks, joined, nobody_waits, released, wakers_in}
 use Rattle.mlt_work_waits.specs.declared.wait.Awaited.{Awaited}
 use Rattle.mlt_work_waits.specs.declared.wait.Awaited.TheVariants as awaited
-use Rattle.mlt_work_waits.specs.declared.wait.Bell.{Bell}
+use Rattle.mlt_work_waits.specs.declared.wait.Waker.{Waker}
 use Rattle.mlt_work_waits.specs.declared.wait.Waiting.{Waiting}
 use Rattle.mlt_work_waits.specs.declared.wait.Whose.TheVariants as whose
 use Rattle.mlt_work_desk.specs.declared.turn.GivenBack.{GivenBack}
@@ -43,7 +43,7 @@ is_to_wait other = false
 
 -- the wait of a sleeper for a lock of y
 abbrev pub wait_for : Sleeper → ℕ → Waiting
-wait_for sleeper y = record { waiter = sleeper.tx; holder = y; bell = sleeper.bell }
+wait_for sleeper y = record { waiter = sleeper.tx; holder = y; waker = sleeper.waker }
 
 -- the wait of one that was told this, if it is to wait and may sleep
 abbrev pub wait_of : Told → Option Sleeper → Option (Awaited × Waiting)
@@ -57,11 +57,11 @@ waits_after (given.All x) waits = released awaited.Pages (whose.One x) (released
 waits_after (given.Pages x) waits = released awaited.Pages (whose.One x) waits
 waits_after given.Nothing waits = waits
 
--- the bells that ring then: those of all who waited for what was given back
-abbrev pub rung_by : GivenBack → Waits → List Bell
-rung_by (given.All x) waits = bells_in (whose.One x) waits.objects ++ bells_in (whose.One x) waits.pages
-rung_by (given.Pages x) waits = bells_in (whose.One x) waits.pages
-rung_by given.Nothing waits = []
+-- who is woken then: all who waited for what was given back
+abbrev pub woken_by : GivenBack → Waits → List Waker
+woken_by (given.All x) waits = wakers_in (whose.One x) waits.objects ++ wakers_in (whose.One x) waits.pages
+woken_by (given.Pages x) waits = wakers_in (whose.One x) waits.pages
+woken_by given.Nothing waits = []
 
 -- how many desks wait
 abbrev pub waiting : Waits → ℕ
@@ -71,10 +71,10 @@ waiting waits = length waits.objects + length waits.pages
 abbrev pub waits_of_others : ℕ → Waits → Waits
 waits_of_others count waits = if nat_lt (waiting waits + 1) count then waits else nobody_waits
 
--- and the bells that ring then
-abbrev pub rung_by_end : ℕ → Waits → List Bell
-rung_by_end count waits =
-    if nat_lt (waiting waits + 1) count then [] else bells_in whose.All waits.objects ++ bells_in whose.All waits.pages
+-- and who is woken then
+abbrev pub woken_by_end : ℕ → Waits → List Waker
+woken_by_end count waits =
+    if nat_lt (waiting waits + 1) count then [] else wakers_in whose.All waits.objects ++ wakers_in whose.All waits.pages
 
 -- another of so many desks is awake, and the wait can join
 abbrev pub CanSleep : ℕ → Awaited → Waiting → Waits → Type 0
@@ -95,28 +95,29 @@ Turns count awaited.Objects wait before turn.Goes after =
 Turns count awaited.Pages wait before turn.Goes after =
     CantSleep count awaited.Pages wait before × (after ≡ released awaited.Pages whose.All before)
 
--- the bells that ring at its turn
-abbrev pub rung_at : Turn → Awaited → Waits → List Bell
-rung_at turn.Goes awaited.Pages waits = bells_in whose.All waits.pages
-rung_at other any waits = []
+-- who is woken at its turn
+abbrev pub woken_at : Turn → Awaited → Waits → List Waker
+woken_at turn.Goes awaited.Pages waits = wakers_in whose.All waits.pages
+woken_at other any waits = []
 
 -- its turn, where it may be that it is not to wait, or may not sleep
 abbrev pub TurnsIfWaits : ℕ → Option (Awaited × Waiting) → Waits → Turn → Waits → Type 0
 TurnsIfWaits count None before taken after = (taken ≡ turn.Goes) × (after ≡ before)
 TurnsIfWaits count (Some wait) before taken after = Turns count wait.0 wait.1 before taken after
 
-abbrev pub rung_if_waits : Option (Awaited × Waiting) → Turn → Waits → List Bell
-rung_if_waits None taken waits = []
-rung_if_waits (Some wait) taken waits = rung_at taken wait.0 waits
+-- who is woken then
+abbrev pub woken_if_waits : Option (Awaited × Waiting) → Turn → Waits → List Waker
+woken_if_waits None taken waits = []
+woken_if_waits (Some wait) taken waits = woken_at taken wait.0 waits
 
--- whom others let pass once locks were given back: no longer one that did so
-abbrev pub let_pass_after : GivenBack → Option ℕ → Option ℕ
-let_pass_after (given.All x) (Some y) = if x == y then None else Some y
-let_pass_after (given.Pages x) (Some y) = if x == y then None else Some y
-let_pass_after other passing = passing
+-- who has precedence once locks were given back: no longer one that did so
+abbrev pub precedence_after : GivenBack → Option ℕ → Option ℕ
+precedence_after (given.All x) (Some y) = if x == y then None else Some y
+precedence_after (given.Pages x) (Some y) = if x == y then None else Some y
+precedence_after other before = before
 
--- whom others let pass once one that may sleep was told this: one that waits for pages and was passed over, if nobody is yet
-abbrev pub let_pass_with : Told → Option Sleeper → Option ℕ → Option ℕ
-let_pass_with (told.Answered (answer.Waiting page by)) (Some sleeper) None =
-    if sleeper.is_passed_over then Some sleeper.tx else None
-let_pass_with other any passing = passing
+-- who has precedence once one that may sleep was told this: one that waits for pages and takes it, if nobody has it yet
+abbrev pub precedence_with : Told → Option Sleeper → Option ℕ → Option ℕ
+precedence_with (told.Answered (answer.Waiting page by)) (Some sleeper) None =
+    if sleeper.takes_precedence then Some sleeper.tx else None
+precedence_with other any before = before

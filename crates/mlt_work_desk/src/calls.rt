@@ -13,11 +13,11 @@ use mlt_object_kinds::{ObjOp, ObjReply};
 use mlt_script_cursor::Answering;
 use mlt_script_desk::Desk;
 use mlt_types::{Pseudo, Refusal, TxId};
-use mlt_work_waits::{Bell, Bells};
+use mlt_work_waits::{Waker, Wakers};
 use std::sync::Wait;
 use std::sync::ledger::Share;
 
-// An operation that has waited so often is let pass.
+// An operation that has waited so often takes precedence.
 const PATIENCE: u64 = 8;
 
 impl<'a, P: Pseudo, L: MadeWith<P>, R: Wait, G: Gate> LockDesk<'a, P, L, R, G> {
@@ -32,7 +32,7 @@ impl<'a, P: Pseudo, L: MadeWith<P>, R: Wait, G: Gate> LockDesk<'a, P, L, R, G> {
         requires part { share.parts ≡ 1 }
         requires amount { share.amount ≡ 0 }
     {
-        let bell = shared.lock(rt).desks.enter();
+        let waker = shared.lock(rt).desks.enter();
         LockDesk {
             rt,
             shared,
@@ -41,7 +41,7 @@ impl<'a, P: Pseudo, L: MadeWith<P>, R: Wait, G: Gate> LockDesk<'a, P, L, R, G> {
             tries,
             left: 0,
             waited: 0,
-            bell,
+            waker,
             asleep: None,
             share,
             events: 0,
@@ -66,14 +66,14 @@ impl<'a, P: Pseudo, L: MadeWith<P>, R: Wait, G: Gate> LockDesk<'a, P, L, R, G> {
             tries: _,
             left: _,
             waited: _,
-            bell,
+            waker,
             asleep: _,
             share,
             events,
         } = self;
-        let mut bells = Bells::new();
-        shared.lock(rt).desks.leave(bell, &mut bells);
-        shared.ring(&bells);
+        let mut wakers = Wakers::new();
+        shared.lock(rt).desks.leave(waker, &mut wakers);
+        shared.wake(&wakers);
         (share, events)
     }
 
@@ -87,18 +87,17 @@ impl<'a, P: Pseudo, L: MadeWith<P>, R: Wait, G: Gate> LockDesk<'a, P, L, R, G> {
         let LockDesk {
             rt,
             shared,
-            bell,
+            waker,
             asleep,
             share,
             events,
             ..
         } = self;
-        let mut bells = Bells::new();
-        let mut hall = shared.enter(*rt, *asleep, caller(&event, *bell));
-        let next = sleeper;
-        let (told, turn) = hall.act(event, share, next, &mut bells);
-        drop(hall);
-        shared.ring(&bells);
+        let mut wakers = Wakers::new();
+        let mut state = shared.enter(*rt, *asleep, caller(&event, *waker));
+        let (told, turn) = state.act(event, share, sleeper, &mut wakers);
+        drop(state);
+        shared.wake(&wakers);
         *asleep = if turn == Turn::Sleeps { sleeper } else { None };
         *events = events.saturating_add(1);
         (told, turn)
@@ -119,8 +118,8 @@ impl<'a, P: Pseudo, L: MadeWith<P>, R: Wait, G: Gate> LockDesk<'a, P, L, R, G> {
     fn sleeper(&self, tx: TxId) -> Sleeper {
         Sleeper {
             tx,
-            bell: self.bell,
-            is_passed_over: self.waited >= PATIENCE,
+            waker: self.waker,
+            takes_precedence: self.waited >= PATIENCE,
         }
     }
 
@@ -246,13 +245,13 @@ impl<'a, P: Pseudo, L: MadeWith<P>, R: Wait, G: Gate> Desk for LockDesk<'a, P, L
     }
 }
 
-/// Who calls an operation by this event, if it does: others may be let pass before.
-fn caller(event: &Event, bell: Bell) -> Option<Sleeper> {
+/// Who calls an operation by this event, if it does: it may yield to another before.
+fn caller(event: &Event, waker: Waker) -> Option<Sleeper> {
     match *event {
         Event::Call(tx, _) => Some(Sleeper {
             tx,
-            bell,
-            is_passed_over: false,
+            waker,
+            takes_precedence: false,
         }),
         _ => None,
     }

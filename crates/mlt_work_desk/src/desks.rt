@@ -1,24 +1,24 @@
-//! The desks of a hall, and which of them wait.
+//! The desks over a lock, which of them wait, and which has precedence.
 
 ghost use Rattle.std.specs.Prelude.{ℕ, ◌≡◌, ◌++◌, ◌+◌, ◌-◌, ◌<◌, ◌≤◌, ◌^◌, [], true, false, None, Some, length, min};
 ghost use Rattle.mlt_work_waits.specs.Waits.{joined};
-ghost use Rattle.mlt_work_desk.specs.Waits.{CanSleep, CantSleep, let_pass_after, let_pass_with, rung_at, rung_by, rung_by_end, rung_if_waits, Turns, TurnsIfWaits, wait_for, waiting, waits_after, waits_of_others};
+ghost use Rattle.mlt_work_desk.specs.Waits.{CanSleep, CantSleep, precedence_after, precedence_with, Turns, TurnsIfWaits, wait_for, waiting, waits_after, waits_of_others, woken_at, woken_by, woken_by_end, woken_if_waits};
 
 use crate::turn::{GivenBack, Sleeper, Turn};
 use mlt_event::{Answer, Told};
 use mlt_types::TxId;
-use mlt_work_waits::{Awaited, Bell, Bells, Waiting, WaitsFor, Whose};
+use mlt_work_waits::{Awaited, Waiting, WaitsFor, Waker, Wakers, Whose};
 
 /// How many desks there are, and whose transactions wait for which. Not all wait, and none in a circle.
 #[derive(Debug, Drop)]
 pub(crate) struct Desks {
     count: u64,
-    /// Which of the bells 0 to 63 desks have, a bit for each.
+    /// Which of the wakers 0 to 63 desks have, a bit for each.
     taken: u64,
     /// The transactions of the desks that sleep.
     waits: WaitsFor,
-    /// The one that others let pass.
-    let_pass: Option<TxId>,
+    /// The transaction that has precedence: others yield to it before they call an operation.
+    precedence: Option<TxId>,
     ghost awake: { waiting waits ≤ count - 1 },
 }
 
@@ -29,37 +29,37 @@ impl Desks {
             count: 0,
             taken: 0,
             waits: WaitsFor::new(),
-            let_pass: None,
+            precedence: None,
         }
     }
 
-    /// A desk comes, and is given a bell: one of its own, where there are no more than 64 desks.
-    pub(crate) fn enter(&mut self) -> Bell
+    /// A desk comes, and is given a waker: one of its own, where there are no more than 64 desks.
+    pub(crate) fn enter(&mut self) -> Waker
         ensures count { self.new.count ≡ min (self.old.count + 1) (2 ^ 64 - 1) }
         ensures waits { self.new.waits ≡ self.old.waits }
-        ensures let_pass { self.new.let_pass ≡ self.old.let_pass }
+        ensures precedence { self.new.precedence ≡ self.old.precedence }
     {
         let lowest = self.taken.trailing_ones();
         self.taken |= self.taken.wrapping_add(1);
         self.count = self.count.saturating_add(1);
-        Bell(u8::try_from(lowest).unwrap_or(u8::MAX))
+        Waker(u8::try_from(lowest).unwrap_or(u8::MAX))
     }
 
-    /// A desk ends, and gives its bell back. Where all others wait, all are woken.
+    /// A desk ends, and gives its waker back. Where all others wait, all are woken.
     #[tactic(auto, using(crate::proofs::Fewer::fewer_wait, crate::proofs::Fewer::nobody_left))]
-    pub(crate) fn leave(&mut self, bell: Bell, bells: &mut Bells)
-        requires { bells.old.items ≡ [] }
+    pub(crate) fn leave(&mut self, waker: Waker, wakers: &mut Wakers)
+        requires { wakers.old.items ≡ [] }
         ensures count { self.new.count ≡ self.old.count - 1 }
         ensures waits { self.new.waits ≡ waits_of_others self.old.count self.old.waits }
-        ensures rings { bells.new.items ≡ rung_by_end self.old.count self.old.waits }
-        ensures let_pass { self.new.let_pass ≡ self.old.let_pass }
+        ensures wakes { wakers.new.items ≡ woken_by_end self.old.count self.old.waits }
+        ensures precedence { self.new.precedence ≡ self.old.precedence }
     {
-        let Bell(number) = bell;
+        let Waker(number) = waker;
         let own = 1u64.checked_shl(u32::from(number)).unwrap_or(0);
         self.taken &= !own;
         if self.waits.count() + 1 >= self.count {
-            self.waits.release(Awaited::Objects, Whose::All, bells);
-            self.waits.release(Awaited::Pages, Whose::All, bells);
+            self.waits.release(Awaited::Objects, Whose::All, wakers);
+            self.waits.release(Awaited::Pages, Whose::All, wakers);
         }
         self.count = self.count.saturating_sub(1);
     }
@@ -69,41 +69,40 @@ impl Desks {
         self.waits.is_awake(tx)
     }
 
-    /// Locks were given back: who waits for them is awake, and its bell is to ring.
+    /// Locks were given back: who waits for them is awake, and its waker is added.
     #[inline(always)]
     #[tactic(auto, using(crate::proofs::Fewer::fewer_wait, crate::proofs::Fewer::nobody_left))]
-    pub(crate) fn give_back(&mut self, given: GivenBack, bells: &mut Bells)
-        requires { bells.old.items ≡ [] }
+    pub(crate) fn give_back(&mut self, given: GivenBack, wakers: &mut Wakers)
+        requires { wakers.old.items ≡ [] }
         ensures waits { self.new.waits ≡ waits_after given self.old.waits }
-        ensures rings { bells.new.items ≡ rung_by given self.old.waits }
-        ensures few { length bells.new.items ≤ 128 }
-        ensures let_pass { self.new.let_pass ≡ let_pass_after given self.old.let_pass }
+        ensures wakes { wakers.new.items ≡ woken_by given self.old.waits }
+        ensures few { length wakers.new.items ≤ 128 }
+        ensures precedence { self.new.precedence ≡ precedence_after given self.old.precedence }
         ensures count { self.new.count ≡ self.old.count }
     {
-        let released = given;
-        self.let_pass = let_pass_after(released, self.let_pass);
+        self.precedence = precedence_after(given, self.precedence);
         match given {
             GivenBack::All(tx) => {
-                self.waits.release(Awaited::Objects, Whose::One(tx), bells);
-                self.waits.release(Awaited::Pages, Whose::One(tx), bells);
+                self.waits.release(Awaited::Objects, Whose::One(tx), wakers);
+                self.waits.release(Awaited::Pages, Whose::One(tx), wakers);
             }
-            GivenBack::Pages(tx) => self.waits.release(Awaited::Pages, Whose::One(tx), bells),
+            GivenBack::Pages(tx) => self.waits.release(Awaited::Pages, Whose::One(tx), wakers),
             GivenBack::Nothing => (),
         }
     }
 
     /// What a desk does that is to wait so, if it is to.
     #[inline(always)]
-    pub(crate) fn turn(&mut self, to_wait: Option<(Awaited, Waiting)>, bells: &mut Bells) -> Turn
-        requires { length bells.old.items ≤ 128 }
+    pub(crate) fn turn(&mut self, to_wait: Option<(Awaited, Waiting)>, wakers: &mut Wakers) -> Turn
+        requires { length wakers.old.items ≤ 128 }
         ensures turns { TurnsIfWaits self.old.count to_wait self.old.waits result self.new.waits }
-        ensures rings { bells.new.items
-            ≡ bells.old.items ++ rung_if_waits to_wait result self.old.waits }
-        ensures let_pass { self.new.let_pass ≡ self.old.let_pass }
+        ensures wakes { wakers.new.items
+            ≡ wakers.old.items ++ woken_if_waits to_wait result self.old.waits }
+        ensures precedence { self.new.precedence ≡ self.old.precedence }
         ensures count { self.new.count ≡ self.old.count }
     {
         match to_wait {
-            Some((awaited, wait)) => self.begin_wait(awaited, wait, bells),
+            Some((awaited, wait)) => self.begin_wait(awaited, wait, wakers),
             None => Turn::Goes,
         }
     }
@@ -114,57 +113,54 @@ impl Desks {
     /// so does one whose wait would close another circle; where it wants a page, it wakes those that do too: a pass that is to
     /// start anew gives its pages back as well, and is told to go on. Any other desk sleeps, and is counted.
     #[tactic(auto, using(crate::proofs::Fewer::fewer_wait, crate::proofs::Fewer::nobody_left))]
-    fn begin_wait(&mut self, awaited: Awaited, wait: Waiting, bells: &mut Bells) -> Turn
-        requires { length bells.old.items ≤ 128 }
+    fn begin_wait(&mut self, awaited: Awaited, wait: Waiting, wakers: &mut Wakers) -> Turn
+        requires { length wakers.old.items ≤ 128 }
         ensures turns { Turns self.old.count awaited wait self.old.waits result self.new.waits }
-        ensures rings { bells.new.items
-            ≡ bells.old.items ++ rung_at result awaited self.old.waits }
-        ensures let_pass { self.new.let_pass ≡ self.old.let_pass }
+        ensures wakes { wakers.new.items
+            ≡ wakers.old.items ++ woken_at result awaited self.old.waits }
+        ensures precedence { self.new.precedence ≡ self.old.precedence }
         ensures count { self.new.count ≡ self.old.count }
     {
-        let kind = awaited;
-        if self.waits.deadlocks(kind, &wait) {
+        if self.waits.deadlocks(awaited, &wait) {
             return Turn::Deadlock;
         }
-        let kind = awaited;
-        if self.join(kind, wait) {
+        if self.join(awaited, wait) {
             return Turn::Sleeps;
         }
         if awaited == Awaited::Pages {
-            self.waits.release(Awaited::Pages, Whose::All, bells);
+            self.waits.release(Awaited::Pages, Whose::All, wakers);
         }
         Turn::Goes
     }
 
-    /// One that may sleep was told this. If it waits for pages and was passed over, others let it pass from now on, unless they
-    /// let pass another.
-    pub(crate) fn favour(&mut self, told: &Told, sleeper: Option<Sleeper>)
-        ensures let_pass { self.new.let_pass
-            ≡ let_pass_with told.now sleeper self.old.let_pass }
+    /// One that may sleep was told this. If it waits for pages and takes precedence it has it from now on, unless another does.
+    pub(crate) fn give_precedence(&mut self, told: &Told, sleeper: Option<Sleeper>)
+        ensures precedence { self.new.precedence
+            ≡ precedence_with told.now sleeper self.old.precedence }
         ensures waits { self.new.waits ≡ self.old.waits }
         ensures count { self.new.count ≡ self.old.count }
     {
-        self.let_pass = let_pass_with(told, sleeper, self.let_pass);
+        self.precedence = precedence_with(told, sleeper, self.precedence);
     }
 
-    /// One is about to call an operation. Where another is to be let pass, it waits for the pages of that one, if another desk
-    /// is awake and its wait can join. It answers whether it does.
-    pub(crate) fn hold_back(&mut self, sleeper: Sleeper) -> bool
-        ensures holds_back { result ≡ true → (y : ℕ) × (self.old.let_pass ≡ Some y)
+    /// One is about to call an operation. Where another has precedence it yields, that is it waits for the pages of that one, if
+    /// another desk is awake and its wait can join. It answers whether it does.
+    pub(crate) fn yields(&mut self, sleeper: Sleeper) -> bool
+        ensures yields { result ≡ true → (y : ℕ) × (self.old.precedence ≡ Some y)
             × CanSleep self.old.count Awaited.Pages (wait_for sleeper y) self.old.waits
             × (self.new.waits ≡ joined Awaited.Pages (wait_for sleeper y) self.old.waits) }
-        ensures none { self.old.let_pass ≡ None → result ≡ false }
+        ensures none { self.old.precedence ≡ None → result ≡ false }
         ensures stays { result ≡ false → self.new.waits ≡ self.old.waits }
-        ensures let_pass { self.new.let_pass ≡ self.old.let_pass }
+        ensures precedence { self.new.precedence ≡ self.old.precedence }
         ensures count { self.new.count ≡ self.old.count }
     {
-        let Some(holder) = self.let_pass else {
+        let Some(holder) = self.precedence else {
             return false;
         };
         let wait = Waiting {
             waiter: sleeper.tx,
             holder,
-            bell: sleeper.bell,
+            waker: sleeper.waker,
         };
         self.join(Awaited::Pages, wait)
     }
@@ -175,31 +171,31 @@ impl Desks {
         ensures joins { result ≡ true → self.new.waits ≡ joined awaited wait self.old.waits }
         ensures cant { result ≡ false → CantSleep self.old.count awaited wait self.old.waits }
         ensures stays { result ≡ false → self.new.waits ≡ self.old.waits }
-        ensures let_pass { self.new.let_pass ≡ self.old.let_pass }
+        ensures precedence { self.new.precedence ≡ self.old.precedence }
         ensures count { self.new.count ≡ self.old.count }
     {
         self.waits.count() + 1 < self.count && self.waits.join(awaited, wait)
     }
 }
 
-/// Whom others let pass once locks were given back: no longer one that did so.
-fn let_pass_after(given: GivenBack, passing: Option<TxId>) -> Option<TxId>
-    ensures { result ≡ let_pass_after given passing }
+/// Who has precedence once locks were given back: no longer one that did so.
+fn precedence_after(given: GivenBack, before: Option<TxId>) -> Option<TxId>
+    ensures { result ≡ precedence_after given before }
 {
     match given {
-        GivenBack::All(tx) | GivenBack::Pages(tx) => passing.filter(|passes| *passes != tx),
-        GivenBack::Nothing => passing,
+        GivenBack::All(tx) | GivenBack::Pages(tx) => before.filter(|first| *first != tx),
+        GivenBack::Nothing => before,
     }
 }
 
-/// Whom others let pass once one that may sleep was told this.
-fn let_pass_with(told: &Told, sleeper: Option<Sleeper>, passing: Option<TxId>) -> Option<TxId>
-    ensures { result ≡ let_pass_with told.now sleeper passing }
+/// Who has precedence once one that may sleep was told this.
+fn precedence_with(told: &Told, sleeper: Option<Sleeper>, before: Option<TxId>) -> Option<TxId>
+    ensures { result ≡ precedence_with told.now sleeper before }
 {
-    match (told, sleeper, passing) {
+    match (told, sleeper, before) {
         (Told::Answered(Answer::Waiting { .. }), Some(sleeper), None) => {
-            sleeper.is_passed_over.then_some(sleeper.tx)
+            sleeper.takes_precedence.then_some(sleeper.tx)
         }
-        _ => passing,
+        _ => before,
     }
 }

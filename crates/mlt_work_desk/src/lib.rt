@@ -4,16 +4,16 @@
 mod calls;
 mod desks;
 mod gate;
-mod hall;
 mod holds;
 mod lock_desk;
+mod locked_state;
 mod made_with;
 mod shared;
 mod turn;
 
 pub use gate::{Gate, NoGate};
-pub use hall::Hall;
 pub use lock_desk::{LockDesk, Tries};
+pub use locked_state::LockedState;
 pub use made_with::MadeWith;
 pub use shared::Shared;
 pub use turn::is_to_wait;

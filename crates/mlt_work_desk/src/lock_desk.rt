@@ -7,7 +7,7 @@ use crate::made_with::MadeWith;
 use crate::shared::Shared;
 use crate::turn::Sleeper;
 use mlt_types::Pseudo;
-use mlt_work_waits::Bell;
+use mlt_work_waits::Waker;
 use std::sync::Wait;
 use std::sync::ledger::Share;
 
@@ -33,7 +33,7 @@ pub struct LockDesk<'a, P: Pseudo, L: MadeWith<P>, R: Wait, G: Gate> {
     /// How often the operation has waited.
     pub(crate) waited: u64,
     /// What wakes it.
-    pub(crate) bell: Bell,
+    pub(crate) waker: Waker,
     /// As whom it sleeps before its next event, if it does.
     pub(crate) asleep: Option<Sleeper>,
     pub(crate) share: Share<L>,

@@ -3,12 +3,12 @@
 ghost use Rattle.std.specs.Prelude.{◌≡◌, ◌-◌, ◌^◌, Some, min};
 ghost use Rattle.mlt_work_desk.specs.Makings.{making_of};
 
-use crate::hall::Hall;
+use crate::locked_state::LockedState;
 use crate::made_with::MadeWith;
 use crate::turn::Sleeper;
 use mlt_manager::Manager;
 use mlt_types::Pseudo;
-use mlt_work_waits::{Bell, Bells};
+use mlt_work_waits::{Waker, Wakers};
 use std::array;
 use std::hint::spin_loop;
 use std::sync::ledger::Share;
@@ -23,96 +23,95 @@ const LOOKS_OF_FIRST: u32 = 20;
 // lock takes it for its next events.
 const PAUSES: u32 = 256;
 
-/// A lock over the manager, and the bells that wake desks.
+/// A lock over the manager, and the condition variables that desks sleep at.
 pub struct Shared<P: Pseudo, L: MadeWith<P>> {
-    hall: Mutex<Hall<P, L>>,
+    state: Mutex<LockedState<P, L>>,
     queue: Mutex<()>,
-    bells: [Condvar; 256],
+    condvars: [Condvar; 256],
 }
 
 impl<P: Pseudo, L: MadeWith<P>> Shared<P, L> {
-    /// The hall under a lock.
-    pub fn new(hall: Hall<P, L>) -> Shared<P, L> {
+    /// The state under a lock.
+    pub fn new(state: LockedState<P, L>) -> Shared<P, L> {
         Shared {
-            hall: Mutex::new(hall),
+            state: Mutex::new(state),
             queue: Mutex::new(()),
-            bells: array::from_fn(|_| Condvar::new()),
+            condvars: array::from_fn(|_| Condvar::new()),
         }
     }
 
-    /// The hall, once nobody else has it.
+    /// The state, once nobody else has it.
     ///
     /// A hold takes less than a millionth part of a second, and to put a thread to sleep and wake it takes many. So a lock that is
     /// taken is looked at again a few times, each time after a wait in which its holder may take it for its next events: then what
     /// it works on stays in its processor. After that a thread queues, and of the queue the first alone goes on looking (Dice,
     /// Malthusian Locks, EuroSys 2017, section 3). Who holds the lock may not be running, so that one too sleeps in the end.
-    pub(crate) fn lock<R: Wait>(&self, rt: &R) -> MutexGuard<'_, Hall<P, L>> {
-        if let Some(hall) = self.look(LOOKS) {
-            return hall;
+    pub(crate) fn lock<R: Wait>(&self, rt: &R) -> MutexGuard<'_, LockedState<P, L>> {
+        if let Some(state) = self.look(LOOKS) {
+            return state;
         }
         let _first = self.queue.lock(rt);
-        if let Some(hall) = self.look(LOOKS_OF_FIRST) {
-            return hall;
+        if let Some(state) = self.look(LOOKS_OF_FIRST) {
+            return state;
         }
-        self.hall.lock(rt)
+        self.state.lock(rt)
     }
 
-    // The hall, if it is free at one of so many looks, with a wait after each.
-    fn look(&self, looks: u32) -> Option<MutexGuard<'_, Hall<P, L>>> {
+    // The state, if it is free at one of so many looks, with a wait after each.
+    fn look(&self, looks: u32) -> Option<MutexGuard<'_, LockedState<P, L>>> {
         for _ in 0..looks {
-            if let Some(hall) = self.hall.try_lock() {
-                return Some(hall);
+            if let Some(state) = self.state.try_lock() {
+                return Some(state);
             }
             pause();
         }
         None
     }
 
-    /// The hall for a desk's next event, once nobody else has it and the desk is awake, if it sleeps. One that is to call an
-    /// operation then lets pass whom others let pass.
+    /// The state for a desk's next event, once nobody else has it and the desk is awake, if it sleeps. One that is to call an
+    /// operation then yields where another has precedence.
     #[inline(always)]
     pub(crate) fn enter<R: Wait>(
         &self,
         rt: &R,
         asleep: Option<Sleeper>,
         caller: Option<Sleeper>,
-    ) -> MutexGuard<'_, Hall<P, L>> {
-        let mut hall = self.lock(rt);
+    ) -> MutexGuard<'_, LockedState<P, L>> {
+        let mut state = self.lock(rt);
         if let Some(sleeper) = asleep {
-            hall = self.sleep(rt, hall, sleeper);
+            state = self.sleep(rt, state, sleeper);
         }
         let Some(caller) = caller else {
-            return hall;
+            return state;
         };
-        let sleeper = caller;
-        if hall.desks.hold_back(caller) {
-            return self.sleep(rt, hall, sleeper);
+        if state.desks.yields(caller) {
+            return self.sleep(rt, state, caller);
         }
-        hall
+        state
     }
 
-    /// The hall, once nobody else has it, and the sleeper is awake.
+    /// The state, once nobody else has it, and the sleeper is awake.
     fn sleep<'a, R: Wait>(
         &'a self,
         rt: &R,
-        hall: MutexGuard<'a, Hall<P, L>>,
+        state: MutexGuard<'a, LockedState<P, L>>,
         sleeper: Sleeper,
-    ) -> MutexGuard<'a, Hall<P, L>> {
-        let Sleeper { tx, bell, .. } = sleeper;
-        self.bell(bell)
-            .wait_while(rt, hall, |hall| !hall.desks.is_awake(tx))
+    ) -> MutexGuard<'a, LockedState<P, L>> {
+        let Sleeper { tx, waker, .. } = sleeper;
+        self.condvar(waker)
+            .wait_while(rt, state, |state| !state.desks.is_awake(tx))
     }
 
-    /// Rings the bells, with the lock free.
-    pub(crate) fn ring(&self, bells: &Bells) {
-        for bell in bells {
-            self.bell(*bell).notify_all();
+    /// Wakes the sleepers, with the lock free.
+    pub(crate) fn wake(&self, wakers: &Wakers) {
+        for waker in wakers {
+            self.condvar(*waker).notify_all();
         }
     }
 
-    fn bell(&self, bell: Bell) -> &Condvar {
-        let Bell(number) = bell;
-        &self.bells[usize::from(number)]
+    fn condvar(&self, waker: Waker) -> &Condvar {
+        let Waker(number) = waker;
+        &self.condvars[usize::from(number)]
     }
 
     /// The manager, whose events are the amount of the whole share.
@@ -124,11 +123,11 @@ impl<P: Pseudo, L: MadeWith<P>> Shared<P, L> {
         ensures parts { all.new.parts ≡ all.old.parts }
     {
         let Shared {
-            hall,
+            state,
             queue: _,
-            bells: _,
+            condvars: _,
         } = self;
-        hall.into_inner().close(all)
+        state.into_inner().close(all)
     }
 
     /// The manager, where the shares are not at hand.
@@ -136,11 +135,11 @@ impl<P: Pseudo, L: MadeWith<P>> Shared<P, L> {
         ensures made { Some (making_of result) ≡ L.made_with }
     {
         let Shared {
-            hall,
+            state,
             queue: _,
-            bells: _,
+            condvars: _,
         } = self;
-        hall.into_inner().into_manager()
+        state.into_inner().into_manager()
     }
 }
 

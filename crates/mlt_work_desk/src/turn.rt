@@ -5,7 +5,7 @@ ghost use Rattle.mlt_work_desk.specs.Waits.{given_back_by, given_back_by_step, i
 
 use mlt_event::{Answer, Event, Told};
 use mlt_types::TxId;
-use mlt_work_waits::{Awaited, Bell, Waiting};
+use mlt_work_waits::{Awaited, Waiting, Waker};
 
 /// What a desk does after an event.
 #[derive(Clone, Copy, Debug, PartialEq, Eq)]
@@ -28,13 +28,12 @@ pub(crate) enum GivenBack {
     All(TxId),
 }
 
-/// One that may sleep: its transaction, the bell that wakes it, and whether it has waited so often for pages that others are to
-/// let it pass.
+/// One that may sleep: its transaction, what wakes it, and whether it has waited so often for pages that it takes precedence.
 #[derive(Clone, Copy, Debug, PartialEq, Eq)]
 pub(crate) struct Sleeper {
     pub tx: TxId,
-    pub bell: Bell,
-    pub is_passed_over: bool,
+    pub waker: Waker,
+    pub takes_precedence: bool,
 }
 
 /// Whose locks an event that was told this has given back. Desks make no others.
@@ -77,7 +76,7 @@ pub fn is_to_wait(told: &Told) -> bool
 pub(crate) fn wait_of(told: &Told, sleeper: Option<Sleeper>) -> Option<(Awaited, Waiting)>
     ensures { result ≡ wait_of told.now sleeper }
 {
-    let Sleeper { tx, bell, .. } = sleeper?;
+    let Sleeper { tx, waker, .. } = sleeper?;
     let (awaited, holder) = match told {
         Told::Answered(Answer::Waiting { by, .. }) => (Awaited::Pages, *by),
         Told::Answered(Answer::Blocked { by }) => (Awaited::Objects, *by),
@@ -86,7 +85,7 @@ pub(crate) fn wait_of(told: &Told, sleeper: Option<Sleeper>) -> Option<(Awaited,
     let wait = Waiting {
         waiter: tx,
         holder,
-        bell,
+        waker,
     };
     Some((awaited, wait))
 }

@@ -4,7 +4,7 @@ use Rattle.std.specs.List.{filter}
 use Rattle.std.specs.Option.{option_map, option_or}
 use Rattle.mlt_work_waits.specs.declared.wait.Awaited.{Awaited}
 use Rattle.mlt_work_waits.specs.declared.wait.Awaited.TheVariants as awaited
-use Rattle.mlt_work_waits.specs.declared.wait.Bell.{Bell}
+use Rattle.mlt_work_waits.specs.declared.wait.Waker.{Waker}
 use Rattle.mlt_work_waits.specs.declared.wait.Waiting.{Waiting}
 use Rattle.mlt_work_waits.specs.declared.wait.Whose.{Whose}
 use Rattle.mlt_work_waits.specs.declared.wait.Whose.TheVariants as whose
@@ -37,9 +37,9 @@ is_for whose.All wait = true
 abbrev pub others_in : Whose → List Waiting → List Waiting
 others_in given waits = filter (λ wait. not (is_for given wait)) waits
 
--- the bells of those who wait for a lock of these, in their order
-abbrev pub bells_in : Whose → List Waiting → List Bell
-bells_in given waits = map (λ wait. wait.bell) (filter (is_for given) waits)
+-- the wakers of those who wait for a lock of these, in their order
+abbrev pub wakers_in : Whose → List Waiting → List Waker
+wakers_in given waits = map (λ wait. wait.waker) (filter (is_for given) waits)
 
 -- nobody waits for such locks of these any more
 abbrev pub released : Awaited → Whose → Waits → Waits

@@ -5,5 +5,5 @@
 mod wait;
 mod waits;
 
-pub use wait::{Awaited, Bell, Bells, Waiting, Whose};
+pub use wait::{Awaited, Waiting, Waker, Wakers, Whose};
 pub use waits::WaitsFor;

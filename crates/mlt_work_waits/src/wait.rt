@@ -24,19 +24,19 @@ pub enum Whose {
     All,
 }
 
-/// What one sleeper is woken by: the number of a bell, 0 to 255.
+/// What wakes one sleeper: the number of a condition variable, 0 to 255.
 #[derive(Clone, Copy, Debug, Default, PartialEq, Eq)]
-pub struct Bell(pub u8);
+pub struct Waker(pub u8);
 
-/// The bells of sleepers that are to be woken, in turn: room for all who wait, and for those who wait for one kind of lock once more.
-pub type Bells = ArrayVec<Bell, 192>;
+/// Those of sleepers that are to be woken, in turn: room for all who wait, and for those who wait for one kind of lock once more.
+pub type Wakers = ArrayVec<Waker, 192>;
 
-/// One transaction waits for a lock of another, and is woken by a bell.
+/// One transaction waits for a lock of another, and is woken by its waker.
 #[derive(Clone, Copy, Debug)]
 pub struct Waiting {
     pub waiter: TxId,
     pub holder: TxId,
-    pub bell: Bell,
+    pub waker: Waker,
 }
 
 impl Waiting {
@@ -56,7 +56,7 @@ impl Default for Waiting {
         Waiting {
             waiter: TxId(0),
             holder: TxId(0),
-            bell: Bell(0),
+            waker: Waker(0),
         }
     }
 }

@@ -1,9 +1,9 @@
 //! The graph.
 
 ghost use Rattle.std.specs.Prelude.{ℕ, ◌≡◌, ◌++◌, ◌+◌, ◌≤◌, ◌⊎◌, ◌<◌, true, false, length};
-ghost use Rattle.mlt_work_waits.specs.Waits.{bells_in, CanJoin, CantJoin, Deadlocks, holder_among, holder_in, IsAcyclic, IsAwake, IsFor, joined, LeadsTo, LeadToAwake, nobody_waits, others_in, released, seen_along, waits_of};
+ghost use Rattle.mlt_work_waits.specs.Waits.{CanJoin, CantJoin, Deadlocks, holder_among, holder_in, IsAcyclic, IsAwake, IsFor, joined, LeadsTo, LeadToAwake, nobody_waits, others_in, released, seen_along, waits_of, wakers_in};
 
-use crate::wait::{Awaited, Bells, Waiting, Whose};
+use crate::wait::{Awaited, Waiting, Wakers, Whose};
 use arrayvec::ArrayVec;
 use mlt_types::TxId;
 use std::marker::Model;
@@ -60,7 +60,8 @@ impl WaitsFor {
         ensures deadlocks { result ≡ true → Deadlocks awaited wait.now self.now }
         ensures free { result ≡ false → Deadlocks awaited wait.now self.now → ⊥ }
     {
-        let _ = &self.objects;
+        // That no circle stands is known where the waits are read.
+        let _objects = &self.objects;
         awaited == Awaited::Objects && self.leads(Along::Objects, wait.holder, wait.waiter)
     }
 
@@ -83,19 +84,19 @@ impl WaitsFor {
         true
     }
 
-    /// Such locks of one transaction, or of all, are given back: nobody waits for them from now on. The bells of those who
+    /// Such locks of one transaction, or of all, are given back: nobody waits for them from now on. The wakers of those who
     /// did join the others.
-    pub fn release(&mut self, awaited: Awaited, whose: Whose, bells: &mut Bells)
-        requires { length bells.old.items ≤ 128 }
+    pub fn release(&mut self, awaited: Awaited, whose: Whose, wakers: &mut Wakers)
+        requires { length wakers.old.items ≤ 128 }
         ensures releases { self.new ≡ released awaited whose self.old }
-        ensures rings { bells.new.items
-            ≡ bells.old.items ++ bells_in whose (waits_of awaited self.old) }
-        ensures few { length bells.new.items ≤ length bells.old.items + 64 }
+        ensures wakes { wakers.new.items
+            ≡ wakers.old.items ++ wakers_in whose (waits_of awaited self.old) }
+        ensures few { length wakers.new.items ≤ length wakers.old.items + 64 }
         ensures awake { LeadToAwake self.new }
     {
         match awaited {
-            Awaited::Objects => release_in(&mut self.objects, whose, bells),
-            Awaited::Pages => release_in(&mut self.pages, whose, bells),
+            Awaited::Objects => release_in(&mut self.objects, whose, wakers),
+            Awaited::Pages => release_in(&mut self.pages, whose, wakers),
         }
     }
 
@@ -164,28 +165,29 @@ pub(crate) enum Along {
     All,
 }
 
-/// Takes away the waits for locks that are given back, and adds their bells to the others.
-fn release_in(waits: &mut ArrayVec<Waiting, 64>, whose: Whose, bells: &mut Bells)
-    requires { length bells.old.items ≤ 128 }
+/// Takes away the waits for locks that are given back, and adds their wakers to the others.
+fn release_in(waits: &mut ArrayVec<Waiting, 64>, whose: Whose, wakers: &mut Wakers)
+    requires { length wakers.old.items ≤ 128 }
     ensures releases { waits.new.items ≡ others_in whose waits.old.items }
-    ensures rings { bells.new.items ≡ bells.old.items ++ bells_in whose waits.old.items }
-    ensures few { length bells.new.items ≤ length bells.old.items + 64 }
+    ensures wakes { wakers.new.items ≡ wakers.old.items ++ wakers_in whose waits.old.items }
+    ensures few { length wakers.new.items ≤ length wakers.old.items + 64 }
 {
-    add_bells(waits, whose, bells);
+    add_wakers(waits, whose, wakers);
     waits.retain(|wait| !wait.is_for(whose));
 }
 
-/// Adds the bells of those who wait for locks that are given back to the others.
-fn add_bells(waits: &[Waiting], whose: Whose, bells: &mut Bells)
+/// Adds the wakers of those who wait for locks that are given back to the others.
+fn add_wakers(waits: &[Waiting], whose: Whose, wakers: &mut Wakers)
     requires few { length waits.now ≤ 64 }
-    requires room { length bells.old.items ≤ 128 }
-    ensures rings { bells.new.items ≡ bells.old.items ++ bells_in whose waits.now }
-    ensures few { length bells.new.items ≤ length bells.old.items + length waits.now }
+    requires room { length wakers.old.items ≤ 128 }
+    ensures wakes { wakers.new.items ≡ wakers.old.items ++ wakers_in whose waits.now }
+    ensures few { length wakers.new.items ≤ length wakers.old.items + length waits.now }
 {
     for wait in waits {
+        // A copy, since behind a branch both ways are to have the same left.
         let given = whose;
         if wait.is_for(given) {
-            bells.push(wait.bell);
+            wakers.push(wait.waker);
         }
     }
 }

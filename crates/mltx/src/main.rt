@@ -19,7 +19,7 @@ use mlt_text::write_text;
 use mlt_trace::{KeptItem, write_trace};
 use mlt_trace_check::check_trace;
 use mlt_types::{Limits, Low, Mult, Pseudo, Refusal};
-use mlt_work::{Shift, run_scripts};
+use mlt_work::{BeginQueue, run_scripts};
 use std::fs::File;
 use std::io::ErrorKind;
 use std::net::TcpListener;
@@ -136,7 +136,7 @@ fn run_work<P: Pseudo + Drop + Send, T: Threads + Wait + Clock + Sync>(
         pseudo,
         work.workers,
         work.tries,
-        &Shift::new(threads),
+        &BeginQueue::new(threads),
     )?;
     let written = write_history(rt, manager.history(), &work.run);
     manager.close();

@@ -1,9 +1,10 @@
 use Rattle.std.proofs.Common.{ap, refl}
 use Rattle.mlt_page_store.specs.Stores.{page_at}
+use Rattle.mlt_hash_form.proofs.HeldPages.{seen_as}
 use Rattle.mlt_hash_access.specs.Moments.{Moment, moment}
 use Rattle.mlt_hash_access.specs.PageSteps.{LocksPage}
 use Rattle.mlt_hash_access.proofs.Leaving.{leaves_by_locking, leaves_it}
-use Rattle.mlt_hash_access.proofs.Results.{lock_granted, page_there}
+use Rattle.mlt_hash_access.proofs.Results.{lock_granted}
 use Rattle.mlt_hash_access.proofs.Views.{lock_reads}
 use Rattle.mlt_hash_access.proofs.pages.lock.Goals.{After-ask, In-Held}
 use Rattle.mlt_hash_access.proofs.pages.lock.Goals as goal
@@ -19,7 +20,7 @@ told c = lock_granted (before c.before) c.ask.new.self c.tx.result c.args.number
 
 pub returns-in-Held-clause-view : goal.returns-in-Held-clause-view
 returns-in-Held-clause-view c =
-    let there = page_there (page_at c.args.pages.now.store.pages c.args.number) c.requires.there in
+    let there = seen_as (page_at c.args.pages.now.store.pages c.args.number) c.requires.there in
     (_, lock_reads (before c.before) (after c.before) c.args.number c.args.mode there.0 c.requires.may (told c) there.1)
 
 pub returns-in-Held-clause-leaves : goal.returns-in-Held-clause-leaves

@@ -19,6 +19,6 @@ loop-op-preserved g c =
     let reply = c.in_ok-reply.reply in
     rw (c.push_reserved.ensures.items, c.new.ensures, c.tell.ensures.questions) record {
       asked = reaches_more (questions_of_script c.args.script.now) l.done.items (questions_of l.cursor) op reply l.invariant.asked c.in-Op.ensures.next;
-      gives = gives_more g.A.Answering.answers c.args.tx c.args.desk.now l.done.items l.desk c.operation.new.self op reply l.invariant.gives c.in_ok-reply.ensures;
+      gives = gives_more g.A.Answering.moves c.args.tx c.args.desk.now l.done.items l.desk c.operation.new.self op reply l.invariant.gives c.in_ok-reply.ensures;
       room = rw c.push_reserved.ensures.capacity l.invariant.room;
     }

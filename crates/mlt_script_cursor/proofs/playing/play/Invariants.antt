@@ -7,7 +7,7 @@ use Rattle.mlt_script_cursor.proofs.playing.play.Given as goal
 abbrev pub invariant-loop-op : goal.invariant-loop-op
 invariant-loop-op g l = record {
   asked : Reaches (questions_of_script l.script) l.done.items (questions_of l.cursor);
-  gives : Gives g.A.Answering.answers l.tx l.fn.desk l.done.items l.desk;
+  gives : Gives g.A.Answering.moves l.tx l.fn.desk l.done.items l.desk;
   room : AsksAtMost (vec_capacity l.done) (questions_of_script l.script);
 }
 

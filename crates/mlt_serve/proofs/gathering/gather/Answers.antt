@@ -2,17 +2,17 @@ use Rattle.std.proofs.Common.{◌++◌, arith, subst, sym}
 use Rattle.std.specs.Prelude.{IsPermutation}
 use Rattle.std.proofs.lemmas.List.Elements.{All-push}
 use Rattle.std.proofs.lemmas.List.Sorted.{IsPermutation-append_right, IsPermutation-trans}
-use Rattle.mlt_serve.specs.Crews.{AllHaveMemory, HasMemory, all_receipts, receipts_of}
+use Rattle.mlt_serve.specs.Threads.{AllHaveMemory, HasMemory, all_receipts, receipts_of}
 use Rattle.mlt_serve.proofs.Merging.{last_behind}
 use Rattle.mlt_serve.proofs.gathering.gather.Goals as goal
 
-pub loop-served-preserved : goal.loop-served-preserved
-loop-served-preserved g c =
-    let l = c.loop-served in
-    let w = c.in-Some.served in
+pub loop-thread-preserved : goal.loop-thread-preserved
+loop-thread-preserved g c =
+    let l = c.loop-thread in
+    let w = c.in-Some.thread in
     let rest = c.pop.new.self.items in
     let got = l.gathered.receipts.items in
-    let all = all_receipts c.args.crew.items in
+    let all = all_receipts c.args.threads.items in
     record {
       parts = omega (arith, c.in-Some.ensures.len, c.take_in.ensures.parts, l.invariant.parts);
       events = c.take_in.ensures.events;

@@ -4,6 +4,7 @@ use Rattle.mlt_object_kinds.specs.declared.operation.ObjOp.{ObjOp}
 use Rattle.mlt_object_kinds.specs.declared.operation.ObjReply.{ObjReply}
 use Rattle.mlt_object_base.specs.Effects.{inverse_of}
 use Rattle.mlt_hash_access.specs.Moments.{Moment, moment}
+use Rattle.mlt_hash_access.proofs.Rebased.{same_some}
 use Rattle.mlt_hash.specs.Walks.{Basis, basis_in}
 use Rattle.mlt_object_base.specs.declared.request.Request.TheVariants.{TakeBack}
 use Rattle.mlt_tx_operation.specs.Operating.{MayOperate, OperationFields, started_for}
@@ -11,7 +12,7 @@ use Rattle.mlt_tx.specs.declared.commons.Commons.{Commons}
 use Rattle.mlt_page_subtx.specs.Images.{Running}
 use Rattle.mlt_object_undo.specs.Undo.{IsLast}
 use Rattle.mlt_tx.specs.Steps.{TakesBack}
-use Rattle.mlt_tx.proofs.Backing.{end_tells, one_last, same_some}
+use Rattle.mlt_tx.proofs.Backing.{end_tells, one_last}
 use Rattle.mlt_tx.proofs.stepping.step_back.Goals as goal
 
 pub step-requires-clause-untold : goal.step-requires-clause-untold

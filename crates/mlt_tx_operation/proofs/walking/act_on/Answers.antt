@@ -7,11 +7,12 @@ use Rattle.mlt_hash_access.specs.Moments.{Moment, moment}
 use Rattle.mlt_hash_access.specs.PageTurns.{IsRolledBack}
 use Rattle.mlt_hash.specs.Walks.{Basis, WalkFields, basis_in}
 use Rattle.mlt_hash.specs.declared.answer.WalkAnswer.TheVariants as answer
+use Rattle.mlt_tx_two_records.proofs.RollingBack.{rolls_back}
 use Rattle.mlt_tx_operation.specs.declared.answer.StepAnswer.TheVariants as step
 use Rattle.mlt_tx_operation.specs.AtBucket.{TellsAtBucket}
 use Rattle.mlt_tx_operation.specs.Walking.{WalkingFields, walking}
 use Rattle.mlt_tx_operation.specs.Performing.{TellsOfDecision}
-use Rattle.mlt_tx_operation.proofs.AtBucket.{absent_to_add, asks_to_add, begins_again, change_finishes, first_restarts, ghost_is_there, splits_in_pass, may_change, narrow_restarts, refused_at_bucket, rolls_back, told_finishes}
+use Rattle.mlt_tx_operation.proofs.AtBucket.{absent_to_add, asks_to_add, begins_again, change_finishes, first_restarts, ghost_is_there, splits_in_pass, may_change, narrow_restarts, refused_at_bucket, told_finishes}
 use Rattle.mlt_tx_operation.proofs.walking.act_on.Goals.{in-NeedSplit+else-not-is_first, in-Widen-1}
 use Rattle.mlt_tx_operation.proofs.walking.act_on.Goals as goal
 

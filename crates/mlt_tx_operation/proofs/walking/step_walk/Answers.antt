@@ -5,9 +5,9 @@ use Rattle.mlt_hash_access.specs.Moments.{Moment, moment}
 use Rattle.mlt_hash_access.specs.Views.{view_of}
 use Rattle.mlt_hash_access.proofs.OwnSteps.{step_keeps_tx}
 use Rattle.mlt_hash.specs.Walks.{Basis, basis_in}
+use Rattle.mlt_tx_two_records.proofs.RollingBack.{rolls_back}
 use Rattle.mlt_tx_operation.specs.AtBucket.{MayDecide, TellsAtBucket}
 use Rattle.mlt_tx_operation.specs.Walking.{WalkingFields, walking}
-use Rattle.mlt_tx_operation.proofs.AtBucket.{rolls_back}
 use Rattle.mlt_tx_operation.proofs.Going.{goes_on, puts}
 use Rattle.mlt_tx_operation.proofs.Ready.{under_way}
 use Rattle.mlt_tx_operation.proofs.Telling.{found_tells, may_decide, refused, waits}

@@ -30,7 +30,7 @@ const LOOKS: u32 = 128;
 /// all eight, and then four times as many, so that in a long one work seldom moves. Who was at work then ends its transaction
 /// beside it, and queues.
 #[derive(Drop)]
-pub struct Shift<'a, R: Wait + Clock> {
+pub struct BeginQueue<'a, R: Wait + Clock> {
     rt: &'a R,
     /// How many transactions are open.
     open: AtomicU64,
@@ -38,10 +38,10 @@ pub struct Shift<'a, R: Wait + Clock> {
     queue: Mutex<u32>,
 }
 
-impl<'a, R: Wait + Clock> Shift<'a, R> {
+impl<'a, R: Wait + Clock> BeginQueue<'a, R> {
     /// No transaction is open.
-    pub fn new(rt: &'a R) -> Shift<'a, R> {
-        Shift {
+    pub fn new(rt: &'a R) -> BeginQueue<'a, R> {
+        BeginQueue {
             rt,
             open: AtomicU64::new(0),
             queue: Mutex::new(1),
@@ -93,7 +93,7 @@ impl<'a, R: Wait + Clock> Shift<'a, R> {
     }
 }
 
-impl<R: Wait + Clock> Gate for Shift<'_, R> {
+impl<R: Wait + Clock> Gate for BeginQueue<'_, R> {
     fn begin(&self, _client: u32) {
         self.wait();
     }

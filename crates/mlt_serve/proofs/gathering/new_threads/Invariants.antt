@@ -1,9 +1,9 @@
 use Rattle.std.proofs.Common.{◌≡◌, ◌+◌, ◌*◌, vec_len}
-use Rattle.mlt_serve.proofs.gathering.new_crew.Given as goal
+use Rattle.mlt_serve.proofs.gathering.new_threads.Given as goal
 
 abbrev pub invariant-loop : goal.invariant-loop
 invariant-loop g l = record {
-  len : vec_len l.crew ≡ l.counter;
+  len : vec_len l.threads ≡ l.counter;
   parts : l.all.parts + 2 * l.counter ≡ 129;
   amount : l.all.amount ≡ 0;
 }

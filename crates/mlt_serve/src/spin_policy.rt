@@ -1,21 +1,21 @@
-//! Whether sessions look for what their clients send before they sleep.
+//! Whether sessions spin before they sleep, that is look again and again for what their clients send.
 
 use std::sync::atomic::{AtomicU64, Ordering};
 use std::thread;
 use std::thread::Threads;
 
-/// How many sessions there are. All of them look while they are fewer than the processors: then one is left for those who work.
+/// How many sessions there are. All of them spin while they are fewer than the processors: then one is left for those who work.
 #[derive(Drop)]
-pub(crate) struct Lookout {
+pub(crate) struct SpinPolicy {
     sessions: AtomicU64,
     processors: u64,
 }
 
-impl Lookout {
+impl SpinPolicy {
     /// No session yet.
-    pub(crate) fn new<R: Threads>(rt: &R) -> Lookout {
+    pub(crate) fn new<R: Threads>(rt: &R) -> SpinPolicy {
         let processors = thread::available_parallelism(rt).map_or(1, |count| count.get() as u64);
-        Lookout {
+        SpinPolicy {
             sessions: AtomicU64::new(0),
             processors,
         }
@@ -31,8 +31,8 @@ impl Lookout {
         self.sessions.fetch_sub(1, Ordering::SeqCst);
     }
 
-    /// Whether sessions may look at the moment.
-    pub(crate) fn is_open(&self) -> bool {
+    /// Whether sessions may spin at the moment.
+    pub(crate) fn allows_spinning(&self) -> bool {
         self.sessions.load(Ordering::SeqCst) < self.processors
     }
 }

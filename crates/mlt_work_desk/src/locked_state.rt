@@ -10,7 +10,7 @@ use mlt_types::Pseudo;
 use std::sync::ledger::Book;
 
 /// The manager, a book whose total is the number of its events, and the desks, of which not all wait.
-pub struct Hall<P: Pseudo, L: MadeWith<P>> {
+pub struct LockedState<P: Pseudo, L: MadeWith<P>> {
     pub(crate) manager: Manager<P>,
     pub(crate) book: Book<L>,
     pub(crate) desks: Desks,

@@ -1,11 +1,11 @@
-//! What one thread serves.
+//! One session thread.
 
 ghost use Rattle.std.specs.Prelude.{◌≡◌, ◌+◌, ◌-◌, ◌^◌, [], false, min};
 ghost use Rattle.mlt_serve.specs.Clients.{GrowsFor};
 
-use crate::accepting::Visit;
-use crate::parting::part;
-use crate::passage::Passage;
+use crate::accepting::Connection;
+use crate::admission::Admission;
+use crate::lingering_close::lingering_close;
 use crate::service::Service;
 use crate::socket::Socket;
 use crate::talking::talk;
@@ -19,10 +19,10 @@ use std::sync::atomic::{AtomicBool, Ordering};
 use std::sync::ledger::{Ledger, Share};
 use std::time::Clock;
 
-/// What a thread has served so far. Its share of the ledger has two parts: one for itself, and one for the desk that it is
+/// A session thread, and what it has served so far. Its share of the ledger has two parts: one for itself, and one for the desk that it is
 /// at work at.
 #[derive(Drop)]
-pub(crate) struct Served<L: Ledger> {
+pub(crate) struct SessionThread<L: Ledger> {
     pub(crate) share: Share<L>,
     /// The number of its events; it stays at 2^64 - 1.
     pub(crate) events: u64,
@@ -36,16 +36,16 @@ pub(crate) struct Served<L: Ledger> {
     ghost counted: { events ≡ min share.amount (2 ^ 64 - 1) },
 }
 
-impl<L: Ledger> Served<L> {
+impl<L: Ledger> SessionThread<L> {
     /// Nothing was served yet.
-    pub(crate) fn new(alloc: Global, share: Share<L>) -> Served<L>
+    pub(crate) fn new(alloc: Global, share: Share<L>) -> SessionThread<L>
         requires parts { share.parts ≡ 2 }
         requires amount { share.amount ≡ 0 }
         ensures share { result.share ≡ share }
         ensures receipts { result.receipts.items ≡ [] }
         ensures connections { result.connections ≡ 0 }
     {
-        Served {
+        SessionThread {
             share,
             events: 0,
             receipts: Vec::new(alloc),
@@ -55,40 +55,40 @@ impl<L: Ledger> Served<L> {
     }
 
     /// Serves a connection by a session at a desk of its own, so that no desk is counted while there is nothing to serve, and
-    /// then parts from the client. It answers whether the session was refused a growth.
+    /// then closes it with the client. It answers whether the session was refused a growth.
     fn serve<P: Pseudo, R: Wait + Clock>(
         &mut self,
         rt: &R,
         alloc: Global,
         service: &Service<'_, P, L>,
-        visit: Visit,
+        connection: Connection,
     ) -> bool
     where
         L: MadeWith<P>,
-        ensures receipts { GrowsFor visit.client
+        ensures receipts { GrowsFor connection.client
             self.old.receipts.items self.new.receipts.items }
         ensures connections { self.new.connections ≡ min (self.old.connections + 1) (2 ^ 64 - 1) }
         ensures short { self.new.is_short ≡ false
             → (self.old.is_short ≡ false) × (result ≡ false) }
     {
-        let Served {
+        let SessionThread {
             share,
             events,
             receipts,
             connections,
             is_short,
         } = self;
-        let Visit { client, stream } = visit;
+        let Connection { client, stream } = connection;
         let mine = share.split_off(1, 0);
-        let passage = Passage::new(rt, service.turnstile);
+        let admission = Admission::new(rt, service.admission_queue);
         let tries = Tries::PerOperation(service.tries);
-        let mut desk = LockDesk::new(rt, service.shared, &passage, mine, tries);
+        let mut desk = LockDesk::new(rt, service.shared, &admission, mine, tries);
         desk.serve(client);
-        let socket = Socket::new(rt, &stream, service.lookout, service.idle);
-        let refused = talk(alloc, &socket, &passage, &mut desk, client, receipts);
+        let socket = Socket::new(rt, &stream, service.spin_policy, service.idle);
+        let refused = talk(alloc, &socket, &admission, &mut desk, client, receipts);
         socket.close();
         let (mine, more) = desk.close();
-        part(rt, &stream);
+        lingering_close(rt, &stream);
         share.merge(mine);
         *events = events.saturating_add(more);
         *connections = connections.saturating_add(1);
@@ -102,17 +102,17 @@ impl<L: Ledger> Served<L> {
         rt: &R,
         alloc: Global,
         service: &Service<'_, P, L>,
-        visits: &Receiver<Visit, Global>,
+        connections: &Receiver<Connection, Global>,
         is_short: &AtomicBool,
     )
     where
         L: MadeWith<P>,
     {
         for _ in rt.forever() {
-            let Ok(visit) = visits.recv(rt) else {
+            let Ok(connection) = connections.recv(rt) else {
                 return;
             };
-            if self.serve(rt, alloc, service, visit) {
+            if self.serve(rt, alloc, service, connection) {
                 is_short.store(true, Ordering::SeqCst);
             }
         }

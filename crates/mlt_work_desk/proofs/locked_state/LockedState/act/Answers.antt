@@ -1,6 +1,6 @@
 use Rattle.std.proofs.Common.{◌≡◌, ◌∙◌, ◌+◌, ◌-◌, ◌^◌, Some, ap, min, arith}
 use Rattle.mlt_work_desk.proofs.Counting.{one_event, same_making}
-use Rattle.mlt_work_desk.proofs.hall.Hall.act.Goals as goal
+use Rattle.mlt_work_desk.proofs.locked_state.LockedState.act.Goals as goal
 
 pub invariant_of-self : goal.invariant_of-self
 invariant_of-self g c =

@@ -1,7 +1,7 @@
-//! The way of one session through the turnstile.
+//! The way of one session through the admission queue.
 
+use crate::admission_queue::AdmissionQueue;
 use crate::socket::Socket;
-use crate::turnstile::Turnstile;
 use mlt_event::{Answer, Told};
 use mlt_work_desk::{Gate, is_to_wait};
 use std::cell::Cell;
@@ -23,30 +23,30 @@ enum Place {
     /// Not at work.
     Outside,
     /// At work, past the queue.
-    Passing,
+    Bypassing,
     /// At work, in its turn.
-    Inside,
+    Admitted,
 }
 
-/// The way of a session. It comes inside with the lines that it has read, past the queue where they are few, and leaves before it
-/// writes their answers, before it reads on, and where an operation is to wait, which so keeps nobody from work. Once awake it goes
-/// on outside, since it may have locks for which others wait. One that is held back before a call, so that another is let pass,
-/// sleeps in its place.
+/// The way of a session. It is admitted with the lines that it has read, or bypasses the queue where they are few, and leaves before
+/// it writes their answers, before it reads on, and where an operation is to wait, which so keeps nobody from work. Once awake it goes
+/// on outside, since it may have locks for which others wait. One that yields before a call, since another has precedence, sleeps in
+/// its place.
 #[derive(Drop)]
-pub(crate) struct Passage<'a, R: Wait> {
+pub(crate) struct Admission<'a, R: Wait> {
     rt: &'a R,
-    turnstile: &'a Turnstile,
+    admission_queue: &'a AdmissionQueue,
     place: Cell<Place>,
     /// How many events it has made since it came.
     events: Cell<u32>,
 }
 
-impl<'a, R: Wait> Passage<'a, R> {
+impl<'a, R: Wait> Admission<'a, R> {
     /// A session that is outside.
-    pub(crate) fn new(rt: &'a R, turnstile: &'a Turnstile) -> Passage<'a, R> {
-        Passage {
+    pub(crate) fn new(rt: &'a R, admission_queue: &'a AdmissionQueue) -> Admission<'a, R> {
+        Admission {
             rt,
-            turnstile,
+            admission_queue,
             place: Cell::new(Place::Outside),
             events: Cell::new(0),
         }
@@ -55,29 +55,29 @@ impl<'a, R: Wait> Passage<'a, R> {
     /// Goes on with lines of so many bytes.
     fn go_on(&self, bytes: usize) {
         self.events.set(0);
-        if bytes <= FEW_BYTES && self.turnstile.pass() {
-            self.place.set(Place::Passing);
+        if bytes <= FEW_BYTES && self.admission_queue.bypass() {
+            self.place.set(Place::Bypassing);
         } else {
             self.enter();
         }
     }
 
     fn enter(&self) {
-        self.turnstile.enter(self.rt);
-        self.place.set(Place::Inside);
+        self.admission_queue.enter(self.rt);
+        self.place.set(Place::Admitted);
     }
 
     /// Leaves, if it is at work.
     pub(crate) fn leave(&self) {
         match self.place.replace(Place::Outside) {
             Place::Outside => (),
-            Place::Passing => self.turnstile.has_passed(),
-            Place::Inside => self.turnstile.leave(self.rt),
+            Place::Bypassing => self.admission_queue.end_bypass(),
+            Place::Admitted => self.admission_queue.leave(self.rt),
         }
     }
 }
 
-impl<R: Wait> Gate for Passage<'_, R> {
+impl<R: Wait> Gate for Admission<'_, R> {
     fn pause(&self, _client: u32, told: &Told) {
         let events = self.events.get().saturating_add(1);
         self.events.set(events);
@@ -100,22 +100,25 @@ fn holds_no_page(told: &Told) -> bool {
 #[derive(Drop)]
 pub(crate) struct Outside<'a, R: Wait + Clock> {
     socket: &'a Socket<'a, R>,
-    passage: &'a Passage<'a, R>,
+    admission: &'a Admission<'a, R>,
 }
 
 impl<'a, R: Wait + Clock> Outside<'a, R> {
-    /// The connection of the session that has this passage.
-    pub(crate) fn new(socket: &'a Socket<'a, R>, passage: &'a Passage<'a, R>) -> Outside<'a, R> {
-        Outside { socket, passage }
+    /// The connection of the session that has this admission.
+    pub(crate) fn new(
+        socket: &'a Socket<'a, R>,
+        admission: &'a Admission<'a, R>,
+    ) -> Outside<'a, R> {
+        Outside { socket, admission }
     }
 }
 
 impl<R: Wait + Clock> Read for Outside<'_, R> {
     fn read(&mut self, buf: &mut [u8]) -> io::Result<usize> {
-        self.passage.leave();
+        self.admission.leave();
         let count = self.socket.read(buf)?;
         if count > 0 {
-            self.passage.go_on(count);
+            self.admission.go_on(count);
         }
         Ok(count)
     }
@@ -123,7 +126,7 @@ impl<R: Wait + Clock> Read for Outside<'_, R> {
 
 impl<R: Wait + Clock> Write for Outside<'_, R> {
     fn write(&mut self, buf: &[u8]) -> io::Result<usize> {
-        self.passage.leave();
+        self.admission.leave();
         self.socket.write(buf)
     }
 

@@ -12,7 +12,7 @@ const PATIENCE: u64 = 1;
 /// Says to a client that no answers follow, and reads away what it still sends. A connection that is closed over bytes that
 /// nobody has read is reset, and the client may lose the last answers with it. It ends with the client's input, after a second,
 /// or once 16,777,216 bytes came.
-pub(crate) fn part<C: Clock>(clock: &C, stream: &TcpStream) {
+pub(crate) fn lingering_close<C: Clock>(clock: &C, stream: &TcpStream) {
     // Where this fails the client is gone, or it goes on longer than is waited for: either way the connection is closed now.
     let _ = read_away(clock, stream);
 }

@@ -1,10 +1,10 @@
-//! All threads.
+//! All session threads, and the one that accepts.
 
 ghost use Rattle.std.specs.Prelude.{◌≡◌, ◌<◌, vec_len};
 
 use crate::accepting::{Accepting, accept_all};
-use crate::desk_work::Served;
 use crate::service::Service;
+use crate::session_thread::SessionThread;
 use mlt_types::Pseudo;
 use mlt_work_desk::MadeWith;
 use std::alloc::Global;
@@ -26,25 +26,25 @@ pub(crate) fn serve_connections<
     alloc: Global,
     listener: &TcpListener,
     service: &Service<'_, P, L>,
-    crew: &mut Vec<Served<L>>,
+    threads: &mut Vec<SessionThread<L>>,
     limit: u32,
 ) -> Accepting
-    requires { 0 < vec_len crew.old }
-    ensures { vec_len crew.new ≡ vec_len crew.old }
+    requires { 0 < vec_len threads.old }
+    ensures { vec_len threads.new ≡ vec_len threads.old }
 {
-    let Ok((to, from)) = crossbeam_channel::bounded(alloc, crew.len()) else {
+    let Ok((to, from)) = crossbeam_channel::bounded(alloc, threads.len()) else {
         return Accepting::Short;
     };
     let flag = AtomicBool::new(false);
-    let visits = &from;
+    let connections = &from;
     let is_short = &flag;
-    let threads = crew.len();
-    let all = crew.as_mut_slice();
+    let count = threads.len();
+    let all = threads.as_mut_slice();
     thread::scope(
         thread::scope_env(),
         rt,
         |scope| -> Accepting
-            requires { 0 < threads }
+            requires { 0 < count }
         {
             let Ok(accepting) = scope.spawn(move || accept_all(rt, listener, to, is_short, limit))
             else {
@@ -53,9 +53,9 @@ pub(crate) fn serve_connections<
             thread::for_each_mut(
                 rt,
                 all,
-                threads,
-                &|_, served: &mut Served<L>| {
-                    served.serve_all(rt, alloc, service, visits, is_short)
+                count,
+                &|_, own: &mut SessionThread<L>| {
+                    own.serve_all(rt, alloc, service, connections, is_short)
                 },
             );
             accepting.join(rt)

@@ -1,0 +1,19 @@
+-- What all session threads have served.
+use Rattle.std.specs.Prelude.{◌≡◌, List, All, false}
+use Rattle.std.specs.List.{flat_map}
+use Rattle.mlt_script_serial.specs.declared.outcome.Outcome.{Outcome}
+use Rattle.mlt_serve.specs.declared.session_thread.SessionThread.{SessionThread}
+
+abbrev pub receipts_of : {L : Type 0} → SessionThread L → List Outcome
+receipts_of thread = thread.receipts.items
+
+-- the receipts of all threads, one thread after the other
+abbrev pub all_receipts : {L : Type 0} → List (SessionThread L) → List Outcome
+all_receipts threads = flat_map receipts_of threads
+
+-- none of their sessions was refused a growth
+abbrev pub HasMemory : {L : Type 0} → SessionThread L → Type 0
+HasMemory thread = thread.is_short ≡ false
+
+abbrev pub AllHaveMemory : {L : Type 0} → List (SessionThread L) → Type 0
+AllHaveMemory threads = All HasMemory threads
