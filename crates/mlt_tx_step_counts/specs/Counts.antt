@@ -138,8 +138,8 @@ TakesNextPass basis op First steps = ⊥
 TakesNextPass basis op Narrow steps = TakesNarrowPass basis op steps
 TakesNextPass basis op Wide steps = TakesLaterPass basis steps
 
--- A first pass is told Done or Blocked at its fourth step, and Going at the three before it. Or it is an addition that finds
--- no room: then it is told Going at its third step too, and the next pass follows.
+-- A first pass is told Going at three steps, and Done or Blocked at the fourth; or it is an
+-- addition that finds no room, told Going at its third step too, and the next pass follows.
 abbrev pub TakesFirstPass : Basis → ObjOp → List OwnStep → Type 0
 TakesFirstPass basis op steps =
     GoesThen 3 IsDoneOrBlocked (answers_of steps)

@@ -137,8 +137,8 @@ pub record FindsBoth (basis : Basis) (op : ObjOp) (Then : List OwnStep → Type 
   pub ends : GoesThen 0 IsDoneOrBlocked (answers_of back) ⊎ OwesEarlier step back
       ⊎ FindsNoRoomForTwo basis op Then pair before step back
 
--- A first pass has both buckets at its third to fifth step, told Going so long: at the header, at one page of the directory or two,
--- and at one bucket or two. So Done or Blocked comes at its fourth to seventh step; or it finds no room at its third to fifth.
+-- A first pass has both buckets at its third to fifth step, told Going so long. So Done or Blocked
+-- comes at its fourth to seventh step; or it finds no room at its third to fifth.
 abbrev pub TakesFirstPassOfTwo : Basis → ObjOp → List OwnStep → Type 0
 TakesFirstPassOfTwo basis op steps =
     GoesBelow 5 (answers_of steps)
