@@ -156,8 +156,8 @@ directory_in split g' = record {
   count = 2 ^ (depth_of split.before split.root - 8);
 }
 
--- A split under way: both halves of the bucket are written, the second on the new page, and the directory, which
--- goes to depth g' through the list `made`, is filled as j and k say.
+-- Both halves of the bucket are written, the second on the new page; and the directory, which goes
+-- to depth g' through the list `made`, is filled as j and k say.
 pub record IsMidway (split : BucketSplit) (g' : ℕ) (pages : FilePages) (made : List ℕ) (j k : ℕ)
     : Type 0 where
   pub header : pages split.root ≡ split.before split.root

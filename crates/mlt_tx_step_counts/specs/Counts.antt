@@ -117,8 +117,8 @@ pub record BeginsSplits (basis : Basis) (before : Transaction) (step : OwnStep)
   pub plan : IsToSplit basis (view_in step.after step.new) o'.walk l g d
   pub ends : SplitsAndPutsOrNot basis l g d PutsRecord back
 
--- A pass that may split is told Done or Blocked at its fourth step, and Going at the three before it; or it is refused
--- earlier; or it splits.
+-- A pass that may split is told Done or Blocked at its fourth step, and Going at the three before
+-- it; or it is refused earlier; or it splits k times, and that comes at step 5 + 3 * k + c.
 abbrev pub TakesLaterPass : Basis → List OwnStep → Type 0
 TakesLaterPass basis steps =
     GoesThen 3 IsDoneOrBlocked (answers_of steps)
