@@ -27,7 +27,7 @@ is_open all tx = is_some (map.get all.images tx)
 abbrev pub images_by : AllRunning → ℕ → Images
 images_by all tx = unwrap_or (map.get all.images tx) map.empty
 
--- what its next step works on
+-- what the next step of a transaction works on
 abbrev pub moment_of : AllRunning → ℕ → Moment
 moment_of all tx = record {
   running = record { tx = tx; images = images_by all tx };

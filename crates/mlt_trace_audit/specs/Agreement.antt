@@ -30,9 +30,10 @@ abbrev pub CommitsRise : List Outcome → Type 0
 CommitsRise receipts = All (λ one. All (λ other. RisesTo one other) receipts) receipts
 
 -- The receipts are those of the history: each number that was begun stands in one of them, with its
--- operations and its end; and of a client's scripts that committed the later has the later commit.
+-- operations and its end.
 pub record Agrees (receipts : List Outcome) (items : List TraceItem) : Type 0 where
   pub of_history : AreOfHistory receipts items
   -- those without a number are refused and empty
   pub without_tx : All IsWithoutTx receipts
+  -- of two scripts of a client that committed, the later has the later commit
   pub rising : CommitsRise receipts
