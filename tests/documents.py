@@ -2,6 +2,7 @@
 import re
 import shutil
 import subprocess
+from itertools import zip_longest
 from pathlib import Path
 
 from harness import ROOT, expect, holds, same, test
@@ -168,6 +169,23 @@ def lines_of_the_headline_are_counted(_mltx):
     said = re.findall(r"\[(\d+)\s+lines\s+of\s+definitions\s+and\s+(\d+)\s+lines\s+of\s+views\]", readme)
     same(said, [(total, views)], "the lines in README")
     same(re.findall(r"last row of the table of DEFINITIONS:\s+(\d+)\s+lines", theorem), [views], "the lines in THEOREM")
+
+
+@test
+def each_definition_is_told_as_its_file_tells_it(_mltx):
+    """DEFINITIONS is what tools/definitions makes of its names and of the comments in specs/. A name that is gone fails, and so
+    does a comment that was changed there alone, or here alone."""
+    written, ran = (ROOT / "docs/DEFINITIONS.md").read_text(), subprocess.run([ROOT / "tools/definitions"], capture_output=True, text=True)
+    holds(not ran.returncode, ran.stderr)
+    lines = zip_longest(written.splitlines(), ran.stdout.splitlines())
+    first = next((f"{was}\nwanted {now}" for was, now in lines if was != now), "its end")
+    holds(written == ran.stdout, f"tools/definitions --write was not run: {first}")
+
+
+@test
+def each_definition_that_a_public_contract_names_has_its_place(_mltx):
+    """A contract that names a definition for which DEFINITIONS has no term fails."""
+    same(output_of("definitions", "--missing").splitlines(), [], "the definitions without a place")
 
 
 @test

@@ -11,8 +11,8 @@ place_text (ScriptFault line cause) = codes " line " ++ decimal line ++ 32 ∷ s
 place_text (TraceFault line cause) = codes " line " ++ decimal line ++ 32 ∷ trace_cause_name cause
 place_text _ = []
 
--- The line that tells of a fault: the number and the name of the refusal; and of a faulty input, at
--- which line and why.
+-- the line that tells of a fault: the number and the name of the refusal, and of a faulty input
+-- where and why
 abbrev pub fault_text : Refusal → List ℕ
 fault_text refusal =
     codes "mltx: " ++ decimal (number_of refusal) ++ 32 ∷ name_of refusal ++ place_text refusal ++ 10 ∷ []

@@ -55,7 +55,7 @@ IsFirstFaultOf raws line fault = (before : List Raw) × (raw : Raw) × (after : 
 abbrev pub IsFirstFault : List ℕ → ℕ → ScriptCause → Type 0
 IsFirstFault text line fault = IsFirstFaultOf (lines text) line fault
 
--- Every text is events or has a first fault, and none is both; nor is it two lists of events, nor are there two first faults.
+-- every text is events or has a first fault, never both, and just one list or one fault
 pub record IsDecided (text : List ℕ) : Type 0 where
   pub either : ((events : List Event) × Spells text events)
       ⊎ ((line : ℕ) × (fault : ScriptCause) × IsFirstFault text line fault)

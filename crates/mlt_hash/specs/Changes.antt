@@ -140,8 +140,8 @@ abbrev pub LacksMemory : Basis → WalkFields → WalkFields → Refusal → Typ
 LacksMemory basis before after reason =
     (reason ≡ refusal.OutOfMemory) × (basis.before ≡ nothing_before → ⊥) × (after ≡ before)
 
--- A change of the record that was found is made, or memory was refused for it and the walk is as it
--- was; the first change of a walk takes none.
+-- The change of the record that was found is made; or memory was refused, of which a walk's first
+-- change takes none, and the walk is as it was.
 abbrev pub TellsOfChange : Basis → Moment → WalkFields → WalkFields → Change → WalkAnswer → Type 0
 TellsOfChange basis new before after done answer.Changed = Makes basis new before after done
 TellsOfChange basis new before after done (answer.Refused reason) =

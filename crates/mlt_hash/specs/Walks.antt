@@ -65,8 +65,8 @@ IsOwnSlot tx (Ghost key value owner) = owner ≡ tx
 abbrev pub slot_on : Option Page → ℕ → Slot
 slot_on page i = slice_index_or (bucket_of page).slots i Free
 
--- Each slot of a page that was written is free; or it has a record, or a ghost of the transaction's own; or what it has stood at
--- the same place of a page that was seen.
+-- Each slot of a page that was written is free, a record, a ghost that this transaction left, or
+-- one that stood at the same place of a page that was seen.
 abbrev pub SlotsStood : FilePages → ℕ → View → Type 0
 SlotsStood written tx view =
     (n : ℕ) (page : Page) → written n ≡ Some page
@@ -182,17 +182,16 @@ pub record IsAtBucket (basis : Basis) (walk : WalkFields) (view : View) (bucket 
   pub at : view.seen bucket ≡ Some (Some (page.Bucket fields))
   pub found_is : found ≡ value_in walk.key fields.slots
 
--- What has been read on the way of a key to its bucket, which stays on the clean pages up to the walk's end: the header,
--- the key's page of the directory, and the bucket, with what it has of the key. These pages are held.
+-- The header, the key's directory page and its bucket are read and held, and what the bucket has of
+-- the key is known. They stay on the clean pages up to the walk's end.
 pub record HasRead (basis : Basis) (key : ℕ) (view : View) (found : Option ℕ) : Type 0 where
   pub dir : ℕ
   pub bucket : ℕ
   pub way : HasReadBucket basis.bits basis.root key view dir bucket found
   pub shallow : way.placed.header.depth ≤ basis.max_depth
 
--- Which pages a walk holds from its bucket's step on, and in which modes: those that it held before, exclusively where it held
--- them so; those that it locked on its way, in the modes of its pass; and each other page exclusively that it has written or
--- made, as its pass may.
+-- From its bucket on a walk holds the pages of its way, in the modes of its pass; what it held
+-- before, exclusively where it held that so; and other pages exclusively, as its pass may.
 pub record HoldsByPass (before : Modes) (pass : Pass) (mode : Mode) (root dir bucket : ℕ) (view : View)
     : Type 0 where
   pub on_header : map.get view.modes root ≡ Some (header_mode pass)
@@ -306,14 +305,13 @@ Stands (at.Adding value bucket room_depth unsplit) basis walk view = IsAdding ba
 Stands (at.Splitting value room_depth) basis walk view = IsSplitting basis walk view room_depth
 Stands (at.Changed bucket done) basis walk view = IsChanged basis walk view bucket done
 
--- Where a walk stands, by its phase: at its start; with the header read, and then the directory
--- page; at its bucket; at one without room, before another pass; with the file at rest before a
--- split, or in a split; or with its change written.
+-- Where a walk stands, by its phase: on its way; at its bucket; at one without room, before another
+-- pass; with the file at rest, or a split under way; or with its change written.
 abbrev pub IsStanding : Basis → WalkFields → View → Type 0
 IsStanding basis walk view = Stands walk.phase basis walk view
 
--- What a step of a walk asks: the transaction may step, it has written what it wrote before, with which the clean pages are
--- a hash file, and over this the walk stands.
+-- What a step of a walk asks: its transaction may step, and the clean pages, with what it wrote
+-- before over them, are a hash file on which it stands.
 pub record MayWalk (basis : Basis) (m : Moment) (walk : WalkFields) : Type 0 where
   pub bounded : (k : ℕ) → basis.bits k < 2 ^ 64
   pub small : basis.max_depth ≤ 16

@@ -50,9 +50,9 @@ pub record HasFileOver (bits : ℕ → ℕ) (root : ℕ) (before : FilePages) (m
 abbrev pub HasCleanFile : (ℕ → ℕ) → ℕ → Moment → Type 0
 HasCleanFile bits root m = HasFileOver bits root no_writes m
 
--- What a step of a transaction may rely on, and what each step leaves so: locks go with each other and are of pages
--- that are there; what the transaction wrote it holds exclusively; and there is room for a lock more, as long as it
--- holds fewer than 300 pages.
+-- What a step relies on and leaves so: locks are compatible, and of pages that are there; the
+-- transaction holds exclusively what it wrote; and there is room for a lock more while it holds
+-- fewer than 300 pages.
 pub record MayStep (m : Moment) : Type 0 where
   pub compatible : AreCompatible m.locks
   pub locks_there : LocksPagesThere m.locks m.store.pages

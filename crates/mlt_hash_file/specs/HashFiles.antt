@@ -32,7 +32,8 @@ bounded_by bits_of file = record {
   max_pages = file.max_pages;
 }
 
--- an addition of the key's record is refused for this reason
+-- why an addition of the key's record is refused: its bucket is full, and no split makes room, or
+-- there may not be as many pages as that takes, or a growth was refused
 abbrev pub Refuses : {P : Type 0} → (P → ℕ → ℕ) → HashFileFields P → ℕ → Refusal → Type 0
 Refuses bits_of file key refusal = RefusesFor (bounded_by bits_of file) key refusal
 

@@ -84,8 +84,8 @@ LacksRoom side.Right file two =
     × (after : BoundedFile) × DoesLeft file after two
     × RefusesFor after two.right refusal.NoRoom
 
--- why a change of two keys' records is refused: no split makes room; or a bucket has none, and a growth was refused to its
--- splits
+-- why both changes are refused: no split makes room; or a bucket has none, and a growth was refused
+-- to its splits
 abbrev pub RefusesBoth : BoundedFile → TwoKeys → Refusal → Type 0
 RefusesBoth file two refusal.NoRoom = (which : Side) × LacksRoom which file two
 RefusesBoth file two refusal.OutOfMemory =
@@ -107,8 +107,8 @@ abbrev pub StepsInTurnIfChanged : BoundedFile → TwoKeys → WalkAnswer → ℕ
 StepsInTurnIfChanged file two answer.Changed steps = StepsInTurn file two steps
 StepsInTurnIfChanged file two other steps = Unit {0}
 
--- the steps of a change of two keys' records: at most six of a pass of a pair, or at most five of one that found no room and
--- those of both changes in turn
+-- at most six steps, of a pass of a pair; or at most five, of one that found no room, and those of
+-- both changes in turn
 abbrev pub StepsOfBoth : BoundedFile → TwoKeys → ℕ → Type 0
 StepsOfBoth file two steps = (steps ≤ 6) ⊎ ((n : ℕ) × StepsInTurn file two n × (steps ≤ 5 + n))
 

@@ -52,8 +52,8 @@ abbrev pub slot_change : ℕ → Option ℕ → ℕ → ℕ → Slot → SlotCha
 slot_change key value number at after =
     record { key = key; value = value; number = number; at = at; after = after }
 
--- The slot is set, and with it the one key has its value, or none. The form stays, and so do the value of each
--- other key and all other slots.
+-- The slot is set, and with it the key has its value, or none. The form, the value of each other
+-- key and all other slots stay.
 pub record ChangesRecord (bits : ℕ → ℕ) (pages pages' : FilePages) (root : ℕ) (change : SlotChange)
     : Type 0 where
   pub form : HasForm bits pages' root

@@ -34,9 +34,9 @@ abbrev pub StoodOnHeld : SeenPages → FilePages → Slot → Type 0
 StoodOnHeld seen before t =
     (n : ℕ) × (i : ℕ) × (is_some (seen n) ≡ true) × (slot_at (buckets_of before) n i ≡ t)
 
--- Slots were moved, or lost, on pages that a walk holds, and the file has its form: each record or ghost that stood
--- in some bucket stands in some bucket, or its room was not kept and it stood on a held page; and each that is there
--- stood before at the same place of the same page, or of a held one.
+-- The file has its form. A record or a ghost is lost only from a page that the walk holds, where
+-- its room was not kept; and each that is there stood before at the same place of the same page, or
+-- of one that the walk holds.
 pub record RearrangesSlots (bits : ℕ → ℕ) (opens : set.FinSet nat_cmp) (seen : SeenPages)
     (before after : FilePages) (root : ℕ) : Type 0 where
   pub form : HasForm bits after root

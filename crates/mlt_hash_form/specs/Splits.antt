@@ -85,9 +85,9 @@ pub record IsLonger (made made' : List ℕ) (j n : ℕ) : Type 0 where
   pub last : slice_index made' j ≡ n
   pub before : (q : ℕ) → q < j → slice_index made' q ≡ slice_index made q
 
--- What stays the same as long as a bucket is split: the pseudokeys of the keys, the owners that were open as it began,
--- the pages before, the page of the header, those of the old bucket and of the new one, and a pseudokey that leads to
--- the old bucket
+-- What stays the same while a bucket is split: the pseudokeys, the owners that were open as it
+-- began, the pages before, the pages of the header and of both buckets, and a pseudokey that leads
+-- to the old one.
 pub record BucketSplit : Type 0 where
   pub bits : ℕ → ℕ
   pub opens : set.FinSet nat_cmp
@@ -156,8 +156,8 @@ directory_in split g' = record {
   count = 2 ^ (depth_of split.before split.root - 8);
 }
 
--- A split under way: both halves of the bucket are written, the second on the new page, and the directory, which
--- goes to depth g' through the list `made`, is filled as j and k say.
+-- Both halves of the bucket are written, the second on the new page; and the directory, which goes
+-- to depth g' through the list `made`, is filled as j and k say.
 pub record IsMidway (split : BucketSplit) (g' : ℕ) (pages : FilePages) (made : List ℕ) (j k : ℕ)
     : Type 0 where
   pub header : pages split.root ≡ split.before split.root

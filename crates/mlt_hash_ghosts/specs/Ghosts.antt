@@ -25,9 +25,9 @@ abbrev pub HasOneGhost : FilePages → ℕ → ℕ → Type 0
 HasOneGhost pages owner key = (n i m j : ℕ)
     → IsGhostAt pages owner key n i → IsGhostAt pages owner key m j → (n ≡ m) × (i ≡ j)
 
--- Ghosts are kept: where the last standing operation of an open transaction on a key's presence is a removal,
--- its ghost stands where the key leads, and no live slot has the key. An open transaction has at most one ghost
--- of a key.
+-- Where the last standing operation of an open transaction on a key is a removal, its ghost stands
+-- where the key leads, and no live slot has the key. An open transaction has at most one ghost of a
+-- key.
 pub record GhostsAreKept (ledger : Ledger) : Type 0 where
   pub ghost : (owner key : ℕ) → IsOpenIn ledger owner → last_by ledger owner key ≡ Some Removed
       → HasGhost ledger.bits ledger.pages ledger.root owner key

@@ -4,8 +4,8 @@ use Rattle.mlt_page.specs.declared.slot.Slot.{Slot}
 use Rattle.mlt_hash_form.specs.Form.{HasSlot, is_used, slot_at}
 use Rattle.mlt_hash_form.specs.File.{FilePages, HasForm, buckets_of}
 
--- Slots were moved to other buckets, or lost, and the file has its form: each slot that is to stay stands in
--- some bucket as before, and each record or ghost that is there stood before at the same place of some bucket.
+-- The file has its form. Each slot that is to stay stands in some bucket as before, and each record
+-- or ghost stood before at the same place of some bucket.
 pub record MovesSlots (bits : ℕ → ℕ) (stays : Slot → Bool) (before after : FilePages) (root : ℕ)
     : Type 0 where
   pub form : HasForm bits after root

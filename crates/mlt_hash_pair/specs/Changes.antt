@@ -127,8 +127,7 @@ pub record IsFullBehind (task : Task) (tx : ℕ) (old : View) : Type 0 where
   pub left : MakesAsked task.changes.left task.opens tx task.left task.left_page old mid
   pub right : IsFull task.changes.right task.opens tx task.right task.right_page mid
 
--- Changed: all is written. OneLeft: but for the change of the earlier bucket. Full: this key's bucket has no room for its
--- record, and nothing has changed.
+-- the same, by the pages of the pair's buckets
 abbrev pub TellsOfTwo : Task → Moment → Moment → PairFields → PairFields → ChangeAnswer → Type 0
 TellsOfTwo task old new before after answer.Changed =
     MakesBoth task old.running.tx (view_of old) (view_of new) × (after ≡ before)
@@ -142,7 +141,8 @@ TellsOfTwo task old new before after (answer.Full side.Left) =
 TellsOfTwo task old new before after (answer.Full side.Right) =
     IsFullBehind task old.running.tx (view_of old) × (new ≡ old) × (after ≡ before)
 
--- by the pages of the pair's buckets
+-- What the changes of a pair are told. Changed: all is written. OneLeft: but for the change of the
+-- earlier bucket. Full: this key's bucket has no room, and nothing has changed.
 abbrev pub TellsOfChanges
     : set.FinSet nat_cmp → Moment → Moment → PairFields → PairFields → Changes → ChangeAnswer
     → Type 0

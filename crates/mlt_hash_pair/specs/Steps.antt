@@ -35,8 +35,9 @@ abbrev pub HasFound : Way → Option ℕ → Type 0
 HasFound (at.AtBucket dir bucket found) value = found ≡ value
 HasFound other value = ⊥
 
--- A step to the buckets: it goes on, with more to come, or has found the values of both keys, with the later bucket read last,
--- or waits for the next page, told the lowest transaction whose lock stands against its own, and nothing has changed.
+-- A step to the buckets goes on; or has found both values, with the later bucket read last; or
+-- waits for the next page, told the lowest transaction whose lock stands against its own, and
+-- nothing has changed.
 abbrev pub TellsOfStep
     : (ℕ → ℕ) → ℕ → Moment → Moment → PairFields → PairFields → PairAnswer → Type 0
 TellsOfStep bits root old new before after answer.Going =

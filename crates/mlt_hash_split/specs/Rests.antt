@@ -16,9 +16,9 @@ use Rattle.mlt_hash_form.specs.Room.{is_crowded}
 use Rattle.mlt_hash_access.specs.Views.{View}
 use Rattle.mlt_hash_split.specs.declared.setting.Setting.{Setting}
 
--- What a walk's splits are for: the function of keys, who is open, the header's page, the key that asks for room, the
--- transaction that adds it, and a depth at which its bucket has room for it. And what it did for another key to which it
--- went before: the pages that it wrote, and how many buckets it holds at most. Where it goes to one key there are none.
+-- What a walk's splits are for: the key that asks for room, the transaction that adds it, and a
+-- depth at which its bucket has room; the function of keys, who is open and the header's page; and
+-- what it wrote for a key before, with how many buckets it holds of that, at most.
 pub record Aim : Type 0 where
   pub bits : ℕ → ℕ
   pub opens : set.FinSet nat_cmp
@@ -67,9 +67,9 @@ pub record HoldsAmong (view : View) (dirs made : List ℕ) (k count j most : ℕ
 abbrev pub most_held : ℕ → ℕ → ℕ → ℕ
 most_held before l g = before + 2 + l + 2 ^ (g - 8)
 
--- The file that a walk has written so far is a hash file with its slots rearranged. The key leads to the bucket on
--- page n, which the walk holds exclusively. It has neither a record of the key nor the owner's ghost of it, and there is
--- a depth at which the key finds room. One key has 17 buckets at most: the first one, and one of each split.
+-- The walk's writes keep the file. The key leads to the bucket on page n, held exclusively, which
+-- has neither a record of the key nor the owner's ghost of it, and has room at the named depth. One
+-- key has 17 buckets at most: the first one, and one of each split.
 pub record IsAtRest (aim : Aim) (view : View) (n : ℕ) (header : HeadFields) (bucket : BucketFields)
     : Type 0 where
   pub bounded : (k : ℕ) → aim.bits k < 2 ^ 64

@@ -23,9 +23,9 @@ use Rattle.mlt_hash_split.specs.Rests.{Aim, IsAtRest, HoldsAmong, held_page, mos
 use Rattle.mlt_hash_split.specs.declared.phase.SplitPhase.{SplitPhase}
 use Rattle.mlt_hash_split.specs.declared.phase.SplitPhase.TheVariants as at
 
--- what a contract sees of a split: the pseudokey that asks for room, the two bucket pages, the depths of the bucket and
--- of the directory before it, what stays in the old bucket, and of a directory that is doubled its header to be, and the
--- second half of the page that was rewritten last
+-- what a contract sees of a split: the pseudokey that asks for room, the two bucket pages, the
+-- depths of the bucket and of the directory, the half that stays, and of a directory that is
+-- doubled its header and the second half of its last page; and the phase
 pub record SplitFields : Type 0 where
   pub seed : ℕ
   pub old_page : ℕ
@@ -204,8 +204,8 @@ pub record IsUnderWay (aim : Aim) (view : View) (split : SplitFields) : Type 0 w
       → StandsAt split.phase aim splitters (over clean rest) (over clean view.own) split bucket
   pub among : HoldsAmongAt split.phase aim.held_before view header.dirs split
 
--- What a step of a split asks: the transaction may step, it has written what it wrote before, with which the clean pages
--- are a hash file, and over this the split is under way.
+-- What a step of a split asks: its transaction may step, and the clean pages, with what it wrote
+-- before over them, are a hash file, over which the split is under way.
 pub record MayAdvance (aim : Aim) (m : Moment) (split : SplitFields) : Type 0 where
   pub may : MayStep m
   pub written : HasWritten aim.before (view_of m)

@@ -29,8 +29,9 @@ pub record GoesOn (aim : Aim) (new : Moment) (before after : SplitFields) : Type
   pub depth : after.depth ≡ before.depth
   pub directory_depth : after.directory_depth ≡ before.directory_depth
 
--- Going: the split goes on. Closed: this was its last step. Waiting: a lock stands against the one asked for on the next
--- page, and nothing changed. Refused: NoRoom where a page was to be made and there are as many as there may be.
+-- Going: the split goes on. Closed: this was its last step. Waiting: for the next page, on which a
+-- lock stands against its own; nothing changed. Refused: NoRoom where a page was to be made and
+-- there may be no more, or OutOfMemory.
 abbrev pub Tells : Aim → Moment → Moment → SplitFields → SplitFields → SplitAnswer → Type 0
 Tells aim old new before after answer.Going = GoesOn aim new before after
 Tells aim old new before after (answer.Closed n) = Rests aim new before n × (steps_left before ≡ 1)

@@ -27,7 +27,7 @@ is_open all tx = is_some (map.get all.images tx)
 abbrev pub images_by : AllRunning → ℕ → Images
 images_by all tx = unwrap_or (map.get all.images tx) map.empty
 
--- what its next step works on
+-- what the next step of a transaction works on
 abbrev pub moment_of : AllRunning → ℕ → Moment
 moment_of all tx = record {
   running = record { tx = tx; images = images_by all tx };
@@ -39,9 +39,9 @@ moment_of all tx = record {
 abbrev pub clean_of : AllRunning → ℕ → Option Page
 clean_of all = page_at (clean_pages all.images all.store.pages)
 
--- What is always true of all of them, from which each open transaction may step: locks go with each other and are of
--- pages that are there; what a transaction wrote is there, and it holds it exclusively; who holds a page is open; each
--- holds at most 300; and no more are open than there is room for.
+-- What is always true, from which each open transaction may step: locks are compatible, and of
+-- pages that are there; what a transaction wrote is there, and locked exclusively; who holds a page
+-- is open, and holds at most 300; and no more are open than there is room for.
 pub record AllMayStep (all : AllRunning) : Type 0 where
   pub compatible : AreCompatible all.locks
   pub locks_there : LocksPagesThere all.locks all.store.pages

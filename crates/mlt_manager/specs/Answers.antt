@@ -93,8 +93,7 @@ pub record HasBegun {P : Type 0} (old new : ManagerFields P) (tx : ℕ) : Type 0
     begun = tx;
   }
 
--- A begin answers the next number, of a transaction that has done nothing; or it is refused for the
--- first cause there is, and nothing changes.
+-- A begin answers the next number, of a transaction that has done nothing; or why none begins.
 abbrev pub AnswersBegin : {P : Type 0} → ManagerFields P → ManagerFields P → Result ℕ Refusal
     → Type 0
 AnswersBegin old new (Ok tx) = HasBegun old new tx
@@ -127,8 +126,8 @@ pub record HasCalled {P : Type 0} (old new : ManagerFields P) (tx : ℕ) (op : O
   pub calls : CallsOne tx op old.txs new.txs old.commons new.commons
   pub rest : ChangesOpen old new
 
--- A call makes the operation pending; or it is refused for the first cause there is, and nothing
--- changes, but for room that may be kept where memory was refused.
+-- A call makes the operation pending; or it answers why not. One that was refused memory may leave
+-- room reserved.
 abbrev pub AnswersCall : {P : Type 0} → ManagerFields P → ManagerFields P → ℕ → ObjOp
     → Result (Unit {0}) Refusal → Type 0
 AnswersCall old new tx op (Ok done) = HasCalled old new tx op
@@ -170,8 +169,7 @@ IsCauseAtStep refusal.NoSuchTx txs tx = IsNotOpen txs tx
 IsCauseAtStep refusal.NotRunning txs tx = IsOpenAt txs tx IsIdle
 IsCauseAtStep other txs tx = ⊥
 
--- A step answers what the transaction tells of it; or it is refused for its cause, and nothing
--- changes.
+-- A step answers what the transaction tells of it; or why there is none.
 abbrev pub AnswersStep : {P : Type 0} → (P → ℕ → ℕ) → ManagerFields P → ManagerFields P → ℕ
     → Result Answer Refusal → Type 0
 AnswersStep bits_of old new tx (Ok told) = HasStepped bits_of old new tx told
@@ -184,7 +182,7 @@ IsCauseAtCancel refusal.Undoing txs tx = IsOpenAt txs tx IsUndoing
 IsCauseAtCancel refusal.NotRunning txs tx = IsOpenAt txs tx IsIdle
 IsCauseAtCancel other txs tx = ⊥
 
--- A cancel drops the pending operation; or it is refused for its cause, and nothing changes.
+-- A cancel drops the pending operation; or it answers why not.
 abbrev pub AnswersCancel : {P : Type 0} → ManagerFields P → ManagerFields P → ℕ
     → Result (Unit {0}) Refusal → Type 0
 AnswersCancel old new tx (Ok done) =
@@ -218,8 +216,8 @@ pub record HasCommitted {P : Type 0} (old new : ManagerFields P) (tx number : �
     commits = number;
   }
 
--- A commit answers its number, the next one, and the transaction is open no more; or it is refused
--- for its cause, and nothing changes.
+-- A commit answers its number, the next one, and the transaction is open no more; or it answers why
+-- not.
 abbrev pub AnswersCommit : {P : Type 0} → ManagerFields P → ManagerFields P → ℕ → Result ℕ Refusal
     → Type 0
 AnswersCommit old new tx (Ok number) = HasCommitted old new tx number
@@ -243,8 +241,8 @@ pub record HasBegunAbort {P : Type 0} (old new : ManagerFields P) (tx : ℕ) : T
   pub puts : PutsOneAt tx (at.Undoing None) old.txs new.txs
   pub rest : new ≡ record old { txs = new.txs }
 
--- An abort closes a transaction that has nothing to take back, and of any other it begins; or it is
--- refused for its cause, and nothing changes.
+-- An abort closes a transaction that has nothing to take back, and begins to take back what any
+-- other did; or it answers why not.
 abbrev pub AnswersAbort : {P : Type 0} → ManagerFields P → ManagerFields P → ℕ
     → Result Bool Refusal → Type 0
 AnswersAbort old new tx (Ok true) = HasClosed old new tx

@@ -100,10 +100,10 @@ pub record TakesStepBack {P : Type 0} (old new : ManagerFields P) (tx : ℕ)
   pub leads : (base : Base) → HasBase old base
       → (before : Base) × Step before last base × HasBase new before
 
--- What a step does that was told this. Done: the base makes the step of the operation, and the
--- history has it. Blocked: the operation would be a step, and clashes with what another holds.
--- Undone, Aborted: the base is one from which the last operation leads to what it was. Else, and
--- where Blocked: what is clean stays, and the history and what is held.
+-- What a step does that was told this. Done: the base makes its step, and the history has it.
+-- Blocked: it would be a step, but clashes with what another holds. Undone, Aborted: the base is
+-- one from which the last operation leads to what it was. Else, and where Blocked: what is clean,
+-- the history and what is held stay.
 abbrev pub LeavesBase : {P : Type 0} → Answer → ManagerFields P → ManagerFields P → ℕ → Type 0
 LeavesBase (answer.Done reply) old new tx = (op : ObjOp) × MakesStep old new tx (op, reply)
 LeavesBase (answer.Blocked by) old new tx =
@@ -117,8 +117,8 @@ LeavesBase answer.Aborted old new tx =
 LeavesBase other old new tx = KeepsWhatCounts old new
 
 -- What a whole operation does that was told this. Done: the base makes its step. Blocked: it would
--- be a step, and clashes with what another holds. Unless Done, what is clean stays, and the history
--- and what is held.
+-- be a step, but clashes with what another holds. Unless Done, what is clean, the history and what
+-- is held stay.
 abbrev pub WholeLeavesBase : {P : Type 0} → Answer → ManagerFields P → ManagerFields P → ℕ → ObjOp
     → Type 0
 WholeLeavesBase (answer.Done reply) old new tx op = AddsStep old new tx (op, reply)

@@ -39,8 +39,8 @@ IsCauseAtUndo refusal.NoSuchTx txs tx = IsNotOpen txs tx
 IsCauseAtUndo refusal.NotRunning txs tx = IsOpenAt txs tx IsNotUndoing
 IsCauseAtUndo other txs tx = ⊥
 
--- A whole undoing is the steps of an abort, up to one that waits or is told Aborted; or it is
--- refused for its cause, and nothing changes.
+-- A whole undoing is the steps of an abort, up to one that waits or is told Aborted; or it answers
+-- why there is none.
 abbrev pub AnswersWholeUndo : {P : Type 0} → (P → ℕ → ℕ) → ManagerFields P → ManagerFields P → ℕ
     → Result Answer Refusal → Type 0
 AnswersWholeUndo bits_of old new tx (Ok told) =

@@ -116,7 +116,7 @@ counter_inverse_of (Down n) told.Done = Some (Plus n)
 counter_inverse_of _ _ = None
 
 -- The change that undoes the operation that was told the reply, on the record as it is then: it
--- takes off what was added, modulo 2^64, or makes a record a ghost, or a ghost a record.
+-- adds to the value or takes from it, modulo 2^64, or makes a record a ghost, or a ghost a record.
 abbrev pub inverse_of : ObjOp × ObjReply → Option RecChange
 inverse_of (Account a op, reply) = account_inverse_of op reply
 inverse_of (Element s e op, reply) = element_inverse_of op reply

@@ -34,10 +34,11 @@ records_after records (change ∷ changes) =
     let now = with_entry records (key_number change.0) (record_after (Some change.1) live) in
     records_after now changes
 
--- the record of a cell, and the size record of the set that an operation on an element is on
+-- the record of a cell
 abbrev pub record_in : map.FinMap nat_cmp ℕ → Cell → Option ℕ
 record_in records cell = map.get records (key_number cell)
 
+-- the size record of the set that an operation on an element is on
 abbrev pub size_record_in : map.FinMap nat_cmp ℕ → ObjOp → Option ℕ
 size_record_in records (op.Element s e action) = record_in records (Size s)
 size_record_in records _ = None

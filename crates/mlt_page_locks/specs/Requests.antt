@@ -47,8 +47,8 @@ granted table tx q mode = record {
 abbrev pub released : LockTable → ℕ → LockTable
 released table tx = record { held = map.remove table.held tx; max_open = table.max_open }
 
--- The answer to a request of tx for page q, with the table before and after it: the lock is held exactly where all
--- other holders go with it; else the lowest that does not is told, and nothing changes.
+-- The answer to a request of tx for page q: the lock is held exactly where all other holders go
+-- with it; else the lowest that does not is told, and nothing changes.
 abbrev pub Answers : LockTable → ℕ → ℕ → Mode → Grant → LockTable → Type 0
 Answers old tx q mode Held new = IsNobody (conflicts old tx q mode) × (new ≡ granted old tx q mode)
 Answers old tx q mode (Waiting by) new = IsLowest (conflicts old tx q mode) by × (new ≡ old)

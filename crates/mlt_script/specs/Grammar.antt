@@ -164,7 +164,7 @@ IsFirstFaultOf raws line fault = (before : List Raw) × (raw : Raw) × (after : 
 abbrev pub IsFirstFault : List ℕ → ℕ → ScriptCause → Type 0
 IsFirstFault text line fault = IsFirstFaultOf (lines text) line fault
 
--- Every text is scripts or has a first fault, and none is both; nor is it two lists of scripts, nor are there two first faults.
+-- every text is scripts or has a first fault, never both, and just one list or one fault
 abbrev pub IsDecided : List ℕ → Type 0
 IsDecided text =
     (((scripts : List ScriptForm) × Spells text scripts) ⊎ ((line : ℕ) × (fault : ScriptCause) × IsFirstFault text line fault))

@@ -35,7 +35,7 @@ module _ {D : Type 0} where
   IsServedAt begins answers commits aborts s d tx t end e =
       IsWithoutRoom d tx t end e ⊎ IsRunAt begins answers commits aborts s d tx t end e
 
-  -- scripts, one after another
+  -- the runs of scripts at a desk, one after another
   abbrev pub AreRunsAt : OnBegin D → OnOperation D → OnCommit D → OnAbort D → List ScriptForm → D
       → List Outcome → D → Type 0
   AreRunsAt begins answers commits aborts [] d [] e = d ≡ e

@@ -29,8 +29,8 @@ RefusesLong before result = IfSome before (λ input. 16777216 < length input →
 abbrev pub ReadsWithinLimit : Option (List ℕ) → Option (List ℕ) → Type 0
 ReadsWithinLimit before after = (taken : List ℕ) × Consumes before after taken × (length taken ≤ 16777217)
 
--- From what a reader and a writer had before and have after: whole inputs have texts, which go with what is answered.
--- Where the result is a refusal, nothing was written, or, after a failed write, a prefix of such a text.
+-- What is true of the bytes that were read and written, where a call that makes a text of a whole
+-- input is refused.
 pub record FailsCleanly {V : Type 0} (before after old new : Option (List ℕ)) (result : Result V Refusal)
     (IsTextOf : List ℕ → List ℕ → V → Type 0) : Type 0 where
   -- an input that is too long is refused, and not read on

@@ -35,4 +35,5 @@ pub record Agrees (receipts : List Outcome) (items : List TraceItem) : Type 0 wh
   pub of_history : AreOfHistory receipts items
   -- those without a number are refused and empty
   pub without_tx : All IsWithoutTx receipts
+  -- of two scripts of a client that committed, the later has the later commit
   pub rising : CommitsRise receipts

@@ -68,7 +68,9 @@ MayStepAt (at.Pending o) basis t commons =
 MayStepAt (at.Undoing inverting) basis t commons =
     MayStepBack basis inverting t.subtx t.undo commons
 
--- what a step asks, by what the transaction is at; where it is at nothing there is none
+-- What a step asks. Of a pending operation: that it may go on, or end. Of an abort: that something
+-- is left, which the inverse takes back that runs, or is to. Where the transaction is at nothing
+-- there is none.
 abbrev pub MayStepIn : Basis → Transaction → Commons → Type 0
 MayStepIn basis t commons = MayStepAt t.at basis t commons
 

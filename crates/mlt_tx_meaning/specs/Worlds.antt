@@ -77,10 +77,11 @@ basis_of world tx = record {
 abbrev pub record_at : World → Cell → Option ℕ
 record_at world cell = record_in (live_records world.pages) cell
 
--- the record of the cell that an operation is on, and the size record of the set that it is on
+-- the record of the cell that an operation is on
 abbrev pub record_of : World → ObjOp → Option ℕ
 record_of world op = record_at world (cell_of op)
 
+-- the size record of the set that it is on
 abbrev pub size_record_of : World → ObjOp → Option ℕ
 size_record_of world op = size_record_in (live_records world.pages) op
 

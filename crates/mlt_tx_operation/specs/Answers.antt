@@ -184,7 +184,9 @@ pub record IsRefused (basis : Basis) (old new : Moment) (before : OperationField
   pub later : IsInFirst before.course → ⊥
   pub cause : IsCauseOf reason basis old back.mid before
 
--- what a step answers, and what it leaves of the operation and of the pages
+-- A step goes on in its pass, or tells its reply, or begins another pass where a bucket has no
+-- room; or it waits, and nothing has changed; or it is refused, in a later pass than the first, and
+-- all is rolled back.
 abbrev pub TellsOfStep : Basis → Moment → Moment → OperationFields → OperationFields → StepAnswer
     → Type 0
 TellsOfStep basis old new before after answer.Going =

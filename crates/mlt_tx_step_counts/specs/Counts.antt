@@ -117,8 +117,8 @@ pub record BeginsSplits (basis : Basis) (before : Transaction) (step : OwnStep)
   pub plan : IsToSplit basis (view_in step.after step.new) o'.walk l g d
   pub ends : SplitsAndPutsOrNot basis l g d PutsRecord back
 
--- A pass that may split is told Done or Blocked at its fourth step, and Going at the three before it; or it is refused
--- earlier; or it splits.
+-- A pass that may split is told Done or Blocked at its fourth step, and Going at the three before
+-- it; or it is refused earlier; or it splits k times, and that comes at step 5 + 3 * k + c.
 abbrev pub TakesLaterPass : Basis → List OwnStep → Type 0
 TakesLaterPass basis steps =
     GoesThen 3 IsDoneOrBlocked (answers_of steps)
@@ -138,8 +138,8 @@ TakesNextPass basis op First steps = ⊥
 TakesNextPass basis op Narrow steps = TakesNarrowPass basis op steps
 TakesNextPass basis op Wide steps = TakesLaterPass basis steps
 
--- A first pass is told Done or Blocked at its fourth step, and Going at the three before it. Or it is an addition that finds
--- no room: then it is told Going at its third step too, and the next pass follows.
+-- A first pass is told Going at three steps, and Done or Blocked at the fourth; or it is an
+-- addition that finds no room, told Going at its third step too, and the next pass follows.
 abbrev pub TakesFirstPass : Basis → ObjOp → List OwnStep → Type 0
 TakesFirstPass basis op steps =
     GoesThen 3 IsDoneOrBlocked (answers_of steps)

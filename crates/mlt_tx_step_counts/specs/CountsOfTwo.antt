@@ -98,11 +98,9 @@ pub record GoesOver (Then : List OwnStep → Type 0) (before : Transaction) (ste
   pub steps : steps_to_bucket after.phase ≡ 2
   pub later : Then back
 
--- A wide pass: three steps, told Going, to the bucket of its own key, whose record is there, or is
--- put at the third step or behind splits; then, unless it was there, two more to that of the size,
--- the same. Done or Blocked comes at step 4 where the record is there, at 6 where nothing is split,
--- at 7 + 3 * k + c where one bucket is and 8 + 3 * k + c where both are, k times in all; or it is
--- refused before.
+-- A wide pass is told Done or Blocked at step 4, where the record of its own key is there; at 6,
+-- where nothing is split; at 7 + 3 * k + c, where one bucket is, and 8 + 3 * k + c, where both are,
+-- k times in all; and Going before. Or it is refused before.
 abbrev pub TakesWidePassOfTwo : Basis → List OwnStep → Type 0
 TakesWidePassOfTwo basis steps =
     GoesThen 3 IsDoneOrBlocked (answers_of steps)
@@ -137,8 +135,8 @@ pub record FindsBoth (basis : Basis) (op : ObjOp) (Then : List OwnStep → Type 
   pub ends : GoesThen 0 IsDoneOrBlocked (answers_of back) ⊎ OwesEarlier step back
       ⊎ FindsNoRoomForTwo basis op Then pair before step back
 
--- A first pass has both buckets at its third to fifth step, told Going so long: at the header, at one page of the directory or two,
--- and at one bucket or two. So Done or Blocked comes at its fourth to seventh step; or it finds no room at its third to fifth.
+-- A first pass has both buckets at its third to fifth step, told Going so long. So Done or Blocked
+-- comes at its fourth to seventh step; or it finds no room at its third to fifth.
 abbrev pub TakesFirstPassOfTwo : Basis → ObjOp → List OwnStep → Type 0
 TakesFirstPassOfTwo basis op steps =
     GoesBelow 5 (answers_of steps)

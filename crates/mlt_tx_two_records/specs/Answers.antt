@@ -60,7 +60,8 @@ RefusedBy (Wide leg.Own walk) basis old new request reason = OwnRefused basis ol
 RefusedBy (Wide leg.Size walk) basis old new request reason =
     SizeRefused basis old new request walk reason
 
--- what a step tells, and what it leaves of the operation and of the pages
+-- A step goes on, from one bucket or pass to the next; or tells the reply; or waits, and nothing
+-- has changed; or is refused, in a wide pass.
 abbrev pub TellsOfDouble : Basis → Moment → Moment → Double → Double → Request → DoubleAnswer → Type 0
 TellsOfDouble basis old new before after request answer.Going =
     Stands after basis request (view_of new) × GoesOnBy before after basis old new request

@@ -49,8 +49,9 @@ HasGhostOn basis clean key = (i : ℕ)
     × (position (is_ghost_of key basis.tx)
     (buckets_of clean (lead_of clean basis.root (basis.bits key))).slots ≡ Some i)
 
--- What a request is to change is there on the clean pages: a record of its own key, or none, as the inverse needs it that it may
--- be; the size's record, where that is lowered, or raised back; and the transaction's own ghost where that is to be revived.
+-- What a request is to change is there on the clean pages: its own record, or none, as an inverse
+-- needs it; the size's record, where it is to be lowered, or raised back; and the own ghost that is
+-- to be revived.
 pub record CanDoBoth (basis : Basis) (clean : FilePages) (request : Request) : Type 0 where
   pub own : IsPossible request (look_up basis.bits clean basis.root (target_of request).0)
   pub size : (key : ℕ) → size_key_of request ≡ Some key

@@ -1,7 +1,7 @@
 -- The ranges of a manager's limits.
 use Rattle.std.specs.Prelude.{ℕ, ◌≤◌, ◌^◌}
 
--- the ranges of a manager's limits
+-- the limits of a manager are in their ranges
 pub record AreInRange (max_open max_ids max_pages max_depth max_ops : ℕ) : Type 0 where
   pub open_least : 1 ≤ max_open
   pub open_most : max_open ≤ 64
