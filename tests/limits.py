@@ -632,7 +632,7 @@ def a_session_of_five_thousand_lines_one_at_a_time(mltx):
 
 @test(seconds=1)
 def three_thousand_transactions_of_sessions(mltx):
-    """Each transaction has its receipt: thousands in one session, and hundreds in one session after the other."""
+    """Each transaction has its outcome: thousands in one session, and hundreds in one session after the other."""
     many, sessions, trace = 3000, 200, mltx.folder / "trace"
     said = "begin\nup 7 1\ncommit\n"
     with mltx.serve("--sessions", 1, "--trace", trace, limit=1 + sessions) as server:

@@ -3,8 +3,8 @@
 #![tactic(auto)]
 
 #[cfg(test)]
-mod event_texts;
+mod commands;
 #[cfg(test)]
-mod requests;
+mod event_texts;
 #[cfg(test)]
 mod tells;

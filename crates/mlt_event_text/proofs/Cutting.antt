@@ -5,10 +5,10 @@ use Rattle.std.proofs.lemmas.List.Concat.{flat_map-cons}
 use Rattle.std.proofs.lemmas.List.Quantifiers.{position-Some}
 use Rattle.std.proofs.lemmas.Bool.{lt-ltb, le-ltb}
 use Rattle.mlt_event_text.specs.Inputs.{heard, lines_of, Splits, NextLine}
-use Rattle.mlt_event_text.specs.Requests.{request_of}
-use Rattle.mlt_event_text.specs.declared.request_line.Line.{Line}
-use Rattle.mlt_event_text.specs.declared.request_line.Line.TheVariants.{Says, TooLong}
-use Rattle.mlt_event_text.specs.declared.request.Request.{Request}
+use Rattle.mlt_event_text.specs.Commands.{command_of}
+use Rattle.mlt_event_text.specs.declared.session_line.Line.{Line}
+use Rattle.mlt_event_text.specs.declared.session_line.Line.TheVariants.{Says, TooLong}
+use Rattle.mlt_event_text.specs.declared.command.Command.{Command}
 use Rattle.mlt_text_words.specs.Lines.{Raw, lines, onto, is_lf, without_cr}
 use Rattle.mlt_text_words.proofs.Cutting.{not_found}
 
@@ -33,7 +33,7 @@ found text more i e =
     let h = position-Some is_lf text i 0 e in
     rw add-one (up_to text more i h.0 h.1 h.2)
 
-heard_short : (bytes : List ℕ) → length bytes ≤ 200 → heard (record { bytes = bytes; ended = true }) ≡ Says (request_of (without_cr bytes)) ∷ []
+heard_short : (bytes : List ℕ) → length bytes ≤ 200 → heard (record { bytes = bytes; ended = true }) ≡ Says (command_of (without_cr bytes)) ∷ []
 heard_short bytes l = rw (le-ltb 200 (length bytes) l) refl
 
 heard_long : (raw : Raw) → 200 < length raw.bytes → heard raw ≡ TooLong ∷ []
@@ -46,7 +46,7 @@ first_of : (raw : Raw) (rest : List Raw) (ls : List Line) → heard raw ≡ ls �
 first_of raw rest ls h = flat_map-cons heard raw rest ∙ ap (λ (l : List Line). l ++ flat_map heard rest) h
 
 -- a short line, whatever stands behind it
-short : (text more : List ℕ) (i : ℕ) → position is_lf text ≡ Some i → i ≤ 200 → lines_of (take (i + 1) text ++ more) ≡ Says (request_of (without_cr (take i text))) ∷ lines_of more
+short : (text more : List ℕ) (i : ℕ) → position is_lf text ≡ Some i → i ≤ 200 → lines_of (take (i + 1) text ++ more) ≡ Says (command_of (without_cr (take i text))) ∷ lines_of more
 unfolding lines_of
 short text more i e l =
     let h = position-Some is_lf text i 0 e in
@@ -58,19 +58,19 @@ pub empty : lines_of [] ≡ []
 unfolding lines_of lines
 empty = refl
 
-alone : (text : List ℕ) (i : ℕ) → position is_lf text ≡ Some i → i ≤ 200 → lines_of (take (i + 1) text) ≡ Says (request_of (without_cr (take i text))) ∷ []
+alone : (text : List ℕ) (i : ℕ) → position is_lf text ≡ Some i → i ≤ 200 → lines_of (take (i + 1) text) ≡ Says (command_of (without_cr (take i text))) ∷ []
 alone text i e l =
-    ap lines_of (sym (append-nil (take (i + 1) text))) ∙ short text [] i e l ∙ ap (λ (rest : List Line). Says (request_of (without_cr (take i text))) ∷ rest) empty
+    ap lines_of (sym (append-nil (take (i + 1) text))) ∙ short text [] i e l ∙ ap (λ (rest : List Line). Says (command_of (without_cr (take i text))) ∷ rest) empty
 
 splits : (text : List ℕ) (i : ℕ) → position is_lf text ≡ Some i → i ≤ 200 → Splits (take (i + 1) text)
 splits text i e l more = short text more i e l ∙ ap (λ (ls : List Line). ls ++ lines_of more) (sym (alone text i e l))
 
-pub next_found : (text : List ℕ) (i : ℕ) (r : Request) → position is_lf text ≡ Some i → i ≤ 200 → r ≡ request_of (without_cr (take i text)) → NextLine text (Some (Says r, i + 1))
+pub next_found : (text : List ℕ) (i : ℕ) (r : Command) → position is_lf text ≡ Some i → i ≤ 200 → r ≡ command_of (without_cr (take i text)) → NextLine text (Some (Says r, i + 1))
 next_found text i r e l q =
     let h = position-Some is_lf text i 0 e in (
       omega arith,
       (let k = h.0 in omega arith),
-      (alone text i e l ∙ ap (λ (s : Request). Says s ∷ []) (sym q), splits text i e l),
+      (alone text i e l ∙ ap (λ (s : Command). Says s ∷ []) (sym q), splits text i e l),
     )
 
 pub next_long : (text : List ℕ) (i : ℕ) → position is_lf text ≡ Some i → 200 < i → NextLine text (Some (TooLong, length text))

@@ -1,7 +1,7 @@
 -- The lines of inputs that are parts of one.
 use Rattle.std.proofs.Common.{◌≡◌, List, ℕ, [], ◌++◌, sym, ap, ◌∙◌, append_assoc}
 use Rattle.mlt_event_text.specs.Inputs.{lines_of, Splits, Begins}
-use Rattle.mlt_event_text.specs.declared.request_line.Line.{Line}
+use Rattle.mlt_event_text.specs.declared.session_line.Line.{Line}
 use Rattle.mlt_event_text.proofs.Cutting.{empty}
 
 pub splits_none : Splits []

@@ -1,14 +1,14 @@
 -- The lines of an input.
 use Rattle.std.specs.Prelude.{◌≡◌, ◌<◌, ◌≤◌, ℕ, List, [], ◌∷◌, ◌++◌, length, take, Option, Some, None, nat_lt, if◌then◌else◌}
 use Rattle.std.specs.List.{flat_map}
-use Rattle.mlt_event_text.specs.Requests.{request_of}
-use Rattle.mlt_event_text.specs.declared.request_line.Line.{Line}
-use Rattle.mlt_event_text.specs.declared.request_line.Line.TheVariants.{Says, TooLong}
+use Rattle.mlt_event_text.specs.Commands.{command_of}
+use Rattle.mlt_event_text.specs.declared.session_line.Line.{Line}
+use Rattle.mlt_event_text.specs.declared.session_line.Line.TheVariants.{Says, TooLong}
 use Rattle.mlt_text_words.specs.Lines.{Raw, lines, without_cr}
 
 -- a line of more than 200 bytes is too long, whether an LF ends it or not; bytes after the last LF are else no line
 abbrev pub heard : Raw → List Line
-heard raw = if nat_lt 200 (length raw.bytes) then TooLong ∷ [] else (if raw.ended then Says (request_of (without_cr raw.bytes)) ∷ [] else [])
+heard raw = if nat_lt 200 (length raw.bytes) then TooLong ∷ [] else (if raw.ended then Says (command_of (without_cr raw.bytes)) ∷ [] else [])
 
 -- what the lines of an input ask
 unfoldable pub lines_of : List ℕ → List Line
@@ -24,7 +24,7 @@ Begins bytes first = (rest : List Line) × (lines_of bytes ≡ first ++ rest)
 
 -- the line takes so many bytes, or it is too long
 abbrev pub IsNext : List ℕ → Line → ℕ → Type 0
-IsNext text (Says request) count = (lines_of (take count text) ≡ Says request ∷ []) × Splits (take count text)
+IsNext text (Says command) count = (lines_of (take count text) ≡ Says command ∷ []) × Splits (take count text)
 IsNext text TooLong count = Begins text (TooLong ∷ [])
 
 -- the next line of the text, and how many bytes it takes; none where the line goes on behind the text

@@ -3,5 +3,5 @@ pub mod Readings
 pub mod Grammar
 pub mod Answering
 pub mod TellTexts
-pub mod Requests
+pub mod Commands
 pub mod Inputs

@@ -27,8 +27,8 @@ use Rattle.mlt_hash_pair.specs.declared.answer.ChangeAnswer.TheVariants as answe
 use Rattle.mlt_hash_pair.specs.declared.answer.Side.TheVariants as side
 use Rattle.mlt_hash_pair.specs.declared.asked.Changes.{Changes}
 use Rattle.mlt_hash_pair.specs.declared.asked.RecordChange.{RecordChange}
-use Rattle.mlt_hash_pair.specs.declared.plan.Plan.{Plan}
-use Rattle.mlt_hash_pair.specs.declared.plan.Plan.TheVariants as plan
+use Rattle.mlt_hash_pair.specs.declared.plan.SlotPlan.{SlotPlan}
+use Rattle.mlt_hash_pair.specs.declared.plan.SlotPlan.TheVariants as plan
 use Rattle.mlt_hash_pair.proofs.Together.{later_left, later_right}
 use Rattle.mlt_hash_pair.proofs.Slots.{fits_after, plan_number}
 
@@ -51,12 +51,12 @@ unchanged : (view : View) → IsSameView view view
 unchanged view = record { modes = refl; seen = λ q. refl; own = λ q. refl }
 
 -- a plan that may not be full
-abbrev IsRoomy : Plan → Type 0
+abbrev IsRoomy : SlotPlan → Type 0
 IsRoomy this = this ≡ plan.Full → ⊥
 
 module _ (opens : set.FinSet nat_cmp) (tx key q : ℕ) (asked : Option RecordChange) (bucket : BucketFields) where
   -- **What is planned and written makes what is asked for.**
-  pub makes_asked : (this : Plan) (old new : Moment) → IsRoomy this → IsPlanned this asked opens tx key q bucket → ReadsHeldBucket (view_of old) q bucket → WritesPlan this old new → MakesAsked asked opens tx key q (view_of old) (view_of new)
+  pub makes_asked : (this : SlotPlan) (old new : Moment) → IsRoomy this → IsPlanned this asked opens tx key q bucket → ReadsHeldBucket (view_of old) q bucket → WritesPlan this old new → MakesAsked asked opens tx key q (view_of old) (view_of new)
   makes_asked plan.Nothing old new roomy none reads same = subst (λ asked. MakesAsked asked opens tx key q (view_of old) (view_of new)) (sym none) (same_view old new same)
   makes_asked (plan.Set write) old new roomy planned reads writes =
       let number = (plan_number planned.0 opens tx key q bucket write planned.2).0 in
@@ -77,7 +77,7 @@ module _ (opens : set.FinSet nat_cmp) (tx key q : ℕ) (asked : Option RecordCha
   full_asked view planned reads = record { change = planned.0; asked_is = planned.1; bucket = bucket; reads = reads; none = planned.2 }
 
   -- the view with the plan in it
-  abbrev pub mid_of : Plan → View → View
+  abbrev pub mid_of : SlotPlan → View → View
   mid_of plan.Nothing view = view
   mid_of (plan.Set write) view = record view { own = λ p. cond (p == q) (Some (planned_page bucket write)) (view.own p) }
   mid_of plan.Full view = view
@@ -88,7 +88,7 @@ module _ (opens : set.FinSet nat_cmp) (tx key q : ℕ) (asked : Option RecordCha
   others_are : (write : WriteFields) (view : View) (p : ℕ) → p ≢ q → (mid_of (plan.Set write) view).own p ≡ view.own p
   others_are write view p ne = cond-false (p == q) (Some (planned_page bucket write)) (view.own p) (ne_eqb p q ne)
 
-  pub makes_mid : (this : Plan) (view : View) → IsRoomy this → IsPlanned this asked opens tx key q bucket → ReadsHeldBucket view q bucket → MakesAsked asked opens tx key q view (mid_of this view)
+  pub makes_mid : (this : SlotPlan) (view : View) → IsRoomy this → IsPlanned this asked opens tx key q bucket → ReadsHeldBucket view q bucket → MakesAsked asked opens tx key q view (mid_of this view)
   makes_mid plan.Nothing view roomy none reads = subst (λ asked. MakesAsked asked opens tx key q view view) (sym none) (unchanged view)
   makes_mid (plan.Set write) view roomy planned reads = subst (λ asked. MakesAsked asked opens tx key q view (mid_of (plan.Set write) view)) (sym planned.1) (record {
     bucket = bucket;
@@ -99,18 +99,18 @@ module _ (opens : set.FinSet nat_cmp) (tx key q : ℕ) (asked : Option RecordCha
   })
   makes_mid plan.Full view roomy none reads = absurd (roomy refl)
 
-  pub mid_reads_here : (this : Plan) (view : View) → ReadsHeldBucket view q bucket → ReadsHeldBucket (mid_of this view) q (bucket_after bucket this)
+  pub mid_reads_here : (this : SlotPlan) (view : View) → ReadsHeldBucket view q bucket → ReadsHeldBucket (mid_of this view) q (bucket_after bucket this)
   mid_reads_here plan.Nothing view reads = reads
   mid_reads_here (plan.Set write) view reads = (reads.0, reads.1, ap (λ own. own_or own reads.0) (here_is write view))
   mid_reads_here plan.Full view reads = reads
 
-  mid_reads_other : (this : Plan) (view : View) (p : ℕ) (other : BucketFields) → p ≢ q → ReadsHeldBucket view p other → ReadsHeldBucket (mid_of this view) p other
+  mid_reads_other : (this : SlotPlan) (view : View) (p : ℕ) (other : BucketFields) → p ≢ q → ReadsHeldBucket view p other → ReadsHeldBucket (mid_of this view) p other
   mid_reads_other plan.Nothing view p other ne reads = reads
   mid_reads_other (plan.Set write) view p other ne reads = (reads.0, reads.1, ap (λ own. own_or own reads.0) (others_are write view p ne) ∙ reads.2)
   mid_reads_other plan.Full view p other ne reads = reads
 
   -- a write of the page, on top of the plan
-  pub mid_writes : (this : Plan) (view new : View) (page : Page) → WritesPage view new q page → WritesPage (mid_of this view) new q page
+  pub mid_writes : (this : SlotPlan) (view new : View) (page : Page) → WritesPage view new q page → WritesPage (mid_of this view) new q page
   mid_writes plan.Nothing view new page writes = writes
   mid_writes (plan.Set write) view new page writes = record { modes = writes.modes; seen = writes.seen; here = writes.here; others = λ p ne. writes.others p ne ∙ sym (others_are write view p ne) }
   mid_writes plan.Full view new page writes = writes
@@ -127,13 +127,13 @@ module _ (opens : set.FinSet nat_cmp) (tx key q : ℕ) (asked : Option RecordCha
   }
 
 -- a plan of what is asked for is a write
-set_if_asked : (this : Plan) (asked : Option RecordChange) (opens : set.FinSet nat_cmp) (tx key q : ℕ) (bucket : BucketFields) → IsRoomy this → IsPlanned this asked opens tx key q bucket → IsSome asked → (write : WriteFields) × (this ≡ plan.Set write)
+set_if_asked : (this : SlotPlan) (asked : Option RecordChange) (opens : set.FinSet nat_cmp) (tx key q : ℕ) (bucket : BucketFields) → IsRoomy this → IsPlanned this asked opens tx key q bucket → IsSome asked → (write : WriteFields) × (this ≡ plan.Set write)
 set_if_asked plan.Nothing asked opens tx key q bucket roomy none some = absurd (false≢true (subst IsSome none some))
 set_if_asked (plan.Set write) asked opens tx key q bucket roomy planned some = (write, refl)
 set_if_asked plan.Full asked opens tx key q bucket roomy none some = absurd (roomy refl)
 
 -- Both changes in one bucket
-module _ (opens : set.FinSet nat_cmp) (old : Moment) (left right q : ℕ) (changes : Changes) (bucket : BucketFields) (reads : ReadsHeldBucket (view_of old) q bucket) (left_plan : Plan) (left_roomy : IsRoomy left_plan)
+module _ (opens : set.FinSet nat_cmp) (old : Moment) (left right q : ℕ) (changes : Changes) (bucket : BucketFields) (reads : ReadsHeldBucket (view_of old) q bucket) (left_plan : SlotPlan) (left_roomy : IsRoomy left_plan)
     (left_planned : IsPlanned left_plan changes.left opens old.running.tx left q bucket) where
   abbrev mid : View
   mid = mid_of opens old.running.tx left q changes.left bucket left_plan (view_of old)
@@ -147,7 +147,7 @@ module _ (opens : set.FinSet nat_cmp) (old : Moment) (left right q : ℕ) (chang
   pub one_full : (new : Moment) → new ≡ old → IsPlanned plan.Full changes.right opens old.running.tx right q (bucket_after bucket left_plan) → TellsOfOne (task_in opens left right q changes) old new (answer.Full side.Right)
   one_full new same planned = ((mid, left_made, full_asked opens old.running.tx right q changes.right (bucket_after bucket left_plan) mid planned mid_reads), same)
 
-  right_made : (right_plan : Plan) (new : View) → IsRoomy right_plan → IsPlanned right_plan changes.right opens old.running.tx right q (bucket_after bucket left_plan) → (IsSome changes.left ⊎ IsSome changes.right)
+  right_made : (right_plan : SlotPlan) (new : View) → IsRoomy right_plan → IsPlanned right_plan changes.right opens old.running.tx right q (bucket_after bucket left_plan) → (IsSome changes.left ⊎ IsSome changes.right)
       → WritesPage (view_of old) new q (page.Bucket (bucket_after (bucket_after bucket left_plan) right_plan)) → MakesAsked changes.right opens old.running.tx right q mid new
   right_made plan.Nothing new roomy none asked writes =
       subst (λ asked. MakesAsked asked opens old.running.tx right q mid new) (sym none)
@@ -168,12 +168,12 @@ module _ (opens : set.FinSet nat_cmp) (old : Moment) (left right q : ℕ) (chang
       })
   right_made plan.Full new roomy planned asked writes = absurd (roomy refl)
 
-  pub one_changed : (new : Moment) (right_plan : Plan) → IsRoomy right_plan → IsPlanned right_plan changes.right opens old.running.tx right q (bucket_after bucket left_plan) → (IsSome changes.left ⊎ IsSome changes.right)
+  pub one_changed : (new : Moment) (right_plan : SlotPlan) → IsRoomy right_plan → IsPlanned right_plan changes.right opens old.running.tx right q (bucket_after bucket left_plan) → (IsSome changes.left ⊎ IsSome changes.right)
       → WritesPage (view_of old) (view_of new) q (page.Bucket (bucket_after (bucket_after bucket left_plan) right_plan)) → TellsOfOne (task_in opens left right q changes) old new answer.Changed
   one_changed new right_plan roomy planned asked writes = (mid, left_made, right_made right_plan (view_of new) roomy planned asked writes)
 
 -- a plan that is written writes its page at most
-writes_at_most : (this : Plan) (asked : Option RecordChange) (opens : set.FinSet nat_cmp) (tx key q : ℕ) (old new : Moment) (bucket : BucketFields) → ReadsHeldBucket (view_of old) q bucket → IsRoomy this → IsPlanned this asked opens tx key q bucket → WritesPlan this old new → WritesAtMost old new q
+writes_at_most : (this : SlotPlan) (asked : Option RecordChange) (opens : set.FinSet nat_cmp) (tx key q : ℕ) (old new : Moment) (bucket : BucketFields) → ReadsHeldBucket (view_of old) q bucket → IsRoomy this → IsPlanned this asked opens tx key q bucket → WritesPlan this old new → WritesAtMost old new q
 writes_at_most plan.Nothing asked opens tx key q old new bucket reads roomy none same = inl same
 writes_at_most (plan.Set write) asked opens tx key q old new bucket reads roomy planned writes =
     let number = (plan_number planned.0 opens tx key q bucket write planned.2).0 in
@@ -181,7 +181,7 @@ writes_at_most (plan.Set write) asked opens tx key q old new bucket reads roomy 
 writes_at_most plan.Full asked opens tx key q old new bucket reads roomy none same = inl same
 
 -- The changes in two buckets
-module _ (opens : set.FinSet nat_cmp) (old new : Moment) (before after : PairFields) (left_page right_page : ℕ) (changes : Changes) (left_plan right_plan : Plan)
+module _ (opens : set.FinSet nat_cmp) (old new : Moment) (before after : PairFields) (left_page right_page : ℕ) (changes : Changes) (left_plan right_plan : SlotPlan)
     (left_has : HasPlan left_plan changes.left opens old.running.tx before.left left_page (view_of old)) (right_has : HasPlan right_plan changes.right opens old.running.tx before.right right_page (view_of old)) where
   pub left_full : left_plan ≡ plan.Full → new ≡ old → after ≡ before → TellsOfTwo (task_of opens before left_page right_page changes) old new before after (answer.Full side.Left)
   left_full full same stays = (full_asked opens old.running.tx before.left left_page changes.left left_has.0 (view_of old) (subst (λ this. IsPlanned this changes.left opens old.running.tx before.left left_page left_has.0) full left_has.2) left_has.1, same, stays)
@@ -206,7 +206,7 @@ module _ (opens : set.FinSet nat_cmp) (old new : Moment) (before after : PairFie
         right_is_made : MakesAsked changes.right opens old.running.tx before.right right_page (view_of old) (view_of new)
         right_is_made = makes_asked opens old.running.tx before.right right_page changes.right right_has.0 right_plan old new right_roomy right_has.2 right_has.1 writes
 
-        tells_left : (this : Plan) → this ≡ left_plan → IsPlanned this changes.left opens old.running.tx before.left left_page left_has.0 → OwesPlan this before after told → TellsOfTwo (task_of opens before left_page right_page changes) old new before after told
+        tells_left : (this : SlotPlan) → this ≡ left_plan → IsPlanned this changes.left opens old.running.tx before.left left_page left_has.0 → OwesPlan this before after told → TellsOfTwo (task_of opens before left_page right_page changes) old new before after told
         tells_left plan.Nothing is none owes = subst (TellsOfTwo (task_of opens before left_page right_page changes) old new before after) (sym owes.1) (
           record {
             mid = view_of old;
@@ -238,7 +238,7 @@ module _ (opens : set.FinSet nat_cmp) (old new : Moment) (before after : PairFie
         left_is_made : MakesAsked changes.left opens old.running.tx before.left left_page (view_of old) (view_of new)
         left_is_made = makes_asked opens old.running.tx before.left left_page changes.left left_has.0 left_plan old new left_roomy left_has.2 left_has.1 writes
 
-        tells_right : (this : Plan) → this ≡ right_plan → IsPlanned this changes.right opens old.running.tx before.right right_page right_has.0 → OwesPlan this before after told → TellsOfTwo (task_of opens before left_page right_page changes) old new before after told
+        tells_right : (this : SlotPlan) → this ≡ right_plan → IsPlanned this changes.right opens old.running.tx before.right right_page right_has.0 → OwesPlan this before after told → TellsOfTwo (task_of opens before left_page right_page changes) old new before after told
         tells_right plan.Nothing is none owes = subst (TellsOfTwo (task_of opens before left_page right_page changes) old new before after) (sym owes.1) (
           record {
             mid = view_of new;
@@ -266,11 +266,11 @@ module _ (opens : set.FinSet nat_cmp) (old new : Moment) (before after : PairFie
         writes_left_later = let le : right_page ≤ left_page = omega (arith, low) in subst (WritesAtMost old new) (sym (later_left left_page right_page le)) (writes_at_most left_plan changes.left opens old.running.tx before.left left_page old new left_has.0 left_has.1 left_roomy left_has.2 writes)
 
 -- the same plan, of a key that is known otherwise
-pub plan_for : (this : Plan) (asked : Option RecordChange) (opens : set.FinSet nat_cmp) (tx key key' q : ℕ) (view : View) → key ≡ key' → HasPlan this asked opens tx key q view → HasPlan this asked opens tx key' q view
+pub plan_for : (this : SlotPlan) (asked : Option RecordChange) (opens : set.FinSet nat_cmp) (tx key key' q : ℕ) (view : View) → key ≡ key' → HasPlan this asked opens tx key q view → HasPlan this asked opens tx key' q view
 plan_for this asked opens tx key key' q view same has = subst (λ key. HasPlan this asked opens tx key q view) same has
 
 -- **What is planned on a page that is held exclusively may be written.**
-pub may_write_plan : (this : Plan) (asked : Option RecordChange) (opens : set.FinSet nat_cmp) (key q : ℕ) (m : Moment) → can_write m.locks m.running.tx q ≡ true → HasPlan this asked opens m.running.tx key q (view_of m) → MayWrite this m
+pub may_write_plan : (this : SlotPlan) (asked : Option RecordChange) (opens : set.FinSet nat_cmp) (key q : ℕ) (m : Moment) → can_write m.locks m.running.tx q ≡ true → HasPlan this asked opens m.running.tx key q (view_of m) → MayWrite this m
 may_write_plan plan.Nothing asked opens key q m held has = tt
 may_write_plan (plan.Set write) asked opens key q m held has =
     let number = (plan_number has.2.0 opens m.running.tx key q has.0 write has.2.2).0 in
@@ -286,7 +286,7 @@ one_reading view q a b reads reads' =
     cc
 
 -- **What fits the bucket of the right key fits it with the left one's plan in it.**
-pub fits_between : (this : Plan) (asked other : Option RecordChange) (opens : set.FinSet nat_cmp) (tx left right q : ℕ) (bucket : BucketFields) → left ≢ right → IsPlanned this asked opens tx left q bucket → FitsSlots other right bucket.slots → FitsSlots other right (bucket_after bucket this).slots
+pub fits_between : (this : SlotPlan) (asked other : Option RecordChange) (opens : set.FinSet nat_cmp) (tx left right q : ℕ) (bucket : BucketFields) → left ≢ right → IsPlanned this asked opens tx left q bucket → FitsSlots other right bucket.slots → FitsSlots other right (bucket_after bucket this).slots
 fits_between plan.Nothing asked other opens tx left right q bucket apart none fits = fits
 fits_between (plan.Set write) asked other opens tx left right q bucket apart planned fits = fits_after other planned.0 opens tx left right q bucket write apart planned.2 fits
 fits_between plan.Full asked other opens tx left right q bucket apart none fits = fits

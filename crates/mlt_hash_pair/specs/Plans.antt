@@ -9,8 +9,8 @@ use Rattle.mlt_page.specs.Values.{BucketFields, with_slot}
 use Rattle.mlt_hash_record.specs.Plans.{IsNowhere, SetsFirst, WriteFields, has_room}
 use Rattle.mlt_hash_pair.specs.declared.asked.RecordChange.{RecordChange}
 use Rattle.mlt_hash_pair.specs.declared.asked.RecordChange.TheVariants as change
-use Rattle.mlt_hash_pair.specs.declared.plan.Plan.{Plan}
-use Rattle.mlt_hash_pair.specs.declared.plan.Plan.TheVariants as plan
+use Rattle.mlt_hash_pair.specs.declared.plan.SlotPlan.{SlotPlan}
+use Rattle.mlt_hash_pair.specs.declared.plan.SlotPlan.TheVariants as plan
 
 -- a change fits what was found of its key: an insertion asks that there is no record, and another change that there is one
 abbrev pub FitsFound : Option RecordChange → Option ℕ → Type 0
@@ -55,7 +55,7 @@ HasNoPlan change.Remove opens tx key bucket = ⊥
 
 -- what is planned, by what is asked
 abbrev pub IsPlanned
-    : Plan → Option RecordChange → set.FinSet nat_cmp → ℕ → ℕ → ℕ → BucketFields → Type 0
+    : SlotPlan → Option RecordChange → set.FinSet nat_cmp → ℕ → ℕ → ℕ → BucketFields → Type 0
 IsPlanned plan.Nothing asked opens tx key q bucket = asked ≡ None
 IsPlanned (plan.Set write) asked opens tx key q bucket =
     (change : RecordChange) × (asked ≡ Some change) × IsPlan change opens tx key q bucket write
@@ -63,13 +63,13 @@ IsPlanned plan.Full asked opens tx key q bucket =
     (change : RecordChange) × (asked ≡ Some change) × HasNoPlan change opens tx key bucket
 
 -- a slot that is planned is one of the eight
-abbrev pub IsWithin : Plan → Type 0
+abbrev pub IsWithin : SlotPlan → Type 0
 IsWithin plan.Nothing = Unit {0}
 IsWithin (plan.Set write) = write.at < 8
 IsWithin plan.Full = Unit {0}
 
 -- the bucket with the plan in it
-abbrev pub bucket_after : BucketFields → Plan → BucketFields
+abbrev pub bucket_after : BucketFields → SlotPlan → BucketFields
 bucket_after bucket plan.Nothing = bucket
 bucket_after bucket (plan.Set write) = with_slot bucket write.at write.slot
 bucket_after bucket plan.Full = bucket

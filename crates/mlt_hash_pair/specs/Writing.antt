@@ -15,8 +15,8 @@ use Rattle.mlt_hash_pair.specs.declared.asked.RecordChange.{RecordChange}
 use Rattle.mlt_hash_pair.specs.declared.answer.ChangeAnswer.{ChangeAnswer}
 use Rattle.mlt_hash_pair.specs.declared.answer.ChangeAnswer.TheVariants as answer
 use Rattle.mlt_hash_pair.specs.declared.answer.Side.TheVariants as side
-use Rattle.mlt_hash_pair.specs.declared.plan.Plan.{Plan}
-use Rattle.mlt_hash_pair.specs.declared.plan.Plan.TheVariants as plan
+use Rattle.mlt_hash_pair.specs.declared.plan.SlotPlan.{SlotPlan}
+use Rattle.mlt_hash_pair.specs.declared.plan.SlotPlan.TheVariants as plan
 
 -- page q reads as a bucket that what is asked fits
 abbrev pub MayPlan : Option RecordChange → ℕ → ℕ → View → Type 0
@@ -24,7 +24,7 @@ MayPlan asked key q view =
     (bucket : BucketFields) × ReadsHeldBucket view q bucket × FitsSlots asked key bucket.slots
 
 -- what is planned there
-abbrev pub HasPlan : Plan → Option RecordChange → set.FinSet nat_cmp → ℕ → ℕ → ℕ → View → Type 0
+abbrev pub HasPlan : SlotPlan → Option RecordChange → set.FinSet nat_cmp → ℕ → ℕ → ℕ → View → Type 0
 HasPlan plan asked opens tx key q view =
     (bucket : BucketFields) × ReadsHeldBucket view q bucket
     × IsPlanned plan asked opens tx key q bucket
@@ -49,14 +49,14 @@ TellsOfOne task old new (answer.Full side.Right) =
     × (new ≡ old)
 
 -- the slot that is planned may be written
-abbrev pub MayWrite : Plan → Moment → Type 0
+abbrev pub MayWrite : SlotPlan → Moment → Type 0
 MayWrite plan.Nothing m = Unit {0}
 MayWrite (plan.Set write) m = (can_write m.locks m.running.tx write.number ≡ true)
     × ((bucket : BucketFields) × ReadsHeldBucket (view_of m) write.number bucket)
 MayWrite plan.Full m = Unit {0}
 
 -- and is written
-abbrev pub WritesPlan : Plan → Moment → Moment → Type 0
+abbrev pub WritesPlan : SlotPlan → Moment → Moment → Type 0
 WritesPlan plan.Nothing old new = new ≡ old
 WritesPlan (plan.Set write) old new =
     WritesHeldSlot old new write.number write.at write.slot
@@ -64,7 +64,7 @@ WritesPlan (plan.Set write) old new =
 WritesPlan plan.Full old new = new ≡ old
 
 -- a plan is owed, if a slot is to be set
-abbrev pub OwesPlan : Plan → PairFields → PairFields → ChangeAnswer → Type 0
+abbrev pub OwesPlan : SlotPlan → PairFields → PairFields → ChangeAnswer → Type 0
 OwesPlan plan.Nothing before after told = (after ≡ before) × (told ≡ answer.Changed)
 OwesPlan (plan.Set write) before after told =
     (after ≡ record before { owed = Some write }) × (told ≡ answer.OneLeft)

@@ -15,7 +15,7 @@ ghost use Rattle.mlt_hash_pair.specs.Writing.{HasPlan, MayPlan, MayWrite, OwesPl
 use crate::answer::{ChangeAnswer, Side};
 use crate::asked::{Changes, RecordChange};
 use crate::pair::Pair;
-use crate::plan::{Plan, bucket_after, plan_in};
+use crate::plan::{SlotPlan, bucket_after, plan_in};
 use crate::way::Way;
 use mlt_hash_access::{LockedStore, read_held, write_held, write_slot};
 use mlt_page::Page;
@@ -124,12 +124,12 @@ fn change_one_bucket(
     };
     let owner = subtx.tx();
     let left_plan = plan_in(bucket, number, left, &changes.left, owner, opens);
-    if let Plan::Full = left_plan {
+    if let SlotPlan::Full = left_plan {
         return ChangeAnswer::Full(Side::Left);
     }
     let between = bucket_after(bucket, &left_plan);
     let right_plan = plan_in(&between, number, right, &changes.right, owner, opens);
-    if let Plan::Full = right_plan {
+    if let SlotPlan::Full = right_plan {
         return ChangeAnswer::Full(Side::Right);
     }
     let after = bucket_after(&between, &right_plan);
@@ -147,7 +147,7 @@ fn plan_held(
     subtx: &Subtx,
     pages: &LockedStore,
     opens: &OpenSet,
-) -> Plan
+) -> SlotPlan
     requires may { MayStep (moment subtx.now pages.now) }
     requires held { can_read pages.now.locks subtx.now.tx number ≡ true }
     requires fits { MayPlan asked.now key.now number (view_of (moment subtx.now pages.now)) }
@@ -187,11 +187,11 @@ fn change_two_buckets(
         (moment subtx.old pages.old) (moment subtx.new pages.new) pair.old pair.new result }
 {
     let left_plan = plan_held(left, &pair.left, &changes.left, subtx, pages, opens);
-    if let Plan::Full = left_plan {
+    if let SlotPlan::Full = left_plan {
         return ChangeAnswer::Full(Side::Left);
     }
     let right_plan = plan_held(right, &pair.right, &changes.right, subtx, pages, opens);
-    if let Plan::Full = right_plan {
+    if let SlotPlan::Full = right_plan {
         return ChangeAnswer::Full(Side::Right);
     }
     if left.0 < right.0 {
@@ -203,7 +203,7 @@ fn change_two_buckets(
 }
 
 // Writes what is planned, as the first write of the transaction.
-fn write_plan(plan: &Plan, subtx: &mut Subtx, pages: &mut LockedStore)
+fn write_plan(plan: &SlotPlan, subtx: &mut Subtx, pages: &mut LockedStore)
     requires may { MayStep (moment subtx.old pages.old) }
     requires unwritten { IsUnwritten (view_of (moment subtx.old pages.old)) }
     requires within { IsWithin plan.now }
@@ -212,20 +212,20 @@ fn write_plan(plan: &Plan, subtx: &mut Subtx, pages: &mut LockedStore)
     ensures leaves { Leaves (moment subtx.old pages.old) (moment subtx.new pages.new) }
 {
     match *plan {
-        Plan::Set(write) => match write_slot(subtx, pages, write.number, write.at, write.slot) {
+        SlotPlan::Set(write) => match write_slot(subtx, pages, write.number, write.at, write.slot) {
             Ok(()) => {}
             Err(_) => unreachable!(),
         },
-        Plan::Nothing | Plan::Full => {}
+        SlotPlan::Nothing | SlotPlan::Full => {}
     }
 }
 
 // Leaves what is planned to be written in a step of its own.
-fn owe_plan(pair: &mut Pair, plan: &Plan) -> ChangeAnswer
+fn owe_plan(pair: &mut Pair, plan: &SlotPlan) -> ChangeAnswer
     ensures { OwesPlan plan.now pair.old pair.new result }
 {
     match *plan {
-        Plan::Set(write) => {
+        SlotPlan::Set(write) => {
             pair.owed = Some(write);
             ChangeAnswer::OneLeft
         }

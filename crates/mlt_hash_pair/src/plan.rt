@@ -10,7 +10,7 @@ use mlt_types::{Key, OpenSet, PageNo, TxId};
 
 /// What is to be written for one key.
 #[derive(Clone, Copy, Debug, PartialEq, Eq)]
-pub(crate) enum Plan {
+pub(crate) enum SlotPlan {
     /// Nothing is asked for.
     Nothing,
     /// This slot is to be set.
@@ -27,13 +27,13 @@ pub(crate) fn plan_in(
     asked: &Option<RecordChange>,
     owner: TxId,
     opens: &OpenSet,
-) -> Plan
+) -> SlotPlan
     requires fits { FitsSlots asked.now key.now bucket.now.slots }
     ensures planned { IsPlanned result asked.now opens.now owner key.now number bucket.now }
     ensures within { IsWithin result }
 {
     match *asked {
-        None => Plan::Nothing,
+        None => SlotPlan::Nothing,
         Some(change) => plan_of(bucket, number, key, change, owner, opens),
     }
 }
@@ -46,7 +46,7 @@ fn plan_of(
     change: RecordChange,
     owner: TxId,
     opens: &OpenSet,
-) -> Plan
+) -> SlotPlan
     requires fits { FitsSlots (Some change) key.now bucket.now.slots }
     ensures planned { IsPlanned result (Some change) opens.now owner key.now number bucket.now }
     ensures within { IsWithin result }
@@ -54,31 +54,31 @@ fn plan_of(
     match change {
         RecordChange::Insert(value) => {
             if let Some(write) = mlt_hash_record::revive(number, bucket, *key, owner, value) {
-                return Plan::Set(write);
+                return SlotPlan::Set(write);
             }
             match mlt_hash_record::insert(number, bucket, *key, value, opens) {
-                Some(write) => Plan::Set(write),
-                None => Plan::Full,
+                Some(write) => SlotPlan::Set(write),
+                None => SlotPlan::Full,
             }
         }
         RecordChange::Update(value) => match mlt_hash_record::update(number, bucket, *key, value) {
-            Some(write) => Plan::Set(write),
+            Some(write) => SlotPlan::Set(write),
             None => unreachable!(),
         },
         RecordChange::Remove => match mlt_hash_record::remove(number, bucket, *key, owner) {
-            Some(write) => Plan::Set(write),
+            Some(write) => SlotPlan::Set(write),
             None => unreachable!(),
         },
     }
 }
 
 /// The bucket with the plan in it.
-pub(crate) fn bucket_after(bucket: &Bucket, plan: &Plan) -> Bucket
+pub(crate) fn bucket_after(bucket: &Bucket, plan: &SlotPlan) -> Bucket
     requires within { IsWithin plan.now }
     ensures { result ≡ bucket_after bucket.now plan.now }
 {
     let mut after = *bucket;
-    if let Plan::Set(write) = *plan {
+    if let SlotPlan::Set(write) = *plan {
         after.set_slot(write.at, write.slot);
     }
     after

@@ -300,7 +300,7 @@ impl<P: Pseudo> Manager<P> {
     }
 
     /// Each item of the history has its place, and transactions begin under the numbers 1, 2, 3 and so on: what an audit of
-    /// receipts against the history asks.
+    /// outcomes against the history asks.
     pub fn keeps_a_placed_history(&self)
         ensures placed { ArePlaced self.now.commons.history.items }
         ensures begun { AreBegunInOrder self.now.commons.history.items }

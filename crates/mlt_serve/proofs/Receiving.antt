@@ -1,4 +1,4 @@
--- Whose receipts a session adds.
+-- Whose outcomes a session adds.
 use Rattle.std.proofs.Common.{◌≡◌, ◌⊎◌, inl, inr, ℕ, ◌+◌, [], ◌∷◌, List, refl, ap}
 use Rattle.std.specs.Prelude.{All, Option, Some, None, Result, Ok, Err, IfOk, IfErr}
 use Rattle.std.proofs.lemmas.List.Elements.{All-append, All-nil, All-push}
@@ -6,36 +6,36 @@ use Rattle.mlt_types.specs.declared.refusal.Refusal.{Refusal}
 use Rattle.mlt_types.specs.declared.refusal.Refusal.TheVariants as refusal
 use Rattle.mlt_serve_session.specs.Desks.{Moves}
 use Rattle.mlt_serve_session.specs.Talks.{Turn}
-use Rattle.mlt_serve_session.specs.Receipts.{begins_by, begun_in, call_of, receipt_if, receipt_of, receipts_of}
+use Rattle.mlt_serve_session.specs.Outcomes.{begins_by, begun_in, call_of, outcome_if, outcome_behind, outcomes_of}
 use Rattle.mlt_serve_session.specs.Sessions.{BrokenOff, HeardAll, Scene, SpokenLong, Summed}
 use Rattle.mlt_serve.specs.Clients.{GrowsFor, IsOf}
 
-one_of_client : (client number : ℕ) (began : Option ℕ) (behind : List Turn) → All (IsOf client) (receipt_if client number began behind)
+one_of_client : (client number : ℕ) (began : Option ℕ) (behind : List Turn) → All (IsOf client) (outcome_if client number began behind)
 one_of_client client number None behind = All-nil (IsOf client)
-one_of_client client number (Some tx) behind = All-push (IsOf client) [] (receipt_of client number tx behind) (All-nil (IsOf client)) refl
+one_of_client client number (Some tx) behind = All-push (IsOf client) [] (outcome_behind client number tx behind) (All-nil (IsOf client)) refl
 
--- the receipts of a session are those of its client
-pub all_of_client : (client begun : ℕ) (turns : List Turn) → All (IsOf client) (receipts_of client begun turns)
+-- the outcomes of a session are those of its client
+pub all_of_client : (client begun : ℕ) (turns : List Turn) → All (IsOf client) (outcomes_of client begun turns)
 all_of_client client begun [] = All-nil (IsOf client)
 all_of_client client begun (t ∷ ts) =
-    All-append (IsOf client) (receipt_if client (begun + 1) (begun_in (call_of t) t.answer) ts) (receipts_of client (begun + begins_by t.answer) ts)
+    All-append (IsOf client) (outcome_if client (begun + 1) (begun_in (call_of t) t.answer) ts) (outcomes_of client (begun + begins_by t.answer) ts)
     (one_of_client client (begun + 1) (begun_in (call_of t) t.answer) ts) (all_of_client client (begun + begins_by t.answer) ts)
 
 module _ {D S : Type 0} (moves : Moves D) (client : ℕ) (old new : Scene D) (lines commits : S → ℕ) where
-  long_grows : SpokenLong moves client old new → GrowsFor client old.receipts new.receipts
-  long_grows spoken = record { more = receipts_of client 0 spoken.spoken.turns; appended = spoken.spoken.noted; of_client = all_of_client client 0 spoken.spoken.turns }
+  long_grows : SpokenLong moves client old new → GrowsFor client old.outcomes new.outcomes
+  long_grows spoken = record { more = outcomes_of client 0 spoken.spoken.turns; appended = spoken.spoken.noted; of_client = all_of_client client 0 spoken.spoken.turns }
 
-  off_grows : BrokenOff moves client old new → GrowsFor client old.receipts new.receipts
-  off_grows off = record { more = receipts_of client 0 off.heard; appended = off.noted; of_client = all_of_client client 0 off.heard }
+  off_grows : BrokenOff moves client old new → GrowsFor client old.outcomes new.outcomes
+  off_grows off = record { more = outcomes_of client 0 off.heard; appended = off.noted; of_client = all_of_client client 0 off.heard }
 
-  -- however a session ends, it adds receipts of its client alone
+  -- however a session ends, it adds outcomes of its client alone
   pub grows : (result : Result S Refusal) → IfOk result (λ s. Summed moves client old new (lines s) (commits s))
       → (result ≡ Err refusal.LineTooLong → SpokenLong moves client old new)
       → (result ≡ Err refusal.Io → HeardAll moves client old new)
       → (result ≡ Err refusal.OutOfMemory → BrokenOff moves client old new)
       → IfErr result (λ r. (r ≡ refusal.LineTooLong) ⊎ (r ≡ refusal.OutOfMemory) ⊎ (r ≡ refusal.Io))
-      → GrowsFor client old.receipts new.receipts
-  grows (Ok s) ok long io memory why = record { more = receipts_of client 0 ok.spoken.turns; appended = ok.spoken.noted; of_client = all_of_client client 0 ok.spoken.turns }
+      → GrowsFor client old.outcomes new.outcomes
+  grows (Ok s) ok long io memory why = record { more = outcomes_of client 0 ok.spoken.turns; appended = ok.spoken.noted; of_client = all_of_client client 0 ok.spoken.turns }
   grows (Err r) ok long io memory (inl e) = long_grows (long (ap (λ (x : Refusal). Err x) e))
   grows (Err r) ok long io memory (inr (inl e)) = off_grows (memory (ap (λ (x : Refusal). Err x) e))
   grows (Err r) ok long io memory (inr (inr e)) = off_grows (io (ap (λ (x : Refusal). Err x) e)).off

@@ -1,4 +1,4 @@
--- Receipts that were sorted by client and then by number.
+-- Outcomes that were sorted by client and then by number.
 use Rattle.std.proofs.Common.{◌≡◌, ◌⊎◌, ℕ, zero, suc, ◌+◌, ◌-◌, ◌<◌, ◌≤◌, List, length, get_or, false, IsSortedByKey, refl, sym, subst, ◌∙◌, inl, inr, arith}
 use Rattle.std.specs.Ordering.{is_lt, nat_cmp, ordering_then}
 use Rattle.std.specs.declared.cmp.Ordering.{Ordering}
@@ -30,18 +30,18 @@ further one other next (inl a) (inr b) = inl (omega (arith, a, b.0))
 further one other next (inr a) (inl b) = inl (omega (arith, a.0, b))
 further one other next (inr a) (inr b) = inr (a.0 ∙ b.0, omega (arith, a.1, b.1))
 
-module _ (receipts : List Outcome) (sorted : IsSortedByKey place_of compare receipts) where
-  to_next : (i : ℕ) (d : Outcome) → i + 1 < length receipts → MayPrecede (get_or receipts i d) (get_or receipts (i + 1) d)
-  to_next i d within = by_first (get_or receipts i d) (get_or receipts (i + 1) d) _ refl (sorted i d (omega arith) within)
+module _ (outcomes : List Outcome) (sorted : IsSortedByKey place_of compare outcomes) where
+  to_next : (i : ℕ) (d : Outcome) → i + 1 < length outcomes → MayPrecede (get_or outcomes i d) (get_or outcomes (i + 1) d)
+  to_next i d within = by_first (get_or outcomes i d) (get_or outcomes (i + 1) d) _ refl (sorted i d (omega arith) within)
 
-  to_later : (i m : ℕ) (d : Outcome) → i + 1 + m < length receipts → MayPrecede (get_or receipts i d) (get_or receipts (i + 1 + m) d)
-  to_later i zero d within = subst (λ k. MayPrecede (get_or receipts i d) (get_or receipts k d)) (omega arith) (to_next i d (omega (arith, within)))
+  to_later : (i m : ℕ) (d : Outcome) → i + 1 + m < length outcomes → MayPrecede (get_or outcomes i d) (get_or outcomes (i + 1 + m) d)
+  to_later i zero d within = subst (λ k. MayPrecede (get_or outcomes i d) (get_or outcomes k d)) (omega arith) (to_next i d (omega (arith, within)))
   to_later i (suc m) d within =
       let on : i + 1 + m + 1 ≡ i + 1 + suc m = omega arith in
-      subst (λ k. MayPrecede (get_or receipts i d) (get_or receipts k d)) on
-      (further (get_or receipts i d) (get_or receipts (i + 1 + m) d) (get_or receipts (i + 1 + m + 1) d) (to_later i m d (omega (arith, within))) (to_next (i + 1 + m) d (omega (arith, within))))
+      subst (λ k. MayPrecede (get_or outcomes i d) (get_or outcomes k d)) on
+      (further (get_or outcomes i d) (get_or outcomes (i + 1 + m) d) (get_or outcomes (i + 1 + m + 1) d) (to_later i m d (omega (arith, within))) (to_next (i + 1 + m) d (omega (arith, within))))
 
-  pub by_client_and_number : AreByClientAndNumber receipts
+  pub by_client_and_number : AreByClientAndNumber outcomes
   by_client_and_number i j d before within =
       let at : i + 1 + (j - i - 1) ≡ j = omega (arith, before) in
-      subst (λ k. MayPrecede (get_or receipts i d) (get_or receipts k d)) at (to_later i (j - i - 1) d (omega (arith, before, within)))
+      subst (λ k. MayPrecede (get_or outcomes i d) (get_or outcomes k d)) at (to_later i (j - i - 1) d (omega (arith, before, within)))

@@ -1,30 +1,30 @@
--- Whose receipts they are, and how they stand.
+-- Whose outcomes they are, and how they stand.
 use Rattle.std.specs.Prelude.{◌≡◌, ◌⊎◌, ℕ, ◌<◌, ◌≤◌, ◌++◌, List, All, AllPairs}
 use Rattle.mlt_script_serial.specs.declared.outcome.Outcome.{Outcome}
 
--- the receipt is that of this client
+-- the outcome is that of this client
 abbrev pub IsOf : ℕ → Outcome → Type 0
 IsOf client o = o.client ≡ client
 
--- to these receipts others were added at the end, all of this client
+-- to these outcomes others were added at the end, all of this client
 pub record GrowsFor (client : ℕ) (before after : List Outcome) : Type 0 where
   pub more : List Outcome
   pub appended : after ≡ before ++ more
   pub of_client : All (IsOf client) more
 
--- the receipt is that of one of the first connections, which have the numbers from 1 to the limit
+-- the outcome is that of one of the first connections, which have the numbers from 1 to the limit
 abbrev pub IsOfClient : ℕ → Outcome → Type 0
 IsOfClient limit o = (1 ≤ o.client) × (o.client ≤ limit)
 
--- each receipt is that of one of the first connections, which have the numbers from 1 to the limit
+-- each outcome is that of one of the first connections, which have the numbers from 1 to the limit
 abbrev pub AreOfClients : ℕ → List Outcome → Type 0
-AreOfClients limit receipts = All (IsOfClient limit) receipts
+AreOfClients limit outcomes = All (IsOfClient limit) outcomes
 
 -- it is of an earlier client, or of the same one and has no greater number
 abbrev pub MayPrecede : Outcome → Outcome → Type 0
 MayPrecede one other = (one.client < other.client) ⊎ ((one.client ≡ other.client) × (one.number ≤ other.number))
 
--- each receipt is of an earlier client than any that stands behind it, or of the same one with no
+-- each outcome is of an earlier client than any that stands behind it, or of the same one with no
 -- greater number
 abbrev pub AreByClientAndNumber : List Outcome → Type 0
-AreByClientAndNumber receipts = AllPairs MayPrecede receipts
+AreByClientAndNumber outcomes = AllPairs MayPrecede outcomes

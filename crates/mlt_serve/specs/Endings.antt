@@ -6,7 +6,7 @@ use Rattle.mlt_serve.specs.declared.accepting.Accepting.{Accepting}
 use Rattle.mlt_serve.specs.declared.accepting.Accepting.TheVariants as accepting
 
 -- a failed accept is told as Io, and a growth that was refused as OutOfMemory
-abbrev pub outcome_of : Accepting → Result (Unit {0}) Refusal
-outcome_of accepting.Done = Ok tt
-outcome_of accepting.Failed = Err refusal.Io
-outcome_of accepting.Short = Err refusal.OutOfMemory
+abbrev pub result_of_accepting : Accepting → Result (Unit {0}) Refusal
+result_of_accepting accepting.Done = Ok tt
+result_of_accepting accepting.Failed = Err refusal.Io
+result_of_accepting accepting.Short = Err refusal.OutOfMemory

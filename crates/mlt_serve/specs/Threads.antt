@@ -4,12 +4,12 @@ use Rattle.std.specs.List.{flat_map}
 use Rattle.mlt_script_serial.specs.declared.outcome.Outcome.{Outcome}
 use Rattle.mlt_serve.specs.declared.session_thread.SessionThread.{SessionThread}
 
-abbrev pub receipts_of : {L : Type 0} → SessionThread L → List Outcome
-receipts_of thread = thread.receipts.items
+abbrev pub outcomes_of : {L : Type 0} → SessionThread L → List Outcome
+outcomes_of thread = thread.outcomes.items
 
--- the receipts of all threads, one thread after the other
-abbrev pub all_receipts : {L : Type 0} → List (SessionThread L) → List Outcome
-all_receipts threads = flat_map receipts_of threads
+-- the outcomes of all threads, one thread after the other
+abbrev pub all_outcomes : {L : Type 0} → List (SessionThread L) → List Outcome
+all_outcomes threads = flat_map outcomes_of threads
 
 -- none of their sessions was refused a growth
 abbrev pub HasMemory : {L : Type 0} → SessionThread L → Type 0

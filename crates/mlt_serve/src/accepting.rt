@@ -1,7 +1,7 @@
 //! Connections, as they come.
 
 ghost use Rattle.std.specs.Prelude.{◌≡◌};
-ghost use Rattle.mlt_serve.specs.Endings.{outcome_of};
+ghost use Rattle.mlt_serve.specs.Endings.{result_of_accepting};
 
 use crossbeam_channel::Sender;
 use mlt_types::Refusal;
@@ -37,7 +37,7 @@ impl Accepting {
     /// # Errors
     /// `Io`, where an accept failed. `OutOfMemory`, where a sending or a session's growth was refused.
     pub(crate) fn result(self) -> Result<(), Refusal>
-        ensures { result ≡ outcome_of self }
+        ensures { result ≡ result_of_accepting self }
     {
         match self {
             Accepting::Done => Ok(()),

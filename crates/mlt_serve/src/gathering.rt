@@ -1,7 +1,7 @@
 //! What all session threads have served, put together.
 
 ghost use Rattle.std.specs.Prelude.{◌≡◌, ◌+◌, ◌-◌, ◌*◌, ◌^◌, ◌≤◌, ◌++◌, [], IfOk, IsPermutation, false, min, vec_len};
-ghost use Rattle.mlt_serve.specs.Threads.{AllHaveMemory, all_receipts};
+ghost use Rattle.mlt_serve.specs.Threads.{AllHaveMemory, all_outcomes};
 
 use crate::session_thread::SessionThread;
 use mlt_script_serial::Outcome;
@@ -50,23 +50,23 @@ fn join(all: &mut Vec<Outcome>, more: Vec<Outcome>) -> Result<(), AllocError>
 /// What all sessions have done.
 #[derive(Drop)]
 pub(crate) struct Gathered {
-    /// The receipts of all sessions.
-    pub(crate) receipts: Vec<Outcome>,
+    /// The outcomes of all sessions.
+    pub(crate) outcomes: Vec<Outcome>,
     /// The number of their events; it stays at 2^64 - 1.
     pub(crate) events: u64,
     /// How many connections were served.
     pub(crate) connections: u64,
-    /// Whether a growth was refused. Receipts may be missing then.
+    /// Whether a growth was refused. Outcomes may be missing then.
     pub(crate) is_short: bool,
 }
 
 impl Gathered {
     fn new(alloc: Global) -> Gathered
         ensures events { result.events ≡ 0 }
-        ensures receipts { result.receipts.items ≡ [] }
+        ensures outcomes { result.outcomes.items ≡ [] }
     {
         Gathered {
-            receipts: Vec::new(alloc),
+            outcomes: Vec::new(alloc),
             events: 0,
             connections: 0,
             is_short: false,
@@ -78,28 +78,28 @@ impl Gathered {
         requires { self.old.events ≡ min all.old.amount (2 ^ 64 - 1) }
         ensures events { self.new.events ≡ min all.new.amount (2 ^ 64 - 1) }
         ensures parts { all.new.parts ≡ all.old.parts + 2 }
-        ensures receipts { self.new.is_short ≡ false
-            → IsPermutation (self.old.receipts.items ++ thread.receipts.items)
-            self.new.receipts.items }
+        ensures outcomes { self.new.is_short ≡ false
+            → IsPermutation (self.old.outcomes.items ++ thread.outcomes.items)
+            self.new.outcomes.items }
         ensures short { self.new.is_short ≡ false
             → (self.old.is_short ≡ false) × (thread.is_short ≡ false) }
     {
         let SessionThread {
             share,
             events,
-            receipts,
+            outcomes,
             connections,
             is_short,
         } = thread;
         all.merge(share);
         self.events = self.events.saturating_add(events);
         self.connections = self.connections.saturating_add(connections);
-        let refused = join(&mut self.receipts, receipts).is_err();
+        let refused = join(&mut self.outcomes, outcomes).is_err();
         self.is_short = self.is_short || is_short || refused;
     }
 }
 
-/// Takes in what all threads have served, and the whole their shares. Unless a growth was refused, no receipt is missing.
+/// Takes in what all threads have served, and the whole their shares. Unless a growth was refused, no outcome is missing.
 pub(crate) fn gather<L: Ledger>(
     alloc: Global,
     all: &mut Share<L>,
@@ -109,8 +109,8 @@ pub(crate) fn gather<L: Ledger>(
     requires amount { all.old.amount ≡ 0 }
     ensures parts { all.new.parts ≡ 129 }
     ensures events { result.events ≡ min all.new.amount (2 ^ 64 - 1) }
-    ensures receipts { result.is_short ≡ false
-        → IsPermutation (all_receipts threads.items) result.receipts.items }
+    ensures outcomes { result.is_short ≡ false
+        → IsPermutation (all_outcomes threads.items) result.outcomes.items }
     ensures short { result.is_short ≡ false → AllHaveMemory threads.items }
 {
     let mut rest = threads;

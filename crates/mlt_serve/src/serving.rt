@@ -8,7 +8,7 @@ ghost use Rattle.mlt_serve.specs.Clients.{AreByClientAndNumber, AreOfClients};
 
 use crate::admission_queue::AdmissionQueue;
 use crate::gathering::{gather, new_threads};
-use crate::reporting::receipts_of;
+use crate::reporting::outcomes_of;
 use crate::service::Service;
 use crate::session_threads::serve_connections;
 use crate::spin_policy::SpinPolicy;
@@ -48,7 +48,7 @@ fn serve_with<
     requires some { 0 < sessions }
     requires most { sessions ≤ 64 }
     ensures made { IfOk result (λ got. IsMadeWith got.1 limits pseudo) }
-    ensures receipts { IfOk result (λ got. Agrees got.0 got.1.commons.history.items) }
+    ensures outcomes { IfOk result (λ got. Agrees got.0 got.1.commons.history.items) }
     ensures clients { IfOk result (λ got. AreOfClients limit got.0) }
     ensures order { IfOk result (λ got. AreByClientAndNumber got.0) }
     ensures events { IfOk result (λ got. got.1.events ≡ got.2) }
@@ -72,8 +72,8 @@ fn serve_with<
     let gathered = gather(alloc, &mut all, threads);
     let events = gathered.events;
     let manager = shared.close(&mut all);
-    match receipts_of(alloc, accepting, gathered, limit, &manager) {
-        Ok(receipts) => Ok((receipts, manager, events)),
+    match outcomes_of(alloc, accepting, gathered, limit, &manager) {
+        Ok(outcomes) => Ok((outcomes, manager, events)),
         Err(refusal) => {
             manager.close();
             Err(refusal)
@@ -84,7 +84,7 @@ fn serve_with<
 /// Serves connections on a new manager with these limits: accepts as many as the limit says, from 1 to 1,000,000, and hands them
 /// to that many session threads by a bounded channel. Connections have the numbers 1, 2, 3 in the order in which they are
 /// accepted; each is served by one session, whose transactions have that number as their client. An operation that is told to
-/// wait, or that it is blocked, is given up once its tries are spent, from 1 to 1,000,000. The receipts stand by client and then
+/// wait, or that it is blocked, is given up once its tries are spent, from 1 to 1,000,000. The outcomes stand by client and then
 /// by number.
 ///
 /// A connection that gives nothing to read, or takes nothing that is written, for the idle time, if there is one, ends as by a
@@ -94,7 +94,7 @@ fn serve_with<
 /// # Errors
 /// `Io`, where an accept failed; one whose connection broke off before is tried again. `OutOfMemory`, where a growth or a thread
 /// was refused, in a session too. Either ends the accepting, and the connections that were taken are served. `Audit`, where
-/// neither came, and the receipts do not agree with the manager's history or not all connections were served. All threads are
+/// neither came, and the outcomes do not agree with the manager's history or not all connections were served. All threads are
 /// joined.
 pub fn serve_on<P: Pseudo + Drop + Send, R: Threads + Wait + Clock + Sync>(
     rt: &R,
@@ -112,15 +112,15 @@ pub fn serve_on<P: Pseudo + Drop + Send, R: Threads + Wait + Clock + Sync>(
     // the manager has these limits and this function from keys to pseudokeys
     ensures made { IfOk result (λ got. IsMadeWith got.1 limits pseudo) }
     // what clients were told is what the manager has done
-    ensures receipts { IfOk result (λ got. Agrees got.0 got.1.commons.history.items) }
-    // each receipt is that of one of the connections
+    ensures outcomes { IfOk result (λ got. Agrees got.0 got.1.commons.history.items) }
+    // each outcome is that of one of the connections
     ensures clients { IfOk result (λ got. AreOfClients limit got.0) }
     // they stand by client and then by number
     ensures order { IfOk result (λ got. AreByClientAndNumber got.0) }
     ensures refusal { IfErr result (λ refusal.
         (refusal ≡ Refusal.Io) ⊎ (refusal ≡ Refusal.OutOfMemory) ⊎ (refusal ≡ Refusal.Audit)) }
 {
-    let (receipts, manager, _) = serve_with::<Brand, P, R>(
+    let (outcomes, manager, _) = serve_with::<Brand, P, R>(
         rt,
         alloc,
         Blank::new(129),
@@ -132,5 +132,5 @@ pub fn serve_on<P: Pseudo + Drop + Send, R: Threads + Wait + Clock + Sync>(
         tries,
         idle,
     )?;
-    Ok((receipts, manager))
+    Ok((outcomes, manager))
 }

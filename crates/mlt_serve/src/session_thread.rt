@@ -26,8 +26,8 @@ pub(crate) struct SessionThread<L: Ledger> {
     pub(crate) share: Share<L>,
     /// The number of its events; it stays at 2^64 - 1.
     pub(crate) events: u64,
-    /// The receipts of its sessions, one session after the other.
-    pub(crate) receipts: Vec<Outcome>,
+    /// The outcomes of its sessions, one session after the other.
+    pub(crate) outcomes: Vec<Outcome>,
     /// How many connections it has served.
     pub(crate) connections: u64,
     /// Whether a session was refused a growth.
@@ -42,13 +42,13 @@ impl<L: Ledger> SessionThread<L> {
         requires parts { share.parts ≡ 2 }
         requires amount { share.amount ≡ 0 }
         ensures share { result.share ≡ share }
-        ensures receipts { result.receipts.items ≡ [] }
+        ensures outcomes { result.outcomes.items ≡ [] }
         ensures connections { result.connections ≡ 0 }
     {
         SessionThread {
             share,
             events: 0,
-            receipts: Vec::new(alloc),
+            outcomes: Vec::new(alloc),
             connections: 0,
             is_short: false,
         }
@@ -65,8 +65,8 @@ impl<L: Ledger> SessionThread<L> {
     ) -> bool
     where
         L: MadeWith<P>,
-        ensures receipts { GrowsFor connection.client
-            self.old.receipts.items self.new.receipts.items }
+        ensures outcomes { GrowsFor connection.client
+            self.old.outcomes.items self.new.outcomes.items }
         ensures connections { self.new.connections ≡ min (self.old.connections + 1) (2 ^ 64 - 1) }
         ensures short { self.new.is_short ≡ false
             → (self.old.is_short ≡ false) × (result ≡ false) }
@@ -74,7 +74,7 @@ impl<L: Ledger> SessionThread<L> {
         let SessionThread {
             share,
             events,
-            receipts,
+            outcomes,
             connections,
             is_short,
         } = self;
@@ -85,7 +85,7 @@ impl<L: Ledger> SessionThread<L> {
         let mut desk = LockDesk::new(rt, service.shared, &admission, mine, tries);
         desk.serve(client);
         let socket = Socket::new(rt, &stream, service.spin_policy, service.idle);
-        let refused = talk(alloc, &socket, &admission, &mut desk, client, receipts);
+        let refused = talk(alloc, &socket, &admission, &mut desk, client, outcomes);
         socket.close();
         let (mine, more) = desk.close();
         lingering_close(rt, &stream);

@@ -12,7 +12,7 @@ use std::alloc::Global;
 use std::sync::Wait;
 use std::time::Clock;
 
-/// Talks over a socket by a session at the desk, which adds receipts of this client alone. It answers whether the session was
+/// Talks over a socket by a session at the desk, which adds outcomes of this client alone. It answers whether the session was
 /// refused a growth; any other end of it is an end of this connection alone. While it waits for the client it is not at work, nor
 /// at the end.
 pub(crate) fn talk<R: Wait + Clock, D: Desk>(
@@ -21,13 +21,13 @@ pub(crate) fn talk<R: Wait + Clock, D: Desk>(
     admission: &Admission<'_, R>,
     desk: &mut D,
     client: u32,
-    receipts: &mut Vec<Outcome>,
+    outcomes: &mut Vec<Outcome>,
 ) -> bool
-    ensures { GrowsFor client receipts.old.items receipts.new.items }
+    ensures { GrowsFor client outcomes.old.items outcomes.new.items }
 {
     let mut reader = Outside::new(socket, admission);
     let mut writer = Outside::new(socket, admission);
-    let ended = session(alloc, &mut reader, &mut writer, desk, client, receipts);
+    let ended = session(alloc, &mut reader, &mut writer, desk, client, outcomes);
     admission.leave();
     matches!(ended, Err(Refusal::OutOfMemory))
 }

@@ -1,4 +1,4 @@
--- The receipt of the open transaction.
+-- The outcome of the open transaction.
 use Rattle.std.proofs.Common.{◌≡◌, ℕ, List, [], ◌∷◌, ◌++◌, Option, Some, None, refl, sym, ap, ◌∙◌, append-nil}
 use Rattle.mlt_object_kinds.specs.declared.operation.ObjOp.{ObjOp}
 use Rattle.mlt_object_kinds.specs.declared.operation.ObjReply.{ObjReply}
@@ -6,14 +6,14 @@ use Rattle.mlt_script_serial.specs.declared.outcome.End.TheVariants as end
 use Rattle.mlt_script_serial.specs.declared.outcome.Outcome.{Outcome}
 use Rattle.mlt_serve_session.specs.declared.call.Answer.TheVariants.{Replied, Committed}
 use Rattle.mlt_serve_session.specs.Noting.{pending, at_last, replied_noted, committed_noted}
-use Rattle.mlt_serve_session.specs.Receipts.{outcome_of}
+use Rattle.mlt_serve_session.specs.Outcomes.{outcome_of}
 
 pub at_last_end : (f : Outcome → Outcome) (rs : List Outcome) (r : Outcome) → at_last f (rs ++ r ∷ []) ≡ rs ++ f r ∷ []
 at_last_end f [] r = refl
 at_last_end f (s ∷ []) r = refl
 at_last_end f (s ∷ t ∷ rs) r = ap (λ (l : List Outcome). s ∷ l) (at_last_end f (t ∷ rs) r)
 
--- the receipt of the open transaction changes
+-- the outcome of the open transaction changes
 pub at_open : (f : Outcome → Outcome) (client number tx : ℕ) (open_tx : Option ℕ) (done : List (ObjOp × ObjReply)) (rs : List Outcome) → open_tx ≡ Some tx
     → at_last f (rs ++ pending client number open_tx done) ≡ rs ++ f (outcome_of client number tx done end.Aborted) ∷ []
 at_open f client number tx open_tx done rs e =

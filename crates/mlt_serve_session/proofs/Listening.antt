@@ -7,7 +7,7 @@ use Rattle.std.specs.List.{flat_map}
 use Rattle.std.specs.Io.KnownBytes.{Appends, Consumes, IsAtEnd, Keeps}
 use Rattle.std.proofs.KnownBytes.{Appends-nil, Appends-trans, Consumes-nil, Consumes-trans}
 use Rattle.mlt_text.specs.Texts.{AppendsFront}
-use Rattle.mlt_event_text.specs.declared.request_line.Line.{Line}
+use Rattle.mlt_event_text.specs.declared.session_line.Line.{Line}
 use Rattle.mlt_serve_session.specs.Batches.{Answered, Covers, IsRest, front, lines_in}
 use Rattle.mlt_event_text.specs.Inputs.{lines_of, Begins, Splits}
 use Rattle.mlt_serve_session.specs.Rounds.{Replied, Stopped, Unwritten, Listens, Talked, Broken, BrokenHeard, AreLines, EndsInput, streams}

@@ -6,8 +6,8 @@ use Rattle.std.proofs.lemmas.Grind.{flat_map-append}
 use Rattle.std.proofs.lemmas.Result.{err_from_is_err_and}
 use Rattle.std.specs.List.{flat_map}
 use Rattle.std.specs.Prelude.{Result, Ok, Err, IsErrAnd, IsErrOf, OnErr}
-use Rattle.mlt_event_text.specs.declared.request_line.Line.{Line}
-use Rattle.mlt_event_text.specs.declared.request_line.Line.TheVariants.{Says, TooLong}
+use Rattle.mlt_event_text.specs.declared.session_line.Line.{Line}
+use Rattle.mlt_event_text.specs.declared.session_line.Line.TheVariants.{Says, TooLong}
 use Rattle.mlt_serve_session.specs.declared.said.Said.{Said}
 use Rattle.mlt_serve_session.specs.Batches.{Covers, IsRest, Reaches, BrokeOff, front, lines_in}
 use Rattle.mlt_serve_session.specs.Rounds.{AreLines}

@@ -1,38 +1,38 @@
--- The receipts that are kept turn by turn are those of the whole list of turns.
+-- The outcomes that are kept turn by turn are those of the whole list of turns.
 use Rattle.std.proofs.Common.{◌≡◌, ℕ, ◌+◌, List, [], ◌∷◌, ◌++◌, Option, Some, None, refl, sym, ap, ◌∙◌, append_assoc, append-nil}
 use Rattle.mlt_object_kinds.specs.declared.operation.ObjOp.{ObjOp}
 use Rattle.mlt_object_kinds.specs.declared.operation.ObjReply.{ObjReply}
 use Rattle.mlt_script_serial.specs.declared.outcome.End.{End}
 use Rattle.mlt_script_serial.specs.declared.outcome.End.TheVariants as end
 use Rattle.mlt_script_serial.specs.declared.outcome.Outcome.{Outcome}
-use Rattle.mlt_event_text.specs.declared.request.Request.TheVariants as request
+use Rattle.mlt_event_text.specs.declared.command.Command.TheVariants as command
 use Rattle.mlt_serve_session.specs.declared.call.Answer.{Answer}
 use Rattle.mlt_serve_session.specs.declared.call.Answer.TheVariants.{Begun, Replied, Committed, Aborted, Refused}
 use Rattle.mlt_serve_session.specs.declared.call.Call.{Call}
 use Rattle.mlt_serve_session.specs.declared.call.Call.TheVariants as call
-use Rattle.mlt_event_text.specs.declared.request_line.Line.{Line}
-use Rattle.mlt_event_text.specs.declared.request_line.Line.TheVariants.{Says, TooLong}
+use Rattle.mlt_event_text.specs.declared.session_line.Line.{Line}
+use Rattle.mlt_event_text.specs.declared.session_line.Line.TheVariants.{Says, TooLong}
 use Rattle.mlt_serve_session.specs.Noting.{noted}
-use Rattle.mlt_serve_session.specs.Receipts.{outcome_of, begins_by, begun_in, done_in, end_in, call_of, up_to, before_next, all_done, ended_by, receipt_of, receipt_if, receipts_of}
+use Rattle.mlt_serve_session.specs.Outcomes.{outcome_of, begins_by, begun_in, done_in, end_in, call_of, up_to, before_next, all_done, ended_by, outcome_behind, outcome_if, outcomes_of}
 use Rattle.mlt_serve_session.proofs.Closing.{at_last_end}
 use Rattle.mlt_serve_session.specs.Talks.{Turn, turns, call_for}
 
--- the receipts after a turn
+-- the outcomes after a turn
 abbrev pub noted_by : ℕ → ℕ → List Outcome → Option Call → Option Answer → List Outcome
 noted_by client begun rs (Some c) (Some a) = noted client begun rs c a
 noted_by client begun rs (Some c) None = rs
 noted_by client begun rs None answer = rs
 
--- the receipts after turns, where so many transactions were begun before
+-- the outcomes after turns, where so many transactions were begun before
 abbrev pub noted_all : ℕ → ℕ → List Outcome → List Turn → List Outcome
 noted_all client begun rs [] = rs
 noted_all client begun rs (t ∷ ts) = noted_all client (begun + begins_by t.answer) (noted_by client begun rs (call_for t.open_before t.line) t.answer) ts
 
--- the last receipt, after turns in which no other begins
+-- the last outcome, after turns in which no other begins
 grown : Outcome → List (ObjOp × ObjReply) → End → Outcome
 grown r done end = record { client = r.client; number = r.number; tx = r.tx; done = r.done ++ done; end = end }
 
--- what one turn makes of the receipts, the last of which is open
+-- what one turn makes of the outcomes, the last of which is open
 one_noted : (client b : ℕ) (rs : List Outcome) (r : Outcome) (c : Option Call) (a : Option Answer) → begun_in c a ≡ None → noted_by client b (rs ++ r ∷ []) c a ≡ rs ++ grown r (done_in c a) (end_in r.end c a) ∷ []
 unfolding grown
 one_noted client b rs r None a e = ap (λ (d : List (ObjOp × ObjReply)). rs ++ record r { done = d } ∷ []) (sym (append-nil r.done))
@@ -74,46 +74,46 @@ begin_noted client b rs (Some (call.Abort t)) a tx e = absurd (cc e)
 
 -- a turn, and those behind it
 open_case : (client b : ℕ) (rs : List Outcome) (r : Outcome) (t : Turn) (ts : List Turn) (x : Option ℕ) → begun_in (call_of t) t.answer ≡ x
-    → ((n : ℕ) (ss : List Outcome) (s : Outcome) → noted_all client n (ss ++ s ∷ []) ts ≡ ss ++ grown s (all_done (before_next ts)) (ended_by s.end (before_next ts)) ∷ receipts_of client n ts)
+    → ((n : ℕ) (ss : List Outcome) (s : Outcome) → noted_all client n (ss ++ s ∷ []) ts ≡ ss ++ grown s (all_done (before_next ts)) (ended_by s.end (before_next ts)) ∷ outcomes_of client n ts)
     → noted_all client b (rs ++ r ∷ []) (t ∷ ts)
-    ≡ rs ++ grown r (all_done (up_to x t (before_next ts))) (ended_by r.end (up_to x t (before_next ts))) ∷ (receipt_if client (b + 1) x ts ++ receipts_of client (b + begins_by t.answer) ts)
+    ≡ rs ++ grown r (all_done (up_to x t (before_next ts))) (ended_by r.end (up_to x t (before_next ts))) ∷ (outcome_if client (b + 1) x ts ++ outcomes_of client (b + begins_by t.answer) ts)
 unfolding grown
 open_case client b rs r t ts None e ih =
     let c = call_of t in
     let d = done_in c t.answer in
     let n = b + begins_by t.answer in
     ap (λ (l : List Outcome). noted_all client n l ts) (one_noted client b rs r c t.answer e) ∙ ih n rs (grown r d (end_in r.end c t.answer))
-    ∙ ap (λ (l : List (ObjOp × ObjReply)). rs ++ record { client = r.client; number = r.number; tx = r.tx; done = l; end = ended_by (end_in r.end c t.answer) (before_next ts) } ∷ receipts_of client n ts)
+    ∙ ap (λ (l : List (ObjOp × ObjReply)). rs ++ record { client = r.client; number = r.number; tx = r.tx; done = l; end = ended_by (end_in r.end c t.answer) (before_next ts) } ∷ outcomes_of client n ts)
     (append_assoc r.done d (all_done (before_next ts)))
 open_case client b rs r t ts (Some tx) e ih =
     let n = b + begins_by t.answer in
     let new : Outcome = outcome_of client (b + 1) tx [] end.Aborted in
     ap (λ (l : List Outcome). noted_all client n l ts) (begin_noted client b (rs ++ r ∷ []) (call_of t) t.answer tx e) ∙ ih n (rs ++ r ∷ []) new
-    ∙ append_assoc rs (r ∷ []) (receipt_of client (b + 1) tx ts ∷ receipts_of client n ts)
-    ∙ ap (λ (l : List (ObjOp × ObjReply)). rs ++ record r { done = l } ∷ (receipt_of client (b + 1) tx ts ∷ receipts_of client n ts)) (sym (append-nil r.done))
+    ∙ append_assoc rs (r ∷ []) (outcome_behind client (b + 1) tx ts ∷ outcomes_of client n ts)
+    ∙ ap (λ (l : List (ObjOp × ObjReply)). rs ++ record r { done = l } ∷ (outcome_behind client (b + 1) tx ts ∷ outcomes_of client n ts)) (sym (append-nil r.done))
 
--- turns behind an open receipt
+-- turns behind an open outcome
 open_noted : (client b : ℕ) (rs : List Outcome) (r : Outcome) (ts : List Turn)
-    → noted_all client b (rs ++ r ∷ []) ts ≡ rs ++ grown r (all_done (before_next ts)) (ended_by r.end (before_next ts)) ∷ receipts_of client b ts
+    → noted_all client b (rs ++ r ∷ []) ts ≡ rs ++ grown r (all_done (before_next ts)) (ended_by r.end (before_next ts)) ∷ outcomes_of client b ts
 unfolding grown
 open_noted client b rs r [] = ap (λ (l : List (ObjOp × ObjReply)). rs ++ record r { done = l } ∷ []) (sym (append-nil r.done))
 open_noted client b rs r (t ∷ ts) = open_case client b rs r t ts (begun_in (call_of t) t.answer) refl (λ n ss s. open_noted client n ss s ts)
 
 -- turns with nothing open before them
-pub all_noted : (client b : ℕ) (rs : List Outcome) (ls : List Line) (answers : List Answer) → noted_all client b rs (turns None ls answers) ≡ rs ++ receipts_of client b (turns None ls answers)
+pub all_noted : (client b : ℕ) (rs : List Outcome) (ls : List Line) (answers : List Answer) → noted_all client b rs (turns None ls answers) ≡ rs ++ outcomes_of client b (turns None ls answers)
 unfolding grown
 all_noted client b rs [] answers = sym (append-nil rs)
-all_noted client b rs (Says request.Begin ∷ ls) [] = sym (append-nil rs)
-all_noted client b rs (Says request.Begin ∷ ls) (Begun tx ∷ answers) =
+all_noted client b rs (Says command.Begin ∷ ls) [] = sym (append-nil rs)
+all_noted client b rs (Says command.Begin ∷ ls) (Begun tx ∷ answers) =
     open_noted client (b + 1) rs (outcome_of client (b + 1) tx [] end.Aborted) (turns (Some tx) ls answers)
-all_noted client b rs (Says request.Begin ∷ ls) (Replied reply ∷ answers) = all_noted client (b + 0) rs ls answers
-all_noted client b rs (Says request.Begin ∷ ls) (Committed n ∷ answers) = all_noted client (b + 0) rs ls answers
-all_noted client b rs (Says request.Begin ∷ ls) (Aborted ∷ answers) = all_noted client (b + 0) rs ls answers
-all_noted client b rs (Says request.Begin ∷ ls) (Refused x ∷ answers) = all_noted client (b + 0) rs ls answers
-all_noted client b rs (Says (request.Op op) ∷ ls) answers = all_noted client (b + 0) rs ls answers
-all_noted client b rs (Says request.Commit ∷ ls) answers = all_noted client (b + 0) rs ls answers
-all_noted client b rs (Says request.Abort ∷ ls) answers = all_noted client (b + 0) rs ls answers
-all_noted client b rs (Says request.Quit ∷ ls) answers = sym (append-nil rs)
-all_noted client b rs (Says request.Blank ∷ ls) answers = all_noted client (b + 0) rs ls answers
-all_noted client b rs (Says request.Other ∷ ls) answers = all_noted client (b + 0) rs ls answers
+all_noted client b rs (Says command.Begin ∷ ls) (Replied reply ∷ answers) = all_noted client (b + 0) rs ls answers
+all_noted client b rs (Says command.Begin ∷ ls) (Committed n ∷ answers) = all_noted client (b + 0) rs ls answers
+all_noted client b rs (Says command.Begin ∷ ls) (Aborted ∷ answers) = all_noted client (b + 0) rs ls answers
+all_noted client b rs (Says command.Begin ∷ ls) (Refused x ∷ answers) = all_noted client (b + 0) rs ls answers
+all_noted client b rs (Says (command.Op op) ∷ ls) answers = all_noted client (b + 0) rs ls answers
+all_noted client b rs (Says command.Commit ∷ ls) answers = all_noted client (b + 0) rs ls answers
+all_noted client b rs (Says command.Abort ∷ ls) answers = all_noted client (b + 0) rs ls answers
+all_noted client b rs (Says command.Quit ∷ ls) answers = sym (append-nil rs)
+all_noted client b rs (Says command.Blank ∷ ls) answers = all_noted client (b + 0) rs ls answers
+all_noted client b rs (Says command.Other ∷ ls) answers = all_noted client (b + 0) rs ls answers
 all_noted client b rs (TooLong ∷ ls) answers = sym (append-nil rs)

@@ -23,5 +23,5 @@ committed p q n e =
 
 -- the call was made
 pub asks : {D : Type 0} (moves : Moves D) (client : ℕ) (p q : Place D) (asked : Option Call) (c : Call) (a : Answer)
-    → asked ≡ Some c → moves p.desk c a q.desk → q.receipts ≡ noted client p.progress.begun p.receipts c a → Asked moves client p asked (Some a) q
+    → asked ≡ Some c → moves p.desk c a q.desk → q.outcomes ≡ noted client p.progress.begun p.outcomes c a → Asked moves client p asked (Some a) q
 asks moves client p q asked c a e m n = subst (λ (o : Option Call). Asked moves client p o (Some a) q) (sym e) (m, n)

@@ -6,12 +6,12 @@ use Rattle.mlt_serve_session.proofs.Receiving.{noted_by, noted_all, all_noted}
 use Rattle.mlt_script_serial.specs.declared.outcome.Outcome.{Outcome}
 use Rattle.mlt_serve_session.specs.declared.call.Answer.{Answer}
 use Rattle.mlt_serve_session.specs.declared.call.Call.{Call}
-use Rattle.mlt_event_text.specs.declared.request_line.Line.{Line}
-use Rattle.mlt_event_text.specs.declared.request_line.Line.TheVariants.{Says, TooLong}
+use Rattle.mlt_event_text.specs.declared.session_line.Line.{Line}
+use Rattle.mlt_event_text.specs.declared.session_line.Line.TheVariants.{Says, TooLong}
 use Rattle.mlt_serve_session.specs.Batches.{lines_in}
 use Rattle.mlt_serve_session.specs.Desks.{Moves, Answers}
 use Rattle.mlt_event_text.specs.Inputs.{Begins}
-use Rattle.mlt_serve_session.specs.Receipts.{begins_by, receipts_of}
+use Rattle.mlt_serve_session.specs.Outcomes.{begins_by, outcomes_of}
 use Rattle.mlt_serve_session.specs.Rounds.{Talked, Broken, BrokenHeard, AreLines, EndsInput, streams}
 use Rattle.mlt_serve_session.specs.Sessions.{Spoken, SpokenLong, Summed, BrokenOff, HeardAll, all_calls, all_answers, scene}
 use Rattle.mlt_serve_session.specs.Talks.{Turn, turns, one_turn, unless_ended, ends, option_list, open_after, call_for, calls_in, answers_in, open_at_end, closing, closing_answers, session_turns, commits_by, commits_in, ends_in, long_in, is_long}
@@ -88,16 +88,16 @@ opens : {D : Type 0} (moves : Moves D) (client : ℕ) (p q : Place D) (ts : List
 opens moves client p q [] h = ap (λ m. m.progress.tx) h
 opens moves client p q (t ∷ ts) h = opens moves client h.0 q ts h.2 ∙ ap (λ b. open_at_end b ts) (ap (λ r. r.tx) h.1.after)
 
-note_one : {D : Type 0} (moves : Moves D) (client : ℕ) (p m : Place D) (c : Option Call) (a : Option Answer) → Asked moves client p c a m → m.receipts ≡ noted_by client p.progress.begun p.receipts c a
+note_one : {D : Type 0} (moves : Moves D) (client : ℕ) (p m : Place D) (c : Option Call) (a : Option Answer) → Asked moves client p c a m → m.outcomes ≡ noted_by client p.progress.begun p.outcomes c a
 note_one moves client p m None None h = h.1
 note_one moves client p m None (Some a) h = absurd h
 note_one moves client p m (Some c) None h = absurd h
 note_one moves client p m (Some c) (Some a) h = h.1
 
-notes : {D : Type 0} (moves : Moves D) (client : ℕ) (p q : Place D) (ts : List Turn) → Goes moves client p ts q → q.receipts ≡ noted_all client p.progress.begun p.receipts ts
-notes moves client p q [] h = ap (λ m. m.receipts) h
+notes : {D : Type 0} (moves : Moves D) (client : ℕ) (p q : Place D) (ts : List Turn) → Goes moves client p ts q → q.outcomes ≡ noted_all client p.progress.begun p.outcomes ts
+notes moves client p q [] h = ap (λ m. m.outcomes) h
 notes moves client p q (t ∷ ts) h =
-    notes moves client h.0 q ts h.2 ∙ ap (λ n. noted_all client n h.0.receipts ts) (ap (λ r. r.begun) h.1.after)
+    notes moves client h.0 q ts h.2 ∙ ap (λ n. noted_all client n h.0.outcomes ts) (ap (λ r. r.begun) h.1.after)
     ∙ ap (λ (rs : List Outcome). noted_all client (p.progress.begun + begins_by t.answer) rs ts) (note_one moves client p h.0 (call_for t.open_before t.line) t.answer h.1.asked)
 
 lines_counted : {D : Type 0} (moves : Moves D) (client : ℕ) (p q : Place D) (ts : List Turn) → Goes moves client p ts q → q.progress.lines ≡ p.progress.lines + length ts
@@ -167,18 +167,18 @@ asked_closed moves client p q desk ts x h k =
     answers_join moves p.desk q.desk desk (calls_in ts) (closing (open_at_end None ts)) (answers_in ts) (closing_answers (open_at_end None ts))
     (asked_all moves client p q ts h) (subst (λ tx. Answers moves q.desk (closing tx) (closing_answers tx) desk) current k)
 
--- the receipts of the turns
-noted_turns : {D : Type 0} (moves : Moves D) (client : ℕ) (p q : Place D) (rs ss : List Outcome) (ts : List Turn) → p.receipts ≡ rs → q.receipts ≡ ss
-    → p.progress.over ≡ false → p.progress.tx ≡ None → p.progress.begun ≡ 0 → Goes moves client p ts q → ss ≡ rs ++ receipts_of client 0 ts
+-- the outcomes of the turns
+noted_turns : {D : Type 0} (moves : Moves D) (client : ℕ) (p q : Place D) (rs ss : List Outcome) (ts : List Turn) → p.outcomes ≡ rs → q.outcomes ≡ ss
+    → p.progress.over ≡ false → p.progress.tx ≡ None → p.progress.begun ≡ 0 → Goes moves client p ts q → ss ≡ rs ++ outcomes_of client 0 ts
 noted_turns moves client p q rs ss ts i j n x z h =
     let f = heard_turns moves client p q ts q.progress.over refl n x h in
-    sym j ∙ notes moves client p q ts h ∙ ap (λ m. noted_all client m p.receipts ts) z ∙ ap (λ us. noted_all client 0 p.receipts us) (sym f)
-    ∙ all_noted client 0 p.receipts (lines_in ts) (answers_in ts) ∙ ap (λ us. p.receipts ++ receipts_of client 0 us) f
-    ∙ ap (λ (l : List Outcome). l ++ receipts_of client 0 ts) i
+    sym j ∙ notes moves client p q ts h ∙ ap (λ m. noted_all client m p.outcomes ts) z ∙ ap (λ us. noted_all client 0 p.outcomes us) (sym f)
+    ∙ all_noted client 0 p.outcomes (lines_in ts) (answers_in ts) ∙ ap (λ us. p.outcomes ++ outcomes_of client 0 us) f
+    ∙ ap (λ (l : List Outcome). l ++ outcomes_of client 0 ts) i
 
 -- a session that ended by itself
 pub speaks : {D : Type 0} (moves : Moves D) (client : ℕ) (p q : Place D) (desk : D) (a b w v : Option (List ℕ)) (rs ss : List Outcome)
-    → p.receipts ≡ rs → q.receipts ≡ ss → p.progress.over ≡ false → p.progress.tx ≡ None → p.progress.begun ≡ 0
+    → p.outcomes ≡ rs → q.outcomes ≡ ss → p.progress.over ≡ false → p.progress.tx ≡ None → p.progress.begun ≡ 0
     → Talked moves client p (streams a b w v) q → Answers moves q.desk (closing q.progress.tx) (closing_answers q.progress.tx) desk
     → Spoken moves client (scene p.desk a w rs) (scene desk b v ss)
 speaks moves client p q desk a b w v rs ss i j n x z t k =
@@ -198,7 +198,7 @@ speaks moves client p q desk a b w v rs ss i j n x z t k =
 
 -- its counts
 pub sums : {D : Type 0} (moves : Moves D) (client : ℕ) (p q : Place D) (desk : D) (a b w v : Option (List ℕ)) (rs ss : List Outcome)
-    → p.receipts ≡ rs → q.receipts ≡ ss → p.progress.over ≡ false → p.progress.tx ≡ None → p.progress.begun ≡ 0 → p.progress.lines ≡ 0
+    → p.outcomes ≡ rs → q.outcomes ≡ ss → p.progress.over ≡ false → p.progress.tx ≡ None → p.progress.begun ≡ 0 → p.progress.lines ≡ 0
     → p.progress.commits ≡ 0 → p.progress.long ≡ false → q.progress.long ≡ false → Talked moves client p (streams a b w v) q
     → Answers moves q.desk (closing q.progress.tx) (closing_answers q.progress.tx) desk
     → Summed moves client (scene p.desk a w rs) (scene desk b v ss) q.progress.lines q.progress.commits
@@ -215,7 +215,7 @@ sums moves client p q desk a b w v rs ss i j n x z l c g s t k =
 
 -- a session that a line ended that was too long
 pub speaks_long : {D : Type 0} (moves : Moves D) (client : ℕ) (p q : Place D) (desk : D) (a b w v : Option (List ℕ)) (rs ss : List Outcome)
-    → p.receipts ≡ rs → q.receipts ≡ ss → p.progress.over ≡ false → p.progress.tx ≡ None → p.progress.begun ≡ 0
+    → p.outcomes ≡ rs → q.outcomes ≡ ss → p.progress.over ≡ false → p.progress.tx ≡ None → p.progress.begun ≡ 0
     → p.progress.long ≡ false → q.progress.long ≡ true → Talked moves client p (streams a b w v) q
     → Answers moves q.desk (closing q.progress.tx) (closing_answers q.progress.tx) desk
     → SpokenLong moves client (scene p.desk a w rs) (scene desk b v ss)
@@ -228,7 +228,7 @@ speaks_long moves client p q desk a b w v rs ss i j n x z g s t k =
 
 -- a session that was broken off
 pub breaks_off : {D : Type 0} (moves : Moves D) (client : ℕ) (p q : Place D) (desk : D) (a b w v : Option (List ℕ)) (rs ss : List Outcome)
-    → p.receipts ≡ rs → q.receipts ≡ ss → p.progress.over ≡ false → p.progress.tx ≡ None → p.progress.begun ≡ 0
+    → p.outcomes ≡ rs → q.outcomes ≡ ss → p.progress.over ≡ false → p.progress.tx ≡ None → p.progress.begun ≡ 0
     → Broken moves client p (streams a b w v) q → Answers moves q.desk (closing q.progress.tx) (closing_answers q.progress.tx) desk
     → BrokenOff moves client (scene p.desk a w rs) (scene desk b v ss)
 breaks_off moves client p q desk a b w v rs ss i j n x z t k =
@@ -249,7 +249,7 @@ breaks_off moves client p q desk a b w v rs ss i j n x z t k =
 
 -- a session that was broken off when it had heard all lines
 pub hears_all : {D : Type 0} (moves : Moves D) (client : ℕ) (p q : Place D) (desk : D) (a b w v : Option (List ℕ)) (rs ss : List Outcome)
-    → p.receipts ≡ rs → q.receipts ≡ ss → p.progress.over ≡ false → p.progress.tx ≡ None → p.progress.begun ≡ 0
+    → p.outcomes ≡ rs → q.outcomes ≡ ss → p.progress.over ≡ false → p.progress.tx ≡ None → p.progress.begun ≡ 0
     → BrokenHeard moves client p (streams a b w v) q → Answers moves q.desk (closing q.progress.tx) (closing_answers q.progress.tx) desk
     → HeardAll moves client (scene p.desk a w rs) (scene desk b v ss)
 unfolding breaks_off

@@ -1,7 +1,7 @@
 pub mod Batches
 pub mod Desks
 pub mod Noting
-pub mod Receipts
+pub mod Outcomes
 pub mod Rounds
 pub mod Sessions
 pub mod Talks

@@ -1,4 +1,4 @@
--- The receipts of a session so far, and what an answer makes of them.
+-- The outcomes of a session so far, and what an answer makes of them.
 use Rattle.std.specs.Prelude.{ℕ, ◌+◌, List, [], ◌∷◌, ◌++◌, Option, Some, None}
 use Rattle.mlt_object_kinds.specs.declared.operation.ObjOp.{ObjOp}
 use Rattle.mlt_object_kinds.specs.declared.operation.ObjReply.{ObjReply}
@@ -9,40 +9,40 @@ use Rattle.mlt_serve_session.specs.declared.call.Answer.TheVariants.{Begun, Repl
 use Rattle.mlt_serve_session.specs.declared.call.Call.{Call}
 use Rattle.mlt_serve_session.specs.declared.call.Call.TheVariants as call
 use Rattle.mlt_serve_session.specs.declared.notes.Notes.{Notes}
-use Rattle.mlt_serve_session.specs.Receipts.{outcome_of}
+use Rattle.mlt_serve_session.specs.Outcomes.{outcome_of}
 
--- the receipt of the transaction that is open, if one is: it would be taken back now
+-- the outcome of the transaction that is open, if one is: it would be taken back now
 abbrev pub pending : ℕ → ℕ → Option ℕ → List (ObjOp × ObjReply) → List Outcome
 pending client number None done = []
 pending client number (Some tx) done = outcome_of client number tx done end.Aborted ∷ []
 
--- all receipts so far, that of the open transaction among them
-abbrev pub receipts_in : ℕ → Notes → List Outcome
-receipts_in client notes = notes.receipts.items
+-- all outcomes so far, that of the open transaction among them
+abbrev pub outcomes_in : ℕ → Notes → List Outcome
+outcomes_in client notes = notes.outcomes.items
     ++ pending client notes.progress.begun notes.progress.tx notes.done.items
 
--- the receipts after the answer to a begin
+-- the outcomes after the answer to a begin
 abbrev pub begun_noted : ℕ → ℕ → List Outcome → Answer → List Outcome
 begun_noted client number rs (Begun tx) = rs ++ outcome_of client number tx [] end.Aborted ∷ []
 begun_noted client number rs answer = rs
 
--- a receipt after the answer to an operation
+-- an outcome after the answer to an operation
 abbrev pub replied_noted : ObjOp → Answer → Outcome → Outcome
 replied_noted op (Replied reply) r = record r { done = r.done ++ (op, reply) ∷ [] }
 replied_noted op answer r = r
 
--- a receipt after the answer to a commit
+-- an outcome after the answer to a commit
 abbrev pub committed_noted : Answer → Outcome → Outcome
 committed_noted (Committed n) r = record r { end = end.Committed n }
 committed_noted answer r = r
 
--- the last of the receipts changes
+-- the last of the outcomes changes
 abbrev pub at_last : (Outcome → Outcome) → List Outcome → List Outcome
 at_last f [] = []
 at_last f (r ∷ []) = f r ∷ []
 at_last f (r ∷ s ∷ rs) = r ∷ at_last f (s ∷ rs)
 
--- the receipts after a call and its answer, where so many transactions were begun before
+-- the outcomes after a call and its answer, where so many transactions were begun before
 abbrev pub noted : ℕ → ℕ → List Outcome → Call → Answer → List Outcome
 noted client begun rs call.Begin answer = begun_noted client (begun + 1) rs answer
 noted client begun rs (call.Operation tx op) answer = at_last (replied_noted op answer) rs

@@ -3,7 +3,7 @@ use Rattle.std.specs.Prelude.{◌≡◌, ◌≤◌, ◌+◌, ℕ, List, [], ◌+
 use Rattle.std.specs.List.{flat_map}
 use Rattle.std.specs.Io.KnownBytes.{Appends, Consumes, IsAtEnd}
 use Rattle.mlt_text.specs.Texts.{AppendsFront}
-use Rattle.mlt_event_text.specs.declared.request_line.Line.{Line}
+use Rattle.mlt_event_text.specs.declared.session_line.Line.{Line}
 use Rattle.mlt_serve_session.specs.Batches.{Covers, Front, IsRest, lines_in}
 use Rattle.mlt_event_text.specs.Inputs.{lines_of, Splits, Begins}
 use Rattle.mlt_serve_session.specs.Desks.{Moves}

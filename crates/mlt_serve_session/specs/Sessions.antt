@@ -10,7 +10,7 @@ use Rattle.mlt_serve_session.specs.declared.call.Answer.{Answer}
 use Rattle.mlt_serve_session.specs.declared.call.Call.{Call}
 use Rattle.mlt_serve_session.specs.declared.sessions.Summary.{Summary}
 use Rattle.mlt_serve_session.specs.Desks.{Moves, Answers}
-use Rattle.mlt_serve_session.specs.Receipts.{receipts_of}
+use Rattle.mlt_serve_session.specs.Outcomes.{outcomes_of}
 use Rattle.mlt_serve_session.specs.Talks.{Turn, turn_text, calls_in, answers_in, closing, closing_answers, open_at_end, session_turns, commits_in, ends_in, long_in}
 
 -- what a session asked of its desk in these turns, and at its end
@@ -21,18 +21,18 @@ abbrev pub all_answers : List Turn → List Answer
 all_answers ts = answers_in ts ++ closing_answers (open_at_end None ts)
 
 -- a desk, the bytes that a reader has left and those that a writer took, where these are known, and
--- receipts
+-- outcomes
 pub record Scene (D : Type 0) : Type 0 where
   pub desk : D
   pub unread : Option (List ℕ)
   pub written : Option (List ℕ)
-  pub receipts : List Outcome
+  pub outcomes : List Outcome
 
 abbrev pub scene : {D : Type 0} → D → Option (List ℕ) → Option (List ℕ) → List Outcome → Scene D
-scene desk unread written receipts =
-    record { desk = desk; unread = unread; written = written; receipts = receipts }
+scene desk unread written outcomes =
+    record { desk = desk; unread = unread; written = written; outcomes = outcomes }
 
--- a session that ended by itself: its text, its calls and its receipts are those that are fixed by the
+-- a session that ended by itself: its text, its calls and its outcomes are those that are fixed by the
 -- bytes that it read and by the desk's answers
 pub record Spoken {D : Type 0} (moves : Moves D) (client : ℕ) (old new : Scene D) : Type 0 where
   pub taken : List ℕ
@@ -48,8 +48,8 @@ pub record Spoken {D : Type 0} (moves : Moves D) (client : ℕ) (old new : Scene
   pub asked : Answers moves old.desk (all_calls turns) (all_answers turns) new.desk
   -- the text was written
   pub wrote : Appends old.written new.written (flat_map turn_text turns)
-  -- a receipt was added for each transaction that began
-  pub noted : new.receipts ≡ old.receipts ++ receipts_of client 0 turns
+  -- an outcome was added for each transaction that began
+  pub noted : new.outcomes ≡ old.outcomes ++ outcomes_of client 0 turns
 
 -- so many lines were answered, and so many of them committed
 pub record Summed {D : Type 0} (moves : Moves D) (client : ℕ) (old new : Scene D)
@@ -79,8 +79,8 @@ pub record BrokenOff {D : Type 0} (moves : Moves D) (client : ℕ) (old new : Sc
   pub asked : Answers moves old.desk (all_calls heard) (all_answers heard) new.desk
   -- a prefix of the text was written
   pub wrote : AppendsFront old.written new.written (flat_map turn_text heard)
-  -- a receipt was added for each transaction that began
-  pub noted : new.receipts ≡ old.receipts ++ receipts_of client 0 heard
+  -- an outcome was added for each transaction that began
+  pub noted : new.outcomes ≡ old.outcomes ++ outcomes_of client 0 heard
 
 -- a session that a read, a write or the byte limit broke off: it has heard all lines of the bytes that
 -- it read up to the limit
@@ -94,7 +94,7 @@ pub record HeardAll {D : Type 0} (moves : Moves D) (client : ℕ) (old new : Sce
 -- How a session that answers so went, from the one scene to the other
 pub record SessionAnswers {D : Type 0} (moves : Moves D) (client : ℕ) (old new : Scene D)
     (result : Result Summary Refusal) : Type 0 where
-  -- the text, the calls and the receipts are those of the bytes read and the answers given
+  -- the text, the calls and the outcomes are those of the bytes read and the answers given
   pub ok : IfOk result (λ summary. Summed moves client old new summary.lines summary.commits)
   -- the same, up to a line that is too long
   pub long : IsErrOf result LineTooLong → SpokenLong moves client old new

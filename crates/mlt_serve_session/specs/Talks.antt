@@ -2,13 +2,13 @@
 use Rattle.std.specs.Prelude.{ℕ, ◌+◌, List, [], ◌∷◌, Option, Some, None, Bool, true, false, ◌||◌, if◌then◌else◌}
 use Rattle.std.specs.List.{flat_map}
 use Rattle.mlt_types.specs.declared.refusal.Refusal.TheVariants as refusal
-use Rattle.mlt_event_text.specs.declared.request.Request.TheVariants as request
+use Rattle.mlt_event_text.specs.declared.command.Command.TheVariants as command
 use Rattle.mlt_serve_session.specs.declared.call.Answer.{Answer}
 use Rattle.mlt_serve_session.specs.declared.call.Answer.TheVariants.{Begun, Replied, Committed, Aborted, Refused}
 use Rattle.mlt_serve_session.specs.declared.call.Call.{Call}
 use Rattle.mlt_serve_session.specs.declared.call.Call.TheVariants as call
-use Rattle.mlt_event_text.specs.declared.request_line.Line.{Line}
-use Rattle.mlt_event_text.specs.declared.request_line.Line.TheVariants.{Says, TooLong}
+use Rattle.mlt_event_text.specs.declared.session_line.Line.{Line}
+use Rattle.mlt_event_text.specs.declared.session_line.Line.TheVariants.{Says, TooLong}
 use Rattle.mlt_serve_session.specs.declared.said.Said.{Said}
 use Rattle.mlt_serve_session.specs.declared.said.Said.TheVariants as said
 use Rattle.mlt_event_text.specs.Inputs.{lines_of}
@@ -16,15 +16,15 @@ use Rattle.mlt_serve_session.specs.Texts.{said_text}
 
 -- what a line asks of the desk, with no transaction open
 abbrev pub call_alone : Line → Option Call
-call_alone (Says request.Begin) = Some call.Begin
+call_alone (Says command.Begin) = Some call.Begin
 call_alone line = None
 
 -- what a line asks of the desk, with this transaction open
 abbrev pub call_within : ℕ → Line → Option Call
-call_within tx (Says (request.Op op)) = Some (call.Operation tx op)
-call_within tx (Says request.Commit) = Some (call.Commit tx)
-call_within tx (Says request.Abort) = Some (call.Abort tx)
-call_within tx (Says request.Quit) = Some (call.Abort tx)
+call_within tx (Says (command.Op op)) = Some (call.Operation tx op)
+call_within tx (Says command.Commit) = Some (call.Commit tx)
+call_within tx (Says command.Abort) = Some (call.Abort tx)
+call_within tx (Says command.Quit) = Some (call.Abort tx)
 call_within tx TooLong = Some (call.Abort tx)
 call_within tx line = None
 
@@ -49,12 +49,12 @@ open_after before (Some (Refused r)) = before
 
 -- whether a line ends the session
 abbrev pub ends : Line → Bool
-ends (Says request.Quit) = true
+ends (Says command.Quit) = true
 ends TooLong = true
 ends line = false
 
 abbrev pub is_long : Line → Bool
-is_long (Says request) = false
+is_long (Says command) = false
 is_long TooLong = true
 
 abbrev pub unless_ended : Line → List Turn → List Turn
@@ -83,31 +83,31 @@ session_turns bytes answers = turns None (lines_of bytes) answers
 
 -- what is said to a line that asks nothing, with no transaction open
 abbrev pub said_alone : Line → Said
-said_alone (Says request.Begin) = said.Nothing
-said_alone (Says (request.Op op)) = said.Error refusal.NoSuchTx
-said_alone (Says request.Commit) = said.Error refusal.NoSuchTx
-said_alone (Says request.Abort) = said.Error refusal.NoSuchTx
-said_alone (Says request.Quit) = said.Bye
-said_alone (Says request.Blank) = said.Nothing
-said_alone (Says request.Other) = said.Fault
+said_alone (Says command.Begin) = said.Nothing
+said_alone (Says (command.Op op)) = said.Error refusal.NoSuchTx
+said_alone (Says command.Commit) = said.Error refusal.NoSuchTx
+said_alone (Says command.Abort) = said.Error refusal.NoSuchTx
+said_alone (Says command.Quit) = said.Bye
+said_alone (Says command.Blank) = said.Nothing
+said_alone (Says command.Other) = said.Fault
 said_alone TooLong = said.Error refusal.LineTooLong
 
 -- the same with one open
 abbrev pub said_within : Line → Said
-said_within (Says request.Begin) = said.Error refusal.Running
-said_within (Says (request.Op op)) = said.Nothing
-said_within (Says request.Commit) = said.Nothing
-said_within (Says request.Abort) = said.Nothing
-said_within (Says request.Quit) = said.Bye
-said_within (Says request.Blank) = said.Nothing
-said_within (Says request.Other) = said.Fault
+said_within (Says command.Begin) = said.Error refusal.Running
+said_within (Says (command.Op op)) = said.Nothing
+said_within (Says command.Commit) = said.Nothing
+said_within (Says command.Abort) = said.Nothing
+said_within (Says command.Quit) = said.Bye
+said_within (Says command.Blank) = said.Nothing
+said_within (Says command.Other) = said.Fault
 said_within TooLong = said.Error refusal.LineTooLong
 
 -- what is said where the desk answered
 abbrev pub said_with : Line → Answer → Said
-said_with (Says request.Quit) answer = said.Bye
-said_with (Says request.Blank) answer = said.Nothing
-said_with (Says request.Other) answer = said.Fault
+said_with (Says command.Quit) answer = said.Bye
+said_with (Says command.Blank) answer = said.Nothing
+said_with (Says command.Other) answer = said.Fault
 said_with TooLong answer = said.Error refusal.LineTooLong
 said_with line answer = said.Told answer
 

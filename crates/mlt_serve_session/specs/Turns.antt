@@ -3,24 +3,24 @@ use Rattle.std.specs.Prelude.{◌≡◌, ◌<◌, ◌≤◌, ◌^◌, ℕ, ◌+�
 use Rattle.mlt_script_serial.specs.declared.outcome.Outcome.{Outcome}
 use Rattle.mlt_serve_session.specs.declared.call.Answer.{Answer}
 use Rattle.mlt_serve_session.specs.declared.call.Call.{Call}
-use Rattle.mlt_event_text.specs.declared.request_line.Line.{Line}
+use Rattle.mlt_event_text.specs.declared.session_line.Line.{Line}
 use Rattle.mlt_serve_session.specs.declared.said.Said.{Said}
 use Rattle.mlt_serve_session.specs.declared.notes.Notes.{Notes}
 use Rattle.mlt_serve_session.specs.declared.notes.Progress.{Progress}
-use Rattle.mlt_serve_session.specs.Noting.{receipts_in, noted}
-use Rattle.mlt_serve_session.specs.Receipts.{begins_by}
+use Rattle.mlt_serve_session.specs.Noting.{outcomes_in, noted}
+use Rattle.mlt_serve_session.specs.Outcomes.{begins_by}
 use Rattle.mlt_serve_session.specs.Talks.{Turn, call_for, said_by, ends, is_long, open_after, commits_by}
 use Rattle.mlt_serve_session.specs.Desks.{Moves}
 
--- how far a session is, its desk and its receipts
+-- how far a session is, its desk and its outcomes
 pub record Place (D : Type 0) : Type 0 where
   pub progress : Progress
   pub desk : D
-  pub receipts : List Outcome
+  pub outcomes : List Outcome
 
 abbrev pub place : {D : Type 0} → ℕ → Notes → D → Place D
 place client notes desk =
-    record { progress = notes.progress; desk = desk; receipts = receipts_in client notes }
+    record { progress = notes.progress; desk = desk; outcomes = outcomes_in client notes }
 
 -- a session of which nothing was read
 abbrev pub start : Progress
@@ -50,15 +50,15 @@ after_turn p t = after_line (after_answer p t.answer) t.line
 pub record Told {D : Type 0} (moves : Moves D) (client : ℕ) (p : Place D) (c : Call) (a : Answer)
     (q : Place D) : Type 0 where
   pub moved : moves p.desk c a q.desk
-  pub noted_so : q.receipts ≡ noted client p.progress.begun p.receipts c a
+  pub noted_so : q.outcomes ≡ noted client p.progress.begun p.outcomes c a
   pub after : q.progress ≡ after_answer p.progress (Some a)
 
 -- the call was made and answered, and noted; or there was none
 abbrev pub Asked : {D : Type 0} → Moves D → ℕ → Place D → Option Call → Option Answer → Place D
     → Type 0
-Asked moves client p None None q = (q.desk ≡ p.desk) × (q.receipts ≡ p.receipts)
+Asked moves client p None None q = (q.desk ≡ p.desk) × (q.outcomes ≡ p.outcomes)
 Asked moves client p (Some c) (Some a) q = moves p.desk c a q.desk
-    × (q.receipts ≡ noted client p.progress.begun p.receipts c a)
+    × (q.outcomes ≡ noted client p.progress.begun p.outcomes c a)
 Asked moves client p None (Some a) q = ⊥
 Asked moves client p (Some c) None q = ⊥
 

@@ -25,7 +25,7 @@ pub struct Progress {
     pub long: bool,
 }
 
-/// How far a session is, and its receipts. While a transaction is open its receipt is not among them yet,
+/// How far a session is, and its outcomes. While a transaction is open its outcome is not among them yet,
 /// but there is room for it.
 #[derive(Drop)]
 pub struct Notes {
@@ -33,8 +33,8 @@ pub struct Notes {
     pub progress: Progress,
     /// What was done in the transaction that is open, in order.
     pub done: Vec<Done>,
-    /// The receipts of the transactions that ended, in order.
-    pub receipts: Vec<Outcome>,
+    /// The outcomes of the transactions that ended, in order.
+    pub outcomes: Vec<Outcome>,
     pub alloc: Global,
-    ghost room: { ForSome progress.tx (λ _. vec_len receipts < vec_capacity receipts) },
+    ghost room: { ForSome progress.tx (λ _. vec_len outcomes < vec_capacity outcomes) },
 }

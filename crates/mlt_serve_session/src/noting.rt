@@ -2,13 +2,13 @@
 
 ghost use Rattle.std.specs.Prelude.{◌≡◌, ◌<◌, ◌+◌, ◌^◌, [], ◌∷◌, ◌++◌, ℕ, IfOk, None, Some, vec_len};
 ghost use Rattle.std.specs.Vec.{vec_capacity};
-ghost use Rattle.mlt_serve_session.specs.Noting.{receipts_in};
-ghost use Rattle.mlt_serve_session.specs.Receipts.{outcome_of};
+ghost use Rattle.mlt_serve_session.specs.Noting.{outcomes_in};
+ghost use Rattle.mlt_serve_session.specs.Outcomes.{outcome_of};
 ghost use Rattle.mlt_serve_session.specs.Talks.{ends, is_long};
 ghost use Rattle.mlt_serve_session.specs.Turns.{after_line, start};
 
 use crate::notes::{Notes, Progress};
-use mlt_event_text::{Line, Request};
+use mlt_event_text::{Command, Line};
 use mlt_object_kinds::Done;
 use mlt_script_serial::{End, Outcome, Transcript};
 use std::alloc::{AllocError, Global};
@@ -18,7 +18,7 @@ fn ends(line: Line) -> bool
     ensures { result ≡ ends line }
 {
     match line {
-        Line::Says(Request::Quit) | Line::TooLong => true,
+        Line::Says(Command::Quit) | Line::TooLong => true,
         _ => false,
     }
 }
@@ -40,7 +40,7 @@ fn copy_of(alloc: Global, done: &[Done]) -> Result<Vec<Done>, AllocError>
     Ok(copy)
 }
 
-/// What was done, in a list with no more room than that where there is memory for one, since receipts are kept. The list in
+/// What was done, in a list with no more room than that where there is memory for one, since outcomes are kept. The list in
 /// which a session notes it then keeps its room for the next transaction.
 fn noted(alloc: Global, done: &mut Vec<Done>) -> Vec<Done>
     ensures { result.items ≡ done.old.items }
@@ -52,10 +52,10 @@ fn noted(alloc: Global, done: &mut Vec<Done>) -> Vec<Done>
 }
 
 impl Notes {
-    /// A session of which nothing was read, behind these receipts. Takes no memory.
-    pub fn new(alloc: Global, receipts: Vec<Outcome>) -> Notes
+    /// A session of which nothing was read, behind these outcomes. Takes no memory.
+    pub fn new(alloc: Global, outcomes: Vec<Outcome>) -> Notes
         ensures progress { result.progress ≡ start }
-        ensures receipts { result.receipts.items ≡ receipts.items }
+        ensures outcomes { result.outcomes.items ≡ outcomes.items }
     {
         Notes {
             progress: Progress {
@@ -67,18 +67,18 @@ impl Notes {
                 long: false,
             },
             done: Vec::new(alloc),
-            receipts,
+            outcomes,
             alloc,
         }
     }
 
-    /// Notes that a transaction began, which is open now. There is room for its receipt.
+    /// Notes that a transaction began, which is open now. There is room for its outcome.
     pub fn open(&mut self, tx: u64)
-        requires room { vec_len self.old.receipts < vec_capacity self.old.receipts }
+        requires room { vec_len self.old.outcomes < vec_capacity self.old.outcomes }
         requires small { self.old.progress.begun < 2 ^ 62 }
         ensures progress { self.new.progress
             ≡ record self.old.progress { tx = Some tx; begun = self.old.progress.begun + 1 } }
-        ensures receipts { self.new.receipts.items ≡ self.old.receipts.items }
+        ensures outcomes { self.new.outcomes.items ≡ self.old.outcomes.items }
         ensures done { self.new.done.items ≡ [] }
     {
         self.done.clear();
@@ -86,15 +86,15 @@ impl Notes {
         self.progress.begun += 1;
     }
 
-    /// Notes how the open transaction ended: its receipt stands behind the others now.
+    /// Notes how the open transaction ended: its outcome stands behind the others now.
     pub fn close(&mut self, client: u32, tx: u64, end: End)
         requires is_open { self.old.progress.tx ≡ Some tx }
         ensures progress { self.new.progress ≡ record self.old.progress { tx = None } }
-        ensures receipts { self.new.receipts.items ≡ self.old.receipts.items
+        ensures outcomes { self.new.outcomes.items ≡ self.old.outcomes.items
             ++ outcome_of client self.old.progress.begun tx self.old.done.items end ∷ [] }
     {
         let done = noted(self.alloc, &mut self.done);
-        self.receipts.push_reserved(Outcome {
+        self.outcomes.push_reserved(Outcome {
             client,
             number: self.progress.begun,
             tx,
@@ -108,8 +108,8 @@ impl Notes {
     pub fn note_answered(&mut self, line: Line)
         requires small { self.old.progress.lines < 2 ^ 62 }
         ensures progress { self.new.progress ≡ after_line self.old.progress line }
-        ensures receipts { (client : ℕ)
-            → receipts_in client self.new ≡ receipts_in client self.old }
+        ensures outcomes { (client : ℕ)
+            → outcomes_in client self.new ≡ outcomes_in client self.old }
     {
         self.progress.lines += 1;
         self.progress.over = ends(line);

@@ -4,7 +4,7 @@ ghost use Rattle.std.specs.Prelude.{◌≡◌, ◌<◌, ◌≤◌, ◌+◌, ◌-
 ghost use Rattle.std.specs.Io.KnownBytes.{Consumes, IsAtEnd, Keeps};
 ghost use Rattle.mlt_serve_session.specs.Batches.{front};
 ghost use Rattle.mlt_serve_session.specs.Desks.{Answers, moves};
-ghost use Rattle.mlt_serve_session.specs.Noting.{receipts_in};
+ghost use Rattle.mlt_serve_session.specs.Noting.{outcomes_in};
 ghost use Rattle.mlt_serve_session.specs.Rounds.{Replied, Stopped, Unwritten, Talked, Broken, BrokenHeard, streams};
 ghost use Rattle.mlt_serve_session.specs.Sessions.{SessionAnswers, scene};
 ghost use Rattle.mlt_serve_session.specs.Talks.{closing, closing_answers};
@@ -153,16 +153,16 @@ pub struct Summary {
     pub commits: u64,
 }
 
-// Takes back what is open, and answers all receipts.
+// Takes back what is open, and answers all outcomes.
 fn finish<D: Desk>(mut notes: Notes, desk: &mut D, client: u32) -> Vec<Outcome>
     ensures asked { Answers (moves D.begins D.answers D.commits D.aborts) desk.old
         (closing notes.progress.tx) (closing_answers notes.progress.tx) desk.new }
-    ensures receipts { result.items ≡ receipts_in client notes }
+    ensures outcomes { result.items ≡ outcomes_in client notes }
 {
     if let Some(tx) = notes.progress.tx {
         abort(&mut notes, desk, client, tx);
     }
-    notes.receipts
+    notes.outcomes
 }
 
 // A session with its buffers.
@@ -171,23 +171,23 @@ fn converse<R: Read, W: Write, D: Desk>(
     writer: &mut W,
     desk: &mut D,
     client: u32,
-    receipts: &mut Vec<Outcome>,
+    outcomes: &mut Vec<Outcome>,
     alloc: Global,
     buffer: &mut [u8],
 ) -> Result<Summary, Refusal>
     requires { (200 < length buffer.old) × (length buffer.old < 2 ^ 32) }
     ensures answers { SessionAnswers (moves D.begins D.answers D.commits D.aborts) client
-        (scene desk.old (R.remaining reader.old) (W.contents writer.old) receipts.old.items)
-        (scene desk.new (R.remaining reader.new) (W.contents writer.new) receipts.new.items)
+        (scene desk.old (R.remaining reader.old) (W.contents writer.old) outcomes.old.items)
+        (scene desk.new (R.remaining reader.new) (W.contents writer.new) outcomes.new.items)
         result }
     ensures refusal { IfErr result (λ refusal. (refusal ≡ Refusal.LineTooLong)
         ⊎ (refusal ≡ Refusal.OutOfMemory) ⊎ (refusal ≡ Refusal.Io)) }
 {
     let mut out = String::new(alloc);
-    let mut notes = Notes::new(alloc, mem::replace(receipts, Vec::new(alloc)));
+    let mut notes = Notes::new(alloc, mem::replace(outcomes, Vec::new(alloc)));
     let listened = listen(reader, writer, &mut notes, desk, client, buffer, &mut out);
     let progress = notes.progress;
-    *receipts = finish(notes, desk, client);
+    *outcomes = finish(notes, desk, client);
     listened?;
     if progress.long {
         return Err(Refusal::LineTooLong);
@@ -207,7 +207,7 @@ fn zeros(alloc: Global, count: usize) -> Result<Vec<u8>, Refusal>
 }
 
 /// Reads lines, asks the desk and answers each, until the input or a line ends the session. A transaction
-/// that is open then is taken back. For each transaction that began a receipt of this client is added,
+/// that is open then is taken back. For each transaction that began an outcome of this client is added,
 /// numbered from 1, whatever the session answers. The answers to all complete lines of one read go out in
 /// one text, before the reader is asked again.
 ///
@@ -222,11 +222,11 @@ pub fn session<R: Read, W: Write, D: Desk>(
     writer: &mut W,
     desk: &mut D,
     client: u32,
-    receipts: &mut Vec<Outcome>,
+    outcomes: &mut Vec<Outcome>,
 ) -> Result<Summary, Refusal>
     ensures answers { SessionAnswers (moves D.begins D.answers D.commits D.aborts) client
-        (scene desk.old (R.remaining reader.old) (W.contents writer.old) receipts.old.items)
-        (scene desk.new (R.remaining reader.new) (W.contents writer.new) receipts.new.items)
+        (scene desk.old (R.remaining reader.old) (W.contents writer.old) outcomes.old.items)
+        (scene desk.new (R.remaining reader.new) (W.contents writer.new) outcomes.new.items)
         result }
     ensures refusal { IfErr result (λ refusal. (refusal ≡ Refusal.LineTooLong)
         ⊎ (refusal ≡ Refusal.OutOfMemory) ⊎ (refusal ≡ Refusal.Io)) }
@@ -239,7 +239,7 @@ pub fn session<R: Read, W: Write, D: Desk>(
         writer,
         desk,
         client,
-        receipts,
+        outcomes,
         alloc,
         buffer.as_mut_slice(),
     )

@@ -8,7 +8,7 @@ ghost use Rattle.mlt_serve_session.specs.Turns.{Told, TakesTurn, IsSmall, place}
 use crate::call::{Answer, Call};
 use crate::notes::Notes;
 use crate::said::Said;
-use mlt_event_text::{Line, Request};
+use mlt_event_text::{Command, Line};
 use mlt_object_kinds::{Done, ObjOp};
 use mlt_script_desk::Desk;
 use mlt_script_serial::End;
@@ -21,10 +21,10 @@ fn call_for(before: Option<u64>, line: Line) -> Option<Call>
     ensures fits { IfSome result (λ call. before ≡ open_for call) }
 {
     match (before, line) {
-        (None, Line::Says(Request::Begin)) => Some(Call::Begin),
-        (Some(tx), Line::Says(Request::Op(op))) => Some(Call::Operation(tx, op)),
-        (Some(tx), Line::Says(Request::Commit)) => Some(Call::Commit(tx)),
-        (Some(tx), Line::Says(Request::Abort | Request::Quit) | Line::TooLong) => {
+        (None, Line::Says(Command::Begin)) => Some(Call::Begin),
+        (Some(tx), Line::Says(Command::Op(op))) => Some(Call::Operation(tx, op)),
+        (Some(tx), Line::Says(Command::Commit)) => Some(Call::Commit(tx)),
+        (Some(tx), Line::Says(Command::Abort | Command::Quit) | Line::TooLong) => {
             Some(Call::Abort(tx))
         }
         _ => None,
@@ -36,9 +36,9 @@ fn said_with(line: Line, answer: Answer) -> Said
     ensures { result ≡ said_by None line (Some answer) }
 {
     match line {
-        Line::Says(Request::Quit) => Said::Bye,
-        Line::Says(Request::Blank) => Said::Nothing,
-        Line::Says(Request::Other) => Said::Fault,
+        Line::Says(Command::Quit) => Said::Bye,
+        Line::Says(Command::Blank) => Said::Nothing,
+        Line::Says(Command::Other) => Said::Fault,
         Line::TooLong => Said::Error(Refusal::LineTooLong),
         _ => Said::Told(answer),
     }
@@ -49,18 +49,18 @@ fn said_alone(before: Option<u64>, line: Line) -> Said
     ensures { result ≡ said_by before line None }
 {
     match line {
-        Line::Says(Request::Begin) if before.is_some() => Said::Error(Refusal::Running),
-        Line::Says(Request::Op(_) | Request::Commit | Request::Abort) if before.is_none() => {
+        Line::Says(Command::Begin) if before.is_some() => Said::Error(Refusal::Running),
+        Line::Says(Command::Op(_) | Command::Commit | Command::Abort) if before.is_none() => {
             Said::Error(Refusal::NoSuchTx)
         }
-        Line::Says(Request::Quit) => Said::Bye,
-        Line::Says(Request::Other) => Said::Fault,
+        Line::Says(Command::Quit) => Said::Bye,
+        Line::Says(Command::Other) => Said::Fault,
         Line::TooLong => Said::Error(Refusal::LineTooLong),
         _ => Said::Nothing,
     }
 }
 
-/// Begins a transaction. There is room for its receipt before the desk is asked.
+/// Begins a transaction. There is room for its outcome before the desk is asked.
 ///
 /// # Errors
 /// There was no room, and the desk was not asked.
@@ -73,7 +73,7 @@ fn begin<D: Desk>(notes: &mut Notes, desk: &mut D, client: u32) -> Result<Answer
     ensures err { OnErr result
         (place client notes.new desk.new ≡ place client notes.old desk.old) }
 {
-    notes.receipts.reserve(1)?;
+    notes.outcomes.reserve(1)?;
     match desk.begin() {
         Ok(tx) => {
             notes.open(tx.0);

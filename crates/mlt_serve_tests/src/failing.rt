@@ -27,8 +27,8 @@ impl Engine for Sessions {
         let mut answers = Vec::new(alloc);
         answers.extend_from_slice(ANSWERS)?;
         let mut desk = FakeDesk::new(answers);
-        let mut receipts = Vec::new(alloc);
-        session(alloc, reader, writer, &mut desk, 3, &mut receipts)?;
+        let mut outcomes = Vec::new(alloc);
+        session(alloc, reader, writer, &mut desk, 3, &mut outcomes)?;
         Ok(())
     }
 }

@@ -4,7 +4,7 @@ ghost use Rattle.std.specs.Prelude.{◌≡◌, Some};
 ghost use Rattle.mlt_work_desk.specs.Makings.{making_of};
 
 use crate::sessions::{LINES, OF_LINES};
-use crate::talks::{Receipt, Talk, Wanted, talk_at};
+use crate::talks::{Outcome, Talk, Wanted, talk_at};
 use mlt_manager::Manager;
 use mlt_object_kinds::{AccountOp, CounterOp, ObjOp, ObjReply};
 use mlt_script_serial::End;
@@ -93,13 +93,13 @@ fn talk_over_manager(
     talk_over::<Brand>(rt, alloc, Blank::new(2), manager, reader)
 }
 
-// The session is what is wanted, and where it was alone its receipts are those of the manager's history.
+// The session is what is wanted, and where it was alone its outcomes are those of the manager's history.
 fn is(alloc: Global, talk: &Talk, manager: &Manager<Mult>, session: &Session) -> Result<(), Fail> {
     talk.is(&session.input, &session.wanted)?;
     same(&manager.base()?.value(7), &session.counter)?;
     if session.beside.is_none() {
         manager.keeps_a_placed_history();
-        same(&audit(alloc, talk.receipts(), manager.history()), &Ok(()))?;
+        same(&audit(alloc, talk.outcomes(), manager.history()), &Ok(()))?;
     }
     Ok(())
 }
@@ -143,13 +143,13 @@ const TWO_IDS: &[Session] = &[Session {
     wanted: Wanted {
         answer: Ok((5, 2)),
         text: b"begun 1\ncommitted 1\nbegun 2\ncommitted 2\nerror 9 IdsSpent\n",
-        receipts: &[
-            Receipt {
+        outcomes: &[
+            Outcome {
                 tx: 1,
                 done: &[],
                 end: End::Committed(1),
             },
-            Receipt {
+            Outcome {
                 tx: 2,
                 done: &[],
                 end: End::Committed(2),
@@ -172,7 +172,7 @@ const ONE_OPERATION: &[Session] = &[Session {
     wanted: Wanted {
         answer: Ok((4, 1)),
         text: b"begun 1\ndone\nerror 8 LogFull\ncommitted 1\n",
-        receipts: &[Receipt {
+        outcomes: &[Outcome {
             tx: 1,
             done: &[UP],
             end: End::Committed(1),
@@ -194,7 +194,7 @@ const ONE_OPEN: &[Session] = &[Session {
     wanted: Wanted {
         answer: Ok((2, 0)),
         text: b"error 7 TooManyOpen\nerror 3 NoSuchTx\n",
-        receipts: &[],
+        outcomes: &[],
     },
     counter: 0,
 }];
@@ -207,7 +207,7 @@ fn session_too_many_open(rt: HostRuntime) -> Result<(), Fail> {
 const CUT: Wanted = Wanted {
     answer: Ok((2, 0)),
     text: b"begun 1\ndone\n",
-    receipts: &[Receipt {
+    outcomes: &[Outcome {
         tx: 1,
         done: &[UP],
         end: End::Aborted,
@@ -256,7 +256,7 @@ const TRIES: &[Session] = &[Session {
     wanted: Wanted {
         answer: Ok((3, 1)),
         text: b"begun 2\nerror 14 GaveUp\ncommitted 1\n",
-        receipts: &[Receipt {
+        outcomes: &[Outcome {
             tx: 2,
             done: &[],
             end: End::Committed(1),

@@ -22,7 +22,7 @@ begin 1\nop 1 open 1 opened\nop 1 deposit 1 5 done\ncommit 1 1\n\
 begin 2\nop 2 balance 1 is 5\nback 2\nabort 2\n\
 serial 1\naccount 1 5\n";
 
-// The answers to these lines over one connection, its receipts and the trace, within these limits.
+// The answers to these lines over one connection, its outcomes and the trace, within these limits.
 fn is_served<R: Threads + Wait + Clock + Sync>(
     rt: &R,
     alloc: Global,

@@ -12,7 +12,7 @@ use std::sync::Wait;
 use std::thread::Threads;
 use std::time::Clock;
 
-/// Each receipt with its client, its number, its replies and its end, and then the base; the history as a trace; and what the
+/// Each outcome with its client, its number, its replies and its end, and then the base; the history as a trace; and what the
 /// checker says of that trace.
 fn text_of(alloc: Global, outcomes: Outcomes, manager: &Manager<Mult>) -> Result<Vec<u8>, Refusal> {
     let report = Report {

@@ -1,6 +1,6 @@
 //! Sessions at a desk of answers, wherever their input is cut.
 
-use crate::talks::{Receipt, Wanted, talk_with};
+use crate::talks::{Outcome, Wanted, talk_with};
 use mlt_object_kinds::{AccountOp, CounterOp, ObjOp, ObjReply};
 use mlt_script_desk::FakeAnswer;
 use mlt_script_serial::End;
@@ -45,13 +45,13 @@ pub const ANSWERS: &[FakeAnswer] = &[
 pub const OF_LINES: Wanted = Wanted {
     answer: Ok((7, 1)),
     text: b"begun 1\nopened\nerror 10 ScriptFault\ndone\ncommitted 1\nbegun 2\nis 5\n",
-    receipts: &[
-        Receipt {
+    outcomes: &[
+        Outcome {
             tx: 1,
             done: &[(OPEN, ObjReply::Opened), (DEPOSIT, ObjReply::Done)],
             end: End::Committed(1),
         },
-        Receipt {
+        Outcome {
             tx: 2,
             done: &[(BALANCE, ObjReply::Is(5))],
             end: End::Aborted,
@@ -95,7 +95,7 @@ const LONG: &[Session] = &[
         wanted: Wanted {
             answer: Ok((1, 0)),
             text: b"",
-            receipts: &[],
+            outcomes: &[],
         },
     },
     Session {
@@ -104,7 +104,7 @@ const LONG: &[Session] = &[
         wanted: Wanted {
             answer: Err(Refusal::LineTooLong),
             text: b"error 12 LineTooLong\n",
-            receipts: &[],
+            outcomes: &[],
         },
     },
     Session {
@@ -113,7 +113,7 @@ const LONG: &[Session] = &[
         wanted: Wanted {
             answer: Err(Refusal::LineTooLong),
             text: b"begun 1\nopened\nerror 12 LineTooLong\n",
-            receipts: &[Receipt {
+            outcomes: &[Outcome {
                 tx: 1,
                 done: &[(OPEN, ObjReply::Opened)],
                 end: End::Aborted,
@@ -126,7 +126,7 @@ const LONG: &[Session] = &[
         wanted: Wanted {
             answer: Ok((4, 0)),
             text: b"error 3 NoSuchTx\nbegun 1\nerror 5 Running\nbye\n",
-            receipts: &[BEGUN],
+            outcomes: &[BEGUN],
         },
     },
 ];
@@ -134,7 +134,7 @@ const LONG: &[Session] = &[
 // An operation outside a transaction, and a begin inside one.
 const OUTSIDE_AND_INSIDE: &[u8] = b"open 1\nbegin\nbegin\nquit\n";
 
-const BEGUN: Receipt = Receipt {
+const BEGUN: Outcome = Outcome {
     tx: 1,
     done: &[],
     end: End::Aborted,
@@ -143,7 +143,7 @@ const BEGUN: Receipt = Receipt {
 const BROKEN_OFF: Wanted = Wanted {
     answer: Err(Refusal::Io),
     text: b"",
-    receipts: &[BEGUN],
+    outcomes: &[BEGUN],
 };
 
 #[test]
@@ -160,7 +160,7 @@ const CUT: &[Session] = &[Session {
     wanted: Wanted {
         answer: Ok((2, 0)),
         text: b"begun 1\ndone\n",
-        receipts: &[Receipt {
+        outcomes: &[Outcome {
             tx: 1,
             done: &[(UP, ObjReply::Done)],
             end: End::Aborted,
@@ -193,13 +193,13 @@ const REFUSED: &[Session] = &[Session {
         answer: Ok((12, 1)),
         text: b"error 7 TooManyOpen\nerror 3 NoSuchTx\nbegun 4\nerror 2 NoRoom\nerror 5 Running\ndone\n\
 aborted\nerror 3 NoSuchTx\nbegun 6\ncommitted 18446744073709551615\nbye\n",
-        receipts: &[
-            Receipt {
+        outcomes: &[
+            Outcome {
                 tx: 4,
                 done: &[(UP, ObjReply::Done)],
                 end: End::Aborted,
             },
-            Receipt {
+            Outcome {
                 tx: 6,
                 done: &[],
                 end: End::Committed(18446744073709551615),

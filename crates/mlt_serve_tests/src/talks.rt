@@ -18,12 +18,12 @@ const CLIENT: u32 = 3;
 pub struct Talk {
     answer: Result<Summary, Refusal>,
     writer: FaultyWriter,
-    receipts: Vec<Outcome>,
+    outcomes: Vec<Outcome>,
 }
 
-/// A receipt that is wanted.
+/// An outcome that is wanted.
 #[derive(Clone, Copy)]
-pub struct Receipt {
+pub struct Outcome {
     /// The transaction's number.
     pub tx: u64,
     /// What was done.
@@ -39,8 +39,8 @@ pub struct Wanted {
     pub answer: Result<(u64, u64), Refusal>,
     /// What was written.
     pub text: &'static [u8],
-    /// The receipts, numbered from 1.
-    pub receipts: &'static [Receipt],
+    /// The outcomes, numbered from 1.
+    pub outcomes: &'static [Outcome],
 }
 
 /// What came of a session at this desk.
@@ -50,12 +50,12 @@ pub fn talk_at<D: Desk>(
     mut reader: FaultyReader,
     mut writer: FaultyWriter,
 ) -> Talk {
-    let mut receipts = Vec::new(alloc);
-    let answer = session(alloc, &mut reader, &mut writer, desk, CLIENT, &mut receipts);
+    let mut outcomes = Vec::new(alloc);
+    let answer = session(alloc, &mut reader, &mut writer, desk, CLIENT, &mut outcomes);
     Talk {
         answer,
         writer,
-        receipts,
+        outcomes,
     }
 }
 
@@ -81,7 +81,7 @@ fn are_done(found: &[Done], wanted: &[(ObjOp, ObjReply)]) -> bool {
     found.len() == wanted.len()
 }
 
-fn is_receipt(number: u64, found: &Outcome, wanted: &Receipt) -> bool {
+fn is_outcome(number: u64, found: &Outcome, wanted: &Outcome) -> bool {
     found.client == CLIENT
         && found.number == number
         && found.tx == wanted.tx
@@ -98,19 +98,19 @@ impl Talk {
         }
     }
 
-    // Its receipts are these, numbered from 1.
-    fn has_receipts(&self, wanted: &[Receipt]) -> bool {
-        for (before, (found, wanted)) in self.receipts.iter().zip(wanted).enumerate() {
-            if !is_receipt(before as u64 + 1, found, wanted) {
+    // Its outcomes are these, numbered from 1.
+    fn has_outcomes(&self, wanted: &[Outcome]) -> bool {
+        for (before, (found, wanted)) in self.outcomes.iter().zip(wanted).enumerate() {
+            if !is_outcome(before as u64 + 1, found, wanted) {
                 return false;
             }
         }
-        self.receipts.len() == wanted.len()
+        self.outcomes.len() == wanted.len()
     }
 
-    /// The receipts.
-    pub fn receipts(&self) -> &[Outcome] {
-        self.receipts.as_slice()
+    /// The outcomes.
+    pub fn outcomes(&self) -> &[Outcome] {
+        self.outcomes.as_slice()
     }
 
     /// It is what is wanted.
@@ -118,7 +118,7 @@ impl Talk {
         let found = (
             self.answer(),
             self.writer.written(),
-            self.has_receipts(wanted.receipts),
+            self.has_outcomes(wanted.outcomes),
         );
         same_at(place, &found, &(wanted.answer, wanted.text, true))
     }

@@ -6,8 +6,8 @@ use Rattle.mlt_trace.specs.declared.item.TraceItem.{TraceItem}
 use Rattle.mlt_trace.specs.declared.item.TraceItem.TheVariants.{Begin, Op, Back, Commit, Abort}
 use Rattle.mlt_script_serial.specs.declared.outcome.End.{End}
 use Rattle.mlt_trace_audit.specs.Ordered.{is_told, tx_of}
-use Rattle.mlt_trace_audit.specs.Receipts.{HasNothing, IsClosedBefore, IsClosedSo, closing_by, closings_of, ops_of}
-use Rattle.mlt_trace_audit.specs.Receipts.Closing.{ByAbort, ByCommit}
+use Rattle.mlt_trace_audit.specs.Outcomes.{HasNothing, IsClosedBefore, IsClosedSo, closing_by, closings_of, ops_of}
+use Rattle.mlt_trace_audit.specs.Outcomes.Closing.{ByAbort, ByCommit}
 use Rattle.mlt_trace_audit.proofs.Placed.{closings_abort, closings_commit, closings_of-append, closings_other, ops_of-append, ops_other, ops_own}
 
 abbrev pub Dones : Type 0

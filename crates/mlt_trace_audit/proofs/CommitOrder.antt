@@ -1,4 +1,4 @@
--- Commits of receipts that stand in order.
+-- Commits of outcomes that stand in order.
 use Rattle.std.proofs.Common.{◌≡◌, ℕ, ◌+◌, ◌-◌, ◌<◌, ◌≤◌, List, length, get_or, Some, slice_get, sym, ap, subst, ◌∙◌, inl, inr, arith}
 use Rattle.std.proofs.lemmas.Bool.{cases_lt, cases_order}
 use Rattle.std.proofs.lemmas.Option.{get_or_from_slice_get, slice_get-get_or, slice_get_within}
@@ -6,16 +6,16 @@ use Rattle.mlt_script_serial.specs.declared.outcome.End.TheVariants.{Committed}
 use Rattle.mlt_script_serial.specs.declared.outcome.Outcome.{Outcome}
 use Rattle.mlt_trace_audit.specs.Agreement.{CommitsRise}
 use Rattle.mlt_trace_audit.specs.Orders.{AreInOrder, IsCommitted, Precedes}
-use Rattle.mlt_trace_audit.specs.Receipts.{RisesTo}
+use Rattle.mlt_trace_audit.specs.Outcomes.{RisesTo}
 
 abbrev pub IsAt : List Outcome → ℕ → Outcome → Type 0
-IsAt receipts k o = slice_get receipts k ≡ Some o
+IsAt outcomes k o = slice_get outcomes k ≡ Some o
 
-pub at_read : (receipts : List Outcome) (k : ℕ) (o : Outcome) → k < length receipts → o ≡ get_or receipts k o → IsAt receipts k o
-at_read receipts k o within is = slice_get-get_or receipts k o within ∙ ap Some (sym is)
+pub at_read : (outcomes : List Outcome) (k : ℕ) (o : Outcome) → k < length outcomes → o ≡ get_or outcomes k o → IsAt outcomes k o
+at_read outcomes k o within is = slice_get-get_or outcomes k o within ∙ ap Some (sym is)
 
-pub one_at : (receipts : List Outcome) (k : ℕ) (one other : Outcome) → IsAt receipts k one → IsAt receipts k other → one ≡ other
-one_at receipts k one other h e = let f : Some one ≡ Some other = sym h ∙ e in cc f
+pub one_at : (outcomes : List Outcome) (k : ℕ) (one other : Outcome) → IsAt outcomes k one → IsAt outcomes k other → one ≡ other
+one_at outcomes k one other h e = let f : Some one ≡ Some other = sym h ∙ e in cc f
 
 -- ---- order
 
@@ -25,35 +25,35 @@ precedes_through one middle other (inl h) (inr k) = inl (omega (arith, h, k.0))
 precedes_through one middle other (inr h) (inl k) = inl (omega (arith, h.0, k))
 precedes_through one middle other (inr h) (inr k) = inr (h.0 ∙ k.0, omega (arith, h.1, k.1))
 
--- the receipts before a place stand in order
+-- the outcomes before a place stand in order
 abbrev pub InOrderBelow : List Outcome → ℕ → Type 0
-InOrderBelow receipts i = (j k : ℕ) (one other : Outcome) → IsAt receipts j one → IsAt receipts k other → j < k → k < i → Precedes one other
+InOrderBelow outcomes i = (j k : ℕ) (one other : Outcome) → IsAt outcomes j one → IsAt outcomes k other → j < k → k < i → Precedes one other
 
-pub in_order_more : (receipts : List Outcome) (i : ℕ) (before here : Outcome) → 1 ≤ i → IsAt receipts (i - 1) before → IsAt receipts i here → Precedes before here
-    → InOrderBelow receipts i → InOrderBelow receipts (i + 1)
-in_order_more receipts i before here some at_before at_here next order j k one other at_one at_other below within = elim (cases_lt k i) [
+pub in_order_more : (outcomes : List Outcome) (i : ℕ) (before here : Outcome) → 1 ≤ i → IsAt outcomes (i - 1) before → IsAt outcomes i here → Precedes before here
+    → InOrderBelow outcomes i → InOrderBelow outcomes (i + 1)
+in_order_more outcomes i before here some at_before at_here next order j k one other at_one at_other below within = elim (cases_lt k i) [
   | inl low ↦ order j k one other at_one at_other below low
   | inr high ↦
       let last : k ≡ i = omega (arith, high, within) in
-      let is_here : here ≡ other = one_at receipts i here other at_here (ap (slice_get receipts) (sym last) ∙ at_other) in
+      let is_here : here ≡ other = one_at outcomes i here other at_here (ap (slice_get outcomes) (sym last) ∙ at_other) in
       subst (λ o. Precedes one o) is_here (elim (cases_lt j (i - 1)) [
         | inl far ↦ precedes_through one before here (order j (i - 1) one before at_one at_before far (omega (arith, some))) next
         | inr near ↦
             let neighbour : j ≡ i - 1 = omega (arith, near, below, last) in
-            let is_before : before ≡ one = one_at receipts (i - 1) before one at_before (ap (slice_get receipts) (sym neighbour) ∙ at_one) in
+            let is_before : before ≡ one = one_at outcomes (i - 1) before one at_before (ap (slice_get outcomes) (sym neighbour) ∙ at_one) in
             subst (λ o. Precedes o here) is_before next
       ])
 ]
 
-pub in_order_all : (receipts : List Outcome) (i : ℕ) → length receipts ≤ i → InOrderBelow receipts i → AreInOrder receipts
-in_order_all receipts i past order j k one other at_one at_other below = order j k one other at_one at_other below (let w = slice_get_within receipts k other at_other in omega (arith, w, past))
+pub in_order_all : (outcomes : List Outcome) (i : ℕ) → length outcomes ≤ i → InOrderBelow outcomes i → AreInOrder outcomes
+in_order_all outcomes i past order j k one other at_one at_other below = order j k one other at_one at_other below (let w = slice_get_within outcomes k other at_other in omega (arith, w, past))
 
--- ---- commits of receipts in order
+-- ---- commits of outcomes in order
 
--- the receipts before a place rise, and of those of one client the last commit is the greatest
-pub record RiseBelow (receipts : List Outcome) (last i : ℕ) : Type 0 where
-  pub rising : (j k : ℕ) (one other : Outcome) → IsAt receipts j one → IsAt receipts k other → j < k → k < i → RisesTo one other
-  pub top : (j m : ℕ) (one final : Outcome) → IsAt receipts j one → IsAt receipts last final → j < i → one.end ≡ Committed m
+-- the outcomes before a place rise, and of those of one client the last commit is the greatest
+pub record RiseBelow (outcomes : List Outcome) (last i : ℕ) : Type 0 where
+  pub rising : (j k : ℕ) (one other : Outcome) → IsAt outcomes j one → IsAt outcomes k other → j < k → k < i → RisesTo one other
+  pub top : (j m : ℕ) (one final : Outcome) → IsAt outcomes j one → IsAt outcomes last final → j < i → one.end ≡ Committed m
       → (j ≤ last) × (last < i) × ((n : ℕ) × (final.end ≡ Committed n) × (one.client ≡ final.client → m ≤ n))
 
 clients_rise : (one other : Outcome) → Precedes one other → one.client ≤ other.client
@@ -67,17 +67,17 @@ scripts_rise one other same (inr h) = h.1
 one_number : (m n : ℕ) → Committed m ≡ Committed n → m ≡ n
 one_number m n e = cc e
 
-module _ (receipts : List Outcome) (order : AreInOrder receipts) (last i : ℕ) (final here : Outcome) (at_final : IsAt receipts last final) (at_here : IsAt receipts i here)
-    (rise : RiseBelow receipts last i) where
+module _ (outcomes : List Outcome) (order : AreInOrder outcomes) (last i : ℕ) (final here : Outcome) (at_final : IsAt outcomes last final) (at_here : IsAt outcomes i here)
+    (rise : RiseBelow outcomes last i) where
   -- an earlier commit of the client is below this one
-  below_here : (j m n : ℕ) (one : Outcome) → IsAt receipts j one → j < i → one.end ≡ Committed m → here.end ≡ Committed n → RisesTo final here → one.client ≡ here.client → m < n
+  below_here : (j m n : ℕ) (one : Outcome) → IsAt outcomes j one → j < i → one.end ≡ Committed m → here.end ≡ Committed n → RisesTo final here → one.client ≡ here.client → m < n
   below_here j m n one at_one below is_m is_n next same =
       let top = rise.top j m one final at_one at_final below is_m in
       let behind : one.client ≤ final.client = elim (cases_lt j last) [
         | inl before ↦ clients_rise one final (order j last one final at_one at_final before)
         | inr not_before ↦
             let same_place : j ≡ last = omega (arith, not_before, top.0) in
-            let is : one ≡ final = one_at receipts last one final (ap (slice_get receipts) (sym same_place) ∙ at_one) at_final in
+            let is : one ≡ final = one_at outcomes last one final (ap (slice_get outcomes) (sym same_place) ∙ at_one) at_final in
             let client : one.client ≡ final.client = ap (λ (o : Outcome). o.client) is in
             omega (arith, client)
       ] in
@@ -89,19 +89,19 @@ module _ (receipts : List Outcome) (order : AreInOrder receipts) (last i : ℕ) 
       omega (arith, at_most, above)
 
   module _ (m : ℕ) (is_m : here.end ≡ Committed m) (next : RisesTo final here) where
-    rising_more : (j k : ℕ) (one other : Outcome) → IsAt receipts j one → IsAt receipts k other → j < k → k < i + 1 → RisesTo one other
+    rising_more : (j k : ℕ) (one other : Outcome) → IsAt outcomes j one → IsAt outcomes k other → j < k → k < i + 1 → RisesTo one other
     rising_more j k one other at_one at_other below within = elim (cases_lt k i) [
       | inl low ↦ rise.rising j k one other at_one at_other below low
       | inr high ↦
           let place : k ≡ i = omega (arith, high, within) in
-          let is : here ≡ other = one_at receipts i here other at_here (ap (slice_get receipts) (sym place) ∙ at_other) in
+          let is : here ≡ other = one_at outcomes i here other at_here (ap (slice_get outcomes) (sym place) ∙ at_other) in
           subst (λ o. RisesTo one o) is (λ a b is_a is_b same smaller. below_here j a b one at_one (omega (arith, below, place)) is_a is_b next same)
     ]
 
-    top_more : (j a : ℕ) (one top : Outcome) → IsAt receipts j one → IsAt receipts i top → j < i + 1 → one.end ≡ Committed a
+    top_more : (j a : ℕ) (one top : Outcome) → IsAt outcomes j one → IsAt outcomes i top → j < i + 1 → one.end ≡ Committed a
         → (j ≤ i) × (i < i + 1) × ((n : ℕ) × (top.end ≡ Committed n) × (one.client ≡ top.client → a ≤ n))
     top_more j a one top at_one at_top within is_a =
-        let is : here ≡ top = one_at receipts i here top at_here at_top in
+        let is : here ≡ top = one_at outcomes i here top at_here at_top in
         let top_end : top.end ≡ Committed m = ap (λ (o : Outcome). o.end) (sym is) ∙ is_m in
         let top_client : here.client ≡ top.client = ap (λ (o : Outcome). o.client) is in (
           omega (arith, within),
@@ -113,47 +113,47 @@ module _ (receipts : List Outcome) (order : AreInOrder receipts) (last i : ℕ) 
               | inl low ↦ let less = below_here j a m one at_one low is_a is_m next (omega (arith, same, top_client)) in omega (arith, less)
               | inr high ↦
                   let place : j ≡ i = omega (arith, high, within) in
-                  let own : one ≡ here = one_at receipts i one here (ap (slice_get receipts) (sym place) ∙ at_one) at_here in
+                  let own : one ≡ here = one_at outcomes i one here (ap (slice_get outcomes) (sym place) ∙ at_one) at_here in
                   let equal : a ≡ m = one_number a m (sym is_a ∙ ap (λ (o : Outcome). o.end) own ∙ is_m) in
                   omega (arith, equal)
             ],
           ),
         )
 
-    pub rise_by_commit : RiseBelow receipts i (i + 1)
+    pub rise_by_commit : RiseBelow outcomes i (i + 1)
     rise_by_commit = record { rising = rising_more; top = top_more }
 
   module _ (other_end : IsCommitted here → ⊥) where
-    pub rise_by_other : RiseBelow receipts last (i + 1)
+    pub rise_by_other : RiseBelow outcomes last (i + 1)
     rise_by_other = record {
       rising = λ j k one other at_one at_other below within. elim (cases_lt k i) [
         | inl low ↦ rise.rising j k one other at_one at_other below low
         | inr high ↦
             let place : k ≡ i = omega (arith, high, within) in
-            let is : here ≡ other = one_at receipts i here other at_here (ap (slice_get receipts) (sym place) ∙ at_other) in
+            let is : here ≡ other = one_at outcomes i here other at_here (ap (slice_get outcomes) (sym place) ∙ at_other) in
             subst (λ o. RisesTo one o) is (λ a b is_a is_b same smaller. absurd (other_end (b, is_b)))
       ];
       top = λ j a one top at_one at_top within is_a. elim (cases_lt j i) [
         | inl low ↦ let t = rise.top j a one top at_one at_top low is_a in (t.0, omega (arith, t.1), t.2)
         | inr high ↦
             let place : j ≡ i = omega (arith, high, within) in
-            let own : one ≡ here = one_at receipts i one here (ap (slice_get receipts) (sym place) ∙ at_one) at_here in
+            let own : one ≡ here = one_at outcomes i one here (ap (slice_get outcomes) (sym place) ∙ at_one) at_here in
             absurd (other_end (a, ap (λ (o : Outcome). o.end) (sym own) ∙ is_a))
       ];
     }
 
-pub rise_none : (receipts : List Outcome) → RiseBelow receipts 0 0
-rise_none receipts = record { rising = λ j k one other at_one at_other below within. absurd (omega (arith, within)); top = λ j m one final at_one at_final below. absurd (omega (arith, below)) }
+pub rise_none : (outcomes : List Outcome) → RiseBelow outcomes 0 0
+rise_none outcomes = record { rising = λ j k one other at_one at_other below within. absurd (omega (arith, within)); top = λ j m one final at_one at_final below. absurd (omega (arith, below)) }
 
-pub rise_all : (receipts : List Outcome) (last i : ℕ) → AreInOrder receipts → length receipts ≤ i → RiseBelow receipts last i → CommitsRise receipts
-rise_all receipts last i order past rise j d within k e below =
-    let one = get_or receipts j d in
-    let other = get_or receipts k e in
-    let at_one : IsAt receipts j one = slice_get-get_or receipts j d within in
-    let at_other : IsAt receipts k other = slice_get-get_or receipts k e below in
+pub rise_all : (outcomes : List Outcome) (last i : ℕ) → AreInOrder outcomes → length outcomes ≤ i → RiseBelow outcomes last i → CommitsRise outcomes
+rise_all outcomes last i order past rise j d within k e below =
+    let one = get_or outcomes j d in
+    let other = get_or outcomes k e in
+    let at_one : IsAt outcomes j one = slice_get-get_or outcomes j d within in
+    let at_other : IsAt outcomes k other = slice_get-get_or outcomes k e below in
     elim (cases_order j k) [
       | inl same ↦ λ m n is_m is_n client smaller.
-          let is : one ≡ other = one_at receipts k one other (ap (slice_get receipts) (sym same) ∙ at_one) at_other in
+          let is : one ≡ other = one_at outcomes k one other (ap (slice_get outcomes) (sym same) ∙ at_one) at_other in
           let equal : one.number ≡ other.number = ap (λ (o : Outcome). o.number) is in
           absurd (omega (arith, smaller, equal))
       | inr apart ↦ elim apart [
@@ -164,9 +164,9 @@ rise_all receipts last i order past rise j d within k e below =
       ]
     ]
 
-pub pair_rises : (receipts : List Outcome) (j k : ℕ) (one other : Outcome) → IsAt receipts j one → IsAt receipts k other → CommitsRise receipts → RisesTo one other
-pair_rises receipts j k one other at_one at_other all =
-    let w = slice_get_within receipts j one at_one in
-    let v = slice_get_within receipts k other at_other in
-    subst (λ o. RisesTo o other) (get_or_from_slice_get receipts j one one at_one)
-    (subst (λ o. RisesTo (get_or receipts j one) o) (get_or_from_slice_get receipts k other other at_other) (all j one w k other v))
+pub pair_rises : (outcomes : List Outcome) (j k : ℕ) (one other : Outcome) → IsAt outcomes j one → IsAt outcomes k other → CommitsRise outcomes → RisesTo one other
+pair_rises outcomes j k one other at_one at_other all =
+    let w = slice_get_within outcomes j one at_one in
+    let v = slice_get_within outcomes k other at_other in
+    subst (λ o. RisesTo o other) (get_or_from_slice_get outcomes j one one at_one)
+    (subst (λ o. RisesTo (get_or outcomes j one) o) (get_or_from_slice_get outcomes k other other at_other) (all j one w k other v))

@@ -1,4 +1,4 @@
--- The committed list of a history, and the committed receipts.
+-- The committed list of a history, and the committed outcomes.
 use Rattle.std.proofs.Common.{◌≡◌, ◌≢◌, ◌⊎◌, ℕ, zero, suc, ◌+◌, ◌<◌, ◌≤◌, List, [], ◌∷◌, ◌++◌, length, cond, nat_eq, Contains, slice_index_or, refl, sym, ap, subst, ◌∙◌, inl, inr, append_assoc, arith}
 use Rattle.std.specs.Prelude.{◌==◌}
 use Rattle.std.proofs.lemmas.Bool.{cases_eq, eq-eqb, ne_eqb}
@@ -26,9 +26,9 @@ use Rattle.mlt_script_serial.specs.declared.outcome.End.{End}
 use Rattle.mlt_script_serial.specs.declared.outcome.End.TheVariants.{Committed, Aborted, Refused}
 use Rattle.mlt_script_serial.specs.declared.outcome.Outcome.{Outcome}
 use Rattle.mlt_trace_audit.specs.Agreement.{Agrees, count_of}
-use Rattle.mlt_trace_audit.specs.Committed.{AreCommittedOf, CommitFrom, IsBaseOfReceipts, transcripts_of}
-use Rattle.mlt_trace_audit.specs.Receipts.{Closing, IsClosedSo, IsOfHistory, IsWithoutTx, closing_by, closings_of, ops_of}
-use Rattle.mlt_trace_audit.specs.Receipts.Closing.{ByAbort, ByCommit}
+use Rattle.mlt_trace_audit.specs.Committed.{AreCommittedOf, CommitFrom, IsBaseOfOutcomes, transcripts_of}
+use Rattle.mlt_trace_audit.specs.Outcomes.{Closing, IsClosedSo, IsOfHistory, IsWithoutTx, closing_by, closings_of, ops_of}
+use Rattle.mlt_trace_audit.specs.Outcomes.Closing.{ByAbort, ByCommit}
 use Rattle.mlt_trace_audit.proofs.Placed.{behind_commit, begun_in, closings_abort, closings_commit, closings_of-append, closings_other, ops_of-append, ops_other, ops_own, stage_at}
 
 -- ---- one more item
@@ -104,7 +104,7 @@ module _ (items : List TraceItem) (tx : ℕ) (stands : Stands items tx) where
 stands_none : (tx : ℕ) → Stands [] tx
 stands_none tx = record { ended = λ e. absurd (let f : Fresh ≡ Ended = e in cc f); whole = λ whole going. refl }
 
--- ---- receipts by their numbers
+-- ---- outcomes by their numbers
 
 count_first : (tx : ℕ) (o : Outcome) (os : List Outcome) → count_of tx (o ∷ os) ≡ cond (nat_eq o.tx tx) 1 0 + count_of tx os
 count_first tx o os = sum_by-cons (λ (p : Outcome). cond (p.tx == tx) 1 0) o os
@@ -122,24 +122,24 @@ found_at o os p (suc k) within is = inr (k, omega arith, is)
 first_or_later : (o : Outcome) (os : List Outcome) (p : Outcome) → Contains (o ∷ os) p → (o ≡ p) ⊎ Contains os p
 first_or_later o os p h = found_at o os p h.0 h.1 h.2
 
--- a receipt that is there is counted
-counted_there : (receipts : List Outcome) (o : Outcome) → Contains receipts o → 1 ≤ count_of o.tx receipts
+-- an outcome that is there is counted
+counted_there : (outcomes : List Outcome) (o : Outcome) → Contains outcomes o → 1 ≤ count_of o.tx outcomes
 counted_there [] o h = absurd (contains-nothing o h)
 counted_there (x ∷ xs) o h = elim (first_or_later x xs o h) [
   | inl first ↦ let n = count_own o.tx x xs (ap (λ (p : Outcome). p.tx) first) in omega (arith, n)
   | inr later ↦ let n = count_first o.tx x xs in let rest = counted_there xs o later in omega (arith, n, rest)
 ]
 
-pub receipt_of : (tx : ℕ) (receipts : List Outcome) → count_of tx receipts ≡ 1 → (o : Outcome) × Contains receipts o × (o.tx ≡ tx)
-receipt_of tx [] one = absurd (omega (arith, one))
-receipt_of tx (x ∷ xs) one = elim (cases_eq x.tx tx) [
+pub outcome_behind : (tx : ℕ) (outcomes : List Outcome) → count_of tx outcomes ≡ 1 → (o : Outcome) × Contains outcomes o × (o.tx ≡ tx)
+outcome_behind tx [] one = absurd (omega (arith, one))
+outcome_behind tx (x ∷ xs) one = elim (cases_eq x.tx tx) [
   | inl own ↦ (x, contains-first x xs, own)
-  | inr apart ↦ let rest = receipt_of tx xs (sym (count_other tx x xs apart) ∙ one) in (rest.0, contains-later x rest.0 xs rest.1, rest.2)
+  | inr apart ↦ let rest = outcome_behind tx xs (sym (count_other tx x xs apart) ∙ one) in (rest.0, contains-later x rest.0 xs rest.1, rest.2)
 ]
 
-pub one_receipt : (receipts : List Outcome) (o p : Outcome) → o.tx ≡ p.tx → count_of o.tx receipts ≡ 1 → Contains receipts o → Contains receipts p → o ≡ p
-one_receipt [] o p same one h k = absurd (contains-nothing o h)
-one_receipt (x ∷ xs) o p same one h k = elim (first_or_later x xs o h) [
+pub one_outcome : (outcomes : List Outcome) (o p : Outcome) → o.tx ≡ p.tx → count_of o.tx outcomes ≡ 1 → Contains outcomes o → Contains outcomes p → o ≡ p
+one_outcome [] o p same one h k = absurd (contains-nothing o h)
+one_outcome (x ∷ xs) o p same one h k = elim (first_or_later x xs o h) [
   | inl first_o ↦ elim (first_or_later x xs p k) [
     | inl first_p ↦ sym first_o ∙ first_p
     | inr later_p ↦
@@ -155,11 +155,11 @@ one_receipt (x ∷ xs) o p same one h k = elim (first_or_later x xs o h) [
     | inr later_p ↦
         let n = count_first o.tx x xs in
         let rest = counted_there xs o later_o in
-        one_receipt xs o p same (omega (arith, n, rest, one)) later_o later_p
+        one_outcome xs o p same (omega (arith, n, rest, one)) later_o later_p
   ]
 ]
 
--- ---- the committed receipts, item by item
+-- ---- the committed outcomes, item by item
 
 commit_from_more : (os : List Outcome) (first next : ℕ) (o : Outcome) → next ≡ length os + first → CommitFrom first os → o.end ≡ Committed next → CommitFrom first (os ++ o ∷ [])
 commit_from_more [] first next o is counts e = (e ∙ ap (λ n. Committed n) (is ∙ omega arith), tt)
@@ -175,13 +175,13 @@ commit_end (Committed n) number e = let same : number ≡ n = cc e in ap (λ k. 
 commit_end Aborted number e = absurd (cc e)
 commit_end (Refused refusal) number e = absurd (cc e)
 
--- the committed receipts of what the history has so far
-record Gathers (receipts : List Outcome) (items : List TraceItem) (ordered : List Outcome) : Type 0 where
+-- the committed outcomes of what the history has so far
+record Gathers (outcomes : List Outcome) (items : List TraceItem) (ordered : List Outcome) : Type 0 where
   counted : CommitFrom 1 ordered
   as_many : length ordered ≡ commit_count items
   committed : transcripts_of ordered ≡ (told items).committed
-  among : (o : Outcome) → Contains ordered o → Contains receipts o
-  all : (o : Outcome) (number : ℕ) → Contains receipts o → o.tx ≢ 0 → closings_of o.tx items ≡ ByCommit number ∷ [] → Contains ordered o
+  among : (o : Outcome) → Contains ordered o → Contains outcomes o
+  all : (o : Outcome) (number : ℕ) → Contains outcomes o → o.tx ≢ 0 → closings_of o.tx items ≡ ByCommit number ∷ [] → Contains ordered o
 
 last_there : (os : List Outcome) (o : Outcome) → Contains (os ++ o ∷ []) o
 last_there os o = last_one os o
@@ -189,15 +189,15 @@ last_there os o = last_one os o
 last_or_before : (os : List Outcome) (o p : Outcome) → Contains (os ++ o ∷ []) p → Contains os p ⊎ (o ≡ p)
 last_or_before os o p h = earlier_or_last os o p h
 
-module _ (receipts : List Outcome) (whole : List TraceItem) (placed : ArePlaced whole) (order : AreBegunInOrder whole) (agrees : Agrees receipts whole) where
+module _ (outcomes : List Outcome) (whole : List TraceItem) (placed : ArePlaced whole) (order : AreBegunInOrder whole) (agrees : Agrees outcomes whole) where
   begun_of_all : (items later : List TraceItem) (tx : ℕ) → whole ≡ items ++ later → IsRunning items tx → Contains (begun_txs whole) tx
   begun_of_all items later tx e runs = begun_in items later whole tx e (runs_begun items tx runs)
 
-  module _ (items later : List TraceItem) (ordered : List Outcome) (gathers : Gathers receipts items ordered) (stands : (tx : ℕ) → Stands items tx) where
+  module _ (items later : List TraceItem) (ordered : List Outcome) (gathers : Gathers outcomes items ordered) (stands : (tx : ℕ) → Stands items tx) where
     -- an item that is no commit
     gathers_other : (item : TraceItem) → commit_numbers (item ∷ []) ≡ [] → (told (one_more items item)).committed ≡ (told items).committed
         → ((tx number : ℕ) → closings_of tx (one_more items item) ≡ ByCommit number ∷ [] → closings_of tx items ≡ ByCommit number ∷ [])
-        → Gathers receipts (one_more items item) ordered
+        → Gathers outcomes (one_more items item) ordered
     gathers_other item none same closings = record {
       counted = gathers.counted;
       as_many = gathers.as_many ∙ sym (ap length (no_commit items item none));
@@ -216,39 +216,39 @@ module _ (receipts : List Outcome) (whole : List TraceItem) (placed : ArePlaced 
       some : tx ≢ 0
       some = (agrees.of_history.0.once tx begun).0
 
-      receipt : (o : Outcome) × Contains receipts o × (o.tx ≡ tx)
-      receipt = receipt_of tx receipts ((agrees.of_history.0.once tx begun).1)
+      outcome : (o : Outcome) × Contains outcomes o × (o.tx ≡ tx)
+      outcome = outcome_behind tx outcomes ((agrees.of_history.0.once tx begun).1)
 
-      story : IsClosedSo tx receipt.0.done receipt.0.end whole
+      story : IsClosedSo tx outcome.0.done outcome.0.end whole
       story =
-          let there : receipt.0.tx ≢ 0 = λ e. some (sym receipt.2 ∙ e) in
-          subst (λ n. IsClosedSo n receipt.0.done receipt.0.end whole) receipt.2 (All-contains (IsOfHistory whole) receipts receipt.0 agrees.of_history.1 receipt.1 there)
+          let there : outcome.0.tx ≢ 0 = λ e. some (sym outcome.2 ∙ e) in
+          subst (λ n. IsClosedSo n outcome.0.done outcome.0.end whole) outcome.2 (All-contains (IsOfHistory whole) outcomes outcome.0 agrees.of_history.1 outcome.1 there)
 
-      ends : receipt.0.end ≡ Committed number
+      ends : outcome.0.end ≡ Committed number
       ends =
-          let parts : closings_of tx items ++ ByCommit number ∷ closings_of tx later ≡ closing_by receipt.0.end ∷ [] =
+          let parts : closings_of tx items ++ ByCommit number ∷ closings_of tx later ≡ closing_by outcome.0.end ∷ [] =
           ap (λ l. closings_of tx items ++ l) (sym (closings_commit tx number later)) ∙ sym (closings_of-append tx items (Commit tx number ∷ later)) ∙ ap (closings_of tx) (sym cut) ∙ story.closed in
-          commit_end receipt.0.end number (only_closing (closings_of tx items) (closings_of tx later) (ByCommit number) (closing_by receipt.0.end) parts)
+          commit_end outcome.0.end number (only_closing (closings_of tx items) (closings_of tx later) (ByCommit number) (closing_by outcome.0.end) parts)
 
-      stood : (told items).transcripts tx ≡ receipt.0.done
+      stood : (told items).transcripts tx ≡ outcome.0.done
       stood =
           let none = behind_commit items later whole placed tx number cut in
           let all : ops_of tx whole ≡ ops_of tx items =
           ap (ops_of tx) cut ∙ ops_of-append tx items (Commit tx number ∷ later) ∙ ap (λ l. ops_of tx items ++ l) none.ops ∙ append_nil (ops_of tx items) in
           (stands tx).whole place.1 (λ e. not_both ((told items).stage tx) Running Ended place.0 e (λ f. cc f)) ∙ sym all ∙ story.ops
 
-      gathers_commit : Gathers receipts (one_more items (Commit tx number)) (ordered ++ receipt.0 ∷ [])
+      gathers_commit : Gathers outcomes (one_more items (Commit tx number)) (ordered ++ outcome.0 ∷ [])
       gathers_commit = record {
-        counted = commit_from_more ordered 1 number receipt.0 (let n = place.2 in let m = gathers.as_many in omega (arith, n, m)) gathers.counted ends;
-        as_many = length-append ordered (receipt.0 ∷ []) ∙ ap (λ n. n + 1) gathers.as_many ∙ sym (commits_counted items tx number);
-        committed = map-append (λ (o : Outcome). o.done) ordered (receipt.0 ∷ []) ∙ ap (λ l. l ++ receipt.0.done ∷ []) gathers.committed
+        counted = commit_from_more ordered 1 number outcome.0 (let n = place.2 in let m = gathers.as_many in omega (arith, n, m)) gathers.counted ends;
+        as_many = length-append ordered (outcome.0 ∷ []) ∙ ap (λ n. n + 1) gathers.as_many ∙ sym (commits_counted items tx number);
+        committed = map-append (λ (o : Outcome). o.done) ordered (outcome.0 ∷ []) ∙ ap (λ l. l ++ outcome.0.done ∷ []) gathers.committed
             ∙ ap (λ t. (told items).committed ++ t ∷ []) (sym stood) ∙ sym (ap (λ (l : Lists (ObjOp × ObjReply)). l.committed) (told-push items (Commit tx number)));
-        among = λ o there. elim (last_or_before ordered receipt.0 o there) [ inl before ↦ gathers.among o before | inr last ↦ subst (λ p. Contains receipts p) last receipt.1 ];
+        among = λ o there. elim (last_or_before ordered outcome.0 o there) [ inl before ↦ gathers.among o before | inr last ↦ subst (λ p. Contains outcomes p) last outcome.1 ];
         all = λ o n there other closed. elim (cases_eq o.tx tx) [
           | inl own ↦
-              let is : receipt.0 ≡ o = one_receipt receipts receipt.0 o (receipt.2 ∙ sym own) (ap (λ t. count_of t receipts) receipt.2 ∙ (agrees.of_history.0.once tx begun).1) receipt.1 there in
-              subst (λ p. Contains (ordered ++ receipt.0 ∷ []) p) is (last_there ordered receipt.0)
-          | inr apart ↦ Contains-append_left ordered (receipt.0 ∷ []) o
+              let is : outcome.0 ≡ o = one_outcome outcomes outcome.0 o (outcome.2 ∙ sym own) (ap (λ t. count_of t outcomes) outcome.2 ∙ (agrees.of_history.0.once tx begun).1) outcome.1 there in
+              subst (λ p. Contains (ordered ++ outcome.0 ∷ []) p) is (last_there ordered outcome.0)
+          | inr apart ↦ Contains-append_left ordered (outcome.0 ∷ []) o
               (gathers.all o n there other (sym (closings_past o.tx items (Commit tx number) (closings_other o.tx (Commit tx number) [] apart)) ∙ closed))
         ];
       }
@@ -263,28 +263,28 @@ module _ (receipts : List Outcome) (whole : List TraceItem) (placed : ArePlaced 
       | inr apart ↦ sym (closings_past tx items (Abort i) (closings_other tx (Abort i) [] apart)) ∙ closed
     ]
 
-    gathers_item : (item : TraceItem) → whole ≡ items ++ item ∷ later → (more : List Outcome) × Gathers receipts (one_more items item) more
+    gathers_item : (item : TraceItem) → whole ≡ items ++ item ∷ later → (more : List Outcome) × Gathers outcomes (one_more items item) more
     gathers_item (Begin i) cut =
         (ordered, gathers_other (Begin i) refl (ap (λ (l : Lists (ObjOp × ObjReply)). l.committed) (told-push items (Begin i))) (λ tx number closed. sym (closings_past tx items (Begin i) refl) ∙ closed))
     gathers_item (Op i done) cut =
         (ordered, gathers_other (Op i done) refl (ap (λ (l : Lists (ObjOp × ObjReply)). l.committed) (told-push items (Op i done))) (λ tx number closed. sym (closings_past tx items (Op i done) refl) ∙ closed))
     gathers_item (Back i) cut =
         (ordered, gathers_other (Back i) refl (ap (λ (l : Lists (ObjOp × ObjReply)). l.committed) (told-push items (Back i))) (λ tx number closed. sym (closings_past tx items (Back i) refl) ∙ closed))
-    gathers_item (Commit i number) cut = (ordered ++ (receipt i number cut).0 ∷ [], gathers_commit i number cut)
+    gathers_item (Commit i number) cut = (ordered ++ (outcome i number cut).0 ∷ [], gathers_commit i number cut)
     gathers_item (Abort i) cut =
         (ordered, gathers_other (Abort i) refl (ap (λ (l : Lists (ObjOp × ObjReply)). l.committed) (told-push items (Abort i))) (λ tx number closed. no_abort tx i number closed))
 
-  gathers_from : (later items : List TraceItem) (ordered : List Outcome) → whole ≡ items ++ later → Gathers receipts items ordered → ((tx : ℕ) → Stands items tx)
-      → (more : List Outcome) × Gathers receipts whole more
+  gathers_from : (later items : List TraceItem) (ordered : List Outcome) → whole ≡ items ++ later → Gathers outcomes items ordered → ((tx : ℕ) → Stands items tx)
+      → (more : List Outcome) × Gathers outcomes whole more
   gathers_from [] items ordered e gathers stands =
       let same : whole ≡ items = e ∙ append_nil items in
-      (ordered, subst (λ is. Gathers receipts is ordered) (sym same) gathers)
+      (ordered, subst (λ is. Gathers outcomes is ordered) (sym same) gathers)
   gathers_from (item ∷ later) items ordered e gathers stands =
       let next = gathers_item items later ordered gathers stands item e in
       gathers_from later (one_more items item) next.0 (e ∙ sym (append_assoc items (item ∷ []) later)) next.1
       (λ tx. stands_more items tx (stands tx) item (placed items later item e))
 
-  gathered : (more : List Outcome) × Gathers receipts whole more
+  gathered : (more : List Outcome) × Gathers outcomes whole more
   gathered = gathers_from whole [] [] refl
       (record {
         counted = tt;
@@ -295,20 +295,20 @@ module _ (receipts : List Outcome) (whole : List TraceItem) (placed : ArePlaced 
       })
       stands_none
 
-  committed_has_tx : (o : Outcome) (number : ℕ) → Contains receipts o → o.end ≡ Committed number → o.tx ≢ 0
+  committed_has_tx : (o : Outcome) (number : ℕ) → Contains outcomes o → o.end ≡ Committed number → o.tx ≢ 0
   committed_has_tx o number there is none =
-      let without = All-contains IsWithoutTx receipts o agrees.without_tx there none in
+      let without = All-contains IsWithoutTx outcomes o agrees.without_tx there none in
       let both : Refused without.refused.0 ≡ Committed number = sym without.refused.1 ∙ is in
       cc both
 
-  pub committed_receipts : (ordered : List Outcome) × AreCommittedOf receipts ordered × (transcripts_of ordered ≡ (told whole).committed)
-  committed_receipts =
+  pub committed_outcomes : (ordered : List Outcome) × AreCommittedOf outcomes ordered × (transcripts_of ordered ≡ (told whole).committed)
+  committed_outcomes =
       let all = gathered in (
         all.0,
         record {
           all = λ o there committed.
               let some = committed_has_tx o committed.0 there committed.1 in
-              let told_so = All-contains (IsOfHistory whole) receipts o agrees.of_history.1 there some in
+              let told_so = All-contains (IsOfHistory whole) outcomes o agrees.of_history.1 there some in
               all.1.all o committed.0 there some (told_so.closed ∙ ap (λ end. closing_by end ∷ []) committed.1);
           no_others = all.1.among;
           counted = all.1.counted;
@@ -316,7 +316,7 @@ module _ (receipts : List Outcome) (whole : List TraceItem) (placed : ArePlaced 
         all.1.committed,
       )
 
-  pub base_of_receipts : (base : Base) → IsSerialBase Step empty_base (told whole).committed base → IsBaseOfReceipts receipts base
-  base_of_receipts base serial =
-      let all = committed_receipts in
+  pub base_of_outcomes : (base : Base) → IsSerialBase Step empty_base (told whole).committed base → IsBaseOfOutcomes outcomes base
+  base_of_outcomes base serial =
+      let all = committed_outcomes in
       (all.0, all.1, subst (λ l. IsSerialBase Step empty_base l base) (sym all.2) serial)

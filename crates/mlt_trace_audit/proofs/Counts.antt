@@ -1,4 +1,4 @@
--- Numbers of receipts, where transactions begin in order.
+-- Numbers of outcomes, where transactions begin in order.
 use Rattle.std.proofs.Common.{◌≡◌, ◌⊎◌, ℕ, zero, suc, ◌+◌, ◌<◌, ◌≤◌, List, [], ◌∷◌, length, All, Contains, slice_index_or, subst, ◌∙◌, inl, inr, arith}
 use Rattle.std.proofs.lemmas.Bool.{cases_eq}
 use Rattle.std.proofs.lemmas.List.Elements.{All-weaker}
@@ -35,21 +35,21 @@ module _ (items : List TraceItem) (order : AreBegunInOrder items) where
   pub is_begun : (tx : ℕ) → 0 < tx → tx ≤ begin_count items → Contains (begun_txs items) tx
   is_begun tx low high = among (begun_txs items) 1 tx order (omega (arith, low)) (omega (arith, high))
 
-  module _ (receipts : List Outcome) (last : ℕ) (counted : last ≡ begin_count items) where
+  module _ (outcomes : List Outcome) (last : ℕ) (counted : last ≡ begin_count items) where
     most_of : (o : Outcome) → IsOfBegunTx items o → o.tx ≤ last
     most_of o begun = elim (cases_eq o.tx 0) [
       | inl none ↦ omega (arith, none)
       | inr some ↦ let b = is_between o.tx (begun some) in omega (arith, b.1, counted)
     ]
 
-    pub numbers_at_most : NumbersAgree receipts items → All (λ o. o.tx ≤ last) receipts
-    numbers_at_most numbers = All-weaker (IsOfBegunTx items) (λ o. o.tx ≤ last) most_of receipts numbers.begun
+    pub numbers_at_most : NumbersAgree outcomes items → All (λ o. o.tx ≤ last) outcomes
+    numbers_at_most numbers = All-weaker (IsOfBegunTx items) (λ o. o.tx ≤ last) most_of outcomes numbers.begun
 
-    pub numbers_once : NumbersAgree receipts items → (tx : ℕ) → 0 < tx → tx ≤ last → count_of tx receipts ≡ 1
+    pub numbers_once : NumbersAgree outcomes items → (tx : ℕ) → 0 < tx → tx ≤ last → count_of tx outcomes ≡ 1
     numbers_once numbers tx low high = (numbers.once tx (is_begun tx low (omega (arith, high, counted)))).1
 
-    pub numbers_agree : All (λ o. o.tx ≤ last) receipts → ((tx : ℕ) → 0 < tx → tx ≤ last → count_of tx receipts ≡ 1) → NumbersAgree receipts items
+    pub numbers_agree : All (λ o. o.tx ≤ last) outcomes → ((tx : ℕ) → 0 < tx → tx ≤ last → count_of tx outcomes ≡ 1) → NumbersAgree outcomes items
     numbers_agree most once = record {
       once = λ tx h. let b = is_between tx h in (λ none. absurd (let low = b.0 in omega (arith, low, none)), once tx b.0 (omega (arith, b.1, counted)));
-      begun = All-weaker (λ o. o.tx ≤ last) (IsOfBegunTx items) (λ o low some. is_begun o.tx (omega (arith, some)) (omega (arith, low, counted))) receipts most;
+      begun = All-weaker (λ o. o.tx ≤ last) (IsOfBegunTx items) (λ o low some. is_begun o.tx (omega (arith, some)) (omega (arith, low, counted))) outcomes most;
     }

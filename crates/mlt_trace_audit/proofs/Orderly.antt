@@ -8,7 +8,7 @@ use Rattle.mlt_trace.specs.declared.item.TraceItem.TheVariants.{Begin, Op, Back,
 use Rattle.mlt_trace.specs.Numbers.{AreBegunInOrder, CountsFrom, begin_count, begun_txs}
 use Rattle.mlt_trace.proofs.ItemLaws.{begin_keeps_order, begins_counted, begun_txs-append, no_begin}
 use Rattle.mlt_trace_audit.specs.Ordered.{AreOrdered, StandsBehind, is_told, tx_of}
-use Rattle.mlt_trace_audit.specs.Receipts.{HasNothing}
+use Rattle.mlt_trace_audit.specs.Outcomes.{HasNothing}
 use Rattle.mlt_trace_audit.proofs.Apart.{IsApart, nothing_none, nothing_push}
 
 -- the items before a place are in order
@@ -39,7 +39,7 @@ counts_item front (Back tx) follows order = subst (CountsFrom 1) (sym (no_begin 
 counts_item front (Commit tx number) follows order = subst (CountsFrom 1) (sym (no_begin front (Commit tx number) refl)) order
 counts_item front (Abort tx) follows order = subst (CountsFrom 1) (sym (no_begin front (Abort tx) refl)) order
 
--- an item of which receipts tell is of a transaction that was begun
+-- an item of which outcomes tell is of a transaction that was begun
 pub told_of_begun : (begun : ℕ) (item : TraceItem) → StandsBehind begun item → is_told item ≡ true → (0 < tx_of item) × (tx_of item ≤ begun)
 told_of_begun begun (Begin tx) follows told = absurd (cc told)
 told_of_begun begun (Op tx done) follows told = follows

@@ -19,8 +19,8 @@ use Rattle.mlt_trace.proofs.ItemLaws.{begun_txs-append, entries_of-append}
 use Rattle.mlt_trace_check.specs.Traces.{ArePlaced, HasPlace, IsRunning, told}
 use Rattle.mlt_trace_check.proofs.Growing.{begun_stays, number_in, stage-other, told-push}
 use Rattle.mlt_trace_check.proofs.Lasting.{runs_begun}
-use Rattle.mlt_trace_audit.specs.Receipts.{HasNothing, closings_of, ops_of}
-use Rattle.mlt_trace_audit.specs.Receipts.Closing.{ByAbort, ByCommit}
+use Rattle.mlt_trace_audit.specs.Outcomes.{HasNothing, closings_of, ops_of}
+use Rattle.mlt_trace_audit.specs.Outcomes.Closing.{ByAbort, ByCommit}
 
 -- ---- one item in front
 

@@ -1,4 +1,4 @@
--- How many operations and closes of a history each receipt has to tell.
+-- How many operations and closes of a history each outcome has to tell.
 use Rattle.std.proofs.Common.{◌≡◌, ◌≢◌, ℕ, zero, suc, ◌+◌, ◌<◌, ◌≤◌, List, [], ◌∷◌, ◌++◌, Bool, true, false, cond, length, get_or, take, drop, All, Contains, refl, sym, ap, subst, ◌∙◌, inl, inr, arith}
 use Rattle.std.specs.Prelude.{◌==◌, sum_by}
 use Rattle.std.proofs.lemmas.Bool.{cases_eq, eq-eqb, ne_eqb}
@@ -12,7 +12,7 @@ use Rattle.mlt_trace.specs.Numbers.{begin_count}
 use Rattle.mlt_script_serial.specs.declared.outcome.Outcome.{Outcome}
 use Rattle.mlt_trace_audit.specs.Agreement.{NumbersAgree, count_of}
 use Rattle.mlt_trace_audit.specs.Ordered.{AreOrdered, is_told, told_count, tx_of}
-use Rattle.mlt_trace_audit.specs.Receipts.{HasNothing, IsClosedBefore, IsOfHistory, closings_of, ops_of}
+use Rattle.mlt_trace_audit.specs.Outcomes.{HasNothing, IsClosedBefore, IsOfHistory, closings_of, ops_of}
 use Rattle.mlt_trace_audit.proofs.Apart.{closed_whole, same_past}
 use Rattle.mlt_trace_audit.proofs.Counts.{is_begun}
 use Rattle.mlt_trace_audit.proofs.Orderly.{begun_in_order_to, front_more, item_at, nothing_of_zero, told_of_begun}
@@ -70,20 +70,20 @@ parts_equal f g (o ∷ os) below same =
 
 -- ---- shares
 
--- how many operations and closes the items have of the receipt's transaction
+-- how many operations and closes the items have of the outcome's transaction
 abbrev pub share : List TraceItem → Outcome → ℕ
 share items o = length (ops_of o.tx items) + length (closings_of o.tx items)
 
--- how many the receipt tells
+-- how many the outcome tells
 abbrev pub size : Outcome → ℕ
 size o = cond (o.tx == 0) 0 (length o.done + 1)
 
-pub size_more : (receipts : List Outcome) (i : ℕ) (o : Outcome) → i < length receipts → o ≡ get_or receipts i o
-    → sum_by size (take (i + 1) receipts) ≡ sum_by size (take i receipts) + size o
-size_more receipts i o within is =
-    ap (sum_by size) (take_more receipts i o within ∙ ap (λ x. take i receipts ++ x ∷ []) (sym is)) ∙ sum_by_push size (take i receipts) o
+pub size_more : (outcomes : List Outcome) (i : ℕ) (o : Outcome) → i < length outcomes → o ≡ get_or outcomes i o
+    → sum_by size (take (i + 1) outcomes) ≡ sum_by size (take i outcomes) + size o
+size_more outcomes i o within is =
+    ap (sum_by size) (take_more outcomes i o within ∙ ap (λ x. take i outcomes ++ x ∷ []) (sym is)) ∙ sum_by_push size (take i outcomes) o
 
--- the items have what the receipt tells, and then what they may
+-- the items have what the outcome tells, and then what they may
 abbrev pub IsStarted : List TraceItem → Outcome → Type 0
 IsStarted items o = o.tx ≢ 0 → (rest : List TraceItem) × IsClosedBefore rest o.tx o.done o.end items
 
@@ -119,38 +119,38 @@ share_untold (Op i done) o untold = absurd (cc untold)
 share_untold (Commit i number) o untold = absurd (cc untold)
 share_untold (Abort i) o untold = absurd (cc untold)
 
-shares_push : (receipts : List Outcome) (front : List TraceItem) (item : TraceItem)
-    → sum_by (share (front ++ item ∷ [])) receipts ≡ sum_by (share front) receipts + sum_by (share (item ∷ [])) receipts
-shares_push receipts front item = sum_same (share (front ++ item ∷ [])) (λ o. share front o + share (item ∷ []) o) receipts (share_push front item) ∙ sum_plus (share front) (share (item ∷ [])) receipts
+shares_push : (outcomes : List Outcome) (front : List TraceItem) (item : TraceItem)
+    → sum_by (share (front ++ item ∷ [])) outcomes ≡ sum_by (share front) outcomes + sum_by (share (item ∷ [])) outcomes
+shares_push outcomes front item = sum_same (share (front ++ item ∷ [])) (λ o. share front o + share (item ∷ []) o) outcomes (share_push front item) ∙ sum_plus (share front) (share (item ∷ [])) outcomes
 
--- the item counts once, where one receipt has its number
-one_share : (receipts : List Outcome) (item : TraceItem) → (told : Bool) → is_told item ≡ told → (told ≡ true → count_of (tx_of item) receipts ≡ 1)
-    → sum_by (share (item ∷ [])) receipts ≡ cond (is_told item) 1 0
-one_share receipts item true told once =
-    sum_same (share (item ∷ [])) (λ o. cond (o.tx == tx_of item) 1 0) receipts (λ o. share_told item o told) ∙ once refl ∙ ap (λ b. cond b 1 0) (sym told)
-one_share receipts item false told once =
-    sum_same (share (item ∷ [])) (λ o. 0) receipts (λ o. share_untold item o told) ∙ sum_none receipts ∙ ap (λ b. cond b 1 0) (sym told)
+-- the item counts once, where one outcome has its number
+one_share : (outcomes : List Outcome) (item : TraceItem) → (told : Bool) → is_told item ≡ told → (told ≡ true → count_of (tx_of item) outcomes ≡ 1)
+    → sum_by (share (item ∷ [])) outcomes ≡ cond (is_told item) 1 0
+one_share outcomes item true told once =
+    sum_same (share (item ∷ [])) (λ o. cond (o.tx == tx_of item) 1 0) outcomes (λ o. share_told item o told) ∙ once refl ∙ ap (λ b. cond b 1 0) (sym told)
+one_share outcomes item false told once =
+    sum_same (share (item ∷ [])) (λ o. 0) outcomes (λ o. share_untold item o told) ∙ sum_none outcomes ∙ ap (λ b. cond b 1 0) (sym told)
 
-module _ (receipts : List Outcome) (items : List TraceItem) (ordered : AreOrdered items) (numbers : NumbersAgree receipts items) where
-  once_at : (k : ℕ) (item : TraceItem) → k ≤ length items → (0 < tx_of item) × (tx_of item ≤ begin_count (take k items)) → count_of (tx_of item) receipts ≡ 1
+module _ (outcomes : List Outcome) (items : List TraceItem) (ordered : AreOrdered items) (numbers : NumbersAgree outcomes items) where
+  once_at : (k : ℕ) (item : TraceItem) → k ≤ length items → (0 < tx_of item) × (tx_of item ≤ begin_count (take k items)) → count_of (tx_of item) outcomes ≡ 1
   once_at k item within begun =
       let there = is_begun (take k items) (begun_in_order_to items ordered k within) (tx_of item) begun.0 begun.1 in
       (numbers.once (tx_of item) (begun_in (take k items) (drop k items) items (tx_of item) (sym (take-append-drop k items)) there)).1
 
-  counted_to : (k : ℕ) → k ≤ length items → told_count (take k items) ≡ sum_by (share (take k items)) receipts
-  counted_to zero within = sym (sum_none receipts)
+  counted_to : (k : ℕ) → k ≤ length items → told_count (take k items) ≡ sum_by (share (take k items)) outcomes
+  counted_to zero within = sym (sum_none outcomes)
   counted_to (suc k) within =
       let at = item_at items k (omega (arith, within)) in
       let more = front_more items k at.0 at.1 in
       let before = counted_to k (omega (arith, within)) in
       let told = ap told_count more ∙ sum_by_push (λ x. cond (is_told x) 1 0) (take k items) at.0 in
-      let shares = ap (λ is. sum_by (share is) receipts) more ∙ shares_push receipts (take k items) at.0 in
-      let one = one_share receipts at.0 (is_told at.0) refl (λ yes. once_at k at.0 (omega (arith, within)) (told_of_begun (begin_count (take k items)) at.0 (ordered k at.0 at.1) yes)) in
+      let shares = ap (λ is. sum_by (share is) outcomes) more ∙ shares_push outcomes (take k items) at.0 in
+      let one = one_share outcomes at.0 (is_told at.0) refl (λ yes. once_at k at.0 (omega (arith, within)) (told_of_begun (begin_count (take k items)) at.0 (ordered k at.0 at.1) yes)) in
       omega (arith, before, told, shares, one)
 
-  -- each operation and close of the history is in the share of one receipt
-  pub shares_counted : told_count items ≡ sum_by (share items) receipts
-  shares_counted = subst (λ is. told_count is ≡ sum_by (share is) receipts) (take_all (length items) items (omega arith)) (counted_to (length items) (omega arith))
+  -- each operation and close of the history is in the share of one outcome
+  pub shares_counted : told_count items ≡ sum_by (share items) outcomes
+  shares_counted = subst (λ is. told_count is ≡ sum_by (share is) outcomes) (take_all (length items) items (omega arith)) (counted_to (length items) (omega arith))
 
   pub size_none : (o : Outcome) → o.tx ≡ 0 → size o ≡ 0
   size_none o none = ap (λ b. cond b 0 (length o.done + 1)) (eq-eqb o.tx 0 none)
@@ -177,13 +177,13 @@ module _ (receipts : List Outcome) (items : List TraceItem) (ordered : AreOrdere
         omega (arith, n, ops, closed)
   ]
 
-  -- what receipts tell that tell all is all that is counted
-  pub sizes_counted : All (IsOfHistory items) receipts → sum_by size receipts ≡ told_count items
+  -- what outcomes tell that tell all is all that is counted
+  pub sizes_counted : All (IsOfHistory items) outcomes → sum_by size outcomes ≡ told_count items
   sizes_counted told =
-      let at_most : (o : Outcome) → Contains receipts o → size o ≤ share items o = λ o h. let e = share_whole o (All-contains (IsOfHistory items) receipts o told h) in omega (arith, e) in
-      let at_least : (o : Outcome) → Contains receipts o → share items o ≤ size o = λ o h. let e = share_whole o (All-contains (IsOfHistory items) receipts o told h) in omega (arith, e) in
-      let one = sum_at_most size (share items) receipts at_most in
-      let other = sum_at_most (share items) size receipts at_least in
+      let at_most : (o : Outcome) → Contains outcomes o → size o ≤ share items o = λ o h. let e = share_whole o (All-contains (IsOfHistory items) outcomes o told h) in omega (arith, e) in
+      let at_least : (o : Outcome) → Contains outcomes o → share items o ≤ size o = λ o h. let e = share_whole o (All-contains (IsOfHistory items) outcomes o told h) in omega (arith, e) in
+      let one = sum_at_most size (share items) outcomes at_most in
+      let other = sum_at_most (share items) size outcomes at_least in
       let all = shares_counted in
       omega (arith, one, other, all)
 
@@ -216,9 +216,9 @@ module _ (receipts : List Outcome) (items : List TraceItem) (ordered : AreOrdere
       let closed : length (closings_of o.tx h.0) ≡ 0 = omega (arith, n, s, same) in
       closed_whole o.tx o.done o.end items h.0 h.1 (record { ops = no_items (ops_of o.tx h.0) ops; closed = no_items (closings_of o.tx h.0) closed })
 
-  -- receipts that tell as much as is counted tell all
-  pub all_told : All (IsStarted items) receipts → sum_by size receipts ≡ told_count items → All (IsOfHistory items) receipts
+  -- outcomes that tell as much as is counted tell all
+  pub all_told : All (IsStarted items) outcomes → sum_by size outcomes ≡ told_count items → All (IsOfHistory items) outcomes
   all_told started counted =
-      let below : (o : Outcome) → Contains receipts o → size o ≤ share items o = λ o h. started_at_most o (All-contains (IsStarted items) receipts o started h) in
-      let equal = parts_equal size (share items) receipts below (counted ∙ shares_counted) in
-      λ k d within. whole_of_started (get_or receipts k d) (started k d within) (equal k d within)
+      let below : (o : Outcome) → Contains outcomes o → size o ≤ share items o = λ o h. started_at_most o (All-contains (IsStarted items) outcomes o started h) in
+      let equal = parts_equal size (share items) outcomes below (counted ∙ shares_counted) in
+      λ k d within. whole_of_started (get_or outcomes k d) (started k d within) (equal k d within)

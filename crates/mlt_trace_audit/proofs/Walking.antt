@@ -6,8 +6,8 @@ use Rattle.mlt_object_kinds.specs.declared.operation.ObjReply.{ObjReply}
 use Rattle.mlt_trace.specs.declared.item.TraceItem.{TraceItem}
 use Rattle.mlt_trace.specs.declared.item.TraceItem.TheVariants.{Op, Commit, Abort}
 use Rattle.mlt_script_serial.specs.declared.outcome.End.{End}
-use Rattle.mlt_trace_audit.specs.Receipts.{Closing, IsClosedBefore, IsClosedSo, closing_by, closings_of, ops_of}
-use Rattle.mlt_trace_audit.specs.Receipts.Closing.{ByAbort, ByCommit}
+use Rattle.mlt_trace_audit.specs.Outcomes.{Closing, IsClosedBefore, IsClosedSo, closing_by, closings_of, ops_of}
+use Rattle.mlt_trace_audit.specs.Outcomes.Closing.{ByAbort, ByCommit}
 use Rattle.mlt_trace_audit.proofs.Apart.{Dones, IsApart, same_past}
 use Rattle.mlt_trace_audit.proofs.Placed.{closings_abort, closings_commit, ops_own}
 

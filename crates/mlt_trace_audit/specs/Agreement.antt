@@ -1,39 +1,39 @@
--- Receipts that agree with a history.
+-- Outcomes that agree with a history.
 use Rattle.std.specs.Prelude.{◌≡◌, ◌≢◌, ℕ, List, ◌==◌, All, Contains, count_by}
 use Rattle.mlt_trace.specs.declared.item.TraceItem.{TraceItem}
 use Rattle.mlt_trace.specs.Numbers.{begun_txs}
 use Rattle.mlt_script_serial.specs.declared.outcome.Outcome.{Outcome}
-use Rattle.mlt_trace_audit.specs.Receipts.{IsOfHistory, IsWithoutTx, RisesTo}
+use Rattle.mlt_trace_audit.specs.Outcomes.{IsOfHistory, IsWithoutTx, RisesTo}
 
--- how many of the receipts have this number
+-- how many of the outcomes have this number
 abbrev pub count_of : ℕ → List Outcome → ℕ
-count_of tx receipts = count_by (λ o. o.tx == tx) receipts
+count_of tx outcomes = count_by (λ o. o.tx == tx) outcomes
 
--- the number is not 0, and stands in one of the receipts
+-- the number is not 0, and stands in one of the outcomes
 abbrev pub IsOnce : List Outcome → ℕ → Type 0
-IsOnce receipts tx = (tx ≢ 0) × (count_of tx receipts ≡ 1)
+IsOnce outcomes tx = (tx ≢ 0) × (count_of tx outcomes ≡ 1)
 
 abbrev pub IsOfBegunTx : List TraceItem → Outcome → Type 0
 IsOfBegunTx items o = o.tx ≢ 0 → Contains (begun_txs items) o.tx
 
--- the numbers of the receipts, but for 0, differ, and are just those begun
-pub record NumbersAgree (receipts : List Outcome) (items : List TraceItem) : Type 0 where
-  pub once : (tx : ℕ) → Contains (begun_txs items) tx → IsOnce receipts tx
-  pub begun : All (IsOfBegunTx items) receipts
+-- the numbers of the outcomes, but for 0, differ, and are just those begun
+pub record NumbersAgree (outcomes : List Outcome) (items : List TraceItem) : Type 0 where
+  pub once : (tx : ℕ) → Contains (begun_txs items) tx → IsOnce outcomes tx
+  pub begun : All (IsOfBegunTx items) outcomes
 
--- so they do, and each receipt tells the operations of its transaction, and how it was closed
+-- so they do, and each outcome tells the operations of its transaction, and how it was closed
 abbrev pub AreOfHistory : List Outcome → List TraceItem → Type 0
-AreOfHistory receipts items = NumbersAgree receipts items × All (IsOfHistory items) receipts
+AreOfHistory outcomes items = NumbersAgree outcomes items × All (IsOfHistory items) outcomes
 
--- committed receipts of one client rise in commit number with the script number
+-- committed outcomes of one client rise in commit number with the script number
 abbrev pub CommitsRise : List Outcome → Type 0
-CommitsRise receipts = All (λ one. All (λ other. RisesTo one other) receipts) receipts
+CommitsRise outcomes = All (λ one. All (λ other. RisesTo one other) outcomes) outcomes
 
--- The receipts are those of the history: each number that was begun stands in one of them, with its
+-- The outcomes are those of the history: each number that was begun stands in one of them, with its
 -- operations and its end.
-pub record Agrees (receipts : List Outcome) (items : List TraceItem) : Type 0 where
-  pub of_history : AreOfHistory receipts items
+pub record Agrees (outcomes : List Outcome) (items : List TraceItem) : Type 0 where
+  pub of_history : AreOfHistory outcomes items
   -- those without a number are refused and empty
-  pub without_tx : All IsWithoutTx receipts
+  pub without_tx : All IsWithoutTx outcomes
   -- of two scripts of a client that committed, the later has the later commit
-  pub rising : CommitsRise receipts
+  pub rising : CommitsRise outcomes

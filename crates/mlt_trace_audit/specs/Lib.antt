@@ -1,4 +1,4 @@
-pub mod Receipts
+pub mod Outcomes
 pub mod Agreement
 pub mod Ordered
 pub mod Orders

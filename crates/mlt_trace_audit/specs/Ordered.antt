@@ -12,14 +12,14 @@ tx_of (Back tx) = tx
 tx_of (Commit tx number) = tx
 tx_of (Abort tx) = tx
 
--- receipts tell of it: it is an operation, or a close
+-- outcomes tell of it: it is an operation, or a close
 abbrev pub is_told : TraceItem → Bool
 is_told (Op tx done) = true
 is_told (Commit tx number) = true
 is_told (Abort tx) = true
 is_told other = false
 
--- how many of the items receipts tell of
+-- how many of the items outcomes tell of
 abbrev pub told_count : List TraceItem → ℕ
 told_count items = count_by is_told items
 

@@ -1,9 +1,9 @@
--- Receipts that stand by client and then by script.
+-- Outcomes that stand by client and then by script.
 use Rattle.std.specs.Prelude.{◌≡◌, ◌⊎◌, ℕ, ◌<◌, List, Some, slice_get}
 use Rattle.mlt_script_serial.specs.declared.outcome.End.TheVariants.{Committed}
 use Rattle.mlt_script_serial.specs.declared.outcome.Outcome.{Outcome}
 
--- a receipt whose end is a commit
+-- an outcome whose end is a commit
 abbrev pub IsCommitted : Outcome → Type 0
 IsCommitted o = (number : ℕ) × (o.end ≡ Committed number)
 
@@ -13,5 +13,5 @@ Precedes one other = (one.client < other.client) ⊎ ((one.client ≡ other.clie
 
 -- each precedes all that stand behind it
 abbrev pub AreInOrder : List Outcome → Type 0
-AreInOrder receipts = (j k : ℕ) (one other : Outcome) → slice_get receipts j ≡ Some one → slice_get receipts k ≡ Some other
+AreInOrder outcomes = (j k : ℕ) (one other : Outcome) → slice_get outcomes j ≡ Some one → slice_get outcomes k ≡ Some other
     → j < k → Precedes one other

@@ -1,9 +1,9 @@
-//! Receipts against any history. It goes over all of it for each receipt.
+//! Outcomes against any history. It goes over all of it for each outcome.
 
 ghost use Rattle.std.specs.Prelude.{◌≡◌, ◌≤◌, ◌↔◌, ℕ, IsTrue, All, Contains, drop, length};
 ghost use Rattle.mlt_trace.specs.Numbers.{begun_txs};
 ghost use Rattle.mlt_trace_audit.specs.Agreement.{AreOfHistory, IsOfBegunTx, IsOnce, NumbersAgree, count_of};
-ghost use Rattle.mlt_trace_audit.specs.Receipts.{HasNothing, IsOfHistory};
+ghost use Rattle.mlt_trace_audit.specs.Outcomes.{HasNothing, IsOfHistory};
 
 use crate::stories::{is_told, item_at, place_behind, tx_of};
 use mlt_script_serial::Outcome;
@@ -23,52 +23,52 @@ fn is_begun(tx: u64, history: &[KeptItem]) -> bool
     false
 }
 
-fn may_have_tx(receipt: &Outcome, history: &[KeptItem]) -> bool
-    ensures { IsTrue result ↔ IsOfBegunTx history.now receipt.now }
+fn may_have_tx(outcome: &Outcome, history: &[KeptItem]) -> bool
+    ensures { IsTrue result ↔ IsOfBegunTx history.now outcome.now }
 {
-    receipt.tx == 0 || is_begun(receipt.tx, history)
+    outcome.tx == 0 || is_begun(outcome.tx, history)
 }
 
-/// Whether the numbers of the receipts, but for 0, are begun.
-fn are_begun(receipts: &[Outcome], history: &[KeptItem]) -> bool
-    ensures { IsTrue result ↔ All (IsOfBegunTx history.now) receipts.now }
+/// Whether the numbers of the outcomes, but for 0, are begun.
+fn are_begun(outcomes: &[Outcome], history: &[KeptItem]) -> bool
+    ensures { IsTrue result ↔ All (IsOfBegunTx history.now) outcomes.now }
 {
-    for receipt in receipts {
-        if !may_have_tx(receipt, history) {
+    for outcome in outcomes {
+        if !may_have_tx(outcome, history) {
             return false;
         }
     }
     true
 }
 
-/// How many of the receipts have this number.
-fn count_of(tx: u64, receipts: &[Outcome]) -> usize
-    ensures { result ≡ count_of tx receipts.now }
+/// How many of the outcomes have this number.
+fn count_of(tx: u64, outcomes: &[Outcome]) -> usize
+    ensures { result ≡ count_of tx outcomes.now }
 {
     let mut count = 0;
-    for receipt in receipts {
-        if receipt.tx == tx {
+    for outcome in outcomes {
+        if outcome.tx == tx {
             count += 1;
         }
     }
     count
 }
 
-fn is_once(tx: u64, receipts: &[Outcome]) -> bool
-    ensures { IsTrue result ↔ IsOnce receipts.now tx }
+fn is_once(tx: u64, outcomes: &[Outcome]) -> bool
+    ensures { IsTrue result ↔ IsOnce outcomes.now tx }
 {
-    tx != 0 && count_of(tx, receipts) == 1
+    tx != 0 && count_of(tx, outcomes) == 1
 }
 
-/// Whether each number begun stands in one of the receipts.
-fn are_once(receipts: &[Outcome], history: &[KeptItem]) -> bool
+/// Whether each number begun stands in one of the outcomes.
+fn are_once(outcomes: &[Outcome], history: &[KeptItem]) -> bool
     ensures { IsTrue result
-        ↔ ((tx : ℕ) → Contains (begun_txs history.now) tx → IsOnce receipts.now tx) }
+        ↔ ((tx : ℕ) → Contains (begun_txs history.now) tx → IsOnce outcomes.now tx) }
 {
     for item in history {
         let item = item.get();
         if let TraceItem::Begin(tx) = item {
-            if !is_once(tx.0, receipts) {
+            if !is_once(tx.0, outcomes) {
                 return false;
             }
         }
@@ -90,40 +90,40 @@ fn has_nothing(history: &[KeptItem], from: usize, tx: u64) -> bool
     true
 }
 
-/// Whether the receipt tells what the history has of its transaction.
-fn is_of_history(receipt: &Outcome, history: &[KeptItem]) -> bool
-    ensures { IsTrue result ↔ IsOfHistory history.now receipt.now }
+/// Whether the outcome tells what the history has of its transaction.
+fn is_of_history(outcome: &Outcome, history: &[KeptItem]) -> bool
+    ensures { IsTrue result ↔ IsOfHistory history.now outcome.now }
 {
-    if receipt.tx == 0 {
+    if outcome.tx == 0 {
         return true;
     }
-    match place_behind(history, 0, receipt.tx, receipt.done.as_slice(), receipt.end) {
-        Some(place) => has_nothing(history, place, receipt.tx),
+    match place_behind(history, 0, outcome.tx, outcome.done.as_slice(), outcome.end) {
+        Some(place) => has_nothing(history, place, outcome.tx),
         None => false,
     }
 }
 
-/// Whether each of the receipts tells what the history has of its transaction.
-fn are_each_of_history(receipts: &[Outcome], history: &[KeptItem]) -> bool
-    ensures { IsTrue result ↔ All (IsOfHistory history.now) receipts.now }
+/// Whether each of the outcomes tells what the history has of its transaction.
+fn are_each_of_history(outcomes: &[Outcome], history: &[KeptItem]) -> bool
+    ensures { IsTrue result ↔ All (IsOfHistory history.now) outcomes.now }
 {
-    for receipt in receipts {
-        if !is_of_history(receipt, history) {
+    for outcome in outcomes {
+        if !is_of_history(outcome, history) {
             return false;
         }
     }
     true
 }
 
-fn numbers_agree(receipts: &[Outcome], history: &[KeptItem]) -> bool
-    ensures { IsTrue result ↔ NumbersAgree receipts.now history.now }
+fn numbers_agree(outcomes: &[Outcome], history: &[KeptItem]) -> bool
+    ensures { IsTrue result ↔ NumbersAgree outcomes.now history.now }
 {
-    are_begun(receipts, history) && are_once(receipts, history)
+    are_begun(outcomes, history) && are_once(outcomes, history)
 }
 
-/// Whether the receipts tell just what the history has of each transaction begun.
-pub(crate) fn are_of_any(receipts: &[Outcome], history: &[KeptItem]) -> bool
-    ensures { IsTrue result ↔ AreOfHistory receipts.now history.now }
+/// Whether the outcomes tell just what the history has of each transaction begun.
+pub(crate) fn are_of_any(outcomes: &[Outcome], history: &[KeptItem]) -> bool
+    ensures { IsTrue result ↔ AreOfHistory outcomes.now history.now }
 {
-    numbers_agree(receipts, history) && are_each_of_history(receipts, history)
+    numbers_agree(outcomes, history) && are_each_of_history(outcomes, history)
 }

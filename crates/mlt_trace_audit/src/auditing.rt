@@ -1,4 +1,4 @@
-//! Receipts against a history.
+//! Outcomes against a history.
 
 ghost use Rattle.std.specs.Prelude.{◌↔◌, IsTrue, OnOk, OnErr, IsOkUnless};
 ghost use Rattle.mlt_trace_audit.specs.Agreement.{Agrees, AreOfHistory};
@@ -12,32 +12,32 @@ use mlt_trace::KeptItem;
 use mlt_types::Refusal;
 use std::alloc::Global;
 
-/// Whether the receipts tell just what the history has of each transaction begun. Where transactions begin in order, it
-/// goes over the history about once; of any other history, once for each receipt.
-fn are_of_history(alloc: Global, receipts: &[Outcome], history: &[KeptItem]) -> bool
-    ensures { IsTrue result ↔ AreOfHistory receipts.now history.now }
+/// Whether the outcomes tell just what the history has of each transaction begun. Where transactions begin in order, it
+/// goes over the history about once; of any other history, once for each outcome.
+fn are_of_history(alloc: Global, outcomes: &[Outcome], history: &[KeptItem]) -> bool
+    ensures { IsTrue result ↔ AreOfHistory outcomes.now history.now }
 {
     match count_ordered(history) {
-        Some(last) => are_of_ordered(alloc, receipts, history, last),
-        None => are_of_any(receipts, history),
+        Some(last) => are_of_ordered(alloc, outcomes, history, last),
+        None => are_of_any(outcomes, history),
     }
 }
 
-/// Whether the receipts are those of the history: each transaction begun has one, which tells its operations
-/// and how it was closed; no other receipt but a refused and empty one stands beside them; and the commits of
+/// Whether the outcomes are those of the history: each transaction begun has one, which tells its operations
+/// and how it was closed; no other outcome but a refused and empty one stands beside them; and the commits of
 /// each client rise. It asks nothing of either list. It takes a byte for each transaction begun, and takes longer where that is
 /// refused.
 ///
 /// # Errors
 /// `Audit`, exactly where they are not.
-pub fn audit(alloc: Global, receipts: &[Outcome], history: &[KeptItem]) -> Result<(), Refusal>
-    ensures ok { OnOk result (Agrees receipts.now history.now) }
-    ensures err { OnErr result (Agrees receipts.now history.now → ⊥) }
+pub fn audit(alloc: Global, outcomes: &[Outcome], history: &[KeptItem]) -> Result<(), Refusal>
+    ensures ok { OnOk result (Agrees outcomes.now history.now) }
+    ensures err { OnErr result (Agrees outcomes.now history.now → ⊥) }
     ensures refusal { IsOkUnless result Refusal.Audit }
 {
-    if are_of_history(alloc, receipts, history)
-        && are_refused_without_tx(receipts)
-        && commits_rise(receipts)
+    if are_of_history(alloc, outcomes, history)
+        && are_refused_without_tx(outcomes)
+        && commits_rise(outcomes)
     {
         Ok(())
     } else {

@@ -8,17 +8,17 @@ ghost use Rattle.mlt_trace.specs.Numbers.{AreBegunInOrder};
 ghost use Rattle.mlt_trace_check.specs.Traces.{ArePlaced, told};
 ghost use Rattle.mlt_script_serial.specs.declared.outcome.Outcome.{Outcome};
 ghost use Rattle.mlt_trace_audit.specs.Agreement.{Agrees};
-ghost use Rattle.mlt_trace_audit.specs.Committed.{AreCommittedOf, IsBaseOfReceipts, transcripts_of};
+ghost use Rattle.mlt_trace_audit.specs.Committed.{AreCommittedOf, IsBaseOfOutcomes, transcripts_of};
 
-/// Of receipts that agree with a history, the committed ones, in the order of their commits, have just the
-/// committed transcripts of the history. So the base to which these lead is that of the receipts.
-pub fn committed_receipts_are_the_committed_list()
-    ensures list { (receipts : List Outcome) (items : List TraceItem)
-        → ArePlaced items → AreBegunInOrder items → Agrees receipts items
-        → (ordered : List Outcome) × AreCommittedOf receipts ordered
+/// Of outcomes that agree with a history, the committed ones, in the order of their commits, have just the
+/// committed transcripts of the history. So the base to which these lead is that of the outcomes.
+pub fn committed_outcomes_are_the_committed_list()
+    ensures list { (outcomes : List Outcome) (items : List TraceItem)
+        → ArePlaced items → AreBegunInOrder items → Agrees outcomes items
+        → (ordered : List Outcome) × AreCommittedOf outcomes ordered
         × (transcripts_of ordered ≡ (told items).committed) }
-    ensures base { (receipts : List Outcome) (items : List TraceItem) (base : Base)
-        → ArePlaced items → AreBegunInOrder items → Agrees receipts items
+    ensures base { (outcomes : List Outcome) (items : List TraceItem) (base : Base)
+        → ArePlaced items → AreBegunInOrder items → Agrees outcomes items
         → IsSerialBase Step empty_base (told items).committed base
-        → IsBaseOfReceipts receipts base }
+        → IsBaseOfOutcomes outcomes base }
 {}

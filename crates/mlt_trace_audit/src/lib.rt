@@ -1,4 +1,4 @@
-//! Receipts against a history: whether what clients were told is what the manager has done.
+//! Outcomes against a history: whether what clients were told is what the manager has done.
 #![tactic(auto)]
 
 mod any;
@@ -10,4 +10,4 @@ mod rising;
 mod stories;
 
 pub use auditing::audit;
-pub use laws::committed_receipts_are_the_committed_list;
+pub use laws::committed_outcomes_are_the_committed_list;

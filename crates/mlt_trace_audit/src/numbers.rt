@@ -1,4 +1,4 @@
-//! Whether the numbers of receipts are those up to a last one, each once.
+//! Whether the numbers of outcomes are those up to a last one, each once.
 
 ghost use Rattle.std.specs.Prelude.{◌≡◌, ◌≢◌, ◌≤◌, ◌<◌, ◌+◌, ◌↔◌, ℕ, IsTrue, All, Some, false, true, replicate, slice_get, length};
 ghost use Rattle.mlt_trace_audit.specs.Agreement.{count_of};
@@ -6,12 +6,12 @@ ghost use Rattle.mlt_trace_audit.specs.Agreement.{count_of};
 use mlt_script_serial::Outcome;
 use std::alloc::Global;
 
-/// Whether no receipt has a number above the last.
-pub(crate) fn are_at_most(receipts: &[Outcome], last: u64) -> bool
-    ensures { IsTrue result ↔ All (λ o. o.tx ≤ last) receipts.now }
+/// Whether no outcome has a number above the last.
+pub(crate) fn are_at_most(outcomes: &[Outcome], last: u64) -> bool
+    ensures { IsTrue result ↔ All (λ o. o.tx ≤ last) outcomes.now }
 {
-    for receipt in receipts {
-        if receipt.tx > last {
+    for outcome in outcomes {
+        if outcome.tx > last {
             return false;
         }
     }
@@ -31,17 +31,17 @@ fn are_set(marks: &[bool], count: usize) -> bool
     true
 }
 
-/// Whether each number above `below`, up to `upto`, stands in one receipt. Of the marks none is set before.
-fn block_is_once(receipts: &[Outcome], marks: &mut [bool], below: u64, upto: u64) -> bool
+/// Whether each number above `below`, up to `upto`, stands in one outcome. Of the marks none is set before.
+fn block_is_once(outcomes: &[Outcome], marks: &mut [bool], below: u64, upto: u64) -> bool
     requires order { below ≤ upto }
     requires size { upto ≤ below + length marks.old }
     requires unmarked { marks.old ≡ replicate (length marks.old) false }
     ensures { IsTrue result
-        ↔ ((tx : ℕ) → below < tx → tx ≤ upto → count_of tx receipts.now ≡ 1) }
+        ↔ ((tx : ℕ) → below < tx → tx ≤ upto → count_of tx outcomes.now ≡ 1) }
 {
-    for receipt in receipts {
-        if below < receipt.tx && receipt.tx <= upto {
-            let place = (receipt.tx - below - 1) as usize;
+    for outcome in outcomes {
+        if below < outcome.tx && outcome.tx <= upto {
+            let place = (outcome.tx - below - 1) as usize;
             if marks[place] {
                 return false;
             }
@@ -57,10 +57,10 @@ fn no_marks() -> [bool; 16_384]
     [false; 16_384]
 }
 
-/// As `are_each_once`, without memory. It goes over the receipts once for each block of 16,384 numbers.
-fn blocks_are_once(receipts: &[Outcome], last: u64) -> bool
+/// As `are_each_once`, without memory. It goes over the outcomes once for each block of 16,384 numbers.
+fn blocks_are_once(outcomes: &[Outcome], last: u64) -> bool
     ensures { IsTrue result
-        ↔ ((tx : ℕ) → 0 < tx → tx ≤ last → count_of tx receipts.now ≡ 1) }
+        ↔ ((tx : ℕ) → 0 < tx → tx ≤ last → count_of tx outcomes.now ≡ 1) }
 {
     let mut below = 0;
     while below < last {
@@ -70,7 +70,7 @@ fn blocks_are_once(receipts: &[Outcome], last: u64) -> bool
             below + 16_384
         };
         let mut marks = no_marks();
-        if !block_is_once(receipts, &mut marks, below, upto) {
+        if !block_is_once(outcomes, &mut marks, below, upto) {
             return false;
         }
         below = upto;
@@ -78,14 +78,14 @@ fn blocks_are_once(receipts: &[Outcome], last: u64) -> bool
     true
 }
 
-/// Whether each number from 1 to the last stands in one receipt. It goes over the receipts once, with a mark for each
+/// Whether each number from 1 to the last stands in one outcome. It goes over the outcomes once, with a mark for each
 /// number; where the memory for the marks is refused, once for each block of numbers.
-pub(crate) fn are_each_once(alloc: Global, receipts: &[Outcome], last: u64) -> bool
+pub(crate) fn are_each_once(alloc: Global, outcomes: &[Outcome], last: u64) -> bool
     ensures { IsTrue result
-        ↔ ((tx : ℕ) → 0 < tx → tx ≤ last → count_of tx receipts.now ≡ 1) }
+        ↔ ((tx : ℕ) → 0 < tx → tx ≤ last → count_of tx outcomes.now ≡ 1) }
 {
     match vec![in alloc; false; last as usize] {
-        Ok(mut marks) => block_is_once(receipts, &mut marks, 0, last),
-        Err(_) => blocks_are_once(receipts, last),
+        Ok(mut marks) => block_is_once(outcomes, &mut marks, 0, last),
+        Err(_) => blocks_are_once(outcomes, last),
     }
 }

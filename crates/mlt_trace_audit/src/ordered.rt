@@ -1,11 +1,11 @@
-//! Receipts against a history in which transactions begin in order. It goes over the history about once.
+//! Outcomes against a history in which transactions begin in order. It goes over the history about once.
 
 ghost use Rattle.std.specs.Prelude.{◌≡◌, ◌≤◌, ◌<◌, ◌↔◌, IsTrue, IfNone, IfSome, All, List, Some, slice_get, length, take};
 ghost use Rattle.mlt_trace.specs.declared.item.TraceItem.{TraceItem as ItemForm};
 ghost use Rattle.mlt_trace.specs.Numbers.{begin_count};
 ghost use Rattle.mlt_trace_audit.specs.Agreement.{AreOfHistory, NumbersAgree};
 ghost use Rattle.mlt_trace_audit.specs.Ordered.{AreOrdered, StandsBehind, told_count};
-ghost use Rattle.mlt_trace_audit.specs.Receipts.{HasNothing, IsClosedBefore, IsClosedSo, IsOfHistory};
+ghost use Rattle.mlt_trace_audit.specs.Outcomes.{HasNothing, IsClosedBefore, IsClosedSo, IsOfHistory};
 
 use crate::numbers::{are_at_most, are_each_once};
 use crate::stories::{is_told, item_at, place_behind, tx_of};
@@ -120,51 +120,51 @@ fn place_of_begin(history: &[KeptItem], tx: u64, near: usize) -> usize
     low
 }
 
-/// Whether the history has what the receipt tells of its transaction, and then what it may: the place behind that. Of the
+/// Whether the history has what the outcome tells of its transaction, and then what it may: the place behind that. Of the
 /// history it goes over those items that stand between the transaction's begin and its close.
-fn place_behind_close(receipt: &Outcome, history: &[KeptItem], near: usize) -> Option<usize>
+fn place_behind_close(outcome: &Outcome, history: &[KeptItem], near: usize) -> Option<usize>
     requires ordered { AreOrdered history.now }
-    requires some { 0 < receipt.now.tx }
+    requires some { 0 < outcome.now.tx }
     ensures some { IfSome result (λ _. (rest : List ItemForm)
-        × IsClosedBefore rest receipt.now.tx receipt.now.done receipt.now.end history.now) }
+        × IsClosedBefore rest outcome.now.tx outcome.now.done outcome.now.end history.now) }
     ensures none { IfNone result
-        (IsClosedSo receipt.now.tx receipt.now.done receipt.now.end history.now → ⊥) }
+        (IsClosedSo outcome.now.tx outcome.now.done outcome.now.end history.now → ⊥) }
 {
-    let from = place_of_begin(history, receipt.tx, near);
+    let from = place_of_begin(history, outcome.tx, near);
     place_behind(
         history,
         from,
-        receipt.tx,
-        receipt.done.as_slice(),
-        receipt.end,
+        outcome.tx,
+        outcome.done.as_slice(),
+        outcome.end,
     )
 }
 
-/// Whether the numbers of the receipts, but for 0, are those from 1 to the last, each once.
-fn numbers_agree(alloc: Global, receipts: &[Outcome], history: &[KeptItem], last: u64) -> bool
+/// Whether the numbers of the outcomes, but for 0, are those from 1 to the last, each once.
+fn numbers_agree(alloc: Global, outcomes: &[Outcome], history: &[KeptItem], last: u64) -> bool
     requires ordered { AreOrdered history.now }
     requires last { last ≡ begin_count history.now }
-    ensures { IsTrue result ↔ NumbersAgree receipts.now history.now }
+    ensures { IsTrue result ↔ NumbersAgree outcomes.now history.now }
 {
-    are_at_most(receipts, last) && are_each_once(alloc, receipts, last)
+    are_at_most(outcomes, last) && are_each_once(alloc, outcomes, last)
 }
 
-/// Whether each of the receipts tells what the history has of its transaction. That it has no more of one is found by
-/// counting: the receipts tell as many operations and closes as the history has.
-fn are_each_of_ordered(receipts: &[Outcome], history: &[KeptItem]) -> bool
+/// Whether each of the outcomes tells what the history has of its transaction. That it has no more of one is found by
+/// counting: the outcomes tell as many operations and closes as the history has.
+fn are_each_of_ordered(outcomes: &[Outcome], history: &[KeptItem]) -> bool
     requires ordered { AreOrdered history.now }
-    requires numbers { NumbersAgree receipts.now history.now }
-    ensures { IsTrue result ↔ All (IsOfHistory history.now) receipts.now }
+    requires numbers { NumbersAgree outcomes.now history.now }
+    ensures { IsTrue result ↔ All (IsOfHistory history.now) outcomes.now }
 {
     let mut left = count_told(history);
     let mut behind = 0;
-    for receipt in receipts {
-        if receipt.tx != 0 {
-            let own = receipt.done.as_slice().len();
+    for outcome in outcomes {
+        if outcome.tx != 0 {
+            let own = outcome.done.as_slice().len();
             if left <= own {
                 return false;
             }
-            let Some(place) = place_behind_close(receipt, history, behind) else {
+            let Some(place) = place_behind_close(outcome, history, behind) else {
                 return false;
             };
             left -= own + 1;
@@ -174,16 +174,16 @@ fn are_each_of_ordered(receipts: &[Outcome], history: &[KeptItem]) -> bool
     left == 0
 }
 
-/// Whether the receipts tell just what the history has of each transaction begun, of which the last has this number.
+/// Whether the outcomes tell just what the history has of each transaction begun, of which the last has this number.
 pub(crate) fn are_of_ordered(
     alloc: Global,
-    receipts: &[Outcome],
+    outcomes: &[Outcome],
     history: &[KeptItem],
     last: u64,
 ) -> bool
     requires ordered { AreOrdered history.now }
     requires last { last ≡ begin_count history.now }
-    ensures { IsTrue result ↔ AreOfHistory receipts.now history.now }
+    ensures { IsTrue result ↔ AreOfHistory outcomes.now history.now }
 {
-    numbers_agree(alloc, receipts, history, last) && are_each_of_ordered(receipts, history)
+    numbers_agree(alloc, outcomes, history, last) && are_each_of_ordered(outcomes, history)
 }

@@ -3,7 +3,7 @@
 ghost use Rattle.std.specs.Prelude.{◌↔◌, IsTrue, All};
 ghost use Rattle.mlt_trace_audit.specs.Agreement.{CommitsRise};
 ghost use Rattle.mlt_trace_audit.specs.Orders.{AreInOrder, IsCommitted, Precedes};
-ghost use Rattle.mlt_trace_audit.specs.Receipts.{RisesTo};
+ghost use Rattle.mlt_trace_audit.specs.Outcomes.{RisesTo};
 
 use mlt_script_serial::{End, Outcome};
 
@@ -18,10 +18,10 @@ fn rises_to(one: &Outcome, other: &Outcome) -> bool
     }
 }
 
-fn rises_to_all(one: &Outcome, receipts: &[Outcome]) -> bool
-    ensures { IsTrue result ↔ All (λ other. RisesTo one.now other) receipts.now }
+fn rises_to_all(one: &Outcome, outcomes: &[Outcome]) -> bool
+    ensures { IsTrue result ↔ All (λ other. RisesTo one.now other) outcomes.now }
 {
-    for other in receipts {
+    for other in outcomes {
         if !rises_to(one, other) {
             return false;
         }
@@ -29,22 +29,22 @@ fn rises_to_all(one: &Outcome, receipts: &[Outcome]) -> bool
     true
 }
 
-/// Compares each receipt with each.
-fn pairs_rise(receipts: &[Outcome]) -> bool
-    ensures { IsTrue result ↔ CommitsRise receipts.now }
+/// Compares each outcome with each.
+fn pairs_rise(outcomes: &[Outcome]) -> bool
+    ensures { IsTrue result ↔ CommitsRise outcomes.now }
 {
-    for one in receipts {
-        if !rises_to_all(one, receipts) {
+    for one in outcomes {
+        if !rises_to_all(one, outcomes) {
             return false;
         }
     }
     true
 }
 
-fn is_committed(receipt: &Outcome) -> bool
-    ensures { IsTrue result ↔ IsCommitted receipt.now }
+fn is_committed(outcome: &Outcome) -> bool
+    ensures { IsTrue result ↔ IsCommitted outcome.now }
 {
-    match receipt.end {
+    match outcome.end {
         End::Committed(_) => true,
         _ => false,
     }
@@ -56,27 +56,27 @@ fn precedes(one: &Outcome, other: &Outcome) -> bool
     one.client < other.client || one.client == other.client && one.number < other.number
 }
 
-/// Whether the receipts stand by client and then by script, each script once.
-fn are_in_order(receipts: &[Outcome]) -> bool
-    ensures { IsTrue result ↔ AreInOrder receipts.now }
+/// Whether the outcomes stand by client and then by script, each script once.
+fn are_in_order(outcomes: &[Outcome]) -> bool
+    ensures { IsTrue result ↔ AreInOrder outcomes.now }
 {
-    for i in 1..receipts.len() {
-        if !precedes(&receipts[i - 1], &receipts[i]) {
+    for i in 1..outcomes.len() {
+        if !precedes(&outcomes[i - 1], &outcomes[i]) {
             return false;
         }
     }
     true
 }
 
-/// Compares each committed receipt with the committed one before it.
-fn neighbours_rise(receipts: &[Outcome]) -> bool
-    requires { AreInOrder receipts.now }
-    ensures { IsTrue result ↔ CommitsRise receipts.now }
+/// Compares each committed outcome with the committed one before it.
+fn neighbours_rise(outcomes: &[Outcome]) -> bool
+    requires { AreInOrder outcomes.now }
+    ensures { IsTrue result ↔ CommitsRise outcomes.now }
 {
     let mut last = 0;
-    for i in 0..receipts.len() {
-        if is_committed(&receipts[i]) {
-            if !rises_to(&receipts[last], &receipts[i]) {
+    for i in 0..outcomes.len() {
+        if is_committed(&outcomes[i]) {
+            if !rises_to(&outcomes[last], &outcomes[i]) {
                 return false;
             }
             last = i;
@@ -85,14 +85,14 @@ fn neighbours_rise(receipts: &[Outcome]) -> bool
     true
 }
 
-/// Whether the committed receipts of one client rise in commit number with the script number. Where they stand
+/// Whether the committed outcomes of one client rise in commit number with the script number. Where they stand
 /// by client and then by script, it goes over them once; else it compares each with each.
-pub(crate) fn commits_rise(receipts: &[Outcome]) -> bool
-    ensures { IsTrue result ↔ CommitsRise receipts.now }
+pub(crate) fn commits_rise(outcomes: &[Outcome]) -> bool
+    ensures { IsTrue result ↔ CommitsRise outcomes.now }
 {
-    if are_in_order(receipts) {
-        neighbours_rise(receipts)
+    if are_in_order(outcomes) {
+        neighbours_rise(outcomes)
     } else {
-        pairs_rise(receipts)
+        pairs_rise(outcomes)
     }
 }

@@ -1,8 +1,8 @@
-//! What a history has of a transaction, and receipts that have none.
+//! What a history has of a transaction, and outcomes that have none.
 
 ghost use Rattle.std.specs.Prelude.{◌≡◌, ◌≤◌, ◌<◌, ◌↔◌, IsTrue, IfSome, IfNone, slice_index_or, length, drop, All};
 ghost use Rattle.mlt_trace_audit.specs.Ordered.{is_told, tx_of};
-ghost use Rattle.mlt_trace_audit.specs.Receipts.{Closing, IsClosedBefore, IsClosedSo, IsRefusedEmpty, IsWithoutTx, closing_by};
+ghost use Rattle.mlt_trace_audit.specs.Outcomes.{Closing, IsClosedBefore, IsClosedSo, IsRefusedEmpty, IsWithoutTx, closing_by};
 
 use mlt_object_kinds::Done;
 use mlt_script_serial::{End, Outcome};
@@ -71,7 +71,7 @@ pub(crate) fn item_at(history: &[KeptItem], place: usize) -> TraceItem
     history[place].get()
 }
 
-/// Whether receipts tell of the item: it is an operation, or a close.
+/// Whether outcomes tell of the item: it is an operation, or a close.
 pub(crate) fn is_told(item: &TraceItem) -> bool
     ensures { result ≡ is_told item.now }
 {
@@ -130,27 +130,27 @@ pub(crate) fn place_behind(
     None
 }
 
-fn is_refused_empty(receipt: &Outcome) -> bool
-    ensures { IsTrue result ↔ IsRefusedEmpty receipt.now }
+fn is_refused_empty(outcome: &Outcome) -> bool
+    ensures { IsTrue result ↔ IsRefusedEmpty outcome.now }
 {
-    match receipt.end {
-        End::Refused(_) => receipt.done.as_slice().is_empty(),
+    match outcome.end {
+        End::Refused(_) => outcome.done.as_slice().is_empty(),
         _ => false,
     }
 }
 
-fn may_be_without_tx(receipt: &Outcome) -> bool
-    ensures { IsTrue result ↔ IsWithoutTx receipt.now }
+fn may_be_without_tx(outcome: &Outcome) -> bool
+    ensures { IsTrue result ↔ IsWithoutTx outcome.now }
 {
-    receipt.tx != 0 || is_refused_empty(receipt)
+    outcome.tx != 0 || is_refused_empty(outcome)
 }
 
-/// Whether the receipts without a transaction are refused and empty.
-pub(crate) fn are_refused_without_tx(receipts: &[Outcome]) -> bool
-    ensures { IsTrue result ↔ All IsWithoutTx receipts.now }
+/// Whether the outcomes without a transaction are refused and empty.
+pub(crate) fn are_refused_without_tx(outcomes: &[Outcome]) -> bool
+    ensures { IsTrue result ↔ All IsWithoutTx outcomes.now }
 {
-    for receipt in receipts {
-        if !may_be_without_tx(receipt) {
+    for outcome in outcomes {
+        if !may_be_without_tx(outcome) {
             return false;
         }
     }

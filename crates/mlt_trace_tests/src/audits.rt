@@ -1,4 +1,4 @@
-//! Receipts against histories, also such as no manager has. Whether they agree was worked out by hand from the definition
+//! Outcomes against histories, also such as no manager has. Whether they agree was worked out by hand from the definition
 //! that `docs/DEFINITIONS.md` has of it.
 
 use Item::{Abort, Back, Begin, Commit, Op};
@@ -25,11 +25,11 @@ enum Item {
     Abort(u64),
 }
 
-/// A receipt: client, script number, transaction number, operations and end.
-type Receipt = (u32, u64, u64, &'static [Told], End);
+/// An outcome: client, script number, transaction number, operations and end.
+type Outcome = (u32, u64, u64, &'static [Told], End);
 
-/// A history, receipts, whether they agree, and why.
-type Row = (&'static [Item], &'static [Receipt], bool, &'static str);
+/// A history, outcomes, whether they agree, and why.
+type Row = (&'static [Item], &'static [Outcome], bool, &'static str);
 
 fn item_of(item: Item) -> TraceItem {
     match item {
@@ -57,9 +57,9 @@ fn transcript_of(alloc: Global, told: &[Told]) -> Result<Transcript, Refusal> {
     Ok(Transcript::new(done))
 }
 
-fn outcomes_of(alloc: Global, receipts: &[Receipt]) -> Result<Vec<Outcome>, Refusal> {
+fn outcomes_of(alloc: Global, outcomes: &[Outcome]) -> Result<Vec<Outcome>, Refusal> {
     let mut outcomes = Vec::new(alloc);
-    for (client, number, tx, told, end) in receipts {
+    for (client, number, tx, told, end) in outcomes {
         outcomes.push(Outcome {
             client: *client,
             number: *number,
@@ -71,11 +71,11 @@ fn outcomes_of(alloc: Global, receipts: &[Receipt]) -> Result<Vec<Outcome>, Refu
     Ok(outcomes)
 }
 
-// The receipts of each row agree with its history, or do not, as the row says.
+// The outcomes of each row agree with its history, or do not, as the row says.
 fn are_audited(alloc: Global, rows: &[Row]) -> Result<(), Fail> {
-    for (items, receipts, agree, why) in rows {
+    for (items, outcomes, agree, why) in rows {
         let history = history_of(alloc, items)?;
-        let outcomes = outcomes_of(alloc, receipts)?;
+        let outcomes = outcomes_of(alloc, outcomes)?;
         let wanted = if *agree { Ok(()) } else { Err(Refusal::Audit) };
         same_at(why, &audit(alloc, &outcomes, &history), &wanted)?;
     }
@@ -128,19 +128,19 @@ const NUMBERS: &[Row] = &[
         ONE,
         &[],
         false,
-        "transaction 1 was begun, and has no receipt",
+        "transaction 1 was begun, and has no outcome",
     ),
     (
         &[Begin(1), Abort(1), Begin(2), Abort(2)],
         &[(1, 1, 2, &[], Aborted)],
         false,
-        "transaction 1 has no receipt, though the other one has",
+        "transaction 1 has no outcome, though the other one has",
     ),
     (
         &[Begin(1)],
         &[],
         false,
-        "a transaction that is not closed has no receipt, and was begun",
+        "a transaction that is not closed has no outcome, and was begun",
     ),
     (
         ONE,
@@ -149,7 +149,7 @@ const NUMBERS: &[Row] = &[
             (2, 1, 1, &[OPEN], Committed(1)),
         ],
         false,
-        "the number 1 stands in two receipts",
+        "the number 1 stands in two outcomes",
     ),
     (
         ONE,
@@ -164,13 +164,13 @@ const NUMBERS: &[Row] = &[
         &[Begin(2), Begin(1), Commit(1, 1), Abort(2)],
         &[(1, 1, 1, &[], Committed(1)), (1, 2, 2, &[], Aborted)],
         true,
-        "in which order numbers are begun is nothing to receipts",
+        "in which order numbers are begun is nothing to outcomes",
     ),
     (
         &[Begin(2), Begin(1), Commit(1, 1), Abort(2)],
         &[(1, 1, 1, &[], Committed(1))],
         false,
-        "transaction 2 has no receipt, though it was begun before 1",
+        "transaction 2 has no outcome, though it was begun before 1",
     ),
     (
         &[Begin(7), Commit(7, 1), Begin(u64::MAX), Abort(u64::MAX)],
@@ -192,7 +192,7 @@ const NUMBERS: &[Row] = &[
         &[Begin(1), Commit(1, 1), Begin(1), Commit(1, 2)],
         &[(1, 1, 1, &[], Committed(1)), (1, 2, 1, &[], Committed(2))],
         false,
-        "a number that is begun twice may stand in one receipt only",
+        "a number that is begun twice may stand in one outcome only",
     ),
     (
         &[Begin(1), Commit(1, 1), Begin(1), Commit(1, 2)],
@@ -204,7 +204,7 @@ const NUMBERS: &[Row] = &[
         &[Begin(1), Begin(1), Commit(1, 1)],
         &[(1, 1, 1, &[], Committed(1))],
         true,
-        "a number that is begun twice and closed once has its one receipt",
+        "a number that is begun twice and closed once has its one outcome",
     ),
     (
         &[Begin(0), Abort(0)],
@@ -216,7 +216,7 @@ const NUMBERS: &[Row] = &[
         &[Begin(0), Abort(0)],
         &[(1, 1, 0, &[], Aborted)],
         false,
-        "nor is there a receipt for it",
+        "nor is there an outcome for it",
     ),
     (
         &[Begin(0)],
@@ -228,7 +228,7 @@ const NUMBERS: &[Row] = &[
         &[Op(2, UP), Commit(2, 1)],
         &[],
         true,
-        "what was not begun needs no receipt",
+        "what was not begun needs no outcome",
     ),
     (
         &[Op(2, UP), Commit(2, 1)],
@@ -284,7 +284,7 @@ const OPERATIONS: &[Row] = &[
             (1, 1, 1, &[OPEN, PAY], Committed(2)),
         ],
         true,
-        "receipts may stand in any order",
+        "outcomes may stand in any order",
     ),
     (
         TWO,
@@ -401,7 +401,7 @@ const OPERATIONS: &[Row] = &[
         &[Back(1), Begin(1), Back(5), Op(1, UP), Back(1), Commit(1, 1)],
         &[(1, 1, 1, &[UP], Committed(1))],
         true,
-        "receipts tell nothing of what is taken back, where and by whomever",
+        "outcomes tell nothing of what is taken back, where and by whomever",
     ),
     (
         &[Op(1, OPEN), Commit(1, 1), Begin(1), Op(1, PAY)],
@@ -535,7 +535,7 @@ const WITHOUT_TX: &[Row] = &[
             (1, 3, 0, &[], Refused(Refusal::IdsSpent)),
         ],
         true,
-        "0 may stand in many receipts, beside those of transactions",
+        "0 may stand in many outcomes, beside those of transactions",
     ),
     (
         &[],
@@ -559,7 +559,7 @@ const WITHOUT_TX: &[Row] = &[
         ONE,
         &[(1, 1, 0, &[], Refused(Refusal::TooManyOpen))],
         false,
-        "a receipt without a transaction stands for none",
+        "an outcome without a transaction stands for none",
     ),
     (
         &[Op(0, UP), Commit(0, 1)],
@@ -613,7 +613,7 @@ const COMMITS: &[Row] = &[
             (1, 1, 1, &[], Committed(2)),
         ],
         false,
-        "the same receipts from the last to the first: scripts decide, and not places",
+        "the same outcomes from the last to the first: scripts decide, and not places",
     ),
     (
         THREE,

@@ -1,5 +1,5 @@
 //! Tests of traces: what is accepted, the faults of other texts, and what the check says of both; of the history that
-//! is kept; and of receipts against histories. They stand here and not in the crates that they test, since a crate with tests is proved twice.
+//! is kept; and of outcomes against histories. They stand here and not in the crates that they test, since a crate with tests is proved twice.
 #![tactic(auto)]
 
 #[cfg(test)]

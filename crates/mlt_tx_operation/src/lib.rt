@@ -23,4 +23,4 @@ pub use answer::StepAnswer;
 pub use course::Course;
 pub use end_law::operations_come_to_an_end;
 pub use operation::Operation;
-pub use plan::{Plan, plan_at_once};
+pub use plan::{PlanAtOnce, plan_at_once};

@@ -25,12 +25,12 @@ use mlt_types::{Key, PageNo, Pseudo, Value};
 
 /// What an operation on one record is told, and the slot that it sets, if it changes its record.
 #[derive(Clone, Copy, Debug, PartialEq, Eq)]
-pub struct Plan {
+pub struct PlanAtOnce {
     pub reply: ObjReply,
     pub write: Option<SlotWrite>,
 }
 
-impl Plan {
+impl PlanAtOnce {
     /// Sets the slot, if one is to be set.
     pub fn carry_out(&self, store: &mut Store)
         requires write { CanWrite self.now.write store.old }
@@ -50,7 +50,7 @@ pub fn plan_at_once<P: Pseudo>(
     setting: &Setting<P>,
     subtx: &Subtx,
     pages: &LockedStore,
-) -> Option<Plan>
+) -> Option<PlanAtOnce>
     requires free { NobodyHolds pages.now.locks }
     requires ready { MayOperate (basis_in P.bits_of setting.now subtx.now.tx)
         (moment subtx.now pages.now) (started_for (Do op.now)) }
@@ -71,11 +71,11 @@ pub fn plan_at_once<P: Pseudo>(
     let found = value_in(bucket, key);
     let (reply, decided) = request.decide(found);
     let Some(change) = decided else {
-        return Some(Plan { reply, write: None });
+        return Some(PlanAtOnce { reply, write: None });
     };
     let value = value_set(change, found)?;
     let write = update(number, bucket, key, value)?;
-    Some(Plan {
+    Some(PlanAtOnce {
         reply,
         write: Some(write),
     })

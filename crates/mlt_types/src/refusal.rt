@@ -84,8 +84,8 @@ pub enum Refusal {
     /// The tries were spent.
     #[error("gave up")]
     GaveUp,
-    /// A receipt differs from the history.
-    #[error("a receipt differs from the history")]
+    /// An outcome differs from the history.
+    #[error("an outcome differs from the history")]
     Audit,
     /// A limit is out of its range.
     #[error("a limit is out of its range")]

@@ -3,7 +3,7 @@ use Rattle.std.specs.Prelude.{◌≡◌, List}
 use Rattle.mlt_script_tree.specs.Scripts.{ScriptForm}
 use Rattle.mlt_script_serial.specs.declared.report.Report.{Report}
 use Rattle.mlt_trace_audit.specs.Agreement.{Agrees}
-use Rattle.mlt_trace_audit.specs.Committed.{IsBaseOfReceipts}
+use Rattle.mlt_trace_audit.specs.Committed.{IsBaseOfOutcomes}
 use Rattle.mlt_manager.specs.Managers.{ManagerFields}
 use Rattle.mlt_manager.specs.Openings.{IsMadeWith}
 use Rattle.mlt_types.specs.declared.limits.Limits.{Limits}
@@ -20,6 +20,6 @@ pub record HasRunAll {P : Type 0} (clients : List (List ScriptForm)) (limits : L
   -- the events that the workers counted are those of the manager
   pub events : manager.events ≡ report.events
   -- what scripts were told is what the manager has done
-  pub receipts : Agrees report.outcomes manager.commons.history.items
+  pub outcomes : Agrees report.outcomes manager.commons.history.items
   -- the committed scripts, run alone in commit order, lead to this base
-  pub base : IsBaseOfReceipts report.outcomes report.base
+  pub base : IsBaseOfOutcomes report.outcomes report.base

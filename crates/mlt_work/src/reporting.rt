@@ -2,42 +2,42 @@
 
 ghost use Rattle.std.specs.Prelude.{◌≡◌, ◌⊎◌, IfErr, IsOkUnless, IfOk, OnOk};
 ghost use Rattle.mlt_trace_audit.specs.Agreement.{Agrees};
-ghost use Rattle.mlt_trace_audit.specs.Committed.{IsBaseOfReceipts};
+ghost use Rattle.mlt_trace_audit.specs.Committed.{IsBaseOfOutcomes};
 ghost use Rattle.mlt_manager.specs.Promises.{IsCommittedBaseOf};
 
 use mlt_manager::Manager;
 use mlt_object_base::Base;
 use mlt_script_serial::{Outcome, Outcomes, Report};
-use mlt_trace_audit::{audit, committed_receipts_are_the_committed_list};
+use mlt_trace_audit::{audit, committed_outcomes_are_the_committed_list};
 use mlt_types::{Pseudo, Refusal};
 use std::alloc::Global;
 use std::thread;
 use std::thread::Threads;
 
-// What the audit of the receipts answers, and the base. Neither needs the other: where there are several workers, two threads
+// What the audit of the outcomes answers, and the base. Neither needs the other: where there are several workers, two threads
 // find them side by side.
 fn audit_and_base<P: Pseudo, R: Threads>(
     rt: &R,
     alloc: Global,
     workers: usize,
-    receipts: &[Outcome],
+    outcomes: &[Outcome],
     manager: &Manager<P>,
 ) -> (Result<(), Refusal>, Result<Base, Refusal>)
-    ensures agrees { OnOk result.0 (Agrees receipts.now manager.now.commons.history.items) }
+    ensures agrees { OnOk result.0 (Agrees outcomes.now manager.now.commons.history.items) }
     ensures differs { IsOkUnless result.0 Refusal.Audit }
     ensures base { IfOk result.1 (λ base. IsCommittedBaseOf manager.now base) }
     ensures refusal { IsOkUnless result.1 Refusal.OutOfMemory }
 {
     let history = manager.history();
     if workers == 1 {
-        return (audit(alloc, receipts, history), manager.base());
+        return (audit(alloc, outcomes, history), manager.base());
     }
     thread::join(
         rt,
         || -> Result<(), Refusal>
-            ensures { OnOk result (Agrees receipts.entry.now history.entry.now)
+            ensures { OnOk result (Agrees outcomes.entry.now history.entry.now)
                 × IsOkUnless result Refusal.Audit }
-        { audit(alloc, receipts, history) },
+        { audit(alloc, outcomes, history) },
         || -> Result<Base, Refusal>
             ensures { IfOk result (λ base. IsCommittedBaseOf manager.entry.now base)
                 × IsOkUnless result Refusal.OutOfMemory }
@@ -59,14 +59,14 @@ pub(crate) fn report_of<P: Pseudo, R: Threads>(
 ) -> Result<Report, Refusal>
     ensures outcomes { IfOk result (λ report. report.outcomes ≡ outcomes) }
     ensures events { IfOk result (λ report. report.events ≡ events) }
-    ensures receipts { IfOk result
+    ensures outcomes { IfOk result
         (λ report. Agrees report.outcomes manager.now.commons.history.items) }
-    ensures base { IfOk result (λ report. IsBaseOfReceipts report.outcomes report.base) }
+    ensures base { IfOk result (λ report. IsBaseOfOutcomes report.outcomes report.base) }
     ensures refusal { IfErr result
         (λ refusal. (refusal ≡ Refusal.OutOfMemory) ⊎ (refusal ≡ Refusal.Audit)) }
 {
     manager.keeps_a_placed_history();
-    committed_receipts_are_the_committed_list();
+    committed_outcomes_are_the_committed_list();
     let (audited, base) = audit_and_base(rt, alloc, workers, outcomes.as_slice(), manager);
     audited?;
     let base = base?;

@@ -160,7 +160,7 @@ fn run_server<P: Pseudo + Drop + Send, T: Threads + Wait + Clock + Sync>(
         0 => None,
         seconds => Some(Duration::from_secs(seconds)),
     };
-    let (_receipts, manager) = serve_on(
+    let (_outcomes, manager) = serve_on(
         threads,
         rt.alloc(),
         &listener,

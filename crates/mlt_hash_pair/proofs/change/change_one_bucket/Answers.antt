@@ -5,7 +5,7 @@ use Rattle.mlt_hash_access.specs.Moments.{Moment, moment}
 use Rattle.mlt_hash_access.specs.Views.{ReadsHeldBucket, ReadsHeldPage, WritesPage, view_of}
 use Rattle.mlt_hash_access.proofs.Leaving.{leaves_it}
 use Rattle.mlt_hash_pair.specs.Plans.{FitsSlots, IsPlanned, bucket_after}
-use Rattle.mlt_hash_pair.specs.declared.plan.Plan.TheVariants as plan
+use Rattle.mlt_hash_pair.specs.declared.plan.SlotPlan.TheVariants as plan
 use Rattle.mlt_hash_access.proofs.Unwritten.{first_write_is_not_third}
 use Rattle.mlt_hash_pair.proofs.Makes.{fits_between, one_changed, one_full, one_reading}
 use Rattle.mlt_hash_pair.proofs.change.change_one_bucket.Goals.{In_default-left_plan, In-Full-right_plan}

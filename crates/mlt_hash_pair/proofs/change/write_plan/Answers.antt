@@ -7,7 +7,7 @@ use Rattle.mlt_hash_access.specs.Views.{ReadsHeldBucket, view_of}
 use Rattle.mlt_hash_access.proofs.Leaving.{leaves_it}
 use Rattle.mlt_hash_record.specs.Plans.{WriteFields}
 use Rattle.mlt_hash_pair.specs.Writing.{MayWrite, WritesPlan}
-use Rattle.mlt_hash_pair.specs.declared.plan.Plan.TheVariants as plan
+use Rattle.mlt_hash_pair.specs.declared.plan.SlotPlan.TheVariants as plan
 use Rattle.mlt_hash_access.proofs.Unwritten.{first_write_is_not_third}
 use Rattle.mlt_hash_pair.proofs.change.write_plan.Goals as goal
 

@@ -2,7 +2,7 @@ use Rattle.std.proofs.Common.{◌++◌, arith, subst, sym}
 use Rattle.std.specs.Prelude.{IsPermutation}
 use Rattle.std.proofs.lemmas.List.Elements.{All-push}
 use Rattle.std.proofs.lemmas.List.Sorted.{IsPermutation-append_right, IsPermutation-trans}
-use Rattle.mlt_serve.specs.Threads.{AllHaveMemory, HasMemory, all_receipts, receipts_of}
+use Rattle.mlt_serve.specs.Threads.{AllHaveMemory, HasMemory, all_outcomes, outcomes_of}
 use Rattle.mlt_serve.proofs.Merging.{last_behind}
 use Rattle.mlt_serve.proofs.gathering.gather.Goals as goal
 
@@ -11,16 +11,16 @@ loop-thread-preserved g c =
     let l = c.loop-thread in
     let w = c.in-Some.thread in
     let rest = c.pop.new.self.items in
-    let got = l.gathered.receipts.items in
-    let all = all_receipts c.args.threads.items in
+    let got = l.gathered.outcomes.items in
+    let all = all_outcomes c.args.threads.items in
     record {
       parts = omega (arith, c.in-Some.ensures.len, c.take_in.ensures.parts, l.invariant.parts);
       events = c.take_in.ensures.events;
-      receipts = λ f.
-          let was = l.invariant.receipts (c.take_in.ensures.short f).0 in
-          let popped = subst (λ xs. IsPermutation all (all_receipts xs ++ got)) c.in-Some.ensures.items was in
-          IsPermutation-trans all (all_receipts rest ++ (got ++ receipts_of w)) (all_receipts rest ++ c.take_in.new.self.receipts.items) (last_behind receipts_of rest w all got popped)
-          (IsPermutation-append_right (all_receipts rest) (got ++ receipts_of w) c.take_in.new.self.receipts.items (c.take_in.ensures.receipts f));
+      outcomes = λ f.
+          let was = l.invariant.outcomes (c.take_in.ensures.short f).0 in
+          let popped = subst (λ xs. IsPermutation all (all_outcomes xs ++ got)) c.in-Some.ensures.items was in
+          IsPermutation-trans all (all_outcomes rest ++ (got ++ outcomes_of w)) (all_outcomes rest ++ c.take_in.new.self.outcomes.items) (last_behind outcomes_of rest w all got popped)
+          (IsPermutation-append_right (all_outcomes rest) (got ++ outcomes_of w) c.take_in.new.self.outcomes.items (c.take_in.ensures.outcomes f));
       short = λ f have.
           let both = c.take_in.ensures.short f in
           l.invariant.short both.0 (subst AllHaveMemory (sym c.in-Some.ensures.items) (All-push HasMemory rest w have both.1));

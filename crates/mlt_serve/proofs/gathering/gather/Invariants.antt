@@ -1,13 +1,13 @@
 use Rattle.std.proofs.Common.{◌≡◌, ◌+◌, ◌-◌, ◌*◌, ◌^◌, ◌++◌, vec_len, min}
 use Rattle.std.specs.Prelude.{IsPermutation, false}
-use Rattle.mlt_serve.specs.Threads.{AllHaveMemory, all_receipts}
+use Rattle.mlt_serve.specs.Threads.{AllHaveMemory, all_outcomes}
 use Rattle.mlt_serve.proofs.gathering.gather.Given as goal
 
 abbrev pub invariant-loop-thread : goal.invariant-loop-thread
 invariant-loop-thread g l = record {
   parts : l.all.parts + 2 * vec_len l.rest ≡ 129;
   events : l.gathered.events ≡ min l.all.amount (2 ^ 64 - 1);
-  receipts : l.gathered.is_short ≡ false → IsPermutation (all_receipts l.fn.threads.items) (all_receipts l.rest.items ++ l.gathered.receipts.items);
+  outcomes : l.gathered.is_short ≡ false → IsPermutation (all_outcomes l.fn.threads.items) (all_outcomes l.rest.items ++ l.gathered.outcomes.items);
   short : l.gathered.is_short ≡ false → AllHaveMemory l.rest.items → AllHaveMemory l.fn.threads.items;
 }
 

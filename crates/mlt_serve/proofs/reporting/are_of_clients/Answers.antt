@@ -3,13 +3,13 @@ use Rattle.mlt_trace_audit.proofs.Loops.{at_end, one_more}
 use Rattle.mlt_serve.specs.Clients.{IsOfClient}
 use Rattle.mlt_serve.proofs.reporting.are_of_clients.Goals as goal
 
-pub loop-receipt-preserved : goal.loop-receipt-preserved
-loop-receipt-preserved c =
-    let l = c.loop-receipt in
-    one_more (IsOfClient c.args.limit) c.args.receipts.now l.receipt-index c.receipt-item.result c.loop-receipt-test.true c.receipt-item.is l.invariant
+pub loop-outcome-preserved : goal.loop-outcome-preserved
+loop-outcome-preserved c =
+    let l = c.loop-outcome in
+    one_more (IsOfClient c.args.limit) c.args.outcomes.now l.outcome-index c.outcome-item.result c.loop-outcome-test.true c.outcome-item.is l.invariant
     (c.is_of_client.ensures.0 c.if-not-is_of_client.false)
 
 pub returns : goal.returns
 returns c =
-    let l = c.loop-receipt in
-    (λ _. at_end (IsOfClient c.args.limit) c.args.receipts.now l.receipt-index (omega (arith, c.loop-receipt-test.false)) l.invariant, λ _. refl)
+    let l = c.loop-outcome in
+    (λ _. at_end (IsOfClient c.args.limit) c.args.outcomes.now l.outcome-index (omega (arith, c.loop-outcome-test.false)) l.invariant, λ _. refl)

@@ -11,18 +11,18 @@ pub returns-then-progress-clause-answers : goal.returns-then-progress-clause-ans
 returns-then-progress-clause-answers g c =
     let new = c.new-notes.ensures.progress in
     answers_long _ _ _ _ (speaks_long (moves g.D.Desk.begins g.D.Answering.answers g.D.Desk.commits g.D.Desk.aborts) c.args.client (place c.args.client c.new-notes.result c.args.desk.now) (place c.args.client c.listen-listened.new.notes c.listen-listened.new.desk) c.finish.new.desk
-    (g.R.Read.remaining c.args.reader.now) (g.R.Read.remaining c.listen-listened.new.reader) (g.W.Write.contents c.args.writer.now) (g.W.Write.contents c.listen-listened.new.writer) c.args.receipts.now.items c.finish.result.items
-    (none_pending c.args.client c.new-notes.result.progress.begun c.new-notes.result.progress.tx c.new-notes.result.done.items c.new-notes.result.receipts.items (ap (λ p. p.tx) new) ∙ c.new-notes.ensures.receipts ∙ ap (λ v. v.items) c.replace.ensures.value)
-    (sym c.finish.ensures.receipts)
+    (g.R.Read.remaining c.args.reader.now) (g.R.Read.remaining c.listen-listened.new.reader) (g.W.Write.contents c.args.writer.now) (g.W.Write.contents c.listen-listened.new.writer) c.args.outcomes.now.items c.finish.result.items
+    (none_pending c.args.client c.new-notes.result.progress.begun c.new-notes.result.progress.tx c.new-notes.result.done.items c.new-notes.result.outcomes.items (ap (λ p. p.tx) new) ∙ c.new-notes.ensures.outcomes ∙ ap (λ v. v.items) c.replace.ensures.value)
+    (sym c.finish.ensures.outcomes)
     (ap (λ p. p.over) new) (ap (λ p. p.tx) new) (ap (λ p. p.begun) new) (ap (λ p. p.long) new) c.if-progress.true c.in_ok-listened.ensures.ok c.finish.ensures.asked)
 
 pub returns-clause-answers : goal.returns-clause-answers
 returns-clause-answers g c =
     let new = c.new-notes.ensures.progress in
     answers_done _ _ _ _ _ (sums (moves g.D.Desk.begins g.D.Answering.answers g.D.Desk.commits g.D.Desk.aborts) c.args.client (place c.args.client c.new-notes.result c.args.desk.now) (place c.args.client c.listen-listened.new.notes c.listen-listened.new.desk) c.finish.new.desk
-    (g.R.Read.remaining c.args.reader.now) (g.R.Read.remaining c.listen-listened.new.reader) (g.W.Write.contents c.args.writer.now) (g.W.Write.contents c.listen-listened.new.writer) c.args.receipts.now.items c.finish.result.items
-    (none_pending c.args.client c.new-notes.result.progress.begun c.new-notes.result.progress.tx c.new-notes.result.done.items c.new-notes.result.receipts.items (ap (λ p. p.tx) new) ∙ c.new-notes.ensures.receipts ∙ ap (λ v. v.items) c.replace.ensures.value)
-    (sym c.finish.ensures.receipts)
+    (g.R.Read.remaining c.args.reader.now) (g.R.Read.remaining c.listen-listened.new.reader) (g.W.Write.contents c.args.writer.now) (g.W.Write.contents c.listen-listened.new.writer) c.args.outcomes.now.items c.finish.result.items
+    (none_pending c.args.client c.new-notes.result.progress.begun c.new-notes.result.progress.tx c.new-notes.result.done.items c.new-notes.result.outcomes.items (ap (λ p. p.tx) new) ∙ c.new-notes.ensures.outcomes ∙ ap (λ v. v.items) c.replace.ensures.value)
+    (sym c.finish.ensures.outcomes)
     (ap (λ p. p.over) new) (ap (λ p. p.tx) new) (ap (λ p. p.begun) new) (ap (λ p. p.lines) new) (ap (λ p. p.commits) new) (ap (λ p. p.long) new) c.if-progress.false c.in_ok-listened.ensures.ok c.finish.ensures.asked)
 
 pub returns-in_err-listened-clause-answers : goal.returns-in_err-listened-clause-answers
@@ -30,12 +30,12 @@ returns-in_err-listened-clause-answers g c =
     let new = c.new-notes.ensures.progress in
     answers_broken _ _ _ _ c.from_residual.result c.in_err-listened.field-0.0 c.from_residual.ensures.1 c.in_err-listened.ensures.refusal
     (breaks_off (moves g.D.Desk.begins g.D.Answering.answers g.D.Desk.commits g.D.Desk.aborts) c.args.client (place c.args.client c.new-notes.result c.args.desk.now) (place c.args.client c.listen-listened.new.notes c.listen-listened.new.desk) c.finish.new.desk
-    (g.R.Read.remaining c.args.reader.now) (g.R.Read.remaining c.listen-listened.new.reader) (g.W.Write.contents c.args.writer.now) (g.W.Write.contents c.listen-listened.new.writer) c.args.receipts.now.items c.finish.result.items
-    (none_pending c.args.client c.new-notes.result.progress.begun c.new-notes.result.progress.tx c.new-notes.result.done.items c.new-notes.result.receipts.items (ap (λ p. p.tx) new) ∙ c.new-notes.ensures.receipts ∙ ap (λ v. v.items) c.replace.ensures.value)
-    (sym c.finish.ensures.receipts)
+    (g.R.Read.remaining c.args.reader.now) (g.R.Read.remaining c.listen-listened.new.reader) (g.W.Write.contents c.args.writer.now) (g.W.Write.contents c.listen-listened.new.writer) c.args.outcomes.now.items c.finish.result.items
+    (none_pending c.args.client c.new-notes.result.progress.begun c.new-notes.result.progress.tx c.new-notes.result.done.items c.new-notes.result.outcomes.items (ap (λ p. p.tx) new) ∙ c.new-notes.ensures.outcomes ∙ ap (λ v. v.items) c.replace.ensures.value)
+    (sym c.finish.ensures.outcomes)
     (ap (λ p. p.over) new) (ap (λ p. p.tx) new) (ap (λ p. p.begun) new) c.in_err-listened.ensures.err c.finish.ensures.asked)
     (λ io. hears_all (moves g.D.Desk.begins g.D.Answering.answers g.D.Desk.commits g.D.Desk.aborts) c.args.client (place c.args.client c.new-notes.result c.args.desk.now) (place c.args.client c.listen-listened.new.notes c.listen-listened.new.desk) c.finish.new.desk
-    (g.R.Read.remaining c.args.reader.now) (g.R.Read.remaining c.listen-listened.new.reader) (g.W.Write.contents c.args.writer.now) (g.W.Write.contents c.listen-listened.new.writer) c.args.receipts.now.items c.finish.result.items
-    (none_pending c.args.client c.new-notes.result.progress.begun c.new-notes.result.progress.tx c.new-notes.result.done.items c.new-notes.result.receipts.items (ap (λ p. p.tx) new) ∙ c.new-notes.ensures.receipts ∙ ap (λ v. v.items) c.replace.ensures.value)
-    (sym c.finish.ensures.receipts)
+    (g.R.Read.remaining c.args.reader.now) (g.R.Read.remaining c.listen-listened.new.reader) (g.W.Write.contents c.args.writer.now) (g.W.Write.contents c.listen-listened.new.writer) c.args.outcomes.now.items c.finish.result.items
+    (none_pending c.args.client c.new-notes.result.progress.begun c.new-notes.result.progress.tx c.new-notes.result.done.items c.new-notes.result.outcomes.items (ap (λ p. p.tx) new) ∙ c.new-notes.ensures.outcomes ∙ ap (λ v. v.items) c.replace.ensures.value)
+    (sym c.finish.ensures.outcomes)
     (ap (λ p. p.over) new) (ap (λ p. p.tx) new) (ap (λ p. p.begun) new) (c.in_err-listened.ensures.io (same_error c.from_residual.result c.in_err-listened.field-0.0 _ c.from_residual.ensures.1 io)) c.finish.ensures.asked)

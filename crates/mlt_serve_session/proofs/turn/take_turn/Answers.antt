@@ -13,7 +13,7 @@ returns-in_ok-answer-in-Some-clause-ok g c =
         going = c.requires.going;
         before = refl;
         asked = asks (moves g.D.Desk.begins g.D.Answering.answers g.D.Desk.commits g.D.Desk.aborts) c.args.client (place c.args.client c.args.notes.now c.args.desk.now) (place c.args.client c.note_answered.new.self c.ask.new.desk) _
-            c.in-Some.call c.in_ok-answer-in-Some.answer (sym c.call_for.ensures.value ∙ c.in-Some.is) told.moved (c.note_answered.ensures.receipts c.args.client ∙ told.noted_so);
+            c.in-Some.call c.in_ok-answer-in-Some.answer (sym c.call_for.ensures.value ∙ c.in-Some.is) told.moved (c.note_answered.ensures.outcomes c.args.client ∙ told.noted_so);
         after = c.note_answered.ensures.progress ∙ ap (λ p. after_line p c.args.line) told.after;
       };
       says = c.said_with.ensures;

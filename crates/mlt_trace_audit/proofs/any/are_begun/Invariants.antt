@@ -2,5 +2,5 @@ use Rattle.std.proofs.Common.{All, take}
 use Rattle.mlt_trace_audit.specs.Agreement.{IsOfBegunTx}
 use Rattle.mlt_trace_audit.proofs.any.are_begun.Given as goal
 
-abbrev pub invariant-loop-receipt : goal.invariant-loop-receipt
-invariant-loop-receipt l = All (IsOfBegunTx l.history) (take l.receipt-index l.receipts)
+abbrev pub invariant-loop-outcome : goal.invariant-loop-outcome
+invariant-loop-outcome l = All (IsOfBegunTx l.history) (take l.outcome-index l.outcomes)

@@ -2,8 +2,8 @@ use Rattle.std.proofs.Common.{◌≡◌, ◌≤◌, take}
 use Rattle.mlt_trace_audit.specs.Agreement.{count_of}
 use Rattle.mlt_trace_audit.proofs.any.count_of.Given as goal
 
-abbrev pub invariant-loop-receipt : goal.invariant-loop-receipt
-invariant-loop-receipt l = record {
-  counted : l.count ≡ count_of l.tx (take l.receipt-index l.receipts);
-  few : l.count ≤ l.receipt-index;
+abbrev pub invariant-loop-outcome : goal.invariant-loop-outcome
+invariant-loop-outcome l = record {
+  counted : l.count ≡ count_of l.tx (take l.outcome-index l.outcomes);
+  few : l.count ≤ l.outcome-index;
 }

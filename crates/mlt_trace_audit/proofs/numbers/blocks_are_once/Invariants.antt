@@ -3,7 +3,7 @@ use Rattle.mlt_trace_audit.specs.Agreement.{count_of}
 use Rattle.mlt_trace_audit.proofs.numbers.blocks_are_once.Given as goal
 
 abbrev pub invariant-loop-below : goal.invariant-loop-below
-invariant-loop-below l = (tx : ℕ) → 0 < tx → tx ≤ l.below → count_of tx l.receipts ≡ 1
+invariant-loop-below l = (tx : ℕ) → 0 < tx → tx ≤ l.below → count_of tx l.outcomes ≡ 1
 
 abbrev pub decreases-loop-below : goal.decreases-loop-below
 decreases-loop-below l = l.last - l.below

@@ -5,13 +5,13 @@ use Rattle.mlt_trace_audit.proofs.ordered.numbers_agree.Goals as goal
 pub returns-then-are_at_most : goal.returns-then-are_at_most
 returns-then-are_at_most c =
     let order = begun_in_order c.args.history.now c.requires.ordered in (
-      λ yes. numbers_agree c.args.history.now order c.args.receipts.now c.args.last c.requires.last (c.are_at_most.ensures.0 c.if-are_at_most.true) (c.are_each_once.ensures.0 yes),
-      λ numbers. c.are_each_once.ensures.1 (numbers_once c.args.history.now order c.args.receipts.now c.args.last c.requires.last numbers),
+      λ yes. numbers_agree c.args.history.now order c.args.outcomes.now c.args.last c.requires.last (c.are_at_most.ensures.0 c.if-are_at_most.true) (c.are_each_once.ensures.0 yes),
+      λ numbers. c.are_each_once.ensures.1 (numbers_once c.args.history.now order c.args.outcomes.now c.args.last c.requires.last numbers),
     )
 
 pub returns-else-are_at_most : goal.returns-else-are_at_most
 returns-else-are_at_most c =
     let order = begun_in_order c.args.history.now c.requires.ordered in (
       λ no. absurd (cc no),
-      λ numbers. absurd (let yes = c.are_at_most.ensures.1 (numbers_at_most c.args.history.now order c.args.receipts.now c.args.last c.requires.last numbers) in let no = c.if-are_at_most.false in cc (yes, no)),
+      λ numbers. absurd (let yes = c.are_at_most.ensures.1 (numbers_at_most c.args.history.now order c.args.outcomes.now c.args.last c.requires.last numbers) in let no = c.if-are_at_most.false in cc (yes, no)),
     )

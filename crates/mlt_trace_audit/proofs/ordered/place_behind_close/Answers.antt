@@ -3,7 +3,7 @@ use Rattle.std.specs.Prelude.{IfNone}
 use Rattle.std.proofs.lemmas.List.{take-append-drop}
 use Rattle.mlt_trace.specs.declared.item.TraceItem.{TraceItem}
 use Rattle.mlt_script_serial.specs.declared.outcome.End.{End}
-use Rattle.mlt_trace_audit.specs.Receipts.{HasNothing, IsClosedBefore, IsClosedSo}
+use Rattle.mlt_trace_audit.specs.Outcomes.{HasNothing, IsClosedBefore, IsClosedSo}
 use Rattle.mlt_trace_audit.proofs.Apart.{Dones, HaveSame, before_same, closed_same, same_behind}
 use Rattle.mlt_trace_audit.proofs.ordered.place_behind_close.Goals as goal
 
@@ -23,7 +23,7 @@ not_closed history items tx done end None same other = λ whole. other (closed_s
 
 pub returns-clause-some : goal.returns-clause-some
 returns-clause-some c =
-    let o = c.args.receipt.now in
+    let o = c.args.outcome.now in
     let history = c.args.history.now in
     let from = c.place_of_begin-from.result in
     let is : c.as_slice.result.now ≡ o.done = c.as_slice.ensures in
@@ -32,7 +32,7 @@ returns-clause-some c =
 
 pub returns-clause-none : goal.returns-clause-none
 returns-clause-none c =
-    let o = c.args.receipt.now in
+    let o = c.args.outcome.now in
     let history = c.args.history.now in
     let from = c.place_of_begin-from.result in
     let is : c.as_slice.result.now ≡ o.done = c.as_slice.ensures in

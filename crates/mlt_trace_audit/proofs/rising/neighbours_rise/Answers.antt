@@ -1,7 +1,7 @@
 use Rattle.std.proofs.Common.{◌<◌, length, get_or, refl, subst, arith}
 use Rattle.std.proofs.lemmas.Option.{slice_get-get_or}
 use Rattle.std.proofs.lemmas.Bool.{iff_false}
-use Rattle.mlt_trace_audit.specs.Receipts.{RisesTo}
+use Rattle.mlt_trace_audit.specs.Outcomes.{RisesTo}
 use Rattle.mlt_trace_audit.proofs.CommitOrder.{at_read, one_at, rise_all, rise_by_commit, rise_by_other}
 use Rattle.mlt_trace_audit.proofs.rising.neighbours_rise.Goals as goal
 use Rattle.mlt_trace_audit.proofs.rising.neighbours_rise.Goals.{then-is_committed+else-not-rises_to, else-is_committed}
@@ -9,25 +9,25 @@ use Rattle.mlt_trace_audit.proofs.rising.neighbours_rise.Goals.{then-is_committe
 pub loop-i-preserved : goal.loop-i-preserved
 loop-i-preserved c =
     let l = c.loop-i in
-    let receipts = c.args.receipts.now in
-    let here = c.index-receipts-i.result in
-    let at_here = at_read receipts l.i here c.loop-i-test.true c.index-receipts-i.is in
-    let last_in : l.last < length receipts = omega (arith, l.invariant.within, c.loop-i-test.true) in
+    let outcomes = c.args.outcomes.now in
+    let here = c.index-outcomes-i.result in
+    let at_here = at_read outcomes l.i here c.loop-i-test.true c.index-outcomes-i.is in
+    let last_in : l.last < length outcomes = omega (arith, l.invariant.within, c.loop-i-test.true) in
     elim c.if-is_committed.branch [
       | then-is_committed+else-not-rises_to w ↦
-          let final = w.index-receipts-last.result in
-          let again = w.index-receipts-i-then-is_committed.result in
+          let final = w.index-outcomes-last.result in
+          let again = w.index-outcomes-i-then-is_committed.result in
           let commits = c.is_committed.ensures.0 w.if-is_committed.true in
-          let at_again = at_read receipts l.i again c.loop-i-test.true w.index-receipts-i-then-is_committed.is in
-          let next : RisesTo final here = subst (λ o. RisesTo final o) (one_at receipts l.i again here at_again at_here) (w.rises_to.ensures.0 w.if-not-rises_to.false) in
+          let at_again = at_read outcomes l.i again c.loop-i-test.true w.index-outcomes-i-then-is_committed.is in
+          let next : RisesTo final here = subst (λ o. RisesTo final o) (one_at outcomes l.i again here at_again at_here) (w.rises_to.ensures.0 w.if-not-rises_to.false) in
           record {
             within = omega (arith, w.last-is);
-            rise = rw w.last-is (rise_by_commit receipts c.requires l.last l.i final here (at_read receipts l.last final last_in w.index-receipts-last.is) at_here l.invariant.rise
+            rise = rw w.last-is (rise_by_commit outcomes c.requires l.last l.i final here (at_read outcomes l.last final last_in w.index-outcomes-last.is) at_here l.invariant.rise
                 commits.0 commits.1 next);
           }
       | else-is_committed w ↦ record {
         within = omega (arith, w.last-is, l.invariant.within);
-        rise = rw w.last-is (rise_by_other receipts c.requires l.last l.i (get_or receipts l.last here) here (slice_get-get_or receipts l.last here last_in) at_here l.invariant.rise
+        rise = rw w.last-is (rise_by_other outcomes c.requires l.last l.i (get_or outcomes l.last here) here (slice_get-get_or outcomes l.last here last_in) at_here l.invariant.rise
             (λ commits. iff_false c.is_committed.ensures w.if-is_committed.false commits));
       }
     ]
@@ -35,4 +35,4 @@ loop-i-preserved c =
 pub returns : goal.returns
 returns c =
     let l = c.loop-i in
-    (λ _. rise_all c.args.receipts.now l.last l.i c.requires (omega (arith, c.loop-i-test.false)) l.invariant.rise, λ _. refl)
+    (λ _. rise_all c.args.outcomes.now l.last l.i c.requires (omega (arith, c.loop-i-test.false)) l.invariant.rise, λ _. refl)

@@ -6,6 +6,6 @@ returns-in-Ok-report_of-clause-ran g c = record {
   made = search rules;
   outcomes = search rules;
   events = search rules;
-  receipts = c.in-Ok-report_of.ensures.receipts;
+  outcomes = c.in-Ok-report_of.ensures.outcomes;
   base = c.in-Ok-report_of.ensures.base;
 }

@@ -3,10 +3,10 @@
 ghost use Rattle.std.specs.Prelude.{◌≡◌};
 ghost use Rattle.std.specs.List.{position};
 ghost use Rattle.mlt_event_text.specs.Inputs.{NextLine};
-ghost use Rattle.mlt_event_text.specs.Requests.{request_of};
+ghost use Rattle.mlt_event_text.specs.Commands.{command_of};
 ghost use Rattle.mlt_text_words.specs.Lines.{is_lf, without_cr};
 
-use crate::request::{Request, read_request};
+use crate::command::{Command, read_command};
 use mlt_text_words::trimmed;
 
 // How many bytes a line has at most before its LF, a CR among them.
@@ -16,7 +16,7 @@ const MOST_BYTES: usize = 200;
 #[derive(Clone, Copy, Debug, PartialEq, Eq)]
 pub enum Line {
     /// At most 200 bytes, a CR among them, and an LF.
-    Says(Request),
+    Says(Command),
     /// More than 200 bytes before an LF, or without one.
     TooLong,
 }
@@ -28,10 +28,10 @@ fn find_lf(text: &[u8]) -> Option<usize>
 }
 
 // What a line asks, given its bytes before the LF.
-fn request_in(bytes: &[u8]) -> Request
-    ensures { result ≡ request_of (without_cr bytes.now) }
+fn command_in(bytes: &[u8]) -> Command
+    ensures { result ≡ command_of (without_cr bytes.now) }
 {
-    read_request(trimmed(bytes))
+    read_command(trimmed(bytes))
 }
 
 /// The next line of a text, and how many of its bytes it takes, with its LF 1 to 201. A session ends at a line that is
@@ -42,7 +42,7 @@ pub fn next_line(text: &[u8]) -> Option<(Line, usize)>
 {
     match find_lf(text) {
         Some(end) if end > MOST_BYTES => Some((Line::TooLong, text.len())),
-        Some(end) => Some((Line::Says(request_in(&text[..end])), end + 1)),
+        Some(end) => Some((Line::Says(command_in(&text[..end])), end + 1)),
         None if text.len() > MOST_BYTES => Some((Line::TooLong, text.len())),
         None => None,
     }

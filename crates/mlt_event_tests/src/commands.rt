@@ -1,22 +1,22 @@
 //! Lines of sessions, and what they ask.
 
-use mlt_event_text::{Line, Request, next_line};
+use mlt_event_text::{Command, Line, next_line};
 use mlt_object_kinds::{AccountOp, CounterOp, ElementOp, ObjOp};
 use mlt_test_tools::{same_at, with_spaces};
 use std::test::Fail;
 
 // Lines that end in LF, with what each asks.
-const REQUESTS: &[(&[u8], Request)] = &[
-    (b"begin\n", Request::Begin),
-    (b"commit\n", Request::Commit),
-    (b"abort\n", Request::Abort),
-    (b"quit\n", Request::Quit),
-    (b"\n", Request::Blank),
-    (b" \t \n", Request::Blank),
-    (b"\r\n", Request::Blank),
-    (b"begin\r\n", Request::Begin),
-    (b"\tbegin \t\r\n", Request::Begin),
-    (b"  quit\t\n", Request::Quit),
+const COMMANDS: &[(&[u8], Command)] = &[
+    (b"begin\n", Command::Begin),
+    (b"commit\n", Command::Commit),
+    (b"abort\n", Command::Abort),
+    (b"quit\n", Command::Quit),
+    (b"\n", Command::Blank),
+    (b" \t \n", Command::Blank),
+    (b"\r\n", Command::Blank),
+    (b"begin\r\n", Command::Begin),
+    (b"\tbegin \t\r\n", Command::Begin),
+    (b"  quit\t\n", Command::Quit),
 ];
 
 // Each operation, numbers at the ends of their ranges, and other spellings.
@@ -90,50 +90,50 @@ const OTHERS: &[&[u8]] = &[
 
 // A start, so many spaces, and an end, with the next line of that text, if it has one.
 const LONG_LINES: &[(&[u8], usize, &[u8], Option<Line>)] = &[
-    (b"", 200, b"\n", Some(Line::Says(Request::Blank))),
+    (b"", 200, b"\n", Some(Line::Says(Command::Blank))),
     (b"", 201, b"\n", Some(Line::TooLong)),
     (b"", 200, b"", None),
     (b"", 201, b"", Some(Line::TooLong)),
-    (b"", 199, b"\r\n", Some(Line::Says(Request::Blank))),
+    (b"", 199, b"\r\n", Some(Line::Says(Command::Blank))),
     (b"", 200, b"\r\n", Some(Line::TooLong)),
     (b"", 199, b"\r", None),
     (b"", 200, b"\r", Some(Line::TooLong)),
-    (b"begin", 195, b"\n", Some(Line::Says(Request::Begin))),
+    (b"begin", 195, b"\n", Some(Line::Says(Command::Begin))),
     (b"begin", 196, b"\n", Some(Line::TooLong)),
-    (b"#", 199, b"\n", Some(Line::Says(Request::Other))),
+    (b"#", 199, b"\n", Some(Line::Says(Command::Other))),
     (b"#", 200, b"\n", Some(Line::TooLong)),
-    (b"begin\n", 201, b"", Some(Line::Says(Request::Begin))),
+    (b"begin\n", 201, b"", Some(Line::Says(Command::Begin))),
     (b"begin", 0, b"", None),
     (b"", 0, b"", None),
 ];
 
 // A line goes up to its first LF, whatever stands behind it.
 const SEVERAL: &[(&[u8], Option<(Line, usize)>)] = &[
-    (b"begin\nquit\n", Some((Line::Says(Request::Begin), 6))),
-    (b"begin\r\nqu", Some((Line::Says(Request::Begin), 7))),
-    (b"\n\n", Some((Line::Says(Request::Blank), 1))),
+    (b"begin\nquit\n", Some((Line::Says(Command::Begin), 6))),
+    (b"begin\r\nqu", Some((Line::Says(Command::Begin), 7))),
+    (b"\n\n", Some((Line::Says(Command::Blank), 1))),
     (b"begin\r", None),
 ];
 
 // The whole text is one line, and asks this.
-fn asks(text: &[u8], request: Request) -> Result<(), Fail> {
+fn asks(text: &[u8], command: Command) -> Result<(), Fail> {
     same_at(
         &text,
         &next_line(text),
-        &Some((Line::Says(request), text.len())),
+        &Some((Line::Says(command), text.len())),
     )
 }
 
 #[test]
-fn requests() -> Result<(), Fail> {
-    for (text, request) in REQUESTS {
-        asks(text, *request)?;
+fn commands() -> Result<(), Fail> {
+    for (text, command) in COMMANDS {
+        asks(text, *command)?;
     }
     for (text, op) in OPERATIONS {
-        asks(text, Request::Op(*op))?;
+        asks(text, Command::Op(*op))?;
     }
     for text in OTHERS {
-        asks(text, Request::Other)?;
+        asks(text, Command::Other)?;
     }
     Ok(())
 }

@@ -1,7 +1,7 @@
 //! What a line asks.
 
 ghost use Rattle.std.specs.Prelude.{◌≡◌};
-ghost use Rattle.mlt_event_text.specs.Requests.{request_of, word_request};
+ghost use Rattle.mlt_event_text.specs.Commands.{command_of, command_word};
 
 use crate::forms::read_only_op;
 use mlt_object_kinds::ObjOp;
@@ -9,7 +9,7 @@ use mlt_text_words::next_raw_word;
 
 /// What a line of a session asks.
 #[derive(Clone, Copy, Debug, PartialEq, Eq)]
-pub enum Request {
+pub enum Command {
     /// A transaction is to begin.
     Begin,
     /// An operation, its amount a number.
@@ -27,37 +27,37 @@ pub enum Request {
 }
 
 // What a word asks that is alone on its line.
-fn read_word(word: &[u8]) -> Option<Request>
-    ensures { result ≡ word_request word.now }
+fn read_word(word: &[u8]) -> Option<Command>
+    ensures { result ≡ command_word word.now }
 {
     if word == b"begin".as_slice() {
-        Some(Request::Begin)
+        Some(Command::Begin)
     } else if word == b"commit".as_slice() {
-        Some(Request::Commit)
+        Some(Command::Commit)
     } else if word == b"abort".as_slice() {
-        Some(Request::Abort)
+        Some(Command::Abort)
     } else if word == b"quit".as_slice() {
-        Some(Request::Quit)
+        Some(Command::Quit)
     } else {
         None
     }
 }
 
 /// What a line asks, without its LF and a CR before it. Takes no memory.
-#[tactic(auto, unfolding(crate::specs::Requests::request_of))]
-pub(crate) fn read_request(line: &[u8]) -> Request
-    ensures { result ≡ request_of line.now }
+#[tactic(auto, unfolding(crate::specs::Commands::command_of))]
+pub(crate) fn read_command(line: &[u8]) -> Command
+    ensures { result ≡ command_of line.now }
 {
     let Some((word, rest)) = next_raw_word(line) else {
-        return Request::Blank;
+        return Command::Blank;
     };
     if next_raw_word(rest).is_none() {
-        if let Some(request) = read_word(word) {
-            return request;
+        if let Some(command) = read_word(word) {
+            return command;
         }
     }
     match read_only_op(line) {
-        Some(op) => Request::Op(op),
-        None => Request::Other,
+        Some(op) => Command::Op(op),
+        None => Command::Other,
     }
 }

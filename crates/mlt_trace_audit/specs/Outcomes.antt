@@ -1,4 +1,4 @@
--- What a history has of a transaction, and the receipts of transactions.
+-- What a history has of a transaction, and the outcomes of transactions.
 use Rattle.std.specs.Prelude.{◌≡◌, ◌≢◌, ℕ, ◌<◌, List, [], ◌∷◌, ◌++◌, ◌==◌, if◌then◌else◌}
 use Rattle.mlt_types.specs.declared.refusal.Refusal.{Refusal}
 use Rattle.mlt_object_kinds.specs.declared.operation.ObjOp.{ObjOp}
@@ -30,7 +30,7 @@ closings_of tx (Commit i number ∷ items) = if i == tx then ByCommit number ∷
 closings_of tx (Abort i ∷ items) = if i == tx then ByAbort ∷ closings_of tx items else closings_of tx items
 closings_of tx (_ ∷ items) = closings_of tx items
 
--- how a transaction is closed whose receipt has this end: by a commit of its number, or by an abort for any other end
+-- how a transaction is closed whose outcome has this end: by a commit of its number, or by an abort for any other end
 abbrev pub closing_by : End → Closing
 closing_by (Committed number) = ByCommit number
 closing_by Aborted = ByAbort
@@ -52,11 +52,11 @@ pub record IsClosedBefore (rest : List TraceItem) (tx : ℕ) (done : List (ObjOp
   pub ops : ops_of tx items ≡ done ++ ops_of tx rest
   pub closed : closings_of tx items ≡ closing_by end ∷ closings_of tx rest
 
--- the receipt tells what the history has of its transaction
+-- the outcome tells what the history has of its transaction
 abbrev pub IsOfHistory : List TraceItem → Outcome → Type 0
 IsOfHistory items o = o.tx ≢ 0 → IsClosedSo o.tx o.done o.end items
 
--- a receipt without a transaction is refused and empty
+-- an outcome without a transaction is refused and empty
 pub record IsRefusedEmpty (o : Outcome) : Type 0 where
   pub refused : (refusal : Refusal) × (o.end ≡ Refused refusal)
   pub empty : o.done ≡ []

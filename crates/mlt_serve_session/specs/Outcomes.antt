@@ -56,20 +56,20 @@ abbrev pub ended_by : End → List Turn → End
 ended_by before [] = before
 ended_by before (t ∷ ts) = ended_by (end_in before (call_of t) t.answer) ts
 
--- the receipt of a transaction that began: all that was done before the next one began, and how it
+-- the outcome of a transaction that began: all that was done before the next one began, and how it
 -- ended; it was taken
 -- back where no commit was answered
-abbrev pub receipt_of : ℕ → ℕ → ℕ → List Turn → Outcome
-receipt_of client number tx behind =
+abbrev pub outcome_behind : ℕ → ℕ → ℕ → List Turn → Outcome
+outcome_behind client number tx behind =
     outcome_of client number tx (all_done (before_next behind))
     (ended_by end.Aborted (before_next behind))
 
-abbrev pub receipt_if : ℕ → ℕ → Option ℕ → List Turn → List Outcome
-receipt_if client number None behind = []
-receipt_if client number (Some tx) behind = receipt_of client number tx behind ∷ []
+abbrev pub outcome_if : ℕ → ℕ → Option ℕ → List Turn → List Outcome
+outcome_if client number None behind = []
+outcome_if client number (Some tx) behind = outcome_behind client number tx behind ∷ []
 
--- one receipt for each transaction that began, in their order
-abbrev pub receipts_of : ℕ → ℕ → List Turn → List Outcome
-receipts_of client begun [] = []
-receipts_of client begun (t ∷ ts) = receipt_if client (begun + 1) (begun_in (call_of t) t.answer) ts
-    ++ receipts_of client (begun + begins_by t.answer) ts
+-- one outcome for each transaction that began, in their order
+abbrev pub outcomes_of : ℕ → ℕ → List Turn → List Outcome
+outcomes_of client begun [] = []
+outcomes_of client begun (t ∷ ts) = outcome_if client (begun + 1) (begun_in (call_of t) t.answer) ts
+    ++ outcomes_of client (begun + begins_by t.answer) ts
