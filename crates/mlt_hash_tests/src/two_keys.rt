@@ -6,7 +6,7 @@ ghost use Rattle.mlt_hash_pair.specs.Plans.{FitsFound};
 use mlt_hash_file::HashFile;
 use mlt_hash_pair::RecordChange::{Insert, Remove, Update};
 use mlt_hash_pair::{Changes, RecordChange};
-use mlt_test_tools::{same, same_at};
+use mlt_test_tools::{next_number, same, same_at};
 use mlt_types::{Cell, Key, Limits, Low, Pseudo, Refusal, Value};
 use std::alloc::Global;
 use std::process::Abort;
@@ -409,13 +409,6 @@ fn number_of(key: u64) -> u32
     requires { key < 24 }
 {
     (key / 3 * 8_192 + key % 3) as u32
-}
-
-// The next of a row of numbers that look random, from Knuth's MMIX.
-fn next_number(state: u64) -> u64 {
-    state
-        .wrapping_mul(6_364_136_223_846_793_005)
-        .wrapping_add(1_442_695_040_888_963_407)
 }
 
 // A change that fits what a key has, or none.

@@ -1,6 +1,6 @@
 use Rattle.std.proofs.Math.Nat.{pow-le-pow_right}
 use Rattle.mlt_types.specs.declared.mode.Mode.TheVariants.{Exclusive}
-use Rattle.std.proofs.Common.{rules, is_some, true, ◌≡◌, ℕ, ◌+◌, ◌*◌, ◌≤◌, ◌^◌, Some, ap, sym, ◌∙◌, subst, refl, arith}
+use Rattle.std.proofs.Common.{rules, is_some, true, ◌≡◌, ℕ, ◌+◌, ◌*◌, ◌≤◌, ◌<◌, ◌^◌, Some, ap, sym, ◌∙◌, subst, refl, arith}
 use Rattle.mlt_page.specs.declared.page.Page.{Page}
 use Rattle.mlt_page.specs.declared.page.Page.TheVariants as page
 use Rattle.mlt_hash_form.specs.Splits.{IsDoubled}
@@ -19,8 +19,20 @@ use Rattle.mlt_hash_access.proofs.Rebased.{rebased_reads_page, rebased_writes_pa
 use Rattle.mlt_hash_access.proofs.Leaving.{leaves_by_locking, leaves_by_rewriting, leaves_it, same_moment}
 use Rattle.mlt_hash_split.proofs.Later.{held_may_be_read, locked_may_be_written}
 use Rattle.mlt_hash_split.proofs.Doubling.{IsRewrite, depth_of_double, few_at_double, goes_on_to_the_only_header, goes_on_to_the_second_half, header_as_read, next_is_read, next_is_there, place_of_double}
-use Rattle.mlt_hash_split.proofs.double.double_page.Goals.{then-split-lt8, else-split-lt8}
+use Rattle.mlt_hash_split.proofs.double.double_page.Given.{Over}
+use Rattle.mlt_hash_split.proofs.double.double_page.Goals.{After-first_bits, Start, then-split-lt8, else-split-lt8}
 use Rattle.mlt_hash_split.proofs.double.double_page.Goals as goal
+
+place : (g : Over) (c : Start g) → c.args.place < 128
+place g c = place_of_double g.aim (moment c.args.subtx.now c.args.pages.now) c.args.split.now c.args.place c.requires.0 c.requires.1.1.may (clean_now g.aim (moment c.args.subtx.now c.args.pages.now) c.requires.1.1.may c.requires.1.1.file) c.requires.1.1.under_way
+
+few : (g : Over) (c : After-first_bits g) → 2 ^ c.split.inside.directory_depth ≤ 2 ^ 16
+few g c =
+    let old = moment c.args.subtx.now c.args.pages.now in
+    let depth = depth_of_double g.aim old c.args.split.now c.args.place c.requires.0 c.requires.1.1.may (clean_now g.aim old c.requires.1.1.may c.requires.1.1.file) c.requires.1.1.under_way in
+    let same = ap (λ (s : SplitFields). s.directory_depth) c.split.view_is in
+    let deep : c.split.inside.directory_depth ≤ 16 = omega (arith, same, depth.0) in
+    pow-le-pow_right {n = 2} (omega arith) deep
 
 pub read_held-requires-clause-held : goal.read_held-requires-clause-held
 read_held-requires-clause-held g c =
@@ -28,10 +40,7 @@ read_held-requires-clause-held g c =
     held_may_be_read g.aim.before old c.args.root c.requires.1.1.written (subst (λ (q : ℕ). is_some ((view_over g.aim.before old).seen q) ≡ true) (sym c.requires.1.0) c.requires.1.1.under_way.head_held)
 
 pub dir-number-requires : goal.dir-number-requires
-dir-number-requires g c =
-    let old = moment c.args.subtx.now c.args.pages.now in
-    let place = place_of_double g.aim old c.args.split.now c.args.place c.requires.0 c.requires.1.1.may (clean_now g.aim old c.requires.1.1.may c.requires.1.1.file) c.requires.1.1.under_way in
-    omega (arith, place)
+dir-number-requires g c = let place = place g (goal.at.dir-number-requires g c).Start in omega (arith, place)
 
 pub lock-requires-clause-few : goal.lock-requires-clause-few
 lock-requires-clause-few g c =
@@ -80,62 +89,31 @@ first_bits-requires g c =
     omega (arith, same, depth.0)
 
 pub overflow_mul-entry : goal.overflow_mul-entry
-overflow_mul-entry g c =
-    let old = moment c.args.subtx.now c.args.pages.now in
-    let depth = depth_of_double g.aim old c.args.split.now c.args.place c.requires.0 c.requires.1.1.may (clean_now g.aim old c.requires.1.1.may c.requires.1.1.file) c.requires.1.1.under_way in
-    let same = ap (λ (s : SplitFields). s.directory_depth) c.split.view_is in
-    let few : 2 ^ c.split.inside.directory_depth ≤ 2 ^ 16 = (let deep : c.split.inside.directory_depth ≤ 16 = omega (arith, same, depth.0) in pow-le-pow_right {n = 2} (omega arith) deep) in
-    omega (arith, few, c.first_bits.ensures.below)
+overflow_mul-entry g c = let few = few g (goal.at.overflow_mul-entry g c).After-first_bits in omega (arith, few, c.first_bits.ensures.below)
 
 pub overflow_add-entry : goal.overflow_add-entry
-overflow_add-entry g c =
-    let old = moment c.args.subtx.now c.args.pages.now in
-    let depth = depth_of_double g.aim old c.args.split.now c.args.place c.requires.0 c.requires.1.1.may (clean_now g.aim old c.requires.1.1.may c.requires.1.1.file) c.requires.1.1.under_way in
-    let same = ap (λ (s : SplitFields). s.directory_depth) c.split.view_is in
-    let few : 2 ^ c.split.inside.directory_depth ≤ 2 ^ 16 = (let deep : c.split.inside.directory_depth ≤ 16 = omega (arith, same, depth.0) in pow-le-pow_right {n = 2} (omega arith) deep) in
-    omega (arith, few, c.first_bits.ensures.below)
+overflow_add-entry g c = let few = few g (goal.at.overflow_add-entry g c).After-first_bits in omega (arith, few, c.first_bits.ensures.below)
 
 pub overflow_mul-place : goal.overflow_mul-place
-overflow_mul-place g c =
-    let old = moment c.args.subtx.now c.args.pages.now in
-    let place = place_of_double g.aim old c.args.split.now c.args.place c.requires.0 c.requires.1.1.may (clean_now g.aim old c.requires.1.1.may c.requires.1.1.file) c.requires.1.1.under_way in
-    omega (arith, place)
+overflow_mul-place g c = let place = place g (goal.at.overflow_mul-place g c).Start in omega (arith, place)
 
 pub doubled_page-first-requires : goal.doubled_page-first-requires
-doubled_page-first-requires g c =
-    let old = moment c.args.subtx.now c.args.pages.now in
-    let place = place_of_double g.aim old c.args.split.now c.args.place c.requires.0 c.requires.1.1.may (clean_now g.aim old c.requires.1.1.may c.requires.1.1.file) c.requires.1.1.under_way in
-    omega (arith, place)
+doubled_page-first-requires g c = let place = place g (goal.at.doubled_page-first-requires g c).Start in omega (arith, place)
 
 pub overflow_mul-place-2 : goal.overflow_mul-place-2
-overflow_mul-place-2 g c =
-    let old = moment c.args.subtx.now c.args.pages.now in
-    let place = place_of_double g.aim old c.args.split.now c.args.place c.requires.0 c.requires.1.1.may (clean_now g.aim old c.requires.1.1.may c.requires.1.1.file) c.requires.1.1.under_way in
-    omega (arith, place)
+overflow_mul-place-2 g c = let place = place g (goal.at.overflow_mul-place-2 g c).Start in omega (arith, place)
 
 pub overflow_add-place : goal.overflow_add-place
-overflow_add-place g c =
-    let old = moment c.args.subtx.now c.args.pages.now in
-    let place = place_of_double g.aim old c.args.split.now c.args.place c.requires.0 c.requires.1.1.may (clean_now g.aim old c.requires.1.1.may c.requires.1.1.file) c.requires.1.1.under_way in
-    omega (arith, place)
+overflow_add-place g c = let place = place g (goal.at.overflow_add-place g c).Start in omega (arith, place)
 
 pub doubled_page-second-requires : goal.doubled_page-second-requires
-doubled_page-second-requires g c =
-    let old = moment c.args.subtx.now c.args.pages.now in
-    let place = place_of_double g.aim old c.args.split.now c.args.place c.requires.0 c.requires.1.1.may (clean_now g.aim old c.requires.1.1.may c.requires.1.1.file) c.requires.1.1.under_way in
-    omega (arith, place)
+doubled_page-second-requires g c = let place = place g (goal.at.doubled_page-second-requires g c).Start in omega (arith, place)
 
 pub overflow_mul-place-3 : goal.overflow_mul-place-3
-overflow_mul-place-3 g c =
-    let old = moment c.args.subtx.now c.args.pages.now in
-    let place = place_of_double g.aim old c.args.split.now c.args.place c.requires.0 c.requires.1.1.may (clean_now g.aim old c.requires.1.1.may c.requires.1.1.file) c.requires.1.1.under_way in
-    omega (arith, place)
+overflow_mul-place-3 g c = let place = place g (goal.at.overflow_mul-place-3 g c).Start in omega (arith, place)
 
 pub name_page-requires : goal.name_page-requires
-name_page-requires g c =
-    let old = moment c.args.subtx.now c.args.pages.now in
-    let place = place_of_double g.aim old c.args.split.now c.args.place c.requires.0 c.requires.1.1.may (clean_now g.aim old c.requires.1.1.may c.requires.1.1.file) c.requires.1.1.under_way in
-    omega (arith, place)
+name_page-requires g c = let place = place g (goal.at.name_page-requires g c).Start in omega (arith, place)
 
 pub write_held-requires-clause-held : goal.write_held-requires-clause-held
 write_held-requires-clause-held g c =

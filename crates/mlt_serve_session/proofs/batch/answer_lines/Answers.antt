@@ -1,8 +1,9 @@
 use Rattle.std.proofs.Common.{arith}
+use Rattle.mlt_text.proofs.Pieces.{on_err_all}
 use Rattle.mlt_serve_session.specs.Desks.{moves}
 use Rattle.mlt_serve_session.specs.Turns.{place}
 use Rattle.mlt_event_text.proofs.Cutting.{empty}
-use Rattle.mlt_serve_session.proofs.Reaching.{on_err_all, reaches_more, reaches_none, broke_before, broke_after}
+use Rattle.mlt_serve_session.proofs.Reaching.{reaches_more, reaches_none, broke_before, broke_after}
 use Rattle.mlt_serve_session.proofs.batch.answer_lines.Goals as goal
 
 pub loop-notes-init : goal.loop-notes-init

@@ -1,9 +1,9 @@
 use Rattle.std.proofs.Common.{subst}
 use Rattle.mlt_text.specs.Texts.{AppendsFront}
+use Rattle.mlt_text.proofs.Pieces.{on_err_all}
 use Rattle.mlt_serve_session.specs.Desks.{moves}
 use Rattle.mlt_serve_session.specs.Turns.{place}
 use Rattle.mlt_serve_session.proofs.Listening.{not_written}
-use Rattle.mlt_serve_session.proofs.Reaching.{on_err_all}
 use Rattle.mlt_serve_session.proofs.sessions.reply.Goals as goal
 
 pub returns-in_err-write_text-clause-err : goal.returns-in_err-write_text-clause-err
