@@ -1,14 +1,13 @@
 -- What a line says, by its form and by its bytes.
-use Rattle.std.proofs.Common.{◌≡◌, ℕ, ◌-◌, List, [], ◌∷◌, length, take, get_or, is_some, Bool, true, false, cond, Some, None, nat_lt, ◌==◌, ◌&&◌, ◌||◌, if◌then◌else◌, refl, sym, ◌∙◌, arith}
+use Rattle.std.proofs.Common.{◌≡◌, ℕ, List, [], ◌∷◌, length, is_some, true, false, Some, None, nat_lt, if◌then◌else◌, refl, ◌∙◌}
 use Rattle.std.specs.List.{list_all}
-use Rattle.std.proofs.lemmas.Bool.{le-ltb, ltb-true}
-use Rattle.std.proofs.lemmas.List.Folds.{list_all_at}
+use Rattle.std.proofs.lemmas.Bool.{le-ltb}
 use Rattle.mlt_types.specs.declared.refusal.ScriptCause.TheVariants as cause
 use Rattle.mlt_script.specs.declared.forms.LineForm.{LineForm}
 use Rattle.mlt_script.specs.declared.line.Reading.TheVariants.{Bad, Skip, Form}
 use Rattle.mlt_text_words.specs.declared.keyword.Word.{Word}
-use Rattle.mlt_text_words.specs.Fronts.{TextIs, is_printable}
-use Rattle.mlt_text_words.specs.Lines.{is_allowed, is_comment, without_cr}
+use Rattle.mlt_text_words.specs.Fronts.{TextIs}
+use Rattle.mlt_text_words.specs.Lines.{is_allowed, is_comment}
 use Rattle.mlt_text_words.specs.Words.{word_at, words_of}
 use Rattle.mlt_text_words.proofs.Allowed.{all_allowed, no_cr}
 use Rattle.mlt_script.specs.Forms.{form_of, key_at}

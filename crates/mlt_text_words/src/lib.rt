@@ -8,7 +8,7 @@ mod line;
 mod number;
 mod words;
 
-pub use front::{after, front_number};
+pub use front::{after, front_keyword, front_number};
 pub use keyword::{Keyword, Word};
 pub use letter::Letter;
 pub use line::{Line, is_comment_line, read_line, trimmed};
