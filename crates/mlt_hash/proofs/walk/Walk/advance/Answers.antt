@@ -88,7 +88,7 @@ returns-in-Placed-clause-locks g c =
 pub returns-in-Adding-clause-locks : goal.returns-in-Adding-clause-locks
 returns-in-Adding-clause-locks g c =
     let old : Moment = moment c.args.subtx.now c.args.pages.now in
-    adding_finds_none g.basis (walk_step old (moment c.add_or_split.new.subtx c.add_or_split.new.pages) c.args.self.now c.add_or_split.new.walk) c.in-Adding.value c.in-Adding.bucket c.in-Adding.depth c.add_or_split.result c.add_or_split.ensures.tells
+    adding_finds_none g.basis (walk_step old (moment c.add_or_split.new.subtx c.add_or_split.new.pages) c.args.self.now c.add_or_split.new.walk) c.in-Adding.value c.in-Adding.bucket c.in-Adding.room_depth c.add_or_split.result c.add_or_split.ensures.tells
 
 pub returns-in-Splitting-clause-locks : goal.returns-in-Splitting-clause-locks
 returns-in-Splitting-clause-locks g c =
