@@ -14,5 +14,6 @@ mod session_threads;
 mod socket;
 mod spin_policy;
 mod talking;
+mod tuning;
 
 pub use serving::serve_on;

@@ -6,6 +6,7 @@ mod begin_queue;
 mod engine;
 mod reporting;
 mod running;
+mod tuning;
 mod worker;
 mod workers;
 

@@ -7,6 +7,7 @@ use crate::gate::Gate;
 use crate::lock_desk::{LockDesk, Tries};
 use crate::made_with::MadeWith;
 use crate::shared::Shared;
+use crate::tuning::WAITS_BEFORE_PRECEDENCE;
 use crate::turn::{Sleeper, Turn, is_to_wait};
 use mlt_event::{Answer, Event, Told};
 use mlt_object_kinds::{ObjOp, ObjReply};
@@ -16,9 +17,6 @@ use mlt_types::{Pseudo, Refusal, TxId};
 use mlt_work_waits::{Waker, Wakers};
 use std::sync::Wait;
 use std::sync::ledger::Share;
-
-// An operation that has waited so often takes precedence.
-const PATIENCE: u64 = 8;
 
 impl<'a, P: Pseudo, L: MadeWith<P>, R: Wait, G: Gate> LockDesk<'a, P, L, R, G> {
     /// A desk that has made no event yet.
@@ -119,7 +117,7 @@ impl<'a, P: Pseudo, L: MadeWith<P>, R: Wait, G: Gate> LockDesk<'a, P, L, R, G> {
         Sleeper {
             tx,
             waker: self.waker,
-            takes_precedence: self.waited >= PATIENCE,
+            takes_precedence: self.waited >= WAITS_BEFORE_PRECEDENCE,
         }
     }
 
