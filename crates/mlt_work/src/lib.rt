@@ -4,6 +4,7 @@
 
 mod begin_queue;
 mod engine;
+mod options;
 mod reporting;
 mod running;
 mod tuning;
@@ -12,4 +13,5 @@ mod workers;
 
 pub use begin_queue::BeginQueue;
 pub use engine::run_scripts;
+pub use options::RunOptions;
 pub use running::run;
