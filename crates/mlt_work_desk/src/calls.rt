@@ -93,7 +93,9 @@ impl<'a, P: Pseudo, L: MadeWith<P>, R: Wait, G: Gate> LockDesk<'a, P, L, R, G> {
         } = self;
         let mut wakers = Wakers::new();
         let mut state = shared.enter(*rt, *asleep, caller(&event, *waker));
-        let (told, turn) = state.act(event, share, sleeper, &mut wakers);
+        // A copy: the prover takes what is passed by value as moved.
+        let next = sleeper;
+        let (told, turn) = state.act(event, share, next, &mut wakers);
         drop(state);
         shared.wake(&wakers);
         *asleep = if turn == Turn::Sleeps { sleeper } else { None };

@@ -76,7 +76,7 @@ impl<P: Pseudo, L: MadeWith<P>> Shared<P, L> {
         let Some(caller) = caller else {
             return state;
         };
-        if state.desks.yields(caller) {
+        if state.desks.yields(&caller) {
             return self.sleep(rt, state, caller);
         }
         state
