@@ -12,5 +12,5 @@ pub(crate) struct Service<'a, P: Pseudo, L: MadeWith<P>> {
     pub(crate) shared: &'a Shared<P, L>,
     pub(crate) admission_queue: &'a AdmissionQueue,
     pub(crate) spin_policy: &'a SpinPolicy,
-    pub(crate) options: ServeOptions,
+    pub(crate) options: &'a ServeOptions,
 }

@@ -36,17 +36,17 @@ fn serve_with<
     blank: Blank,
     listener: &TcpListener,
     pseudo: P,
-    options: ServeOptions,
+    options: &ServeOptions,
 ) -> Result<(Outcomes, Manager<P>, u64), Refusal>
     requires name { blank.name ≡ L.name }
     requires parts { blank.parts ≡ L.parts }
-    requires made { Some (making_by options.limits pseudo) ≡ L.made_with }
+    requires made { Some (making_by options.now.limits pseudo) ≡ L.made_with }
     requires all { blank.parts ≡ 129 }
-    requires some { 0 < options.sessions }
-    requires most { options.sessions ≤ 64 }
-    ensures made { IfOk result (λ got. IsMadeWith got.1 options.limits pseudo) }
+    requires some { 0 < options.now.sessions }
+    requires most { options.now.sessions ≤ 64 }
+    ensures made { IfOk result (λ got. IsMadeWith got.1 options.now.limits pseudo) }
     ensures outcomes { IfOk result (λ got. Agrees got.0 got.1.commons.history.items) }
-    ensures clients { IfOk result (λ got. AreOfClients options.connections got.0) }
+    ensures clients { IfOk result (λ got. AreOfClients options.now.connections got.0) }
     ensures order { IfOk result (λ got. AreByClientAndNumber got.0) }
     ensures events { IfOk result (λ got. got.1.events ≡ got.2) }
     ensures refusal { IfErr result (λ refusal.
@@ -96,16 +96,16 @@ pub fn serve_on<P: Pseudo + Drop + Send, R: Threads + Wait + Clock + Sync>(
     alloc: Global,
     listener: &TcpListener,
     pseudo: P,
-    options: ServeOptions,
+    options: &ServeOptions,
 ) -> Result<(Outcomes, Manager<P>), Refusal>
-    requires some { 0 < options.sessions }
-    requires most { options.sessions ≤ 64 }
+    requires some { 0 < options.now.sessions }
+    requires most { options.now.sessions ≤ 64 }
     // the manager has these limits and this function from keys to pseudokeys
-    ensures made { IfOk result (λ got. IsMadeWith got.1 options.limits pseudo) }
+    ensures made { IfOk result (λ got. IsMadeWith got.1 options.now.limits pseudo) }
     // what clients were told is what the manager has done
     ensures outcomes { IfOk result (λ got. Agrees got.0 got.1.commons.history.items) }
     // each outcome is that of one of the connections
-    ensures clients { IfOk result (λ got. AreOfClients options.connections got.0) }
+    ensures clients { IfOk result (λ got. AreOfClients options.now.connections got.0) }
     // they stand by client and then by number
     ensures order { IfOk result (λ got. AreByClientAndNumber got.0) }
     ensures refusal { IfErr result (λ refusal.

@@ -80,7 +80,7 @@ fn refusal_of<T: Threads + Wait + Sync>(
         workers: 2,
         tries: 9,
     };
-    match run_scripts(rt, alloc, reader, writer, Mult, options, &NoGate) {
+    match run_scripts(rt, alloc, reader, writer, Mult, &options, &NoGate) {
         Ok(manager) => {
             manager.close();
             None

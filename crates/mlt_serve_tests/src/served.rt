@@ -44,7 +44,7 @@ pub fn served_text<R: Threads + Wait + Clock + Sync>(
         tries: 10_000,
         idle: None,
     };
-    let (outcomes, manager) = serve_on(rt, alloc, listener, Mult, options)?;
+    let (outcomes, manager) = serve_on(rt, alloc, listener, Mult, &options)?;
     let text = text_of(alloc, outcomes, &manager);
     manager.close();
     text

@@ -34,7 +34,7 @@ fn text_within<T: Threads + Wait + Sync, G: Gate + Sync>(
         workers,
         tries,
     };
-    run_scripts(rt, alloc, &mut input, &mut text, Mult, options, gate)?.close();
+    run_scripts(rt, alloc, &mut input, &mut text, Mult, &options, gate)?.close();
     Ok(text)
 }
 

@@ -52,14 +52,15 @@ pub fn run_scripts<
     reader: &mut R,
     writer: &mut W,
     pseudo: P,
-    options: RunOptions,
+    options: &RunOptions,
     gate: &G,
 ) -> Result<Manager<P>, Refusal>
-    requires some { 0 < options.workers }
-    requires most { options.workers ≤ 8 }
+    requires some { 0 < options.now.workers }
+    requires most { options.now.workers ≤ 8 }
     // what is written is the text of what became of the scripts read, which agrees with what the manager has done
     ensures text { IfOk result (λ manager. (input text : List ℕ)
-        × IsRunOf options.limits pseudo (R.remaining reader.old) (R.remaining reader.new) input text manager
+        × IsRunOf options.now.limits pseudo (R.remaining reader.old) (R.remaining reader.new)
+        input text manager
         × Appends (W.contents writer.old) (W.contents writer.new) text) }
     // a fault is the first one of the input
     ensures fault { (line : ℕ) (cause : ScriptCause) → result ≡ Err (Refusal.ScriptFault line cause)
@@ -67,7 +68,8 @@ pub fn run_scripts<
         × IsFirstFault input line cause }
     // where it fails, nothing was written, or a prefix of such a text; and too long an input is not read on
     ensures failure { FailsCleanly (R.remaining reader.old) (R.remaining reader.new)
-        (W.contents writer.old) (W.contents writer.new) result (IsRunText options.limits pseudo) }
+        (W.contents writer.old) (W.contents writer.new) result
+        (IsRunText options.now.limits pseudo) }
     ensures refusals { IfErr result
         (λ refusal. IsWant refusal ⊎ (refusal ≡ Refusal.Audit) ⊎ IsScriptFault refusal) }
 {

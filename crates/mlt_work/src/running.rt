@@ -32,17 +32,17 @@ fn run_with<
     blank: Blank,
     pseudo: P,
     clients: &[Vec<Script>],
-    options: RunOptions,
+    options: &RunOptions,
     gate: &G,
 ) -> Result<(Report, Manager<P>), Refusal>
     requires name { blank.name ≡ L.name }
     requires parts { blank.parts ≡ L.parts }
-    requires made { Some (making_by options.limits pseudo) ≡ L.made_with }
+    requires made { Some (making_by options.now.limits pseudo) ≡ L.made_with }
     requires nine { blank.parts ≡ 9 }
-    requires some { 0 < options.workers }
-    requires most { options.workers ≤ 8 }
+    requires some { 0 < options.now.workers }
+    requires most { options.now.workers ≤ 8 }
     ensures ran { IfOk result
-        (λ got. HasRunAll (scripts_of_clients clients.now) options.limits pseudo got.0 got.1) }
+        (λ got. HasRunAll (scripts_of_clients clients.now) options.now.limits pseudo got.0 got.1) }
     ensures refusal { IfErr result
         (λ refusal. (refusal ≡ Refusal.OutOfMemory) ⊎ (refusal ≡ Refusal.Audit)) }
 {
@@ -105,15 +105,15 @@ pub fn run<P: Pseudo + Drop + Send, R: Threads + Wait + Sync, G: Gate + Sync>(
     alloc: Global,
     pseudo: P,
     clients: &[Vec<Script>],
-    options: RunOptions,
+    options: &RunOptions,
     gate: &G,
 ) -> Result<(Report, Manager<P>), Refusal>
-    requires some { 0 < options.workers }
-    requires most { options.workers ≤ 8 }
+    requires some { 0 < options.now.workers }
+    requires most { options.now.workers ≤ 8 }
     // an outcome for each script, which agrees with what the manager has done, and the base of the committed ones; and the
     // manager has these limits and this function from keys to pseudokeys
     ensures ran { IfOk result
-        (λ got. HasRunAll (scripts_of_clients clients.now) options.limits pseudo got.0 got.1) }
+        (λ got. HasRunAll (scripts_of_clients clients.now) options.now.limits pseudo got.0 got.1) }
     ensures refusal { IfErr result
         (λ refusal. (refusal ≡ Refusal.OutOfMemory) ⊎ (refusal ≡ Refusal.Audit)) }
 {

@@ -138,7 +138,7 @@ fn run_work<P: Pseudo + Drop + Send, T: Threads + Wait + Clock + Sync>(
         &mut input,
         &mut io::writer(rt),
         pseudo,
-        options,
+        &options,
         &BeginQueue::new(threads),
     )?;
     let written = write_history(rt, manager.history(), &work.run);
@@ -169,7 +169,7 @@ fn run_server<P: Pseudo + Drop + Send, T: Threads + Wait + Clock + Sync>(
             seconds => Some(Duration::from_secs(seconds)),
         },
     };
-    let (_outcomes, manager) = serve_on(threads, rt.alloc(), &listener, pseudo, options)?;
+    let (_outcomes, manager) = serve_on(threads, rt.alloc(), &listener, pseudo, &options)?;
     let written = write_served(rt, serve, manager.history());
     manager.close();
     written
