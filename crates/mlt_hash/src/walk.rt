@@ -138,7 +138,9 @@ impl Walk {
         ensures tells { TellsAt self.old.phase basis
             (moment subtx.old pages.old) (moment subtx.new pages.new) self.old self.new result }
     {
-        match self.phase {
+        // A copy: matched in place, what the arms take of the walk is not proved.
+        let phase = self.phase;
+        match phase {
             Phase::Start => read_header(self, setting.root, subtx, pages),
             Phase::Headed {
                 dir,

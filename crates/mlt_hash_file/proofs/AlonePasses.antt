@@ -24,11 +24,11 @@ use Rattle.mlt_hash_access.proofs.Since.{over_since}
 use Rattle.mlt_hash_split.specs.Rests.{held_page}
 use Rattle.mlt_hash_split.proofs.Closing.{held_page_over}
 use Rattle.mlt_hash_file.specs.Alone.{IsAlone, KeepsBefore, basis_of, pages_since}
-use Rattle.mlt_hash.specs.StepsLeft.{IsPutting, bucket_depth, directory_depth, steps_of_splits, steps_to_put, steps_to_put_at}
+use Rattle.mlt_hash.specs.StepsLeft.{IsPutting}
 use Rattle.mlt_hash_file.specs.AloneWalks.{HasArrived, HasChanged, HasMade, IsFullFor, IsHashFile, IsReadySince, NeedsRoom, NeedsSplits, NeverHasRoomFor, TellsOfPass, added_value}
 use Rattle.mlt_hash.specs.Changes.{HasNoRoom, IsAtAbsent, IsAtRecord, IsFull, Makes, NeedsSplit, TellsOfAddition, WritesIfChanged, crowded_at, page_of}
 use Rattle.mlt_hash.specs.Passes.{HasRoomFrom, IsNextPass, next_of, value_after}
-use Rattle.mlt_hash_file.specs.SplitPages.{HasRoomAt, bucket_for, pages_for, pages_in_the_end, pages_left_at, pages_to_make, steps_down_to}
+use Rattle.mlt_hash_file.specs.SplitPages.{HasRoomAt, bucket_for, pages_for, pages_in_the_end, pages_left_at, pages_to_make}
 use Rattle.mlt_hash.specs.Steps.{HasFound, IsSameWalk}
 use Rattle.mlt_hash.specs.Walks.{Basis, Before, IsAtBucket, IsStanding, Stands, WalkFields, view_for}
 use Rattle.mlt_hash.specs.declared.answer.WalkAnswer.{WalkAnswer}

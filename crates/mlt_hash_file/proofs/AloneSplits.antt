@@ -27,7 +27,7 @@ use Rattle.mlt_hash_split.proofs.HeldPages.{clean_now}
 use Rattle.mlt_hash_split.proofs.Later.{begins_now, stands_now}
 use Rattle.mlt_hash_split.proofs.OldBucket.{depths_are_small}
 use Rattle.mlt_hash_file.specs.Alone.{HasNotWaited, IsAlone, KeepsBefore, basis_of, pages_before, pages_since}
-use Rattle.mlt_hash.specs.StepsLeft.{IsPutting, depth_after, steps_of_splits, steps_to_put, steps_to_put_at}
+use Rattle.mlt_hash.specs.StepsLeft.{IsPutting}
 use Rattle.mlt_hash_file.specs.AloneWalks.{HasMade, IsHashFile, MayAdd, TellsOfSplits, added_value}
 use Rattle.mlt_hash.specs.Changes.{Makes}
 use Rattle.mlt_hash_file.specs.SplitPages.{left_from, left_from_split, pages_in_the_end, pages_left_at, pages_to_make}
