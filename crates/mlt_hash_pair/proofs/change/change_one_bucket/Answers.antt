@@ -7,6 +7,7 @@ use Rattle.mlt_hash_access.specs.Moments.{Moment, moment}
 use Rattle.mlt_hash_access.specs.Views.{WritesPage, view_of}
 use Rattle.mlt_hash_access.proofs.Leaving.{leaves_it}
 use Rattle.mlt_hash_pair.specs.Plans.{FitsSlots, IsPlanned, bucket_after}
+use Rattle.mlt_hash_pair.specs.declared.asked.RecordChange.{RecordChange}
 use Rattle.mlt_hash_pair.specs.declared.plan.SlotPlan.{SlotPlan}
 use Rattle.mlt_hash_pair.specs.declared.plan.SlotPlan.TheVariants as plan
 use Rattle.mlt_hash_access.proofs.Unwritten.{first_write_is_not_third}
