@@ -15,7 +15,7 @@ use Rattle.mlt_hash_form.specs.Splits.{IsDoubled, IsMidway, prefix_of, target_of
 use Rattle.mlt_hash_form.proofs.HeldPages.{writes_over}
 use Rattle.mlt_hash_form.proofs.PageContents.{doubled_right}
 use Rattle.mlt_hash_form.proofs.SplitSteps.{page_as_it_was, pages_when_doubled, rewrites_a_page, set_is_longer}
-use Rattle.mlt_hash_access.specs.Moments.{IsCleanFor, MayStep, Moment}
+use Rattle.mlt_hash_access.specs.Moments.{MayStep, Moment}
 use Rattle.mlt_hash_access.specs.Views.{ReadsPage, View, WritesPage, view_over, view_of}
 use Rattle.mlt_hash_split.proofs.Closing.{HasClean}
 use Rattle.mlt_hash_split.specs.Rests.{Aim, HoldsAmong, IsIn, held_page, most_held, seed_of}

@@ -2,7 +2,6 @@
 use Rattle.std.proofs.Common.{ℕ, ◌≡◌, true, is_some, unwrap_or, Option, Some, None, refl, sym, ◌∙◌, ap, subst}
 use Rattle.std.specs.FinMap as map
 use Rattle.std.proofs.lemmas.Bool.{both_ways}
-use Rattle.mlt_types.specs.declared.mode.Mode.{Mode}
 use Rattle.mlt_types.specs.declared.mode.Mode.TheVariants.{Exclusive}
 use Rattle.mlt_page.specs.Values.{BucketFields, HeadFields}
 use Rattle.mlt_page.specs.declared.page.Page.{Page}

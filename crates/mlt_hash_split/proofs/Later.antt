@@ -23,7 +23,7 @@ use Rattle.mlt_types.specs.declared.refusal.Refusal.{Refusal}
 use Rattle.mlt_types.specs.declared.refusal.Refusal.TheVariants as refusal
 use Rattle.std.specs.Prelude.{◌⊎◌, ◌↔◌, Result, Err}
 use Rattle.std.proofs.Math.Nat.{pow-le-pow_right}
-use Rattle.mlt_hash_access.proofs.Views.{agrees, exclusive_stays, may_write, mode_of_page}
+use Rattle.mlt_hash_access.proofs.Views.{exclusive_stays, may_write, mode_of_page}
 
 -- what was seen is seen still, what was held exclusively is held so, and the header is not written
 pub record IsLater (root : ℕ) (view view' : View) : Type 0 where
