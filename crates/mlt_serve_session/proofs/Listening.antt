@@ -14,7 +14,7 @@ use Rattle.mlt_serve_session.specs.Rounds.{Replied, Stopped, Unwritten, Listens,
 use Rattle.mlt_serve_session.specs.Talks.{Turn, turn_text}
 use Rattle.mlt_serve_session.specs.Turns.{Place, Goes}
 use Rattle.mlt_event_text.proofs.Splitting.{splits_none, splits_both, prefix_lines, prefix_begins}
-use Rattle.mlt_serve_session.specs.Desks.{Moves}
+use Rattle.mlt_script_cursor.specs.Calls.{Moves}
 use Rattle.mlt_serve_session.proofs.Reaching.{covers_all, covers_begin}
 
 -- turns, and then more turns

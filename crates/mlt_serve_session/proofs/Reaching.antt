@@ -16,7 +16,7 @@ use Rattle.mlt_event_text.proofs.Splitting.{splits_both}
 use Rattle.mlt_serve_session.specs.Talks.{Turn, turn_text, ends}
 use Rattle.mlt_serve_session.specs.Texts.{said_text}
 use Rattle.mlt_serve_session.specs.Turns.{Place, Step, Goes, TakesTurn}
-use Rattle.mlt_serve_session.specs.Desks.{Moves}
+use Rattle.mlt_script_cursor.specs.Calls.{Moves}
 
 -- an error that was passed on is the same one
 pub same_error : {S T E : Type 0} (result : Result T E) (e x : E) → IsErrAnd result (λ y. y ≡ e) → IsErrOf result x → IsErrOf {T = S} {E = E} (Err e) x
