@@ -1,7 +1,7 @@
 //! Records read as objects: which page lock an operation needs, what it is told and changes where it finds a
 //! record or none, and the change that undoes it.
 
-ghost use Rattle.std.specs.Prelude.{◌≡◌, ◌≤◌, ℕ, Option, is_some, length};
+ghost use Rattle.std.specs.Prelude.{◌≡◌, ◌≤◌, ℕ, Option, Some, is_some, length};
 ghost use Rattle.mlt_object_base.specs.Effects.{access_of, account_inverse_of, account_reply_of, changes_on, counter_inverse_of, counter_reply_of, element_inverse_of, element_reply_of, inverse_of, reply_of, size_change_of, size_inverse_of};
 ghost use Rattle.mlt_object_base.specs.Records.{CanChange, counter_of_record, HasWhatIsUndone, IsRecord, record_after, state_of_record};
 ghost use Rattle.mlt_object_kinds.specs.Accounts.{AccountStep, IsAccount};
@@ -28,6 +28,21 @@ pub enum RecChange {
     Plus(u64),
     /// The amount is taken from the value.
     Minus(u64),
+}
+
+impl RecChange {
+    /// The record after the change, where it had this value before, or there was none.
+    pub fn value_after(self, found: Option<Value>) -> Option<Value>
+        ensures { result ≡ record_after (Some self) found }
+    {
+        match self {
+            RecChange::Add(value) | RecChange::Set(value) => Some(value),
+            RecChange::ToGhost => None,
+            RecChange::Revive => Some(0),
+            RecChange::Plus(amount) => Some(found?.wrapping_add(amount)),
+            RecChange::Minus(amount) => Some(found?.wrapping_sub(amount)),
+        }
+    }
 }
 
 /// What an operation, or the undoing of one, changes: the record of its own cell, and the size record of its set. Only

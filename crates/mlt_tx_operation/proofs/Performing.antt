@@ -1,11 +1,17 @@
 -- What a decision tells, from what the walk's change tells
-use Rattle.std.proofs.Common.{ℕ, Option, refl, inl, inr}
+use Rattle.std.proofs.Common.{◌≡◌, ℕ, Option, None, Some, refl, sym, subst, ◌∙◌, inl, inr}
+use Rattle.std.specs.Prelude.{IsSome}
+use Rattle.std.proofs.lemmas.Bool.{false≢true}
 use Rattle.mlt_types.specs.declared.refusal.Refusal.TheVariants as refusal
 use Rattle.mlt_object_base.specs.declared.record.RecChange.{RecChange}
-use Rattle.mlt_object_base.specs.declared.record.RecChange.TheVariants.{Add}
+use Rattle.mlt_object_base.specs.declared.record.RecChange.TheVariants.{Add, Revive}
+use Rattle.mlt_object_base.specs.Records.{CanChange}
 use Rattle.mlt_hash_access.specs.Moments.{Moment}
 use Rattle.mlt_hash.specs.Walks.{Basis, WalkFields, one_key}
-use Rattle.mlt_hash.specs.Changes.{TellsOfAddition, TellsOfChange}
+use Rattle.mlt_hash.specs.Changes.{IsAtRecord, TellsOfAddition, TellsOfChange}
+use Rattle.mlt_hash.specs.Steps.{HasFound}
+use Rattle.mlt_hash.specs.declared.pass.Phase.{Phase}
+use Rattle.mlt_hash.specs.declared.pass.Phase.TheVariants as at
 use Rattle.mlt_hash.specs.declared.pass.Change.{Change}
 use Rattle.mlt_hash.specs.declared.pass.Change.TheVariants as change
 use Rattle.mlt_hash.specs.declared.answer.WalkAnswer.{WalkAnswer}
@@ -30,3 +36,14 @@ pub change_tells : (basis : Basis) (new : Moment) (before after : WalkFields) (d
 change_tells basis new before after decided found done answer.Changed performs makes = record { done = done; makes = makes; performs = performs }
 change_tells basis new before after decided found done (answer.Refused reason) performs tells = absurd (tells.1 refl)
 change_tells basis new before after decided found done other performs tells = absurd tells
+
+-- it finds a record, unless one is new or comes back
+pub is_found : (decided : RecChange) (found : Option ℕ) → CanChange (Some decided) found → ((v : ℕ) → decided ≡ Add v → ⊥) → (decided ≡ Revive → ⊥) → (v : ℕ) × (found ≡ Some v)
+is_found (Add v) found can not_new not_back = absurd (not_new v refl)
+is_found Revive found can not_new not_back = absurd (not_back refl)
+is_found decided (Some v) can not_new not_back = (v, refl)
+is_found decided None can not_new not_back = absurd (false≢true can)
+
+pub at_record : (phase : Phase) (found : Option ℕ) (v : ℕ) → HasFound phase found → found ≡ Some v → IsAtRecord phase
+at_record (at.AtBucket bucket depth own) found v has is = subst IsSome (sym (has ∙ is)) refl
+at_record other found v has is = absurd has

@@ -37,17 +37,10 @@ pub(crate) fn perform<P: Pseudo>(
     ensures tells { TellsOfDecision (basis_in P.bits_of setting.now subtx.old.tx)
         (moment subtx.new pages.new) walk.old walk.new decided found result }
 {
-    match (decided, found) {
+    match (decided, decided.value_after(found)) {
         (RecChange::Add(value), _) => walk.insert(value, setting, subtx, pages),
-        (RecChange::Set(value), _) => walk.update(value, subtx, pages),
-        (RecChange::ToGhost, _) => walk.remove(subtx, pages),
         (RecChange::Revive, _) => walk.revive(0, subtx, pages),
-        (RecChange::Plus(amount), Some(value)) => {
-            walk.update(value.wrapping_add(amount), subtx, pages)
-        }
-        (RecChange::Minus(amount), Some(value)) => {
-            walk.update(value.wrapping_sub(amount), subtx, pages)
-        }
-        (RecChange::Plus(_) | RecChange::Minus(_), None) => unreachable!(),
+        (_, Some(value)) => walk.update(value, subtx, pages),
+        (_, None) => walk.remove(subtx, pages),
     }
 }

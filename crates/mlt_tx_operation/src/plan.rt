@@ -1,23 +1,21 @@
 //! What an operation on one record is told, and what it changes in place.
 
-ghost use Rattle.std.specs.Prelude.{◌≡◌, IfSome, IsSome};
+ghost use Rattle.std.specs.Prelude.{◌≡◌, IfSome};
 ghost use Rattle.mlt_object_base.specs.declared.request.Request.TheVariants.{Do};
 ghost use Rattle.mlt_hash.specs.Walks.{basis_in};
-ghost use Rattle.mlt_hash.specs.declared.pass.Change.TheVariants as change;
 ghost use Rattle.mlt_hash_access.specs.Moments.{moment};
 ghost use Rattle.mlt_tx_operation.specs.Operating.{MayOperate, started_for};
-ghost use Rattle.mlt_tx_two_records.specs.Performing.{Performs};
 ghost use Rattle.mlt_tx_operation.specs.AtOnce.{CanWrite, NobodyHolds, PassesAtOnce, store_after};
 
 use mlt_hash::Setting;
 use mlt_hash_access::LockedStore;
 use mlt_hash_form::{home_bucket, value_in};
 use mlt_hash_record::{SlotWrite, update};
-use mlt_object_base::{RecChange, Request};
+use mlt_object_base::Request;
 use mlt_object_kinds::{ObjOp, ObjReply};
 use mlt_page_store::Store;
 use mlt_page_subtx::Subtx;
-use mlt_types::{Pseudo, Value};
+use mlt_types::Pseudo;
 
 /// What an operation on one record is told, and the slot that it sets, if it changes its record.
 #[derive(Clone, Copy, Debug, PartialEq, Eq)]
@@ -69,23 +67,12 @@ pub fn plan_at_once<P: Pseudo>(
     let Some(change) = decided else {
         return Some(PlanAtOnce { reply, write: None });
     };
-    let value = value_set(change, found)?;
+    let (Some(_), Some(value)) = (found, change.value_after(found)) else {
+        return None;
+    };
     let write = update(number, bucket, key, value)?;
     Some(PlanAtOnce {
         reply,
         write: Some(write),
     })
-}
-
-/// The value that a change gives to a record which has this one, if it gives one.
-fn value_set(decided: RecChange, found: Option<Value>) -> Option<Value>
-    ensures performs { IfSome result (λ value. Performs decided found (change.Set value)) }
-    ensures found { IfSome result (λ value. IsSome found) }
-{
-    match (decided, found) {
-        (RecChange::Set(value), Some(_)) => Some(value),
-        (RecChange::Plus(amount), Some(value)) => Some(value.wrapping_add(amount)),
-        (RecChange::Minus(amount), Some(value)) => Some(value.wrapping_sub(amount)),
-        _ => None,
-    }
 }

@@ -1,4 +1,5 @@
 pub mod Asking
+pub mod Performing
 pub mod Planning
 pub mod RollingBack
 pub mod FirstChanges

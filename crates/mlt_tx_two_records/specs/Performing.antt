@@ -1,38 +1,37 @@
 -- How the change of a record that is decided on is made: by a walk, and by a pair
-use Rattle.std.specs.Prelude.{ℕ, ◌≡◌, ◌⊎◌, ◌+◌, ◌-◌, ◌%◌, ◌^◌, Option, None, Some}
+use Rattle.std.specs.Prelude.{ℕ, ◌≡◌, ◌⊎◌, Option, None, Some}
 use Rattle.mlt_object_kinds.specs.declared.element.ElementOp.TheVariants as element
 use Rattle.mlt_object_kinds.specs.declared.operation.ObjOp.TheVariants.{Element}
 use Rattle.mlt_object_kinds.specs.declared.operation.ObjReply.{ObjReply}
 use Rattle.mlt_object_base.specs.declared.record.RecChange.{RecChange}
-use Rattle.mlt_object_base.specs.declared.record.RecChange.TheVariants.{Add, Set, ToGhost, Revive, Plus, Minus}
+use Rattle.mlt_object_base.specs.declared.record.RecChange.TheVariants.{Add, ToGhost, Revive}
 use Rattle.mlt_object_base.specs.declared.request.Request.{Request}
 use Rattle.mlt_object_base.specs.declared.request.Request.TheVariants.{Do}
-use Rattle.mlt_object_base.specs.Records.{counter_of_record}
+use Rattle.mlt_object_base.specs.Records.{counter_of_record, record_after}
 use Rattle.mlt_object_base.specs.Requests.{decision}
 use Rattle.mlt_hash_pair.specs.declared.asked.RecordChange.{RecordChange}
 use Rattle.mlt_hash_pair.specs.declared.asked.RecordChange.TheVariants as asked
 use Rattle.mlt_hash.specs.declared.pass.Change.{Change}
 use Rattle.mlt_hash.specs.declared.pass.Change.TheVariants as change
 
+-- the slot gets the value that the record then has
+abbrev pub SetsTo : Option ℕ → Change → Type 0
+SetsTo None done = ⊥
+SetsTo (Some v) done = done ≡ change.Set v
+
 -- the change of the slot is the one that was decided on, where the record had this value, or there was none
 abbrev pub Performs : RecChange → Option ℕ → Change → Type 0
 Performs (Add v) found done = (done ≡ change.Put v) ⊎ (done ≡ change.Revive v)
-Performs (Set v) found done = done ≡ change.Set v
 Performs ToGhost found done = done ≡ change.Remove
 Performs Revive found done = done ≡ change.Revive 0
-Performs (Plus n) None done = ⊥
-Performs (Plus n) (Some v) done = done ≡ change.Set ((v + n) % 2 ^ 64)
-Performs (Minus n) None done = ⊥
-Performs (Minus n) (Some v) done = done ≡ change.Set ((v + (2 ^ 64 - n)) % 2 ^ 64)
+Performs decided found done = SetsTo (record_after (Some decided) found) done
 
 -- what a pair is asked for then
 abbrev pub asked_of : RecChange → Option ℕ → RecordChange
 asked_of (Add v) found = asked.Insert v
-asked_of (Set v) found = asked.Update v
 asked_of ToGhost found = asked.Remove
 asked_of Revive found = asked.Insert 0
-asked_of (Plus n) found = asked.Update ((counter_of_record found + n) % 2 ^ 64)
-asked_of (Minus n) found = asked.Update ((counter_of_record found + (2 ^ 64 - n)) % 2 ^ 64)
+asked_of decided found = asked.Update (counter_of_record (record_after (Some decided) found))
 
 -- where no record is found, the request asks for one of this value
 abbrev pub AsksToAdd : Request → ℕ → Type 0

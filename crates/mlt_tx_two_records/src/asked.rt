@@ -13,10 +13,8 @@ pub(crate) fn asked_for(change: RecChange, found: Option<Value>) -> RecordChange
 {
     match change {
         RecChange::Add(value) => RecordChange::Insert(value),
-        RecChange::Set(value) => RecordChange::Update(value),
         RecChange::ToGhost => RecordChange::Remove,
         RecChange::Revive => RecordChange::Insert(0),
-        RecChange::Plus(amount) => RecordChange::Update(found.unwrap_or(0).wrapping_add(amount)),
-        RecChange::Minus(amount) => RecordChange::Update(found.unwrap_or(0).wrapping_sub(amount)),
+        _ => RecordChange::Update(change.value_after(found).unwrap_or(0)),
     }
 }

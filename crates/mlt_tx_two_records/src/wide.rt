@@ -207,18 +207,11 @@ fn raise_size<P: Pseudo>(
     ensures tells { TellsOfRaise (basis_after since (basis_in P.bits_of setting.now subtx.old.tx))
         (moment subtx.new pages.new) walk.old walk.new raise found result }
 {
+    let Some(value) = raise.value_after(found) else {
+        unreachable!()
+    };
     match found {
-        None => {
-            let RecChange::Add(value) = raise else {
-                unreachable!()
-            };
-            walk.insert(value, setting, subtx, pages)
-        }
-        Some(value) => {
-            let RecChange::Plus(amount) = raise else {
-                unreachable!()
-            };
-            walk.update(value.wrapping_add(amount), subtx, pages)
-        }
+        None => walk.insert(value, setting, subtx, pages),
+        Some(_) => walk.update(value, subtx, pages),
     }
 }
