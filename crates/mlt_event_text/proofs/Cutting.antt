@@ -10,15 +10,7 @@ use Rattle.mlt_event_text.specs.declared.session_line.Line.{Line}
 use Rattle.mlt_event_text.specs.declared.session_line.Line.TheVariants.{Says, TooLong}
 use Rattle.mlt_event_text.specs.declared.command.Command.{Command}
 use Rattle.mlt_text_words.specs.Lines.{Raw, lines, onto, is_lf, without_cr}
-use Rattle.mlt_text_words.proofs.Cutting.{not_found}
-
-at_lf : (b : ℕ) (bs : List ℕ) → is_lf b ≡ true → lines (b ∷ bs) ≡ record { bytes = []; ended = true } ∷ lines bs
-unfolding lines
-at_lf b bs h = rw h refl
-
-at_other : (b : ℕ) (bs : List ℕ) → is_lf b ≡ false → lines (b ∷ bs) ≡ onto b (lines bs)
-unfolding lines
-at_other b bs h = rw h refl
+use Rattle.mlt_text_words.proofs.Cutting.{at_lf, at_other, not_found}
 
 up_to : (text more : List ℕ) (i : ℕ) → i < length text → is_lf (get_or text i 0) ≡ true → ((k : ℕ) → k < i → is_lf (get_or text k 0) ≡ false)
     → lines (take (suc i) text ++ more) ≡ record { bytes = take i text; ended = true } ∷ lines more

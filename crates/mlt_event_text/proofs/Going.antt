@@ -1,5 +1,5 @@
 -- A text that is gone over line by line.
-use Rattle.std.proofs.Common.{◌≡◌, ℕ, ◌+◌, Bool, true, false, cond, List, [], ◌∷◌, ◌++◌, length, Option, Some, None, nat_lt, refl, sym, ap, subst, ◌∙◌, append_assoc, length-append, arith}
+use Rattle.std.proofs.Common.{◌≡◌, ℕ, ◌+◌, Bool, true, false, cond, List, [], ◌∷◌, ◌++◌, length, Option, Some, None, nat_lt, sym, ap, subst, ◌∙◌, append_assoc, length-append}
 use Rattle.std.proofs.lemmas.List.{append-nil, flat_map_more}
 use Rattle.std.proofs.lemmas.List.Elements.{All-push}
 use Rattle.std.specs.List.{list_all}
@@ -15,6 +15,7 @@ use Rattle.mlt_event_text.specs.Grammar.{AreEvents, IsFault, IsLawful, Spells, e
 use Rattle.mlt_event_text.specs.Readings.{asked_or_fault, reading, said_by}
 use Rattle.mlt_text_words.specs.Lines.{Raw, lines, content, is_comment, is_allowed}
 use Rattle.mlt_text_words.specs.Words.{raw_words}
+use Rattle.mlt_text_words.proofs.Cutting.{no_lines}
 
 -- ---- the faults of lines
 
@@ -66,11 +67,6 @@ went_on old new line text rest more raw first lawful added over = record {
     appended = added ∙ ap (λ es. es ++ events_of raw) over.spelled.appended ∙ flat_map_more events_of [] over.before raw;
   };
 }
-
-no_lines : (rest : List ℕ) → length rest ≡ 0 → lines rest ≡ []
-unfolding lines
-no_lines [] e = refl
-no_lines (b ∷ bs) e = absurd (omega arith)
 
 pub went_to_end : (events : List Event) (line : ℕ) (text rest : List ℕ) → length rest ≡ 0 → WentOver events line text rest → Spells text events
 went_to_end events line text rest none over =

@@ -1,11 +1,13 @@
 //! What a line says.
 
-ghost use Rattle.std.specs.Prelude.{◌≡◌};
+ghost use Rattle.std.specs.Prelude.{◌≡◌, ◌<◌, ◌∷◌, length};
 ghost use Rattle.mlt_event_text.specs.Readings.{reading, said_by};
+ghost use Rattle.mlt_text_words.specs.Lines.{Raw, lines};
+ghost use Rattle.mlt_text_words.specs.ReadLines.{Tells};
 ghost use Rattle.mlt_text_words.specs.Words.{raw_words};
 
 use crate::forms::{Asked, asked_by};
-use mlt_text_words::{is_allowed_line, is_comment_line, next_raw_word, trimmed};
+use mlt_text_words::{Line, is_comment_line, next_raw_word, read_line};
 use mlt_types::ScriptCause;
 
 /// What a line is by itself.
@@ -32,20 +34,25 @@ fn read_words(line: &[u8]) -> Reading
     }
 }
 
-/// What a line is, given its bytes before the LF and whether an LF ends it.
+// What a line says.
 #[tactic(auto, unfolding(crate::specs::Readings::reading))]
-pub fn read_line(bytes: &[u8], ended: bool) -> Reading
-    ensures { result ≡ reading record { bytes = bytes.now; ended = ended } }
+fn said(line: Line) -> Reading
+    ensures { (raw : Raw) → Tells line.entry raw → result ≡ reading raw }
 {
-    if bytes.len() > 200 {
-        return Reading::Bad(ScriptCause::Line);
+    match line {
+        Line::Faulty(bytes) | Line::Allowed(bytes, _) if is_comment_line(bytes) => Reading::Skip,
+        Line::Allowed(bytes, _) => read_words(bytes),
+        Line::TooLong | Line::Faulty(_) => Reading::Bad(ScriptCause::Line),
     }
-    let line = if ended { trimmed(bytes) } else { bytes };
-    if is_comment_line(line) {
-        return Reading::Skip;
-    }
-    if !is_allowed_line(line) {
-        return Reading::Bad(ScriptCause::Line);
-    }
-    read_words(line)
+}
+
+/// What the first line of a text is, and the text after it.
+pub fn read_first(text: &[u8]) -> (Reading, &[u8])
+    requires { 0 < length text.now }
+    ensures first { (raw : Raw) × (lines text.now ≡ raw ∷ lines result.1.now)
+        × (result.0 ≡ reading raw) }
+    ensures less { length result.1.now < length text.now }
+{
+    let (line, rest) = read_line(text);
+    (said(line), rest)
 }

@@ -4,12 +4,13 @@ ghost use Rattle.std.specs.Prelude.{◌≡◌, ◌⊎◌, ◌++◌, ℕ, List, I
 ghost use Rattle.mlt_event.specs.declared.event.Event.{Event};
 ghost use Rattle.mlt_event_text.specs.Answering.{Answers, TakesLine};
 ghost use Rattle.mlt_event_text.specs.Grammar.{IsDecided, IsFirstFault, Spells};
+ghost use Rattle.mlt_event_text.specs.Readings.{reading as reading_of};
+ghost use Rattle.mlt_text_words.specs.Lines.{Raw};
 ghost use Rattle.mlt_types.specs.declared.refusal.ScriptCause.{ScriptCause};
 
 use crate::forms::Asked;
-use crate::line::{Reading, read_line};
+use crate::line::{Reading, read_first};
 use mlt_event::Event;
-use mlt_text_words::first_line;
 use mlt_types::Refusal;
 use std::alloc::{AllocError, Global};
 
@@ -24,12 +25,12 @@ fn push_asked(events: &mut Vec<Event>, asked: Asked) -> Result<(), AllocError>
     Ok(())
 }
 
-// Goes over a line.
-fn take_line(events: &mut Vec<Event>, line: u64, bytes: &[u8], ended: bool) -> Result<(), Refusal>
-    ensures { TakesLine result events.old.items events.new.items line
-        record { bytes = bytes.now; ended = ended } }
+// Goes over a line of this reading.
+fn take_line(events: &mut Vec<Event>, line: u64, reading: Reading) -> Result<(), Refusal>
+    ensures { (raw : Raw) → reading ≡ reading_of raw
+        → TakesLine result events.old.items events.new.items line raw }
 {
-    match read_line(bytes, ended) {
+    match reading {
         Reading::Bad(cause) => Err(Refusal::ScriptFault { line, cause }),
         Reading::Skip => Ok(()),
         Reading::Asks(asked) => {
@@ -47,9 +48,9 @@ fn read_lines(alloc: Global, text: &[u8]) -> Result<Vec<Event>, Refusal>
     let mut rest = text;
     let mut line = 0u64;
     while !rest.is_empty() {
-        let (bytes, ended, after) = first_line(rest);
+        let (reading, after) = read_first(rest);
         line += 1;
-        take_line(&mut events, line, bytes, ended)?;
+        take_line(&mut events, line, reading)?;
         rest = after;
     }
     Ok(events)

@@ -38,12 +38,6 @@ absent_value basis walk view fields none stands sees = found_there basis walk vi
 pub absent_from_bucket : (basis : Basis) (walk : WalkFields) (view : View) (key : ℕ) (fields : BucketFields) → IsAtAbsent walk.phase → Stands walk.phase basis walk view → SeesBucket walk view fields → key ≡ walk.key → position (is_live_of key) fields.slots ≡ None
 absent_from_bucket basis walk view key fields none stands sees key_is = no_live_slot key fields.slots (ap (λ k. value_in k fields.slots) key_is ∙ absent_value basis walk view fields none stands sees)
 
--- it sees the bucket,
-pub absent_sees : (basis : Basis) (walk : WalkFields) (view : View) → IsAtAbsent walk.phase → Stands walk.phase basis walk view → (fields : BucketFields) × SeesBucket walk view fields
-absent_sees basis walk view none stands =
-    let bucket = absent_at basis walk view walk.phase none stands in
-    (bucket.fields, record { at = bucket.at })
-
 own_ghost_nowhere : (basis : Basis) (walk : WalkFields) (key owner : ℕ) (fields : BucketFields) → key ≡ walk.key → owner ≡ basis.tx → IsNowhere (is_ghost_of key owner) fields.slots → position (is_ghost_of walk.key basis.tx) fields.slots ≡ None
 own_ghost_nowhere basis walk key owner fields key_is own nowhere =
     (λ i. position (is_ghost_of (sym key_is i) (sym own i)) fields.slots) ∙ nowhere_found (is_ghost_of key owner) fields.slots (position (is_ghost_of key owner) fields.slots) refl nowhere

@@ -199,9 +199,6 @@ held_reads m q p held is = (page_before m.running.images m.store.pages q, seen_h
 pub found_below : (basis : Basis) (m : Moment) (q : ℕ) (p : Option Page) → HasWritten basis.before.written (view_of m) → held_page (view_for basis m) q ≡ p → held_page (view_of m) q ≡ p
 found_below basis m q p written is = sym (read_over_writes (basis.before.written q) ((view_of m).own q) ((view_of m).seen q) (λ some. (written q some).1)) ∙ is
 
-pub found_above : (basis : Basis) (m : Moment) (q : ℕ) (p : Option Page) → HasWritten basis.before.written (view_of m) → held_page (view_of m) q ≡ p → held_page (view_for basis m) q ≡ p
-found_above basis m q p written is = read_over_writes (basis.before.written q) ((view_of m).own q) ((view_of m).seen q) (λ some. (written q some).1) ∙ is
-
 -- the plan of a walk that adds is one of the bucket that it has split
 adding_reads : (basis : Basis) (walk : WalkFields) (old : Moment) (n room_depth : ℕ) (unsplit : Bool) → HasWritten basis.before.written (view_of old) → (adds : IsAdding basis walk (view_for basis old) n room_depth unsplit) (has : Slot → Bool) (s : Slot) (write : WriteFields) → SetsFirst n adds.fields has s write → ReadsHeldBucket (view_of old) write.number adds.fields
 adding_reads basis walk old n room_depth unsplit written adds has s write plan =
@@ -345,10 +342,3 @@ pub may_put : (basis : Basis) (walk : WalkFields) (old : Moment) (n room_depth :
 may_put basis walk old n room_depth unsplit adds has s write plan =
     let on : write.number ≡ n = ap (λ (w : WriteFields). w.number) plan.written in
     ap (λ q. can_write old.locks old.running.tx q) on ∙ may_write old n adds.rest.exclusive
-
--- the depths of a split that has begun are those of its bucket and its directory
-pub nothing_touched : (old new : Moment) → new ≡ old → TouchesOnePage old new
-nothing_touched old new same = (0, inl (old, inl refl, inl same))
-
-pub made_touches : (old new : Moment) (q : ℕ) (p : Page) → MakesLockedPage old new q p → TouchesOnePage old new
-made_touches old new q p makes = (q, inr (p, makes))

@@ -52,7 +52,3 @@ own_is_there (Some page) clean some = refl
 -- a page of the walk's file is in the store
 pub is_there : (before : FilePages) (m : Moment) (clean : ℕ → Option Page) (q p : ℕ) → MayStep m → HasWritten before (view_of m) → IsCleanFor m clean → q ≡ p → is_some (over clean before p) ≡ true → is_some (page_at m.store.pages q) ≡ true
 is_there before m clean q p may written is same some = there_since before m written clean q may is (own_is_there ((view_of m).own q) (over clean before q) (ap (λ p. is_some (over clean before p)) same ∙ some))
-
--- a step that locks one page at most touches no other
-pub touches_it : (old new : Moment) (q : ℕ) → LocksAtMost old new q → TouchesOnePage old new
-touches_it old new q step = (q, inl (new, step, inl refl))

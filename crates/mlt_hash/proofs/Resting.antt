@@ -20,7 +20,7 @@ use Rattle.mlt_hash_form.specs.File.{HasForm, bucket_of, buckets_of, dir_of, hea
 use Rattle.mlt_hash_form.specs.Held.{Agrees, KeepsFile, RearrangesSlots, over, own_or}
 use Rattle.mlt_hash_form.specs.Room.{crowds, is_crowded}
 use Rattle.mlt_hash_form.proofs.Crowd.{crowded_at_own_depth}
-use Rattle.mlt_hash_form.proofs.HeldPages.{keeps_none, seen_as}
+use Rattle.mlt_hash_form.proofs.HeldPages.{keeps_none}
 use Rattle.mlt_hash_form.proofs.Paths.{path_depths}
 use Rattle.mlt_hash_access.specs.Moments.{HasFileOver, MayStep, Moment}
 use Rattle.mlt_hash_access.specs.Views.{View}

@@ -21,7 +21,7 @@ use Rattle.mlt_hash_access.proofs.Since.{all_written, nothing_since, read_is_see
 use Rattle.mlt_hash_access.proofs.Views.{agrees, may_read, mode_of_others, mode_of_page, seen_held}
 use Rattle.mlt_hash_split.specs.Rests.{held_page}
 use Rattle.mlt_hash_split.proofs.Closing.{held_page_over}
-use Rattle.mlt_hash_split.proofs.HeldPages.{reads_as, same_header}
+use Rattle.mlt_hash_split.proofs.HeldPages.{read_of, reads_as, same_header}
 use Rattle.mlt_hash.specs.Passes.{header_held, header_mode, slot_after}
 use Rattle.mlt_hash.specs.Walks.{Basis, Before, GoesAfter, HoldsBeside, IsChanged, IsHeaded, IsOwnSlot, MayWalk, SlotsStood, Stands, WalkFields, basis_after, before_of, nothing_before, one_key, slot_on}
 use Rattle.mlt_hash.specs.Changes.{IsChangedPhase}
@@ -80,18 +80,12 @@ module _ (basis : Basis) (walk : WalkFields) (m : Moment) (first : basis.before 
             inr (stood.0, seen.0, seen.1, ap (λ (q : Option Page). slot_on q i) (sym (clean_agrees stood.0 seen.0 seen.1)) ∙ stood.1 ∙ sym old ∙ there)
       ]
 
-  pub may_read_header : can_read m.locks m.running.tx basis.root ≡ true
-  may_read_header = may_read m basis.root Exclusive root_is_exclusive
-
   seen_header : is_some ((view_of m).seen basis.root) ≡ true
-  seen_header = ap is_some (seen_held m basis.root may_read_header)
+  seen_header = ap is_some (seen_held m basis.root (may_read m basis.root Exclusive root_is_exclusive))
 
   -- and reads it
-  pub reads_header : (read : Page) → ReadsHeldPage (view_of m) basis.root read → (h : HeadFields) × (read ≡ page.Head h)
-  reads_header read reads =
-      let both : Some read ≡ Some (page.Head header) = sym (reads_as (view_of m) basis.root (Some read) reads) ∙ changed.2.head in
-      let same : read ≡ page.Head header = cc in
-      (header, same)
+  pub header_read : (h : HeadFields) × ReadsHeldPage (view_of m) basis.root (page.Head h)
+  header_read = (header, read_of ((view_of m).seen basis.root) ((view_of m).own basis.root) (page.Head header) seen_header changed.2.head)
 
   module _ (h : HeadFields) (reads : ReadsHeldPage (view_of m) basis.root (page.Head h)) where
     read_as : held_page (view_of m) basis.root ≡ Some (page.Head h)

@@ -20,10 +20,9 @@ use crate::answer::WalkAnswer;
 use crate::change::write_change;
 use crate::pass::{Change, Phase};
 use crate::walk::Walk;
-use mlt_hash_access::{LockedStore, read_held};
+use mlt_hash_access::{LockedStore, read_held_bucket};
 use mlt_hash_record::SlotWrite;
 use mlt_hash_split::{Setting, Split, SplitAnswer};
-use mlt_page::Page;
 use mlt_page_subtx::Subtx;
 use mlt_types::{OpenSet, PageNo, Pseudo, Refusal, Value};
 
@@ -87,9 +86,7 @@ fn plan_to_put(
     if unsplit {
         return None;
     }
-    let Page::Bucket(bucket) = read_held(subtx, pages, number) else {
-        unreachable!()
-    };
+    let bucket = read_held_bucket(subtx, pages, number);
     mlt_hash_record::insert(number, bucket, walk.key, value, opens)
 }
 
@@ -139,7 +136,12 @@ pub(crate) fn go_on_splitting<P: Pseudo>(
     match split.advance(setting.root.page, subtx, pages) {
         SplitAnswer::Going => WalkAnswer::Going,
         SplitAnswer::Closed(bucket) => {
-            walk.phase = Phase::Adding(value, bucket, room_depth, false);
+            walk.phase = Phase::Adding {
+                value,
+                bucket,
+                room_depth,
+                unsplit: false,
+            };
             WalkAnswer::Going
         }
         SplitAnswer::Waiting(page, by) => WalkAnswer::Waiting(page, by),

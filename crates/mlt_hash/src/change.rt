@@ -14,10 +14,10 @@ use crate::answer::WalkAnswer;
 use crate::pass::{Change, Pass, Phase};
 use crate::room::next_pass;
 use crate::walk::Walk;
-use mlt_hash_access::{LockedStore, read_held, write_slot};
+use mlt_hash_access::{LockedStore, read_held_bucket, write_slot};
 use mlt_hash_record::SlotWrite;
 use mlt_hash_split::Setting;
-use mlt_page::{Bucket, Page};
+use mlt_page::Bucket;
 use mlt_page_subtx::Subtx;
 use mlt_types::{PageNo, Pseudo, Refusal, Value};
 
@@ -140,13 +140,10 @@ pub(crate) fn held_bucket<'a>(
     ensures bucket { ReadsHeldBucket
         (view_of (moment subtx.now pages.now)) (page_of walk.now.phase) result.1.now }
 {
-    let phase = walk.phase;
-    let Phase::AtBucket(number, _, _) = phase else {
+    let Phase::AtBucket { number, .. } = walk.phase else {
         unreachable!()
     };
-    let Page::Bucket(bucket) = read_held(subtx, pages, number) else {
-        unreachable!()
-    };
+    let bucket = read_held_bucket(subtx, pages, number);
     (number, bucket)
 }
 
@@ -196,8 +193,11 @@ fn without_room<P: Pseudo>(
         (moment subtx.now pages.now) walk.old walk.new value result }
     ensures unchanged { result ≢ WalkAnswer.Changed }
 {
-    let phase = walk.phase;
-    let Phase::AtBucket(_, directory_depth, _) = phase else {
+    let Phase::AtBucket {
+        directory_depth,
+        ..
+    } = walk.phase
+    else {
         unreachable!()
     };
     let (number, bucket) = held_bucket(walk, subtx, pages);
@@ -213,7 +213,12 @@ fn without_room<P: Pseudo>(
     let Some(room_depth) = least else {
         return WalkAnswer::Refused(Refusal::NoRoom);
     };
-    walk.phase = Phase::Adding(value, number, room_depth, true);
+    walk.phase = Phase::Adding {
+        value,
+        bucket: number,
+        room_depth,
+        unsplit: true,
+    };
     WalkAnswer::NeedSplit
 }
 

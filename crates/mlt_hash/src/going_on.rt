@@ -9,9 +9,8 @@ ghost use Rattle.mlt_hash.specs.declared.pass.Pass.TheVariants as pass;
 
 use crate::pass::Phase;
 use crate::walk::Walk;
-use mlt_hash_access::{LockedStore, read_held};
+use mlt_hash_access::{LockedStore, read_held_head};
 use mlt_hash_form::{Place, Root};
-use mlt_page::Page;
 use mlt_page_subtx::Subtx;
 use mlt_types::{Key, Mode, Pseudo};
 
@@ -45,13 +44,15 @@ impl Walk {
         ensures stood { let m = moment subtx.now pages.now in
             SlotsStood (view_of m).own basis.tx (view_of m) }
     {
-        let Page::Head(header) = read_held(subtx, pages, root.page) else {
-            unreachable!()
-        };
+        let header = read_held_head(subtx, pages, root.page);
         let place = Place::of(root.pseudo.bits(&key), header.depth);
         self.key = key;
         self.mode = Mode::Exclusive;
-        self.phase = Phase::Headed(header.dir(place.dir), place.entry, header.depth);
+        self.phase = Phase::Headed {
+            dir: header.dir(place.dir),
+            row: place.entry,
+            directory_depth: header.depth,
+        };
         self.split = None;
     }
 }

@@ -65,16 +65,29 @@ pub enum Phase {
     /// Nothing is locked.
     Start,
     /// The header is read: the key's directory page, its entry there, and the directory's depth.
-    Headed(PageNo, usize, u8),
+    Headed {
+        dir: PageNo,
+        row: usize,
+        directory_depth: u8,
+    },
     /// The directory page is read: the key's bucket, and the directory's depth.
     Placed(PageNo, u8),
     /// The bucket is read: its page, the directory's depth, and the value that the key has there, if it has one.
-    AtBucket(PageNo, u8, Option<Value>),
+    AtBucket {
+        number: PageNo,
+        directory_depth: u8,
+        found: Option<Value>,
+    },
     /// The bucket has no room for the key, and this pass is to follow.
     Full(Pass),
-    /// The bucket on this page has no room yet for a record of this value, but has it once it is split down to this depth;
-    /// nothing was split yet where it says true.
-    Adding(Value, PageNo, u8, bool),
+    /// The bucket on this page has no room yet for a record of this value, but has it once it is split down to this depth; and
+    /// whether nothing was split yet.
+    Adding {
+        value: Value,
+        bucket: PageNo,
+        room_depth: u8,
+        unsplit: bool,
+    },
     /// A split of the bucket is under way, to make room for a record of this value down to this depth.
     Splitting(Value, u8),
     /// The bucket on this page is written, with this change.

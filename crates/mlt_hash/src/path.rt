@@ -10,9 +10,8 @@ ghost use Rattle.mlt_hash.specs.Steps.{TellsOfPath, next_page};
 use crate::answer::WalkAnswer;
 use crate::pass::Phase;
 use crate::walk::Walk;
-use mlt_hash_access::{LockedStore, lock, read_held};
+use mlt_hash_access::{LockedStore, lock, read_held_bucket, read_held_dir, read_held_head};
 use mlt_hash_form::{Place, Root, value_in};
-use mlt_page::Page;
 use mlt_page_subtx::Subtx;
 use mlt_types::{PageNo, Pseudo};
 
@@ -38,11 +37,13 @@ pub(crate) fn read_header<P: Pseudo>(
     if let Err(by) = lock(subtx, pages, root.page, walk.pass.header_mode()) {
         return WalkAnswer::Waiting(root.page, by);
     }
-    let Page::Head(header) = read_held(subtx, pages, root.page) else {
-        unreachable!()
-    };
+    let header = read_held_head(subtx, pages, root.page);
     let place = Place::of(root.pseudo.bits(&walk.key), header.depth);
-    walk.phase = Phase::Headed(header.dir(place.dir), place.entry, header.depth);
+    walk.phase = Phase::Headed {
+        dir: header.dir(place.dir),
+        row: place.entry,
+        directory_depth: header.depth,
+    };
     WalkAnswer::Going
 }
 
@@ -71,9 +72,7 @@ pub(crate) fn read_directory<P: Pseudo>(
     if let Err(by) = lock(subtx, pages, number, walk.pass.directory_mode()) {
         return WalkAnswer::Waiting(number, by);
     }
-    let Page::Dir(dir) = read_held(subtx, pages, number) else {
-        unreachable!()
-    };
+    let dir = read_held_dir(subtx, pages, number);
     walk.phase = Phase::Placed(dir.entry(row), depth);
     WalkAnswer::Going
 }
@@ -103,10 +102,12 @@ pub(crate) fn read_bucket<P: Pseudo>(
     if let Err(by) = lock(subtx, pages, number, mode) {
         return WalkAnswer::Waiting(number, by);
     }
-    let Page::Bucket(bucket) = read_held(subtx, pages, number) else {
-        unreachable!()
-    };
+    let bucket = read_held_bucket(subtx, pages, number);
     let found = value_in(bucket, walk.key);
-    walk.phase = Phase::AtBucket(number, depth, found);
+    walk.phase = Phase::AtBucket {
+        number,
+        directory_depth: depth,
+        found,
+    };
     WalkAnswer::Found(found)
 }

@@ -138,22 +138,32 @@ impl Walk {
         ensures tells { TellsAt self.old.phase basis
             (moment subtx.old pages.old) (moment subtx.new pages.new) self.old self.new result }
     {
+        // A copy: matched in place, what the arms take of the walk is not proved.
         let phase = self.phase;
         match phase {
             Phase::Start => read_header(self, setting.root, subtx, pages),
-            Phase::Headed(dir, row, depth) => {
-                read_directory(self, dir, row, depth, setting.root, subtx, pages)
-            }
+            Phase::Headed {
+                dir,
+                row,
+                directory_depth,
+            } => read_directory(self, dir, row, directory_depth, setting.root, subtx, pages),
             Phase::Placed(bucket, depth) => {
                 read_bucket(self, bucket, depth, setting.root, subtx, pages)
             }
-            Phase::Adding(value, bucket, depth, unsplit) => {
-                add_or_split(self, value, bucket, depth, unsplit, setting, subtx, pages)
+            Phase::Adding {
+                value,
+                bucket,
+                room_depth,
+                unsplit,
+            } => {
+                add_or_split(
+                    self, value, bucket, room_depth, unsplit, setting, subtx, pages,
+                )
             }
             Phase::Splitting(value, depth) => {
                 go_on_splitting(self, value, depth, setting, subtx, pages)
             }
-            Phase::AtBucket(_, _, _) | Phase::Full(_) | Phase::Changed(_, _) => unreachable!(),
+            Phase::AtBucket { .. } | Phase::Full(_) | Phase::Changed(_, _) => unreachable!(),
         }
     }
 }

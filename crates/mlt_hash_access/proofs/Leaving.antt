@@ -28,10 +28,6 @@ leaves_it old new may same = leaves old new may (0, inl (old, inl refl, inl same
 pub leaves_by_making : (old new : Moment) (q : ℕ) (page : Page) → MayStep old → MakesLockedPage old new q page → Leaves old new
 leaves_by_making old new q page may makes = leaves old new may (q, inr (page, makes))
 
--- that locked one at most,
-pub leaves_by_locking_at_most : (old new : Moment) (q : ℕ) → MayStep old → LocksAtMost old new q → Leaves old new
-leaves_by_locking_at_most old new q may locks = leaves old new may (q, inl (new, locks, inl refl))
-
 -- that locked one and went no further,
 pub leaves_by_locking : (old mid new : Moment) (q : ℕ) (mode : Mode) → MayStep old → LocksPage old mid q mode → new ≡ mid → Leaves old new
 leaves_by_locking old mid new q mode may locks same = leaves old new may (q, inl (mid, inr (mode, locks), inl same))

@@ -33,10 +33,6 @@ some_with : (w : Option Page) (o : Option (Option Page)) → is_some o ≡ true 
 some_with None o held = held
 some_with (Some page) o held = refl
 
-some_below : (w : Option Page) (o : Option (Option Page)) → (is_some w ≡ true → is_some o ≡ true) → is_some (seen_with w o) ≡ true → is_some o ≡ true
-some_below None o written held = held
-some_below (Some page) o written held = written refl
-
 -- one page that is held reads over what was written as it reads
 pub read_over_writes : (w own : Option Page) (seen : Option (Option Page)) → (is_some w ≡ true → is_some own ≡ true) → own_or own (unwrap_or (seen_with w seen) None) ≡ own_or own (unwrap_or seen None)
 read_over_writes None own seen written = refl
@@ -49,10 +45,6 @@ module _ (before : FilePages) (m : Moment) where
   seen_over_held q mode held = some_with (before q) ((view_of m).seen q) (ap is_some (seen_held m q (may_read m q mode held)))
 
   module _ (written : HasWritten before (view_of m)) where
-    -- what is seen over these writes is held
-    pub held_over_seen : (q : ℕ) → is_some ((view_over before m).seen q) ≡ true → is_some ((view_of m).seen q) ≡ true
-    held_over_seen q held = some_below (before q) ((view_of m).seen q) (λ some. (written q some).0) held
-
     -- what is read of a held page is read over them,
     pub reads_over_writes : (q : ℕ) (page : Page) → ReadsHeldPage (view_of m) q page → ReadsHeldPage (view_over before m) q page
     reads_over_writes q page = (rebased_reads before (view_of m) written q page).1

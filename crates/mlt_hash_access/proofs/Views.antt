@@ -50,11 +50,7 @@ agrees m clean may is q first sees =
     let held = seen_is_held m q first sees in
     is.seen q (λ u ne. not_true (can_write m.locks u q) (λ writes. ne (may.compatible u m.running.tx q writes held.0))) ∙ held.1
 
--- clean pages that agree with a view once a page was read agreed before,
-pub agrees_before_read : (old new : View) (q : ℕ) (mode : Mode) (page : Option Page) (clean : ℕ → Option Page) → ReadsPage old new q mode page → Agrees new.seen clean → Agrees old.seen clean
-agrees_before_read old new q mode page clean reads agree p first sees = agree p first (reads.before p first sees)
-
--- and with the transaction's writes they have the page that was read
+-- clean pages that agree have, with the transaction's writes, the page that was read
 pub reads_over : (old new : View) (q : ℕ) (mode : Mode) (page : Option Page) (clean : ℕ → Option Page) → ReadsPage old new q mode page → Agrees new.seen clean → over clean old.own q ≡ page
 reads_over old new q mode page clean reads agree = ap (own_or (old.own q)) (agree q reads.first reads.here) ∙ reads.reads
 
@@ -114,15 +110,9 @@ page_count_of_view m = refl
 one_page_more : (old new : Modes) (q : ℕ) (mode : Mode) → new ≡ with_page old q mode → map.len new ≤ map.len old + 1
 one_page_more old new q mode is = grind (arith, is, map.len-insert nat_cmp_total old q (stronger (map.get old q) mode))
 
--- a page that is read or made is one more at most, and a write of a held page adds none
+-- a page that is read is one more at most
 pub count_after_read : (old new : View) (q : ℕ) (mode : Mode) (page : Option Page) → ReadsPage old new q mode page → map.len new.modes ≤ map.len old.modes + 1
 count_after_read old new q mode page reads = one_page_more old.modes new.modes q mode reads.modes
-
-pub count_after_make : (old new : View) (q : ℕ) (page : Page) → MakesPage old new q page → map.len new.modes ≤ map.len old.modes + 1
-count_after_make old new q page makes = one_page_more old.modes new.modes q Exclusive makes.modes
-
-pub count_after_write : (old new : View) (q : ℕ) (page : Page) → WritesPage old new q page → map.len new.modes ≡ map.len old.modes
-count_after_write old new q page writes = ap map.len writes.modes
 
 -- a page with an image is held
 image_is_held : (m : Moment) (q : ℕ) → MayStep m → is_some (image_of m.running.images q) ≡ true → can_read m.locks m.running.tx q ≡ true
@@ -192,9 +182,9 @@ reads_seen old new q mode page sees found = subst (λ p. ReadsPage old new q mod
     same : sees.0 ≡ Some page
     same = sym sees.1.reads ∙ ap (λ f. own_or (old.own q) f) first ∙ ap (λ o. own_or o found.0) (sym (sees.1.own q)) ∙ found.2
 
--- who locked a page may read it
-pub reads_after_lock : (old new : Moment) (q : ℕ) (mode : Mode) → LocksPage old new q mode → can_read new.locks old.running.tx q ≡ true
-reads_after_lock old new q mode step = subst (λ (locks : LockTable). can_read locks old.running.tx q ≡ true) (sym step.locks) (reads_granted old.locks old.running.tx q mode)
+-- and so it is held, and reads as it was seen
+pub reads_held_after : (old new : View) (q : ℕ) (mode : Mode) (page : Page) (sees : SeesPage old new q mode) → sees.0 ≡ Some page → ReadsHeldPage new q page
+reads_held_after old new q mode page sees is = (sees.1.first, sees.1.here, ap (λ o. own_or o sees.1.first) (sees.1.own q) ∙ sees.1.reads ∙ is)
 
 -- the mode of a page that is locked, and those of all others
 pub mode_of_page : (modes : Modes) (q : ℕ) (mode : Mode) → map.get (with_page modes q mode) q ≡ Some (stronger (map.get modes q) mode)

@@ -8,7 +8,8 @@ mod view_laws;
 
 pub use locked_store::LockedStore;
 pub use pages::{
-    lock, make_page, read_held, read_held_bucket, read_held_dir, read_held_head, write_held, write_slot,
+    lock, make_page, read_held, read_held_bucket, read_held_dir, read_held_head, write_held,
+    write_slot,
 };
 pub use view_laws::{
     own_steps_see_more, rebased_views_agree_with_what_was_written, rebased_views_step_alike,

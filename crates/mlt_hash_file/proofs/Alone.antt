@@ -62,10 +62,6 @@ before_is_clean m may = record {
   there = λ q some. there_before (image_of m.running.images q) (page_at m.store.pages q) (may.images_there q) some;
 }
 
--- so a walk sees what stood before
-pub sees_before : (m : Moment) → MayStep m → Agrees (view_of m).seen (pages_before m)
-sees_before m may = agrees m (pages_before m) may (before_is_clean m may)
-
 pub reads_image_back : (b : Bool) (image : Option (Option Page)) (page : Option Page) → (is_some image ≡ true → b ≡ true) → (is_some image ≡ true → is_some page ≡ true) → own_or (cond b (page_written image page) None) (or_image image page) ≡ page
 reads_image_back true None page held there = refl
 reads_image_back true (Some first) None held there = absurd (false≢true (there refl))
@@ -77,9 +73,6 @@ reads_image_back false (Some first) page held there = absurd (false≢true (held
 pub written_over_before : (m : Moment) (q : ℕ) → MayStep m → over (pages_before m) (view_of m).own q ≡ page_at m.store.pages q
 written_over_before m q may =
     reads_image_back (can_read m.locks m.running.tx q) (image_of m.running.images q) (page_at m.store.pages q) (λ some. writer_reads m.locks m.running.tx q (may.images_locked q some)) (may.images_there q)
-
-pub store_is_over : (m : Moment) → MayStep m → over (pages_before m) (view_of m).own ≡ page_at m.store.pages
-store_is_over m may i q = written_over_before m q may i
 
 -- **A walk that went on to its key sees what stood then,**
 pub sees_since : (since : Before) (m : Moment) → MayStep m → Agrees (view_over since.written m).seen (pages_since since m)

@@ -24,11 +24,11 @@ use Rattle.mlt_hash_access.proofs.Since.{over_since}
 use Rattle.mlt_hash_split.specs.Rests.{held_page}
 use Rattle.mlt_hash_split.proofs.Closing.{held_page_over}
 use Rattle.mlt_hash_file.specs.Alone.{IsAlone, KeepsBefore, basis_of, pages_since}
-use Rattle.mlt_hash.specs.StepsLeft.{IsPutting, bucket_depth, directory_depth, steps_of_splits, steps_to_put, steps_to_put_at}
+use Rattle.mlt_hash.specs.StepsLeft.{IsPutting}
 use Rattle.mlt_hash_file.specs.AloneWalks.{HasArrived, HasChanged, HasMade, IsFullFor, IsHashFile, IsReadySince, NeedsRoom, NeedsSplits, NeverHasRoomFor, TellsOfPass, added_value}
 use Rattle.mlt_hash.specs.Changes.{HasNoRoom, IsAtAbsent, IsAtRecord, IsFull, Makes, NeedsSplit, TellsOfAddition, WritesIfChanged, crowded_at, page_of}
 use Rattle.mlt_hash.specs.Passes.{HasRoomFrom, IsNextPass, next_of, value_after}
-use Rattle.mlt_hash_file.specs.SplitPages.{HasRoomAt, bucket_for, pages_for, pages_in_the_end, pages_left_at, pages_to_make, steps_down_to}
+use Rattle.mlt_hash_file.specs.SplitPages.{HasRoomAt, bucket_for, pages_for, pages_in_the_end, pages_left_at, pages_to_make}
 use Rattle.mlt_hash.specs.Steps.{HasFound, IsSameWalk}
 use Rattle.mlt_hash.specs.Walks.{Basis, Before, IsAtBucket, IsStanding, Stands, WalkFields, view_for}
 use Rattle.mlt_hash.specs.declared.answer.WalkAnswer.{WalkAnswer}
@@ -201,22 +201,6 @@ module _ (since : Before) (bits : ℕ → ℕ) (root max_depth : ℕ) (first mid
         let same_left : pages_to_make (buckets_of (page_at new.store.pages) (page_of walk.phase)).depth (depth_of (page_at new.store.pages) root) d ≡ pages_for bits (pages_since since new) root walk.key d = (λ i. pages_to_make (buckets_of (stored i) (leads_there i)).depth (depth_of (stored i) root) d) in
         (λ i. map.len new.store.pages + (left ∙ same_left) i)
 
-    -- what it holds reads as the page that was there
-    reads_as_before : new ≡ mid → (q : ℕ) → is_some ((view_over since.written new).seen q) ≡ true → held_page (view_over since.written new) q ≡ pages_since since new q
-    reads_as_before same q held =
-        let h = here in
-        let unwritten : IsUnwrittenSince since.written (view_over since.written new) = subst (λ (m : Moment). IsUnwrittenSince since.written (view_over since.written m)) (sym same) h.2.unwritten in
-        held_page_over (view_over since.written new) (pages_since since new) q (sees_since since new may) held ∙ (λ i. over_since since.written (view_over since.written new) unwritten (pages_since since new) (sees_since since new may) i q)
-
-    steps_counted : (d : ℕ) (fields : BucketFields) → new ≡ mid → (view_over since.written new).seen (page_of walk.phase) ≡ Some (Some (page.Bucket fields)) → after.phase ≡ at.Adding value (page_of walk.phase) d true → steps_to_put root after (view_over since.written new) ≡ steps_down_to bits (pages_since since new) root walk.key d
-    steps_counted d fields same sees phase =
-        let h = here in
-        let head : is_some ((view_over since.written new).seen root) ≡ true = ap is_some (subst (λ (m : Moment). (view_over since.written m).seen root ≡ Some (Some (page.Head h.2.header))) (sym same) h.2.head) in
-        let bucket : bucket_depth (view_over since.written new) (page_of walk.phase) ≡ (bucket_for bits (pages_since since new) root walk.key).depth =
-        ap (λ p. (bucket_of p).depth) (reads_as_before same (page_of walk.phase) (ap is_some sees)) ∙ ap (λ q. (buckets_of (pages_since since new) q).depth) (sym leads) in
-        let directory : directory_depth (view_over since.written new) root ≡ depth_of (pages_since since new) root = ap (λ p. (header_of p).depth) (reads_as_before same root head) in
-        ap (λ p. steps_to_put_at p root after (view_over since.written new)) phase ∙ (λ i. steps_of_splits (d - bucket i) (bucket i) (directory i))
-
     needs_splits : new ≡ mid → NeedsSplit ours new walk after value → (walk.pass ≡ pass.First → ⊥) → NeedsSplits ours new walk after value
     needs_splits same needs later =
         let next = needs.later later in
@@ -228,7 +212,6 @@ module _ (since : Before) (bits : ℕ → ℕ) (root max_depth : ℕ) (first mid
           least = subst (λ (b : BucketFields). HasRoomFrom (λ e. is_crowded bits set.empty e (bits walk.key) b.slots) b.depth max_depth next.0) (sym (key_bucket needs.fields needs.full.sees.at)) next.2;
           unwritten = store_is same;
           pages = pages_counted next.0 same next.1;
-          steps = steps_counted next.0 needs.fields same needs.full.sees.at next.1;
         }
 
     needs_room : new ≡ mid → NeedsSplit ours new walk after value → NeedsRoom ours new walk after value
@@ -261,7 +244,6 @@ retell_splits basis new before walk after value same needs = record {
   least = subst (λ (key : ℕ). HasRoomAt basis.bits (pages_since basis.before new) basis.root basis.max_depth key needs.d) same.key needs.least;
   unwritten = needs.unwritten;
   pages = subst (λ (key : ℕ). pages_in_the_end basis.root after new ≡ map.len new.store.pages + pages_for basis.bits (pages_since basis.before new) basis.root key needs.d) same.key needs.pages;
-  steps = subst (λ (key : ℕ). steps_to_put basis.root after (view_for basis new) ≡ steps_down_to basis.bits (pages_since basis.before new) basis.root key needs.d) same.key needs.steps;
 }
 
 pub retell_made : (basis : Basis) (new : Moment) (before walk after : WalkFields) (value : Option ℕ) → IsSameWalk before walk → HasMade basis new walk after value → HasMade basis new before after value

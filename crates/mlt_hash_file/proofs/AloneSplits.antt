@@ -27,7 +27,7 @@ use Rattle.mlt_hash_split.proofs.HeldPages.{clean_now}
 use Rattle.mlt_hash_split.proofs.Later.{begins_now, stands_now}
 use Rattle.mlt_hash_split.proofs.OldBucket.{depths_are_small}
 use Rattle.mlt_hash_file.specs.Alone.{HasNotWaited, IsAlone, KeepsBefore, basis_of, pages_before, pages_since}
-use Rattle.mlt_hash.specs.StepsLeft.{IsPutting, depth_after, steps_of_splits, steps_to_put, steps_to_put_at}
+use Rattle.mlt_hash.specs.StepsLeft.{IsPutting}
 use Rattle.mlt_hash_file.specs.AloneWalks.{HasMade, IsHashFile, MayAdd, TellsOfSplits, added_value}
 use Rattle.mlt_hash.specs.Changes.{Makes}
 use Rattle.mlt_hash_file.specs.SplitPages.{left_from, left_from_split, pages_in_the_end, pages_left_at, pages_to_make}
@@ -338,21 +338,6 @@ module _ (since : Before) (bits : ℕ → ℕ) (root max_depth : ℕ) (first now
   ends_at (at.Splitting value room_depth) is adds stands told not went tells = splitting_ends value room_depth stands is told not went tells
   ends_at other is adds stands told not went tells = absurd adds
 
--- a count that stops at the greatest number is at most one more
-pub at_most_one : (steps next : ℕ) → next ≡ min (steps + 1) (2 ^ 32 - 1) → next ≤ steps + 1
-at_most_one steps next is = omega (arith, is)
-
--- the last step that puts the record is one of those that were left
-puts_once : (n l g : ℕ) → 1 ≤ steps_of_splits n l g
-unfolding steps_of_splits
-puts_once zero l g = let one : steps_of_splits zero l g ≡ 1 = refl in omega (arith, one)
-puts_once (suc n) l g = let more : steps_of_splits (suc n) l g ≡ 2 + directory_steps l g + steps_of_splits n (l + 1) (depth_after l g) = refl in omega (arith, more)
-
-put_is_left : (phase : Phase) (basis : Basis) (old new : Moment) (before after : WalkFields) (root : ℕ) (view : View) → IsPutting phase → TellsAt phase basis old new before after answer.Changed → 1 ≤ steps_to_put_at phase root before view
-put_is_left (at.Adding value bucket room_depth unsplit) basis old new before after root view adds tells = puts_once _ _ _
-put_is_left (at.Splitting value room_depth) basis old new before after root view adds tells = absurd tells
-put_is_left other basis old new before after root view adds tells = absurd adds
-
 splitting_still : (basis : Basis) (first now new : Moment) (before walk after : WalkFields) → IsSplittingOn basis first now before walk → HasWritten basis.before.written (view_of new) → KeepsBefore now new → Advances basis now new walk after → IsSplittingOn basis first new before after
 splitting_still basis first now new before walk after on written keeps step = record {
   same = same_walks before walk after on.same step.same;
@@ -375,19 +360,6 @@ module _ (since : Before) (bits : ℕ → ℕ) (root max_depth : ℕ) (first now
 
     pub splits_on : TellsAt walk.phase (basis_of since bits root max_depth now) now new walk after answer.Going → IsSplittingOn (basis_of since bits root max_depth first) first new before after
     splits_on tells = splitting_still (basis_of since bits root max_depth first) first now new before walk after on written keeps (goes_on tells)
-
-    -- each step is one of those that are left,
-    pub steps_on : (taken next most : ℕ) → next ≤ taken + 1 → taken + steps_to_put root walk (view_over since.written now) ≤ most → TellsAt walk.phase (basis_of since bits root max_depth now) now new walk after answer.Going → next + steps_to_put root after (view_over since.written new) ≤ most
-    steps_on taken next most one within tells =
-        let kept = file_kept since bits root max_depth now new keeps (file_kept since bits root max_depth first now on.keeps file) in
-        let fewer = one_fewer (basis_of since bits root max_depth now) now new walk after (pages_since since new) (sees_since since new alone.1.may) kept.form on.may.adds tells in
-        omega (arith, one, within, fewer)
-
-    -- and so is the last one
-    pub steps_end : (taken next most : ℕ) (told : WalkAnswer) → next ≤ taken + 1 → taken + steps_to_put root walk (view_over since.written now) ≤ most → TellsAt walk.phase (basis_of since bits root max_depth now) now new walk after told → told ≡ answer.Changed → next ≤ most
-    steps_end taken next most told one within tells is =
-        let left = put_is_left walk.phase (basis_of since bits root max_depth now) now new walk after root (view_over since.written now) on.may.adds (subst (λ told. TellsAt walk.phase (basis_of since bits root max_depth now) now new walk after told) is tells) in
-        omega (arith, one, within, left)
 
     pub less_effort : TellsAt walk.phase (basis_of since bits root max_depth now) now new walk after answer.Going → effort after new < effort walk now
     less_effort tells = (goes_on tells).less

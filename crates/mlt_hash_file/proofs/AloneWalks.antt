@@ -88,17 +88,6 @@ path_tells (at.Adding value bucket room_depth unsplit) basis old new before afte
 path_tells (at.Splitting value room_depth) basis old new before after told more tells = absurd (omega (arith, more))
 path_tells (at.Changed bucket done) basis old new before after told more tells = tells
 
--- never more than three steps are left to the bucket
-pub few_to_bucket : (phase : Phase) → steps_to_bucket phase ≤ 3
-few_to_bucket at.Start = omega arith
-few_to_bucket (at.Headed dir row depth) = omega arith
-few_to_bucket (at.Placed bucket depth) = omega arith
-few_to_bucket (at.AtBucket bucket depth found) = omega arith
-few_to_bucket (at.Full next) = omega arith
-few_to_bucket (at.Adding value bucket room_depth unsplit) = omega arith
-few_to_bucket (at.Splitting value room_depth) = omega arith
-few_to_bucket (at.Changed bucket done) = omega arith
-
 pub same_walks : (first next last : WalkFields) → IsSameWalk first next → IsSameWalk next last → IsSameWalk first last
 same_walks first next last one two = record { key = two.key ∙ one.key; mode = two.mode ∙ one.mode; pass = two.pass ∙ one.pass }
 
@@ -120,16 +109,6 @@ module _ (since : Before) (bits : ℕ → ℕ) (root max_depth : ℕ) (old now n
   -- with a step fewer,
   pub one_step_fewer : TellsAt walk.phase (basis_of since bits root max_depth now) now new walk after answer.Going → steps_to_bucket after.phase < steps_to_bucket walk.phase
   one_step_fewer tells = let told = told_of answer.Going tells in omega (arith, told.0.fewer)
-
-  -- which is one of those that are left,
-  pub steps_go_on : (taken : ℕ) → taken + steps_to_bucket walk.phase ≡ steps_to_bucket before.phase → TellsAt walk.phase (basis_of since bits root max_depth now) now new walk after answer.Going → (taken + 1) + steps_to_bucket after.phase ≡ steps_to_bucket before.phase
-  steps_go_on taken counted tells = let told = told_of answer.Going tells in omega (arith, counted, told.0.fewer)
-
-  pub steps_at_end : (taken : ℕ) → taken + steps_to_bucket walk.phase ≡ steps_to_bucket before.phase → (found : Option ℕ) → TellsAt walk.phase (basis_of since bits root max_depth now) now new walk after (answer.Found found) → taken + 1 ≡ steps_to_bucket before.phase
-  steps_at_end taken counted found tells =
-      let told = told_of (answer.Found found) tells in
-      let none = none_left after.phase found told.1 in
-      omega (arith, counted, told.0.fewer, none)
 
   -- or has arrived,
   pub arrives : (found : Option ℕ) → TellsAt walk.phase (basis_of since bits root max_depth now) now new walk after (answer.Found found) → HasArrived (basis_of since bits root max_depth old) new before after found

@@ -7,11 +7,6 @@ pub mod AlonePasses
 pub mod AloneSplits
 pub mod AloneSteps
 pub mod AloneWalks
-pub mod BothChanges
-pub mod BothEnds
-pub mod BothRecords
-pub mod BothSteps
 pub mod HashFiles
-pub mod InTurn
 pub mod OpenedFiles
 pub mod SplitPages

@@ -17,10 +17,10 @@ use Rattle.mlt_hash_access.specs.Moments.{Moment}
 use Rattle.mlt_hash_access.specs.Views.{HasWritten, view_of, view_over}
 use Rattle.mlt_hash.specs.Walks.{Basis, Before, IsAtStart, IsStanding, WalkFields, nothing_before, view_for}
 use Rattle.mlt_hash.specs.Steps.{HasFound, IsSameWalk}
-use Rattle.mlt_hash.specs.StepsLeft.{IsPutting, steps_to_put}
+use Rattle.mlt_hash.specs.StepsLeft.{IsPutting}
 use Rattle.mlt_hash_file.specs.Alone.{basis_alone, pages_before, pages_since}
 use Rattle.mlt_hash.specs.Passes.{next_of}
-use Rattle.mlt_hash_file.specs.SplitPages.{BoundedFile, HasRoomAt, LacksPages, bucket_for, pages_for, pages_in_the_end, steps_down_to}
+use Rattle.mlt_hash_file.specs.SplitPages.{BoundedFile, HasRoomAt, LacksPages, bucket_for, pages_for, pages_in_the_end}
 use Rattle.mlt_hash.specs.declared.pass.Pass.TheVariants as pass
 use Rattle.mlt_hash.specs.declared.pass.Phase.{Phase}
 use Rattle.mlt_hash.specs.declared.pass.Phase.TheVariants as at
@@ -40,12 +40,6 @@ IsFileBefore bits_of root m = IsHashFile (bits_of root.pseudo) (pages_before m) 
 
 abbrev pub IsAbsentBefore : {P : Type 0} → (P → ℕ → ℕ) → Root P → Moment → ℕ → Type 0
 IsAbsentBefore bits_of root m key = look_up (bits_of root.pseudo) (pages_before m) root.page key ≡ None
-
--- a transaction alone that holds nothing, over a hash file with this root
-pub record IsResting {P : Type 0} (bits_of : P → ℕ → ℕ) (root : Root P) (m : Moment) : Type 0 where
-  pub nothing : IsAtStart (view_of m)
-  pub file : IsFileBefore bits_of root m
-  pub stored : page_at m.store.pages ≡ pages_before m
 
 -- what a walk did before is written, with it the pages are a hash file with this root, and over it the walk stands
 pub record IsReadySince {P : Type 0} (since : Before) (bits_of : P → ℕ → ℕ) (root : Root P)
@@ -125,8 +119,6 @@ pub record NeedsSplits (basis : Basis) (new : Moment) (before after : WalkFields
   pub pages : pages_in_the_end basis.root after new
       ≡ map.len new.store.pages
       + pages_for basis.bits (pages_since basis.before new) basis.root before.key d
-  pub steps : steps_to_put basis.root after (view_for basis new)
-      ≡ steps_down_to basis.bits (pages_since basis.before new) basis.root before.key d
 
 -- A split is needed: a first pass says which one follows, and a later one may go on.
 pub record NeedsRoom (basis : Basis) (new : Moment) (before after : WalkFields) (value : ℕ)

@@ -12,7 +12,6 @@ use Rattle.mlt_hash_split.specs.Splits.{SplitFields}
 use Rattle.mlt_hash_split.specs.declared.phase.SplitPhase.{SplitPhase}
 use Rattle.mlt_hash_split.specs.declared.phase.SplitPhase.TheVariants as split_at
 use Rattle.mlt_hash.specs.Passes.{HasRoomFrom}
-use Rattle.mlt_hash.specs.StepsLeft.{steps_of_splits}
 use Rattle.mlt_hash.specs.Walks.{WalkFields}
 use Rattle.mlt_hash.specs.declared.pass.Phase.{Phase}
 use Rattle.mlt_hash.specs.declared.pass.Phase.TheVariants as at
@@ -36,12 +35,6 @@ HasRoomAt bits pages root max_depth key d =
 -- the pages that the splits make of that bucket down to depth d
 abbrev pub pages_for : (ℕ → ℕ) → (ℕ → Option Page) → ℕ → ℕ → ℕ → ℕ
 pages_for bits pages root key d = pages_to_make (bucket_for bits pages root key).depth (depth_of pages root) d
-
--- the steps of these splits, and of the write of the record behind them
-abbrev pub steps_down_to : (ℕ → ℕ) → (ℕ → Option Page) → ℕ → ℕ → ℕ → ℕ
-steps_down_to bits pages root key d =
-    steps_of_splits (d - (bucket_for bits pages root key).depth)
-    (bucket_for bits pages root key).depth (depth_of pages root)
 
 -- a hash file with its bounds: the function of keys, what each page has, the pages, the page of the header, how deep
 -- the directory may get, and how many pages there may be

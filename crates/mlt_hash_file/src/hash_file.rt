@@ -102,7 +102,7 @@ impl<P: Pseudo> HashFile<P> {
         ensures file { IsFileOf P.bits_of self.new }
     {
         let mut walk = Walk::find(self.alloc, key, Mode::Shared);
-        let (found, _) = self.runner.find(&mut walk, &self.root);
+        let found = self.runner.find(&mut walk, &self.root);
         self.runner.end();
         found
     }

@@ -2,9 +2,7 @@
 //! Hashing, ACM TODS 4(3), 1979), in which one walk runs at a time, to its end.
 #![tactic(auto)]
 
-mod both;
 mod hash_file;
-mod in_turn;
 mod runner;
 
 pub use hash_file::HashFile;

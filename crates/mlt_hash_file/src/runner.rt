@@ -71,28 +71,21 @@ impl Runner {
         walk.advance(&setting, &mut self.subtx, &mut self.pages)
     }
 
-    /// Goes on to the bucket of the walk's key: the value that the key has there, if it has one, and how many steps that took.
-    pub(crate) fn find<P: Pseudo>(
-        &mut self,
-        walk: &mut Walk,
-        root: &Root<P>,
-    ) -> (Option<Value>, u32)
+    /// Goes on to the bucket of the walk's key: the value that the key has there, if it has one.
+    pub(crate) fn find<P: Pseudo>(&mut self, walk: &mut Walk, root: &Root<P>) -> Option<Value>
         ghost since: { Before }
         requires on_its_way { 0 < steps_to_bucket walk.old.phase }
         requires ready { IsReadySince since P.bits_of root.now self.old walk.old }
         ensures keeps { KeepsBefore self.old self.new }
         ensures written { HasWritten since.written (view_of self.new) }
         ensures arrives { HasArrived (basis_alone since P.bits_of root.now self.old)
-            self.new walk.old walk.new result.0 }
-        ensures steps { result.1 ≡ steps_to_bucket walk.old.phase }
+            self.new walk.old walk.new result }
         ensures alone { IsAlone self.new }
     {
-        let mut steps = 0;
         loop {
-            steps += 1;
             match self.step(walk, root) {
                 WalkAnswer::Going => {}
-                WalkAnswer::Found(found) => return (found, steps),
+                WalkAnswer::Found(found) => return found,
                 _ => unreachable!(),
             }
         }
@@ -163,24 +156,20 @@ impl Runner {
         self.add(walk, value, root)
     }
 
-    /// Splits the bucket until there is room, and adds the record. It answers how many steps that took, too.
-    pub(crate) fn split<P: Pseudo>(&mut self, walk: &mut Walk, root: &Root<P>) -> (WalkAnswer, u32)
+    /// Splits the bucket until there is room, and adds the record.
+    pub(crate) fn split<P: Pseudo>(&mut self, walk: &mut Walk, root: &Root<P>) -> WalkAnswer
         ghost since: { Before }
         requires ready { IsReadySince since P.bits_of root.now self.old walk.old }
         requires adds { IsPutting walk.old.phase }
         ensures keeps { KeepsBefore self.old self.new }
         ensures tells { TellsOfSplits (basis_alone since P.bits_of root.now self.old) self.new
             walk.old walk.new (added_value walk.old.phase)
-            (pages_in_the_end root.now.page walk.old self.old) result.0 }
-        ensures steps { (result.0 ≡ WalkAnswer.Changed) → result.1
-            ≤ steps_to_put root.now.page walk.old (view_over since.written self.old) }
+            (pages_in_the_end root.now.page walk.old self.old) result }
     {
-        let mut steps = 0u32;
         loop {
-            steps = steps.saturating_add(1);
             match self.step(walk, root) {
                 WalkAnswer::Going => {}
-                answer => return (answer, steps),
+                answer => return answer,
             }
         }
     }
@@ -203,7 +192,7 @@ impl Runner {
             walk.new value result }
     {
         match self.add_again(walk, value, root) {
-            WalkAnswer::NeedSplit => self.split(walk, root).0,
+            WalkAnswer::NeedSplit => self.split(walk, root),
             answer => answer,
         }
     }

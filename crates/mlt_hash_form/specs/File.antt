@@ -102,6 +102,12 @@ pub record IsPath (pages : FilePages) (root x : ℕ) (header : HeadFields) (dir 
   pub at : slice_index dir (row_of header x) ≡ n
   pub found : pages n ≡ Some (page.Bucket bucket)
 
+-- a path leads from the header, whose depth is at most 16, to this bucket on page n
+abbrev pub LeadsTo : FilePages → ℕ → ℕ → ℕ → BucketFields → Type 0
+LeadsTo pages root x n bucket =
+    (header : HeadFields) × (dir : List ℕ) × (header.depth ≤ 16)
+    × IsPath pages root x header dir n bucket
+
 -- page n becomes p, and no other page changes
 pub record Writes (pages pages' : FilePages) (n : ℕ) (p : Page) : Type 0 where
   pub here : pages' n ≡ Some p

@@ -32,7 +32,7 @@ pub use held_laws::{
     insertion_is_a_write, kept_file_has_its_values, own_write_is_a_write, split_keeps_the_file,
     walk_without_writes_keeps_the_file,
 };
-pub use look_up::value_in;
+pub use look_up::{home_bucket, value_in};
 pub use place::{NewPlaces, Place, first_bits};
 pub use record_laws::{
     change_to_a_value_inserts, change_to_no_value_removes, changed_file_changes_the_map,

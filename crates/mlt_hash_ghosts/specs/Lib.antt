@@ -3,4 +3,3 @@ pub mod Ghosts
 pub mod Ledgers
 pub mod Moves
 pub mod Operations
-pub mod Paths

@@ -1,45 +1,20 @@
 //! Where the ghost of a key is found.
 
-ghost use Rattle.std.specs.Prelude.{◌≡◌, ℕ, ◌<◌, Bool, true, IfSome, MatchOption, None, Option, Some, option_map, position};
+ghost use Rattle.std.specs.Prelude.{◌≡◌, ℕ, ◌<◌, Bool, true, IfSome, None, Option, Some, option_map, position};
 ghost use Rattle.std.specs.Ordering.{nat_cmp};
 ghost use Rattle.std.specs.FinSet as set;
 ghost use Rattle.mlt_page.specs.Slots.{is_ghost_of, is_live_of};
 ghost use Rattle.mlt_page.specs.Values.{BucketFields};
 ghost use Rattle.mlt_hash_form.specs.Form.{value_in};
-ghost use Rattle.mlt_hash_form.specs.File.{FilePages, HasForm, buckets_of, lead_of};
+ghost use Rattle.mlt_hash_form.specs.File.{FilePages, HasForm, LeadsTo, buckets_of, lead_of};
 ghost use Rattle.mlt_page_store.specs.Stores.{page_at};
 ghost use Rattle.mlt_hash_ghosts.specs.Ghosts.{IsGhostAt, PagesMatchOperations};
 ghost use Rattle.mlt_hash_ghosts.specs.Ledgers.{IsOpenIn, Ledger, home_slots, last_by};
 ghost use Rattle.mlt_hash_ghosts.specs.Operations.{Added, Removed};
-ghost use Rattle.mlt_hash_ghosts.specs.Paths.{LeadsTo, NamesBucket};
 
-use mlt_hash_form::{Place, Root};
-use mlt_page::Page;
+use mlt_hash_form::{Root, home_bucket};
 use mlt_page_store::Store;
 use mlt_types::{Key, PageNo, Pseudo, TxId};
-
-/// The page that the directory names at the key's place, if there are a header and that page of the directory.
-fn named_bucket<P: Pseudo>(store: &Store, root: &Root<P>, key: Key) -> Option<PageNo>
-    ensures named { let pages = page_at store.now.pages in
-        let x = P.bits_of root.now.pseudo key in
-        MatchOption result ((n : ℕ) → NamesBucket pages root.now.page x n → ⊥)
-        (λ n. NamesBucket pages root.now.page x n) }
-    ensures in_form { let pages = page_at store.now.pages in
-        let bits = P.bits_of root.now.pseudo in
-        HasForm bits pages root.now.page → result ≡ Some (lead_of pages root.now.page (bits key)) }
-{
-    let Some(Page::Head(head)) = store.read(root.page) else {
-        return None;
-    };
-    if head.depth > 16 {
-        return None;
-    }
-    let place = Place::of(root.pseudo.bits(&key), head.depth);
-    let Some(Page::Dir(dir)) = store.read(head.dir(place.dir)) else {
-        return None;
-    };
-    Some(dir.entry(place.entry))
-}
 
 /// The ghost that `owner` left of the key, as the page and the slot where it stands: found exactly where the bucket
 /// that the key's bits lead to has it. If there is no header of a depth of at most 16, or no directory page or
@@ -66,8 +41,7 @@ pub fn ghost_of<P: Pseudo>(
         (position (is_ghost_of key owner) (buckets_of pages n).slots) }
     ensures within { IfSome result (λ at. at.1 < 8) }
 {
-    let number = named_bucket(store, root, key)?;
-    let Some(Page::Bucket(bucket)) = store.read(number) else {
+    let Some((number, bucket)) = home_bucket(store, root, key) else {
         return None;
     };
     let at = bucket.find_ghost(key, owner)?;

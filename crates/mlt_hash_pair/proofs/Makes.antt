@@ -183,9 +183,6 @@ writes_at_most plan.Full asked opens tx key q old new bucket reads roomy none sa
 -- The changes in two buckets
 module _ (opens : set.FinSet nat_cmp) (old new : Moment) (before after : PairFields) (left_page right_page : ℕ) (changes : Changes) (left_plan right_plan : SlotPlan)
     (left_has : HasPlan left_plan changes.left opens old.running.tx before.left left_page (view_of old)) (right_has : HasPlan right_plan changes.right opens old.running.tx before.right right_page (view_of old)) where
-  pub left_full : left_plan ≡ plan.Full → new ≡ old → after ≡ before → TellsOfTwo (task_of opens before left_page right_page changes) old new before after (answer.Full side.Left)
-  left_full full same stays = (full_asked opens old.running.tx before.left left_page changes.left left_has.0 (view_of old) (subst (λ this. IsPlanned this changes.left opens old.running.tx before.left left_page left_has.0) full left_has.2) left_has.1, same, stays)
-
   module _ (apart : left_page ≢ right_page) (left_roomy : IsRoomy left_plan) where
     pub right_full : right_plan ≡ plan.Full → new ≡ old → after ≡ before → TellsOfTwo (task_of opens before left_page right_page changes) old new before after (answer.Full side.Right)
     right_full full same stays = (

@@ -17,7 +17,7 @@ use crate::asked::{Changes, RecordChange};
 use crate::pair::Pair;
 use crate::plan::{SlotPlan, bucket_after, plan_in};
 use crate::way::Way;
-use mlt_hash_access::{LockedStore, read_held, write_held, write_slot};
+use mlt_hash_access::{LockedStore, read_held_bucket, write_held, write_slot};
 use mlt_page::Page;
 use mlt_page_subtx::Subtx;
 use mlt_types::{Key, OpenSet, PageNo};
@@ -90,7 +90,7 @@ fn bucket_page(way: &Way) -> PageNo
     ensures { result ≡ page_of way.now }
 {
     match *way {
-        Way::AtBucket(_, bucket, _) => bucket,
+        Way::AtBucket { bucket, .. } => bucket,
         _ => unreachable!(),
     }
 }
@@ -119,9 +119,7 @@ fn change_one_bucket(
     ensures tells { TellsOfOne (task_in opens.now left.now right.now number changes.now)
         (moment subtx.old pages.old) (moment subtx.new pages.new) result }
 {
-    let Page::Bucket(bucket) = read_held(subtx, pages, number) else {
-        unreachable!()
-    };
+    let bucket = read_held_bucket(subtx, pages, number);
     let owner = subtx.tx();
     let left_plan = plan_in(bucket, number, left, &changes.left, owner, opens);
     if let SlotPlan::Full = left_plan {
@@ -149,15 +147,12 @@ fn plan_held(
     opens: &OpenSet,
 ) -> SlotPlan
     requires may { MayStep (moment subtx.now pages.now) }
-    requires held { can_read pages.now.locks subtx.now.tx number ≡ true }
     requires fits { MayPlan asked.now key.now number (view_of (moment subtx.now pages.now)) }
     ensures planned { HasPlan result asked.now opens.now subtx.now.tx key.now number
         (view_of (moment subtx.now pages.now)) }
     ensures within { IsWithin result }
 {
-    let Page::Bucket(bucket) = read_held(subtx, pages, number) else {
-        unreachable!()
-    };
+    let bucket = read_held_bucket(subtx, pages, number);
     plan_in(bucket, number, key, asked, subtx.tx(), opens)
 }
 

@@ -103,7 +103,8 @@ fn found(left: &Way, right: &Way) -> PairAnswer
     ensures { result ≡ told_by left.now right.now }
 {
     match (*left, *right) {
-        (Way::AtBucket(_, _, left), Way::AtBucket(_, _, right)) => PairAnswer::Found(left, right),
+        (Way::AtBucket { found: left, .. }, Way::AtBucket { found: right, .. }) =>
+            PairAnswer::Found(left, right),
         _ => PairAnswer::Going,
     }
 }

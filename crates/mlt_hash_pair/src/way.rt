@@ -15,11 +15,22 @@ pub enum Way {
     /// Nothing is read.
     Start,
     /// The header is read: the place there of the key's directory page, that page, and the key's entry on it.
-    Headed(usize, PageNo, usize),
+    Headed {
+        place: usize,
+        dir: PageNo,
+        row: usize,
+    },
     /// The directory page is read: it, and the page of the key's bucket.
-    Placed(PageNo, PageNo),
+    Placed {
+        dir: PageNo,
+        bucket: PageNo,
+    },
     /// The bucket is read: the directory page, the bucket's page, and the value that the key has there, if it has one.
-    AtBucket(PageNo, PageNo, Option<Value>),
+    AtBucket {
+        dir: PageNo,
+        bucket: PageNo,
+        found: Option<Value>,
+    },
 }
 
 impl Way {
@@ -29,8 +40,8 @@ impl Way {
     {
         match *self {
             Way::Start => root,
-            Way::Headed(_, dir, _) => dir,
-            Way::Placed(_, bucket) | Way::AtBucket(_, bucket, _) => bucket,
+            Way::Headed { dir, .. } => dir,
+            Way::Placed { bucket, .. } | Way::AtBucket { bucket, .. } => bucket,
         }
     }
 
@@ -39,8 +50,8 @@ impl Way {
         ensures { result ≡ next_mode self.now }
     {
         match self {
-            Way::Start | Way::Headed(_, _, _) => Mode::Shared,
-            Way::Placed(_, _) | Way::AtBucket(_, _, _) => Mode::Exclusive,
+            Way::Start | Way::Headed { .. } => Mode::Shared,
+            Way::Placed { .. } | Way::AtBucket { .. } => Mode::Exclusive,
         }
     }
 
@@ -51,17 +62,17 @@ impl Way {
     {
         match *self {
             Way::Start => true,
-            Way::Headed(own, _, _) => match *other {
+            Way::Headed { place: own, .. } => match *other {
                 Way::Start => false,
-                Way::Headed(place, _, _) => own <= place,
-                Way::Placed(_, _) | Way::AtBucket(_, _, _) => true,
+                Way::Headed { place, .. } => own <= place,
+                Way::Placed { .. } | Way::AtBucket { .. } => true,
             },
-            Way::Placed(_, own) => match *other {
-                Way::Start | Way::Headed(_, _, _) => false,
-                Way::Placed(_, bucket) => own.0 <= bucket.0,
-                Way::AtBucket(_, _, _) => true,
+            Way::Placed { bucket: own, .. } => match *other {
+                Way::Start | Way::Headed { .. } => false,
+                Way::Placed { bucket, .. } => own.0 <= bucket.0,
+                Way::AtBucket { .. } => true,
             },
-            Way::AtBucket(_, _, _) => false,
+            Way::AtBucket { .. } => false,
         }
     }
 
@@ -86,15 +97,22 @@ impl Way {
                 Page::Head(header) => way_by_header(header, key, root),
                 _ => *self,
             },
-            Way::Headed(_, dir, row) => match read {
-                Page::Dir(entries) => Way::Placed(dir, entries.entry(row)),
+            Way::Headed { dir, row, .. } => match read {
+                Page::Dir(entries) => Way::Placed {
+                    dir,
+                    bucket: entries.entry(row),
+                },
                 _ => *self,
             },
-            Way::Placed(dir, bucket) => match read {
-                Page::Bucket(slots) => Way::AtBucket(dir, bucket, value_in(slots, *key)),
+            Way::Placed { dir, bucket } => match read {
+                Page::Bucket(slots) => Way::AtBucket {
+                    dir,
+                    bucket,
+                    found: value_in(slots, *key),
+                },
                 _ => *self,
             },
-            Way::AtBucket(_, _, _) => *self,
+            Way::AtBucket { .. } => *self,
         }
     }
 }
@@ -105,5 +123,9 @@ fn way_by_header<P: Pseudo>(header: &HeadPage, key: &Key, root: &Root<P>) -> Way
     ensures { result ≡ way_by_header (P.bits_of root.now.pseudo) key.now header.now }
 {
     let place = Place::of(root.pseudo.bits(key), header.depth);
-    Way::Headed(place.dir, header.dir(place.dir), place.entry)
+    Way::Headed {
+        place: place.dir,
+        dir: header.dir(place.dir),
+        row: place.entry,
+    }
 }

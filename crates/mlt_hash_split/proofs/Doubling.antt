@@ -15,7 +15,7 @@ use Rattle.mlt_hash_form.specs.Splits.{IsDoubled, IsMidway, prefix_of, target_of
 use Rattle.mlt_hash_form.proofs.HeldPages.{writes_over}
 use Rattle.mlt_hash_form.proofs.PageContents.{doubled_right}
 use Rattle.mlt_hash_form.proofs.SplitSteps.{page_as_it_was, pages_when_doubled, rewrites_a_page, set_is_longer}
-use Rattle.mlt_hash_access.specs.Moments.{IsCleanFor, MayStep, Moment}
+use Rattle.mlt_hash_access.specs.Moments.{MayStep, Moment}
 use Rattle.mlt_hash_access.specs.Views.{ReadsPage, View, WritesPage, view_over, view_of}
 use Rattle.mlt_hash_split.proofs.Closing.{HasClean}
 use Rattle.mlt_hash_split.specs.Rests.{Aim, HoldsAmong, IsIn, held_page, most_held, seed_of}
@@ -120,11 +120,6 @@ few_at_double aim m split place phase may file under =
     let few = few_are_held (view_over aim.before m) _ _ _ _ _ _ among in
     omega (arith, few, under.few_before, depth.0, depth.1, depth.2, half_pages split.directory_depth depth.0)
 
--- the header is held as it was read
-pub header_as_read : (view : View) (at root : ℕ) (result : Page) (header : HeadFields) → at ≡ root → result ≡ page.Head header → (first : Option Page) × (view.seen at ≡ Some first) × (own_or (view.own at) first ≡ Some result) → held_page view root ≡ Some (page.Head header)
-header_as_read view at root result header is head reads =
-    subst (λ (q : ℕ). held_page view q ≡ Some (page.Head header)) is (ap (λ (o : Option (Option Page)). own_or (view.own at) (unwrap_or o None)) reads.1 ∙ reads.2 ∙ ap (λ (p : Page). Some p) head)
-
 same_header : (p : Option Page) (header other : HeadFields) → p ≡ Some (page.Head header) → p ≡ Some (page.Head other) → header ≡ other
 same_header p header other e f = let same : Some (page.Head header) ≡ Some (page.Head other) = sym e ∙ f in cc
 
@@ -148,10 +143,8 @@ module _ (aim : Aim) (m : Moment) (split : SplitFields) (place number : ℕ) (he
   not_the_root = next_is_not_the_root aim (view_over aim.before m) split place under file.clean file.agrees file.form now number listed
 
   -- and a page of the directory is read
-  pub next_is_read : (mid : Moment) (result : Page) → Agrees (view_over aim.before mid).seen file.clean → ReadsPage (view_over aim.before m) (view_over aim.before mid) number Exclusive (Some result) → (dir : List ℕ) × (result ≡ page.Dir dir)
-  next_is_read mid result agrees_mid reads =
-      let e : Some result ≡ Some (page.Dir next_now.0) = sym (reads_over (view_over aim.before m) (view_over aim.before mid) number Exclusive (Some result) file.clean reads agrees_mid) ∙ next_now.1 in
-      (next_now.0, cc)
+  pub next_is_read : (mid : Moment) (read : Option Page) → Agrees (view_over aim.before mid).seen file.clean → ReadsPage (view_over aim.before m) (view_over aim.before mid) number Exclusive read → (dir : List ℕ) × (read ≡ Some (page.Dir dir))
+  next_is_read mid read agrees_mid reads = (next_now.0, sym (reads_over (view_over aim.before m) (view_over aim.before mid) number Exclusive read file.clean reads agrees_mid) ∙ next_now.1)
 
 -- what the two pages hold that are made of a page of the old directory
 pub record IsMadeOf (split : SplitFields) (dir made : List ℕ) (j : ℕ) : Type 0 where

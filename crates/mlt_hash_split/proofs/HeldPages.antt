@@ -1,17 +1,17 @@
 -- What the pages that a walk holds read as, and what stays of them from step to step
-use Rattle.std.proofs.Common.{ℕ, ◌≡◌, true, is_some, unwrap_or, Option, Some, None, sym, ◌∙◌, ap}
+use Rattle.std.proofs.Common.{ℕ, ◌≡◌, true, is_some, unwrap_or, Option, Some, None, refl, sym, ◌∙◌, ap, subst}
 use Rattle.std.specs.FinMap as map
 use Rattle.std.proofs.lemmas.Bool.{both_ways}
-use Rattle.mlt_types.specs.declared.mode.Mode.{Mode}
 use Rattle.mlt_types.specs.declared.mode.Mode.TheVariants.{Exclusive}
 use Rattle.mlt_page.specs.Values.{BucketFields, HeadFields}
 use Rattle.mlt_page.specs.declared.page.Page.{Page}
 use Rattle.mlt_page.specs.declared.page.Page.TheVariants as page
 use Rattle.mlt_page_store.specs.Stores.{page_at}
+use Rattle.mlt_hash_form.specs.File.{FilePages}
 use Rattle.mlt_hash_form.specs.Held.{Agrees, over, own_or}
 use Rattle.mlt_hash_access.specs.Moments.{HasFileOver, IsCleanFor, MayStep, Moment}
-use Rattle.mlt_hash_access.specs.Views.{HasWritten, MakesPage, View, view_of, view_over}
-use Rattle.mlt_hash_access.proofs.Since.{agrees_over, there_since}
+use Rattle.mlt_hash_access.specs.Views.{HasWritten, MakesPage, ReadsHeldPage, View, view_of, view_over}
+use Rattle.mlt_hash_access.proofs.Since.{agrees_over, reads_below_writes, reads_over_writes, there_since}
 use Rattle.mlt_hash_split.specs.Rests.{Aim, held_page}
 use Rattle.mlt_hash_access.proofs.Views.{mode_of_others}
 use Rattle.mlt_hash_split.proofs.Closing.{HasClean}
@@ -38,6 +38,20 @@ file_is_there aim m may written file q some = there_since aim.before m written f
 -- what is read of a held page is what the view has
 pub reads_as : (view : View) (q : ℕ) (p : Option Page) → (first : Option Page) × (view.seen q ≡ Some first) × (own_or (view.own q) first ≡ p) → held_page view q ≡ p
 reads_as view q p reads = ap (λ o. own_or (view.own q) (unwrap_or o None)) reads.1 ∙ reads.2
+
+pub read_of : (seen : Option (Option Page)) (own : Option Page) (page : Page) → is_some seen ≡ true → own_or own (unwrap_or seen None) ≡ Some page → (first : Option Page) × (seen ≡ Some first) × (own_or own first ≡ Some page)
+read_of None own page held is = cc
+read_of (Some first) own page held is = (first, refl, is)
+
+-- and what the view has of a held page is read, also below what was written before
+pub reads_held : (before : FilePages) (m : Moment) (q p : ℕ) (page : Page) → q ≡ p → HasWritten before (view_of m) → is_some ((view_over before m).seen p) ≡ true → held_page (view_over before m) p ≡ Some page → ReadsHeldPage (view_of m) q page
+reads_held before m q p page same written held is =
+    subst (λ n. ReadsHeldPage (view_of m) n page) (sym same) (reads_below_writes before m written p page (read_of ((view_over before m).seen p) ((view_over before m).own p) page held is))
+
+-- so the header is held as it was read
+pub header_as_read : (before : FilePages) (m : Moment) (q root : ℕ) (header : HeadFields) → q ≡ root → HasWritten before (view_of m) → ReadsHeldPage (view_of m) q (page.Head header) → held_page (view_over before m) root ≡ Some (page.Head header)
+header_as_read before m q root header same written reads =
+    subst (λ n. held_page (view_over before m) n ≡ Some (page.Head header)) same (reads_as (view_over before m) q (Some (page.Head header)) (reads_over_writes before m written q (page.Head header) reads))
 
 pub same_header : (view : View) (q : ℕ) (old new : HeadFields) → held_page view q ≡ Some (page.Head old) → held_page view q ≡ Some (page.Head new) → old ≡ new
 same_header view q old new is_old is_new = let e : Some (page.Head old) ≡ Some (page.Head new) = sym is_old ∙ is_new in cc

@@ -4,15 +4,14 @@ use Rattle.std.specs.FinMap as map
 use Rattle.mlt_types.specs.declared.mode.Mode.TheVariants.{Exclusive}
 use Rattle.mlt_page.specs.declared.page.Page.{Page}
 use Rattle.mlt_page.specs.Values.{HeadFields}
-use Rattle.mlt_page_locks.specs.LockTables.{Modes, can_read, can_write}
+use Rattle.mlt_page_locks.specs.LockTables.{Modes, can_write}
 use Rattle.mlt_page_locks.specs.Requests.{with_page}
 use Rattle.mlt_page_locks.proofs.LockLaws.{stronger_exclusive}
 use Rattle.mlt_hash_form.specs.File.{FilePages, HasForm}
 use Rattle.mlt_hash_form.specs.Held.{Agrees, over, own_or}
 use Rattle.mlt_hash_form.proofs.HeldPages.{keeps_more, seen_as}
 use Rattle.mlt_hash_access.specs.Moments.{MayStep, Moment}
-use Rattle.mlt_hash_access.specs.Views.{MakesPage, ReadsPage, View, WritesPage, view_of, view_over, HasWritten}
-use Rattle.mlt_hash_access.proofs.Since.{held_over_seen}
+use Rattle.mlt_hash_access.specs.Views.{MakesPage, ReadsPage, View, WritesPage, view_of, view_over}
 use Rattle.mlt_hash_split.proofs.Closing.{HasClean}
 use Rattle.mlt_hash_split.specs.Rests.{Aim, held_page}
 use Rattle.mlt_hash_split.specs.Splits.{Begins, HoldsAmongAt, IsUnderWay, SplitFields, StandsAt}
@@ -24,7 +23,7 @@ use Rattle.mlt_types.specs.declared.refusal.Refusal.{Refusal}
 use Rattle.mlt_types.specs.declared.refusal.Refusal.TheVariants as refusal
 use Rattle.std.specs.Prelude.{◌⊎◌, ◌↔◌, Result, Err}
 use Rattle.std.proofs.Math.Nat.{pow-le-pow_right}
-use Rattle.mlt_hash_access.proofs.Views.{agrees, exclusive_stays, may_write, mode_of_page}
+use Rattle.mlt_hash_access.proofs.Views.{exclusive_stays, may_write, mode_of_page}
 
 -- what was seen is seen still, what was held exclusively is held so, and the header is not written
 pub record IsLater (root : ℕ) (view view' : View) : Type 0 where
@@ -132,14 +131,6 @@ stays_under_way aim view view' split made second phase under later stands among 
   among = among;
 }
 
--- what a page that is held may be
-seen_some : {X : Type 0} (b : Bool) (x : X) → is_some (cond b (Some x) None) ≡ true → b ≡ true
-seen_some true x h = refl
-seen_some false x h = h
-
-pub held_may_be_read : (before : FilePages) (m : Moment) (q : ℕ) → HasWritten before (view_of m) → is_some ((view_over before m).seen q) ≡ true → can_read m.locks m.running.tx q ≡ true
-held_may_be_read before m q written held = seen_some (can_read m.locks m.running.tx q) _ (held_over_seen before m written q held)
-
 pub begins_now : (aim : Aim) (m : Moment) (split : SplitFields) → MayStep m → (file : HasClean aim (view_over aim.before m)) (under : IsUnderWay aim (view_over aim.before m) split) → Begins aim (over file.clean under.rest) split under.bucket
 begins_now aim m split may file under = under.begins file.clean file.agrees file.form
 
@@ -165,9 +156,6 @@ refused_to_make {A} aim old new before after result why making is full either =
       | inl room ↦ subst (λ (w : Refusal). Tells aim old new before after (answer.Refused w)) (sym room) (making, full.0 (is ∙ ap (err {A = A}) room))
       | inr memory ↦ subst (λ (w : Refusal). Tells aim old new before after (answer.Refused w)) (sym memory) refl
     ]
-
-pub refused_to_write : (aim : Aim) (old new : Moment) (before after : SplitFields) (why : Refusal) → why ≡ refusal.OutOfMemory → Tells aim old new before after (answer.Refused why)
-refused_to_write aim old new before after why memory = subst (λ (w : Refusal). Tells aim old new before after (answer.Refused w)) (sym memory) refl
 
 -- a page that was locked exclusively may be written
 pub locked_may_be_written : (old mid : Moment) (q : ℕ) (was : Option Page) → ReadsPage (view_of old) (view_of mid) q Exclusive was → can_write mid.locks mid.running.tx q ≡ true

@@ -15,7 +15,7 @@ ghost use Rattle.mlt_hash_split.specs.Splits.{HasHalves, IsUnderWay, MayBegin, d
 use crate::phase::SplitPhase;
 use crate::setting::Setting;
 use crate::split::Split;
-use mlt_hash_access::{LockedStore, make_page, read_held};
+use mlt_hash_access::{LockedStore, make_page, read_held_bucket, read_held_head};
 use mlt_page::{Bucket, DirPage, HeadPage, Page};
 use mlt_page_subtx::Subtx;
 use mlt_types::{Key, PageNo, Pseudo, Refusal};
@@ -61,17 +61,13 @@ impl Split {
         ensures refusal { IfErr result (λ refusal.
             (refusal ≡ Refusal.NoRoom) ⊎ (refusal ≡ Refusal.OutOfMemory)) }
     {
-        let Page::Head(header) = read_held(subtx, pages, setting.root.page) else {
-            unreachable!()
-        };
+        let header = read_held_head(subtx, pages, setting.root.page);
         let directory_depth = header.depth;
         let made = HeadPage {
             depth: directory_depth + 1,
             dirs: header.dirs,
         };
-        let Page::Bucket(bucket) = read_held(subtx, pages, old) else {
-            unreachable!()
-        };
+        let bucket = read_held_bucket(subtx, pages, old);
         let depth = bucket.depth;
         let (zeros, ones) = bucket.part(depth, &setting.root.pseudo, setting.opens);
         let new = make_page(subtx, pages, Page::Bucket(ones))?;

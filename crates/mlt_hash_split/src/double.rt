@@ -11,7 +11,7 @@ ghost use Rattle.mlt_hash_split.specs.Tells.{Tells};
 
 use crate::phase::SplitPhase;
 use crate::split::{Split, SplitAnswer};
-use mlt_hash_access::{LockedStore, lock, make_page, read_held, write_held};
+use mlt_hash_access::{LockedStore, lock, make_page, read_held_dir, read_held_head, write_held};
 use mlt_hash_form::{doubled_page, first_bits};
 use mlt_page::{HeadPage, Page};
 use mlt_page_subtx::Subtx;
@@ -37,16 +37,12 @@ pub(crate) fn double_page(
     ensures tells { Tells aim
         (moment subtx.old pages.old) (moment subtx.new pages.new) split.old split.new result }
 {
-    let Page::Head(header) = read_held(subtx, pages, root) else {
-        unreachable!()
-    };
+    let header = read_held_head(subtx, pages, root);
     let number = header.dir(place);
     if let Err(by) = lock(subtx, pages, number, Mode::Exclusive) {
         return SplitAnswer::Waiting(number, by);
     }
-    let Page::Dir(dir) = read_held(subtx, pages, number) else {
-        unreachable!()
-    };
+    let dir = read_held_dir(subtx, pages, number);
     let entry = 2 * first_bits(split.seed, split.directory_depth) + 1;
     let first = doubled_page(dir, 2 * place, entry, split.new_page);
     let second = doubled_page(dir, 2 * place + 1, entry, split.new_page);

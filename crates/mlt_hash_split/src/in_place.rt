@@ -10,7 +10,7 @@ ghost use Rattle.mlt_hash_split.specs.Tells.{Tells};
 
 use crate::phase::SplitPhase;
 use crate::split::{Split, SplitAnswer};
-use mlt_hash_access::{LockedStore, lock, read_held, write_held};
+use mlt_hash_access::{LockedStore, lock, read_held_dir, read_held_head, write_held};
 use mlt_hash_form::{NewPlaces, page_with_new_places};
 use mlt_page::Page;
 use mlt_page_subtx::Subtx;
@@ -36,16 +36,12 @@ pub(crate) fn write_in_place(
     ensures tells { Tells aim
         (moment subtx.old pages.old) (moment subtx.new pages.new) split.old split.new result }
 {
-    let Page::Head(header) = read_held(subtx, pages, root) else {
-        unreachable!()
-    };
+    let header = read_held_head(subtx, pages, root);
     let number = header.dir(place);
     if let Err(by) = lock(subtx, pages, number, Mode::Exclusive) {
         return SplitAnswer::Waiting(number, by);
     }
-    let Page::Dir(dir) = read_held(subtx, pages, number) else {
-        unreachable!()
-    };
+    let dir = read_held_dir(subtx, pages, number);
     let places = NewPlaces::of(split.seed, split.depth, split.directory_depth);
     let page = page_with_new_places(dir, place, places, split.new_page);
     if let Err(refusal) = write_held(subtx, pages, number, Page::Dir(page)) {

@@ -6,5 +6,3 @@
 mod ghosts;
 #[cfg(test)]
 mod hash_files;
-#[cfg(test)]
-mod two_keys;

@@ -79,6 +79,9 @@ module _ {P : Type 0} (bits_of : P → ℕ → ℕ) (m : ManagerFields P) (h : I
     };
   }
 
+  pub is_counted : (m' : ManagerFields P) → m' ≡ counted m → IsManager bits_of m'
+  is_counted m' same = same_manager bits_of m' (counted m) same counted_keeps
+
   -- an open transaction has changed
   module _ (tx : ℕ) (before after : Transaction) (commons : Commons) (was : map.get m.txs tx ≡ Some before) (counts : KeepsCounts m.commons commons) where
     same_len : map.len (map.insert m.txs tx after) ≡ map.len m.txs

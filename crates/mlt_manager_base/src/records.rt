@@ -7,8 +7,7 @@ ghost use Rattle.mlt_hash_form.specs.Records.{live_records};
 ghost use Rattle.mlt_page_store.specs.Stores.{page_at};
 ghost use Rattle.mlt_types.specs.Cells.{key_number};
 
-use mlt_hash_form::{Place, Root, value_in};
-use mlt_page::Page;
+use mlt_hash_form::{Root, home_bucket, value_in};
 use mlt_page_store::Store;
 use mlt_types::{Cell, Key, Pseudo, Value};
 
@@ -18,14 +17,7 @@ pub(crate) fn record_of<P: Pseudo>(store: &Store, root: &Root<P>, cell: &Cell) -
     ensures { result ≡ map.get (live_records store.now.pages) (key_number cell.now) }
 {
     let key = Key::of(cell);
-    let Some(Page::Head(head)) = store.read(root.page) else {
-        unreachable!()
-    };
-    let place = Place::of(root.pseudo.bits(&key), head.depth);
-    let Some(Page::Dir(dir)) = store.read(head.dir(place.dir)) else {
-        unreachable!()
-    };
-    let Some(Page::Bucket(bucket)) = store.read(dir.entry(place.entry)) else {
+    let Some((_, bucket)) = home_bucket(store, root, key) else {
         unreachable!()
     };
     value_in(bucket, key)

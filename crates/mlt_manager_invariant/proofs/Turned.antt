@@ -10,8 +10,6 @@ use Rattle.mlt_hash_access.specs.PageTurns.{TakesTurn, TurnsBack}
 use Rattle.mlt_manager_invariant.proofs.Tables.{inserted_here}
 use Rattle.mlt_manager_invariant.proofs.Closing.{one_after_another}
 
-}
-
 -- what the next step of the transaction works on, after one that led here
 pub stepped : (all : AllRunning) (i : ℕ) (m : Moment) → m.running.tx ≡ i → moment_of (after_step all m) i ≡ m
 stepped all i m tx p = record {

@@ -8,10 +8,12 @@ use Rattle.mlt_object_kinds.specs.declared.operation.ObjReply.{ObjReply}
 use Rattle.mlt_script_tree.specs.declared.statement.Ending.{Ending}
 use Rattle.mlt_script_tree.specs.declared.statement.Ending.TheVariants.{Commit, Abort}
 use Rattle.mlt_script_tree.specs.Scripts.{ScriptForm}
-use Rattle.mlt_script_cursor.specs.Plays.{Gives, OnOperation, PlaysAt}
+use Rattle.mlt_script_cursor.specs.declared.call.DeskAnswer.TheVariants as desk
+use Rattle.mlt_script_cursor.specs.Calls.{Moves, answer_by}
+use Rattle.mlt_script_cursor.specs.Plays.{Gives, PlaysAt}
 use Rattle.mlt_script_serial.specs.declared.outcome.End.{End}
 use Rattle.mlt_script_serial.specs.declared.outcome.End.TheVariants.{Committed, Aborted, Refused}
-use Rattle.mlt_script_desk.specs.Runs.{ClosesAs, IsRunAt, OnAbort, OnBegin, OnCommit, refusal_of_script}
+use Rattle.mlt_script_desk.specs.Runs.{ClosesAs, IsRunAt, refusal_of_script}
 use Rattle.mlt_event.specs.declared.answer.Answer.{Answer}
 use Rattle.mlt_event.specs.declared.answer.Answer.TheVariants as answer
 use Rattle.mlt_event.specs.declared.event.Event.TheVariants as event
@@ -22,7 +24,7 @@ use Rattle.mlt_manager.specs.Events.{Meets}
 use Rattle.mlt_manager.specs.Managers.{ManagerFields}
 use Rattle.mlt_manager_solo.specs.Alone.{HasOneIdle, HasOneUndoing, IsAtRest}
 use Rattle.mlt_manager_solo.specs.Asking.{CanMark, HasAsked, HasDone, HasEndedScript, HasRunScript, IsRefused, IsTakenBack, IsUndone}
-use Rattle.mlt_manager_solo.specs.Desks.{MeetsAbort, MeetsBegin, MeetsCommit, MeetsOperation, MeetsUndoing, abort_told, reply_told}
+use Rattle.mlt_manager_solo.specs.Desks.{MeetsAbort, MeetsCall, MeetsOperation, MeetsUndoing, abort_told, reply_told}
 use Rattle.mlt_manager_solo.specs.Events.{done_by}
 use Rattle.mlt_manager_solo.proofs.Ends.{abort_is_told, begins_abort, closes_it, commit_is_told, keeps_it, takes_it_back, undo_is_told, undoes_it}
 use Rattle.mlt_manager_solo.proofs.Scripts.{asked_alone, asked_done, asked_first, asked_in_vain, asked_nothing, asked_refused, begun_alone, ended_aborted, ended_committed, ended_refused, not_begun_rests, refused_after, run_begun, run_not_begun}
@@ -36,7 +38,7 @@ marks_itself refusal.IdsSpent can = refl
 marks_itself other can = absurd can
 
 -- an operation that answers a reply was told it
-told_reply : (said : Told) (reply : ObjReply) → Ok reply ≡ reply_told said → said ≡ told.Answered (answer.Done reply)
+told_reply : (said : Told) (reply : ObjReply) → desk.Replied reply ≡ answer_by desk.Replied (reply_told said) → said ≡ told.Answered (answer.Done reply)
 told_reply (told.Answered (answer.Done r)) reply h = cc h
 told_reply (told.Answered (answer.Refused r)) reply h = absurd (cc h)
 told_reply (told.Answered answer.Going) reply h = absurd (cc h)
@@ -54,7 +56,7 @@ told_reply (told.Aborting closed) reply h = absurd (cc h)
 module _ {P : Type 0} (bits_of : P → ℕ → ℕ) where
   module _ (old new : ManagerFields P) (tx : ℕ) (op : ObjOp) (one : HasOneIdle bits_of old tx) where
     -- **An operation that answers a reply is done.**
-    done_alone : (reply : ObjReply) → MeetsOperation bits_of old tx op (Ok reply) new → HasOneIdle bits_of new tx × HasDone bits_of old new tx (op, reply)
+    done_alone : (reply : ObjReply) → MeetsOperation bits_of old tx op (desk.Replied reply) new → HasOneIdle bits_of new tx × HasDone bits_of old new tx (op, reply)
     done_alone reply m =
         asked_done bits_of old new tx op one reply (subst (λ (said : Told). Meets bits_of (event.Whole tx op) said (counted old) new) (told_reply m.said reply m.answers) m.meets)
 
@@ -62,7 +64,7 @@ module _ {P : Type 0} (bits_of : P → ℕ → ℕ) where
     told_alone : (a : Answer) → ((reply : ObjReply) → a ≡ answer.Done reply → ⊥) → ((reason : Refusal) → a ≡ answer.Refused reason → ⊥) → Meets bits_of (event.Whole tx op) (told.Answered a) (counted old) new → ⊥
     told_alone a not_done not_refused meets = asked_alone bits_of old new tx op one a meets.0 meets.2 not_done not_refused
 
-    refused_by : (said : Told) (reason : Refusal) → Err reason ≡ reply_told said → Meets bits_of (event.Whole tx op) said (counted old) new → HasOneIdle bits_of new tx × IsRefused bits_of old new tx op reason
+    refused_by : (said : Told) (reason : Refusal) → desk.Refused reason ≡ answer_by desk.Replied (reply_told said) → Meets bits_of (event.Whole tx op) said (counted old) new → HasOneIdle bits_of new tx × IsRefused bits_of old new tx op reason
     refused_by (told.Refused r) reason h meets =
         let same : r ≡ reason = cc h in
         subst (λ (x : Refusal). HasOneIdle bits_of new tx × IsRefused bits_of old new tx op x) same (asked_in_vain bits_of old new tx op one r meets)
@@ -82,7 +84,7 @@ module _ {P : Type 0} (bits_of : P → ℕ → ℕ) where
     refused_by (told.Aborting closed) reason h meets = absurd meets
 
     -- **One that answers a refusal was told it,** and waits for nobody.
-    refused_alone : (reason : Refusal) → MeetsOperation bits_of old tx op (Err reason) new → HasOneIdle bits_of new tx × IsRefused bits_of old new tx op reason
+    refused_alone : (reason : Refusal) → MeetsOperation bits_of old tx op (desk.Refused reason) new → HasOneIdle bits_of new tx × IsRefused bits_of old new tx op reason
     refused_alone reason m = refused_by m.said reason m.answers m.meets
 
   undone_alone : (middle new : ManagerFields P) (tx : ℕ) → HasOneUndoing bits_of middle tx → (said : Told) → Meets bits_of (event.WholeUndo tx) said (counted middle) new → IsAtRest bits_of new × IsUndone bits_of middle new tx
@@ -109,20 +111,11 @@ module _ {P : Type 0} (bits_of : P → ℕ → ℕ) where
 
   -- any desk whose calls are those of its manager
   module _ {D : Type 0} (manager_of : D → ManagerFields P) where
-    abbrev begins_of : OnBegin D
-    begins_of old answer new = MeetsBegin bits_of (manager_of old) answer (manager_of new)
-
-    abbrev answers_of : OnOperation D
-    answers_of old tx op answer new = MeetsOperation bits_of (manager_of old) tx op answer (manager_of new)
-
-    abbrev commits_of : OnCommit D
-    commits_of old tx answer new = MeetsCommit bits_of (manager_of old) tx answer (manager_of new)
-
-    abbrev aborts_of : OnAbort D
-    aborts_of old tx new = MeetsAbort bits_of (manager_of old) tx (manager_of new)
+    abbrev moves_of : Moves D
+    moves_of old call answer new = MeetsCall bits_of (manager_of old) call answer (manager_of new)
 
     -- **The operations of the transcript are done.**
-    gives_asked : (tx : ℕ) (d : D) (t : Transcript) (e : D) → HasOneIdle bits_of (manager_of d) tx → Gives answers_of tx d t e
+    gives_asked : (tx : ℕ) (d : D) (t : Transcript) (e : D) → HasOneIdle bits_of (manager_of d) tx → Gives moves_of tx d t e
         → HasOneIdle bits_of (manager_of e) tx × HasAsked bits_of (manager_of d) (manager_of e) t (done_by tx t)
     gives_asked tx d [] e one same =
         subst (λ (z : D). HasOneIdle bits_of (manager_of z) tx × HasAsked bits_of (manager_of d) (manager_of z) [] (done_by tx [])) same (one, asked_nothing bits_of (manager_of d) tx)
@@ -132,8 +125,8 @@ module _ {P : Type 0} (bits_of : P → ℕ → ℕ) where
         (later.0, asked_first bits_of (manager_of d) (manager_of m) (manager_of e) tx x t first.1 later.1)
 
     -- **The script is played and closed.**
-    closed_alone : (s : ScriptForm) (tx : ℕ) (d m : D) (t : Transcript) (ended : Result Ending Refusal) (end : End) (e : D) → HasOneIdle bits_of (manager_of d) tx → PlaysAt answers_of s tx d t ended m
-        → ClosesAs commits_of aborts_of tx ended m end e → IsAtRest bits_of (manager_of e) × HasEndedScript bits_of s (manager_of d) (manager_of e) tx t end
+    closed_alone : (s : ScriptForm) (tx : ℕ) (d m : D) (t : Transcript) (ended : Result Ending Refusal) (end : End) (e : D) → HasOneIdle bits_of (manager_of d) tx → PlaysAt moves_of s tx d t ended m
+        → ClosesAs moves_of tx ended m end e → IsAtRest bits_of (manager_of e) × HasEndedScript bits_of s (manager_of d) (manager_of e) tx t end
     closed_alone s tx d m t (Ok Commit) (Committed number) e one plays closes =
         let asked = gives_asked tx d t m one plays.1 in
         let kept = keeps_it bits_of (manager_of m) (manager_of e) tx asked.0 number closes in
@@ -159,7 +152,7 @@ module _ {P : Type 0} (bits_of : P → ℕ → ℕ) where
     closed_alone s tx d m t (Err reason) (Committed number) e one plays closes = absurd closes
 
     -- **A script that runs at rest leaves the manager at rest,** and its events were told what it was told.
-    pub run_at_rest : (s : ScriptForm) (d : D) (tx : ℕ) (t : Transcript) (end : End) (e : D) → IsAtRest bits_of (manager_of d) → IsRunAt begins_of answers_of commits_of aborts_of s d tx t end e
+    pub run_at_rest : (s : ScriptForm) (d : D) (tx : ℕ) (t : Transcript) (end : End) (e : D) → IsAtRest bits_of (manager_of d) → IsRunAt moves_of s d tx t end e
         → IsAtRest bits_of (manager_of e) × HasRunScript bits_of s (manager_of d) (manager_of e) tx t end
     run_at_rest s d tx t end e rest (inl u) =
         let run = run_not_begun bits_of s (manager_of d) (manager_of e) t u.refusal u.nothing rest u.begins_none in (

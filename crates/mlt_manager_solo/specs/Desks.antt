@@ -4,6 +4,11 @@ use Rattle.mlt_types.specs.declared.refusal.Refusal.{Refusal}
 use Rattle.mlt_types.specs.declared.refusal.Refusal.TheVariants as refusal
 use Rattle.mlt_object_kinds.specs.declared.operation.ObjOp.{ObjOp}
 use Rattle.mlt_object_kinds.specs.declared.operation.ObjReply.{ObjReply}
+use Rattle.mlt_script_cursor.specs.declared.call.DeskAnswer.{DeskAnswer}
+use Rattle.mlt_script_cursor.specs.declared.call.DeskAnswer.TheVariants.{Begun, Replied, Committed, Aborted, Refused}
+use Rattle.mlt_script_cursor.specs.declared.call.DeskCall.{DeskCall}
+use Rattle.mlt_script_cursor.specs.declared.call.DeskCall.TheVariants as call
+use Rattle.mlt_script_cursor.specs.Calls.{answer_by}
 use Rattle.mlt_event.specs.declared.answer.Answer.TheVariants as answer
 use Rattle.mlt_event.specs.declared.event.Event.TheVariants as event
 use Rattle.mlt_event.specs.declared.told.Told.{Told}
@@ -12,15 +17,7 @@ use Rattle.mlt_manager.specs.Answers.{counted}
 use Rattle.mlt_manager.specs.Events.{Meets}
 use Rattle.mlt_manager.specs.Managers.{ManagerFields}
 
--- what a begin, a commit or an abort was told that answers so
-abbrev pub begin_told : Result ℕ Refusal → Told
-begin_told (Ok tx) = told.Begun tx
-begin_told (Err reason) = told.Refused reason
-
-abbrev pub commit_told : Result ℕ Refusal → Told
-commit_told (Ok number) = told.Committed number
-commit_told (Err reason) = told.Refused reason
-
+-- what an abort was told that answers so
 abbrev pub abort_told : Result Bool Refusal → Told
 abort_told (Ok closed) = told.Aborting closed
 abort_told (Err reason) = told.Refused reason
@@ -33,18 +30,11 @@ reply_told (told.Refused reason) = Err reason
 reply_told other = Err refusal.GaveUp
 
 module _ {P : Type 0} (bits_of : P → ℕ → ℕ) where
-  abbrev pub MeetsBegin : ManagerFields P → Result ℕ Refusal → ManagerFields P → Type 0
-  MeetsBegin old answer new = Meets bits_of event.Begin (begin_told answer) (counted old) new
-
-  pub record MeetsOperation (old : ManagerFields P) (tx : ℕ) (op : ObjOp)
-      (answer : Result ObjReply Refusal) (new : ManagerFields P) : Type 0 where
+  pub record MeetsOperation (old : ManagerFields P) (tx : ℕ) (op : ObjOp) (answer : DeskAnswer)
+      (new : ManagerFields P) : Type 0 where
     pub said : Told
-    pub answers : answer ≡ reply_told said
+    pub answers : answer ≡ answer_by Replied (reply_told said)
     pub meets : Meets bits_of (event.Whole tx op) said (counted old) new
-
-  abbrev pub MeetsCommit : ManagerFields P → ℕ → Result ℕ Refusal → ManagerFields P → Type 0
-  MeetsCommit old tx answer new =
-      Meets bits_of (event.Commit tx) (commit_told answer) (counted old) new
 
   -- where an abort was told that there is something to take back, that is the next event
   abbrev pub MeetsUndoing : Result Bool Refusal → ManagerFields P → ℕ → ManagerFields P → Type 0
@@ -57,3 +47,17 @@ module _ {P : Type 0} (bits_of : P → ℕ → ℕ) where
     pub middle : ManagerFields P
     pub meets : Meets bits_of (event.Abort tx) (abort_told answer) (counted old) middle
     pub undoes : MeetsUndoing answer middle tx new
+
+  -- a call is answered so
+  abbrev pub MeetsCall : ManagerFields P → DeskCall → DeskAnswer → ManagerFields P → Type 0
+  MeetsCall old call.Begin (Begun tx) new =
+      Meets bits_of event.Begin (told.Begun tx) (counted old) new
+  MeetsCall old call.Begin (Refused reason) new =
+      Meets bits_of event.Begin (told.Refused reason) (counted old) new
+  MeetsCall old (call.Operation tx op) answer new = MeetsOperation old tx op answer new
+  MeetsCall old (call.Commit tx) (Committed number) new =
+      Meets bits_of (event.Commit tx) (told.Committed number) (counted old) new
+  MeetsCall old (call.Commit tx) (Refused reason) new =
+      Meets bits_of (event.Commit tx) (told.Refused reason) (counted old) new
+  MeetsCall old (call.Abort tx) Aborted new = MeetsAbort old tx new
+  MeetsCall old asked answer new = ⊥

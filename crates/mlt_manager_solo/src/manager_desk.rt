@@ -29,10 +29,10 @@ fn reply_of(told: Told) -> Result<ObjReply, Refusal>
 }
 
 impl<P: Pseudo> Answering for ManagerDesk<P> {
-    ghost use Rattle.mlt_manager_solo.specs.Desks.{MeetsOperation};
+    ghost use Rattle.mlt_manager_solo.specs.Desks.{MeetsCall};
 
-    ghost answers = { λ old tx op answer new.
-        MeetsOperation P.bits_of old.manager tx op answer new.manager };
+    ghost moves = { λ old call answer new.
+        MeetsCall P.bits_of old.manager call answer new.manager };
 
     fn operation(&mut self, tx: TxId, op: ObjOp) -> Result<ObjReply, Refusal> {
         reply_of(self.manager.act(Event::Whole(tx, op)))
@@ -40,15 +40,6 @@ impl<P: Pseudo> Answering for ManagerDesk<P> {
 }
 
 impl<P: Pseudo> Desk for ManagerDesk<P> {
-    ghost use Rattle.mlt_manager_solo.specs.Desks.{MeetsAbort, MeetsBegin, MeetsCommit};
-
-    ghost begins = { λ old answer new. MeetsBegin P.bits_of old.manager answer new.manager };
-
-    ghost commits = { λ old tx answer new.
-        MeetsCommit P.bits_of old.manager tx answer new.manager };
-
-    ghost aborts = { λ old tx new. MeetsAbort P.bits_of old.manager tx new.manager };
-
     fn begin(&mut self) -> Result<TxId, Refusal> {
         self.manager.begin()
     }

@@ -3,7 +3,7 @@
 use mlt_object_conflicts::clash;
 use mlt_object_kinds::{AccountOp, Done, ElementOp, ObjOp, ObjReply};
 use mlt_object_locks::ObjectLocks;
-use mlt_test_tools::same_at;
+use mlt_test_tools::{next_number, same_at};
 use mlt_types::{Refusal, TxId};
 use std::test::Fail;
 
@@ -48,13 +48,6 @@ fn lower(lowest: Option<TxId>, holder: TxId) -> TxId {
         Some(other) if other < holder => other,
         _ => holder,
     }
-}
-
-// The next of a row of numbers that look random, from Knuth's MMIX.
-fn next_number(state: u64) -> u64 {
-    state
-        .wrapping_mul(6_364_136_223_846_793_005)
-        .wrapping_add(1_442_695_040_888_963_407)
 }
 
 // An operation on one of the accounts, on an element of one of the sets, or on the size of one.

@@ -1,7 +1,7 @@
 //! Page locks beside a plain list that is scanned: both answer alike.
 
 use crate::page_locks::{Desk, new_desk};
-use mlt_test_tools::same_at;
+use mlt_test_tools::{next_number, same_at};
 use mlt_types::Mode;
 use std::alloc::AllocFailed;
 use std::process::Abort;
@@ -59,13 +59,6 @@ fn lower(lowest: Option<u64>, holder: u64) -> u64 {
         Some(other) if other < holder => other,
         _ => holder,
     }
-}
-
-// The next of a row of numbers that look random, from Knuth's MMIX.
-fn next_number(state: u64) -> u64 {
-    state
-        .wrapping_mul(6_364_136_223_846_793_005)
-        .wrapping_add(1_442_695_040_888_963_407)
 }
 
 // One call of each, which answer alike: one in four releases. Each page and its fellow 4,096 above it have one remainder.

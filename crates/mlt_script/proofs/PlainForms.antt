@@ -1,17 +1,15 @@
 -- Operations and lines of a plain form, as they are read in the general way.
-use Rattle.std.proofs.Common.{◌≡◌, ℕ, ◌^◌, ◌<◌, ◌≤◌, List, [], ◌∷◌, ◌++◌, length, true, false, Option, Some, None, IfSome, option_and_then, refl, sym, ap, ◌∙◌, append_assoc, length-append, arith}
+use Rattle.std.proofs.Common.{◌≡◌, ℕ, ◌^◌, ◌<◌, List, [], ◌∷◌, ◌++◌, length, true, false, Option, Some, None, IfSome, option_and_then, refl, sym, ap, ◌∙◌, append_assoc, length-append, arith}
 use Rattle.std.proofs.lemmas.Bool.{lt-ltb}
 use Rattle.std.proofs.lemmas.List.{append-nil}
 use denote.Ref.{Bor}
-use Rattle.mlt_object_kinds.specs.declared.account.AccountOp.TheVariants as account
-use Rattle.mlt_object_kinds.specs.declared.element.ElementOp.TheVariants as element
-use Rattle.mlt_object_kinds.specs.declared.counter.CounterOp.TheVariants as counter
 use Rattle.mlt_object_kinds.specs.declared.operation.ObjOp.{ObjOp}
-use Rattle.mlt_object_kinds.specs.declared.operation.ObjOp.TheVariants.{Account, Element, Counter, Size}
 use Rattle.mlt_object_kinds.specs.declared.operation.ObjReply.{ObjReply}
 use Rattle.mlt_object_kinds.specs.declared.operation.ObjReply.TheVariants as reply
 use Rattle.mlt_script.specs.declared.forms.LineForm.{LineForm}
 use Rattle.mlt_script.specs.declared.forms.LineForm.TheVariants.{Begins, Says, Closes}
+use Rattle.mlt_script_tree.specs.Amounts.{with_amount}
+use Rattle.mlt_script_tree.specs.declared.statement.AmountOp.{AmountOp}
 use Rattle.mlt_script_tree.specs.declared.statement.Asking.{Asking}
 use Rattle.mlt_script_tree.specs.declared.statement.Asking.TheVariants.{Fixed, By}
 use Rattle.mlt_script_tree.specs.declared.statement.Ending.TheVariants.{Commit}
@@ -23,98 +21,55 @@ use Rattle.mlt_text_words.specs.declared.keyword.Word.{Word}
 use Rattle.mlt_text_words.specs.declared.keyword.Word.TheVariants.{Key, Number}
 use Rattle.mlt_text_words.specs.Fronts.{BeginsWithWords, TextIs}
 use Rattle.mlt_text_words.specs.Lines.{is_comment, lines}
-use Rattle.mlt_text_words.specs.Words.{spelling}
+use Rattle.mlt_text_words.specs.Words.{number_at, spelling}
 use Rattle.mlt_text_words.proofs.Cutting.{line_cut}
-use Rattle.mlt_text_words.proofs.Fronts.{no_comment}
+use Rattle.mlt_text_words.proofs.Fronts.{no_comment, words_then}
 use Rattle.mlt_text_words.proofs.Pieces.{at_most, beside, key_text}
-use Rattle.mlt_script.specs.Forms.{asking_at, ask_form, fixed, form_of, key_form, op_at, key_at, account_at, element_at, counter_at, set_size_at, deposit_at, withdraw_at, up_at, down_at, number_below, amount_at, begin_form, reply_at, reply_after, reply_word}
-use Rattle.mlt_script.specs.Plain.{AsksElement, BeginsWithForm, BeginsWithOp, BeginsWithReply, GoesOnWithOp}
+use Rattle.mlt_script.specs.Forms.{asking_at, asking_of, ask_form, element_op, fixed, form_of, key_form, op_at, op_of_amount, op_of_element, op_of_one, key_at, number_below, amount_at, begin_form, reply_at, reply_after, reply_word}
+use Rattle.mlt_script.specs.Plain.{BeginsWithForm, BeginsWithOp, BeginsWithReply, GoesOnWithOp}
 use Rattle.mlt_script.proofs.Saying.{says_so}
 
--- the rest in another form
-pub before : (text rest other : List ℕ) (words : List Word) (n : ℕ) → BeginsWithWords text words n rest → rest ≡ other → BeginsWithWords text words n other
-before text rest other words n (t, is, h) e = (t, is ∙ ap (λ (xs : List ℕ). t ++ xs) e, h)
+-- ---- the words of an operation
 
--- ---- each operation
+-- one number
+pub of_one : (k : Keyword) (text rest : List ℕ) (n : ℕ) (op : ObjOp) → BeginsWithWords text (Number n ∷ []) 20 rest → Some op ≡ op_of_one k n → GoesOnWithOp k text op rest
+unfolding asking_at
+of_one k text rest n op (t, is, h) e = (Number n ∷ [], (t, is, at_most t (Number n ∷ []) 20 41 (omega arith) h), λ more. rw (sym e) refl)
 
--- two numbers follow
-goes_on : (k : Keyword) (text rest : List ℕ) (words : List Word) (n : ℕ) (op : ObjOp) → n ≤ 41 → BeginsWithWords text words n rest
-    → ((more : List Word) → asking_at k (words ++ more) ≡ Some (Fixed op, more)) → GoesOnWithOp k text op rest
-goes_on k text rest words n op l (t, is, h) f = (words, (t, is, at_most t words n 41 l h), f)
+-- two numbers with a space between them
+two : (text first middle rest : List ℕ) (n m : ℕ) → BeginsWithWords text (Number n ∷ []) 20 first → first ≡ 32 ∷ middle → BeginsWithWords middle (Number m ∷ []) 20 rest
+    → BeginsWithWords text (Number n ∷ Number m ∷ []) 41 rest
+two text first middle rest n m (t, is, h) e k =
+    words_then text middle rest (Number n ∷ []) (Number m ∷ []) 20 20 (t, is ∙ ap (λ (xs : List ℕ). t ++ xs) e, h) k
 
-module _ (text rest : List ℕ) (a : ℕ) (below : a < 2 ^ 32) where
-  module _ (n : ℕ) (h : BeginsWithWords text (Number a ∷ Number n ∷ []) 41 rest) where
-    pub deposit : GoesOnWithOp key.Deposit text (Account a (account.Deposit n)) rest
-    unfolding asking_at deposit_at number_below amount_at
-    deposit = goes_on key.Deposit text rest _ 41 _ (omega arith) h (λ more. rw (lt-ltb a (2 ^ 32) below) refl)
+module _ (k : Keyword) (text first middle rest : List ℕ) (n m : ℕ) (before : BeginsWithWords text (Number n ∷ []) 20 first) (space : first ≡ 32 ∷ middle)
+    (behind : BeginsWithWords middle (Number m ∷ []) 20 rest) (more_than_one : None ≡ op_of_one k n) where
+  pub of_amount : (op : AmountOp) → Some op ≡ op_of_amount k n → GoesOnWithOp k text (with_amount op m) rest
+  unfolding asking_at amount_at
+  of_amount op e = (Number n ∷ Number m ∷ [], two text first middle rest n m before space behind, λ more. rw (sym more_than_one, sym e) refl)
 
-    pub withdraw : GoesOnWithOp key.Withdraw text (Account a (account.Withdraw n)) rest
-    unfolding asking_at withdraw_at number_below amount_at
-    withdraw = goes_on key.Withdraw text rest _ 41 _ (omega arith) h (λ more. rw (lt-ltb a (2 ^ 32) below) refl)
-
-    pub up : GoesOnWithOp key.Up text (Counter a (counter.Up n)) rest
-    unfolding asking_at up_at number_below amount_at
-    up = goes_on key.Up text rest _ 41 _ (omega arith) h (λ more. rw (lt-ltb a (2 ^ 32) below) refl)
-
-    pub down : GoesOnWithOp key.Down text (Counter a (counter.Down n)) rest
-    unfolding asking_at down_at number_below amount_at
-    down = goes_on key.Down text rest _ 41 _ (omega arith) h (λ more. rw (lt-ltb a (2 ^ 32) below) refl)
-
-  module _ (h : BeginsWithWords text (Number a ∷ []) 20 rest) where
-    pub opening : GoesOnWithOp key.Open text (Account a account.Open) rest
-    unfolding asking_at account_at number_below
-    opening = goes_on key.Open text rest _ 20 _ (omega arith) h (λ more. rw (lt-ltb a (2 ^ 32) below) refl)
-
-    pub closing : GoesOnWithOp key.Close text (Account a account.Close) rest
-    unfolding asking_at account_at number_below
-    closing = goes_on key.Close text rest _ 20 _ (omega arith) h (λ more. rw (lt-ltb a (2 ^ 32) below) refl)
-
-    pub balance : GoesOnWithOp key.Balance text (Account a account.Balance) rest
-    unfolding asking_at account_at number_below
-    balance = goes_on key.Balance text rest _ 20 _ (omega arith) h (λ more. rw (lt-ltb a (2 ^ 32) below) refl)
-
-    pub read : GoesOnWithOp key.Read text (Counter a counter.Read) rest
-    unfolding asking_at counter_at number_below
-    read = goes_on key.Read text rest _ 20 _ (omega arith) h (λ more. rw (lt-ltb a (2 ^ 32) below) refl)
-
-pub adding : AsksElement key.Add element.Add
-unfolding asking_at element_at number_below
-adding = λ s e more h k. rw (lt-ltb s (2 ^ 16) h, lt-ltb e (2 ^ 32) k) refl
-
-pub removing : AsksElement key.Remove element.Remove
-unfolding asking_at element_at number_below
-removing = λ s e more h k. rw (lt-ltb s (2 ^ 16) h, lt-ltb e (2 ^ 32) k) refl
-
-pub having : AsksElement key.Has element.Has
-unfolding asking_at element_at number_below
-having = λ s e more h k. rw (lt-ltb s (2 ^ 16) h, lt-ltb e (2 ^ 32) k) refl
-
-pub on_element : (k : Keyword) (op : element.the_data) (text rest : List ℕ) (s e : ℕ) → AsksElement k op → s < 2 ^ 16 → e < 2 ^ 32
-    → BeginsWithWords text (Number s ∷ Number e ∷ []) 41 rest → GoesOnWithOp k text (Element s e op) rest
-on_element k op text rest s e f h l w = goes_on k text rest _ 41 _ (omega arith) w (λ more. f s e more h l)
-
-pub sizing : (text rest : List ℕ) (s : ℕ) → s < 2 ^ 16 → BeginsWithWords text (Number s ∷ []) 20 rest → GoesOnWithOp key.Size text (Size s) rest
-unfolding asking_at set_size_at number_below
-sizing text rest s below h = goes_on key.Size text rest _ 20 _ (omega arith) h (λ more. rw (lt-ltb s (2 ^ 16) below) refl)
+  pub of_element : (op : ObjOp) → None ≡ op_of_amount k n → Some op ≡ op_of_element k n m → GoesOnWithOp k text op rest
+  unfolding asking_at
+  of_element op no_amount e = (Number n ∷ Number m ∷ [], two text first middle rest n m before space behind, λ more. rw (sym more_than_one, sym no_amount, sym e) refl)
 
 -- ---- an operation and its line
 
 -- behind a keyword and a space
-op_first : (k : Keyword) (text middle rest : List ℕ) (op : ObjOp) → text ≡ (spelling k ++ 32 ∷ []) ++ middle → GoesOnWithOp k middle op rest → BeginsWithOp text op rest
+op_first : (k : Keyword) (text middle rest : List ℕ) (op : ObjOp) → text ≡ spelling k ++ 32 ∷ middle → GoesOnWithOp k middle op rest → BeginsWithOp text op rest
 unfolding op_at key_at
 op_first k text middle rest op e (words, (t, is, h), f) = (
   spelling k ++ 32 ∷ t,
   Key k ∷ words,
-  e ∙ append_assoc (spelling k) (32 ∷ []) middle ∙ ap (λ (xs : List ℕ). spelling k ++ 32 ∷ xs) is ∙ sym (append_assoc (spelling k) (32 ∷ t) rest),
+  e ∙ ap (λ (xs : List ℕ). spelling k ++ 32 ∷ xs) is ∙ sym (append_assoc (spelling k) (32 ∷ t) rest),
   at_most (spelling k ++ 32 ∷ t) (Key k ∷ words) 50 60 (omega arith) (beside (spelling k) t (Key k ∷ []) words 8 41 (key_text k) h),
   no_comment k (32 ∷ t),
   λ more. rw (f more) refl,
 )
 
-pub op_found : (k : Keyword) (text middle : List ℕ) (found : Option (ObjOp × Bor (List ℕ))) → text ≡ (spelling k ++ 32 ∷ []) ++ middle
+pub op_found : (k : Keyword) (text behind middle : List ℕ) (found : Option (ObjOp × Bor (List ℕ))) → text ≡ spelling k ++ behind → behind ≡ 32 ∷ middle
     → IfSome found (λ x. GoesOnWithOp k middle x.0 x.1.now) → IfSome found (λ x. BeginsWithOp text x.0 x.1.now)
-op_found k text middle None e h = tt
-op_found k text middle (Some x) e h = op_first k text middle x.1.now x.0 e h
+op_found k text behind middle None e f h = tt
+op_found k text behind middle (Some x) e f h = op_first k text middle x.1.now x.0 (e ∙ ap (λ (xs : List ℕ). spelling k ++ xs) f) h
 
 -- the first line of a text, by its words
 pub first_line : (text t rest : List ℕ) (w : Word) (ws : List Word) (form : LineForm) → text ≡ t ++ 10 ∷ rest → TextIs t (w ∷ ws) 200 → is_comment t ≡ false
@@ -131,21 +86,32 @@ asked None op h = cc
 asked (Some (Fixed found, ws)) op h = let e : (found, ws) ≡ (op, []) = cc in ap (λ (x : ObjOp × List Word). Some (Fixed x.0, x.1)) e
 asked (Some (By b l, ws)) op h = cc
 
+-- a keyword of no operation
+module _ (k : Keyword) (one : (n : ℕ) → op_of_one k n ≡ None) (amount : (n : ℕ) → op_of_amount k n ≡ None) (element : element_op k ≡ None) where
+  no_second : (n : ℕ) (o : Option (ℕ × List Word)) → option_and_then {U = Asking × List Word} (λ e. option_and_then {U = Asking × List Word} (λ op. Some (Fixed op, e.1)) (op_of_element k n e.0)) o ≡ None
+  unfolding op_of_element
+  no_second n None = refl
+  no_second n (Some e) = rw element refl
+
+  no_first : (o : Option (ℕ × List Word)) → option_and_then (λ n. asking_of k n.0 n.1 (op_of_one k n.0) (op_of_amount k n.0)) o ≡ None
+  no_first None = refl
+  no_first (Some n) = rw (one n.0, amount n.0) (no_second n.0 (number_at n.1))
+
+  no_asking : (words : List Word) (op : ObjOp) → asking_at k words ≡ Some (Fixed op, []) → ⊥
+  unfolding asking_at
+  no_asking words op h = let none : asking_at k words ≡ None = no_first (number_at words) in cc
+
 ask_key : (k : Keyword) (words : List Word) (op : ObjOp) → asking_at k words ≡ Some (Fixed op, []) → key_form k words ≡ Some (Says (line.Plain (Ask (Fixed op))))
-unfolding asking_at key_form ask_form
-ask_key key.Open words op h = rw h refl
-ask_key key.Close words op h = rw h refl
-ask_key key.Deposit words op h = rw h refl
-ask_key key.Withdraw words op h = rw h refl
-ask_key key.Balance words op h = rw h refl
-ask_key key.Add words op h = rw h refl
-ask_key key.Remove words op h = rw h refl
-ask_key key.Has words op h = rw h refl
-ask_key key.Up words op h = rw h refl
-ask_key key.Down words op h = rw h refl
-ask_key key.Read words op h = rw h refl
-ask_key key.Size words op h = rw h refl
-ask_key k words op h = cc
+unfolding key_form ask_form op_of_one op_of_amount element_op
+ask_key key.Begin words op h = absurd (no_asking key.Begin (λ n. refl) (λ n. refl) refl words op h)
+ask_key key.Commit words op h = absurd (no_asking key.Commit (λ n. refl) (λ n. refl) refl words op h)
+ask_key key.Abort words op h = absurd (no_asking key.Abort (λ n. refl) (λ n. refl) refl words op h)
+ask_key key.Need words op h = absurd (no_asking key.Need (λ n. refl) (λ n. refl) refl words op h)
+ask_key key.Let words op h = absurd (no_asking key.Let (λ n. refl) (λ n. refl) refl words op h)
+ask_key key.If words op h = absurd (no_asking key.If (λ n. refl) (λ n. refl) refl words op h)
+ask_key key.Else words op h = absurd (no_asking key.Else (λ n. refl) (λ n. refl) refl words op h)
+ask_key key.End words op h = absurd (no_asking key.End (λ n. refl) (λ n. refl) refl words op h)
+ask_key k words op h = rw h refl
 
 -- a line that is an operation
 ask_form_of : (words : List Word) (op : ObjOp) → op_at words ≡ Some (op, []) → form_of words ≡ Some (Says (line.Plain (Ask (Fixed op))))
@@ -183,13 +149,13 @@ reply_first k text rest r e h = (
   λ more. reply_of_word k r more (sym h),
 )
 
-pub value_reply : (text middle rest : List ℕ) (v : ℕ) → text ≡ (spelling key.Is ++ 32 ∷ []) ++ middle → BeginsWithWords middle (Number v ∷ []) 20 rest → v < 2 ^ 64
-    → BeginsWithReply text (reply.Is v) rest
+pub value_reply : (k : Keyword) (text behind middle rest : List ℕ) (v : ℕ) → k ≡ key.Is → text ≡ spelling k ++ behind → behind ≡ 32 ∷ middle
+    → BeginsWithWords middle (Number v ∷ []) 20 rest → v < 2 ^ 64 → BeginsWithReply text (reply.Is v) rest
 unfolding reply_at reply_after key_at number_below
-value_reply text middle rest v e (t, is, h) below = (
+value_reply k text behind middle rest v same e f (t, is, h) below = (
   spelling key.Is ++ 32 ∷ t,
   Key key.Is ∷ Number v ∷ [],
-  e ∙ ap (λ (xs : List ℕ). spelling key.Is ++ 32 ∷ xs) is,
+  e ∙ ap (λ (k : Keyword). spelling k ++ behind) same ∙ ap (λ (xs : List ℕ). spelling key.Is ++ xs) (f ∙ ap (λ (xs : List ℕ). 32 ∷ xs) is),
   beside (spelling key.Is) t (Key key.Is ∷ []) (Number v ∷ []) 8 20 (key_text key.Is) h,
   λ more. rw (lt-ltb v (2 ^ 64) below) refl,
 )

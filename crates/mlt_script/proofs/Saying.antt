@@ -1,15 +1,15 @@
 -- What a line says, by its form and by its bytes.
-use Rattle.std.proofs.Common.{◌≡◌, ℕ, ◌-◌, List, [], ◌∷◌, length, take, get_or, is_some, Bool, true, false, cond, Some, None, nat_lt, ◌==◌, ◌&&◌, ◌||◌, if◌then◌else◌, refl, sym, ◌∙◌, arith}
+use Rattle.std.proofs.Common.{◌≡◌, ℕ, List, [], ◌∷◌, length, is_some, true, false, Some, None, nat_lt, if◌then◌else◌, refl, ◌∙◌}
 use Rattle.std.specs.List.{list_all}
-use Rattle.std.proofs.lemmas.Bool.{le-ltb, ltb-true}
-use Rattle.std.proofs.lemmas.List.Folds.{list_all_at}
+use Rattle.std.proofs.lemmas.Bool.{le-ltb}
 use Rattle.mlt_types.specs.declared.refusal.ScriptCause.TheVariants as cause
 use Rattle.mlt_script.specs.declared.forms.LineForm.{LineForm}
 use Rattle.mlt_script.specs.declared.line.Reading.TheVariants.{Bad, Skip, Form}
 use Rattle.mlt_text_words.specs.declared.keyword.Word.{Word}
-use Rattle.mlt_text_words.specs.Fronts.{TextIs, is_printable}
-use Rattle.mlt_text_words.specs.Lines.{is_allowed, is_comment, without_cr}
+use Rattle.mlt_text_words.specs.Fronts.{TextIs}
+use Rattle.mlt_text_words.specs.Lines.{is_allowed, is_comment}
 use Rattle.mlt_text_words.specs.Words.{word_at, words_of}
+use Rattle.mlt_text_words.proofs.Allowed.{all_allowed, no_cr}
 use Rattle.mlt_script.specs.Forms.{form_of, key_at}
 use Rattle.mlt_script.specs.Readings.{reading, said_by}
 
@@ -22,41 +22,11 @@ pub said_nothing : (words : List Word) → form_of words ≡ None → said_by wo
 said_nothing [] h = refl
 said_nothing (w ∷ ws) h = rw h refl
 
-kept : (a b : Bool) (x y : List ℕ) → (a ≡ true → b ≡ true → ⊥) → cond (a && b) x y ≡ y
-kept true true x y n = absurd (n refl refl)
-kept true false x y n = refl
-kept false b x y n = refl
-
-cr_at : (b : ℕ) → (b == 13) ≡ true → is_allowed b ≡ false
-cr_at b h = grind arith
-
--- a line of allowed bytes has no CR
-pub no_cr : (line : List ℕ) → list_all is_allowed line ≡ true → without_cr line ≡ line
-no_cr line h =
-    kept (nat_lt 0 (length line)) (get_or line (length line - 1) 0 == 13) (take (length line - 1) line) line (λ some cr.
-    let l = ltb-true 0 (length line) some in
-    let g = list_all_at is_allowed line (length line - 1) 0 (omega (arith, l)) (cr_at (get_or line (length line - 1) 0) cr) in
-    let e : true ≡ false = sym h ∙ g in
-    cc (e))
-
 -- what a line of allowed bytes is
-pub allowed_reading : (line : List ℕ) → list_all is_allowed line ≡ true
+allowed_reading : (line : List ℕ) → list_all is_allowed line ≡ true
     → reading (record { bytes = line; ended = true }) ≡ (if nat_lt 200 (length line) then Bad cause.Line else if is_comment line then Skip else said_by (words_of line))
 unfolding reading
 allowed_reading line h = rw (no_cr line h, h) refl
-
-allowed_by : (b : ℕ) → is_printable b ≡ true → is_allowed b ≡ true
-allowed_by b h = rw h (or_true (b == 9)) where
-  or_true : (a : Bool) → (a || true) ≡ true
-  or_true true = refl
-  or_true false = refl
-
-pub all_allowed : (t : List ℕ) → list_all is_printable t ≡ true → list_all is_allowed t ≡ true
-all_allowed [] h = refl
-all_allowed (b ∷ t) h = both_of (is_printable b) b t refl h (λ k. all_allowed t k) where
-  both_of : (c : Bool) (b : ℕ) (t : List ℕ) → is_printable b ≡ c → (c && list_all is_printable t) ≡ true → (list_all is_printable t ≡ true → list_all is_allowed t ≡ true) → list_all is_allowed (b ∷ t) ≡ true
-  both_of true b t e h k = rw (allowed_by b e) (k h)
-  both_of false b t e h k = absurd (cc h)
 
 -- the words of a printable line say its form
 pub says_so : (t : List ℕ) (w : Word) (ws : List Word) (form : LineForm) → TextIs t (w ∷ ws) 200 → is_comment t ≡ false → form_of (w ∷ ws) ≡ Some form

@@ -1,11 +1,9 @@
 -- The forms of a line. A function reads from the front of the words, and gives what it read and the words after it.
 use Rattle.std.specs.Prelude.{◌≡◌, ℕ, ◌^◌, List, [], ◌∷◌, Option, Some, None, option_and_then, option_map, nat_lt, if◌then◌else◌}
 use denote.Ref.{Bor}
-use Rattle.mlt_object_kinds.specs.declared.account.AccountOp.{AccountOp}
 use Rattle.mlt_object_kinds.specs.declared.account.AccountOp.TheVariants as account
 use Rattle.mlt_object_kinds.specs.declared.element.ElementOp.{ElementOp}
 use Rattle.mlt_object_kinds.specs.declared.element.ElementOp.TheVariants as element
-use Rattle.mlt_object_kinds.specs.declared.counter.CounterOp.{CounterOp}
 use Rattle.mlt_object_kinds.specs.declared.counter.CounterOp.TheVariants as counter
 use Rattle.mlt_object_kinds.specs.declared.operation.ObjOp.{ObjOp}
 use Rattle.mlt_object_kinds.specs.declared.operation.ObjOp.TheVariants.{Account, Element, Counter, Size}
@@ -30,7 +28,7 @@ use Rattle.mlt_script_tree.specs.declared.statement.Ending.TheVariants.{Commit, 
 use Rattle.mlt_script_tree.specs.declared.statement.Statement.TheVariants.{Ask, Need, Let}
 use Rattle.mlt_script_tree.specs.declared.statement.Line.TheVariants as line
 use Rattle.mlt_script_tree.specs.Amounts.{with_amount}
-use Rattle.mlt_text_words.specs.Words.{words_of, word_at}
+use Rattle.mlt_text_words.specs.Words.{number_at, words_of, word_at}
 
 infixl 10 ◌>>=◌
 abbrev pub ◌>>=◌ : {A B : Type 0} → Option A → (A → Option B) → Option B
@@ -81,63 +79,54 @@ amount_at op words = do
   w ← word_at words
   amount_in op w.0 w.1
 
-unfoldable pub account_at : AccountOp → List Word → Option (Asking × List Word)
-account_at op words = do
-  a ← number_below (2 ^ 32) words
-  Some (Fixed (Account a.0 op), a.1)
+-- what is made of a number, where it is below the limit
+abbrev pub if_below : {A : Type 0} → ℕ → ℕ → A → Option A
+if_below limit n made = if nat_lt n limit then Some made else None
 
-unfoldable pub element_at : ElementOp → List Word → Option (Asking × List Word)
-element_at op words = do
-  s ← number_below (2 ^ 16) words
-  e ← number_below (2 ^ 32) s.1
-  Some (Fixed (Element s.0 e.0 op), e.1)
+-- an OP of a keyword and one number
+unfoldable pub op_of_one : Keyword → ℕ → Option ObjOp
+op_of_one key.Open n = if_below (2 ^ 32) n (Account n account.Open)
+op_of_one key.Close n = if_below (2 ^ 32) n (Account n account.Close)
+op_of_one key.Balance n = if_below (2 ^ 32) n (Account n account.Balance)
+op_of_one key.Read n = if_below (2 ^ 32) n (Counter n counter.Read)
+op_of_one key.Size n = if_below (2 ^ 16) n (Size n)
+op_of_one keyword n = None
 
-unfoldable pub counter_at : CounterOp → List Word → Option (Asking × List Word)
-counter_at op words = do
-  c ← number_below (2 ^ 32) words
-  Some (Fixed (Counter c.0 op), c.1)
+-- an OP of a keyword, a number and an amount, without the amount
+unfoldable pub op_of_amount : Keyword → ℕ → Option AmountOp
+op_of_amount key.Deposit n = if_below (2 ^ 32) n (amount.Deposit n)
+op_of_amount key.Withdraw n = if_below (2 ^ 32) n (amount.Withdraw n)
+op_of_amount key.Up n = if_below (2 ^ 32) n (amount.Up n)
+op_of_amount key.Down n = if_below (2 ^ 32) n (amount.Down n)
+op_of_amount keyword n = None
 
-unfoldable pub set_size_at : List Word → Option (Asking × List Word)
-set_size_at words = do
-  s ← number_below (2 ^ 16) words
-  Some (Fixed (Size s.0), s.1)
+-- what a keyword asks of an element
+unfoldable pub element_op : Keyword → Option ElementOp
+element_op key.Add = Some element.Add
+element_op key.Remove = Some element.Remove
+element_op key.Has = Some element.Has
+element_op keyword = None
 
--- the number of an account or a counter, and an amount
-unfoldable pub deposit_at : List Word → Option (Asking × List Word)
-deposit_at words = do
-  a ← number_below (2 ^ 32) words
-  amount_at (amount.Deposit a.0) a.1
+-- an OP of a keyword, a set and an element
+unfoldable pub op_of_element : Keyword → ℕ → ℕ → Option ObjOp
+op_of_element keyword set number = do
+  op ← element_op keyword
+  if nat_lt set (2 ^ 16) then if_below (2 ^ 32) number (Element set number op) else None
 
-unfoldable pub withdraw_at : List Word → Option (Asking × List Word)
-withdraw_at words = do
-  a ← number_below (2 ^ 32) words
-  amount_at (amount.Withdraw a.0) a.1
-
-unfoldable pub up_at : List Word → Option (Asking × List Word)
-up_at words = do
-  c ← number_below (2 ^ 32) words
-  amount_at (amount.Up c.0) c.1
-
-unfoldable pub down_at : List Word → Option (Asking × List Word)
-down_at words = do
-  c ← number_below (2 ^ 32) words
-  amount_at (amount.Down c.0) c.1
+-- the OP, where the keyword and its first number are all of it, or where an amount follows, or else an element
+abbrev pub asking_of : Keyword → ℕ → List Word → Option ObjOp → Option AmountOp → Option (Asking × List Word)
+asking_of keyword number words (Some op) by_amount = Some (Fixed op, words)
+asking_of keyword number words None (Some op) = amount_at op words
+asking_of keyword number words None None = do
+  e ← number_at words
+  op ← op_of_element keyword number e.0
+  Some (Fixed op, e.1)
 
 -- an OP whose first word is the keyword
 unfoldable pub asking_at : Keyword → List Word → Option (Asking × List Word)
-asking_at key.Open words = account_at account.Open words
-asking_at key.Close words = account_at account.Close words
-asking_at key.Deposit words = deposit_at words
-asking_at key.Withdraw words = withdraw_at words
-asking_at key.Balance words = account_at account.Balance words
-asking_at key.Add words = element_at element.Add words
-asking_at key.Remove words = element_at element.Remove words
-asking_at key.Has words = element_at element.Has words
-asking_at key.Up words = up_at words
-asking_at key.Down words = down_at words
-asking_at key.Read words = counter_at counter.Read words
-asking_at key.Size words = set_size_at words
-asking_at keyword words = None
+asking_at keyword words = do
+  n ← number_at words
+  asking_of keyword n.0 n.1 (op_of_one keyword n.0) (op_of_amount keyword n.0)
 
 abbrev pub fixed : Asking → List Word → Option (ObjOp × List Word)
 fixed (Fixed op) rest = Some (op, rest)

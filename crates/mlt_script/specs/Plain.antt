@@ -1,8 +1,6 @@
 -- Operations, replies and lines of a plain form, which has one space between words and nothing else.
-use Rattle.std.specs.Prelude.{◌≡◌, ◌<◌, ℕ, ◌^◌, List, ◌∷◌, ◌++◌, length, Some, false}
-use Rattle.mlt_object_kinds.specs.declared.element.ElementOp.{ElementOp}
+use Rattle.std.specs.Prelude.{◌≡◌, ◌<◌, ℕ, List, ◌∷◌, ◌++◌, length, Some, false}
 use Rattle.mlt_object_kinds.specs.declared.operation.ObjOp.{ObjOp}
-use Rattle.mlt_object_kinds.specs.declared.operation.ObjOp.TheVariants.{Element}
 use Rattle.mlt_object_kinds.specs.declared.operation.ObjReply.{ObjReply}
 use Rattle.mlt_script.specs.declared.forms.LineForm.{LineForm}
 use Rattle.mlt_script.specs.declared.line.Reading.TheVariants.{Form}
@@ -11,7 +9,6 @@ use Rattle.mlt_script.specs.Readings.{reading}
 use Rattle.mlt_script_tree.specs.declared.statement.Asking.TheVariants.{Fixed}
 use Rattle.mlt_text_words.specs.declared.keyword.Keyword.{Keyword}
 use Rattle.mlt_text_words.specs.declared.keyword.Word.{Word}
-use Rattle.mlt_text_words.specs.declared.keyword.Word.TheVariants.{Number}
 use Rattle.mlt_text_words.specs.Fronts.{BeginsWithWords, TextIs}
 use Rattle.mlt_text_words.specs.Lines.{Raw, is_comment, lines}
 
@@ -21,12 +18,6 @@ GoesOnWithOp keyword text op rest =
     (words : List Word)
     × BeginsWithWords text words 41 rest
     × ((more : List Word) → asking_at keyword (words ++ more) ≡ Some (Fixed op, more))
-
--- the keyword asks this of an element, whose numbers follow
-abbrev pub AsksElement : Keyword → ElementOp → Type 0
-AsksElement keyword op =
-    (set element : ℕ) (more : List Word) → set < 2 ^ 16 → element < 2 ^ 32
-    → asking_at keyword (Number set ∷ Number element ∷ more) ≡ Some (Fixed (Element set element op), more)
 
 -- the text begins with an operation, at most 60 printable bytes that are no comment, and then comes the rest
 abbrev pub BeginsWithOp : List ℕ → ObjOp → List ℕ → Type 0

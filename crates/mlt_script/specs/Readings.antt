@@ -1,13 +1,10 @@
 -- What a line is by itself, wherever it stands.
-use Rattle.std.specs.Prelude.{◌≡◌, ◌<◌, ◌⊎◌, List, [], ◌∷◌, length, nat_lt, Option, Some, None, Result, Ok, Err, ℕ, if◌then◌else◌}
+use Rattle.std.specs.Prelude.{◌≡◌, ◌<◌, ◌⊎◌, List, [], ◌∷◌, length, nat_lt, Option, Some, None, if◌then◌else◌}
 use Rattle.std.specs.List.{list_all}
 use Rattle.mlt_types.specs.declared.refusal.ScriptCause.TheVariants as cause
 use Rattle.mlt_script.specs.declared.forms.LineForm.{LineForm}
 use Rattle.mlt_script.specs.declared.forms.LineForm.TheVariants.{Begins}
 use Rattle.mlt_text_words.specs.declared.keyword.Word.{Word}
-use denote.Ref.{Bor}
-use Rattle.mlt_script.specs.declared.line.Unread.{Unread}
-use Rattle.mlt_script.specs.declared.line.Unread.TheVariants as unread_line
 use Rattle.mlt_script.specs.declared.line.Reading.{Reading}
 use Rattle.mlt_script.specs.declared.line.Reading.TheVariants.{Bad, Skip, Form}
 use Rattle.mlt_script.specs.Forms.{form_of}
@@ -36,13 +33,3 @@ IsReading (Bad fault) = (fault ≡ cause.Line) ⊎ (fault ≡ cause.Words)
 IsReading Skip = Unit {0}
 IsReading (Form (Begins client)) = client < 1000
 IsReading (Form form) = Unit {0}
-
--- what a line is whose words are not read
-abbrev pub unread : Unread → Reading
-unread unread_line.Faulty = Bad cause.Line
-unread unread_line.Comment = Skip
-
--- a line is what its words say, or its words are not read
-abbrev pub Judges : Result (Bor (List ℕ)) Unread → Reading → Type 0
-Judges (Ok line) told = told ≡ said_by (words_of line.now)
-Judges (Err why) told = told ≡ unread why

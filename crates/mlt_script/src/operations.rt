@@ -1,7 +1,7 @@
 //! Operations and replies, as words.
 
 ghost use Rattle.std.specs.Prelude.{◌≡◌, ◌≤◌, ◌^◌};
-ghost use Rattle.mlt_script.specs.Forms.{Reads, key_at, number_below, amount_at, account_at, element_at, counter_at, set_size_at, deposit_at, withdraw_at, up_at, down_at, asking_at, op_at, reply_word, reply_at, wanted_at};
+ghost use Rattle.mlt_script.specs.Forms.{Reads, if_below, key_at, number_below, amount_at, op_of_one, op_of_amount, element_op, op_of_element, asking_at, op_at, reply_word, reply_at, wanted_at};
 ghost use Rattle.mlt_text_words.specs.Words.{words_of};
 
 use mlt_object_kinds::{AccountOp, CounterOp, ElementOp, ObjOp, ObjReply};
@@ -16,6 +16,26 @@ pub fn keyword(text: &[u8]) -> Option<(Keyword, &[u8])>
     match next_word(text)? {
         (Word::Key(keyword), rest) => Some((keyword, rest)),
         _ => None,
+    }
+}
+
+fn to_16(number: u64) -> Option<u16>
+    ensures { result ≡ if_below (2 ^ 16) number number }
+{
+    if number < 1 << 16 {
+        Some(number as u16)
+    } else {
+        None
+    }
+}
+
+fn to_32(number: u64) -> Option<u32>
+    ensures { result ≡ if_below (2 ^ 32) number number }
+{
+    if number < 1 << 32 {
+        Some(number as u32)
+    } else {
+        None
     }
 }
 
@@ -62,69 +82,54 @@ fn amount(op: AmountOp, text: &[u8]) -> Option<(Asking, &[u8])>
     }
 }
 
-#[tactic(auto, unfolding(crate::specs::Forms::account_at))]
-fn account(op: AccountOp, text: &[u8]) -> Option<(Asking, &[u8])>
-    ensures { Reads result (account_at op (words_of text.now)) }
+/// The operation of a keyword and one number.
+#[tactic(auto, unfolding(crate::specs::Forms::op_of_one))]
+pub fn op_of_one(keyword: Keyword, number: u64) -> Option<ObjOp>
+    ensures { result ≡ op_of_one keyword number }
 {
-    let (account, rest) = number_32(text)?;
-    Some((Asking::Fixed(ObjOp::Account(account, op)), rest))
+    match keyword {
+        Keyword::Open => Some(ObjOp::Account(to_32(number)?, AccountOp::Open)),
+        Keyword::Close => Some(ObjOp::Account(to_32(number)?, AccountOp::Close)),
+        Keyword::Balance => Some(ObjOp::Account(to_32(number)?, AccountOp::Balance)),
+        Keyword::Read => Some(ObjOp::Counter(to_32(number)?, CounterOp::Read)),
+        Keyword::Size => Some(ObjOp::Size(to_16(number)?)),
+        _ => None,
+    }
 }
 
-#[tactic(auto, unfolding(crate::specs::Forms::element_at))]
-fn element(op: ElementOp, text: &[u8]) -> Option<(Asking, &[u8])>
-    ensures { Reads result (element_at op (words_of text.now)) }
+/// The operation of a keyword, a number and an amount, without the amount.
+#[tactic(auto, unfolding(crate::specs::Forms::op_of_amount))]
+pub fn op_of_amount(keyword: Keyword, number: u64) -> Option<AmountOp>
+    ensures { result ≡ op_of_amount keyword number }
 {
-    let (set, rest) = number_16(text)?;
-    let (element, rest) = number_32(rest)?;
-    Some((Asking::Fixed(ObjOp::Element(set, element, op)), rest))
+    match keyword {
+        Keyword::Deposit => Some(AmountOp::Deposit(to_32(number)?)),
+        Keyword::Withdraw => Some(AmountOp::Withdraw(to_32(number)?)),
+        Keyword::Up => Some(AmountOp::Up(to_32(number)?)),
+        Keyword::Down => Some(AmountOp::Down(to_32(number)?)),
+        _ => None,
+    }
 }
 
-#[tactic(auto, unfolding(crate::specs::Forms::counter_at))]
-fn counter(op: CounterOp, text: &[u8]) -> Option<(Asking, &[u8])>
-    ensures { Reads result (counter_at op (words_of text.now)) }
+#[tactic(auto, unfolding(crate::specs::Forms::element_op))]
+fn element_op(keyword: Keyword) -> Option<ElementOp>
+    ensures { result ≡ element_op keyword }
 {
-    let (counter, rest) = number_32(text)?;
-    Some((Asking::Fixed(ObjOp::Counter(counter, op)), rest))
+    match keyword {
+        Keyword::Add => Some(ElementOp::Add),
+        Keyword::Remove => Some(ElementOp::Remove),
+        Keyword::Has => Some(ElementOp::Has),
+        _ => None,
+    }
 }
 
-#[tactic(auto, unfolding(crate::specs::Forms::set_size_at))]
-fn size(text: &[u8]) -> Option<(Asking, &[u8])>
-    ensures { Reads result (set_size_at (words_of text.now)) }
+/// The operation of a keyword, a set and an element.
+#[tactic(auto, unfolding(crate::specs::Forms::op_of_element))]
+pub fn op_of_element(keyword: Keyword, set: u64, element: u64) -> Option<ObjOp>
+    ensures { result ≡ op_of_element keyword set element }
 {
-    let (set, rest) = number_16(text)?;
-    Some((Asking::Fixed(ObjOp::Size(set)), rest))
-}
-
-#[tactic(auto, unfolding(crate::specs::Forms::deposit_at))]
-fn deposit(text: &[u8]) -> Option<(Asking, &[u8])>
-    ensures { Reads result (deposit_at (words_of text.now)) }
-{
-    let (account, rest) = number_32(text)?;
-    amount(AmountOp::Deposit(account), rest)
-}
-
-#[tactic(auto, unfolding(crate::specs::Forms::withdraw_at))]
-fn withdraw(text: &[u8]) -> Option<(Asking, &[u8])>
-    ensures { Reads result (withdraw_at (words_of text.now)) }
-{
-    let (account, rest) = number_32(text)?;
-    amount(AmountOp::Withdraw(account), rest)
-}
-
-#[tactic(auto, unfolding(crate::specs::Forms::up_at))]
-fn up(text: &[u8]) -> Option<(Asking, &[u8])>
-    ensures { Reads result (up_at (words_of text.now)) }
-{
-    let (counter, rest) = number_32(text)?;
-    amount(AmountOp::Up(counter), rest)
-}
-
-#[tactic(auto, unfolding(crate::specs::Forms::down_at))]
-fn down(text: &[u8]) -> Option<(Asking, &[u8])>
-    ensures { Reads result (down_at (words_of text.now)) }
-{
-    let (counter, rest) = number_32(text)?;
-    amount(AmountOp::Down(counter), rest)
+    let op = element_op(keyword)?;
+    Some(ObjOp::Element(to_16(set)?, to_32(element)?, op))
 }
 
 /// The operation whose first word is the keyword. The text is that behind the keyword.
@@ -132,21 +137,16 @@ fn down(text: &[u8]) -> Option<(Asking, &[u8])>
 pub fn asking(keyword: Keyword, text: &[u8]) -> Option<(Asking, &[u8])>
     ensures { Reads result (asking_at keyword (words_of text.now)) }
 {
-    match keyword {
-        Keyword::Open => account(AccountOp::Open, text),
-        Keyword::Close => account(AccountOp::Close, text),
-        Keyword::Deposit => deposit(text),
-        Keyword::Withdraw => withdraw(text),
-        Keyword::Balance => account(AccountOp::Balance, text),
-        Keyword::Add => element(ElementOp::Add, text),
-        Keyword::Remove => element(ElementOp::Remove, text),
-        Keyword::Has => element(ElementOp::Has, text),
-        Keyword::Up => up(text),
-        Keyword::Down => down(text),
-        Keyword::Read => counter(CounterOp::Read, text),
-        Keyword::Size => size(text),
-        _ => None,
+    let (number, rest) = next_number(text)?;
+    if let Some(op) = op_of_one(keyword, number) {
+        return Some((Asking::Fixed(op), rest));
     }
+    if let Some(op) = op_of_amount(keyword, number) {
+        return amount(op, rest);
+    }
+    let (element, rest) = next_number(rest)?;
+    let op = op_of_element(keyword, number, element)?;
+    Some((Asking::Fixed(op), rest))
 }
 
 /// The operation at the front of a text, its amount a number, and a text of the words behind it. Takes no

@@ -19,8 +19,8 @@ pub enum DeskCall {
 /// What a desk answers.
 #[derive(Clone, Copy, Debug, PartialEq, Eq)]
 pub enum DeskAnswer {
-    /// The transaction that began.
-    Begun(TxId),
+    /// The number of the transaction that began.
+    Begun(u64),
     /// What the operation was told.
     Replied(ObjReply),
     /// The number of the commit.

@@ -3,11 +3,11 @@ use Rattle.std.specs.Prelude.{◌≡◌, ◌⊎◌, ℕ, ◌+◌, List, [], ◌�
 use Rattle.mlt_types.specs.declared.refusal.Refusal.TheVariants.{OutOfMemory}
 use Rattle.mlt_object_kinds.specs.Bases.{Transcript}
 use Rattle.mlt_script_tree.specs.Scripts.{ScriptForm}
-use Rattle.mlt_script_cursor.specs.Plays.{OnOperation}
+use Rattle.mlt_script_cursor.specs.Calls.{Moves}
 use Rattle.mlt_script_serial.specs.declared.outcome.End.{End}
 use Rattle.mlt_script_serial.specs.declared.outcome.End.TheVariants.{Refused}
 use Rattle.mlt_script_serial.specs.declared.outcome.Outcome.{Outcome}
-use Rattle.mlt_script_desk.specs.Runs.{OnAbort, OnBegin, OnCommit, HasEndedAs, IsRunAt}
+use Rattle.mlt_script_desk.specs.Runs.{HasEndedAs, IsRunAt}
 
 -- the outcome of a script, which is the n-th of its client
 pub record IsOutcome (s : ScriptForm) (n : ℕ) (o : Outcome) : Type 0 where
@@ -21,25 +21,22 @@ AreOutcomes n [] [] = Unit {0}
 AreOutcomes n (s ∷ ss) (o ∷ os) = IsOutcome s (n + 1) o × AreOutcomes (n + 1) ss os
 AreOutcomes n ss os = ⊥
 
-module _ {D : Type 0} where
-  -- there was no room for the replies of a script, so that it was not begun and nothing was asked
-  pub record IsWithoutRoom (d : D) (tx : ℕ) (t : Transcript) (end : End) (e : D) : Type 0 where
-    pub no_number : tx ≡ 0
-    pub nothing : t ≡ []
-    pub refused : end ≡ Refused OutOfMemory
-    pub unasked : e ≡ d
+-- there was no room for the replies of a script, so that it was not begun and nothing was asked
+pub record IsWithoutRoom {D : Type 0} (d : D) (tx : ℕ) (t : Transcript) (end : End) (e : D)
+    : Type 0 where
+  pub no_number : tx ≡ 0
+  pub nothing : t ≡ []
+  pub refused : end ≡ Refused OutOfMemory
+  pub unasked : e ≡ d
 
+module _ {D : Type 0} (moves : Moves D) where
   -- what became of a script for which room was asked first
-  abbrev pub IsServedAt : OnBegin D → OnOperation D → OnCommit D → OnAbort D → ScriptForm → D → ℕ
-      → Transcript → End → D → Type 0
-  IsServedAt begins answers commits aborts s d tx t end e =
-      IsWithoutRoom d tx t end e ⊎ IsRunAt begins answers commits aborts s d tx t end e
+  abbrev pub IsServedAt : ScriptForm → D → ℕ → Transcript → End → D → Type 0
+  IsServedAt s d tx t end e = IsWithoutRoom d tx t end e ⊎ IsRunAt moves s d tx t end e
 
   -- the runs of scripts at a desk, one after another
-  abbrev pub AreRunsAt : OnBegin D → OnOperation D → OnCommit D → OnAbort D → List ScriptForm → D
-      → List Outcome → D → Type 0
-  AreRunsAt begins answers commits aborts [] d [] e = d ≡ e
-  AreRunsAt begins answers commits aborts (s ∷ ss) d (o ∷ os) e =
-      (m : D) × IsServedAt begins answers commits aborts s d o.tx o.done o.end m
-      × AreRunsAt begins answers commits aborts ss m os e
-  AreRunsAt begins answers commits aborts ss d os e = ⊥
+  abbrev pub AreRunsAt : List ScriptForm → D → List Outcome → D → Type 0
+  AreRunsAt [] d [] e = d ≡ e
+  AreRunsAt (s ∷ ss) d (o ∷ os) e =
+      (m : D) × IsServedAt s d o.tx o.done o.end m × AreRunsAt ss m os e
+  AreRunsAt ss d os e = ⊥

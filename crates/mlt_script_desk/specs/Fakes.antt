@@ -1,15 +1,16 @@
 -- What a desk with a list of answers gives.
-use Rattle.std.specs.Prelude.{ℕ, ◌+◌, length, Result, Ok, Err, slice_index_or, nat_lt, if◌then◌else◌}
-use Rattle.mlt_types.specs.declared.refusal.Refusal.{Refusal}
+use Rattle.std.specs.Prelude.{◌≡◌, ◌+◌, length, slice_index_or, nat_lt, if◌then◌else◌}
 use Rattle.mlt_types.specs.declared.refusal.Refusal.TheVariants.{GaveUp}
-use Rattle.mlt_object_kinds.specs.declared.operation.ObjReply.{ObjReply}
-use Rattle.mlt_script_desk.specs.declared.fake_desk.FakeAnswer.{FakeAnswer}
-use Rattle.mlt_script_desk.specs.declared.fake_desk.FakeAnswer.TheVariants as fake
+use Rattle.mlt_script_cursor.specs.declared.call.DeskAnswer.{DeskAnswer}
+use Rattle.mlt_script_cursor.specs.declared.call.DeskAnswer.TheVariants.{Aborted, Refused}
+use Rattle.mlt_script_cursor.specs.declared.call.DeskCall.{DeskCall}
+use Rattle.mlt_script_cursor.specs.declared.call.DeskCall.TheVariants as call
+use Rattle.mlt_script_cursor.specs.Calls.{answer_to}
 use Rattle.mlt_script_desk.specs.declared.fake_desk.FakeDesk.{FakeDesk}
 
 -- the next answer; once all are given, a refusal
-abbrev pub next_answer : FakeDesk → FakeAnswer
-next_answer d = slice_index_or d.answers.items d.at (fake.Refused GaveUp)
+abbrev pub next_answer : FakeDesk → DeskAnswer
+next_answer d = slice_index_or d.answers.items d.at (Refused GaveUp)
 
 abbrev pub after_answer : FakeDesk → FakeDesk
 after_answer d = record {
@@ -17,13 +18,7 @@ after_answer d = record {
   at = if nat_lt d.at (length d.answers.items) then d.at + 1 else d.at;
 }
 
--- an answer where a number is asked for, and where a reply is
-abbrev pub number_in : FakeAnswer → Result ℕ Refusal
-number_in (fake.Number number) = Ok number
-number_in (fake.Refused refusal) = Err refusal
-number_in other = Err GaveUp
-
-abbrev pub reply_in : FakeAnswer → Result ObjReply Refusal
-reply_in (fake.Reply reply) = Ok reply
-reply_in (fake.Refused refusal) = Err refusal
-reply_in other = Err GaveUp
+-- a call is given the next answer, but for an abort
+abbrev pub IsGiven : FakeDesk → DeskCall → DeskAnswer → FakeDesk → Type 0
+IsGiven d (call.Abort tx) answer e = (answer ≡ Aborted) × (e ≡ d)
+IsGiven d asked answer e = (answer ≡ answer_to asked (next_answer d)) × (e ≡ after_answer d)

@@ -17,8 +17,8 @@ fn run_or_refuse<D: Desk>(alloc: Global, desk: &mut D, script: &Script, number: 
     ensures client { result.client ≡ script.now.client }
     ensures number { result.number ≡ number }
     ensures ended { HasEndedAs script.now result.done result.end }
-    ensures ran { IsServedAt D.begins D.answers D.commits D.aborts script.now
-        desk.old result.tx result.done result.end desk.new }
+    ensures ran { IsServedAt D.moves script.now desk.old
+        result.tx result.done result.end desk.new }
 {
     match run_script(alloc, desk, script, number) {
         Ok(outcome) => outcome,
@@ -44,8 +44,7 @@ pub fn run_client<D: Desk>(
 ) -> Result<Vec<Outcome>, Refusal>
     ensures outcomes { IfOk result (λ outcomes. AreOutcomes 0 scripts.now outcomes.items) }
     ensures runs { IfOk result (λ outcomes.
-        AreRunsAt D.begins D.answers D.commits D.aborts scripts.now
-        desk.old outcomes.items desk.new) }
+        AreRunsAt D.moves scripts.now desk.old outcomes.items desk.new) }
     ensures refusal { IsOkUnless result Refusal.OutOfMemory }
     ensures unasked { OnErr result (desk.new ≡ desk.old) }
 {

@@ -9,5 +9,5 @@ mod run;
 
 pub use client::run_client;
 pub use desk::Desk;
-pub use fake_desk::{FakeAnswer, FakeDesk};
+pub use fake_desk::FakeDesk;
 pub use run::run_script;

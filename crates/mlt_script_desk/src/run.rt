@@ -25,7 +25,7 @@ fn refusal_of_script(refusal: Refusal) -> Refusal
 
 /// Ends the transaction as its script ended, or takes it back.
 fn close<D: Desk>(desk: &mut D, tx: TxId, ended: Result<Ending, Refusal>) -> End
-    ensures { ClosesAs D.commits D.aborts tx ended desk.old result desk.new }
+    ensures { ClosesAs D.moves tx ended desk.old result desk.new }
 {
     match ended {
         Ok(Ending::Commit) => match desk.commit(tx) {
@@ -52,8 +52,8 @@ fn run_transaction<D: Desk>(desk: &mut D, script: &Script, done: &mut Vec<Done>)
     requires empty { done.old.items ≡ [] }
     requires room { AsksAtMost (vec_capacity done.old) (questions_of_script script.now) }
     ensures ended { HasEndedAs script.now done.new.items result.1 }
-    ensures run { IsRunAt D.begins D.answers D.commits D.aborts script.now
-        desk.old result.0 done.new.items result.1 desk.new }
+    ensures run { IsRunAt D.moves script.now desk.old
+        result.0 done.new.items result.1 desk.new }
 {
     match desk.begin() {
         Ok(tx) => {
@@ -80,8 +80,8 @@ pub fn run_script<D: Desk>(
     ensures number { IfOk result (λ outcome. outcome.number ≡ number) }
     ensures ended { IfOk result (λ outcome. HasEndedAs script.now outcome.done outcome.end) }
     ensures run { IfOk result (λ outcome.
-        IsRunAt D.begins D.answers D.commits D.aborts script.now
-        desk.old outcome.tx outcome.done outcome.end desk.new) }
+        IsRunAt D.moves script.now desk.old
+        outcome.tx outcome.done outcome.end desk.new) }
     ensures refusal { IsOkUnless result Refusal.OutOfMemory }
     ensures unasked { OnErr result (desk.new ≡ desk.old) }
 {

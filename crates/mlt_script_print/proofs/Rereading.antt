@@ -32,7 +32,7 @@ use Rattle.mlt_script_tree.specs.declared.statement.Line.{Line}
 use Rattle.mlt_script_tree.specs.declared.statement.Line.TheVariants as line
 use Rattle.mlt_script_tree.specs.declared.statement.Ending.{Ending}
 use Rattle.mlt_script_tree.specs.declared.statement.Ending.TheVariants.{Commit, Abort}
-use Rattle.mlt_script.specs.Forms.{form_of, key_form, key_at, asking_at, account_at, element_at, counter_at, set_size_at, deposit_at, withdraw_at, up_at, down_at, number_below, amount_at, op_at, reply_word, wanted_at, asking_is_at, begin_form, let_form, letter_at, source_at, need_form, if_form, ask_form}
+use Rattle.mlt_script.specs.Forms.{form_of, key_form, key_at, asking_at, op_of_one, op_of_amount, element_op, op_of_element, number_below, amount_at, op_at, reply_word, wanted_at, asking_is_at, begin_form, let_form, letter_at, source_at, need_form, if_form, ask_form}
 use Rattle.mlt_text_words.specs.Lines.{without_cr, is_comment}
 use Rattle.mlt_text_words.specs.Letters.{letter_text}
 use Rattle.mlt_script_tree.specs.LineTexts.{amount_op_text, asking_text, wanted_text, reply_wanted, source_text, line_text, ending_text}
@@ -185,7 +185,7 @@ wanted_is (wanted.ValueOf l) h = at_most (letter_text l) (Variable l ∷ []) 1 2
 
 -- Their words are read as what they stand for, whatever words follow.
 asking_again : (a : Asking) (more : List Word) → FitsAsking a → asking_at (asking_key a) (asking_rest a ++ more) ≡ Some (a, more)
-unfolding asking_at account_at element_at counter_at set_size_at deposit_at withdraw_at up_at down_at number_below amount_at
+unfolding asking_at op_of_one op_of_amount element_op op_of_element amount_at
 asking_again (Fixed (Account a account.Open)) more h = rw (lt-ltb a (2 ^ 32) h.0) refl
 asking_again (Fixed (Account a account.Close)) more h = rw (lt-ltb a (2 ^ 32) h.0) refl
 asking_again (Fixed (Account a (account.Deposit n))) more h = rw (lt-ltb a (2 ^ 32) h.0) refl

@@ -2,6 +2,7 @@
 
 use crate::admission_queue::AdmissionQueue;
 use crate::socket::Socket;
+use crate::tuning::{EVENTS_PER_TURN, MOST_BYPASSING_BYTES};
 use mlt_event::{Answer, Told};
 use mlt_work_desk::{Gate, is_to_wait};
 use std::cell::Cell;
@@ -9,13 +10,6 @@ use std::io;
 use std::io::{Read, Write};
 use std::sync::Wait;
 use std::time::Clock;
-
-// After so many events, which take some 30 microseconds, a session goes to the end of the queue: so one with many lines does not
-// keep the others waiting.
-const MOST_EVENTS: u32 = 64;
-
-// So many bytes are a line or two, which take about a microsecond: to queue for them would take longer.
-const FEW_BYTES: usize = 24;
 
 /// Where a session is.
 #[derive(Clone, Copy, Debug, PartialEq, Eq)]
@@ -55,7 +49,7 @@ impl<'a, R: Wait> Admission<'a, R> {
     /// Goes on with lines of so many bytes.
     fn go_on(&self, bytes: usize) {
         self.events.set(0);
-        if bytes <= FEW_BYTES && self.admission_queue.bypass() {
+        if bytes <= MOST_BYPASSING_BYTES && self.admission_queue.bypass() {
             self.place.set(Place::Bypassing);
         } else {
             self.enter();
@@ -83,7 +77,7 @@ impl<R: Wait> Gate for Admission<'_, R> {
         self.events.set(events);
         if is_to_wait(told) {
             self.leave();
-        } else if events >= MOST_EVENTS && holds_no_page(told) {
+        } else if events >= EVENTS_PER_TURN && holds_no_page(told) {
             self.leave();
             self.enter();
             self.events.set(0);

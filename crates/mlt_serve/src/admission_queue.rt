@@ -1,22 +1,10 @@
 //! Admission control: few sessions are at work at a time, and the others queue.
 
+use crate::tuning::{ADMISSION_SPINS, MOST_ADMITTED, MOST_AWAKE, MOST_BYPASSING};
 use std::array;
 use std::hint::spin_loop;
 use std::sync::atomic::{AtomicU64, Ordering};
 use std::sync::{Condvar, Mutex, Wait};
-
-// How many are admitted at a time. While one has the lock over the manager, the other reads its lines or makes its answers.
-const MOST_ADMITTED: u64 = 2;
-
-// How many of those who come next are awake: to wake a thread takes as long as one that is admitted is at work.
-const MOST_AWAKE: u64 = 1;
-
-// How many who have little to do bypass the queue at a time.
-const MOST_BYPASSING: u64 = 4;
-
-// How often one that is awake looks whether it is admitted before it sleeps, with a pause of the processor after each look: some
-// microseconds, up to twenty.
-const LOOKS: u32 = 400;
 
 /// Admits sessions in the order in which they come, so that few are at work at a time and the others sleep. With more at
 /// work than there are processors, whoever has the lock over the manager may not be running, and all others wait for it. The first
@@ -86,7 +74,7 @@ impl AdmissionQueue {
 
     // Looks for a while whether the one of this number is admitted.
     fn is_admitted_soon(&self, number: u64) -> bool {
-        for _ in 0..LOOKS {
+        for _ in 0..ADMISSION_SPINS {
             if self.is_among(number, MOST_ADMITTED) {
                 return true;
             }

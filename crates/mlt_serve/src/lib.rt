@@ -6,6 +6,7 @@ mod admission;
 mod admission_queue;
 mod gathering;
 mod lingering_close;
+mod options;
 mod reporting;
 mod service;
 mod serving;
@@ -14,5 +15,7 @@ mod session_threads;
 mod socket;
 mod spin_policy;
 mod talking;
+mod tuning;
 
+pub use options::ServeOptions;
 pub use serving::serve_on;

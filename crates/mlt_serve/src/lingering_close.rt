@@ -1,13 +1,11 @@
 //! How a connection ends.
 
+use crate::tuning::LINGER_SECONDS;
 use mlt_text::MAX_INPUT;
 use std::io;
 use std::io::{ErrorKind, Read};
 use std::net::{Shutdown, TcpStream};
 use std::time::{Clock, Duration, Instant};
-
-/// For how many seconds in all what a client still sends is read away.
-const PATIENCE: u64 = 1;
 
 /// Says to a client that no answers follow, and reads away what it still sends. A connection that is closed over bytes that
 /// nobody has read is reset, and the client may lose the last answers with it. It ends with the client's input, after a second,
@@ -19,13 +17,13 @@ pub(crate) fn lingering_close<C: Clock>(clock: &C, stream: &TcpStream) {
 
 fn read_away<C: Clock>(clock: &C, stream: &TcpStream) -> io::Result<()> {
     stream.shutdown(Shutdown::Write)?;
-    let patience = Duration::from_secs(PATIENCE);
+    let linger = Duration::from_secs(LINGER_SECONDS);
     let start = Instant::now(clock)?;
     let mut reader = stream;
     let mut buffer = [0; 4096];
     let mut total: usize = 0;
     for _ in 0..MAX_INPUT {
-        let left = patience.saturating_sub(start.elapsed(clock)?);
+        let left = linger.saturating_sub(start.elapsed(clock)?);
         if left.is_zero() {
             return Ok(());
         }

@@ -8,13 +8,14 @@ ghost use Rattle.mlt_serve.specs.Clients.{AreByClientAndNumber, AreOfClients};
 
 use crate::admission_queue::AdmissionQueue;
 use crate::gathering::{gather, new_threads};
+use crate::options::ServeOptions;
 use crate::reporting::outcomes_of;
 use crate::service::Service;
 use crate::session_threads::serve_connections;
 use crate::spin_policy::SpinPolicy;
 use mlt_manager::Manager;
 use mlt_script_serial::Outcomes;
-use mlt_types::{Limits, Pseudo, Refusal};
+use mlt_types::{Pseudo, Refusal};
 use mlt_work_desk::{LockedState, MadeWith, Shared};
 use std::alloc::Global;
 use std::marker::Brand;
@@ -22,7 +23,7 @@ use std::net::TcpListener;
 use std::sync::Wait;
 use std::sync::ledger::Blank;
 use std::thread::Threads;
-use std::time::{Clock, Duration};
+use std::time::Clock;
 
 /// As `serve_on`. It answers too how many events the desks of the sessions have counted.
 fn serve_with<
@@ -34,30 +35,26 @@ fn serve_with<
     alloc: Global,
     blank: Blank,
     listener: &TcpListener,
-    limits: Limits,
     pseudo: P,
-    sessions: usize,
-    limit: u32,
-    tries: u64,
-    idle: Option<Duration>,
+    options: &ServeOptions,
 ) -> Result<(Outcomes, Manager<P>, u64), Refusal>
     requires name { blank.name ≡ L.name }
     requires parts { blank.parts ≡ L.parts }
-    requires made { Some (making_by limits pseudo) ≡ L.made_with }
+    requires made { Some (making_by options.now.limits pseudo) ≡ L.made_with }
     requires all { blank.parts ≡ 129 }
-    requires some { 0 < sessions }
-    requires most { sessions ≤ 64 }
-    ensures made { IfOk result (λ got. IsMadeWith got.1 limits pseudo) }
+    requires some { 0 < options.now.sessions }
+    requires most { options.now.sessions ≤ 64 }
+    ensures made { IfOk result (λ got. IsMadeWith got.1 options.now.limits pseudo) }
     ensures outcomes { IfOk result (λ got. Agrees got.0 got.1.commons.history.items) }
-    ensures clients { IfOk result (λ got. AreOfClients limit got.0) }
+    ensures clients { IfOk result (λ got. AreOfClients options.now.connections got.0) }
     ensures order { IfOk result (λ got. AreByClientAndNumber got.0) }
     ensures events { IfOk result (λ got. got.1.events ≡ got.2) }
     ensures refusal { IfErr result (λ refusal.
         (refusal ≡ Refusal.Io) ⊎ (refusal ≡ Refusal.OutOfMemory) ⊎ (refusal ≡ Refusal.Audit)) }
 {
     let (book, mut all) = blank.open::<L>();
-    let mut threads = new_threads(alloc, &mut all, sessions)?;
-    let manager = Manager::new(alloc, limits, pseudo)?;
+    let mut threads = new_threads(alloc, &mut all, options.sessions)?;
+    let manager = Manager::new(alloc, options.limits, pseudo)?;
     let shared = Shared::new(LockedState::new(manager, book));
     let admission_queue = AdmissionQueue::new();
     let spin_policy = SpinPolicy::new(rt);
@@ -65,14 +62,13 @@ fn serve_with<
         shared: &shared,
         admission_queue: &admission_queue,
         spin_policy: &spin_policy,
-        tries,
-        idle,
+        options,
     };
-    let accepting = serve_connections(rt, alloc, listener, &service, &mut threads, limit);
+    let accepting = serve_connections(rt, alloc, listener, &service, &mut threads);
     let gathered = gather(alloc, &mut all, threads);
     let events = gathered.events;
     let manager = shared.close(&mut all);
-    match outcomes_of(alloc, accepting, gathered, limit, &manager) {
+    match outcomes_of(alloc, accepting, gathered, options.connections, &manager) {
         Ok(outcomes) => Ok((outcomes, manager, events)),
         Err(refusal) => {
             manager.close();
@@ -81,11 +77,10 @@ fn serve_with<
     }
 }
 
-/// Serves connections on a new manager with these limits: accepts as many as the limit says, from 1 to 1,000,000, and hands them
-/// to that many session threads by a bounded channel. Connections have the numbers 1, 2, 3 in the order in which they are
-/// accepted; each is served by one session, whose transactions have that number as their client. An operation that is told to
-/// wait, or that it is blocked, is given up once its tries are spent, from 1 to 1,000,000. The outcomes stand by client and then
-/// by number.
+/// Serves connections on a new manager, with these options: accepts as many as they say, and hands them to the session threads by
+/// a bounded channel. Connections have the numbers 1, 2, 3 in the order in which they are accepted; each is served by one
+/// session, whose transactions have that number as their client. An operation that is told to wait, or that it is blocked, is
+/// given up once its tries are spent. The outcomes stand by client and then by number.
 ///
 /// A connection that gives nothing to read, or takes nothing that is written, for the idle time, if there is one, ends as by a
 /// fault of it. An operation that waits is not idle. Where a session ends by a fault of its connection or by a line that is too
@@ -100,21 +95,17 @@ pub fn serve_on<P: Pseudo + Drop + Send, R: Threads + Wait + Clock + Sync>(
     rt: &R,
     alloc: Global,
     listener: &TcpListener,
-    limits: Limits,
     pseudo: P,
-    sessions: usize,
-    limit: u32,
-    tries: u64,
-    idle: Option<Duration>,
+    options: &ServeOptions,
 ) -> Result<(Outcomes, Manager<P>), Refusal>
-    requires some { 0 < sessions }
-    requires most { sessions ≤ 64 }
+    requires some { 0 < options.now.sessions }
+    requires most { options.now.sessions ≤ 64 }
     // the manager has these limits and this function from keys to pseudokeys
-    ensures made { IfOk result (λ got. IsMadeWith got.1 limits pseudo) }
+    ensures made { IfOk result (λ got. IsMadeWith got.1 options.now.limits pseudo) }
     // what clients were told is what the manager has done
     ensures outcomes { IfOk result (λ got. Agrees got.0 got.1.commons.history.items) }
     // each outcome is that of one of the connections
-    ensures clients { IfOk result (λ got. AreOfClients limit got.0) }
+    ensures clients { IfOk result (λ got. AreOfClients options.now.connections got.0) }
     // they stand by client and then by number
     ensures order { IfOk result (λ got. AreByClientAndNumber got.0) }
     ensures refusal { IfErr result (λ refusal.
@@ -125,12 +116,8 @@ pub fn serve_on<P: Pseudo + Drop + Send, R: Threads + Wait + Clock + Sync>(
         alloc,
         Blank::new(129),
         listener,
-        limits,
         pseudo,
-        sessions,
-        limit,
-        tries,
-        idle,
+        options,
     )?;
     Ok((outcomes, manager))
 }

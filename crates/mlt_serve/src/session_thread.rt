@@ -81,10 +81,10 @@ impl<L: Ledger> SessionThread<L> {
         let Connection { client, stream } = connection;
         let mine = share.split_off(1, 0);
         let admission = Admission::new(rt, service.admission_queue);
-        let tries = Tries::PerOperation(service.tries);
+        let tries = Tries::PerOperation(service.options.tries);
         let mut desk = LockDesk::new(rt, service.shared, &admission, mine, tries);
         desk.serve(client);
-        let socket = Socket::new(rt, &stream, service.spin_policy, service.idle);
+        let socket = Socket::new(rt, &stream, service.spin_policy, service.options.idle);
         let refused = talk(alloc, &socket, &admission, &mut desk, client, outcomes);
         socket.close();
         let (mine, more) = desk.close();

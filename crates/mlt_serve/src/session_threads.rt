@@ -27,7 +27,6 @@ pub(crate) fn serve_connections<
     listener: &TcpListener,
     service: &Service<'_, P, L>,
     threads: &mut Vec<SessionThread<L>>,
-    limit: u32,
 ) -> Accepting
     requires { 0 < vec_len threads.old }
     ensures { vec_len threads.new ≡ vec_len threads.old }
@@ -38,6 +37,7 @@ pub(crate) fn serve_connections<
     let flag = AtomicBool::new(false);
     let connections = &from;
     let is_short = &flag;
+    let limit = service.options.connections;
     let count = threads.len();
     let all = threads.as_mut_slice();
     thread::scope(

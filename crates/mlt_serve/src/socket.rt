@@ -4,20 +4,13 @@ ghost use Rattle.std.specs.Prelude.{IfSome};
 ghost use Rattle.std.specs.Io.{ReadsAtMost, WritesAtMost};
 
 use crate::spin_policy::SpinPolicy;
+use crate::tuning::{FEWEST_READS_WITHOUT_SPIN, MOST_READS_WITHOUT_SPIN, READ_SPINS};
 use std::cell::Cell;
 use std::hint::spin_loop;
 use std::io;
 use std::io::{ErrorKind, Read, Write};
 use std::net::TcpStream;
 use std::time::{Clock, Duration, Instant};
-
-// How often a read looks for bytes before it sleeps, each time by a call of the system: in some ten microseconds.
-const LOOKS: u32 = 50;
-
-// Where a spin was in vain so many reads do not spin, or twice as many as the time before, up to the most.
-const FIRST_GAP: u32 = 1;
-
-const MOST_GAP: u32 = 64;
 
 /// A connection on which a read first looks for bytes for some microseconds, so that a client that sends its next line at once finds
 /// its session awake. It looks while sessions are few, and ever more seldom where it was in vain, as for a client that is slow or far
@@ -50,7 +43,7 @@ impl<'a, C: Clock> Socket<'a, C> {
         // Without this an answer may be held back; where it fails it still comes.
         let _ = stream.set_nodelay(true);
         // Where this fails, a wait has no end; an open socket takes it.
-        let _ = put_patience(stream, idle);
+        let _ = set_timeouts(stream, idle);
         spin_policy.enter();
         Socket {
             clock,
@@ -59,7 +52,7 @@ impl<'a, C: Clock> Socket<'a, C> {
             idle,
             waits: Cell::new(true),
             rest: Cell::new(0),
-            gap: Cell::new(FIRST_GAP),
+            gap: Cell::new(FEWEST_READS_WITHOUT_SPIN),
         }
     }
 
@@ -91,17 +84,18 @@ impl<'a, C: Clock> Socket<'a, C> {
         ensures { IfSome result (λ read. ReadsAtMost read buf.new) }
     {
         let mut stream = self.stream;
-        for _ in 0..LOOKS {
+        for _ in 0..READ_SPINS {
             let read = stream.read(buf);
             if !comes_later(&read) {
-                self.gap.set(FIRST_GAP);
+                self.gap.set(FEWEST_READS_WITHOUT_SPIN);
                 return Some(read);
             }
             spin_loop();
         }
         let gap = self.gap.get();
         self.rest.set(gap);
-        self.gap.set(gap.saturating_mul(2).min(MOST_GAP));
+        self.gap
+            .set(gap.saturating_mul(2).min(MOST_READS_WITHOUT_SPIN));
         None
     }
 
@@ -123,7 +117,7 @@ impl<'a, C: Clock> Socket<'a, C> {
         }
         let read = self.read_again(start, buf);
         // Where this fails, the next wait is as short as the rest of this one.
-        let _ = put_patience(self.stream, self.idle);
+        let _ = set_timeouts(self.stream, self.idle);
         read
     }
 
@@ -161,7 +155,7 @@ impl<'a, C: Clock> Socket<'a, C> {
         }
         let written = self.write_again(start, buf);
         // Where this fails, the next wait is as short as the rest of this one.
-        let _ = put_patience(self.stream, self.idle);
+        let _ = set_timeouts(self.stream, self.idle);
         written
     }
 
@@ -198,14 +192,14 @@ impl<'a, C: Clock> Socket<'a, C> {
         if rest.is_zero() {
             return self.put_waits(false);
         }
-        put_patience(self.stream, Some(rest))
+        set_timeouts(self.stream, Some(rest))
     }
 }
 
 /// From now on a read or a write waits for so long, or without an end.
-fn put_patience(stream: &TcpStream, patience: Option<Duration>) -> io::Result<()> {
-    stream.set_read_timeout(patience)?;
-    stream.set_write_timeout(patience)
+fn set_timeouts(stream: &TcpStream, timeout: Option<Duration>) -> io::Result<()> {
+    stream.set_read_timeout(timeout)?;
+    stream.set_write_timeout(timeout)
 }
 
 fn is_interrupted(done: &io::Result<usize>) -> bool {

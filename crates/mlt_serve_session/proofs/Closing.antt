@@ -4,7 +4,7 @@ use Rattle.mlt_object_kinds.specs.declared.operation.ObjOp.{ObjOp}
 use Rattle.mlt_object_kinds.specs.declared.operation.ObjReply.{ObjReply}
 use Rattle.mlt_script_serial.specs.declared.outcome.End.TheVariants as end
 use Rattle.mlt_script_serial.specs.declared.outcome.Outcome.{Outcome}
-use Rattle.mlt_serve_session.specs.declared.call.Answer.TheVariants.{Replied, Committed}
+use Rattle.mlt_script_cursor.specs.declared.call.DeskAnswer.TheVariants.{Replied, Committed}
 use Rattle.mlt_serve_session.specs.Noting.{pending, at_last, replied_noted, committed_noted}
 use Rattle.mlt_serve_session.specs.Outcomes.{outcome_of}
 

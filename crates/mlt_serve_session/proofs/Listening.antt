@@ -1,10 +1,10 @@
 -- A session that goes on, and how it ends.
-use Rattle.std.proofs.Common.{◌≡◌, ◌⊎◌, inl, inr, ℕ, ◌+◌, ◌≤◌, List, [], ◌∷◌, ◌++◌, length, take, drop, Option, Bool, true, false, Some, None, refl, sym, ap, subst, ◌∙◌, arith, append_assoc, append-nil, take-append-drop, length-append, length-take}
+use Rattle.std.proofs.Common.{◌≡◌, ◌⊎◌, inl, inr, ℕ, ◌+◌, ◌≤◌, List, [], ◌∷◌, ◌++◌, length, take, drop, Option, Bool, true, false, refl, sym, ap, subst, ◌∙◌, arith, append_assoc, append-nil, take-append-drop, length-append, length-take}
 use Rattle.std.proofs.Math.Seq.{take-append_seam}
 use Rattle.std.proofs.lemmas.List.{map-append, take_all}
 use Rattle.std.proofs.lemmas.Grind.{flat_map-append}
 use Rattle.std.specs.List.{flat_map}
-use Rattle.std.specs.Io.KnownBytes.{Appends, Consumes, IsAtEnd, Keeps}
+use Rattle.std.specs.Io.KnownBytes.{Appends, Consumes, IsAtEnd}
 use Rattle.std.proofs.KnownBytes.{Appends-nil, Appends-trans, Consumes-nil, Consumes-trans}
 use Rattle.mlt_text.specs.Texts.{AppendsFront}
 use Rattle.mlt_event_text.specs.declared.session_line.Line.{Line}
@@ -14,7 +14,7 @@ use Rattle.mlt_serve_session.specs.Rounds.{Replied, Stopped, Unwritten, Listens,
 use Rattle.mlt_serve_session.specs.Talks.{Turn, turn_text}
 use Rattle.mlt_serve_session.specs.Turns.{Place, Goes}
 use Rattle.mlt_event_text.proofs.Splitting.{splits_none, splits_both, prefix_lines, prefix_begins}
-use Rattle.mlt_serve_session.specs.Desks.{Moves}
+use Rattle.mlt_script_cursor.specs.Calls.{Moves}
 use Rattle.mlt_serve_session.proofs.Reaching.{covers_all, covers_begin}
 
 -- turns, and then more turns
@@ -205,8 +205,3 @@ goes_further moves client p m q a b c w v u held piece text left total at h read
       sum = (let t = h.sum in omega (arith, ap length whole, length-append (h.prefix ++ take at text) left, length-append (h.prefix ++ held) piece, length-append h.prefix held));
       counted = (let k = h.counted in omega (arith, length-append h.prefix (take at text)));
     }
-
-pub nothing_read : (a b : Option (List ℕ)) → Keeps a b → Consumes a b []
-nothing_read None b keeps = tt
-nothing_read (Some xs) None keeps = absurd keeps
-nothing_read (Some xs) (Some ys) keeps = sym keeps

@@ -5,7 +5,7 @@ use Rattle.std.specs.Prelude.{◌⊎◌, Result, Ok, Err, IfOk, IsErrAnd, IsErrO
 use Rattle.mlt_types.specs.declared.refusal.Refusal.{Refusal}
 use Rattle.mlt_types.specs.declared.refusal.Refusal.TheVariants.{Io, LineTooLong, OutOfMemory}
 use Rattle.mlt_serve_session.specs.declared.sessions.Summary.{Summary}
-use Rattle.mlt_serve_session.specs.Desks.{Moves}
+use Rattle.mlt_script_cursor.specs.Calls.{Moves}
 use Rattle.mlt_serve_session.specs.Sessions.{BrokenOff, HeardAll, Scene, SessionAnswers, SpokenLong, Summed}
 
 module _ {D : Type 0} (moves : Moves D) (client : ℕ) (old new : Scene D) where

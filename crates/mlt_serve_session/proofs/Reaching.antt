@@ -5,7 +5,7 @@ use Rattle.std.proofs.lemmas.List.{take_rest, map-append}
 use Rattle.std.proofs.lemmas.Grind.{flat_map-append}
 use Rattle.std.proofs.lemmas.Result.{err_from_is_err_and}
 use Rattle.std.specs.List.{flat_map}
-use Rattle.std.specs.Prelude.{Result, Ok, Err, IsErrAnd, IsErrOf, OnErr}
+use Rattle.std.specs.Prelude.{Result, Err, IsErrAnd, IsErrOf}
 use Rattle.mlt_event_text.specs.declared.session_line.Line.{Line}
 use Rattle.mlt_event_text.specs.declared.session_line.Line.TheVariants.{Says, TooLong}
 use Rattle.mlt_serve_session.specs.declared.said.Said.{Said}
@@ -16,12 +16,7 @@ use Rattle.mlt_event_text.proofs.Splitting.{splits_both}
 use Rattle.mlt_serve_session.specs.Talks.{Turn, turn_text, ends}
 use Rattle.mlt_serve_session.specs.Texts.{said_text}
 use Rattle.mlt_serve_session.specs.Turns.{Place, Step, Goes, TakesTurn}
-use Rattle.mlt_serve_session.specs.Desks.{Moves}
-
--- what holds anyway holds on an error
-pub on_err_all : {T E : Type 0} → (r : Result T E) (P : Type 0) → P → OnErr r P
-on_err_all (Ok x) P p = tt
-on_err_all (Err e) P p = p
+use Rattle.mlt_script_cursor.specs.Calls.{Moves}
 
 -- an error that was passed on is the same one
 pub same_error : {S T E : Type 0} (result : Result T E) (e x : E) → IsErrAnd result (λ y. y ≡ e) → IsErrOf result x → IsErrOf {T = S} {E = E} (Err e) x

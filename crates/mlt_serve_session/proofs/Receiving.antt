@@ -6,10 +6,10 @@ use Rattle.mlt_script_serial.specs.declared.outcome.End.{End}
 use Rattle.mlt_script_serial.specs.declared.outcome.End.TheVariants as end
 use Rattle.mlt_script_serial.specs.declared.outcome.Outcome.{Outcome}
 use Rattle.mlt_event_text.specs.declared.command.Command.TheVariants as command
-use Rattle.mlt_serve_session.specs.declared.call.Answer.{Answer}
-use Rattle.mlt_serve_session.specs.declared.call.Answer.TheVariants.{Begun, Replied, Committed, Aborted, Refused}
-use Rattle.mlt_serve_session.specs.declared.call.Call.{Call}
-use Rattle.mlt_serve_session.specs.declared.call.Call.TheVariants as call
+use Rattle.mlt_script_cursor.specs.declared.call.DeskAnswer.{DeskAnswer}
+use Rattle.mlt_script_cursor.specs.declared.call.DeskAnswer.TheVariants.{Begun, Replied, Committed, Aborted, Refused}
+use Rattle.mlt_script_cursor.specs.declared.call.DeskCall.{DeskCall}
+use Rattle.mlt_script_cursor.specs.declared.call.DeskCall.TheVariants as call
 use Rattle.mlt_event_text.specs.declared.session_line.Line.{Line}
 use Rattle.mlt_event_text.specs.declared.session_line.Line.TheVariants.{Says, TooLong}
 use Rattle.mlt_serve_session.specs.Noting.{noted}
@@ -18,7 +18,7 @@ use Rattle.mlt_serve_session.proofs.Closing.{at_last_end}
 use Rattle.mlt_serve_session.specs.Talks.{Turn, turns, call_for}
 
 -- the outcomes after a turn
-abbrev pub noted_by : ℕ → ℕ → List Outcome → Option Call → Option Answer → List Outcome
+abbrev pub noted_by : ℕ → ℕ → List Outcome → Option DeskCall → Option DeskAnswer → List Outcome
 noted_by client begun rs (Some c) (Some a) = noted client begun rs c a
 noted_by client begun rs (Some c) None = rs
 noted_by client begun rs None answer = rs
@@ -33,7 +33,7 @@ grown : Outcome → List (ObjOp × ObjReply) → End → Outcome
 grown r done end = record { client = r.client; number = r.number; tx = r.tx; done = r.done ++ done; end = end }
 
 -- what one turn makes of the outcomes, the last of which is open
-one_noted : (client b : ℕ) (rs : List Outcome) (r : Outcome) (c : Option Call) (a : Option Answer) → begun_in c a ≡ None → noted_by client b (rs ++ r ∷ []) c a ≡ rs ++ grown r (done_in c a) (end_in r.end c a) ∷ []
+one_noted : (client b : ℕ) (rs : List Outcome) (r : Outcome) (c : Option DeskCall) (a : Option DeskAnswer) → begun_in c a ≡ None → noted_by client b (rs ++ r ∷ []) c a ≡ rs ++ grown r (done_in c a) (end_in r.end c a) ∷ []
 unfolding grown
 one_noted client b rs r None a e = ap (λ (d : List (ObjOp × ObjReply)). rs ++ record r { done = d } ∷ []) (sym (append-nil r.done))
 one_noted client b rs r (Some call.Begin) None e = ap (λ (d : List (ObjOp × ObjReply)). rs ++ record r { done = d } ∷ []) (sym (append-nil r.done))
@@ -58,7 +58,7 @@ one_noted client b rs r (Some (call.Commit tx)) (Some (Refused x)) e = at_last_e
 one_noted client b rs r (Some (call.Abort tx)) None e = ap (λ (d : List (ObjOp × ObjReply)). rs ++ record r { done = d } ∷ []) (sym (append-nil r.done))
 one_noted client b rs r (Some (call.Abort tx)) (Some a) e = ap (λ (d : List (ObjOp × ObjReply)). rs ++ record r { done = d } ∷ []) (sym (append-nil r.done))
 
-begin_noted : (client b : ℕ) (rs : List Outcome) (c : Option Call) (a : Option Answer) (tx : ℕ) → begun_in c a ≡ Some tx
+begin_noted : (client b : ℕ) (rs : List Outcome) (c : Option DeskCall) (a : Option DeskAnswer) (tx : ℕ) → begun_in c a ≡ Some tx
     → noted_by client b rs c a ≡ rs ++ outcome_of client (b + 1) tx [] end.Aborted ∷ []
 begin_noted client b rs None a tx e = absurd (cc e)
 begin_noted client b rs (Some call.Begin) None tx e = absurd (cc e)
@@ -100,7 +100,7 @@ open_noted client b rs r [] = ap (λ (l : List (ObjOp × ObjReply)). rs ++ recor
 open_noted client b rs r (t ∷ ts) = open_case client b rs r t ts (begun_in (call_of t) t.answer) refl (λ n ss s. open_noted client n ss s ts)
 
 -- turns with nothing open before them
-pub all_noted : (client b : ℕ) (rs : List Outcome) (ls : List Line) (answers : List Answer) → noted_all client b rs (turns None ls answers) ≡ rs ++ outcomes_of client b (turns None ls answers)
+pub all_noted : (client b : ℕ) (rs : List Outcome) (ls : List Line) (answers : List DeskAnswer) → noted_all client b rs (turns None ls answers) ≡ rs ++ outcomes_of client b (turns None ls answers)
 unfolding grown
 all_noted client b rs [] answers = sym (append-nil rs)
 all_noted client b rs (Says command.Begin ∷ ls) [] = sym (append-nil rs)

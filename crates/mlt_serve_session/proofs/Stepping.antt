@@ -1,12 +1,13 @@
 -- One turn of a session.
 use Rattle.std.proofs.Common.{◌≡◌, ℕ, ◌+◌, Option, Some, None, refl, sym, ap, ◌∙◌, subst, arith}
-use Rattle.mlt_serve_session.specs.declared.call.Answer.{Answer}
-use Rattle.mlt_serve_session.specs.declared.call.Answer.TheVariants.{Committed}
-use Rattle.mlt_serve_session.specs.declared.call.Call.{Call}
+use Rattle.mlt_script_cursor.specs.declared.call.DeskAnswer.{DeskAnswer}
+use Rattle.mlt_script_cursor.specs.declared.call.DeskAnswer.TheVariants.{Committed}
+use Rattle.mlt_script_cursor.specs.declared.call.DeskCall.{DeskCall}
 use Rattle.mlt_serve_session.specs.declared.notes.Progress.{Progress}
 use Rattle.mlt_serve_session.specs.Noting.{noted}
 use Rattle.mlt_serve_session.specs.Turns.{Place, Asked, after_answer}
-use Rattle.mlt_serve_session.specs.Desks.{Moves}
+use Rattle.mlt_script_cursor.specs.Calls.{Moves}
+use Rattle.mlt_serve_session.specs.Desks.{Moved}
 
 -- nothing was answered
 pub unanswered : (p : Progress) → after_answer p None ≡ p
@@ -22,6 +23,6 @@ committed p q n e =
     ap (λ (r : Progress). record r { commits = r.commits + 1 }) e ∙ rw begun refl
 
 -- the call was made
-pub asks : {D : Type 0} (moves : Moves D) (client : ℕ) (p q : Place D) (asked : Option Call) (c : Call) (a : Answer)
-    → asked ≡ Some c → moves p.desk c a q.desk → q.outcomes ≡ noted client p.progress.begun p.outcomes c a → Asked moves client p asked (Some a) q
-asks moves client p q asked c a e m n = subst (λ (o : Option Call). Asked moves client p o (Some a) q) (sym e) (m, n)
+pub asks : {D : Type 0} (moves : Moves D) (client : ℕ) (p q : Place D) (asked : Option DeskCall) (c : DeskCall) (a : DeskAnswer)
+    → asked ≡ Some c → Moved moves p.desk c a q.desk → q.outcomes ≡ noted client p.progress.begun p.outcomes c a → Asked moves client p asked (Some a) q
+asks moves client p q asked c a e m n = subst (λ (o : Option DeskCall). Asked moves client p o (Some a) q) (sym e) (m, n)

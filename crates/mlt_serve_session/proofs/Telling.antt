@@ -4,12 +4,13 @@ use Rattle.std.proofs.KnownBytes.{Appends-nil, Consumes-nil}
 use Rattle.mlt_event_text.proofs.Cutting.{empty}
 use Rattle.mlt_serve_session.proofs.Receiving.{noted_by, noted_all, all_noted}
 use Rattle.mlt_script_serial.specs.declared.outcome.Outcome.{Outcome}
-use Rattle.mlt_serve_session.specs.declared.call.Answer.{Answer}
-use Rattle.mlt_serve_session.specs.declared.call.Call.{Call}
+use Rattle.mlt_script_cursor.specs.declared.call.DeskAnswer.{DeskAnswer}
+use Rattle.mlt_script_cursor.specs.declared.call.DeskCall.{DeskCall}
 use Rattle.mlt_event_text.specs.declared.session_line.Line.{Line}
 use Rattle.mlt_event_text.specs.declared.session_line.Line.TheVariants.{Says, TooLong}
 use Rattle.mlt_serve_session.specs.Batches.{lines_in}
-use Rattle.mlt_serve_session.specs.Desks.{Moves, Answers}
+use Rattle.mlt_script_cursor.specs.Calls.{Moves}
+use Rattle.mlt_serve_session.specs.Desks.{Answers}
 use Rattle.mlt_event_text.specs.Inputs.{Begins}
 use Rattle.mlt_serve_session.specs.Outcomes.{begins_by, outcomes_of}
 use Rattle.mlt_serve_session.specs.Rounds.{Talked, Broken, BrokenHeard, AreLines, EndsInput, streams}
@@ -21,7 +22,7 @@ or_false : (b : Bool) → b || false ≡ b
 or_false true = refl
 or_false false = refl
 
-one_case : {D : Type 0} (moves : Moves D) (client : ℕ) (p q : Place D) (before : Option ℕ) (line : Line) (c : Option Call) (a : Option Answer) (answers : List Answer) (behind : Option ℕ → List Answer → List Turn)
+one_case : {D : Type 0} (moves : Moves D) (client : ℕ) (p q : Place D) (before : Option ℕ) (line : Line) (c : Option DeskCall) (a : Option DeskAnswer) (answers : List DeskAnswer) (behind : Option ℕ → List DeskAnswer → List Turn)
     → Asked moves client p c a q
     → one_turn before line c (option_list a ++ answers) behind ≡ record { open_before = before; line = line; answer = a } ∷ unless_ended line (behind (open_after before a) answers)
 one_case moves client p q before line None None answers behind h = refl
@@ -34,7 +35,7 @@ still_going moves client p q [] h o = ap (λ m. m.progress.over) (sym h) ∙ o
 still_going moves client p q (t ∷ ts) h o = h.1.going
 
 -- one turn of those that are fixed, where it did not end the session
-first_turn : {D : Type 0} (moves : Moves D) (client : ℕ) (p m : Place D) (t : Turn) (ls : List Line) (answers : List Answer) (rest : List Turn) → Step moves client p t m → m.progress.over ≡ false
+first_turn : {D : Type 0} (moves : Moves D) (client : ℕ) (p m : Place D) (t : Turn) (ls : List Line) (answers : List DeskAnswer) (rest : List Turn) → Step moves client p t m → m.progress.over ≡ false
     → turns m.progress.tx ls answers ≡ rest → turns p.progress.tx (t.line ∷ ls) (option_list t.answer ++ answers) ≡ t ∷ rest
 first_turn moves client p m t ls answers rest s o e =
     let on : ends t.line ≡ false = sym (ap (λ r. r.over) s.after) ∙ o in
@@ -45,7 +46,7 @@ first_turn moves client p m t ls answers rest s o e =
     ∙ ap (λ b. t ∷ turns b ls answers) tx ∙ ap (λ more. t ∷ more) e
 
 -- the turn that ended the session
-last_turn : {D : Type 0} (moves : Moves D) (client : ℕ) (p m : Place D) (t : Turn) (ls : List Line) (answers : List Answer) → Step moves client p t m → m.progress.over ≡ true
+last_turn : {D : Type 0} (moves : Moves D) (client : ℕ) (p m : Place D) (t : Turn) (ls : List Line) (answers : List DeskAnswer) → Step moves client p t m → m.progress.over ≡ true
     → turns p.progress.tx (t.line ∷ ls) (option_list t.answer ++ answers) ≡ t ∷ []
 last_turn moves client p m t ls answers s o =
     let on : ends t.line ≡ true = sym (ap (λ r. r.over) s.after) ∙ o in
@@ -66,7 +67,7 @@ turns_over moves client p q (t ∷ []) more h n o = last_turn moves client p h.0
 turns_over moves client p q (t ∷ u ∷ us) more h n o =
     first_turn moves client p h.0 t (lines_in (u ∷ us) ++ more) (answers_in (u ∷ us)) (u ∷ us) h.1 h.2.1.going (turns_over moves client h.0 q (u ∷ us) more h.2 h.2.1.going o)
 
-ask_one : {D : Type 0} (moves : Moves D) (client : ℕ) (p m : Place D) (new : D) (c : Option Call) (a : Option Answer) (calls : List Call) (answers : List Answer) → Asked moves client p c a m
+ask_one : {D : Type 0} (moves : Moves D) (client : ℕ) (p m : Place D) (new : D) (c : Option DeskCall) (a : Option DeskAnswer) (calls : List DeskCall) (answers : List DeskAnswer) → Asked moves client p c a m
     → Answers moves m.desk calls answers new → Answers moves p.desk (option_list c ++ calls) (option_list a ++ answers) new
 ask_one moves client p m new None None calls answers h k = subst (λ d. Answers moves d calls answers new) h.0 k
 ask_one moves client p m new None (Some a) calls answers h k = absurd h
@@ -78,7 +79,7 @@ asked_all moves client p q [] h = ap (λ m. m.desk) h
 asked_all moves client p q (t ∷ ts) h =
     ask_one moves client p h.0 q.desk (call_for t.open_before t.line) t.answer (calls_in ts) (answers_in ts) h.1.asked (asked_all moves client h.0 q ts h.2)
 
-answers_join : {D : Type 0} (moves : Moves D) (a b c : D) (cs ds : List Call) (xs bs : List Answer) → Answers moves a cs xs b → Answers moves b ds bs c → Answers moves a (cs ++ ds) (xs ++ bs) c
+answers_join : {D : Type 0} (moves : Moves D) (a b c : D) (cs ds : List DeskCall) (xs bs : List DeskAnswer) → Answers moves a cs xs b → Answers moves b ds bs c → Answers moves a (cs ++ ds) (xs ++ bs) c
 answers_join moves a b c [] ds [] bs h k = subst (λ d. Answers moves d ds bs c) h k
 answers_join moves a b c [] ds (x ∷ xs) bs h k = absurd h
 answers_join moves a b c (y ∷ ys) ds [] bs h k = absurd h
@@ -88,7 +89,7 @@ opens : {D : Type 0} (moves : Moves D) (client : ℕ) (p q : Place D) (ts : List
 opens moves client p q [] h = ap (λ m. m.progress.tx) h
 opens moves client p q (t ∷ ts) h = opens moves client h.0 q ts h.2 ∙ ap (λ b. open_at_end b ts) (ap (λ r. r.tx) h.1.after)
 
-note_one : {D : Type 0} (moves : Moves D) (client : ℕ) (p m : Place D) (c : Option Call) (a : Option Answer) → Asked moves client p c a m → m.outcomes ≡ noted_by client p.progress.begun p.outcomes c a
+note_one : {D : Type 0} (moves : Moves D) (client : ℕ) (p m : Place D) (c : Option DeskCall) (a : Option DeskAnswer) → Asked moves client p c a m → m.outcomes ≡ noted_by client p.progress.begun p.outcomes c a
 note_one moves client p m None None h = h.1
 note_one moves client p m None (Some a) h = absurd h
 note_one moves client p m (Some c) None h = absurd h

@@ -5,7 +5,7 @@ use Rattle.mlt_event_text.specs.declared.session_line.Line.{Line}
 use Rattle.mlt_event_text.specs.Inputs.{lines_of, Splits, Begins}
 use Rattle.mlt_serve_session.specs.Talks.{Turn, turn_text}
 use Rattle.mlt_serve_session.specs.Turns.{Place, Goes}
-use Rattle.mlt_serve_session.specs.Desks.{Moves}
+use Rattle.mlt_script_cursor.specs.Calls.{Moves}
 
 -- a text, and how far into it
 pub record Front : Type 0 where

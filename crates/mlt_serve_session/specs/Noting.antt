@@ -4,10 +4,10 @@ use Rattle.mlt_object_kinds.specs.declared.operation.ObjOp.{ObjOp}
 use Rattle.mlt_object_kinds.specs.declared.operation.ObjReply.{ObjReply}
 use Rattle.mlt_script_serial.specs.declared.outcome.End.TheVariants as end
 use Rattle.mlt_script_serial.specs.declared.outcome.Outcome.{Outcome}
-use Rattle.mlt_serve_session.specs.declared.call.Answer.{Answer}
-use Rattle.mlt_serve_session.specs.declared.call.Answer.TheVariants.{Begun, Replied, Committed}
-use Rattle.mlt_serve_session.specs.declared.call.Call.{Call}
-use Rattle.mlt_serve_session.specs.declared.call.Call.TheVariants as call
+use Rattle.mlt_script_cursor.specs.declared.call.DeskAnswer.{DeskAnswer}
+use Rattle.mlt_script_cursor.specs.declared.call.DeskAnswer.TheVariants.{Begun, Replied, Committed}
+use Rattle.mlt_script_cursor.specs.declared.call.DeskCall.{DeskCall}
+use Rattle.mlt_script_cursor.specs.declared.call.DeskCall.TheVariants as call
 use Rattle.mlt_serve_session.specs.declared.notes.Notes.{Notes}
 use Rattle.mlt_serve_session.specs.Outcomes.{outcome_of}
 
@@ -22,17 +22,17 @@ outcomes_in client notes = notes.outcomes.items
     ++ pending client notes.progress.begun notes.progress.tx notes.done.items
 
 -- the outcomes after the answer to a begin
-abbrev pub begun_noted : ℕ → ℕ → List Outcome → Answer → List Outcome
+abbrev pub begun_noted : ℕ → ℕ → List Outcome → DeskAnswer → List Outcome
 begun_noted client number rs (Begun tx) = rs ++ outcome_of client number tx [] end.Aborted ∷ []
 begun_noted client number rs answer = rs
 
 -- an outcome after the answer to an operation
-abbrev pub replied_noted : ObjOp → Answer → Outcome → Outcome
+abbrev pub replied_noted : ObjOp → DeskAnswer → Outcome → Outcome
 replied_noted op (Replied reply) r = record r { done = r.done ++ (op, reply) ∷ [] }
 replied_noted op answer r = r
 
 -- an outcome after the answer to a commit
-abbrev pub committed_noted : Answer → Outcome → Outcome
+abbrev pub committed_noted : DeskAnswer → Outcome → Outcome
 committed_noted (Committed n) r = record r { end = end.Committed n }
 committed_noted answer r = r
 
@@ -43,7 +43,7 @@ at_last f (r ∷ []) = f r ∷ []
 at_last f (r ∷ s ∷ rs) = r ∷ at_last f (s ∷ rs)
 
 -- the outcomes after a call and its answer, where so many transactions were begun before
-abbrev pub noted : ℕ → ℕ → List Outcome → Call → Answer → List Outcome
+abbrev pub noted : ℕ → ℕ → List Outcome → DeskCall → DeskAnswer → List Outcome
 noted client begun rs call.Begin answer = begun_noted client (begun + 1) rs answer
 noted client begun rs (call.Operation tx op) answer = at_last (replied_noted op answer) rs
 noted client begun rs (call.Commit tx) answer = at_last (committed_noted answer) rs

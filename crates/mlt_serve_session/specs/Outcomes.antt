@@ -5,10 +5,10 @@ use Rattle.mlt_object_kinds.specs.declared.operation.ObjReply.{ObjReply}
 use Rattle.mlt_script_serial.specs.declared.outcome.End.{End}
 use Rattle.mlt_script_serial.specs.declared.outcome.End.TheVariants as end
 use Rattle.mlt_script_serial.specs.declared.outcome.Outcome.{Outcome}
-use Rattle.mlt_serve_session.specs.declared.call.Answer.{Answer}
-use Rattle.mlt_serve_session.specs.declared.call.Answer.TheVariants.{Begun, Replied, Committed}
-use Rattle.mlt_serve_session.specs.declared.call.Call.{Call}
-use Rattle.mlt_serve_session.specs.declared.call.Call.TheVariants as call
+use Rattle.mlt_script_cursor.specs.declared.call.DeskAnswer.{DeskAnswer}
+use Rattle.mlt_script_cursor.specs.declared.call.DeskAnswer.TheVariants.{Begun, Replied, Committed}
+use Rattle.mlt_script_cursor.specs.declared.call.DeskCall.{DeskCall}
+use Rattle.mlt_script_cursor.specs.declared.call.DeskCall.TheVariants as call
 use Rattle.mlt_serve_session.specs.Talks.{Turn, call_for}
 
 -- what became of a transaction of a client
@@ -17,26 +17,26 @@ outcome_of client number tx done ending =
     record { client = client; number = number; tx = tx; done = done; end = ending }
 
 -- how many transactions an answer begins
-abbrev pub begins_by : Option Answer → ℕ
+abbrev pub begins_by : Option DeskAnswer → ℕ
 begins_by (Some (Begun tx)) = 1
 begins_by answer = 0
 
 -- whether a transaction began in the turn
-abbrev pub begun_in : Option Call → Option Answer → Option ℕ
+abbrev pub begun_in : Option DeskCall → Option DeskAnswer → Option ℕ
 begun_in (Some call.Begin) (Some (Begun tx)) = Some tx
 begun_in asked answer = None
 
 -- what was done in the turn
-abbrev pub done_in : Option Call → Option Answer → List (ObjOp × ObjReply)
+abbrev pub done_in : Option DeskCall → Option DeskAnswer → List (ObjOp × ObjReply)
 done_in (Some (call.Operation tx op)) (Some (Replied reply)) = (op, reply) ∷ []
 done_in asked answer = []
 
 -- how a transaction ends by the turn, if it ended so before
-abbrev pub end_in : End → Option Call → Option Answer → End
+abbrev pub end_in : End → Option DeskCall → Option DeskAnswer → End
 end_in before (Some (call.Commit tx)) (Some (Committed n)) = end.Committed n
 end_in before asked answer = before
 
-abbrev pub call_of : Turn → Option Call
+abbrev pub call_of : Turn → Option DeskCall
 call_of t = call_for t.open_before t.line
 
 -- the turns up to the next in which a transaction begins

@@ -6,18 +6,19 @@ use Rattle.mlt_script_serial.specs.declared.outcome.Outcome.{Outcome}
 use Rattle.std.specs.List.{flat_map}
 use Rattle.std.specs.Io.KnownBytes.{Appends, Consumes, IsAtEnd}
 use Rattle.mlt_text.specs.Texts.{AppendsFront}
-use Rattle.mlt_serve_session.specs.declared.call.Answer.{Answer}
-use Rattle.mlt_serve_session.specs.declared.call.Call.{Call}
+use Rattle.mlt_script_cursor.specs.declared.call.DeskAnswer.{DeskAnswer}
+use Rattle.mlt_script_cursor.specs.declared.call.DeskCall.{DeskCall}
 use Rattle.mlt_serve_session.specs.declared.sessions.Summary.{Summary}
-use Rattle.mlt_serve_session.specs.Desks.{Moves, Answers}
+use Rattle.mlt_script_cursor.specs.Calls.{Moves}
+use Rattle.mlt_serve_session.specs.Desks.{Answers}
 use Rattle.mlt_serve_session.specs.Outcomes.{outcomes_of}
 use Rattle.mlt_serve_session.specs.Talks.{Turn, turn_text, calls_in, answers_in, closing, closing_answers, open_at_end, session_turns, commits_in, ends_in, long_in}
 
 -- what a session asked of its desk in these turns, and at its end
-abbrev pub all_calls : List Turn → List Call
+abbrev pub all_calls : List Turn → List DeskCall
 all_calls ts = calls_in ts ++ closing (open_at_end None ts)
 
-abbrev pub all_answers : List Turn → List Answer
+abbrev pub all_answers : List Turn → List DeskAnswer
 all_answers ts = answers_in ts ++ closing_answers (open_at_end None ts)
 
 -- a desk, the bytes that a reader has left and those that a writer took, where these are known, and
@@ -36,7 +37,7 @@ scene desk unread written outcomes =
 -- bytes that it read and by the desk's answers
 pub record Spoken {D : Type 0} (moves : Moves D) (client : ℕ) (old new : Scene D) : Type 0 where
   pub taken : List ℕ
-  pub answers : List Answer
+  pub answers : List DeskAnswer
   pub turns : List Turn
   pub is : session_turns taken answers ≡ turns
   -- these bytes were read, and there were no more, unless a line ended the session
@@ -67,7 +68,7 @@ pub record SpokenLong {D : Type 0} (moves : Moves D) (client : ℕ) (old new : S
 -- a session that was broken off: it has heard the first turns, and wrote a prefix of their text
 pub record BrokenOff {D : Type 0} (moves : Moves D) (client : ℕ) (old new : Scene D) : Type 0 where
   pub taken : List ℕ
-  pub answers : List Answer
+  pub answers : List DeskAnswer
   pub heard : List Turn
   pub unheard : List Turn
   pub is : session_turns taken answers ≡ heard ++ unheard

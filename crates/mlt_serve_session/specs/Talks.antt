@@ -3,10 +3,10 @@ use Rattle.std.specs.Prelude.{ℕ, ◌+◌, List, [], ◌∷◌, Option, Some, N
 use Rattle.std.specs.List.{flat_map}
 use Rattle.mlt_types.specs.declared.refusal.Refusal.TheVariants as refusal
 use Rattle.mlt_event_text.specs.declared.command.Command.TheVariants as command
-use Rattle.mlt_serve_session.specs.declared.call.Answer.{Answer}
-use Rattle.mlt_serve_session.specs.declared.call.Answer.TheVariants.{Begun, Replied, Committed, Aborted, Refused}
-use Rattle.mlt_serve_session.specs.declared.call.Call.{Call}
-use Rattle.mlt_serve_session.specs.declared.call.Call.TheVariants as call
+use Rattle.mlt_script_cursor.specs.declared.call.DeskAnswer.{DeskAnswer}
+use Rattle.mlt_script_cursor.specs.declared.call.DeskAnswer.TheVariants.{Begun, Replied, Committed, Aborted, Refused}
+use Rattle.mlt_script_cursor.specs.declared.call.DeskCall.{DeskCall}
+use Rattle.mlt_script_cursor.specs.declared.call.DeskCall.TheVariants as call
 use Rattle.mlt_event_text.specs.declared.session_line.Line.{Line}
 use Rattle.mlt_event_text.specs.declared.session_line.Line.TheVariants.{Says, TooLong}
 use Rattle.mlt_serve_session.specs.declared.said.Said.{Said}
@@ -15,12 +15,12 @@ use Rattle.mlt_event_text.specs.Inputs.{lines_of}
 use Rattle.mlt_serve_session.specs.Texts.{said_text}
 
 -- what a line asks of the desk, with no transaction open
-abbrev pub call_alone : Line → Option Call
+abbrev pub call_alone : Line → Option DeskCall
 call_alone (Says command.Begin) = Some call.Begin
 call_alone line = None
 
 -- what a line asks of the desk, with this transaction open
-abbrev pub call_within : ℕ → Line → Option Call
+abbrev pub call_within : ℕ → Line → Option DeskCall
 call_within tx (Says (command.Op op)) = Some (call.Operation tx op)
 call_within tx (Says command.Commit) = Some (call.Commit tx)
 call_within tx (Says command.Abort) = Some (call.Abort tx)
@@ -28,7 +28,7 @@ call_within tx (Says command.Quit) = Some (call.Abort tx)
 call_within tx TooLong = Some (call.Abort tx)
 call_within tx line = None
 
-abbrev pub call_for : Option ℕ → Line → Option Call
+abbrev pub call_for : Option ℕ → Line → Option DeskCall
 call_for None line = call_alone line
 call_for (Some tx) line = call_within tx line
 
@@ -36,10 +36,10 @@ call_for (Some tx) line = call_within tx line
 pub record Turn : Type 0 where
   pub open_before : Option ℕ
   pub line : Line
-  pub answer : Option Answer
+  pub answer : Option DeskAnswer
 
 -- the transaction that is open after an answer
-abbrev pub open_after : Option ℕ → Option Answer → Option ℕ
+abbrev pub open_after : Option ℕ → Option DeskAnswer → Option ℕ
 open_after before None = before
 open_after before (Some (Begun tx)) = Some tx
 open_after before (Some (Replied reply)) = before
@@ -61,8 +61,8 @@ abbrev pub unless_ended : Line → List Turn → List Turn
 unless_ended line rest = if ends line then [] else rest
 
 -- one turn, and those of the lines behind it; where the desk did not answer the session broke off
-abbrev pub one_turn : Option ℕ → Line → Option Call → List Answer → (Option ℕ → List Answer
-    → List Turn) → List Turn
+abbrev pub one_turn : Option ℕ → Line → Option DeskCall → List DeskAnswer
+    → (Option ℕ → List DeskAnswer → List Turn) → List Turn
 one_turn before line None answers behind =
     record { open_before = before; line = line; answer = None }
     ∷ unless_ended line (behind before answers)
@@ -72,13 +72,13 @@ one_turn before line (Some c) (a ∷ answers) behind =
     ∷ unless_ended line (behind (open_after before (Some a)) answers)
 
 -- the turns of these lines with these answers
-abbrev pub turns : Option ℕ → List Line → List Answer → List Turn
+abbrev pub turns : Option ℕ → List Line → List DeskAnswer → List Turn
 turns before [] answers = []
 turns before (line ∷ lines) answers =
     one_turn before line (call_for before line) answers (λ next rest. turns next lines rest)
 
 -- the turns of a session over an input
-abbrev pub session_turns : List ℕ → List Answer → List Turn
+abbrev pub session_turns : List ℕ → List DeskAnswer → List Turn
 session_turns bytes answers = turns None (lines_of bytes) answers
 
 -- what is said to a line that asks nothing, with no transaction open
@@ -104,7 +104,7 @@ said_within (Says command.Other) = said.Fault
 said_within TooLong = said.Error refusal.LineTooLong
 
 -- what is said where the desk answered
-abbrev pub said_with : Line → Answer → Said
+abbrev pub said_with : Line → DeskAnswer → Said
 said_with (Says command.Quit) answer = said.Bye
 said_with (Says command.Blank) answer = said.Nothing
 said_with (Says command.Other) answer = said.Fault
@@ -112,7 +112,7 @@ said_with TooLong answer = said.Error refusal.LineTooLong
 said_with line answer = said.Told answer
 
 -- what is said of a line: the answer of the desk, or what the line itself calls for
-abbrev pub said_by : Option ℕ → Line → Option Answer → Said
+abbrev pub said_by : Option ℕ → Line → Option DeskAnswer → Said
 said_by before line (Some answer) = said_with line answer
 said_by None line None = said_alone line
 said_by (Some tx) line None = said_within line
@@ -126,11 +126,11 @@ option_list None = []
 option_list (Some x) = x ∷ []
 
 -- what the turns asked of the desk
-abbrev pub calls_in : List Turn → List Call
+abbrev pub calls_in : List Turn → List DeskCall
 calls_in ts = flat_map (λ t. option_list (call_for t.open_before t.line)) ts
 
 -- what the desk answered in the turns
-abbrev pub answers_in : List Turn → List Answer
+abbrev pub answers_in : List Turn → List DeskAnswer
 answers_in ts = flat_map (λ t. option_list t.answer) ts
 
 abbrev pub open_at_end : Option ℕ → List Turn → Option ℕ
@@ -138,11 +138,11 @@ open_at_end before [] = before
 open_at_end before (t ∷ ts) = open_at_end (open_after before t.answer) ts
 
 -- a session that ends with a transaction open takes it back
-abbrev pub closing : Option ℕ → List Call
+abbrev pub closing : Option ℕ → List DeskCall
 closing None = []
 closing (Some tx) = call.Abort tx ∷ []
 
-abbrev pub closing_answers : Option ℕ → List Answer
+abbrev pub closing_answers : Option ℕ → List DeskAnswer
 closing_answers None = []
 closing_answers (Some tx) = Aborted ∷ []
 
@@ -156,7 +156,7 @@ abbrev pub long_in : List Turn → Bool
 long_in [] = false
 long_in (t ∷ ts) = is_long t.line || long_in ts
 
-abbrev pub commits_by : Option Answer → ℕ
+abbrev pub commits_by : Option DeskAnswer → ℕ
 commits_by (Some (Committed number)) = 1
 commits_by answer = 0
 

@@ -4,8 +4,8 @@ use Rattle.mlt_types.specs.declared.refusal.Refusal.{Refusal}
 use Rattle.mlt_types.specs.Refusals.{number_of, name_of}
 use Rattle.mlt_object_kinds.specs.Texts.{with_number, reply_text}
 use Rattle.mlt_script_serial.specs.Texts.{line}
-use Rattle.mlt_serve_session.specs.declared.call.Answer.{Answer}
-use Rattle.mlt_serve_session.specs.declared.call.Answer.TheVariants.{Begun, Replied, Committed, Aborted, Refused}
+use Rattle.mlt_script_cursor.specs.declared.call.DeskAnswer.{DeskAnswer}
+use Rattle.mlt_script_cursor.specs.declared.call.DeskAnswer.TheVariants.{Begun, Replied, Committed, Aborted, Refused}
 use Rattle.mlt_serve_session.specs.declared.said.Said.{Said}
 use Rattle.mlt_serve_session.specs.declared.said.Said.TheVariants as said
 
@@ -14,7 +14,7 @@ abbrev pub error_text : Refusal → List ℕ
 error_text refusal = line (with_number (codes "error") (number_of refusal) ++ 32 ∷ name_of refusal)
 
 -- the line of an answer
-abbrev pub answer_text : Answer → List ℕ
+abbrev pub answer_text : DeskAnswer → List ℕ
 answer_text (Begun tx) = line (with_number (codes "begun") tx)
 answer_text (Replied reply) = line (reply_text reply)
 answer_text (Committed number) = line (with_number (codes "committed") number)

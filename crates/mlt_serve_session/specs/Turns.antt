@@ -1,8 +1,8 @@
 -- Turns of a session, one after the other.
 use Rattle.std.specs.Prelude.{◌≡◌, ◌<◌, ◌≤◌, ◌^◌, ℕ, ◌+◌, List, [], ◌∷◌, Option, Some, None, false}
 use Rattle.mlt_script_serial.specs.declared.outcome.Outcome.{Outcome}
-use Rattle.mlt_serve_session.specs.declared.call.Answer.{Answer}
-use Rattle.mlt_serve_session.specs.declared.call.Call.{Call}
+use Rattle.mlt_script_cursor.specs.declared.call.DeskAnswer.{DeskAnswer}
+use Rattle.mlt_script_cursor.specs.declared.call.DeskCall.{DeskCall}
 use Rattle.mlt_event_text.specs.declared.session_line.Line.{Line}
 use Rattle.mlt_serve_session.specs.declared.said.Said.{Said}
 use Rattle.mlt_serve_session.specs.declared.notes.Notes.{Notes}
@@ -10,7 +10,8 @@ use Rattle.mlt_serve_session.specs.declared.notes.Progress.{Progress}
 use Rattle.mlt_serve_session.specs.Noting.{outcomes_in, noted}
 use Rattle.mlt_serve_session.specs.Outcomes.{begins_by}
 use Rattle.mlt_serve_session.specs.Talks.{Turn, call_for, said_by, ends, is_long, open_after, commits_by}
-use Rattle.mlt_serve_session.specs.Desks.{Moves}
+use Rattle.mlt_script_cursor.specs.Calls.{Moves}
+use Rattle.mlt_serve_session.specs.Desks.{Moved}
 
 -- how far a session is, its desk and its outcomes
 pub record Place (D : Type 0) : Type 0 where
@@ -27,7 +28,7 @@ abbrev pub start : Progress
 start = record { tx = None; lines = 0; commits = 0; begun = 0; over = false; long = false }
 
 -- how far a session is after what the desk answered, if it was asked
-abbrev pub after_answer : Progress → Option Answer → Progress
+abbrev pub after_answer : Progress → Option DeskAnswer → Progress
 after_answer p answer =
     record {
       tx = open_after p.tx answer;
@@ -47,17 +48,17 @@ abbrev pub after_turn : Progress → Turn → Progress
 after_turn p t = after_line (after_answer p t.answer) t.line
 
 -- the call was made and answered so, and noted
-pub record Told {D : Type 0} (moves : Moves D) (client : ℕ) (p : Place D) (c : Call) (a : Answer)
-    (q : Place D) : Type 0 where
-  pub moved : moves p.desk c a q.desk
+pub record Told {D : Type 0} (moves : Moves D) (client : ℕ) (p : Place D) (c : DeskCall)
+    (a : DeskAnswer) (q : Place D) : Type 0 where
+  pub moved : Moved moves p.desk c a q.desk
   pub noted_so : q.outcomes ≡ noted client p.progress.begun p.outcomes c a
   pub after : q.progress ≡ after_answer p.progress (Some a)
 
 -- the call was made and answered, and noted; or there was none
-abbrev pub Asked : {D : Type 0} → Moves D → ℕ → Place D → Option Call → Option Answer → Place D
-    → Type 0
+abbrev pub Asked : {D : Type 0} → Moves D → ℕ → Place D → Option DeskCall → Option DeskAnswer
+    → Place D → Type 0
 Asked moves client p None None q = (q.desk ≡ p.desk) × (q.outcomes ≡ p.outcomes)
-Asked moves client p (Some c) (Some a) q = moves p.desk c a q.desk
+Asked moves client p (Some c) (Some a) q = Moved moves p.desk c a q.desk
     × (q.outcomes ≡ noted client p.progress.begun p.outcomes c a)
 Asked moves client p None (Some a) q = ⊥
 Asked moves client p (Some c) None q = ⊥
@@ -75,13 +76,13 @@ Goes moves client p [] q = q ≡ p
 Goes {D} moves client p (t ∷ ts) q = (m : Place D) × Step moves client p t m
     × Goes moves client m ts q
 
-abbrev pub turn_at : Option ℕ → Line → Option Answer → Turn
+abbrev pub turn_at : Option ℕ → Line → Option DeskAnswer → Turn
 turn_at before line answer = record { open_before = before; line = line; answer = answer }
 
 -- one turn for a line, and what is said
 pub record TakesTurn {D : Type 0} (moves : Moves D) (client : ℕ) (p : Place D) (line : Line)
     (said : Said) (q : Place D) : Type 0 where
-  pub answer : Option Answer
+  pub answer : Option DeskAnswer
   pub step : Step moves client p (turn_at p.progress.tx line answer) q
   pub says : said ≡ said_by p.progress.tx line answer
 

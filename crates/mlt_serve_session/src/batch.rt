@@ -3,7 +3,6 @@
 ghost use Rattle.std.specs.Prelude.{◌≡◌, ◌<◌, ◌≤◌, ◌+◌, ◌^◌, false, length, IfOk, OnErr, OnOk};
 ghost use Rattle.std.specs.String.{string_bytes};
 ghost use Rattle.mlt_serve_session.specs.Batches.{Answered, BrokeOff, front};
-ghost use Rattle.mlt_serve_session.specs.Desks.{moves};
 ghost use Rattle.mlt_serve_session.specs.Turns.{IsSmall, place};
 
 use crate::notes::Notes;
@@ -29,16 +28,15 @@ pub fn answer_lines<D: Desk>(
     requires small { IsSmall notes.old.progress }
     requires few { notes.old.progress.lines + length text.now < 2 ^ 62 }
     ensures ok { IfOk result
-        (λ at. Answered (moves D.begins D.answers D.commits D.aborts) client
-        (place client notes.old desk.old) (front text.now at) (string_bytes out.old)
-        (string_bytes out.new) (place client notes.new desk.new)) }
+        (λ at. Answered D.moves client (place client notes.old desk.old) (front text.now at)
+        (string_bytes out.old) (string_bytes out.new) (place client notes.new desk.new)) }
     ensures lines { IfOk result
         (λ at. notes.new.progress.lines ≤ notes.old.progress.lines + at) }
     ensures commits { OnOk result (notes.new.progress.commits ≤ notes.new.progress.lines) }
     ensures begun { OnOk result (notes.new.progress.begun ≤ notes.new.progress.lines) }
     ensures err { OnErr result
-        (BrokeOff (moves D.begins D.answers D.commits D.aborts) client
-        (place client notes.old desk.old) text.now (place client notes.new desk.new)) }
+        (BrokeOff D.moves client (place client notes.old desk.old) text.now
+        (place client notes.new desk.new)) }
 {
     let mut at = 0;
     while !notes.progress.over {

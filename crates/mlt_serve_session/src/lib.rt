@@ -2,12 +2,10 @@
 #![tactic(auto)]
 
 mod batch;
-mod call;
 mod notes;
 mod noting;
 mod said;
 mod sessions;
 mod turn;
 
-pub use call::{Answer, Call};
 pub use sessions::{Summary, session};

@@ -6,13 +6,14 @@ ghost use Rattle.std.specs.Vec.{vec_capacity};
 
 use mlt_object_kinds::Done;
 use mlt_script_serial::Outcome;
+use mlt_types::TxId;
 use std::alloc::Global;
 
 /// How far a session is.
 #[derive(Clone, Copy, Debug, PartialEq, Eq)]
 pub struct Progress {
     /// The transaction that is open.
-    pub tx: Option<u64>,
+    pub tx: Option<TxId>,
     /// How many lines were answered.
     pub lines: u64,
     /// How many commits the desk answered.

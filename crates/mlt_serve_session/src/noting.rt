@@ -11,6 +11,7 @@ use crate::notes::{Notes, Progress};
 use mlt_event_text::{Command, Line};
 use mlt_object_kinds::Done;
 use mlt_script_serial::{End, Outcome, Transcript};
+use mlt_types::TxId;
 use std::alloc::{AllocError, Global};
 use std::mem;
 
@@ -73,7 +74,7 @@ impl Notes {
     }
 
     /// Notes that a transaction began, which is open now. There is room for its outcome.
-    pub fn open(&mut self, tx: u64)
+    pub fn open(&mut self, tx: TxId)
         requires room { vec_len self.old.outcomes < vec_capacity self.old.outcomes }
         requires small { self.old.progress.begun < 2 ^ 62 }
         ensures progress { self.new.progress
@@ -87,7 +88,7 @@ impl Notes {
     }
 
     /// Notes how the open transaction ended: its outcome stands behind the others now.
-    pub fn close(&mut self, client: u32, tx: u64, end: End)
+    pub fn close(&mut self, client: u32, tx: TxId, end: End)
         requires is_open { self.old.progress.tx ≡ Some tx }
         ensures progress { self.new.progress ≡ record self.old.progress { tx = None } }
         ensures outcomes { self.new.outcomes.items ≡ self.old.outcomes.items
@@ -97,7 +98,7 @@ impl Notes {
         self.outcomes.push_reserved(Outcome {
             client,
             number: self.progress.begun,
-            tx,
+            tx: tx.0,
             done: Transcript::new(done),
             end,
         });

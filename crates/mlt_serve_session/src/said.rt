@@ -4,7 +4,7 @@ ghost use Rattle.std.specs.Prelude.{◌≡◌, ◌++◌, OnOk};
 ghost use Rattle.std.specs.String.{string_bytes};
 ghost use Rattle.mlt_serve_session.specs.Texts.{answer_text, error_text, said_text};
 
-use crate::call::Answer;
+use mlt_script_cursor::DeskAnswer;
 use mlt_types::Refusal;
 use std::alloc::AllocError;
 
@@ -12,7 +12,7 @@ use std::alloc::AllocError;
 #[derive(Clone, Copy, Debug, PartialEq, Eq)]
 pub enum Said {
     /// What the desk answered.
-    Told(Answer),
+    Told(DeskAnswer),
     /// An error of the session's own.
     Error(Refusal),
     /// The line is none of the forms.
@@ -21,15 +21,15 @@ pub enum Said {
     Nothing,
 }
 
-fn push_answer(out: &mut String, answer: Answer) -> Result<(), AllocError>
+fn push_answer(out: &mut String, answer: DeskAnswer) -> Result<(), AllocError>
     ensures { OnOk result (string_bytes out.new ≡ string_bytes out.old ++ answer_text answer) }
 {
     match answer {
-        Answer::Begun(tx) => writeln!(out, "begun {tx}"),
-        Answer::Replied(reply) => writeln!(out, "{reply}"),
-        Answer::Committed(number) => writeln!(out, "committed {number}"),
-        Answer::Aborted => writeln!(out, "aborted"),
-        Answer::Refused(refusal) => push_error(out, refusal),
+        DeskAnswer::Begun(tx) => writeln!(out, "begun {tx}"),
+        DeskAnswer::Replied(reply) => writeln!(out, "{reply}"),
+        DeskAnswer::Committed(number) => writeln!(out, "committed {number}"),
+        DeskAnswer::Aborted => writeln!(out, "aborted"),
+        DeskAnswer::Refused(refusal) => push_error(out, refusal),
     }
 }
 

@@ -3,7 +3,7 @@
 ghost use Rattle.std.specs.Prelude.{◌≡◌, ◌<◌, ◌≤◌, ◌+◌, ◌-◌, ◌^◌, ◌⊎◌, ℕ, List, false, None, length, take, drop, vec_len, IfOk, IfErr, IsOkUnless, OnOk, OnErr, IsErrOf, ◌++◌};
 ghost use Rattle.std.specs.Io.KnownBytes.{Consumes, IsAtEnd, Keeps};
 ghost use Rattle.mlt_serve_session.specs.Batches.{front};
-ghost use Rattle.mlt_serve_session.specs.Desks.{Answers, moves};
+ghost use Rattle.mlt_serve_session.specs.Desks.{Answers};
 ghost use Rattle.mlt_serve_session.specs.Noting.{outcomes_in};
 ghost use Rattle.mlt_serve_session.specs.Rounds.{Replied, Stopped, Unwritten, Talked, Broken, BrokenHeard, streams};
 ghost use Rattle.mlt_serve_session.specs.Sessions.{SessionAnswers, scene};
@@ -68,21 +68,18 @@ fn reply<W: Write, D: Desk>(
     requires small { IsSmall notes.old.progress }
     requires few { notes.old.progress.lines + length text.now < 2 ^ 62 }
     ensures ok { IfOk result
-        (λ at. Replied (moves D.begins D.answers D.commits D.aborts) client
-        (place client notes.old desk.old) (front text.now at) (W.contents writer.old)
-        (W.contents writer.new) (place client notes.new desk.new)) }
+        (λ at. Replied D.moves client (place client notes.old desk.old) (front text.now at)
+        (W.contents writer.old) (W.contents writer.new) (place client notes.new desk.new)) }
     ensures lines { IfOk result
         (λ at. notes.new.progress.lines ≤ notes.old.progress.lines + at) }
     ensures commits { OnOk result (notes.new.progress.commits ≤ notes.new.progress.lines) }
     ensures begun { OnOk result (notes.new.progress.begun ≤ notes.new.progress.lines) }
     ensures err { OnErr result
-        (Stopped (moves D.begins D.answers D.commits D.aborts) client
-        (place client notes.old desk.old) text.now (W.contents writer.old)
-        (W.contents writer.new) (place client notes.new desk.new)) }
+        (Stopped D.moves client (place client notes.old desk.old) text.now
+        (W.contents writer.old) (W.contents writer.new) (place client notes.new desk.new)) }
     ensures io { IsErrOf result Refusal.Io
-        → Unwritten (moves D.begins D.answers D.commits D.aborts) client
-        (place client notes.old desk.old) text.now (W.contents writer.old)
-        (W.contents writer.new) (place client notes.new desk.new) }
+        → Unwritten D.moves client (place client notes.old desk.old) text.now
+        (W.contents writer.old) (W.contents writer.new) (place client notes.new desk.new) }
     ensures refusal { IfErr result
         (λ refusal. (refusal ≡ Refusal.OutOfMemory) ⊎ (refusal ≡ Refusal.Io)) }
 {
@@ -106,18 +103,15 @@ fn listen<R: Read, W: Write, D: Desk>(
     requires fresh { notes.old.progress ≡ start }
     requires room { (200 < length buffer.old) × (length buffer.old < 2 ^ 32) }
     ensures ok { OnOk result
-        (Talked (moves D.begins D.answers D.commits D.aborts) client
-        (place client notes.old desk.old)
+        (Talked D.moves client (place client notes.old desk.old)
         (streams (R.remaining reader.old) (R.remaining reader.new)
         (W.contents writer.old) (W.contents writer.new)) (place client notes.new desk.new)) }
     ensures err { OnErr result
-        (Broken (moves D.begins D.answers D.commits D.aborts) client
-        (place client notes.old desk.old)
+        (Broken D.moves client (place client notes.old desk.old)
         (streams (R.remaining reader.old) (R.remaining reader.new)
         (W.contents writer.old) (W.contents writer.new)) (place client notes.new desk.new)) }
     ensures io { IsErrOf result Refusal.Io
-        → BrokenHeard (moves D.begins D.answers D.commits D.aborts) client
-        (place client notes.old desk.old)
+        → BrokenHeard D.moves client (place client notes.old desk.old)
         (streams (R.remaining reader.old) (R.remaining reader.new)
         (W.contents writer.old) (W.contents writer.new)) (place client notes.new desk.new) }
     ensures refusal { IfErr result
@@ -155,7 +149,7 @@ pub struct Summary {
 
 // Takes back what is open, and answers all outcomes.
 fn finish<D: Desk>(mut notes: Notes, desk: &mut D, client: u32) -> Vec<Outcome>
-    ensures asked { Answers (moves D.begins D.answers D.commits D.aborts) desk.old
+    ensures asked { Answers D.moves desk.old
         (closing notes.progress.tx) (closing_answers notes.progress.tx) desk.new }
     ensures outcomes { result.items ≡ outcomes_in client notes }
 {
@@ -176,7 +170,7 @@ fn converse<R: Read, W: Write, D: Desk>(
     buffer: &mut [u8],
 ) -> Result<Summary, Refusal>
     requires { (200 < length buffer.old) × (length buffer.old < 2 ^ 32) }
-    ensures answers { SessionAnswers (moves D.begins D.answers D.commits D.aborts) client
+    ensures answers { SessionAnswers D.moves client
         (scene desk.old (R.remaining reader.old) (W.contents writer.old) outcomes.old.items)
         (scene desk.new (R.remaining reader.new) (W.contents writer.new) outcomes.new.items)
         result }
@@ -224,7 +218,7 @@ pub fn session<R: Read, W: Write, D: Desk>(
     client: u32,
     outcomes: &mut Vec<Outcome>,
 ) -> Result<Summary, Refusal>
-    ensures answers { SessionAnswers (moves D.begins D.answers D.commits D.aborts) client
+    ensures answers { SessionAnswers D.moves client
         (scene desk.old (R.remaining reader.old) (W.contents writer.old) outcomes.old.items)
         (scene desk.new (R.remaining reader.new) (W.contents writer.new) outcomes.new.items)
         result }

@@ -1,38 +1,38 @@
 //! One line of a session: what is asked of the desk, and what is said.
 
 ghost use Rattle.std.specs.Prelude.{◌≡◌, ◌<◌, ◌≤◌, ◌+◌, ◌^◌, None, Some, false, IfOk, IfSome, OnOk, OnErr};
-ghost use Rattle.mlt_serve_session.specs.Desks.{moves, open_for};
+ghost use Rattle.mlt_serve_session.specs.Desks.{open_for};
 ghost use Rattle.mlt_serve_session.specs.Talks.{call_for, said_by};
 ghost use Rattle.mlt_serve_session.specs.Turns.{Told, TakesTurn, IsSmall, place};
 
-use crate::call::{Answer, Call};
 use crate::notes::Notes;
 use crate::said::Said;
 use mlt_event_text::{Command, Line};
 use mlt_object_kinds::{Done, ObjOp};
+use mlt_script_cursor::{DeskAnswer, DeskCall};
 use mlt_script_desk::Desk;
 use mlt_script_serial::End;
 use mlt_types::{Refusal, TxId};
 use std::alloc::AllocError;
 
 /// What a line asks of the desk, with this transaction open or none.
-fn call_for(before: Option<u64>, line: Line) -> Option<Call>
+fn call_for(before: Option<TxId>, line: Line) -> Option<DeskCall>
     ensures value { result ≡ call_for before line }
     ensures fits { IfSome result (λ call. before ≡ open_for call) }
 {
     match (before, line) {
-        (None, Line::Says(Command::Begin)) => Some(Call::Begin),
-        (Some(tx), Line::Says(Command::Op(op))) => Some(Call::Operation(tx, op)),
-        (Some(tx), Line::Says(Command::Commit)) => Some(Call::Commit(tx)),
+        (None, Line::Says(Command::Begin)) => Some(DeskCall::Begin),
+        (Some(tx), Line::Says(Command::Op(op))) => Some(DeskCall::Operation(tx, op)),
+        (Some(tx), Line::Says(Command::Commit)) => Some(DeskCall::Commit(tx)),
         (Some(tx), Line::Says(Command::Abort | Command::Quit) | Line::TooLong) => {
-            Some(Call::Abort(tx))
+            Some(DeskCall::Abort(tx))
         }
         _ => None,
     }
 }
 
 /// What is said to a line where the desk answered.
-fn said_with(line: Line, answer: Answer) -> Said
+fn said_with(line: Line, answer: DeskAnswer) -> Said
     ensures { result ≡ said_by None line (Some answer) }
 {
     match line {
@@ -45,7 +45,7 @@ fn said_with(line: Line, answer: Answer) -> Said
 }
 
 /// What is said to a line of which the desk was not asked.
-fn said_alone(before: Option<u64>, line: Line) -> Said
+fn said_alone(before: Option<TxId>, line: Line) -> Said
     ensures { result ≡ said_by before line None }
 {
     match line {
@@ -64,22 +64,22 @@ fn said_alone(before: Option<u64>, line: Line) -> Said
 ///
 /// # Errors
 /// There was no room, and the desk was not asked.
-fn begin<D: Desk>(notes: &mut Notes, desk: &mut D, client: u32) -> Result<Answer, AllocError>
+fn begin<D: Desk>(notes: &mut Notes, desk: &mut D, client: u32) -> Result<DeskAnswer, AllocError>
     requires alone { notes.old.progress.tx ≡ None }
     requires small { notes.old.progress.begun < 2 ^ 62 }
     ensures told { IfOk result
-        (λ answer. Told (moves D.begins D.answers D.commits D.aborts) client
-        (place client notes.old desk.old) Call.Begin answer (place client notes.new desk.new)) }
+        (λ answer. Told D.moves client (place client notes.old desk.old)
+        DeskCall.Begin answer (place client notes.new desk.new)) }
     ensures err { OnErr result
         (place client notes.new desk.new ≡ place client notes.old desk.old) }
 {
     notes.outcomes.reserve(1)?;
     match desk.begin() {
         Ok(tx) => {
-            notes.open(tx.0);
-            Ok(Answer::Begun(tx.0))
+            notes.open(tx);
+            Ok(DeskAnswer::Begun(tx.0))
         }
-        Err(refusal) => Ok(Answer::Refused(refusal)),
+        Err(refusal) => Ok(DeskAnswer::Refused(refusal)),
     }
 }
 
@@ -92,55 +92,51 @@ fn operation<D: Desk>(
     notes: &mut Notes,
     desk: &mut D,
     client: u32,
-    tx: u64,
+    tx: TxId,
     op: ObjOp,
-) -> Result<Answer, AllocError>
+) -> Result<DeskAnswer, AllocError>
     requires is_open { notes.old.progress.tx ≡ Some tx }
     ensures told { IfOk result
-        (λ answer. Told (moves D.begins D.answers D.commits D.aborts) client
-        (place client notes.old desk.old) (Call.Operation tx op) answer
-        (place client notes.new desk.new)) }
+        (λ answer. Told D.moves client (place client notes.old desk.old)
+        (DeskCall.Operation tx op) answer (place client notes.new desk.new)) }
     ensures err { OnErr result
         (place client notes.new desk.new ≡ place client notes.old desk.old) }
 {
     notes.done.reserve(1)?;
-    match desk.operation(TxId(tx), op) {
+    match desk.operation(tx, op) {
         Ok(reply) => {
             notes.done.push_reserved(Done::new(op, reply));
-            Ok(Answer::Replied(reply))
+            Ok(DeskAnswer::Replied(reply))
         }
-        Err(refusal) => Ok(Answer::Refused(refusal)),
+        Err(refusal) => Ok(DeskAnswer::Refused(refusal)),
     }
 }
 
 /// Asks for the commit of the open transaction, which stays open where it is refused.
-fn commit<D: Desk>(notes: &mut Notes, desk: &mut D, client: u32, tx: u64) -> Answer
+fn commit<D: Desk>(notes: &mut Notes, desk: &mut D, client: u32, tx: TxId) -> DeskAnswer
     requires is_open { notes.old.progress.tx ≡ Some tx }
     requires small { notes.old.progress.commits < 2 ^ 62 }
-    ensures { Told (moves D.begins D.answers D.commits D.aborts) client
-        (place client notes.old desk.old) (Call.Commit tx) result
-        (place client notes.new desk.new) }
+    ensures { Told D.moves client (place client notes.old desk.old)
+        (DeskCall.Commit tx) result (place client notes.new desk.new) }
 {
-    match desk.commit(TxId(tx)) {
+    match desk.commit(tx) {
         Ok(number) => {
             notes.close(client, tx, End::Committed(number));
             notes.progress.commits += 1;
-            Answer::Committed(number)
+            DeskAnswer::Committed(number)
         }
-        Err(refusal) => Answer::Refused(refusal),
+        Err(refusal) => DeskAnswer::Refused(refusal),
     }
 }
 
 /// Takes the open transaction back.
-pub fn abort<D: Desk>(notes: &mut Notes, desk: &mut D, client: u32, tx: u64) -> Answer
+pub fn abort<D: Desk>(notes: &mut Notes, desk: &mut D, client: u32, tx: TxId)
     requires is_open { notes.old.progress.tx ≡ Some tx }
-    ensures { Told (moves D.begins D.answers D.commits D.aborts) client
-        (place client notes.old desk.old) (Call.Abort tx) result
-        (place client notes.new desk.new) }
+    ensures { Told D.moves client (place client notes.old desk.old)
+        (DeskCall.Abort tx) DeskAnswer.Aborted (place client notes.new desk.new) }
 {
-    desk.abort(TxId(tx));
+    desk.abort(tx);
     notes.close(client, tx, End::Aborted);
-    Answer::Aborted
 }
 
 /// Asks the desk, and notes what it answers.
@@ -151,21 +147,24 @@ fn ask<D: Desk>(
     notes: &mut Notes,
     desk: &mut D,
     client: u32,
-    call: Call,
-) -> Result<Answer, AllocError>
+    call: DeskCall,
+) -> Result<DeskAnswer, AllocError>
     requires fits { notes.old.progress.tx ≡ open_for call }
     requires small { IsSmall notes.old.progress }
     ensures told { IfOk result
-        (λ answer. Told (moves D.begins D.answers D.commits D.aborts) client
-        (place client notes.old desk.old) call answer (place client notes.new desk.new)) }
+        (λ answer. Told D.moves client (place client notes.old desk.old)
+        call answer (place client notes.new desk.new)) }
     ensures err { OnErr result
         (place client notes.new desk.new ≡ place client notes.old desk.old) }
 {
     match call {
-        Call::Begin => begin(notes, desk, client),
-        Call::Operation(tx, op) => operation(notes, desk, client, tx, op),
-        Call::Commit(tx) => Ok(commit(notes, desk, client, tx)),
-        Call::Abort(tx) => Ok(abort(notes, desk, client, tx)),
+        DeskCall::Begin => begin(notes, desk, client),
+        DeskCall::Operation(tx, op) => operation(notes, desk, client, tx, op),
+        DeskCall::Commit(tx) => Ok(commit(notes, desk, client, tx)),
+        DeskCall::Abort(tx) => {
+            abort(notes, desk, client, tx);
+            Ok(DeskAnswer::Aborted)
+        }
     }
 }
 
@@ -182,8 +181,8 @@ pub fn take_turn<D: Desk>(
     requires going { notes.old.progress.over ≡ false }
     requires small { IsSmall notes.old.progress }
     ensures ok { IfOk result
-        (λ said. TakesTurn (moves D.begins D.answers D.commits D.aborts) client
-        (place client notes.old desk.old) line said (place client notes.new desk.new)) }
+        (λ said. TakesTurn D.moves client (place client notes.old desk.old)
+        line said (place client notes.new desk.new)) }
     ensures lines { OnOk result (notes.new.progress.lines ≡ notes.old.progress.lines + 1) }
     ensures commits { OnOk result (notes.new.progress.commits ≤ notes.new.progress.lines) }
     ensures begun { OnOk result (notes.new.progress.begun ≤ notes.new.progress.lines) }

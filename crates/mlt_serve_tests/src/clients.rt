@@ -2,7 +2,8 @@
 
 use mlt_object_kinds::ObjReply;
 use mlt_script::parse;
-use mlt_script_desk::{FakeAnswer, FakeDesk, run_client};
+use mlt_script_cursor::DeskAnswer;
+use mlt_script_desk::{FakeDesk, run_client};
 use mlt_script_serial::{Outcomes, write_outcomes};
 use mlt_test_tools::same_at;
 use mlt_types::Refusal;
@@ -10,19 +11,19 @@ use std::alloc::Global;
 use std::test::Fail;
 
 // Scripts, what the desk answers, and the text of their outcomes.
-type Client = (&'static [u8], &'static [FakeAnswer], &'static str);
+type Client = (&'static [u8], &'static [DeskAnswer], &'static str);
 
 const CLIENTS: &[Client] = &[
     // Each reply is an answer, in order.
     (
         b"begin 7\nopen 1\ndeposit 1 5\ncommit\nbegin 7\nneed balance 1 is 9\ncommit\n",
         &[
-            FakeAnswer::Number(4),
-            FakeAnswer::Reply(ObjReply::Opened),
-            FakeAnswer::Reply(ObjReply::Done),
-            FakeAnswer::Number(1),
-            FakeAnswer::Number(6),
-            FakeAnswer::Reply(ObjReply::Is(5)),
+            DeskAnswer::Begun(4),
+            DeskAnswer::Replied(ObjReply::Opened),
+            DeskAnswer::Replied(ObjReply::Done),
+            DeskAnswer::Committed(1),
+            DeskAnswer::Begun(6),
+            DeskAnswer::Replied(ObjReply::Is(5)),
         ],
         "opened\ndone\ncommitted 1\nis 5\naborted\n",
     ),
@@ -31,21 +32,21 @@ const CLIENTS: &[Client] = &[
         b"begin\nopen 1\ncommit\nbegin\nopen 1\ndeposit 1 5\ncommit\nbegin\nopen 1\ncommit\n\
 begin\nopen 1\nabort\n",
         &[
-            FakeAnswer::Refused(Refusal::TooManyOpen),
-            FakeAnswer::Number(1),
-            FakeAnswer::Reply(ObjReply::Opened),
-            FakeAnswer::Refused(Refusal::NoRoom),
-            FakeAnswer::Number(2),
-            FakeAnswer::Reply(ObjReply::Exists),
-            FakeAnswer::Refused(Refusal::Running),
-            FakeAnswer::Number(3),
+            DeskAnswer::Refused(Refusal::TooManyOpen),
+            DeskAnswer::Begun(1),
+            DeskAnswer::Replied(ObjReply::Opened),
+            DeskAnswer::Refused(Refusal::NoRoom),
+            DeskAnswer::Begun(2),
+            DeskAnswer::Replied(ObjReply::Exists),
+            DeskAnswer::Refused(Refusal::Running),
+            DeskAnswer::Begun(3),
         ],
         "refused 7 TooManyOpen\naborted\nopened\nrefused 2 NoRoom\naborted\nexists\n\
 refused 14 GaveUp\naborted\nrefused 14 GaveUp\naborted\n",
     ),
 ];
 
-fn text_of(alloc: Global, scripts: &[u8], answers: &[FakeAnswer]) -> Result<Vec<u8>, Refusal> {
+fn text_of(alloc: Global, scripts: &[u8], answers: &[DeskAnswer]) -> Result<Vec<u8>, Refusal> {
     let scripts = parse(alloc, scripts)?;
     let mut list = Vec::new(alloc);
     list.extend_from_slice(answers)?;

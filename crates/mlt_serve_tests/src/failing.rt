@@ -7,7 +7,7 @@ use mlt_test_tools::{
     Case, Engine, FaultyReader, FaultyWriter, KINDS, same_at, withstands_failures,
 };
 use mlt_types::{Limits, Mult, Refusal};
-use mlt_work::run_scripts;
+use mlt_work::{RunOptions, run_scripts};
 use mlt_work_desk::NoGate;
 use std::alloc::Global;
 use std::io::ErrorKind;
@@ -75,8 +75,12 @@ fn refusal_of<T: Threads + Wait + Sync>(
     reader: &mut FaultyReader,
     writer: &mut FaultyWriter,
 ) -> Option<u8> {
-    let limits = Limits::program();
-    match run_scripts(rt, alloc, reader, writer, limits, Mult, 2, 9, &NoGate) {
+    let options = RunOptions {
+        limits: Limits::program(),
+        workers: 2,
+        tries: 9,
+    };
+    match run_scripts(rt, alloc, reader, writer, Mult, &options, &NoGate) {
         Ok(manager) => {
             manager.close();
             None

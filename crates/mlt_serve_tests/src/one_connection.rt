@@ -23,20 +23,20 @@ begin 2\nop 2 balance 1 is 5\nback 2\nabort 2\n\
 serial 1\naccount 1 5\n";
 
 // The answers to these lines over one connection, its outcomes and the trace, within these limits.
-fn is_served<R: Threads + Wait + Clock + Sync>(
+fn is_served<R: Net<Listener = TcpListener, Stream = TcpStream> + Threads + Wait + Clock + Sync>(
     rt: &R,
     alloc: Global,
-    listener: &TcpListener,
-    stream: &TcpStream,
     limits: Limits,
     lines: &[u8],
     answers: &[u8],
     text: &[u8],
 ) -> Result<(), Fail> {
+    let listener = TcpListener::bind(rt, "127.0.0.1:0")?;
+    let stream = TcpStream::connect(rt, listener.local_addr()?)?;
     let (served, heard) = thread::join(
         rt,
-        || served_text(rt, alloc, listener, limits, 1),
-        || talk(alloc, stream, lines),
+        || served_text(rt, alloc, &listener, limits, 1),
+        || talk(alloc, &stream, lines),
     );
     same(&heard?.as_slice(), &answers)?;
     same(&served?.as_slice(), &text)
@@ -45,18 +45,7 @@ fn is_served<R: Threads + Wait + Clock + Sync>(
 // The last transaction is cut off.
 #[test]
 fn one_connection(rt: HostRuntime) -> Result<(), Fail> {
-    let listener = TcpListener::bind(&rt, "127.0.0.1:0")?;
-    let stream = TcpStream::connect(&rt, listener.local_addr()?)?;
-    is_served(
-        &rt,
-        rt.alloc(),
-        &listener,
-        &stream,
-        Limits::program(),
-        LINES,
-        ANSWERS,
-        SERVED,
-    )
+    is_served(&rt, rt.alloc(), Limits::program(), LINES, ANSWERS, SERVED)
 }
 
 const TWO_TOO_MANY: &[u8] = b"begin\nup 7 1\nup 7 1\ncommit\nbegin\n";
@@ -70,13 +59,9 @@ serial 1\ncounter 7 1\n";
 // One number, and one operation.
 #[test]
 fn one_connection_within_limits(rt: HostRuntime) -> Result<(), Fail> {
-    let listener = TcpListener::bind(&rt, "127.0.0.1:0")?;
-    let stream = TcpStream::connect(&rt, listener.local_addr()?)?;
     is_served(
         &rt,
         rt.alloc(),
-        &listener,
-        &stream,
         Limits::checked(64, 1, 70_000, 16, 1)?,
         TWO_TOO_MANY,
         BOTH_REFUSED,

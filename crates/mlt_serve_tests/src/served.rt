@@ -2,7 +2,7 @@
 
 use mlt_manager::Manager;
 use mlt_script_serial::{Form, Outcomes, Report, write_report};
-use mlt_serve::serve_on;
+use mlt_serve::{ServeOptions, serve_on};
 use mlt_trace::write_trace;
 use mlt_trace_check::check_trace;
 use mlt_types::{Limits, Mult, Refusal};
@@ -37,17 +37,14 @@ pub fn served_text<R: Threads + Wait + Clock + Sync>(
     limits: Limits,
     connections: u32,
 ) -> Result<Vec<u8>, Refusal> {
-    let (outcomes, manager) = serve_on(
-        rt,
-        alloc,
-        listener,
+    let options = ServeOptions {
         limits,
-        Mult,
-        2,
+        sessions: 2,
         connections,
-        10_000,
-        None,
-    )?;
+        tries: 10_000,
+        idle: None,
+    };
+    let (outcomes, manager) = serve_on(rt, alloc, listener, Mult, &options)?;
     let text = text_of(alloc, outcomes, &manager);
     manager.close();
     text

@@ -2,7 +2,7 @@
 
 use crate::talks::{Outcome, Wanted, talk_with};
 use mlt_object_kinds::{AccountOp, CounterOp, ObjOp, ObjReply};
-use mlt_script_desk::FakeAnswer;
+use mlt_script_cursor::DeskAnswer;
 use mlt_script_serial::End;
 use mlt_test_tools::{FaultyReader, FaultyWriter, with_spaces};
 use mlt_types::Refusal;
@@ -15,7 +15,7 @@ struct Session {
     /// A start, so many spaces, and an end.
     input: (&'static [u8], usize, &'static [u8]),
     /// What the desk answers.
-    answers: &'static [FakeAnswer],
+    answers: &'static [DeskAnswer],
     /// What is wanted.
     wanted: Wanted,
 }
@@ -32,13 +32,13 @@ const UP: ObjOp = ObjOp::Counter(7, CounterOp::Up(1));
 pub const LINES: &[u8] = b"begin\nopen 1\nfoo\ndeposit 1 5\ncommit\nbegin\nbalance 1\n";
 
 /// What the desk answers.
-pub const ANSWERS: &[FakeAnswer] = &[
-    FakeAnswer::Number(1),
-    FakeAnswer::Reply(ObjReply::Opened),
-    FakeAnswer::Reply(ObjReply::Done),
-    FakeAnswer::Number(1),
-    FakeAnswer::Number(2),
-    FakeAnswer::Reply(ObjReply::Is(5)),
+pub const ANSWERS: &[DeskAnswer] = &[
+    DeskAnswer::Begun(1),
+    DeskAnswer::Replied(ObjReply::Opened),
+    DeskAnswer::Replied(ObjReply::Done),
+    DeskAnswer::Committed(1),
+    DeskAnswer::Begun(2),
+    DeskAnswer::Replied(ObjReply::Is(5)),
 ];
 
 /// What comes of it.
@@ -156,7 +156,7 @@ fn session_line_too_long(rt: HostRuntime) -> Result<(), Fail> {
 
 const CUT: &[Session] = &[Session {
     input: (b"begin\nup 7 1\ncomm", 0, b""),
-    answers: &[FakeAnswer::Number(1), FakeAnswer::Reply(ObjReply::Done)],
+    answers: &[DeskAnswer::Begun(1), DeskAnswer::Replied(ObjReply::Done)],
     wanted: Wanted {
         answer: Ok((2, 0)),
         text: b"begun 1\ndone\n",
@@ -181,13 +181,13 @@ const REFUSED: &[Session] = &[Session {
         b"",
     ),
     answers: &[
-        FakeAnswer::Refused(Refusal::TooManyOpen),
-        FakeAnswer::Number(4),
-        FakeAnswer::Refused(Refusal::NoRoom),
-        FakeAnswer::Refused(Refusal::Running),
-        FakeAnswer::Reply(ObjReply::Done),
-        FakeAnswer::Number(6),
-        FakeAnswer::Number(18446744073709551615),
+        DeskAnswer::Refused(Refusal::TooManyOpen),
+        DeskAnswer::Begun(4),
+        DeskAnswer::Refused(Refusal::NoRoom),
+        DeskAnswer::Refused(Refusal::Running),
+        DeskAnswer::Replied(ObjReply::Done),
+        DeskAnswer::Begun(6),
+        DeskAnswer::Committed(18446744073709551615),
     ],
     wanted: Wanted {
         answer: Ok((12, 1)),

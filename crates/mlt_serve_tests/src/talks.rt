@@ -1,7 +1,8 @@
 //! What comes of a session, and what is wanted of it.
 
 use mlt_object_kinds::{Done, ObjOp, ObjReply};
-use mlt_script_desk::{Desk, FakeAnswer, FakeDesk};
+use mlt_script_cursor::DeskAnswer;
+use mlt_script_desk::{Desk, FakeDesk};
 use mlt_script_serial::{End, Outcome};
 use mlt_serve_session::{Summary, session};
 use mlt_test_tools::{FaultyReader, FaultyWriter, same_at};
@@ -62,7 +63,7 @@ pub fn talk_at<D: Desk>(
 /// What came of a session at a desk with these answers.
 pub fn talk_with(
     alloc: Global,
-    answers: &[FakeAnswer],
+    answers: &[DeskAnswer],
     reader: FaultyReader,
     writer: FaultyWriter,
 ) -> Result<Talk, AllocError> {

@@ -7,7 +7,7 @@ use crate::gates::{
 };
 use mlt_test_tools::{same, same_at};
 use mlt_types::{Limits, Mult, Refusal};
-use mlt_work::run_scripts;
+use mlt_work::{RunOptions, run_scripts};
 use mlt_work_desk::{Gate, NoGate};
 use std::alloc::Global;
 use std::sync::Wait;
@@ -29,10 +29,12 @@ fn text_within<T: Threads + Wait + Sync, G: Gate + Sync>(
 {
     let mut input = scripts;
     let mut text = Vec::new(alloc);
-    run_scripts(
-        rt, alloc, &mut input, &mut text, limits, Mult, workers, tries, gate,
-    )?
-    .close();
+    let options = RunOptions {
+        limits,
+        workers,
+        tries,
+    };
+    run_scripts(rt, alloc, &mut input, &mut text, Mult, &options, gate)?.close();
     Ok(text)
 }
 

@@ -9,11 +9,16 @@ use Rattle.mlt_text_words.specs.Fronts.{is_printable}
 use Rattle.mlt_text_words.specs.Lines.{lines, onto, is_lf, is_allowed, is_unprintable}
 use Rattle.mlt_text_words.proofs.Pieces.{first_and}
 
-at_lf : (b : ℕ) (bs : List ℕ) → is_lf b ≡ true → lines (b ∷ bs) ≡ record { bytes = []; ended = true } ∷ lines bs
+pub no_lines : (rest : List ℕ) → length rest ≡ 0 → lines rest ≡ []
+unfolding lines
+no_lines [] e = refl
+no_lines (b ∷ bs) e = absurd (omega arith)
+
+pub at_lf : (b : ℕ) (bs : List ℕ) → is_lf b ≡ true → lines (b ∷ bs) ≡ record { bytes = []; ended = true } ∷ lines bs
 unfolding lines
 at_lf b bs h = rw h refl
 
-at_other : (b : ℕ) (bs : List ℕ) → is_lf b ≡ false → lines (b ∷ bs) ≡ onto b (lines bs)
+pub at_other : (b : ℕ) (bs : List ℕ) → is_lf b ≡ false → lines (b ∷ bs) ≡ onto b (lines bs)
 unfolding lines
 at_other b bs h = rw h refl
 

@@ -1,11 +1,13 @@
 -- Digits at the front of a text.
-use Rattle.std.proofs.Common.{◌≡◌, ℕ, suc, zero, ◌+◌, ◌-◌, ◌^◌, ◌<◌, ◌≤◌, List, [], ◌∷◌, ◌++◌, length, take, drop, map, true, false, Some, refl, sym, ap, ◌∙◌, append_assoc, arith}
+use Rattle.std.proofs.Common.{◌≡◌, ℕ, suc, zero, ◌+◌, ◌-◌, ◌^◌, ◌<◌, ◌≤◌, List, [], ◌∷◌, ◌++◌, length, take, drop, map, Bool, true, false, cond, Some, refl, sym, ap, subst, ◌∙◌, append_assoc, arith}
 use Rattle.std.specs.List.{list_all}
 use Rattle.std.specs.Char.{digit_value}
+use Rattle.std.specs.Str.{bytes_eq}
 use Rattle.std.specs.Str.Parse.{AllDigits, digits_value}
 use Rattle.std.proofs.Math.Nat.{pow-le-pow_right}
 use Rattle.std.proofs.lemmas.Int.Digits.{digits_value-lt}
 use Rattle.std.proofs.lemmas.List.{take-append-drop}
+use Rattle.std.proofs.lemmas.Slice.Eq.{bytes_eq-Decides}
 use Rattle.mlt_text_words.specs.declared.keyword.Keyword.{Keyword}
 use Rattle.mlt_text_words.specs.declared.keyword.Keyword.TheVariants as key
 use Rattle.mlt_text_words.specs.declared.keyword.Word.{Word}
@@ -13,7 +15,7 @@ use Rattle.mlt_text_words.specs.declared.keyword.Word.TheVariants.{Number}
 use Rattle.mlt_text_words.specs.Fronts.{BeginsWithNumber, BeginsWithWords, begins_with_digit}
 use Rattle.mlt_text_words.specs.Lines.{is_comment}
 use Rattle.mlt_text_words.specs.Numbers.{is_digit, number_of}
-use Rattle.mlt_text_words.specs.Words.{spelling, word_of, words_of}
+use Rattle.mlt_text_words.specs.Words.{all_keywords, keyword_of, spelled_among, spelling, word_of, words_of}
 use Rattle.mlt_text_words.proofs.Digits.{writes, taken}
 use Rattle.mlt_text_words.proofs.Pieces.{beside, digits_printable, digits_word, first_and, word_alone, word_is_number}
 use Rattle.mlt_text_words.proofs.Splitting.{to_the_end}
@@ -91,6 +93,20 @@ words_then text middle rest ws vs n m (t, e, h) (u, f, k) = (
   e ∙ ap (λ (xs : List ℕ). t ++ 32 ∷ xs) f ∙ sym (append_assoc t (32 ∷ u) rest),
   beside t u ws vs n m h k,
 )
+
+spelled_so : (keys : List Keyword) (bytes : List ℕ) (k : Keyword) → spelled_among keys bytes ≡ Some k → spelling k ≡ bytes
+spelled_so [] bytes k h = absurd (cc h)
+spelled_so (x ∷ keys) bytes k h = first_or (bytes_eq (spelling x) bytes) refl h (spelled_so keys bytes k) where
+  first_or : (b : Bool) → bytes_eq (spelling x) bytes ≡ b → cond b (Some x) (spelled_among keys bytes) ≡ Some k
+      → (spelled_among keys bytes ≡ Some k → spelling k ≡ bytes) → spelling k ≡ bytes
+  first_or true e h rest = let same : x ≡ k = cc h in subst (λ y. spelling y ≡ bytes) same ((bytes_eq-Decides (spelling x) bytes).0 e)
+  first_or false e h rest = rest h
+
+-- a keyword at the front, and the rest
+pub spelled_front : (text : List ℕ) (end : ℕ) (k : Keyword) → Some k ≡ keyword_of (take end text) → text ≡ spelling k ++ take (length text - end) (drop end text)
+unfolding keyword_of
+spelled_front text end k h =
+    rw (to_the_end text end) (sym (take-append-drop end text) ∙ ap (λ (xs : List ℕ). xs ++ drop end text) (sym (spelled_so all_keywords (take end text) k (sym h))))
 
 -- what begins with a keyword is no comment
 pub no_comment : (k : Keyword) (rest : List ℕ) → is_comment (spelling k ++ rest) ≡ false

@@ -1,5 +1,6 @@
 pub mod Splitting
 pub mod Cutting
+pub mod Allowed
 pub mod Numerals
 pub mod Pieces
 pub mod Digits

@@ -2,4 +2,5 @@ pub mod Numbers
 pub mod Letters
 pub mod Words
 pub mod Lines
+pub mod ReadLines
 pub mod Fronts

@@ -5,6 +5,9 @@ ghost use Rattle.std.specs.List.{list_all};
 ghost use Rattle.std.specs.Str.Parse.{digits_value};
 ghost use Rattle.mlt_text_words.specs.Fronts.{BeginsWithNumber, begins_with_digit};
 ghost use Rattle.mlt_text_words.specs.Numbers.{is_digit};
+ghost use Rattle.mlt_text_words.specs.Words.{spelling};
+
+use crate::keyword::{Keyword, find_keyword};
 
 /// The text behind these bytes, where it begins with them. `None` exactly where it does not.
 pub fn after<'a>(text: &'a [u8], bytes: &[u8]) -> Option<&'a [u8]>
@@ -60,4 +63,15 @@ pub fn front_number(text: &[u8]) -> Option<(u64, &[u8])>
     } else {
         Some((value, &text[end..]))
     }
+}
+
+/// The keyword that the small letters at the front of a text spell, and the text behind them.
+#[tactic(auto, using(crate::proofs::Fronts::spelled_front))]
+pub fn front_keyword(text: &[u8]) -> Option<(Keyword, &[u8])>
+    ensures { IfSome result (λ x. text.now ≡ spelling x.0 ++ x.1.now) }
+{
+    let letters = text.iter().position(|byte| *byte < b'a' || *byte > b'z');
+    let end = letters.unwrap_or(text.len());
+    let keyword = find_keyword(&text[..end])?;
+    Some((keyword, &text[end..]))
 }

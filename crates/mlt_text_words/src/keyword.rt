@@ -166,8 +166,8 @@ fn spelled(first: u8, word: &[u8]) -> Option<Keyword>
     }
 }
 
-// A word is compared only with the keywords that begin with its first byte.
-fn find_keyword(word: &[u8]) -> Option<Keyword>
+/// The keyword that is spelled so. It is compared only with those that begin with its first byte.
+pub fn find_keyword(word: &[u8]) -> Option<Keyword>
     ensures { result ≡ keyword_of word.now }
 {
     let first = word.first()?;

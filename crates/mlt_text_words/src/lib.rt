@@ -8,9 +8,9 @@ mod line;
 mod number;
 mod words;
 
-pub use front::{after, front_number};
+pub use front::{after, front_keyword, front_number};
 pub use keyword::{Keyword, Word};
 pub use letter::Letter;
-pub use line::{first_line, first_printable_line, is_allowed_line, is_comment_line, trimmed};
+pub use line::{Line, is_comment_line, read_line, trimmed};
 pub use number::number as read_number;
 pub use words::{has_word, next_number, next_raw_word, next_word};

@@ -2,7 +2,22 @@
 
 ghost use Rattle.std.specs.Prelude.{◌≡◌, ◌<◌, ◌∷◌, length, true, IfSome};
 ghost use Rattle.std.specs.List.{list_all, position};
-ghost use Rattle.mlt_text_words.specs.Lines.{lines, is_lf, is_comment, is_allowed, is_unprintable, without_cr};
+ghost use Rattle.mlt_text_words.specs.Lines.{Raw, lines, is_lf, is_comment, is_allowed, is_unprintable, without_cr};
+ghost use Rattle.mlt_text_words.specs.ReadLines.{Tells};
+
+// How many bytes a line has at most before its LF, a CR among them.
+const MOST_BYTES: usize = 200;
+
+/// A line that was read, its bytes without the LF and a CR before it.
+#[derive(Clone, Copy)]
+pub enum Line<'a> {
+    /// More than 200 bytes stand before the LF, a CR counted.
+    TooLong,
+    /// A byte of it is not allowed.
+    Faulty(&'a [u8]),
+    /// Each byte is a tab or from 0x20 to 0x7E. The flag says whether an LF ends it.
+    Allowed(&'a [u8], bool),
+}
 
 fn find_lf(text: &[u8]) -> Option<usize>
     ensures { result ≡ position is_lf text.now }
@@ -10,8 +25,8 @@ fn find_lf(text: &[u8]) -> Option<usize>
     text.iter().position(|byte| *byte == b'\n')
 }
 
-/// The first line without its LF, whether an LF ends it, and the text after it.
-pub fn first_line(text: &[u8]) -> (&[u8], bool, &[u8])
+// The first line without its LF, whether an LF ends it, and the text after it.
+fn first_line(text: &[u8]) -> (&[u8], bool, &[u8])
     requires { 0 < length text.now }
     ensures first { lines text.now
         ≡ record { bytes = result.0.now; ended = result.1 } ∷ lines result.2.now }
@@ -30,9 +45,9 @@ fn find_unprintable(text: &[u8]) -> Option<usize>
         .position(|byte| !(*byte >= 0x20 && *byte <= 0x7E))
 }
 
-/// The first line and the text after it, found in one pass over its bytes. `None` where a byte of it is not from 0x20
-/// to 0x7E, or no LF ends it: then `first_line` has the line.
-pub fn first_printable_line(text: &[u8]) -> Option<(&[u8], &[u8])>
+// The first line and the text after it, found in one pass over its bytes. `None` where a byte of it is not from 0x20
+// to 0x7E, or no LF ends it: then `first_line` has the line.
+fn first_printable_line(text: &[u8]) -> Option<(&[u8], &[u8])>
     ensures first { IfSome result
         (λ x. lines text.now ≡ record { bytes = x.0.now; ended = true } ∷ lines x.1.now) }
     ensures allowed { IfSome result (λ x. list_all is_allowed x.0.now ≡ true) }
@@ -69,10 +84,52 @@ pub fn is_comment_line(line: &[u8]) -> bool
     false
 }
 
-/// Whether each byte is a tab or from 0x20 to 0x7E.
-pub fn is_allowed_line(line: &[u8]) -> bool
+// Whether each byte is a tab or from 0x20 to 0x7E.
+fn is_allowed_line(line: &[u8]) -> bool
     ensures { result ≡ list_all is_allowed line.now }
 {
     line.iter()
         .all(|byte| *byte == b'\t' || (*byte >= 0x20 && *byte <= 0x7E))
+}
+
+// The line, whose bytes are allowed and stand before its LF.
+#[tactic(auto, using(crate::proofs::Allowed::no_cr))]
+fn allowed(line: &[u8]) -> Line<'_>
+    requires { list_all is_allowed line.now ≡ true }
+    ensures { Tells result record { bytes = line.now; ended = true } }
+{
+    if line.len() > MOST_BYTES {
+        Line::TooLong
+    } else {
+        Line::Allowed(line, true)
+    }
+}
+
+// A line, given its bytes before the LF and whether an LF ends it.
+fn judged(bytes: &[u8], ended: bool) -> Line<'_>
+    ensures { Tells result record { bytes = bytes.now; ended = ended } }
+{
+    if bytes.len() > MOST_BYTES {
+        return Line::TooLong;
+    }
+    let line = if ended { trimmed(bytes) } else { bytes };
+    if is_allowed_line(line) {
+        Line::Allowed(line, ended)
+    } else {
+        Line::Faulty(line)
+    }
+}
+
+/// The first line of a text, and the text after it.
+pub fn read_line(text: &[u8]) -> (Line<'_>, &[u8])
+    requires { 0 < length text.now }
+    ensures first { (raw : Raw) × (lines text.now ≡ raw ∷ lines result.1.now)
+        × Tells result.0 raw }
+    ensures less { length result.1.now < length text.now }
+{
+    if let Some((line, rest)) = first_printable_line(text) {
+        return (allowed(line), rest);
+    }
+    let (bytes, ended, rest) = first_line(text);
+    (judged(bytes, ended), rest)
 }

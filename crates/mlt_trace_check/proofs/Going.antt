@@ -1,5 +1,5 @@
 -- A text that a checker goes over, line by line.
-use Rattle.std.proofs.Common.{◌≡◌, ℕ, ◌+◌, Bool, true, false, cond, List, [], ◌∷◌, ◌++◌, length, map, Result, Ok, Err, Option, Some, None, nat_lt, refl, sym, ap, subst, ◌∙◌, inl, inr, append_assoc, length-append, arith}
+use Rattle.std.proofs.Common.{◌≡◌, ℕ, ◌+◌, Bool, true, false, cond, List, [], ◌∷◌, ◌++◌, length, map, Result, Ok, Err, Option, Some, None, nat_lt, refl, sym, ap, subst, ◌∙◌, inl, inr, append_assoc, length-append}
 use Rattle.std.proofs.lemmas.List.{map-append}
 use Rattle.std.specs.List.{list_all}
 use Rattle.mlt_types.specs.declared.refusal.Refusal.{Refusal}
@@ -9,6 +9,7 @@ use Rattle.mlt_types.specs.declared.refusal.TraceCause.TheVariants as cause
 use Rattle.mlt_object_kinds.specs.Bases.{Base}
 use Rattle.mlt_text_words.specs.Lines.{Raw, lines, content, is_allowed}
 use Rattle.mlt_text_words.specs.Words.{raw_words}
+use Rattle.mlt_text_words.proofs.Cutting.{no_lines}
 use Rattle.mlt_trace.specs.declared.item.TraceItem.{TraceItem}
 use Rattle.mlt_trace_check.specs.declared.checker.Checker.{Checker}
 use Rattle.mlt_trace_check.specs.declared.reading.Reading.{Reading}
@@ -125,11 +126,6 @@ went_wrong (TraceFault n fault) old new line text rest more raw first takes over
   takes over.items over.knows (ap (λ n. n + 1) over.counted),
 )
 went_wrong e old new line text rest more raw first takes over = absurd takes
-
-no_lines : (rest : List ℕ) → length rest ≡ 0 → lines rest ≡ []
-unfolding lines
-no_lines [] e = refl
-no_lines (b ∷ bs) e = absurd (omega arith)
 
 pub went_to_end : (checker : Checker) (line : ℕ) (text rest : List ℕ) → length rest ≡ 0 → WentOver checker line text rest → IsAcceptedTrace text checker.txs.items checker.base
 went_to_end checker line text rest none over =

@@ -13,7 +13,7 @@ use Rattle.mlt_text_words.proofs.Cutting.{line_cut}
 use Rattle.mlt_text_words.proofs.Pieces.{all_append, digits_printable, digits_word, word_alone, words_apart}
 use Rattle.mlt_script.specs.Forms.{reply_at}
 use Rattle.mlt_script.specs.Plain.{BeginsWithOp, BeginsWithReply}
-use Rattle.mlt_script.proofs.Saying.{all_allowed}
+use Rattle.mlt_text_words.proofs.Allowed.{all_allowed}
 use Rattle.mlt_trace.specs.declared.item.TraceItem.{TraceItem}
 use Rattle.mlt_trace.specs.declared.item.TraceItem.TheVariants.{Abort, Back, Begin, Commit, Op}
 use Rattle.mlt_trace_check.specs.Plain.{BeginsWithDone, BeginsWithItem, BeginsWithNumbered, PieceIs}

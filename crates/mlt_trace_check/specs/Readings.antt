@@ -1,9 +1,7 @@
 -- What a line of a trace is by itself, wherever it stands.
-use Rattle.std.specs.Prelude.{◌≡◌, ℕ, Result, Ok, Err, List, map, length, nat_lt, Option, Some, None, if◌then◌else◌, codes}
+use Rattle.std.specs.Prelude.{ℕ, List, map, length, nat_lt, Option, Some, None, if◌then◌else◌, codes}
 use Rattle.std.specs.List.{list_all}
 use Rattle.std.specs.Str.{bytes_eq}
-use denote.Ref.{Bor}
-use Rattle.mlt_types.specs.declared.refusal.TraceCause.{TraceCause}
 use Rattle.mlt_types.specs.declared.refusal.TraceCause.TheVariants as cause
 use Rattle.mlt_script.specs.Forms.{◌>>=◌}
 use Rattle.mlt_text_words.specs.Lines.{Raw, content, is_allowed}
@@ -55,8 +53,3 @@ in_words raw = if raw.ended then item_or_fault (item_of (raw_words (content raw)
 -- not allowed, or words that are none of the five forms
 unfoldable pub reading : Raw → Reading
 reading raw = if nat_lt 200 (length raw.bytes) then Bad cause.Line else (if list_all is_allowed (content raw) then in_words raw else Bad cause.Line)
-
--- a line is what its words say, or its words are not read
-abbrev pub Judges : Result (Bor (List ℕ)) TraceCause → Reading → Type 0
-Judges (Ok line) told = told ≡ item_or_fault (item_of (raw_words line.now))
-Judges (Err fault) told = told ≡ Bad fault

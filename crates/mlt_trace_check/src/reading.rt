@@ -1,14 +1,14 @@
 //! What a line of a trace says.
 
-ghost use Rattle.std.specs.Prelude.{◌≡◌, ◌<◌, ◌∷◌, length, true};
-ghost use Rattle.std.specs.List.{list_all};
-ghost use Rattle.mlt_text_words.specs.Lines.{Raw, lines, is_allowed};
-ghost use Rattle.mlt_trace_check.specs.Readings.{Judges, alone, item_of, item_or_fault, item_with, reading};
+ghost use Rattle.std.specs.Prelude.{◌≡◌, ◌<◌, ◌∷◌, length};
+ghost use Rattle.mlt_text_words.specs.Lines.{Raw, lines};
+ghost use Rattle.mlt_text_words.specs.ReadLines.{Tells};
+ghost use Rattle.mlt_trace_check.specs.Readings.{alone, item_of, item_or_fault, item_with, reading};
 ghost use Rattle.mlt_text_words.specs.Words.{raw_words};
 
 use crate::plain::plain_item;
 use crate::words::{done, positive};
-use mlt_text_words::{first_line, first_printable_line, is_allowed_line, next_raw_word, trimmed};
+use mlt_text_words::{Line, next_raw_word, read_line};
 use mlt_trace::TraceItem;
 use mlt_types::{TraceCause, TxId};
 
@@ -72,48 +72,16 @@ fn read_words(line: &[u8]) -> Reading
     }
 }
 
-// The line, whose bytes are allowed and stand before its LF, where its words are to be read.
-#[tactic(auto, using(crate::proofs::Allowed::allowed_reading))]
-fn judge_allowed(line: &[u8]) -> Result<&[u8], TraceCause>
-    requires { list_all is_allowed line.now ≡ true }
-    ensures { Judges result (reading record { bytes = line.now; ended = true }) }
-{
-    if line.len() > 200 {
-        return Err(TraceCause::Line);
-    }
-    Ok(line)
-}
-
-// A line without its end, where its words are to be read, given its bytes before the LF and whether an LF ends it.
+// What a line is.
 #[tactic(auto, unfolding(crate::specs::Readings::reading))]
-fn judge(bytes: &[u8], ended: bool) -> Result<&[u8], TraceCause>
-    ensures { Judges result (reading record { bytes = bytes.now; ended = ended }) }
+fn said(line: Line) -> Reading
+    ensures { (raw : Raw) → Tells line.entry raw → result ≡ reading raw }
 {
-    if bytes.len() > 200 {
-        return Err(TraceCause::Line);
+    match line {
+        Line::Allowed(bytes, true) => read_words(bytes),
+        Line::Allowed(_, false) => Reading::Bad(TraceCause::Cut),
+        Line::TooLong | Line::Faulty(_) => Reading::Bad(TraceCause::Line),
     }
-    let line = if ended { trimmed(bytes) } else { bytes };
-    if !is_allowed_line(line) {
-        return Err(TraceCause::Line);
-    }
-    if !ended {
-        return Err(TraceCause::Cut);
-    }
-    Ok(line)
-}
-
-// The first line of a text, where its words are to be read, and the text after it.
-fn judge_first(text: &[u8]) -> (Result<&[u8], TraceCause>, &[u8])
-    requires { 0 < length text.now }
-    ensures first { (raw : Raw) × (lines text.now ≡ raw ∷ lines result.1.now)
-        × Judges result.0 (reading raw) }
-    ensures less { length result.1.now < length text.now }
-{
-    if let Some((line, rest)) = first_printable_line(text) {
-        return (judge_allowed(line), rest);
-    }
-    let (bytes, ended, rest) = first_line(text);
-    (judge(bytes, ended), rest)
 }
 
 /// What the first line of a text is, and the text after it.
@@ -126,9 +94,6 @@ pub fn read_first(text: &[u8]) -> (Reading, &[u8])
     if let Some((item, rest)) = plain_item(text) {
         return (Reading::Says(item), rest);
     }
-    let (judged, rest) = judge_first(text);
-    match judged {
-        Ok(line) => (read_words(line), rest),
-        Err(cause) => (Reading::Bad(cause), rest),
-    }
+    let (line, rest) = read_line(text);
+    (said(line), rest)
 }

@@ -17,7 +17,7 @@ use Rattle.mlt_text_words.specs.Fronts.{TextIs, is_printable}
 use Rattle.mlt_text_words.proofs.Cutting.{line_cut}
 use Rattle.mlt_text_words.proofs.Pieces.{at_most, beside, key_text, number_again, number_alone, number_is}
 use Rattle.mlt_script.specs.Forms.{key_at, number_below, reply_after, reply_at, reply_word}
-use Rattle.mlt_script.proofs.Saying.{all_allowed}
+use Rattle.mlt_text_words.proofs.Allowed.{all_allowed}
 use Rattle.mlt_script_print.specs.Ranges.{FitsReply}
 use Rattle.mlt_script_print.proofs.Printed.{no_lines}
 use Rattle.mlt_script_print.proofs.Rereading.{keeps_its_end, op_again, op_is, op_words}

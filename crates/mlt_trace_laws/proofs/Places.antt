@@ -21,8 +21,6 @@ whole_more items item tx other whole back = elim (earlier_or_last items item (Ba
 
 -- ---- an item stands somewhere
 
-]
-
 abbrev StandsIn : {X : Type 0} → List X → X → Type 0
 StandsIn {X} xs x = (before : List X) × (later : List X) × (xs ≡ before ++ x ∷ later)
 

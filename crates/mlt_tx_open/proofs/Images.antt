@@ -18,7 +18,7 @@ none_keeps [] page lacks tx one there = let none = map.get-empty {X = Transactio
 none_keeps (slot ∷ slots) page lacks tx one there =
     elim (is_slot_of tx slot) as (λ b. is_slot_of tx slot ≡ b → image_of one.subtx.images page ≡ None) [
       | true ↦ λ own.
-          let same : Some slot.berth ≡ Some one = grind (arith, get-table_of slot slots tx) in
+          let same : Some slot.transaction.value ≡ Some one = grind (arith, get-table_of slot slots tx) in
           let used : is_free slot ≡ false = grind arith in
           grind (arith, lacks 0 slot (omega arith) used, same)
       | false ↦ λ other.
@@ -30,14 +30,14 @@ none_keeps (slot ∷ slots) page lacks tx one there =
 pub some_keeps : (slots : List TxSlot) (table : Table) (count page : ℕ) (first : Option Page) → AreTxSlots slots count → table_of slots ≡ table → KeepsInSlot slots page first → KeepsImage table page first
 some_keeps slots table count page first is view k = record {
   tx = k.slot.tx;
-  one = k.slot.berth;
-  there = ap (λ (t : Table). map.get t k.slot.tx) (sym view) ∙ subst (λ (s : TxSlot). map.get (table_of slots) s.tx ≡ Some s.berth) (sym k.there) (stands_in_table slots k.place k.slot (record { as_many = is.one_each }) k.within (ap is_free (sym k.there) ∙ k.used));
+  one = k.slot.transaction.value;
+  there = ap (λ (t : Table). map.get t k.slot.tx) (sym view) ∙ subst (λ (s : TxSlot). map.get (table_of slots) s.tx ≡ Some s.transaction.value) (sym k.there) (stands_in_table slots k.place k.slot (record { as_many = is.one_each }) k.within (ap is_free (sym k.there) ∙ k.used));
   keeps = k.keeps;
 }
 
 -- an image that was asked of somebody in a slot
 pub kept_there : (slots : List TxSlot) (page i : ℕ) (slot : TxSlot) (got : Option (Bor (Option Page))) → i < length slots → slot ≡ get_or slots i slot
-    → IfSome got (λ first. (is_free slot ≡ false) × (image_of slot.berth.subtx.images page ≡ Some first.now)) → IfSome got (λ first. KeepsInSlot slots page first.now)
+    → IfSome got (λ first. (is_free slot ≡ false) × (image_of slot.transaction.value.subtx.images page ≡ Some first.now)) → IfSome got (λ first. KeepsInSlot slots page first.now)
 kept_there slots page i slot None within there h = tt
 kept_there slots page i slot (Some first) within there h = record { place = i; slot = slot; within = within; there = there; used = h.0; keeps = h.1 }
 
@@ -51,13 +51,13 @@ none_in_table slots looked table page (Some first) view look h = tt
 none_in_table slots looked table page None view look h = subst (λ (t : Table). KeepsNoImage t page) view (none_keeps slots page (subst (λ (s : List TxSlot). LackImage s page (length s)) look h))
 
 -- one more was asked, and keeps none
-pub lack_more : (slots : List TxSlot) (page n : ℕ) (slot : TxSlot) → n < length slots → slot ≡ get_or slots n slot → (is_free slot ≡ false → image_of slot.berth.subtx.images page ≡ None) → LackImage slots page n → LackImage slots page (n + 1)
+pub lack_more : (slots : List TxSlot) (page n : ℕ) (slot : TxSlot) → n < length slots → slot ≡ get_or slots n slot → (is_free slot ≡ false → image_of slot.transaction.value.subtx.images page ≡ None) → LackImage slots page n → LackImage slots page (n + 1)
 lack_more slots page n slot within there lacks before k d below used = by (cases_eq k n)
   where
-    by : (k ≡ n) ⊎ (k ≡ n → ⊥) → image_of (get_or slots k d).berth.subtx.images page ≡ None
+    by : (k ≡ n) ⊎ (k ≡ n → ⊥) → image_of (get_or slots k d).transaction.value.subtx.images page ≡ None
     by (inl same) =
         let own : get_or slots k d ≡ slot = ap (λ j. get_or slots j d) same ∙ get_or_default slots n d slot within ∙ sym there in
-        ap (λ (s : TxSlot). image_of s.berth.subtx.images page) own ∙ lacks (sym (ap is_free own) ∙ used)
+        ap (λ (s : TxSlot). image_of s.transaction.value.subtx.images page) own ∙ lacks (sym (ap is_free own) ∙ used)
     by (inr other) = before k d (omega arith) used
 
 -- what is said of no value holds where there is none

@@ -16,37 +16,37 @@ use Rattle.mlt_tx_open.specs.Tables.{ChangesOne, Table}
 use Rattle.mlt_tx_open.specs.TxSlots.{AreTxSlots, is_free, is_slot_of, slots_taken, table_of}
 
 -- under a number stands who lies in the first slot of it
-pub get-table_of : (slot : TxSlot) (slots : List TxSlot) (u : ℕ) → map.get (table_of (slot ∷ slots)) u ≡ cond (is_slot_of u slot) (Some slot.berth) (map.get (table_of slots) u)
+pub get-table_of : (slot : TxSlot) (slots : List TxSlot) (u : ℕ) → map.get (table_of (slot ∷ slots)) u ≡ cond (is_slot_of u slot) (Some slot.transaction.value) (map.get (table_of slots) u)
 get-table_of slot slots u =
-    elim (is_free slot) as (λ b. map.get (cond b (table_of slots) (map.insert (table_of slots) slot.tx slot.berth)) u ≡ cond (eqb slot.tx u && not b) (Some slot.berth) (map.get (table_of slots) u)) [
+    elim (is_free slot) as (λ b. map.get (cond b (table_of slots) (map.insert (table_of slots) slot.tx slot.transaction.value)) u ≡ cond (eqb slot.tx u && not b) (Some slot.transaction.value) (map.get (table_of slots) u)) [
       | true ↦ grind arith
-      | false ↦ grind (arith, nat_tests, get_inserted (table_of slots) slot.tx slot.berth u)
+      | false ↦ grind (arith, nat_tests, get_inserted (table_of slots) slot.tx slot.transaction.value u)
     ]
 
 -- the numbers are no more than the slots that are taken
 len-table_of : (slots : List TxSlot) → map.len (table_of slots) ≤ slots_taken slots
 len-table_of [] = grind (arith, map.len-empty nat_cmp Transaction)
-len-table_of (slot ∷ slots) = grind (arith, len-table_of slots, map.len-insert nat_cmp_total (table_of slots) slot.tx slot.berth)
+len-table_of (slot ∷ slots) = grind (arith, len-table_of slots, map.len-insert nat_cmp_total (table_of slots) slot.tx slot.transaction.value)
 
 -- where they are as many, no number has a second slot
 pub record OneEach (slots : List TxSlot) : Type 0 where
   pub as_many : map.len (table_of slots) ≡ slots_taken slots
 
 later : (slot : TxSlot) (slots : List TxSlot) → OneEach (slot ∷ slots) → OneEach slots
-later slot slots one = record { as_many = grind (arith, one.as_many, len-table_of slots, map.len-insert nat_cmp_total (table_of slots) slot.tx slot.berth) }
+later slot slots one = record { as_many = grind (arith, one.as_many, len-table_of slots, map.len-insert nat_cmp_total (table_of slots) slot.tx slot.transaction.value) }
 
 no_second : (slot : TxSlot) (slots : List TxSlot) → OneEach (slot ∷ slots) → is_free slot ≡ false → is_some (map.get (table_of slots) slot.tx) ≡ false
-no_second slot slots one used = grind (arith, one.as_many, len-table_of slots, map.len-insert nat_cmp_total (table_of slots) slot.tx slot.berth)
+no_second slot slots one used = grind (arith, one.as_many, len-table_of slots, map.len-insert nat_cmp_total (table_of slots) slot.tx slot.transaction.value)
 
 -- so whoever lies in a slot stands under its number
-pub stands_in_table : (slots : List TxSlot) (i : ℕ) (d : TxSlot) → OneEach slots → i < length slots → is_free (get_or slots i d) ≡ false → map.get (table_of slots) (get_or slots i d).tx ≡ Some (get_or slots i d).berth
+pub stands_in_table : (slots : List TxSlot) (i : ℕ) (d : TxSlot) → OneEach slots → i < length slots → is_free (get_or slots i d) ≡ false → map.get (table_of slots) (get_or slots i d).tx ≡ Some (get_or slots i d).transaction.value
 stands_in_table [] i d one within used = absurd (omega arith)
 stands_in_table (slot ∷ slots) zero d one within used = grind (arith, nat_tests, get-table_of slot slots slot.tx)
 stands_in_table (slot ∷ slots) (suc i) d one within used =
     let rest = stands_in_table slots i d (later slot slots one) (omega arith) used in
     grind (arith, nat_tests, get-table_of slot slots (get_or slots i d).tx, no_second slot slots one, rest)
 
-found : (slots : List TxSlot) (tx i : ℕ) (d : TxSlot) → i < length slots → is_slot_of tx (get_or slots i d) ≡ true → ((k : ℕ) → k < i → is_slot_of tx (get_or slots k d) ≡ false) → map.get (table_of slots) tx ≡ Some (get_or slots i d).berth
+found : (slots : List TxSlot) (tx i : ℕ) (d : TxSlot) → i < length slots → is_slot_of tx (get_or slots i d) ≡ true → ((k : ℕ) → k < i → is_slot_of tx (get_or slots k d) ≡ false) → map.get (table_of slots) tx ≡ Some (get_or slots i d).transaction.value
 found [] tx i d within there before = absurd (omega arith)
 found (slot ∷ slots) tx zero d within there before = grind (arith, get-table_of slot slots tx)
 found (slot ∷ slots) tx (suc i) d within there before =
@@ -61,7 +61,7 @@ absent_from (slot ∷ slots) tx n none =
       | false ↦ λ is none. grind (arith, get-table_of slot slots tx, absent_from slots tx (n + 1) none)
     ] refl none
 
-pub get-table_of_place : (slots : List TxSlot) (tx i : ℕ) (d : TxSlot) → position (is_slot_of tx) slots ≡ Some i → map.get (table_of slots) tx ≡ Some (get_or slots i d).berth
+pub get-table_of_place : (slots : List TxSlot) (tx i : ℕ) (d : TxSlot) → position (is_slot_of tx) slots ≡ Some i → map.get (table_of slots) tx ≡ Some (get_or slots i d).transaction.value
 get-table_of_place slots tx i d at = let p = position-Some (is_slot_of tx) slots i d at in found slots tx i d p.0 p.1 p.2
 
 pub get-table_of_none : (slots : List TxSlot) (tx : ℕ) → position (is_slot_of tx) slots ≡ None → map.get (table_of slots) tx ≡ None
@@ -79,7 +79,7 @@ taken-set (slot ∷ slots) zero d new within = grind arith
 taken-set (slot ∷ slots) (suc i) d new within = grind (arith, taken-set slots i d new (omega arith))
 
 replaced : (slots : List TxSlot) (tx i : ℕ) (d new : TxSlot) → i < length slots → is_slot_of tx (get_or slots i d) ≡ true → ((k : ℕ) → k < i → is_slot_of tx (get_or slots k d) ≡ false) → new.tx ≡ tx → is_free new ≡ false
-    → (u : ℕ) → map.get (table_of (set slots i new)) u ≡ cond (eqb u tx) (Some new.berth) (map.get (table_of slots) u)
+    → (u : ℕ) → map.get (table_of (set slots i new)) u ≡ cond (eqb u tx) (Some new.transaction.value) (map.get (table_of slots) u)
 replaced [] tx i d new within there before mine used u = absurd (omega arith)
 replaced (slot ∷ slots) tx zero d new within there before mine used u = grind (arith, nat_tests, get-table_of slot slots u, get-table_of new slots u)
 replaced (slot ∷ slots) tx (suc i) d new within there before mine used u =
@@ -87,7 +87,7 @@ replaced (slot ∷ slots) tx (suc i) d new within there before mine used u =
     grind (arith, nat_tests, get-table_of slot slots u, get-table_of slot (set slots i new) u, replaced slots tx i d new (omega arith) there (λ k h. before (suc k) (omega arith)) mine used u)
 
 taken : (slots : List TxSlot) (tx i : ℕ) (d new : TxSlot) → i < length slots → is_free (get_or slots i d) ≡ true → map.get (table_of slots) tx ≡ None → new.tx ≡ tx → is_free new ≡ false
-    → (u : ℕ) → map.get (table_of (set slots i new)) u ≡ cond (eqb u tx) (Some new.berth) (map.get (table_of slots) u)
+    → (u : ℕ) → map.get (table_of (set slots i new)) u ≡ cond (eqb u tx) (Some new.transaction.value) (map.get (table_of slots) u)
 taken [] tx i d new within free none mine used u = absurd (omega arith)
 taken (slot ∷ slots) tx zero d new within free none mine used u = grind (arith, nat_tests, get-table_of slot slots u, get-table_of new slots u)
 taken (slot ∷ slots) tx (suc i) d new within free none mine used u =
@@ -96,7 +96,7 @@ taken (slot ∷ slots) tx (suc i) d new within free none mine used u =
     grind (arith, nat_tests, get-table_of slot slots u, get-table_of slot (set slots i new) u, taken slots tx i d new (omega arith) free rest mine used u)
 
 added : (slots : List TxSlot) (tx : ℕ) (new : TxSlot) → map.get (table_of slots) tx ≡ None → new.tx ≡ tx → is_free new ≡ false
-    → (u : ℕ) → map.get (table_of (slots ++ new ∷ [])) u ≡ cond (eqb u tx) (Some new.berth) (map.get (table_of slots) u)
+    → (u : ℕ) → map.get (table_of (slots ++ new ∷ [])) u ≡ cond (eqb u tx) (Some new.transaction.value) (map.get (table_of slots) u)
 added [] tx new none mine used u = grind (arith, nat_tests, get-table_of new [] u)
 added (slot ∷ slots) tx new none mine used u =
     let first : is_slot_of tx slot ≡ false = grind (arith, get-table_of slot slots tx) in
@@ -137,7 +137,7 @@ number_in_slot slots looked tx i d look at =
     (own_number tx (get_or slots i d) p.1, used_slot tx (get_or slots i d) p.1)
 
 -- somebody lies there who stands in the table
-pub who_sits : (slots looked : List TxSlot) (tx i : ℕ) (d : TxSlot) → looked ≡ slots → Some i ≡ position (is_slot_of tx) looked → map.get (table_of slots) tx ≡ Some (get_or slots i d).berth
+pub who_sits : (slots looked : List TxSlot) (tx i : ℕ) (d : TxSlot) → looked ≡ slots → Some i ≡ position (is_slot_of tx) looked → map.get (table_of slots) tx ≡ Some (get_or slots i d).transaction.value
 who_sits slots looked tx i d look at = get-table_of_place slots tx i d (ap (position (is_slot_of tx)) (sym look) ∙ sym at)
 
 -- a slot that is taken is one less that is free
@@ -173,50 +173,50 @@ some_taken slots looked tx i d look at =
 
 -- the transaction of a number, which has a slot, becomes this one
 pub own_slot : (slots looked : List TxSlot) (count tx i : ℕ) (d new : TxSlot) → AreTxSlots slots count → looked ≡ slots → Some i ≡ position (is_slot_of tx) looked → new.tx ≡ tx → is_free new ≡ false
-    → Changed slots (set slots i new) count (map.insert (table_of slots) tx new.berth)
+    → Changed slots (set slots i new) count (map.insert (table_of slots) tx new.transaction.value)
 own_slot slots looked count tx i d new is look at mine used =
     let place : position (is_slot_of tx) slots ≡ Some i = ap (position (is_slot_of tx)) (sym look) ∙ sym at in
     let p = position-Some (is_slot_of tx) slots i d place in
-    let there : map.get (table_of slots) tx ≡ Some (get_or slots i d).berth = get-table_of_place slots tx i d place in
-    let table : table_of (set slots i new) ≡ map.insert (table_of slots) tx new.berth =
-    same_entries _ _ (λ u. replaced slots tx i d new p.0 p.1 p.2 mine used u ∙ sym (get_inserted (table_of slots) tx new.berth u)) in
+    let there : map.get (table_of slots) tx ≡ Some (get_or slots i d).transaction.value = get-table_of_place slots tx i d place in
+    let table : table_of (set slots i new) ≡ map.insert (table_of slots) tx new.transaction.value =
+    same_entries _ _ (λ u. replaced slots tx i d new p.0 p.1 p.2 mine used u ∙ sym (get_inserted (table_of slots) tx new.transaction.value u)) in
     let was_used : is_free (get_or slots i d) ≡ false = used_slot tx (get_or slots i d) p.1 in
     let same : slots_taken (set slots i new) ≡ slots_taken slots = grind (arith, taken-set slots i d new p.0) in
     record {
       makes = table;
       are_slots = record {
-        one_each = ap map.len table ∙ grind (arith, is.one_each, map.len-insert nat_cmp_total (table_of slots) tx new.berth);
+        one_each = ap map.len table ∙ grind (arith, is.one_each, map.len-insert nat_cmp_total (table_of slots) tx new.transaction.value);
         counted = is.counted ∙ sym same;
       };
     }
 
 -- a number that has none gets a slot that is free
 pub slot_given : (slots looked : List TxSlot) (count tx i : ℕ) (d new : TxSlot) → AreTxSlots slots count → looked ≡ slots → map.get (table_of slots) tx ≡ None → Some i ≡ position is_free looked → new.tx ≡ tx → is_free new ≡ false
-    → Changed slots (set slots i new) (count + 1) (map.insert (table_of slots) tx new.berth)
+    → Changed slots (set slots i new) (count + 1) (map.insert (table_of slots) tx new.transaction.value)
 slot_given slots looked count tx i d new is look none at mine used =
     let p = position-Some is_free slots i d (ap (position is_free) (sym look) ∙ sym at) in
-    let table : table_of (set slots i new) ≡ map.insert (table_of slots) tx new.berth =
-    same_entries _ _ (λ u. taken slots tx i d new p.0 p.1 none mine used u ∙ sym (get_inserted (table_of slots) tx new.berth u)) in
+    let table : table_of (set slots i new) ≡ map.insert (table_of slots) tx new.transaction.value =
+    same_entries _ _ (λ u. taken slots tx i d new p.0 p.1 none mine used u ∙ sym (get_inserted (table_of slots) tx new.transaction.value u)) in
     let more : slots_taken (set slots i new) ≡ slots_taken slots + 1 = grind (arith, p.1, taken-set slots i d new p.0) in
     record {
       makes = table;
       are_slots = record {
-        one_each = ap map.len table ∙ grind (arith, is.one_each, map.len-insert nat_cmp_total (table_of slots) tx new.berth);
+        one_each = ap map.len table ∙ grind (arith, is.one_each, map.len-insert nat_cmp_total (table_of slots) tx new.transaction.value);
         counted = ap (λ n. n + 1) is.counted ∙ sym more;
       };
     }
 
 -- or one more
 pub one_more_slot : (slots : List TxSlot) (count tx : ℕ) (new : TxSlot) → AreTxSlots slots count → map.get (table_of slots) tx ≡ None → new.tx ≡ tx → is_free new ≡ false
-    → Changed slots (slots ++ new ∷ []) (count + 1) (map.insert (table_of slots) tx new.berth)
+    → Changed slots (slots ++ new ∷ []) (count + 1) (map.insert (table_of slots) tx new.transaction.value)
 one_more_slot slots count tx new is none mine used =
-    let table : table_of (slots ++ new ∷ []) ≡ map.insert (table_of slots) tx new.berth =
-    same_entries _ _ (λ u. added slots tx new none mine used u ∙ sym (get_inserted (table_of slots) tx new.berth u)) in
+    let table : table_of (slots ++ new ∷ []) ≡ map.insert (table_of slots) tx new.transaction.value =
+    same_entries _ _ (λ u. added slots tx new none mine used u ∙ sym (get_inserted (table_of slots) tx new.transaction.value u)) in
     let more : slots_taken (slots ++ new ∷ []) ≡ slots_taken slots + 1 = taken-push slots new used in
     record {
       makes = table;
       are_slots = record {
-        one_each = ap map.len table ∙ grind (arith, is.one_each, map.len-insert nat_cmp_total (table_of slots) tx new.berth);
+        one_each = ap map.len table ∙ grind (arith, is.one_each, map.len-insert nat_cmp_total (table_of slots) tx new.transaction.value);
         counted = ap (λ n. n + 1) is.counted ∙ sym more;
       };
     }
@@ -227,7 +227,7 @@ pub freed_slot : (slots looked : List TxSlot) (count less tx i : ℕ) (d new : T
 freed_slot slots looked count less tx i d new is look at free one_less =
     let place : position (is_slot_of tx) slots ≡ Some i = ap (position (is_slot_of tx)) (sym look) ∙ sym at in
     let p = position-Some (is_slot_of tx) slots i d place in
-    let there : map.get (table_of slots) tx ≡ Some (get_or slots i d).berth = get-table_of_place slots tx i d place in
+    let there : map.get (table_of slots) tx ≡ Some (get_or slots i d).transaction.value = get-table_of_place slots tx i d place in
     let table : table_of (set slots i new) ≡ map.remove (table_of slots) tx =
     same_entries _ _ (λ u. cleared slots tx i d new (record { as_many = is.one_each }) p.0 p.1 p.2 free u ∙ sym (get_removed (table_of slots) tx u)) in
     let was_used : is_free (get_or slots i d) ≡ false = used_slot tx (get_or slots i d) p.1 in
@@ -258,18 +258,18 @@ same_slot slots looked tx i d look at e =
 
 -- who lies there becomes this
 pub transaction_changed : (slots looked : List TxSlot) (count tx i : ℕ) (d : TxSlot) (t : Transaction) → AreTxSlots slots count → looked ≡ slots → Some i ≡ position (is_slot_of tx) looked → d ≡ get_or slots i d
-    → Changed slots (set slots i (record { tx = d.tx; is_free = d.is_free; berth = t })) count (map.insert (table_of slots) tx t)
+    → Changed slots (set slots i (record d { transaction = record d.transaction { value = t } })) count (map.insert (table_of slots) tx t)
 transaction_changed slots looked count tx i d t is look at e =
     let own = same_slot slots looked tx i d look at e in
-    own_slot slots looked count tx i d (record { tx = d.tx; is_free = d.is_free; berth = t }) is look at own.0 own.1
+    own_slot slots looked count tx i d (record d { transaction = record d.transaction { value = t } }) is look at own.0 own.1
 
 -- so the transaction of one number is changed, and no other
 abbrev pub one_changes : (slots looked : List TxSlot) (table : Table) (count tx i : ℕ) (d : TxSlot) (t : Transaction) → AreTxSlots slots count → table_of slots ≡ table → looked ≡ slots → Some i ≡ position (is_slot_of tx) looked → d ≡ get_or slots i d
-    → ChangesOne tx table (table_of (set slots i (record { tx = d.tx; is_free = d.is_free; berth = t })))
-one_changes slots looked table count tx i d t is view look at e = record {
-  before = d.berth;
+    → (one : Transaction) → one ≡ d.transaction.value → ChangesOne tx table (table_of (set slots i (record d { transaction = record d.transaction { value = t } })))
+one_changes slots looked table count tx i d t is view look at e one boxed = record {
+  before = one;
   after = t;
-  was = ap (λ (t : Table). map.get t tx) (sym view) ∙ who_sits slots looked tx i d look at ∙ ap (λ (s : TxSlot). Some s.berth) (sym e);
+  was = ap (λ (t : Table). map.get t tx) (sym view) ∙ who_sits slots looked tx i d look at ∙ ap (λ (s : TxSlot). Some s.transaction.value) (sym e) ∙ ap Some (sym boxed);
   is = (transaction_changed slots looked count tx i d t is look at e).makes ∙ ap (λ (m : Table). map.insert m tx t) view;
 }
 
@@ -280,9 +280,9 @@ not_open slots looked table tx t view look none there =
     let both : None ≡ Some t = sym absent ∙ ap (λ (m : Table). map.get m tx) view ∙ there in
     absurd (cc)
 
-pub it_sits : (slots looked : List TxSlot) (table : Table) (tx i : ℕ) (d : TxSlot) (t : Transaction) → table_of slots ≡ table → looked ≡ slots → Some i ≡ position (is_slot_of tx) looked → d ≡ get_or slots i d → map.get table tx ≡ Some t → d.berth ≡ t
-it_sits slots looked table tx i d t view look at e there =
-    let both : Some d.berth ≡ Some t = ap (λ (s : TxSlot). Some s.berth) e ∙ sym (who_sits slots looked tx i d look at) ∙ ap (λ (m : Table). map.get m tx) view ∙ there in
+pub it_sits : (slots looked : List TxSlot) (table : Table) (tx i : ℕ) (d : TxSlot) (t : Transaction) → table_of slots ≡ table → looked ≡ slots → Some i ≡ position (is_slot_of tx) looked → d ≡ get_or slots i d → map.get table tx ≡ Some t → (one : Transaction) → one ≡ d.transaction.value → one ≡ t
+it_sits slots looked table tx i d t view look at e there one boxed =
+    let both : Some d.transaction.value ≡ Some t = ap (λ (s : TxSlot). Some s.transaction.value) e ∙ sym (who_sits slots looked tx i d look at) ∙ ap (λ (m : Table). map.get m tx) view ∙ there in
     cc
 
 pub none_sits : (slots looked : List TxSlot) (tx : ℕ) → looked ≡ slots → None ≡ position (is_slot_of tx) looked → map.get (table_of slots) tx ≡ None

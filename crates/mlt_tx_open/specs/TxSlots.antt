@@ -18,7 +18,7 @@ is_slot_of tx slot = slot.tx == tx && not (is_free slot)
 abbrev pub table_of : List TxSlot → Table
 table_of [] = map.empty
 table_of (slot ∷ slots) =
-    cond (is_free slot) (table_of slots) (map.insert (table_of slots) slot.tx slot.berth)
+    cond (is_free slot) (table_of slots) (map.insert (table_of slots) slot.tx slot.transaction.value)
 
 -- how many slots are taken
 abbrev pub slots_taken : List TxSlot → ℕ
@@ -34,7 +34,7 @@ pub record AreTxSlots (slots : List TxSlot) (taken : ℕ) : Type 0 where
 pub record BeginsInSlot (tx : ℕ) (slot : TxSlot) : Type 0 where
   pub tx_is : slot.tx ≡ tx
   pub used : is_free slot ≡ false
-  pub nothing : HasDoneNothing tx slot.berth
+  pub nothing : HasDoneNothing tx slot.transaction.value
 
 -- somebody in a slot keeps this first image of the page
 pub record KeepsInSlot (slots : List TxSlot) (page : ℕ) (first : Option Page) : Type 0 where
@@ -43,10 +43,10 @@ pub record KeepsInSlot (slots : List TxSlot) (page : ℕ) (first : Option Page) 
   pub within : place < length slots
   pub there : slot ≡ slice_index_or slots place slot
   pub used : is_free slot ≡ false
-  pub keeps : image_of slot.berth.subtx.images page ≡ Some first
+  pub keeps : image_of slot.transaction.value.subtx.images page ≡ Some first
 
 -- nobody in the first slots keeps one
 abbrev pub LackImage : List TxSlot → ℕ → ℕ → Type 0
 LackImage slots page n =
     (k : ℕ) (d : TxSlot) → k < n → is_free (slice_index_or slots k d) ≡ false
-    → image_of (slice_index_or slots k d).berth.subtx.images page ≡ None
+    → image_of (slice_index_or slots k d).transaction.value.subtx.images page ≡ None

@@ -1,8 +1,7 @@
 //! The open transactions of a manager, by their numbers.
 #![tactic(auto)]
 
-mod berth;
-mod tx_slot;
 mod table;
+mod tx_slot;
 
 pub use table::OpenTransactions;

@@ -10,7 +10,6 @@ ghost use Rattle.mlt_tx.specs.AtOnce.{MayCallAtOnce};
 ghost use Rattle.mlt_tx.specs.Transactions.{IsPending, MayStepIn};
 ghost use Rattle.mlt_tx_open.specs.Tables.{BeginsOne, CallsNone, CallsOne, CallsOneAtOnce, CancelsOne, KeepsImage, KeepsNoImage, PutsOneAt, StepsOne};
 
-use crate::berth::Berth;
 use crate::tx_slot::{TxSlot, free_slot, image_in, slot_of};
 use mlt_event::Answer;
 use mlt_hash::Setting;
@@ -24,7 +23,7 @@ use std::marker::Model;
 /// The open transactions. A contract sees a finite map from their numbers.
 ///
 /// There are so few at a time that the slot of one is found by going through all. That of a transaction that has ended is used
-/// again, with its berth and the room of its undo list.
+/// again, with the room of its undo list.
 #[derive(Drop)]
 pub struct OpenTransactions {
     alloc: Global,
@@ -74,7 +73,7 @@ impl OpenTransactions {
         ensures { option_copied result ≡ map.get self.now tx }
     {
         let place = slot_of(&self.slots, tx)?;
-        Some(self.slots[place].berth.get())
+        Some(&self.slots[place].transaction)
     }
 
     /// The first image of a page that an open transaction keeps, if one does. It takes no memory.
@@ -95,7 +94,7 @@ impl OpenTransactions {
         ensures refusal { IsOkUnless result Refusal.OutOfMemory }
     {
         if let Some(place) = slot_of(&self.slots, tx) {
-            self.slots[place].berth.restart(self.alloc, tx);
+            self.slots[place].transaction.restart(self.alloc, tx);
             return Ok(());
         }
         if let Some(place) = free_slot(&self.slots) {
@@ -133,7 +132,7 @@ impl OpenTransactions {
         let Some(place) = slot_of(&self.slots, tx) else {
             unreachable!()
         };
-        self.slots[place].berth.call(commons, op)
+        self.slots[place].transaction.call(commons, op)
     }
 
     /// Calls the transaction of a number, which is open and at nothing, with an operation, and takes all its steps at once, while
@@ -159,7 +158,7 @@ impl OpenTransactions {
             unreachable!()
         };
         self.slots[place]
-            .berth
+            .transaction
             .call_at_once(commons, op, setting)
     }
 
@@ -176,7 +175,7 @@ impl OpenTransactions {
             commons.old commons.new result }
     {
         match slot_of(&self.slots, tx) {
-            Some(place) => self.slots[place].berth.step(commons, setting),
+            Some(place) => self.slots[place].transaction.step(commons, setting),
             None => unreachable!(),
         }
     }
@@ -191,7 +190,7 @@ impl OpenTransactions {
         let Some(place) = slot_of(&self.slots, tx) else {
             unreachable!()
         };
-        self.slots[place].berth.cancel(commons);
+        self.slots[place].transaction.cancel(commons);
     }
 
     /// Puts the transaction of a number, which is open, at something else: at an operation that it is called with, or at
@@ -203,6 +202,6 @@ impl OpenTransactions {
         let Some(place) = slot_of(&self.slots, tx) else {
             unreachable!()
         };
-        self.slots[place].berth.put_at(at);
+        self.slots[place].transaction.at = at;
     }
 }

@@ -4,17 +4,18 @@ ghost use Rattle.std.specs.Prelude.{◌≡◌, None, Some, IfOk, IfSome, IfNone,
 ghost use Rattle.mlt_page_subtx.specs.Images.{image_of};
 ghost use Rattle.mlt_tx_open.specs.TxSlots.{KeepsInSlot, LackImage, BeginsInSlot, is_free, is_slot_of};
 
-use crate::berth::Berth;
 use mlt_page::Page;
+use mlt_tx::Transaction;
 use mlt_types::{PageNo, TxId};
 use std::alloc::{AllocError, Global};
 
-/// A place for one open transaction, up to its end. Then it is free for another.
+/// A slot for one open transaction, up to its end. Then it is free for another, with its memory. The transaction stays where it
+/// is, however the table around it moves: with room for two pages it is large.
 #[derive(Drop)]
 pub(crate) struct TxSlot {
     pub tx: TxId,
     pub is_free: bool,
-    pub berth: Berth,
+    pub transaction: Box<Transaction>,
 }
 
 impl TxSlot {
@@ -25,11 +26,10 @@ impl TxSlot {
     pub fn new(alloc: Global, tx: TxId) -> Result<TxSlot, AllocError>
         ensures { IfOk result (BeginsInSlot tx) }
     {
-        let berth = Berth::new(alloc, tx)?;
         Ok(TxSlot {
             tx,
             is_free: false,
-            berth,
+            transaction: Box::new(alloc, Transaction::begin(alloc, tx))?,
         })
     }
 
@@ -39,20 +39,20 @@ impl TxSlot {
     {
         self.tx = tx;
         self.is_free = false;
-        self.berth.restart(alloc, tx);
+        self.transaction.restart(alloc, tx);
     }
 
     // The first image of a page that who lies here keeps, if one does.
     fn first_image(&self, page: PageNo) -> Option<&Option<Page>>
         ensures kept { IfSome result (λ first. (is_free self.now ≡ false)
-            × (image_of self.now.berth.subtx.images page ≡ Some first.now)) }
+            × (image_of self.now.transaction.value.subtx.images page ≡ Some first.now)) }
         ensures none { IfNone result (is_free self.now ≡ false
-            → image_of self.now.berth.subtx.images page ≡ None) }
+            → image_of self.now.transaction.value.subtx.images page ≡ None) }
     {
         if self.is_free {
             return None;
         }
-        self.berth.first_image(page)
+        self.transaction.subtx.first_image(page)
     }
 
     // Whether the transaction of a number lies here.

@@ -1,6 +1,5 @@
 -- What an operation leaves at its bucket
 use Rattle.std.proofs.Common.{◌≡◌, ℕ, ◌+◌, Option, None, Some, refl, sym, ap, subst, ◌∙◌, inl, inr}
-use Rattle.std.specs.FinMap as map
 use Rattle.mlt_types.specs.declared.mode.Mode.{Mode}
 use Rattle.mlt_types.specs.declared.mode.Mode.TheVariants.{Exclusive}
 use Rattle.mlt_page.specs.declared.page.Page.{Page}
@@ -27,7 +26,6 @@ use Rattle.mlt_hash.specs.declared.pass.Phase.{Phase}
 use Rattle.mlt_hash.specs.declared.pass.Phase.TheVariants as at
 use Rattle.mlt_hash.specs.declared.answer.WalkAnswer.TheVariants as answer
 use Rattle.mlt_hash.specs.declared.pass.Pass.TheVariants as pass
-use Rattle.mlt_hash.proofs.Laws.{at_start, found_there}
 use Rattle.mlt_hash.proofs.Passed.{read_of}
 use Rattle.mlt_hash.proofs.Standings.{found_still}
 use Rattle.mlt_types.specs.declared.refusal.Refusal.{Refusal}
@@ -40,8 +38,10 @@ use Rattle.mlt_tx_operation.specs.AtBucket.{BeginsAgain, FindsNoRoom, Finishes, 
 use Rattle.mlt_tx_operation.specs.Walking.{FitsPhase, HasPerformed, IsToAdd, IsTold, WalkingFields}
 use Rattle.mlt_tx_two_records.specs.Performing.{AsksToAdd}
 use Rattle.mlt_tx_two_records.specs.AtWideBuckets.{IsMade, OfAddition}
-use Rattle.mlt_tx_two_records.proofs.RollingBack.{nothing_held}
 use Rattle.mlt_tx_operation.specs.Performing.{TellsOfDecision}
+use Rattle.mlt_tx_two_records.proofs.RollingBack.{starts_again}
+use Rattle.mlt_tx_two_records.proofs.WideOwn.{absent_at}
+use Rattle.mlt_tx_two_records.proofs.WideSize.{found_clean}
 use Rattle.mlt_tx_operation.proofs.Deciding.{changes_exclusively, never_revives}
 
 -- what was decided on locks the bucket exclusively
@@ -97,12 +97,6 @@ told_finishes basis m before after found reply may is same =
     } in
     subst (λ (o : WalkingFields). Finishes (one_key basis) m m before o) (sym same) finishes
 
--- what the bucket had is what the clean pages have
-found_clean : (phase : Phase) (basis : Basis) (walk : WalkFields) (view : View) (found : Option ℕ) (clean : ℕ → Option Page)
-    → HasFound phase found → Stands phase (one_key basis) walk view → Agrees view.seen clean → look_up basis.bits clean basis.root walk.key ≡ found
-found_clean (at.AtBucket bucket depth f) basis walk view found clean is stands agree = found_there (one_key basis) walk view bucket depth f clean stands agree ∙ is
-found_clean other basis walk view found clean is stands agree = absurd is
-
 -- a changed walk has read what it found
 changed_read : (basis : Basis) (walk : WalkFields) (view : View) (bucket : ℕ) (done : Change) (found : Option ℕ) (clean : ℕ → Option Page)
     → IsChanged (one_key basis) walk view bucket done → Agrees view.seen clean → look_up basis.bits clean basis.root walk.key ≡ found → HasRead (one_key basis) walk.key view found
@@ -147,10 +141,6 @@ change_finishes basis old new before after found reply change may is leaves writ
     }
 
 -- nothing was found where a record is to be added
-absent_at : (p : Phase) (found : Option ℕ) → HasFound p found → found ≡ None → HasFound p None
-absent_at (at.AtBucket bucket depth f) found is none = is ∙ none
-absent_at other found is none = absurd is
-
 pub asks_to_add : (request : Request) (found : Option ℕ) (reply : ObjReply) (change : RecChange) (Is : ℕ → Type 0) → decision request found ≡ (reply, Some change)
     → CanChange (Some change) found → OfAddition change Is → (value : ℕ) × AsksToAdd request value
 asks_to_add request found reply (Add value) Is is can of = (value, (reply, subst (λ (f : Option ℕ). decision request f ≡ (reply, Some (Add value))) can is))
@@ -158,7 +148,7 @@ asks_to_add request found reply other Is is can of = absurd of
 
 pub absent_to_add : (basis : Basis) (m : Moment) (o : WalkingFields) (found : Option ℕ) (change : RecChange) (Is : ℕ → Type 0) → MayDecide (one_key basis) m o found
     → CanChange (Some change) found → OfAddition change Is → HasFound o.walk.phase None
-absent_to_add basis m o found (Add value) Is may can of = absent_at o.walk.phase found may.at_bucket can
+absent_to_add basis m o found (Add value) Is may can of = (absent_at o.walk.phase found may.at_bucket can).1
 absent_to_add basis m o found other Is may can of = absurd of
 
 -- an addition that lacks room is to be split for, in a later pass
@@ -181,7 +171,7 @@ splits_for basis new before after (Add value) found reply may is can needs not r
         fits = subst (λ (p : Phase). FitsPhase p (one_key basis) after (view_of new)) (sym adding.1) to_add;
       };
       later = later;
-      absent = absent_at before.walk.phase found may.at_bucket can;
+      absent = (absent_at before.walk.phase found may.at_bucket can).1;
       value = value;
       needs = needs;
     }
@@ -213,7 +203,7 @@ begins_again basis old new before after found full may absent adds back restarts
       operates = record {
         alone = ap size_key_of request ∙ may.alone;
         target = (λ i. (key i, mode i)) ∙ may.target ∙ ap target_of (sym request);
-        stands = subst (λ (p : Phase). Stands p (one_key basis) after.walk (view_of new)) (sym phase) (at_start new (nothing_held old new back), refl);
+        stands = subst (λ (p : Phase). Stands p (one_key basis) after.walk (view_of new)) (sym phase) (starts_again old new back, refl);
         fits = subst (λ (p : Phase). FitsPhase p (one_key basis) after (view_of new)) (sym phase) (same ∙ may.untold);
       };
       absent = absent;
@@ -241,7 +231,7 @@ pub finds_no_room : (basis : Basis) (old new : Moment) (before : WalkingFields) 
 finds_no_room basis old new before (Add value) found reply after may is can none back = record {
   back = back;
   later = none.later;
-  absent = absent_at before.walk.phase found may.at_bucket can;
+  absent = (absent_at before.walk.phase found may.at_bucket can).1;
   adds = (value, (reply, subst (λ (f : Option ℕ). decision before.request f ≡ (reply, Some (Add value))) can is));
   walk = after;
   none = none;

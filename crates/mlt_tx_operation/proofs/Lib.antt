@@ -1,6 +1,5 @@
 pub mod AtBucket
 pub mod Deciding
-pub mod Depths
 pub mod Doubles
 pub mod Going
 pub mod MostSteps
@@ -8,6 +7,5 @@ pub mod Operations
 pub mod Performing
 pub mod Ready
 pub mod Telling
-pub mod Turns
 pub mod Free
 pub mod Passing

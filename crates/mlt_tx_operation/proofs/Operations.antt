@@ -111,13 +111,6 @@ may_go_on basis m request double may = record {
 
 -- what a walk's phase says of a reply does not name who is open
 fits_for : (p : Phase) (basis : Basis) (opens : set.FinSet nat_cmp) (o : WalkingFields) (view : View) → FitsPhase p basis o view → FitsPhase p (record basis { opens = opens }) o view
-fits_for at.Start basis opens o view fits = fits
-fits_for (at.Headed dir row depth) basis opens o view fits = fits
-fits_for (at.Placed bucket depth) basis opens o view fits = fits
-fits_for (at.AtBucket bucket depth found) basis opens o view fits = fits
-fits_for (at.Full next) basis opens o view fits = fits
-fits_for (at.Adding value bucket room_depth unsplit) basis opens o view fits = fits
-fits_for (at.Splitting value room_depth) basis opens o view fits = fits
 fits_for (at.Changed bucket done) basis opens o view fits = record {
   found = fits.found;
   reply = fits.reply;
@@ -127,6 +120,7 @@ fits_for (at.Changed bucket done) basis opens o view fits = record {
   asked = fits.asked;
   performs = fits.performs;
 }
+fits_for other basis opens o view fits = fits
 
 -- Whose ghosts are kept: on the pages that are held no more than before, and its own.
 pub record KeepsFewer (basis : Basis) (fewer : set.FinSet nat_cmp) (view : View) (clean : FilePages) : Type 0 where

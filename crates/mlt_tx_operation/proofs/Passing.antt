@@ -135,7 +135,7 @@ module _ (basis : Basis) (m : Moment) (op : ObjOp) (free : NobodyHolds m.locks) 
       may_start.walks.stands.0 refl reads_header refl refl refl refl refl
 
   steps_header : StepsOn (one_key basis) m with_header (on_one on_start) (on_one on_headed)
-  steps_header = goes_on basis m with_header on_start on_headed may_start leaves_header (goes_header, omega arith) refl refl
+  steps_header = goes_on basis m with_header on_start on_headed may_start leaves_header (goes_header, omega arith) refl refl refl
 
   may_headed : MayWalkOn (one_key basis) with_header on_headed
   may_headed = may_again basis m with_header on_start on_headed may_start leaves_header steps_header op refl
@@ -169,7 +169,7 @@ module _ (basis : Basis) (m : Moment) (op : ObjOp) (free : NobodyHolds m.locks) 
       reads_directory (sym path.at) refl refl
 
   steps_directory : StepsOn (one_key basis) with_header with_directory (on_one on_headed) (on_one on_placed)
-  steps_directory = goes_on basis with_header with_directory on_headed on_placed may_headed leaves_directory (goes_directory, omega arith) refl refl
+  steps_directory = goes_on basis with_header with_directory on_headed on_placed may_headed leaves_directory (goes_directory, omega arith) refl refl refl
 
   may_placed : MayWalkOn (one_key basis) with_directory on_placed
   may_placed = may_again basis with_header with_directory on_headed on_placed may_headed leaves_directory steps_directory op refl

@@ -9,11 +9,7 @@ use Rattle.mlt_hash.specs.declared.pass.Phase.TheVariants as at
 use Rattle.mlt_tx_operation.specs.Walking.{FitsPhase, WalkingFields}
 
 pub under_way : (p : Phase) (basis : Basis) (o : WalkingFields) (view : View) → FitsPhase p basis o view → o.reply ≡ None → IsUnderWay p
-under_way at.Start basis o view fits none = tt
-under_way (at.Headed dir row depth) basis o view fits none = tt
-under_way (at.Placed bucket depth) basis o view fits none = tt
 under_way (at.AtBucket bucket depth found) basis o view fits none = none-some fits.0 (sym none ∙ fits.1)
 under_way (at.Full next) basis o view fits none = fits
-under_way (at.Adding value bucket depth unsplit) basis o view fits none = tt
-under_way (at.Splitting value depth) basis o view fits none = tt
 under_way (at.Changed bucket done) basis o view fits none = none-some fits.reply (sym none ∙ fits.told)
+under_way other basis o view fits none = tt

@@ -1,12 +1,9 @@
 //! What an operation on one record is told, and what it changes in place.
 
-ghost use Rattle.std.specs.Prelude.{◌≡◌, ℕ, IfSome, IsSome, List};
+ghost use Rattle.std.specs.Prelude.{◌≡◌, IfSome, IsSome};
 ghost use Rattle.mlt_object_base.specs.declared.request.Request.TheVariants.{Do};
 ghost use Rattle.mlt_hash.specs.Walks.{basis_in};
 ghost use Rattle.mlt_hash.specs.declared.pass.Change.TheVariants as change;
-ghost use Rattle.mlt_hash_form.specs.File.{IsPath};
-ghost use Rattle.mlt_page.specs.Values.{HeadFields};
-ghost use Rattle.mlt_page_store.specs.Stores.{page_at};
 ghost use Rattle.mlt_hash_access.specs.Moments.{moment};
 ghost use Rattle.mlt_tx_operation.specs.Operating.{MayOperate, started_for};
 ghost use Rattle.mlt_tx_two_records.specs.Performing.{Performs};
@@ -14,14 +11,13 @@ ghost use Rattle.mlt_tx_operation.specs.AtOnce.{CanWrite, NobodyHolds, PassesAtO
 
 use mlt_hash::Setting;
 use mlt_hash_access::LockedStore;
-use mlt_hash_form::{Place, Root, value_in};
+use mlt_hash_form::{home_bucket, value_in};
 use mlt_hash_record::{SlotWrite, update};
 use mlt_object_base::{RecChange, Request};
 use mlt_object_kinds::{ObjOp, ObjReply};
-use mlt_page::{Bucket, Page};
 use mlt_page_store::Store;
 use mlt_page_subtx::Subtx;
-use mlt_types::{Key, PageNo, Pseudo, Value};
+use mlt_types::{Pseudo, Value};
 
 /// What an operation on one record is told, and the slot that it sets, if it changes its record.
 #[derive(Clone, Copy, Debug, PartialEq, Eq)]
@@ -64,10 +60,10 @@ pub fn plan_at_once<P: Pseudo>(
         return None;
     }
     let (key, _) = request.target();
-    let Some(place) = bucket_of(setting.root, key, &pages.store) else {
+    let Some(home) = home_bucket(&pages.store, setting.root, key) else {
         return None;
     };
-    let (number, bucket) = place;
+    let (number, bucket) = home;
     let found = value_in(bucket, key);
     let (reply, decided) = request.decide(found);
     let Some(change) = decided else {
@@ -79,33 +75,6 @@ pub fn plan_at_once<P: Pseudo>(
         reply,
         write: Some(write),
     })
-}
-
-/// The bucket that the key leads to, and its page.
-fn bucket_of<'a, P: Pseudo>(
-    root: &Root<P>,
-    key: Key,
-    store: &'a Store,
-) -> Option<(PageNo, &'a Bucket)>
-    ensures path { let x = P.bits_of root.now.pseudo key in IfSome result (λ at.
-        (header : HeadFields) × (dir : List ℕ)
-        × IsPath (page_at store.now.pages) root.now.page x header dir at.0 at.1.now) }
-{
-    let Some(Page::Head(header)) = store.read(root.page) else {
-        return None;
-    };
-    if header.depth > 16 {
-        return None;
-    }
-    let place = Place::of(root.pseudo.bits(&key), header.depth);
-    let Some(Page::Dir(dir)) = store.read(header.dir(place.dir)) else {
-        return None;
-    };
-    let number = dir.entry(place.entry);
-    let Some(Page::Bucket(bucket)) = store.read(number) else {
-        return None;
-    };
-    Some((number, bucket))
 }
 
 /// The value that a change gives to a record which has this one, if it gives one.

@@ -6,12 +6,11 @@ use Rattle.mlt_object_base.specs.declared.request.Request.{Request}
 use Rattle.mlt_hash_form.specs.File.{header_of}
 use Rattle.mlt_hash_access.specs.Moments.{Moment}
 use Rattle.mlt_hash_access.specs.Views.{HasWritten, View, view_of}
-use Rattle.mlt_hash_access.proofs.Since.{nothing_written, read_over_writes}
+use Rattle.mlt_hash_access.proofs.Since.{nothing_written}
 use Rattle.mlt_hash.specs.Changes.{page_of}
 use Rattle.mlt_hash.specs.Steps.{steps_to_bucket}
 use Rattle.mlt_hash.specs.StepsLeft.{bucket_depth, directory_depth, steps_of_splits, steps_to_put, steps_to_put_at}
 use Rattle.mlt_hash.specs.Walks.{Basis, IsAdding, Stands, WalkFields, basis_after, one_key, view_for}
-use Rattle.mlt_hash.specs.declared.pass.Pass.{Pass}
 use Rattle.mlt_hash.specs.declared.pass.Pass.TheVariants as pass
 use Rattle.mlt_hash.specs.declared.pass.Phase.{Phase}
 use Rattle.mlt_hash.specs.declared.pass.Phase.TheVariants as at
@@ -25,6 +24,8 @@ use Rattle.mlt_tx_two_records.specs.Doubles.{most_to_change, most_to_put, steps_
 use Rattle.mlt_tx_two_records.specs.WalkSteps.{BeginsToSplit, GoesNearer}
 use Rattle.mlt_tx_two_records.specs.WidePass.{HasChangedNow, WalksOn}
 use Rattle.mlt_tx_two_records.proofs.SplitSteps.{few_splits}
+use Rattle.mlt_tx_two_records.proofs.WideDepths.{reads_alike}
+use Rattle.mlt_tx_two_records.proofs.WideOwn.{not_first}
 
 -- ---- one walk
 
@@ -59,17 +60,13 @@ nearer root old new before after s =
     ]
 
 same_depth : (basis : Basis) (m : Moment) → HasWritten basis.before.written (view_of m) → directory_depth (view_for basis m) basis.root ≡ directory_depth (view_of m) basis.root
-same_depth basis m written =
-    ap (λ p. (header_of p).depth) (read_over_writes (basis.before.written basis.root) ((view_of m).own basis.root) ((view_of m).seen basis.root) (λ some. (written basis.root some).1))
-
-not_first : (p : Pass) → p ≡ pass.Wide → p ≡ pass.First → ⊥
-not_first p wide first = cc
+same_depth basis m written = ap (λ p. (header_of p).depth) (reads_alike basis m written basis.root)
 
 -- at a full bucket that it is to split: of the wide pass to either key
 splits : (basis : Basis) (old : View) (new : Moment) (before after : WalkFields) → basis.max_depth ≤ 16 → HasWritten basis.before.written (view_of new) → after.pass ≡ pass.Wide → BeginsToSplit basis new before after
     → most_to_change basis.root after (view_of new) < most_to_change basis.root before old
 splits basis old new before after small written wide s =
-    let adding = s.needs.later (λ (first : s.walk.pass ≡ pass.First). not_first after.pass wide (s.needs.same.pass ∙ first)) in
+    let adding = s.needs.later (λ (first : s.walk.pass ≡ pass.First). not_first after wide (s.needs.same.pass ∙ first)) in
     let phase : Phase = at.Adding s.value (page_of s.walk.phase) adding.0 true in
     let stands : IsAdding basis after (view_for basis new) (page_of s.walk.phase) adding.0 true = subst (λ (p : Phase). Stands p basis after (view_for basis new)) adding.1 s.needs.stands in
     let l = bucket_depth (view_of new) (page_of s.walk.phase) in

@@ -18,7 +18,7 @@ pub rolls_back : (m old new : Moment) → old ≡ m → new.store ≡ record old
 rolls_back m old new stays store locks running =
     subst (λ (n : Moment). IsRolledBack n new) stays (record { locks = locks; running = running; store = store })
 
-pub nothing_held : (old new : Moment) → IsRolledBack old new → pages_of new.locks new.running.tx ≡ map.empty
+nothing_held : (old new : Moment) → IsRolledBack old new → pages_of new.locks new.running.tx ≡ map.empty
 nothing_held old new back =
     ap (λ (l : LockTable). pages_of l new.running.tx) back.locks ∙ ap (λ (r : Running). pages_of (released old.locks old.running.tx) r.tx) back.running
     ∙ grind (arith, nat_tests, pages_of-released old.locks old.running.tx old.running.tx)

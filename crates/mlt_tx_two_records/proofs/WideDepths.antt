@@ -93,12 +93,7 @@ module _ (basis : Basis) (old new : Moment) (before after : WalkFields) where
     | inl goes ↦ goes_on value room_depth is goes
     | inr close ↦ closes clean agree form value room_depth is here close
   ]
-  down_over clean agree form at.Start is here putting told = absurd putting
-  down_over clean agree form (at.Headed dir row depth) is here putting told = absurd putting
-  down_over clean agree form (at.Placed bucket depth) is here putting told = absurd putting
-  down_over clean agree form (at.AtBucket bucket depth found) is here putting told = absurd putting
-  down_over clean agree form (at.Full next) is here putting told = absurd putting
-  down_over clean agree form (at.Changed bucket done) is here putting told = absurd putting
+  down_over clean agree form other is here putting told = absurd putting
 
 -- **A step of the splits of a pass leaves the depths, or closes a split.**
 pub goes_down : (basis : Basis) (old new : Moment) (before after : WalkFields) → HasWritten basis.before.written (view_of old) → HasWritten basis.before.written (view_of new)

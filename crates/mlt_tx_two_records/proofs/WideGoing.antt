@@ -40,17 +40,17 @@ pub record GoesFurther (basis : Basis) (old new : Moment) (before after : WalkFi
   pub stands : IsStanding basis after (view_for basis new)
 
 -- the phase of a walk that adds or splits
-abbrev pub IsAddingPhase : Phase → ℕ → Type 0
+abbrev IsAddingPhase : Phase → ℕ → Type 0
 IsAddingPhase (at.Adding v bucket depth unsplit) value = v ≡ value
 IsAddingPhase (at.Splitting v depth) value = v ≡ value
 IsAddingPhase other value = ⊥
 
-pub none_to_bucket : (p : Phase) (value : ℕ) → IsAddingPhase p value → steps_to_bucket p ≡ 0
+none_to_bucket : (p : Phase) (value : ℕ) → IsAddingPhase p value → steps_to_bucket p ≡ 0
 none_to_bucket (at.Adding v bucket depth unsplit) value is = refl
 none_to_bucket (at.Splitting v depth) value is = refl
 none_to_bucket other value is = absurd is
 
-pub is_putting : (p : Phase) (value : ℕ) → IsAddingPhase p value → IsPutting p
+is_putting : (p : Phase) (value : ℕ) → IsAddingPhase p value → IsPutting p
 is_putting (at.Adding v bucket depth unsplit) value is = tt
 is_putting (at.Splitting v depth) value is = tt
 is_putting other value is = absurd is

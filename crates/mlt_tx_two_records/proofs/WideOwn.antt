@@ -21,7 +21,8 @@ use Rattle.mlt_hash.specs.declared.pass.Change.TheVariants as change
 use Rattle.mlt_hash.specs.declared.pass.Pass.TheVariants as pass
 use Rattle.mlt_hash.specs.declared.pass.Phase.{Phase}
 use Rattle.mlt_hash.specs.declared.pass.Phase.TheVariants as at
-use Rattle.mlt_tx_two_records.specs.declared.wide.OwnAnswer.TheVariants as own
+use Rattle.mlt_tx_two_records.specs.declared.answer.DoubleAnswer.TheVariants as told
+use Rattle.mlt_tx_two_records.specs.declared.double.Leg.TheVariants as leg
 use Rattle.mlt_tx_two_records.specs.AtWideBuckets.{HasJustPut, IsToSplit, MayActOnOwn, MayWalkToOwn, TellsAtOwn}
 use Rattle.mlt_tx_two_records.specs.FirstPass.{HasKeys}
 use Rattle.mlt_tx_two_records.specs.Performing.{Performs}
@@ -130,6 +131,6 @@ module _ (basis : Basis) (m : Moment) (request : Request) (walk : WalkFields) (f
 
     -- **or there is no room at any depth.**
     pub no_room : (back : Moment) → new ≡ m → (reply : ObjReply) (value : ℕ) → decision request found ≡ (reply, Some (Add value)) → (reason : Refusal) → TellsOfAddition (one_key basis) new walk after value (answer.Refused reason) → IsRolledBack m back
-        → TellsAtOwn basis m back request walk after (own.Refused reason)
+        → TellsAtOwn basis m back request walk leg.Own after (told.Refused reason)
     no_room back stays reply value is refusal.NoRoom none rolled = (rolled, record { absent = (absent reply (Add value) is).1; after = after; none = subst (λ (n : Moment). HasNoRoom (one_key basis) n walk after) stays none })
     no_room back stays reply value is other lacks rolled = absurd (lacks.1 refl)

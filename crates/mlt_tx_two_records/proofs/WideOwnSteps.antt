@@ -18,13 +18,15 @@ use Rattle.mlt_hash.specs.declared.answer.WalkAnswer.TheVariants as answer
 use Rattle.mlt_hash.specs.declared.pass.Change.TheVariants as change
 use Rattle.mlt_hash.specs.declared.pass.Phase.{Phase}
 use Rattle.mlt_tx_two_records.specs.declared.double.Double.TheVariants.{Wide}
+use Rattle.mlt_tx_two_records.specs.declared.answer.DoubleAnswer.{DoubleAnswer}
+use Rattle.mlt_tx_two_records.specs.declared.answer.DoubleAnswer.TheVariants as told
+use Rattle.mlt_tx_two_records.specs.declared.double.Leg.{Leg}
 use Rattle.mlt_tx_two_records.specs.declared.double.Leg.TheVariants as leg
-use Rattle.mlt_tx_two_records.specs.declared.wide.OwnAnswer.{OwnAnswer}
-use Rattle.mlt_tx_two_records.specs.declared.wide.OwnAnswer.TheVariants as own
+use Rattle.mlt_tx_two_records.specs.Answers.{TellsOfDouble}
 use Rattle.mlt_tx_two_records.specs.AtWideBuckets.{HasJustPut, MayActOnOwn, MayWalkToOwn, TellsAtOwn}
 use Rattle.mlt_tx_two_records.specs.Doubles.{MayGoOn}
 use Rattle.mlt_tx_two_records.specs.WalkSteps.{ReachesBucket}
-use Rattle.mlt_tx_two_records.specs.WidePass.{CauseAtOwn, IsGoingToSize, OwnRefused, PutsOwn, PutsThen, TellsOfOwn}
+use Rattle.mlt_tx_two_records.specs.WidePass.{CauseAtOwn, IsGoingToSize, OwnRefused, PutsOwn, PutsThen}
 use Rattle.mlt_tx_two_records.proofs.WideGoing.{goes_further, puts_behind, puts_still}
 use Rattle.mlt_tx_two_records.proofs.WideOwn.{not_first, same_keys, still_wide}
 use Rattle.mlt_tx_two_records.proofs.WideTelling.{IsWhy, found_by_path, reaches, was_last}
@@ -57,11 +59,9 @@ module _ (basis : Basis) (old : Moment) (request : Request) (before : WalkFields
     }
 
     -- **It goes on,**
-    pub goes_to_own : TellsAt before.phase (one_key basis) old mid before walk answer.Going → TellsOfOwn basis old mid request before walk own.Going
+    pub goes_to_own : TellsAt before.phase (one_key basis) old mid before walk answer.Going → TellsOfDouble basis old mid (Wide leg.Own before) (Wide leg.Own walk) request told.Going
     goes_to_own tells =
         let further = goes_further (one_key basis) old mid before walk may_walk leaves tells in (
-          turn,
-          inl further.nearer,
           record {
             adds = may.stands.adds;
             size = may.stands.size;
@@ -71,6 +71,7 @@ module _ (basis : Basis) (old : Moment) (request : Request) (before : WalkFields
             stands = further.stands;
             puts = puts_still before.phase (one_key basis) old mid before walk (λ v. (r : ObjReply) × PutsOwn request r v) tells may.stands.puts;
           },
+          (turn, inl further.nearer),
         )
 
     -- **is refused,**
@@ -99,10 +100,10 @@ module _ (basis : Basis) (old : Moment) (request : Request) (before : WalkFields
             performs = inl refl;
           }
 
-      pub goes_over_behind : (after : WalkFields) → IsGoingToSize basis request after (view_of mid) → steps_to_bucket after.phase ≡ 2 → TellsOfOwn basis old mid request before after own.Over
+      pub goes_over_behind : (after : WalkFields) → IsGoingToSize basis request after (view_of mid) → steps_to_bucket after.phase ≡ 2 → TellsOfDouble basis old mid (Wide leg.Own before) (Wide leg.Size after) request told.Going
       goes_over_behind after goes steps =
           let put = puts_behind before.phase (one_key basis) old mid before walk refl tells in
-          (turn, record { size = goes; changed = inr (put.value, put.bucket, put.room_depth, put.was); steps = steps })
+          (goes, (turn, record { size = goes; changed = inr (put.value, put.bucket, put.room_depth, put.was); steps = steps }))
 
     -- **or has found its key.**
     module _ (found : Option ℕ) (locks : LocksAtMost old mid (page_of walk.phase)) (tells : TellsAt before.phase (one_key basis) old mid before walk (answer.Found found)) where
@@ -118,25 +119,30 @@ module _ (basis : Basis) (old : Moment) (request : Request) (before : WalkFields
       reaches_now : (new : Moment) → new ≡ mid → HasFound walk.phase None → ReachesBucket (one_key basis) new before walk
       reaches_now new stays none = subst (λ (m : Moment). ReachesBucket (one_key basis) m before walk) (sym stays) (reaches (one_key basis) mid before walk path.0 none)
 
-      pub tells_there : (new : Moment) (after : WalkFields) (told : OwnAnswer) → TellsAtOwn basis mid new request walk after told → TellsOfOwn basis old new request before after told
-      tells_there new after own.Going (splits, goes) = (
-        subst (λ (m : Moment). TakesTurn old m) (sym splits.stays) turn,
-        inr (record {
-          walk = walk;
-          reaches = reaches_now new splits.stays splits.absent;
-          value = splits.value;
-          needs = splits.needs;
-          at_bucket = ap steps_to_bucket (splits.needs.later (not_first walk (path.0.same.pass ∙ may.stands.to_key.wide))).1;
-        }),
+      pub tells_there : (new : Moment) (next : Leg) (after : WalkFields) (answer : DoubleAnswer) → TellsAtOwn basis mid new request walk next after answer → TellsOfDouble basis old new (Wide leg.Own before) (Wide next after) request answer
+      tells_there new leg.Own after told.Going (splits, goes) = (
         goes,
+        (
+          subst (λ (m : Moment). TakesTurn old m) (sym splits.stays) turn,
+          inr (record {
+            walk = walk;
+            reaches = reaches_now new splits.stays splits.absent;
+            value = splits.value;
+            needs = splits.needs;
+            at_bucket = ap steps_to_bucket (splits.needs.later (not_first walk (path.0.same.pass ∙ may.stands.to_key.wide))).1;
+          }),
+        ),
       )
-      tells_there new after own.Over (writes, goes, steps) = (
-        lock_and_write_turn (one_key basis) old mid new before (page_of walk.phase) may_walk locks writes.writes,
-        record { size = goes; changed = inl last; steps = steps },
+      tells_there new leg.Size after told.Going (writes, goes, steps) = (
+        goes,
+        (
+          lock_and_write_turn (one_key basis) old mid new before (page_of walk.phase) may_walk locks writes.writes,
+          record { size = goes; changed = inl last; steps = steps },
+        ),
       )
-      tells_there new after (own.Told reply) (stays, present) = (subst (λ (m : Moment). TakesTurn old m) (sym stays) turn, last, present)
-      tells_there new after (own.Refused refusal.NoRoom) (back, none) = record {
+      tells_there new leg.Own after (told.Told reply) (stays, present) = (subst (λ (m : Moment). TakesTurn old m) (sym stays) turn, last, present)
+      tells_there new leg.Own after (told.Refused refusal.NoRoom) (back, none) = record {
         back = record { mid = mid; turn = turn; back = back };
         cause = inl (record { walk = walk; after = none.after; reaches = reaches (one_key basis) mid before walk path.0 none.absent; none = none.none });
       }
-      tells_there new after other never = absurd never
+      tells_there new other after other' never = absurd never

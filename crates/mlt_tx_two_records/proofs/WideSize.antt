@@ -63,7 +63,7 @@ pub size_wide : (before after : WalkFields) → IsWideTo before before.key → I
 size_wide before after is same = record { key_is = refl; wide = same.pass ∙ is.wide; mode = same.mode ∙ is.mode }
 
 -- what the bucket had is what the clean pages have
-found_clean : (phase : Phase) (basis : Basis) (walk : WalkFields) (view : View) (found : Option ℕ) (clean : ℕ → Option Page) → HasFound phase found → Stands phase basis walk view → Agrees view.seen clean → look_up basis.bits clean basis.root walk.key ≡ found
+pub found_clean : (phase : Phase) (basis : Basis) (walk : WalkFields) (view : View) (found : Option ℕ) (clean : ℕ → Option Page) → HasFound phase found → Stands phase basis walk view → Agrees view.seen clean → look_up basis.bits clean basis.root walk.key ≡ found
 found_clean (at.AtBucket bucket depth f) basis walk view found clean is stands agree = found_there basis walk view bucket depth f clean stands agree ∙ is
 found_clean other basis walk view found clean is stands agree = absurd is
 

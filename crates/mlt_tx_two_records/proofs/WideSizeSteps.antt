@@ -30,9 +30,10 @@ use Rattle.mlt_tx_two_records.specs.declared.answer.DoubleAnswer.{DoubleAnswer}
 use Rattle.mlt_tx_two_records.specs.declared.answer.DoubleAnswer.TheVariants as told
 use Rattle.mlt_tx_two_records.specs.declared.double.Double.TheVariants.{Wide}
 use Rattle.mlt_tx_two_records.specs.declared.double.Leg.TheVariants as leg
+use Rattle.mlt_tx_two_records.specs.Answers.{TellsOfDouble}
 use Rattle.mlt_tx_two_records.specs.AtWideBuckets.{MayActOnSize, MayStepToSize, RefusesAt, TellsAtSize}
 use Rattle.mlt_tx_two_records.specs.Doubles.{MayGoOn}
-use Rattle.mlt_tx_two_records.specs.WidePass.{CauseAtSize, HasPutOwn, PutsSize, PutsThen, SizeRefused, SizeWalksOn, TellsOfSize}
+use Rattle.mlt_tx_two_records.specs.WidePass.{CauseAtSize, HasPutOwn, PutsSize, PutsThen, SizeRefused, SizeWalksOn}
 use Rattle.mlt_tx_two_records.proofs.WideGoing.{goes_further, puts_behind, puts_still}
 use Rattle.mlt_tx_two_records.proofs.WideOwn.{not_first}
 use Rattle.mlt_tx_two_records.proofs.WideOwners.{agreed_then, form_since}
@@ -101,7 +102,7 @@ module _ (basis : Basis) (old : Moment) (request : Request) (before : WalkFields
   may_walk = ready.may.walks
 
   -- **It waits,**
-  pub waits_there : (new : Moment) (after : WalkFields) (page by : ℕ) → TellsAt before.phase on old new before after (answer.Waiting page by) → TellsOfSize basis old new request before after (told.Waiting page by)
+  pub waits_there : (new : Moment) (after : WalkFields) (page by : ℕ) → TellsAt before.phase on old new before after (answer.Waiting page by) → TellsOfDouble basis old new (Wide leg.Size before) (Wide leg.Size after) request (told.Waiting page by)
   waits_there new after page by tells = record { since = since; put = ready.may.put; waits = waits on old new before after page by tells }
 
   module _ (mid : Moment) (walk : WalkFields) (leaves : Leaves old mid) where
@@ -112,11 +113,9 @@ module _ (basis : Basis) (old : Moment) (request : Request) (before : WalkFields
     put_now = put_still basis request since old mid may_walk.may leaves.touches ready.may.put
 
     -- **goes on,**
-    pub goes_to_size : TellsAt before.phase on old mid before walk answer.Going → TellsOfSize basis old mid request before walk told.Going
+    pub goes_to_size : TellsAt before.phase on old mid before walk answer.Going → TellsOfDouble basis old mid (Wide leg.Size before) (Wide leg.Size walk) request told.Going
     goes_to_size tells =
         let further = goes_further on old mid before walk may_walk leaves tells in (
-          turn,
-          record { since = since; put = put_now; walks = inl further.nearer },
           record {
             adds = ready.may.adds;
             since = since;
@@ -127,6 +126,7 @@ module _ (basis : Basis) (old : Moment) (request : Request) (before : WalkFields
             stands = further.stands;
             puts = puts_still before.phase on old mid before walk (PutsSize request ready.may.put.reply) tells ready.puts;
           },
+          (turn, record { since = since; put = put_now; walks = inl further.nearer }),
         )
 
     -- **is refused,**
@@ -139,7 +139,7 @@ module _ (basis : Basis) (old : Moment) (request : Request) (before : WalkFields
     is_refused new reason why back = record { back = record { mid = mid; turn = turn; back = back }; since = since; put = ready.may.put; cause = cause_of reason why }
 
     -- **has put the record behind splits,**
-    pub told_behind : (reply : ObjReply) → reply ≡ (decision request None).0 → TellsAt before.phase on old mid before walk answer.Changed → TellsOfSize basis old mid request before walk (told.Told reply)
+    pub told_behind : (reply : ObjReply) → reply ≡ (decision request None).0 → TellsAt before.phase on old mid before walk answer.Changed → TellsOfDouble basis old mid (Wide leg.Size before) (Wide leg.Size walk) request (told.Told reply)
     told_behind reply is tells =
         let put = puts_behind before.phase on old mid before walk refl tells in
         let value_is : PutsSize request ready.may.put.reply put.value = subst (λ (p : Phase). PutsThen p (PutsSize request ready.may.put.reply)) put.was ready.puts in
@@ -192,21 +192,23 @@ module _ (basis : Basis) (old : Moment) (request : Request) (before : WalkFields
       refused_at_bucket refusal.OutOfMemory none = (omega (arith, last), λ lacks. no_page_made before.phase on old before last lacks.makes)
       refused_at_bucket other none = absurd none
 
-      pub tells_there : (new : Moment) (after : WalkFields) (told : DoubleAnswer) → TellsAtSize basis since mid new request walk after told → TellsOfSize basis old new request before after told
+      pub tells_there : (new : Moment) (after : WalkFields) (told : DoubleAnswer) → TellsAtSize basis since mid new request walk after told → TellsOfDouble basis old new (Wide leg.Size before) (Wide leg.Size after) request told
       tells_there new after told.Going (splits, goes) = (
-        subst (λ (m : Moment). TakesTurn old m) (sym splits.stays) turn,
-        subst (λ (m : Moment). SizeWalksOn basis old m request before after) (sym splits.stays) (record {
-          since = since;
-          put = put_now;
-          walks = inr (record {
-            walk = walk;
-            reaches = reaches on mid before walk path.0 splits.absent;
-            value = splits.value;
-            needs = subst (λ (m : Moment). NeedsSplit on m walk after splits.value) splits.stays splits.needs;
-            at_bucket = ap steps_to_bucket (splits.needs.later (not_first walk (path.0.same.pass ∙ ready.may.to_key.wide))).1;
-          });
-        }),
         goes,
+        (
+          subst (λ (m : Moment). TakesTurn old m) (sym splits.stays) turn,
+          subst (λ (m : Moment). SizeWalksOn basis old m request before after) (sym splits.stays) (record {
+            since = since;
+            put = put_now;
+            walks = inr (record {
+              walk = walk;
+              reaches = reaches on mid before walk path.0 splits.absent;
+              value = splits.value;
+              needs = subst (λ (m : Moment). NeedsSplit on m walk after splits.value) splits.stays splits.needs;
+              at_bucket = ap steps_to_bucket (splits.needs.later (not_first walk (path.0.same.pass ∙ ready.may.to_key.wide))).1;
+            });
+          }),
+        ),
       )
       tells_there new after (told.Told reply) (writes, both) = (
         lock_and_write_turn on old mid new before (page_of walk.phase) may_walk locks writes.writes,

@@ -20,8 +20,8 @@ use Rattle.mlt_hash.specs.declared.pass.Change.{Change}
 use Rattle.mlt_hash.specs.declared.pass.Phase.TheVariants as at
 use Rattle.mlt_tx_two_records.specs.declared.answer.DoubleAnswer.{DoubleAnswer}
 use Rattle.mlt_tx_two_records.specs.declared.answer.DoubleAnswer.TheVariants as told
-use Rattle.mlt_tx_two_records.specs.declared.wide.OwnAnswer.{OwnAnswer}
-use Rattle.mlt_tx_two_records.specs.declared.wide.OwnAnswer.TheVariants as own
+use Rattle.mlt_tx_two_records.specs.declared.double.Leg.{Leg}
+use Rattle.mlt_tx_two_records.specs.declared.double.Leg.TheVariants as leg
 use Rattle.mlt_tx_two_records.specs.AtBuckets.{Writes}
 use Rattle.mlt_tx_two_records.specs.FirstPass.{HasKeys}
 use Rattle.mlt_tx_two_records.specs.Performing.{AddsElement, Performs}
@@ -67,19 +67,20 @@ pub record HasNoRoomThere (basis : Basis) (old : Moment) (before : WalkFields) :
   pub after : WalkFields
   pub none : HasNoRoom basis old before after
 
-abbrev pub TellsAtOwn : Basis → Moment → Moment → Request → WalkFields → WalkFields → OwnAnswer
-    → Type 0
-TellsAtOwn basis old new request before after own.Going =
+-- what it tells there, by the leg that follows
+abbrev pub TellsAtOwn : Basis → Moment → Moment → Request → WalkFields → Leg → WalkFields
+    → DoubleAnswer → Type 0
+TellsAtOwn basis old new request before leg.Own after told.Going =
     IsToSplit (one_key basis) old new before after
     × IsGoingToOwn basis request after (view_of new)
-TellsAtOwn basis old new request before after own.Over =
+TellsAtOwn basis old new request before leg.Size after told.Going =
     Writes old new (page_of before.phase) × IsGoingToSize basis request after (view_of new)
     × (steps_to_bucket after.phase ≡ 2)
-TellsAtOwn basis old new request before after (own.Told reply) =
+TellsAtOwn basis old new request before leg.Own after (told.Told reply) =
     (new ≡ old) × HasToldPresent basis request after reply (view_of new)
-TellsAtOwn basis old new request before after (own.Refused refusal.NoRoom) =
+TellsAtOwn basis old new request before leg.Own after (told.Refused refusal.NoRoom) =
     IsRolledBack old new × HasNoRoomThere (one_key basis) old before
-TellsAtOwn basis old new request before after other = ⊥
+TellsAtOwn basis old new request before other after other' = ⊥
 
 -- A walk of a wide pass to the size's key, over what it wrote for the own one, which may go on. What the pass did before is a
 -- parameter here, since the walk goes by it.

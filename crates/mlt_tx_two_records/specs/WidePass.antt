@@ -10,7 +10,7 @@ use Rattle.mlt_object_base.specs.declared.record.RecChange.TheVariants.{Add}
 use Rattle.mlt_object_base.specs.declared.request.Request.{Request}
 use Rattle.mlt_object_base.specs.Requests.{decision, size_decision, target_of}
 use Rattle.mlt_hash_access.specs.Moments.{Moment}
-use Rattle.mlt_hash_access.specs.PageTurns.{TakesTurn, TurnsBack}
+use Rattle.mlt_hash_access.specs.PageTurns.{TurnsBack}
 use Rattle.mlt_hash_access.specs.Views.{HasWritten, View, rebased, view_of}
 use Rattle.mlt_hash.specs.Walks.{Basis, Before, HasRead, IsChanged, IsStanding, SlotsStood, WalkFields, basis_after, before_of, one_key}
 use Rattle.mlt_hash.specs.Splitting.{IsUnderWay}
@@ -19,10 +19,6 @@ use Rattle.mlt_hash.specs.declared.pass.Change.{Change}
 use Rattle.mlt_hash.specs.declared.pass.Pass.TheVariants as pass
 use Rattle.mlt_hash.specs.declared.pass.Phase.{Phase}
 use Rattle.mlt_hash.specs.declared.pass.Phase.TheVariants as at
-use Rattle.mlt_tx_two_records.specs.declared.answer.DoubleAnswer.{DoubleAnswer}
-use Rattle.mlt_tx_two_records.specs.declared.answer.DoubleAnswer.TheVariants as answer
-use Rattle.mlt_tx_two_records.specs.declared.wide.OwnAnswer.{OwnAnswer}
-use Rattle.mlt_tx_two_records.specs.declared.wide.OwnAnswer.TheVariants as own
 use Rattle.mlt_tx_two_records.specs.FirstPass.{HasKeys}
 use Rattle.mlt_tx_two_records.specs.Performing.{AddsElement, Performs}
 use Rattle.mlt_tx_two_records.specs.WalkSteps.{BeginsToSplit, GoesNearer, LacksPage, LacksRoom, WalkWaits}
@@ -198,33 +194,3 @@ pub record GoesOver (basis : Basis) (new : Moment) (request : Request) (before a
   pub size : IsGoingToSize basis request after (view_of new)
   pub changed : HasChangedNow before
   pub steps : steps_to_bucket after.phase ≡ 2
-
--- what a step to the own key tells
-abbrev pub TellsOfOwn : Basis → Moment → Moment → Request → WalkFields → WalkFields → OwnAnswer
-    → Type 0
-TellsOfOwn basis old new request before after own.Going =
-    TakesTurn old new × WalksOn (one_key basis) old new before after
-    × IsGoingToOwn basis request after (view_of new)
-TellsOfOwn basis old new request before after (own.Waiting page by) =
-    WalkWaits (one_key basis) old new before after page by
-TellsOfOwn basis old new request before after own.Over =
-    TakesTurn old new × GoesOver basis new request before after
-TellsOfOwn basis old new request before after (own.Told reply) =
-    TakesTurn old new × (steps_to_bucket before.phase ≡ 1)
-    × HasToldPresent basis request after reply (view_of new)
-TellsOfOwn basis old new request before after (own.Refused reason) =
-    OwnRefused basis old new before reason
-
--- what a step to the size's key tells
-abbrev pub TellsOfSize : Basis → Moment → Moment → Request → WalkFields → WalkFields → DoubleAnswer
-    → Type 0
-TellsOfSize basis old new request before after answer.Going =
-    TakesTurn old new × SizeWalksOn basis old new request before after
-    × IsGoingToSize basis request after (view_of new)
-TellsOfSize basis old new request before after (answer.Waiting page by) =
-    SizeWaits basis old new request before after page by
-TellsOfSize basis old new request before after (answer.Told reply) =
-    TakesTurn old new × HasChangedNow before
-    × HasToldBoth basis request after reply (view_of new)
-TellsOfSize basis old new request before after (answer.Refused reason) =
-    SizeRefused basis old new request before reason

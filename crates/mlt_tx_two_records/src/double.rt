@@ -8,7 +8,7 @@ ghost use Rattle.mlt_tx_two_records.specs.Doubles.{IsFirst, MayGoOn, find_both};
 
 use crate::answer::DoubleAnswer;
 use crate::first::{FirstAnswer, step_first};
-use crate::wide::{OwnAnswer, step_own, step_size};
+use crate::wide::{step_own, step_size};
 use mlt_hash::{Setting, Walk};
 use mlt_hash_access::LockedStore;
 use mlt_hash_pair::Pair;
@@ -98,16 +98,11 @@ impl Double {
                 DoubleAnswer::Told(*reply)
             }
             Double::Wide(leg, walk) => match *leg {
-                Leg::Own => match step_own(walk, request, setting, subtx, pages) {
-                    OwnAnswer::Going => DoubleAnswer::Going,
-                    OwnAnswer::Waiting(page, by) => DoubleAnswer::Waiting(page, by),
-                    OwnAnswer::Over => {
-                        *leg = Leg::Size;
-                        DoubleAnswer::Going
-                    }
-                    OwnAnswer::Told(reply) => DoubleAnswer::Told(reply),
-                    OwnAnswer::Refused(reason) => DoubleAnswer::Refused(reason),
-                },
+                Leg::Own => {
+                    let (next, answer) = step_own(walk, request, setting, subtx, pages);
+                    *leg = next;
+                    answer
+                }
                 Leg::Size => step_size(walk, request, setting, subtx, pages),
             },
         }

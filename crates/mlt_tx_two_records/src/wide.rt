@@ -8,61 +8,46 @@ ghost use Rattle.mlt_hash.specs.Changes.{MayChange, WritesIfChanged, page_of};
 ghost use Rattle.mlt_hash.specs.Steps.{HasFound, steps_to_bucket};
 ghost use Rattle.mlt_hash.specs.Walks.{Basis, Before, basis_after, basis_in};
 ghost use Rattle.mlt_hash.specs.declared.pass.Pass.TheVariants as pass;
+ghost use Rattle.mlt_tx_two_records.specs.Answers.{TellsOfDouble};
 ghost use Rattle.mlt_tx_two_records.specs.Doubles.{MayGoOn};
 ghost use Rattle.mlt_tx_two_records.specs.AtWideBuckets.{HasJustPut, MayActOnOwn, MayActOnSize, MayStepToSize, Raises, TellsAtOwn, TellsAtSize, TellsOfRaise};
-ghost use Rattle.mlt_tx_two_records.specs.WidePass.{IsGoingToSize, TellsOfOwn, TellsOfSize};
+ghost use Rattle.mlt_tx_two_records.specs.WidePass.{IsGoingToSize};
 ghost use Rattle.mlt_tx_two_records.specs.declared.double.Double.TheVariants.{Wide};
-ghost use Rattle.mlt_tx_two_records.specs.declared.double.Leg.TheVariants as leg;
 
 use crate::answer::DoubleAnswer;
+use crate::double::Leg;
 use mlt_hash::{Setting, Walk, WalkAnswer};
 use mlt_hash_access::LockedStore;
 use mlt_object_base::{RecChange, Request};
-use mlt_object_kinds::ObjReply;
 use mlt_page_subtx::Subtx;
-use mlt_types::{PageNo, Pseudo, Refusal, TxId, Value};
+use mlt_types::{Pseudo, Value};
 
-/// The answer to a step of a wide pass to its own key.
-#[derive(Clone, Copy, Debug, PartialEq, Eq)]
-pub(crate) enum OwnAnswer {
-    /// It goes on.
-    Going,
-    /// This page is held by this transaction, the lowest whose lock stands against the one asked for. Nothing has
-    /// changed.
-    Waiting(PageNo, TxId),
-    /// The record is put, and it has gone on to the key of the size.
-    Over,
-    /// The record is there already, and the operation is told this.
-    Told(ObjReply),
-    /// There is no room (`NoRoom`) or no memory (`OutOfMemory`). All is rolled back.
-    Refused(Refusal),
-}
-
-/// One step of a wide pass to its own key, as far as to where it goes on to the key of the size.
+/// One step of a wide pass to its own key, and the leg that follows: once the record is put it goes on to the key of the
+/// size.
 pub(crate) fn step_own<P: Pseudo>(
     walk: &mut Walk,
     request: &Request,
     setting: &Setting<P>,
     subtx: &mut Subtx,
     pages: &mut LockedStore,
-) -> OwnAnswer
+) -> (Leg, DoubleAnswer)
     requires ready { MayGoOn (basis_in P.bits_of setting.now subtx.old.tx)
-        (moment subtx.old pages.old) request.now (Wide leg.Own walk.old) }
-    ensures tells { TellsOfOwn (basis_in P.bits_of setting.now subtx.old.tx)
+        (moment subtx.old pages.old) request.now (Wide Leg.Own walk.old) }
+    ensures tells { TellsOfDouble (basis_in P.bits_of setting.now subtx.old.tx)
         (moment subtx.old pages.old) (moment subtx.new pages.new)
-        request.now walk.old walk.new result }
+        (Wide Leg.Own walk.old) (Wide result.0 walk.new) request.now result.1 }
 {
     match walk.advance(setting, subtx, pages) {
-        WalkAnswer::Going => OwnAnswer::Going,
-        WalkAnswer::Waiting(page, by) => OwnAnswer::Waiting(page, by),
+        WalkAnswer::Going => (Leg::Own, DoubleAnswer::Going),
+        WalkAnswer::Waiting(page, by) => (Leg::Own, DoubleAnswer::Waiting(page, by)),
         WalkAnswer::Found(found) => act_on_own(walk, found, request, setting, subtx, pages),
         WalkAnswer::Changed => {
             go_over(walk, request, setting, subtx, pages);
-            OwnAnswer::Over
+            (Leg::Size, DoubleAnswer::Going)
         }
         WalkAnswer::Refused(reason) => {
             subtx.roll_back(&mut pages.store, &mut pages.locks);
-            OwnAnswer::Refused(reason)
+            (Leg::Own, DoubleAnswer::Refused(reason))
         }
         WalkAnswer::NeedSplit | WalkAnswer::Widen => unreachable!(),
     }
@@ -76,16 +61,16 @@ fn act_on_own<P: Pseudo>(
     setting: &Setting<P>,
     subtx: &mut Subtx,
     pages: &mut LockedStore,
-) -> OwnAnswer
+) -> (Leg, DoubleAnswer)
     requires ready { MayActOnOwn (basis_in P.bits_of setting.now subtx.old.tx)
         (moment subtx.old pages.old) request.now walk.old found }
     ensures tells { TellsAtOwn (basis_in P.bits_of setting.now subtx.old.tx)
         (moment subtx.old pages.old) (moment subtx.new pages.new)
-        request.now walk.old walk.new result }
+        request.now walk.old result.0 walk.new result.1 }
 {
     let (reply, change) = request.decide(found);
     let Some(change) = change else {
-        return OwnAnswer::Told(reply);
+        return (Leg::Own, DoubleAnswer::Told(reply));
     };
     let RecChange::Add(value) = change else {
         unreachable!()
@@ -93,12 +78,12 @@ fn act_on_own<P: Pseudo>(
     match walk.insert(value, setting, subtx, pages) {
         WalkAnswer::Changed => {
             go_over(walk, request, setting, subtx, pages);
-            OwnAnswer::Over
+            (Leg::Size, DoubleAnswer::Going)
         }
-        WalkAnswer::NeedSplit => OwnAnswer::Going,
+        WalkAnswer::NeedSplit => (Leg::Own, DoubleAnswer::Going),
         WalkAnswer::Refused(reason) => {
             subtx.roll_back(&mut pages.store, &mut pages.locks);
-            OwnAnswer::Refused(reason)
+            (Leg::Own, DoubleAnswer::Refused(reason))
         }
         _ => unreachable!(),
     }
@@ -134,10 +119,10 @@ pub(crate) fn step_size<P: Pseudo>(
     pages: &mut LockedStore,
 ) -> DoubleAnswer
     requires ready { MayGoOn (basis_in P.bits_of setting.now subtx.old.tx)
-        (moment subtx.old pages.old) request.now (Wide leg.Size walk.old) }
-    ensures tells { TellsOfSize (basis_in P.bits_of setting.now subtx.old.tx)
+        (moment subtx.old pages.old) request.now (Wide Leg.Size walk.old) }
+    ensures tells { TellsOfDouble (basis_in P.bits_of setting.now subtx.old.tx)
         (moment subtx.old pages.old) (moment subtx.new pages.new)
-        request.now walk.old walk.new result }
+        (Wide Leg.Size walk.old) (Wide Leg.Size walk.new) request.now result }
 {
     walk_to_size(walk, request, setting, subtx, pages)
 }
@@ -153,9 +138,9 @@ fn walk_to_size<P: Pseudo>(
     ghost since: { Before }
     requires ready { MayStepToSize (basis_in P.bits_of setting.now subtx.old.tx)
         (moment subtx.old pages.old) request.now walk.old since }
-    ensures tells { TellsOfSize (basis_in P.bits_of setting.now subtx.old.tx)
+    ensures tells { TellsOfDouble (basis_in P.bits_of setting.now subtx.old.tx)
         (moment subtx.old pages.old) (moment subtx.new pages.new)
-        request.now walk.old walk.new result }
+        (Wide Leg.Size walk.old) (Wide Leg.Size walk.new) request.now result }
 {
     match walk.advance(setting, subtx, pages) {
         WalkAnswer::Going => DoubleAnswer::Going,

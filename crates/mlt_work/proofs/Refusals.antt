@@ -8,13 +8,14 @@ use Rattle.mlt_object_kinds.specs.Bases.{Transcript}
 use Rattle.mlt_script_tree.specs.declared.statement.Ending.{Ending}
 use Rattle.mlt_script_tree.specs.declared.statement.Ending.TheVariants.{Commit, Abort}
 use Rattle.mlt_script_tree.specs.Scripts.{ScriptForm}
-use Rattle.mlt_script_cursor.specs.Plays.{OnOperation, PlaysAt}
+use Rattle.mlt_script_cursor.specs.Calls.{Moves}
+use Rattle.mlt_script_cursor.specs.Plays.{PlaysAt}
 use Rattle.mlt_script_serial.specs.declared.outcome.End.{End}
 use Rattle.mlt_script_serial.specs.declared.outcome.End.TheVariants.{Committed, Aborted, Refused}
 use Rattle.mlt_script_serial.specs.declared.outcome.Outcome.{Outcome}
 use Rattle.mlt_script_desk.specs.Clients.{AreRunsAt, IsServedAt}
-use Rattle.mlt_script_desk.specs.Runs.{ClosesAs, OnAbort, OnBegin, OnCommit, refusal_of_script}
-use Rattle.mlt_work_desk.specs.Holds.{MayAnswerBegin, MayAnswerCommit, MayAnswerOperation}
+use Rattle.mlt_script_desk.specs.Runs.{ClosesAs, refusal_of_script}
+use Rattle.mlt_work_desk.specs.Holds.{MayAnswer}
 use Rattle.mlt_work_desk.specs.Refusals.{IsOfBegin, IsOfCommit, IsOfOperation}
 use Rattle.mlt_work_clients.specs.Places.{IsScriptEnd, IsScriptRefusal}
 
@@ -45,33 +46,24 @@ abbrev pub EndsSo : Outcome → Type 0
 EndsSo o = IsScriptEnd o.end
 
 module _ {P : Type 0} (bits_of : P → ℕ → ℕ) {D : Type 0} where
-  abbrev begins_of : OnBegin D
-  begins_of old answer new = MayAnswerBegin bits_of answer
-
-  abbrev answers_of : OnOperation D
-  answers_of old tx op answer new = MayAnswerOperation bits_of tx answer
-
-  abbrev commits_of : OnCommit D
-  commits_of old tx answer new = MayAnswerCommit bits_of tx answer
-
-  abbrev aborts_of : OnAbort D
-  aborts_of old tx new = Unit {0}
+  abbrev moves_of : Moves D
+  moves_of old call answer new = MayAnswer bits_of call answer
 
   -- a script that was played and closed
-  closes_end : (s : ScriptForm) (tx : ℕ) (d m : D) (t : Transcript) (ended : Result Ending Refusal) (end : End) (e : D) → PlaysAt answers_of s tx d t ended m → ClosesAs commits_of aborts_of tx ended m end e → IsScriptEnd end
+  closes_end : (s : ScriptForm) (tx : ℕ) (d m : D) (t : Transcript) (ended : Result Ending Refusal) (end : End) (e : D) → PlaysAt moves_of s tx d t ended m → ClosesAs moves_of tx ended m end e → IsScriptEnd end
   closes_end s tx d m t ended (Committed number) e plays closes = tt
   closes_end s tx d m t ended Aborted e plays closes = tt
   closes_end s tx d m t (Ok Commit) (Refused other) e plays (reason, same, (n, commits, aborts)) = subst IsScriptRefusal (sym same) (commit_refuses reason commits)
   closes_end s tx d m t (Ok Abort) (Refused reason) e plays closes = absurd closes
   closes_end s tx d m t (Err reason) (Refused other) e plays (same, aborts) = subst IsScriptRefusal (sym same) (operation_refuses reason plays.refused)
 
-  run_ends : (s : ScriptForm) (d : D) (tx : ℕ) (t : Transcript) (end : End) (e : D) → IsServedAt begins_of answers_of commits_of aborts_of s d tx t end e → IsScriptEnd end
+  run_ends : (s : ScriptForm) (d : D) (tx : ℕ) (t : Transcript) (end : End) (e : D) → IsServedAt moves_of s d tx t end e → IsScriptEnd end
   run_ends s d tx t end e (inl none) = subst IsScriptEnd (sym none.refused) tt
   run_ends s d tx t end e (inr (inl unbegun)) = subst IsScriptEnd (sym unbegun.refused) (begin_refuses unbegun.refusal unbegun.begins_none)
   run_ends s d tx t end e (inr (inr begun)) = closes_end s tx begun.after_begin begun.after_script t begun.ended end e begun.plays begun.closes
 
   -- **Each script ends as a script may.**
-  pub runs_end : (ss : List ScriptForm) (d : D) (os : List Outcome) (e : D) → AreRunsAt begins_of answers_of commits_of aborts_of ss d os e → All EndsSo os
+  pub runs_end : (ss : List ScriptForm) (d : D) (os : List Outcome) (e : D) → AreRunsAt moves_of ss d os e → All EndsSo os
   runs_end [] d [] e h = All-nil EndsSo
   runs_end [] d (o ∷ os) e h = absurd h
   runs_end (s ∷ ss) d [] e h = absurd h

@@ -1,5 +1,6 @@
 //! Which worker is at work.
 
+use crate::tuning::{GAP_SPINS, MOST_NAPS, NAP_MICROSECONDS, SLOWLY_GROWING_NAPS};
 use mlt_event::{Answer, Told};
 use mlt_work_desk::Gate;
 use std::hint::spin_loop;
@@ -7,19 +8,6 @@ use std::sync::atomic::{AtomicU64, Ordering};
 use std::sync::{Mutex, Wait};
 use std::thread;
 use std::time::{Clock, Duration};
-
-// So many microseconds the first of the queue sleeps before it looks whether a transaction is open.
-const NAP: u64 = 200;
-
-// The most naps that it takes before it begins all the same: together a tenth part of a second.
-const MOST_NAPS: u32 = 512;
-
-// Up to so many naps, which the eighth takes, their number grows slowly.
-const FEW_NAPS: u32 = 40;
-
-// So often one looks for a gap, with a pause of the processor after each look: some microseconds, in which a worker comes from one
-// transaction to the next, and a short one ends.
-const LOOKS: u32 = 128;
 
 /// Lets a worker begin a transaction where none is open, and lets the others sleep, so that what transactions work on stays in one
 /// processor: a transaction in memory takes microseconds, and to run them one after another takes the least time (Stonebraker et
@@ -60,7 +48,7 @@ impl<'a, R: Wait + Clock> BeginQueue<'a, R> {
         let mut naps = self.queue.lock(self.rt);
         let mut was_idle = false;
         for _ in 0..*naps {
-            thread::sleep(self.rt, Duration::from_micros(NAP));
+            thread::sleep(self.rt, Duration::from_micros(NAP_MICROSECONDS));
             let is_idle = self.stays_idle();
             if was_idle && is_idle {
                 return;
@@ -73,7 +61,7 @@ impl<'a, R: Wait + Clock> BeginQueue<'a, R> {
 
     /// Whether no transaction is open for some microseconds.
     fn stays_idle(&self) -> bool {
-        for _ in 0..LOOKS {
+        for _ in 0..GAP_SPINS {
             if !self.is_idle() {
                 return false;
             }
@@ -84,7 +72,7 @@ impl<'a, R: Wait + Clock> BeginQueue<'a, R> {
 
     /// Waits until no transaction is open, but for some microseconds only.
     fn wait_for_gap(&self) {
-        for _ in 0..LOOKS {
+        for _ in 0..GAP_SPINS {
             if self.is_idle() {
                 return;
             }
@@ -112,7 +100,7 @@ impl<R: Wait + Clock> Gate for BeginQueue<'_, R> {
 }
 
 fn more_naps(naps: u32) -> u32 {
-    let more = if naps < FEW_NAPS {
+    let more = if naps < SLOWLY_GROWING_NAPS {
         naps / 2 + 1
     } else {
         naps.saturating_mul(3)

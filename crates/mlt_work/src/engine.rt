@@ -8,13 +8,14 @@ ghost use Rattle.mlt_text.specs.Inputs.{GivesWhole};
 ghost use Rattle.mlt_script.specs.Grammar.{IsFirstFault};
 ghost use Rattle.mlt_work.specs.RunTexts.{IsRunOf, IsRunText};
 
+use crate::options::RunOptions;
 use crate::running::run;
 use mlt_manager::Manager;
 use mlt_script::parse;
 use mlt_script_serial::{Form, write_report};
 use mlt_script_tree::{Script, by_client};
 use mlt_text::read_input;
-use mlt_types::{Limits, Pseudo, Refusal};
+use mlt_types::{Pseudo, Refusal};
 use mlt_work_desk::Gate;
 use std::alloc::Global;
 use std::io::{Read, Write};
@@ -31,7 +32,7 @@ fn free<T: Threads>(rt: &T, workers: usize, clients: Vec<Vec<Script>>) -> Option
 }
 
 /// Reads scripts to the end of the input, runs those of each client one after another and the clients side by side on a
-/// new manager with these limits, and writes for each script its client, its number, the texts of its replies and how it
+/// new manager, with these options, and writes for each script its client, its number, the texts of its replies and how it
 /// ended, and then the base. It answers the manager.
 ///
 /// # Errors
@@ -50,17 +51,16 @@ pub fn run_scripts<
     alloc: Global,
     reader: &mut R,
     writer: &mut W,
-    limits: Limits,
     pseudo: P,
-    workers: usize,
-    tries: u64,
+    options: &RunOptions,
     gate: &G,
 ) -> Result<Manager<P>, Refusal>
-    requires some { 0 < workers }
-    requires most { workers ≤ 8 }
+    requires some { 0 < options.now.workers }
+    requires most { options.now.workers ≤ 8 }
     // what is written is the text of what became of the scripts read, which agrees with what the manager has done
     ensures text { IfOk result (λ manager. (input text : List ℕ)
-        × IsRunOf limits pseudo (R.remaining reader.old) (R.remaining reader.new) input text manager
+        × IsRunOf options.now.limits pseudo (R.remaining reader.old) (R.remaining reader.new)
+        input text manager
         × Appends (W.contents writer.old) (W.contents writer.new) text) }
     // a fault is the first one of the input
     ensures fault { (line : ℕ) (cause : ScriptCause) → result ≡ Err (Refusal.ScriptFault line cause)
@@ -68,24 +68,16 @@ pub fn run_scripts<
         × IsFirstFault input line cause }
     // where it fails, nothing was written, or a prefix of such a text; and too long an input is not read on
     ensures failure { FailsCleanly (R.remaining reader.old) (R.remaining reader.new)
-        (W.contents writer.old) (W.contents writer.new) result (IsRunText limits pseudo) }
+        (W.contents writer.old) (W.contents writer.new) result
+        (IsRunText options.now.limits pseudo) }
     ensures refusals { IfErr result
         (λ refusal. IsWant refusal ⊎ (refusal ≡ Refusal.Audit) ⊎ IsScriptFault refusal) }
 {
     let input = read_input(alloc, reader)?;
     let scripts = parse(alloc, input.as_slice())?;
     let clients = by_client(alloc, scripts)?;
-    let (report, manager) = run(
-        rt,
-        alloc,
-        limits,
-        pseudo,
-        clients.as_slice(),
-        workers,
-        tries,
-        gate,
-    )?;
-    let freeing = free(rt, workers, clients);
+    let (report, manager) = run(rt, alloc, pseudo, clients.as_slice(), options, gate)?;
+    let freeing = free(rt, options.workers, clients);
     let written = write_report(alloc, &report, Form::Run, writer);
     if let Some(freeing) = freeing {
         freeing.join(rt);

@@ -4,11 +4,14 @@
 
 mod begin_queue;
 mod engine;
+mod options;
 mod reporting;
 mod running;
+mod tuning;
 mod worker;
 mod workers;
 
 pub use begin_queue::BeginQueue;
 pub use engine::run_scripts;
+pub use options::RunOptions;
 pub use running::run;

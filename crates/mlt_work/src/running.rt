@@ -5,12 +5,14 @@ ghost use Rattle.mlt_work_desk.specs.Makings.{making_by};
 ghost use Rattle.mlt_work_clients.specs.Places.{scripts_of_clients};
 ghost use Rattle.mlt_work.specs.Runs.{HasRunAll};
 
+use crate::options::RunOptions;
 use crate::reporting::report_of;
+use crate::worker::RunContext;
 use crate::workers::work_all;
 use mlt_manager::Manager;
 use mlt_script_serial::Report;
 use mlt_script_tree::Script;
-use mlt_types::{Limits, Pseudo, Refusal};
+use mlt_types::{Pseudo, Refusal};
 use mlt_work_clients::{Counter, collect, empty_slots, jobs_for};
 use mlt_work_desk::{Gate, LockedState, MadeWith, Shared};
 use std::alloc::Global;
@@ -28,21 +30,19 @@ fn run_with<
     rt: &R,
     alloc: Global,
     blank: Blank,
-    limits: Limits,
     pseudo: P,
     clients: &[Vec<Script>],
-    workers: usize,
-    tries: u64,
+    options: &RunOptions,
     gate: &G,
 ) -> Result<(Report, Manager<P>), Refusal>
     requires name { blank.name ≡ L.name }
     requires parts { blank.parts ≡ L.parts }
-    requires made { Some (making_by limits pseudo) ≡ L.made_with }
+    requires made { Some (making_by options.now.limits pseudo) ≡ L.made_with }
     requires nine { blank.parts ≡ 9 }
-    requires some { 0 < workers }
-    requires most { workers ≤ 8 }
+    requires some { 0 < options.now.workers }
+    requires most { options.now.workers ≤ 8 }
     ensures ran { IfOk result
-        (λ got. HasRunAll (scripts_of_clients clients.now) limits pseudo got.0 got.1) }
+        (λ got. HasRunAll (scripts_of_clients clients.now) options.now.limits pseudo got.0 got.1) }
     ensures refusal { IfErr result
         (λ refusal. (refusal ≡ Refusal.OutOfMemory) ⊎ (refusal ≡ Refusal.Audit)) }
 {
@@ -55,11 +55,18 @@ fn run_with<
         &mut first,
         &mut all,
         clients.len() as u64,
-        workers,
+        options.workers,
     )?;
-    let manager = Manager::new(alloc, limits, pseudo)?;
+    let manager = Manager::new(alloc, options.limits, pseudo)?;
     let shared = Shared::new(LockedState::new(manager, book));
-    let results = match work_all(rt, alloc, &shared, gate, &counter, clients, tries, jobs) {
+    let context = RunContext {
+        shared: &shared,
+        gate,
+        counter: &counter,
+        clients,
+        tries: options.tries,
+    };
+    let results = match work_all(rt, alloc, &context, jobs) {
         Ok(results) => results,
         Err(_) => {
             shared.into_manager().close();
@@ -76,7 +83,7 @@ fn run_with<
         }
     };
     let manager = shared.close(&mut all);
-    match report_of(rt, alloc, workers, outcomes, events, &manager) {
+    match report_of(rt, alloc, options.workers, outcomes, events, &manager) {
         Ok(report) => Ok((report, manager)),
         Err(refusal) => {
             manager.close();
@@ -85,7 +92,7 @@ fn run_with<
     }
 }
 
-/// Runs the scripts of all clients on a new manager with these limits, by that many workers. Each worker claims a client, runs
+/// Runs the scripts of all clients on a new manager, with these options. Each worker claims a client, runs
 /// its scripts in order, and claims the next; each call of the manager is one event, under one lock. A script that is told to
 /// wait, or that it is blocked, more often than it has tries is aborted, as is one that is refused an operation; its outcome says
 /// why.
@@ -96,31 +103,19 @@ fn run_with<
 pub fn run<P: Pseudo + Drop + Send, R: Threads + Wait + Sync, G: Gate + Sync>(
     rt: &R,
     alloc: Global,
-    limits: Limits,
     pseudo: P,
     clients: &[Vec<Script>],
-    workers: usize,
-    tries: u64,
+    options: &RunOptions,
     gate: &G,
 ) -> Result<(Report, Manager<P>), Refusal>
-    requires some { 0 < workers }
-    requires most { workers ≤ 8 }
+    requires some { 0 < options.now.workers }
+    requires most { options.now.workers ≤ 8 }
     // an outcome for each script, which agrees with what the manager has done, and the base of the committed ones; and the
     // manager has these limits and this function from keys to pseudokeys
     ensures ran { IfOk result
-        (λ got. HasRunAll (scripts_of_clients clients.now) limits pseudo got.0 got.1) }
+        (λ got. HasRunAll (scripts_of_clients clients.now) options.now.limits pseudo got.0 got.1) }
     ensures refusal { IfErr result
         (λ refusal. (refusal ≡ Refusal.OutOfMemory) ⊎ (refusal ≡ Refusal.Audit)) }
 {
-    run_with::<Brand, P, R, G>(
-        rt,
-        alloc,
-        Blank::new(9),
-        limits,
-        pseudo,
-        clients,
-        workers,
-        tries,
-        gate,
-    )
+    run_with::<Brand, P, R, G>(rt, alloc, Blank::new(9), pseudo, clients, options, gate)
 }

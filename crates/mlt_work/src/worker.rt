@@ -49,30 +49,38 @@ fn run_claimed<P: Pseudo, L: MadeWith<P>, R: Wait, G: Gate>(
     unreachable!()
 }
 
+/// What all workers work with.
+#[derive(Drop)]
+pub(crate) struct RunContext<'a, P: Pseudo, L: MadeWith<P>, G: Gate> {
+    pub(crate) shared: &'a Shared<P, L>,
+    pub(crate) gate: &'a G,
+    pub(crate) counter: &'a Counter,
+    pub(crate) clients: &'a [Vec<Script>],
+    /// How often a script may be told to wait, 1 to 1,000,000.
+    pub(crate) tries: u64,
+}
+
 /// Does a job: claims clients until none is left, and runs the scripts of each.
 pub(crate) fn work<P: Pseudo, L: MadeWith<P>, R: Wait, G: Gate>(
     rt: &R,
     alloc: Global,
-    shared: &Shared<P, L>,
-    gate: &G,
-    counter: &Counter,
-    clients: &[Vec<Script>],
-    tries: u64,
+    context: &RunContext<'_, P, L, G>,
     job: Job<L>,
 ) -> Worked<L>
-    requires { IsFresh counter.now (length clients.now) job.drawer }
-    ensures { HasWorked counter.now (scripts_of_clients clients.now)
+    requires { IsFresh context.now.counter.now (length context.now.clients.now) job.drawer }
+    ensures { HasWorked context.now.counter.now (scripts_of_clients context.now.clients.now)
         result.drawer result.runs.items result.failed }
 {
     let Job { mut drawer, share } = job;
     let mut runs = Vec::new(alloc);
-    let mut desk = LockDesk::new(rt, shared, gate, share, Tries::PerScript(tries));
+    let tries = Tries::PerScript(context.tries);
+    let mut desk = LockDesk::new(rt, context.shared, context.gate, share, tries);
     let failed = run_claimed(
         rt,
         alloc,
         &mut desk,
-        counter,
-        clients,
+        context.counter,
+        context.clients,
         &mut drawer,
         &mut runs,
     );

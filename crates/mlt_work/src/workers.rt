@@ -4,11 +4,10 @@ ghost use Rattle.std.specs.Prelude.{◌≡◌, All, IfOk, length, vec_len};
 ghost use Rattle.mlt_work_clients.specs.Places.{scripts_of_clients};
 ghost use Rattle.mlt_work_clients.specs.Workers.{HasWorked, IsFresh};
 
-use crate::worker::work;
-use mlt_script_tree::Script;
+use crate::worker::{RunContext, work};
 use mlt_types::Pseudo;
-use mlt_work_clients::{Counter, Job, Worked};
-use mlt_work_desk::{Gate, MadeWith, Shared};
+use mlt_work_clients::{Job, Worked};
+use mlt_work_desk::{Gate, MadeWith};
 use std::alloc::{AllocError, Global};
 use std::sync::Wait;
 use std::thread;
@@ -26,22 +25,15 @@ pub(crate) fn work_all<
 >(
     rt: &R,
     alloc: Global,
-    shared: &Shared<P, L>,
-    gate: &G,
-    counter: &Counter,
-    clients: &[Vec<Script>],
-    tries: u64,
+    context: &RunContext<'_, P, L, G>,
     jobs: Vec<Job<L>>,
 ) -> Result<Vec<Worked<L>>, AllocError>
-    requires { All (λ job. IsFresh counter.now (length clients.now) job.drawer) jobs.items }
+    requires { All (λ job. IsFresh context.now.counter.now
+        (length context.now.clients.now) job.drawer) jobs.items }
     ensures len { IfOk result (λ results. vec_len results ≡ vec_len jobs) }
-    ensures each { IfOk result (λ results. All (λ worked. HasWorked counter.now
-        (scripts_of_clients clients.now) worked.drawer worked.runs.items worked.failed)
+    ensures each { IfOk result (λ results. All (λ worked. HasWorked context.now.counter.now
+        (scripts_of_clients context.now.clients.now) worked.drawer worked.runs.items worked.failed)
         results.items) }
 {
-    thread::map_vec(
-        rt,
-        jobs,
-        &|job| { work(rt, alloc, shared, gate, counter, clients, tries, job) },
-    )
+    thread::map_vec(rt, jobs, &|job| { work(rt, alloc, context, job) })
 }

@@ -1,7 +1,9 @@
 -- What a hold of the lock tells.
-use Rattle.std.specs.Prelude.{ℕ, Result, Ok, Err}
-use Rattle.mlt_types.specs.declared.refusal.Refusal.{Refusal}
-use Rattle.mlt_object_kinds.specs.declared.operation.ObjReply.{ObjReply}
+use Rattle.std.specs.Prelude.{ℕ}
+use Rattle.mlt_script_cursor.specs.declared.call.DeskAnswer.{DeskAnswer}
+use Rattle.mlt_script_cursor.specs.declared.call.DeskAnswer.TheVariants.{Begun, Replied, Committed, Aborted, Refused}
+use Rattle.mlt_script_cursor.specs.declared.call.DeskCall.{DeskCall}
+use Rattle.mlt_script_cursor.specs.declared.call.DeskCall.TheVariants as call
 use Rattle.mlt_event.specs.declared.answer.Answer.TheVariants as answer
 use Rattle.mlt_event.specs.declared.event.Event.{Event}
 use Rattle.mlt_event.specs.declared.event.Event.TheVariants as event
@@ -21,18 +23,20 @@ pub record IsToldTo {P : Type 0} (bits_of : P → ℕ → ℕ) (event : Event) (
   pub sound_after : IsManager bits_of after
   pub meets : Meets bits_of event told (counted before) after
 
--- what a begin may answer: a number that was told, or one of its refusals
-abbrev pub MayAnswerBegin : {P : Type 0} → (P → ℕ → ℕ) → Result ℕ Refusal → Type 0
-MayAnswerBegin bits_of (Ok tx) = IsToldTo bits_of event.Begin (told.Begun tx)
-MayAnswerBegin bits_of (Err refusal) = IsOfBegin refusal
-
 -- what an operation may answer: a reply that a step was told, or one of its refusals
-abbrev pub MayAnswerOperation : {P : Type 0} → (P → ℕ → ℕ) → ℕ → Result ObjReply Refusal → Type 0
-MayAnswerOperation bits_of tx (Ok reply) =
+abbrev pub MayAnswerOperation : {P : Type 0} → (P → ℕ → ℕ) → ℕ → DeskAnswer → Type 0
+MayAnswerOperation bits_of tx (Replied reply) =
     IsToldTo bits_of (event.Step tx) (told.Answered (answer.Done reply))
-MayAnswerOperation bits_of tx (Err refusal) = IsOfOperation refusal
+MayAnswerOperation bits_of tx (Refused refusal) = IsOfOperation refusal
+MayAnswerOperation bits_of tx other = ⊥
 
--- what a commit may answer: a number that was told, or one of its refusals
-abbrev pub MayAnswerCommit : {P : Type 0} → (P → ℕ → ℕ) → ℕ → Result ℕ Refusal → Type 0
-MayAnswerCommit bits_of tx (Ok number) = IsToldTo bits_of (event.Commit tx) (told.Committed number)
-MayAnswerCommit bits_of tx (Err refusal) = IsOfCommit refusal
+-- what a call may be answered: a number or a reply that was told, or one of its refusals
+abbrev pub MayAnswer : {P : Type 0} → (P → ℕ → ℕ) → DeskCall → DeskAnswer → Type 0
+MayAnswer bits_of call.Begin (Begun tx) = IsToldTo bits_of event.Begin (told.Begun tx)
+MayAnswer bits_of call.Begin (Refused refusal) = IsOfBegin refusal
+MayAnswer bits_of (call.Operation tx op) given = MayAnswerOperation bits_of tx given
+MayAnswer bits_of (call.Commit tx) (Committed number) =
+    IsToldTo bits_of (event.Commit tx) (told.Committed number)
+MayAnswer bits_of (call.Commit tx) (Refused refusal) = IsOfCommit refusal
+MayAnswer bits_of (call.Abort tx) Aborted = Unit {0}
+MayAnswer bits_of asked given = ⊥

@@ -1,24 +1,23 @@
 //! The calls of a desk over a shared manager.
 
 ghost use Rattle.std.specs.Prelude.{◌≡◌, ◌+◌, ◌-◌, ◌^◌, min, IfSome};
+ghost use Rattle.mlt_script_cursor.specs.Calls.{answer_by};
 ghost use Rattle.mlt_work_desk.specs.Holds.{IsToldTo, MayAnswerOperation};
 
 use crate::gate::Gate;
 use crate::lock_desk::{LockDesk, Tries};
 use crate::made_with::MadeWith;
 use crate::shared::Shared;
+use crate::tuning::WAITS_BEFORE_PRECEDENCE;
 use crate::turn::{Sleeper, Turn, is_to_wait};
 use mlt_event::{Answer, Event, Told};
 use mlt_object_kinds::{ObjOp, ObjReply};
-use mlt_script_cursor::Answering;
+use mlt_script_cursor::{Answering, DeskAnswer};
 use mlt_script_desk::Desk;
 use mlt_types::{Pseudo, Refusal, TxId};
 use mlt_work_waits::{Waker, Wakers};
 use std::sync::Wait;
 use std::sync::ledger::Share;
-
-// An operation that has waited so often takes precedence.
-const PATIENCE: u64 = 8;
 
 impl<'a, P: Pseudo, L: MadeWith<P>, R: Wait, G: Gate> LockDesk<'a, P, L, R, G> {
     /// A desk that has made no event yet.
@@ -95,7 +94,9 @@ impl<'a, P: Pseudo, L: MadeWith<P>, R: Wait, G: Gate> LockDesk<'a, P, L, R, G> {
         } = self;
         let mut wakers = Wakers::new();
         let mut state = shared.enter(*rt, *asleep, caller(&event, *waker));
-        let (told, turn) = state.act(event, share, sleeper, &mut wakers);
+        // A copy: the prover takes what is passed by value as moved.
+        let next = sleeper;
+        let (told, turn) = state.act(event, share, next, &mut wakers);
         drop(state);
         shared.wake(&wakers);
         *asleep = if turn == Turn::Sleeps { sleeper } else { None };
@@ -119,7 +120,7 @@ impl<'a, P: Pseudo, L: MadeWith<P>, R: Wait, G: Gate> LockDesk<'a, P, L, R, G> {
         Sleeper {
             tx,
             waker: self.waker,
-            takes_precedence: self.waited >= PATIENCE,
+            takes_precedence: self.waited >= WAITS_BEFORE_PRECEDENCE,
         }
     }
 
@@ -134,7 +135,8 @@ impl<'a, P: Pseudo, L: MadeWith<P>, R: Wait, G: Gate> LockDesk<'a, P, L, R, G> {
     /// awake, else the operation is cancelled. It answers the operation's answer, if it has one. A step that is told what comes
     /// only where another desk acts for the same transaction is answered by `NoSuchTx`.
     fn step(&mut self, tx: TxId) -> Option<Result<ObjReply, Refusal>>
-        ensures { IfSome result (MayAnswerOperation P.bits_of tx) }
+        ensures { IfSome result
+            (λ reply. MayAnswerOperation P.bits_of tx (answer_by DeskAnswer.Replied reply)) }
     {
         // With its last try it does not wait.
         let sleeper = (self.left > 1).then_some(self.sleeper(tx));
@@ -156,7 +158,7 @@ impl<'a, P: Pseudo, L: MadeWith<P>, R: Wait, G: Gate> LockDesk<'a, P, L, R, G> {
 
     /// Steps of an operation that was called, up to its reply.
     fn steps(&mut self, tx: TxId) -> Result<ObjReply, Refusal>
-        ensures { MayAnswerOperation P.bits_of tx result }
+        ensures { MayAnswerOperation P.bits_of tx (answer_by DeskAnswer.Replied result) }
     {
         let rt = self.rt;
         for _ in rt.forever() {
@@ -187,9 +189,9 @@ impl<'a, P: Pseudo, L: MadeWith<P>, R: Wait, G: Gate> LockDesk<'a, P, L, R, G> {
 }
 
 impl<'a, P: Pseudo, L: MadeWith<P>, R: Wait, G: Gate> Answering for LockDesk<'a, P, L, R, G> {
-    ghost use Rattle.mlt_work_desk.specs.Holds.{MayAnswerOperation};
+    ghost use Rattle.mlt_work_desk.specs.Holds.{MayAnswer};
 
-    ghost answers = { λ _ tx _ answer _. MayAnswerOperation P.bits_of tx answer };
+    ghost moves = { λ _ call answer _. MayAnswer P.bits_of call answer };
 
     fn operation(&mut self, tx: TxId, op: ObjOp) -> Result<ObjReply, Refusal> {
         if let Tries::PerOperation(tries) = self.tries {
@@ -206,14 +208,6 @@ impl<'a, P: Pseudo, L: MadeWith<P>, R: Wait, G: Gate> Answering for LockDesk<'a,
 }
 
 impl<'a, P: Pseudo, L: MadeWith<P>, R: Wait, G: Gate> Desk for LockDesk<'a, P, L, R, G> {
-    ghost use Rattle.mlt_work_desk.specs.Holds.{MayAnswerBegin, MayAnswerCommit};
-
-    ghost begins = { λ _ answer _. MayAnswerBegin P.bits_of answer };
-
-    ghost commits = { λ _ tx answer _. MayAnswerCommit P.bits_of tx answer };
-
-    ghost aborts = { λ _ _ _. Unit {0} };
-
     fn begin(&mut self) -> Result<TxId, Refusal> {
         if let Tries::PerScript(tries) = self.tries {
             self.left = tries;

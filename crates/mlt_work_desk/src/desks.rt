@@ -80,7 +80,7 @@ impl Desks {
         ensures precedence { self.new.precedence ≡ precedence_after given self.old.precedence }
         ensures count { self.new.count ≡ self.old.count }
     {
-        self.precedence = precedence_after(given, self.precedence);
+        self.precedence = precedence_after(&given, self.precedence);
         match given {
             GivenBack::All(tx) => {
                 self.waits.release(Awaited::Objects, Whose::One(tx), wakers);
@@ -145,10 +145,10 @@ impl Desks {
 
     /// One is about to call an operation. Where another has precedence it yields, that is it waits for the pages of that one, if
     /// another desk is awake and its wait can join. It answers whether it does.
-    pub(crate) fn yields(&mut self, sleeper: Sleeper) -> bool
+    pub(crate) fn yields(&mut self, sleeper: &Sleeper) -> bool
         ensures yields { result ≡ true → (y : ℕ) × (self.old.precedence ≡ Some y)
-            × CanSleep self.old.count Awaited.Pages (wait_for sleeper y) self.old.waits
-            × (self.new.waits ≡ joined Awaited.Pages (wait_for sleeper y) self.old.waits) }
+            × CanSleep self.old.count Awaited.Pages (wait_for sleeper.now y) self.old.waits
+            × (self.new.waits ≡ joined Awaited.Pages (wait_for sleeper.now y) self.old.waits) }
         ensures none { self.old.precedence ≡ None → result ≡ false }
         ensures stays { result ≡ false → self.new.waits ≡ self.old.waits }
         ensures precedence { self.new.precedence ≡ self.old.precedence }
@@ -179,11 +179,11 @@ impl Desks {
 }
 
 /// Who has precedence once locks were given back: no longer one that did so.
-fn precedence_after(given: GivenBack, before: Option<TxId>) -> Option<TxId>
-    ensures { result ≡ precedence_after given before }
+fn precedence_after(given: &GivenBack, before: Option<TxId>) -> Option<TxId>
+    ensures { result ≡ precedence_after given.now before }
 {
     match given {
-        GivenBack::All(tx) | GivenBack::Pages(tx) => before.filter(|first| *first != tx),
+        GivenBack::All(tx) | GivenBack::Pages(tx) => before.filter(|first| first != tx),
         GivenBack::Nothing => before,
     }
 }

@@ -88,7 +88,9 @@ impl<P: Pseudo, L: MadeWith<P>> LockedState<P, L> {
         let told = manager.act(event);
         manager.keeps_its_invariant();
         desks.give_back(given_back(&event, &told), wakers);
-        desks.give_precedence(&told, sleeper);
+        // A copy: the prover takes what is passed by value as moved.
+        let next = sleeper;
+        desks.give_precedence(&told, next);
         let turn = desks.turn(wait_of(&told, sleeper), wakers);
         (told, turn)
     }

@@ -9,6 +9,7 @@ mod lock_desk;
 mod locked_state;
 mod made_with;
 mod shared;
+mod tuning;
 mod turn;
 
 pub use gate::{Gate, NoGate};

@@ -5,6 +5,7 @@ ghost use Rattle.mlt_work_desk.specs.Makings.{making_of};
 
 use crate::locked_state::LockedState;
 use crate::made_with::MadeWith;
+use crate::tuning::{FIRST_LOCK_SPINS, LOCK_SPINS, PAUSES_PER_LOCK_SPIN};
 use crate::turn::Sleeper;
 use mlt_manager::Manager;
 use mlt_types::Pseudo;
@@ -13,15 +14,6 @@ use std::array;
 use std::hint::spin_loop;
 use std::sync::ledger::Share;
 use std::sync::{Condvar, Mutex, MutexGuard, Wait};
-
-// How often a thread looks at a lock that is taken before it queues, and how often the first of the queue looks before it sleeps.
-const LOOKS: u32 = 4;
-
-const LOOKS_OF_FIRST: u32 = 20;
-
-// After each look it waits for so many pauses of the processor: 3 to 14 microseconds, as processors differ, in which who has the
-// lock takes it for its next events.
-const PAUSES: u32 = 256;
 
 /// A lock over the manager, and the condition variables that desks sleep at.
 pub struct Shared<P: Pseudo, L: MadeWith<P>> {
@@ -47,19 +39,19 @@ impl<P: Pseudo, L: MadeWith<P>> Shared<P, L> {
     /// it works on stays in its processor. After that a thread queues, and of the queue the first alone goes on looking (Dice,
     /// Malthusian Locks, EuroSys 2017, section 3). Who holds the lock may not be running, so that one too sleeps in the end.
     pub(crate) fn lock<R: Wait>(&self, rt: &R) -> MutexGuard<'_, LockedState<P, L>> {
-        if let Some(state) = self.look(LOOKS) {
+        if let Some(state) = self.spin(LOCK_SPINS) {
             return state;
         }
         let _first = self.queue.lock(rt);
-        if let Some(state) = self.look(LOOKS_OF_FIRST) {
+        if let Some(state) = self.spin(FIRST_LOCK_SPINS) {
             return state;
         }
         self.state.lock(rt)
     }
 
     // The state, if it is free at one of so many looks, with a wait after each.
-    fn look(&self, looks: u32) -> Option<MutexGuard<'_, LockedState<P, L>>> {
-        for _ in 0..looks {
+    fn spin(&self, spins: u32) -> Option<MutexGuard<'_, LockedState<P, L>>> {
+        for _ in 0..spins {
             if let Some(state) = self.state.try_lock() {
                 return Some(state);
             }
@@ -84,7 +76,7 @@ impl<P: Pseudo, L: MadeWith<P>> Shared<P, L> {
         let Some(caller) = caller else {
             return state;
         };
-        if state.desks.yields(caller) {
+        if state.desks.yields(&caller) {
             return self.sleep(rt, state, caller);
         }
         state
@@ -144,7 +136,7 @@ impl<P: Pseudo, L: MadeWith<P>> Shared<P, L> {
 }
 
 fn pause() {
-    for _ in 0..PAUSES {
+    for _ in 0..PAUSES_PER_LOCK_SPIN {
         spin_loop();
     }
 }

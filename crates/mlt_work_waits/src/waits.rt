@@ -184,7 +184,7 @@ fn add_wakers(waits: &[Waiting], whose: Whose, wakers: &mut Wakers)
     ensures few { length wakers.new.items ≤ length wakers.old.items + length waits.now }
 {
     for wait in waits {
-        // A copy, since behind a branch both ways are to have the same left.
+        // A copy: the prover takes what is passed by value as moved.
         let given = whose;
         if wait.is_for(given) {
             wakers.push(wait.waker);

@@ -14,12 +14,12 @@ use mlt_manager_laws::{
 };
 use mlt_manager_solo::solo;
 use mlt_manager_steps::steps;
-use mlt_serve::serve_on;
+use mlt_serve::{ServeOptions, serve_on};
 use mlt_text::write_text;
 use mlt_trace::{KeptItem, write_trace};
 use mlt_trace_check::check_trace;
 use mlt_types::{Limits, Low, Mult, Pseudo, Refusal};
-use mlt_work::{BeginQueue, run_scripts};
+use mlt_work::{BeginQueue, RunOptions, run_scripts};
 use std::fs::File;
 use std::io::ErrorKind;
 use std::net::TcpListener;
@@ -127,15 +127,18 @@ fn run_work<P: Pseudo + Drop + Send, T: Threads + Wait + Clock + Sync>(
     requires most { work.now.workers ≤ 8 }
 {
     let mut input = Input::open(rt, work.run.input.as_str())?;
+    let options = RunOptions {
+        limits: Limits::program(),
+        workers: work.workers,
+        tries: work.tries,
+    };
     let manager = run_scripts(
         threads,
         rt.alloc(),
         &mut input,
         &mut io::writer(rt),
-        Limits::program(),
         pseudo,
-        work.workers,
-        work.tries,
+        &options,
         &BeginQueue::new(threads),
     )?;
     let written = write_history(rt, manager.history(), &work.run);
@@ -156,21 +159,17 @@ fn run_server<P: Pseudo + Drop + Send, T: Threads + Wait + Clock + Sync>(
         return Err(Refusal::Io);
     };
     report_address(rt, &listener)?;
-    let idle = match serve.idle {
-        0 => None,
-        seconds => Some(Duration::from_secs(seconds)),
+    let options = ServeOptions {
+        limits: Limits::program(),
+        sessions: serve.sessions,
+        connections: serve.limit,
+        tries: serve.tries,
+        idle: match serve.idle {
+            0 => None,
+            seconds => Some(Duration::from_secs(seconds)),
+        },
     };
-    let (_outcomes, manager) = serve_on(
-        threads,
-        rt.alloc(),
-        &listener,
-        Limits::program(),
-        pseudo,
-        serve.sessions,
-        serve.limit,
-        serve.tries,
-        idle,
-    )?;
+    let (_outcomes, manager) = serve_on(threads, rt.alloc(), &listener, pseudo, &options)?;
     let written = write_served(rt, serve, manager.history());
     manager.close();
     written

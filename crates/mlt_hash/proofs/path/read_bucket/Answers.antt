@@ -1,17 +1,15 @@
-use Rattle.std.proofs.Common.{◌≡◌, ◌+◌, Some, is_some, ap, subst, ◌∙◌, arith}
+use Rattle.std.proofs.Common.{◌≡◌, ◌+◌, Some, is_some, sym, ap, ◌∙◌, arith}
 use Rattle.mlt_page.specs.Values.{BucketFields}
-use Rattle.mlt_page.specs.declared.page.Page.{Page}
 use Rattle.mlt_page.specs.declared.page.Page.TheVariants as page
 use Rattle.mlt_hash_access.specs.Moments.{Moment, moment}
 use Rattle.mlt_hash_access.specs.Views.{ReadsPage, view_of}
 use Rattle.mlt_hash_access.proofs.Rebased.{rebased_reads_page}
-use Rattle.mlt_hash_access.proofs.Views.{reads_after_lock, reads_seen}
+use Rattle.mlt_hash_access.proofs.Views.{reads_held_after, reads_seen}
 use Rattle.mlt_hash_form.specs.Form.{value_in}
 use Rattle.mlt_hash_form.specs.Held.{over}
 use Rattle.mlt_hash.specs.Passes.{bucket_mode}
 use Rattle.mlt_hash.specs.Walks.{IsPlaced, MayWalk, WalkFields, view_for}
 use Rattle.mlt_hash.specs.declared.pass.Phase.TheVariants as at
-use Rattle.mlt_hash_form.proofs.Paths.{one_page}
 use Rattle.mlt_hash.proofs.Beside.{few_before, few_beside}
 use Rattle.mlt_hash.proofs.Paths.{arrived, bucket_there}
 use Rattle.mlt_hash.proofs.Readings.{is_there, reads_clean}
@@ -46,18 +44,14 @@ lock-requires-clause-there g c =
     let s = (goal.at.lock-requires-clause-there g c).Start in
     is_there g.basis.before.written (before g s) (ready g s).file.clean s.args.number s.args.number (ready g s).may (ready g s).written (ready g s).file.is_clean (λ _. s.args.number) (ap is_some (bucket g s).1)
 
-pub read_held-requires-clause-held : goal.read_held-requires-clause-held
-read_held-requires-clause-held g c =
-    let s = (goal.at.read_held-requires-clause-held g c).Start in
-    reads_after_lock (before g s) (moment c.args.subtx.now c.lock.new.pages) c.args.number c.bucket_mode-mode.result c.in_default.ensures.locks
-
-pub unreachable-requires : goal.unreachable-requires
-unreachable-requires g c =
-    let s = (goal.at.unreachable-requires g c).Start in
+pub read_held_bucket-bucket-requires-clause-bucket : goal.read_held_bucket-bucket-requires-clause-bucket
+read_held_bucket-bucket-requires-clause-bucket g c =
+    let s = (goal.at.read_held_bucket-bucket-requires-clause-bucket g c).Start in
     let after = moment c.args.subtx.now c.lock.new.pages in
-    let reads = rebased_reads_page g.basis.before.written (view_of (before g s)) (view_of after) (ready g s).written c.args.number c.bucket_mode-mode.result (Some c.read_held.result.now) (reads_seen (view_of (before g s)) (view_of after) c.args.number c.bucket_mode-mode.result c.read_held.result.now c.in_default.ensures.view c.read_held.ensures.reads) in
-    let read = reads_clean g.basis.before.written (before g s) after c.args.number c.bucket_mode-mode.result (Some c.read_held.result.now) (ready g s).file.clean c.lock.ensures.leaves.may (c.lock.ensures.leaves.clean (ready g s).file.clean (ready g s).file.is_clean) (stands g s).unwritten reads in
-    c.in_default-read_held.not-Bucket (bucket g s).0 (one_page (over (ready g s).file.clean g.basis.before.written c.args.number) c.read_held.result.now (page.Bucket (bucket g s).0) read (bucket g s).1)
+    let sees = c.in_default.ensures.view in
+    let reads = rebased_reads_page g.basis.before.written (view_of (before g s)) (view_of after) (ready g s).written c.args.number c.bucket_mode-mode.result sees.0 sees.1 in
+    let read = reads_clean g.basis.before.written (before g s) after c.args.number c.bucket_mode-mode.result sees.0 (ready g s).file.clean c.lock.ensures.leaves.may (c.lock.ensures.leaves.clean (ready g s).file.clean (ready g s).file.is_clean) (stands g s).unwritten reads in
+    ((bucket g s).0, reads_held_after (view_of (before g s)) (view_of after) c.args.number c.bucket_mode-mode.result (page.Bucket (bucket g s).0) sees (sym read ∙ (bucket g s).1))
 
 pub returns-clause-tells : goal.returns-clause-tells
 returns-clause-tells g c =
@@ -66,8 +60,8 @@ returns-clause-tells g c =
     let walk : WalkFields = c.args.walk.now in
     let key : c.walk.inside.key ≡ walk.key = ap (λ (w : WalkFields). w.key) c.walk.view_is in
     let mode : c.bucket_mode-mode.result ≡ bucket_mode walk.pass walk.mode = c.bucket_mode-mode.ensures ∙ (λ i. bucket_mode (c.walk.view_is i).pass (c.walk.view_is i).mode) in
-    let bucket : BucketFields = c.in-Bucket.bucket in
+    let bucket : BucketFields = c.read_held_bucket-bucket.result.now in
     let reads : ReadsPage (view_for g.basis (before g s)) (view_for g.basis after) c.args.number c.bucket_mode-mode.result (Some (page.Bucket bucket)) =
     rebased_reads_page g.basis.before.written (view_of (before g s)) (view_of after) (ready g s).written c.args.number c.bucket_mode-mode.result (Some (page.Bucket bucket))
-    (subst (λ (p : Page). ReadsPage (view_of (before g s)) (view_of after) c.args.number c.bucket_mode-mode.result (Some p)) c.in-Bucket.is (reads_seen (view_of (before g s)) (view_of after) c.args.number c.bucket_mode-mode.result c.read_held.result.now c.in_default.ensures.view c.read_held.ensures.reads)) in
+    (reads_seen (view_of (before g s)) (view_of after) c.args.number c.bucket_mode-mode.result (page.Bucket bucket) c.in_default.ensures.view c.read_held_bucket-bucket.ensures.reads) in
     arrived g.basis walk _ (before g s) after c.bucket_mode-mode.result c.args.number c.args.depth bucket c.value_in-found.result (stands g s) mode reads (c.value_in-found.ensures ∙ ap (λ k. value_in k bucket.slots) key) c.requires.1.1.1.1.0 (ap (λ (w : WalkFields). record w { phase = at.AtBucket c.args.number c.args.depth c.value_in-found.result }) c.walk.view_is)

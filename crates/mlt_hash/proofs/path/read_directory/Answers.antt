@@ -1,15 +1,13 @@
-use Rattle.std.proofs.Common.{◌≡◌, ℕ, List, ◌+◌, Some, is_some, ap, subst, ◌∙◌, arith}
-use Rattle.mlt_page.specs.declared.page.Page.{Page}
+use Rattle.std.proofs.Common.{◌≡◌, ℕ, List, ◌+◌, Some, is_some, sym, ap, ◌∙◌, arith}
 use Rattle.mlt_page.specs.declared.page.Page.TheVariants as page
 use Rattle.mlt_hash_access.specs.Moments.{Moment, moment}
 use Rattle.mlt_hash_access.specs.Views.{ReadsPage, view_of}
 use Rattle.mlt_hash_access.proofs.Rebased.{rebased_reads_page}
-use Rattle.mlt_hash_access.proofs.Views.{reads_after_lock, reads_seen}
+use Rattle.mlt_hash_access.proofs.Views.{reads_held_after, reads_seen}
 use Rattle.mlt_hash_form.specs.Held.{over}
 use Rattle.mlt_hash.specs.Passes.{directory_mode}
 use Rattle.mlt_hash.specs.Walks.{IsHeaded, MayWalk, WalkFields, view_for}
 use Rattle.mlt_hash.specs.declared.pass.Phase.TheVariants as at
-use Rattle.mlt_hash_form.proofs.Paths.{one_page}
 use Rattle.mlt_hash.proofs.Beside.{few_before, few_beside}
 use Rattle.mlt_hash.proofs.Paths.{dir_there, placed}
 use Rattle.mlt_hash.proofs.Readings.{is_there, reads_clean}
@@ -44,18 +42,14 @@ lock-requires-clause-there g c =
     let s = (goal.at.lock-requires-clause-there g c).Start in
     is_there g.basis.before.written (before g s) (ready g s).file.clean s.args.number s.args.number (ready g s).may (ready g s).written (ready g s).file.is_clean (λ _. s.args.number) (ap is_some (dir g s).1)
 
-pub read_held-requires-clause-held : goal.read_held-requires-clause-held
-read_held-requires-clause-held g c =
-    let s = (goal.at.read_held-requires-clause-held g c).Start in
-    reads_after_lock (before g s) (moment c.args.subtx.now c.lock.new.pages) c.args.number c.directory_mode.result c.in_default.ensures.locks
-
-pub unreachable-requires : goal.unreachable-requires
-unreachable-requires g c =
-    let s = (goal.at.unreachable-requires g c).Start in
+pub read_held_dir-dir-requires-clause-dir : goal.read_held_dir-dir-requires-clause-dir
+read_held_dir-dir-requires-clause-dir g c =
+    let s = (goal.at.read_held_dir-dir-requires-clause-dir g c).Start in
     let after = moment c.args.subtx.now c.lock.new.pages in
-    let reads = rebased_reads_page g.basis.before.written (view_of (before g s)) (view_of after) (ready g s).written c.args.number c.directory_mode.result (Some c.read_held.result.now) (reads_seen (view_of (before g s)) (view_of after) c.args.number c.directory_mode.result c.read_held.result.now c.in_default.ensures.view c.read_held.ensures.reads) in
-    let read = reads_clean g.basis.before.written (before g s) after c.args.number c.directory_mode.result (Some c.read_held.result.now) (ready g s).file.clean c.lock.ensures.leaves.may (c.lock.ensures.leaves.clean (ready g s).file.clean (ready g s).file.is_clean) (stands g s).unwritten reads in
-    c.in_default-read_held.not-Dir (dir g s).0 (one_page (over (ready g s).file.clean g.basis.before.written c.args.number) c.read_held.result.now (page.Dir (dir g s).0) read (dir g s).1)
+    let sees = c.in_default.ensures.view in
+    let reads = rebased_reads_page g.basis.before.written (view_of (before g s)) (view_of after) (ready g s).written c.args.number c.directory_mode.result sees.0 sees.1 in
+    let read = reads_clean g.basis.before.written (before g s) after c.args.number c.directory_mode.result sees.0 (ready g s).file.clean c.lock.ensures.leaves.may (c.lock.ensures.leaves.clean (ready g s).file.clean (ready g s).file.is_clean) (stands g s).unwritten reads in
+    ((dir g s).0, reads_held_after (view_of (before g s)) (view_of after) c.args.number c.directory_mode.result (page.Dir (dir g s).0) sees (sym read ∙ (dir g s).1))
 
 pub returns-clause-tells : goal.returns-clause-tells
 returns-clause-tells g c =
@@ -63,9 +57,9 @@ returns-clause-tells g c =
     let after = moment c.args.subtx.now c.lock.new.pages in
     let walk : WalkFields = c.args.walk.now in
     let mode : c.directory_mode.result ≡ directory_mode walk.pass = c.directory_mode.ensures ∙ (λ i. directory_mode (c.walk.view_is i).pass) in
-    let reads : ReadsPage (view_for g.basis (before g s)) (view_for g.basis after) c.args.number c.directory_mode.result (Some (page.Dir c.in-Dir.dir)) =
-    rebased_reads_page g.basis.before.written (view_of (before g s)) (view_of after) (ready g s).written c.args.number c.directory_mode.result (Some (page.Dir c.in-Dir.dir))
-    (subst (λ (p : Page). ReadsPage (view_of (before g s)) (view_of after) c.args.number c.directory_mode.result (Some p)) c.in-Dir.is (reads_seen (view_of (before g s)) (view_of after) c.args.number c.directory_mode.result c.read_held.result.now c.in_default.ensures.view c.read_held.ensures.reads)) in (
-      placed g.basis walk _ (before g s) after c.directory_mode.result c.args.number c.args.depth c.args.row c.entry.result c.in-Dir.dir ((ready g s).bounded walk.key) (ready g s).small (stands g s) mode reads c.entry.ensures c.requires.1.1.1.1.0 (ap (λ (w : WalkFields). record w { phase = at.Placed c.entry.result c.args.depth }) c.walk.view_is),
+    let reads : ReadsPage (view_for g.basis (before g s)) (view_for g.basis after) c.args.number c.directory_mode.result (Some (page.Dir c.read_held_dir-dir.result.now)) =
+    rebased_reads_page g.basis.before.written (view_of (before g s)) (view_of after) (ready g s).written c.args.number c.directory_mode.result (Some (page.Dir c.read_held_dir-dir.result.now))
+    (reads_seen (view_of (before g s)) (view_of after) c.args.number c.directory_mode.result (page.Dir c.read_held_dir-dir.result.now) c.in_default.ensures.view c.read_held_dir-dir.ensures.reads) in (
+      placed g.basis walk _ (before g s) after c.directory_mode.result c.args.number c.args.depth c.args.row c.entry.result c.read_held_dir-dir.result.now ((ready g s).bounded walk.key) (ready g s).small (stands g s) mode reads c.entry.ensures c.requires.1.1.1.1.0 (ap (λ (w : WalkFields). record w { phase = at.Placed c.entry.result c.args.depth }) c.walk.view_is),
       omega arith,
     )

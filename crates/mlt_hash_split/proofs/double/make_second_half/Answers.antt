@@ -1,4 +1,4 @@
-use Rattle.std.proofs.Common.{◌≡◌, ◌-◌, ◌*◌, ◌%◌, ◌^◌, ap, arith}
+use Rattle.std.proofs.Common.{◌≡◌, ◌<◌, ◌-◌, ◌*◌, ◌%◌, ◌^◌, ap, arith}
 use Rattle.std.proofs.lemmas.Nat.{one_shl}
 use Rattle.mlt_hash_access.specs.Moments.{moment}
 use Rattle.mlt_hash_split.proofs.HeldPages.{clean_now}
@@ -12,8 +12,12 @@ use Rattle.mlt_hash_access.proofs.Rebased.{rebased_makes_page}
 use Rattle.mlt_hash_access.proofs.Leaving.{leaves_by_making, leaves_it, same_moment}
 use Rattle.mlt_hash_split.proofs.Later.{refused_to_make}
 use Rattle.mlt_hash_split.proofs.SecondHalf.{depth_of_second_half, few_at_second_half, place_of_second_half, goes_on_to_another_page, goes_on_to_the_header}
-use Rattle.mlt_hash_split.proofs.double.make_second_half.Goals.{then-place-split, else-place-split}
+use Rattle.mlt_hash_split.proofs.double.make_second_half.Given.{Over}
+use Rattle.mlt_hash_split.proofs.double.make_second_half.Goals.{Start, then-place-split, else-place-split}
 use Rattle.mlt_hash_split.proofs.double.make_second_half.Goals as goal
+
+place : (g : Over) (c : Start g) → c.args.place < 128
+place g c = place_of_second_half g.aim (moment c.args.subtx.now c.args.pages.now) c.args.split.now c.args.place c.requires.0 c.requires.1.may (clean_now g.aim (moment c.args.subtx.now c.args.pages.now) c.requires.1.may c.requires.1.file) c.requires.1.under_way
 
 pub make_page-requires-clause-few : goal.make_page-requires-clause-few
 make_page-requires-clause-few g c =
@@ -40,10 +44,7 @@ returns-in-Err-clause-tells g c =
     refused_to_make g.aim old new c.args.split.now c.args.split.now c.make_page.result c.in-Err.refusal (makes_second_half c.args.split.now.phase c.args.place c.requires.0) c.in-Err.is c.make_page.ensures.no_room c.in-Err.ensures.refusal
 
 pub name_page-requires : goal.name_page-requires
-name_page-requires g c =
-    let old = moment c.args.subtx.now c.args.pages.now in
-    let place = place_of_second_half g.aim old c.args.split.now c.args.place c.requires.0 c.requires.1.may (clean_now g.aim old c.requires.1.may c.requires.1.file) c.requires.1.under_way in
-    omega arith
+name_page-requires g c = let place = place g (goal.at.name_page-requires g c).Start in omega (arith, place)
 
 pub overflow_sub-split-inside : goal.overflow_sub-split-inside
 overflow_sub-split-inside g c =
@@ -60,22 +61,13 @@ overflow_shl-split-inside g c =
     omega (arith, same, depth.1)
 
 pub overflow_mul-place : goal.overflow_mul-place
-overflow_mul-place g c =
-    let old = moment c.args.subtx.now c.args.pages.now in
-    let place = place_of_second_half g.aim old c.args.split.now c.args.place c.requires.0 c.requires.1.may (clean_now g.aim old c.requires.1.may c.requires.1.file) c.requires.1.under_way in
-    omega arith
+overflow_mul-place g c = let place = place g (goal.at.overflow_mul-place g c).Start in omega (arith, place)
 
 pub overflow_add-place : goal.overflow_add-place
-overflow_add-place g c =
-    let old = moment c.args.subtx.now c.args.pages.now in
-    let place = place_of_second_half g.aim old c.args.split.now c.args.place c.requires.0 c.requires.1.may (clean_now g.aim old c.requires.1.may c.requires.1.file) c.requires.1.under_way in
-    omega arith
+overflow_add-place g c = let place = place g (goal.at.overflow_add-place g c).Start in omega (arith, place)
 
 pub overflow_add-place-2 : goal.overflow_add-place-2
-overflow_add-place-2 g c =
-    let old = moment c.args.subtx.now c.args.pages.now in
-    let place = place_of_second_half g.aim old c.args.split.now c.args.place c.requires.0 c.requires.1.may (clean_now g.aim old c.requires.1.may c.requires.1.file) c.requires.1.under_way in
-    omega arith
+overflow_add-place-2 g c = let place = place g (goal.at.overflow_add-place-2 g c).Start in omega (arith, place)
 
 pub returns-clause-leaves : goal.returns-clause-leaves
 returns-clause-leaves g c =

@@ -8,4 +8,4 @@ pub returns-in-Some-after : goal.returns-in-Some-after
 returns-in-Some-after c = commit_alone _ _ c.in-Some-after.ensures.some
 
 pub returns-in_ok-rest : goal.returns-in_ok-rest
-returns-in_ok-rest c = begin_client _ _ _ _ _ c.in_ok-after.ensures.some c.in_ok-client.ensures.words c.in_ok-rest.ensures.some c.if-client-lt1000.true
+returns-in_ok-rest c = begin_client _ _ _ _ _ c.in_ok-after.ensures.some c.in_ok-client.ensures c.in_ok-rest.ensures.some c.if-client-lt1000.true

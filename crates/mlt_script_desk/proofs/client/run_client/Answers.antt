@@ -16,7 +16,7 @@ loop-i-preserved g c =
     let one : IsOutcome script (l.i + 1) o = record { client = c.run_or_refuse-outcome.ensures.client; number = c.run_or_refuse-outcome.ensures.number; ended = c.run_or_refuse-outcome.ensures.ended } in
     rw (more, c.push_reserved.ensures.items) record {
       outcomes = outcomes_more 0 (take l.i scripts) l.outcomes.items script o (l.i + 1) l.invariant.outcomes one (omega arith);
-      runs = runs_more _ _ _ _ (take l.i scripts) c.args.desk.now l.outcomes.items l.desk script o c.run_or_refuse-outcome.new.desk l.invariant.runs c.run_or_refuse-outcome.ensures.ran;
+      runs = runs_more _ (take l.i scripts) c.args.desk.now l.outcomes.items l.desk script o c.run_or_refuse-outcome.new.desk l.invariant.runs c.run_or_refuse-outcome.ensures.ran;
       one_each = search rules;
       room = search rules;
     }

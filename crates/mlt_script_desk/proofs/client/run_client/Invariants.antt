@@ -5,7 +5,7 @@ use Rattle.mlt_script_desk.proofs.client.run_client.Given as goal
 abbrev pub invariant-loop-i : goal.invariant-loop-i
 invariant-loop-i g l = record {
   outcomes : AreOutcomes 0 (take l.i l.scripts) l.outcomes.items;
-  runs : AreRunsAt g.D.Desk.begins g.D.Answering.answers g.D.Desk.commits g.D.Desk.aborts (take l.i l.scripts) l.fn.desk l.outcomes.items l.desk;
+  runs : AreRunsAt g.D.Answering.moves (take l.i l.scripts) l.fn.desk l.outcomes.items l.desk;
   one_each : vec_len l.outcomes ≡ l.i;
   room : length l.scripts ≤ vec_capacity l.outcomes;
 }

@@ -17,4 +17,4 @@ returns-in-Ok-clause-run g c = rw c.tx.view_is (inr record {
 
 pub returns-in-Ok-clause-ended : goal.returns-in-Ok-clause-ended
 returns-in-Ok-clause-ended g c =
-    ended_as g.D.Answering.answers g.D.Desk.commits g.D.Desk.aborts c.args.script.now c.begin.new.self c.play-ended.new.desk _ c.play-ended.new.done.items c.play-ended.result _ c.close-end.new.desk c.play-ended.ensures c.close-end.ensures
+    ended_as g.D.Answering.moves c.args.script.now c.begin.new.self c.play-ended.new.desk _ c.play-ended.new.done.items c.play-ended.result _ c.close-end.new.desk c.play-ended.ensures c.close-end.ensures

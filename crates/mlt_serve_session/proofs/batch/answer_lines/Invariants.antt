@@ -2,13 +2,12 @@
 use Rattle.std.proofs.Common.{◌≤◌, ◌+◌, ◌-◌, length}
 use Rattle.std.specs.String.{string_bytes}
 use Rattle.mlt_serve_session.specs.Batches.{Reaches, front}
-use Rattle.mlt_serve_session.specs.Desks.{moves}
 use Rattle.mlt_serve_session.specs.Turns.{place}
 use Rattle.mlt_serve_session.proofs.batch.answer_lines.Given as goal
 
 abbrev pub invariant-loop-notes : goal.invariant-loop-notes
 invariant-loop-notes g l = record {
-  reaches : Reaches (moves g.D.Desk.begins g.D.Answering.answers g.D.Desk.commits g.D.Desk.aborts) l.client (place l.client l.initial.notes l.initial.desk) (front l.text l.at) (string_bytes l.initial.out) (string_bytes l.out) (place l.client l.notes l.desk);
+  reaches : Reaches g.D.Answering.moves l.client (place l.client l.initial.notes l.initial.desk) (front l.text l.at) (string_bytes l.initial.out) (string_bytes l.out) (place l.client l.notes l.desk);
   lines : l.notes.progress.lines ≤ l.initial.notes.progress.lines + l.at;
   commits : l.notes.progress.commits ≤ l.notes.progress.lines;
   begun : l.notes.progress.begun ≤ l.notes.progress.lines;

@@ -1,5 +1,4 @@
 use Rattle.std.proofs.Common.{ap, sym, ◌∙◌}
-use Rattle.mlt_serve_session.specs.Desks.{moves}
 use Rattle.mlt_serve_session.specs.Turns.{place}
 use Rattle.mlt_serve_session.proofs.Closing.{none_pending}
 use Rattle.mlt_serve_session.proofs.Outcomes.{answers_broken, answers_done, answers_long}
@@ -10,7 +9,7 @@ use Rattle.mlt_serve_session.proofs.sessions.converse.Goals as goal
 pub returns-then-progress-clause-answers : goal.returns-then-progress-clause-answers
 returns-then-progress-clause-answers g c =
     let new = c.new-notes.ensures.progress in
-    answers_long _ _ _ _ (speaks_long (moves g.D.Desk.begins g.D.Answering.answers g.D.Desk.commits g.D.Desk.aborts) c.args.client (place c.args.client c.new-notes.result c.args.desk.now) (place c.args.client c.listen-listened.new.notes c.listen-listened.new.desk) c.finish.new.desk
+    answers_long _ _ _ _ (speaks_long g.D.Answering.moves c.args.client (place c.args.client c.new-notes.result c.args.desk.now) (place c.args.client c.listen-listened.new.notes c.listen-listened.new.desk) c.finish.new.desk
     (g.R.Read.remaining c.args.reader.now) (g.R.Read.remaining c.listen-listened.new.reader) (g.W.Write.contents c.args.writer.now) (g.W.Write.contents c.listen-listened.new.writer) c.args.outcomes.now.items c.finish.result.items
     (none_pending c.args.client c.new-notes.result.progress.begun c.new-notes.result.progress.tx c.new-notes.result.done.items c.new-notes.result.outcomes.items (ap (λ p. p.tx) new) ∙ c.new-notes.ensures.outcomes ∙ ap (λ v. v.items) c.replace.ensures.value)
     (sym c.finish.ensures.outcomes)
@@ -19,7 +18,7 @@ returns-then-progress-clause-answers g c =
 pub returns-clause-answers : goal.returns-clause-answers
 returns-clause-answers g c =
     let new = c.new-notes.ensures.progress in
-    answers_done _ _ _ _ _ (sums (moves g.D.Desk.begins g.D.Answering.answers g.D.Desk.commits g.D.Desk.aborts) c.args.client (place c.args.client c.new-notes.result c.args.desk.now) (place c.args.client c.listen-listened.new.notes c.listen-listened.new.desk) c.finish.new.desk
+    answers_done _ _ _ _ _ (sums g.D.Answering.moves c.args.client (place c.args.client c.new-notes.result c.args.desk.now) (place c.args.client c.listen-listened.new.notes c.listen-listened.new.desk) c.finish.new.desk
     (g.R.Read.remaining c.args.reader.now) (g.R.Read.remaining c.listen-listened.new.reader) (g.W.Write.contents c.args.writer.now) (g.W.Write.contents c.listen-listened.new.writer) c.args.outcomes.now.items c.finish.result.items
     (none_pending c.args.client c.new-notes.result.progress.begun c.new-notes.result.progress.tx c.new-notes.result.done.items c.new-notes.result.outcomes.items (ap (λ p. p.tx) new) ∙ c.new-notes.ensures.outcomes ∙ ap (λ v. v.items) c.replace.ensures.value)
     (sym c.finish.ensures.outcomes)
@@ -29,12 +28,12 @@ pub returns-in_err-listened-clause-answers : goal.returns-in_err-listened-clause
 returns-in_err-listened-clause-answers g c =
     let new = c.new-notes.ensures.progress in
     answers_broken _ _ _ _ c.from_residual.result c.in_err-listened.field-0.0 c.from_residual.ensures.1 c.in_err-listened.ensures.refusal
-    (breaks_off (moves g.D.Desk.begins g.D.Answering.answers g.D.Desk.commits g.D.Desk.aborts) c.args.client (place c.args.client c.new-notes.result c.args.desk.now) (place c.args.client c.listen-listened.new.notes c.listen-listened.new.desk) c.finish.new.desk
+    (breaks_off g.D.Answering.moves c.args.client (place c.args.client c.new-notes.result c.args.desk.now) (place c.args.client c.listen-listened.new.notes c.listen-listened.new.desk) c.finish.new.desk
     (g.R.Read.remaining c.args.reader.now) (g.R.Read.remaining c.listen-listened.new.reader) (g.W.Write.contents c.args.writer.now) (g.W.Write.contents c.listen-listened.new.writer) c.args.outcomes.now.items c.finish.result.items
     (none_pending c.args.client c.new-notes.result.progress.begun c.new-notes.result.progress.tx c.new-notes.result.done.items c.new-notes.result.outcomes.items (ap (λ p. p.tx) new) ∙ c.new-notes.ensures.outcomes ∙ ap (λ v. v.items) c.replace.ensures.value)
     (sym c.finish.ensures.outcomes)
     (ap (λ p. p.over) new) (ap (λ p. p.tx) new) (ap (λ p. p.begun) new) c.in_err-listened.ensures.err c.finish.ensures.asked)
-    (λ io. hears_all (moves g.D.Desk.begins g.D.Answering.answers g.D.Desk.commits g.D.Desk.aborts) c.args.client (place c.args.client c.new-notes.result c.args.desk.now) (place c.args.client c.listen-listened.new.notes c.listen-listened.new.desk) c.finish.new.desk
+    (λ io. hears_all g.D.Answering.moves c.args.client (place c.args.client c.new-notes.result c.args.desk.now) (place c.args.client c.listen-listened.new.notes c.listen-listened.new.desk) c.finish.new.desk
     (g.R.Read.remaining c.args.reader.now) (g.R.Read.remaining c.listen-listened.new.reader) (g.W.Write.contents c.args.writer.now) (g.W.Write.contents c.listen-listened.new.writer) c.args.outcomes.now.items c.finish.result.items
     (none_pending c.args.client c.new-notes.result.progress.begun c.new-notes.result.progress.tx c.new-notes.result.done.items c.new-notes.result.outcomes.items (ap (λ p. p.tx) new) ∙ c.new-notes.ensures.outcomes ∙ ap (λ v. v.items) c.replace.ensures.value)
     (sym c.finish.ensures.outcomes)

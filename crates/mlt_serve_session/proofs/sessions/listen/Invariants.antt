@@ -1,13 +1,12 @@
 -- The session goes on.
 use Rattle.std.proofs.Common.{◌≡◌, ◌≤◌, take, false}
 use Rattle.mlt_serve_session.specs.Rounds.{Listens, streams}
-use Rattle.mlt_serve_session.specs.Desks.{moves}
 use Rattle.mlt_serve_session.specs.Turns.{place}
 use Rattle.mlt_serve_session.proofs.sessions.listen.Given as goal
 
 abbrev pub invariant-rounds : goal.invariant-rounds
 invariant-rounds g l = record {
-  listens : Listens (moves g.D.Desk.begins g.D.Answering.answers g.D.Desk.commits g.D.Desk.aborts) l.client (place l.client l.initial.notes l.initial.desk) (streams (g.R.Read.remaining l.initial.reader) (g.R.Read.remaining l.reader)
+  listens : Listens g.D.Answering.moves l.client (place l.client l.initial.notes l.initial.desk) (streams (g.R.Read.remaining l.initial.reader) (g.R.Read.remaining l.reader)
       (g.W.Write.contents l.initial.writer) (g.W.Write.contents l.writer)) (take l.held l.buffer) l.total (place l.client l.notes l.desk);
   held : l.held ≤ 200;
   total : l.total ≤ 16777216;

@@ -1,5 +1,5 @@
 use Rattle.std.proofs.Common.{refl, sym, ap}
-use Rattle.mlt_serve_session.specs.declared.call.Answer.TheVariants.{Refused}
+use Rattle.mlt_script_cursor.specs.declared.call.DeskAnswer.TheVariants.{Refused}
 use Rattle.mlt_serve_session.specs.Noting.{committed_noted}
 use Rattle.mlt_serve_session.proofs.Closing.{unchanged, closed}
 use Rattle.mlt_serve_session.proofs.Stepping.{unanswered, committed}
@@ -11,7 +11,7 @@ returns-in-Ok g c =
     let new = c.close.new.self in
     let progress = c.close.ensures.progress in
     record {
-      moved = c.in-Ok.ensures;
+      moved = (refl, c.in-Ok.ensures);
       noted_so = closed c.args.client old.progress.begun c.args.tx c.in-Ok.number new.progress.begun old.progress.tx new.progress.tx old.done.items new.done.items old.outcomes.items new.outcomes.items
           c.requires.is_open (ap (λ p. p.tx) progress) c.close.ensures.outcomes;
       after = committed old.progress new.progress c.in-Ok.number progress;
@@ -21,7 +21,7 @@ pub returns-in-Err : goal.returns-in-Err
 returns-in-Err g c =
     let old = c.args.notes.now in
     record {
-      moved = c.in-Err.ensures;
+      moved = (refl, c.in-Err.ensures);
       noted_so = unchanged (committed_noted (Refused c.in-Err.refusal)) c.args.client old.progress.begun c.args.tx old.progress.tx old.done.items old.done.items old.outcomes.items c.requires.is_open refl (λ o. refl);
       after = sym (unanswered old.progress);
     }

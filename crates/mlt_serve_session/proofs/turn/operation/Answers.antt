@@ -1,5 +1,5 @@
 use Rattle.std.proofs.Common.{refl, sym}
-use Rattle.mlt_serve_session.specs.declared.call.Answer.TheVariants.{Refused}
+use Rattle.mlt_script_cursor.specs.declared.call.DeskAnswer.TheVariants.{Refused}
 use Rattle.mlt_serve_session.specs.Noting.{replied_noted}
 use Rattle.mlt_serve_session.proofs.Closing.{replied, unchanged}
 use Rattle.mlt_serve_session.proofs.Stepping.{unanswered}
@@ -9,7 +9,7 @@ pub returns-in-Ok-clause-told : goal.returns-in-Ok-clause-told
 returns-in-Ok-clause-told g c =
     let old = c.args.notes.now in
     record {
-      moved = c.in-Ok.ensures;
+      moved = (refl, c.in-Ok.ensures);
       noted_so = replied c.args.client old.progress.begun c.args.tx old.progress.tx c.args.op c.in-Ok.reply old.done.items c.push_reserved.new.self.items old.outcomes.items c.requires.is_open
           (rw (c.push_reserved.ensures.items, c.reserve.ensures.items, c.new.ensures) refl);
       after = sym (unanswered old.progress);
@@ -19,7 +19,7 @@ pub returns-in-Err-clause-told : goal.returns-in-Err-clause-told
 returns-in-Err-clause-told g c =
     let old = c.args.notes.now in
     record {
-      moved = c.in-Err.ensures;
+      moved = (refl, c.in-Err.ensures);
       noted_so = unchanged (replied_noted c.args.op (Refused c.in-Err.refusal)) c.args.client old.progress.begun c.args.tx old.progress.tx old.done.items c.reserve.new.self.items old.outcomes.items c.requires.is_open
           c.reserve.ensures.items (λ o. refl);
       after = sym (unanswered old.progress);

@@ -28,10 +28,10 @@ returns-in_default-decided-clause-passes g c =
     let key : c.target-key.result.0 ≡ (target_of (Do op)).0 = ap (λ (t : ℕ × Mode). t.0) c.target-key.ensures in
     let alone : size_key_of (Do op) ≡ None = no_key (size_key_of (Do op)) (ap is_some (sym c.size_key.ensures) ∙ sym c.is_some.ensures ∙ c.if-is_some.false) in
     let way = c.in-Some.ensures.path in
-    let path : IsPath (page_at m.store.pages) basis.root (basis.bits (target_of (Do op)).0) way.0 way.1 c.in-Some.place.0 c.in-Some.place.1.now =
-    subst (λ k. IsPath (page_at m.store.pages) basis.root (basis.bits k) way.0 way.1 c.in-Some.place.0 c.in-Some.place.1.now) key way.2 in
-    let found : c.value_in-found.result ≡ value_in (target_of (Do op)).0 c.in-Some.place.1.now.slots = c.value_in-found.ensures ∙ ap (λ k. value_in k c.in-Some.place.1.now.slots) key in
-    passes_reading basis m op c.requires.free alone c.requires.ready way.0 way.1 c.in-Some.place.0 c.in-Some.place.1.now path c.decide-reply.result.0
+    let path : IsPath (page_at m.store.pages) basis.root (basis.bits (target_of (Do op)).0) way.0 way.1 c.in-Some.home.0 c.in-Some.home.1.now =
+    subst (λ k. IsPath (page_at m.store.pages) basis.root (basis.bits k) way.0 way.1 c.in-Some.home.0 c.in-Some.home.1.now) key way.3 in
+    let found : c.value_in-found.result ≡ value_in (target_of (Do op)).0 c.in-Some.home.1.now.slots = c.value_in-found.ensures ∙ ap (λ k. value_in k c.in-Some.home.1.now.slots) key in
+    passes_reading basis m op c.requires.free alone c.requires.ready way.0 way.1 c.in-Some.home.0 c.in-Some.home.1.now path c.decide-reply.result.0
     (ap (decision (Do op)) (sym found) ∙ sym c.decide-reply.ensures.told ∙ (λ i. (c.decide-reply.result.0, c.in_default-decided.is i)))
 
 pub returns-clause-passes : goal.returns-clause-passes
@@ -42,21 +42,21 @@ returns-clause-passes g c =
     let key : c.target-key.result.0 ≡ (target_of (Do op)).0 = ap (λ (t : ℕ × Mode). t.0) c.target-key.ensures in
     let alone : size_key_of (Do op) ≡ None = no_key (size_key_of (Do op)) (ap is_some (sym c.size_key.ensures) ∙ sym c.is_some.ensures ∙ c.if-is_some.false) in
     let way = c.in-Some.ensures.path in
-    let fields : BucketFields = c.in-Some.place.1.now in
-    let path : IsPath (page_at m.store.pages) basis.root (basis.bits (target_of (Do op)).0) way.0 way.1 c.in-Some.place.0 fields =
-    subst (λ k. IsPath (page_at m.store.pages) basis.root (basis.bits k) way.0 way.1 c.in-Some.place.0 fields) key way.2 in
+    let fields : BucketFields = c.in-Some.home.1.now in
+    let path : IsPath (page_at m.store.pages) basis.root (basis.bits (target_of (Do op)).0) way.0 way.1 c.in-Some.home.0 fields =
+    subst (λ k. IsPath (page_at m.store.pages) basis.root (basis.bits k) way.0 way.1 c.in-Some.home.0 fields) key way.3 in
     let found : c.value_in-found.result ≡ value_in (target_of (Do op)).0 fields.slots = c.value_in-found.ensures ∙ ap (λ k. value_in k fields.slots) key in
     let value : ℕ = c.in_ok-value.value in
     let performs : Performs c.in-Some-decided.change (value_in (target_of (Do op)).0 fields.slots) (change.Set value) = subst (λ f. Performs c.in-Some-decided.change f (change.Set value)) found c.in_ok-value.ensures.performs in
     let some : IsSome (value_in (target_of (Do op)).0 fields.slots) = subst (λ (f : Option ℕ). IsSome f) found c.in_ok-value.ensures.found in
-    let plan : SetsFirst c.in-Some.place.0 fields (is_live_of (target_of (Do op)).0) (Live (target_of (Do op)).0 value) c.in_ok-write.write =
-    subst (λ k. SetsFirst c.in-Some.place.0 fields (is_live_of k) (Live k value) c.in_ok-write.write) key c.in_ok-write.ensures.plan in
+    let plan : SetsFirst c.in-Some.home.0 fields (is_live_of (target_of (Do op)).0) (Live (target_of (Do op)).0 value) c.in_ok-write.write =
+    subst (λ k. SetsFirst c.in-Some.home.0 fields (is_live_of k) (Live k value) c.in_ok-write.write) key c.in_ok-write.ensures.plan in
     subst (λ (w : WriteFields). PassesAtOnce basis m (started_for (Do op)) c.decide-reply.result.0 (store_after (Some w) m.store)) (sym plan.written)
-    (passes_writing basis m op c.requires.free alone c.requires.ready way.0 way.1 c.in-Some.place.0 fields path c.decide-reply.result.0 c.in-Some-decided.change value plan.slot
+    (passes_writing basis m op c.requires.free alone c.requires.ready way.0 way.1 c.in-Some.home.0 fields path c.decide-reply.result.0 c.in-Some-decided.change value plan.slot
     (ap (decision (Do op)) (sym found) ∙ sym c.decide-reply.ensures.told ∙ (λ i. (c.decide-reply.result.0, c.in-Some-decided.is i))) performs some
     (record { slot = plan.slot; within = plan.within; was = plan.was; first = plan.first; written = refl }))
 
 pub returns-clause-writes : goal.returns-clause-writes
 returns-clause-writes g c =
     let plan = c.in_ok-write.ensures.plan in
-    subst (λ (w : WriteFields). CanWrite (Some w) c.args.pages.now.store) (sym plan.written) ((c.in-Some.place.1.now, c.in-Some.ensures.path.2.found), plan.within)
+    subst (λ (w : WriteFields). CanWrite (Some w) c.args.pages.now.store) (sym plan.written) ((c.in-Some.home.1.now, c.in-Some.ensures.path.3.found), plan.within)

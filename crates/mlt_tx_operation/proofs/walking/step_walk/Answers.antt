@@ -27,7 +27,7 @@ act_on-requires g c =
     let before : WalkingFields = walking c.args.request.now c.args.reply.now c.args.walk.now in
     let at : WalkingFields = walking c.args.request.now c.args.reply.now c.advance.new.self in
     let tx : mid.running.tx ≡ old.running.tx = step_keeps_tx old mid c.in-Found.ensures.leaves.touches in
-    let decides = may_decide basis old mid before at c.in-Found.found c.requires.ready c.in-Found.ensures.leaves c.in-Found.ensures.tells refl refl in
+    let decides = may_decide basis old mid before at c.in-Found.found c.requires.ready c.in-Found.ensures.leaves c.in-Found.ensures.tells refl c.requires.untold in
     record { ready = subst (λ (t : ℕ). MayDecide (basis_in g.P.Pseudo.bits_of c.args.setting.now t) mid at c.in-Found.found) (sym tx) decides }
 
 pub returns-in-Going : goal.returns-in-Going
@@ -36,7 +36,7 @@ returns-in-Going g c =
     let old : Moment = moment c.args.subtx.now c.args.pages.now in
     let mid : Moment = moment c.advance.new.subtx c.advance.new.pages in
     let before : WalkingFields = walking c.args.request.now c.args.reply.now c.args.walk.now in
-    record { tells = inl (goes_on basis old mid before _ c.requires.ready c.in-Going.ensures.leaves c.in-Going.ensures.tells refl refl) }
+    record { tells = inl (goes_on basis old mid before _ c.requires.ready c.in-Going.ensures.leaves c.in-Going.ensures.tells refl refl c.requires.untold) }
 
 pub returns-in-Waiting : goal.returns-in-Waiting
 returns-in-Waiting g c =

@@ -62,9 +62,9 @@ returns-in-Found g c =
     let mid : Moment = moment c.advance.new.subtx c.advance.new.pages in
     let new : Moment = moment c.act_on_own.new.subtx c.act_on_own.new.pages in
     let tx : mid.running.tx ≡ old.running.tx = step_keeps_tx old mid c.in-Found.ensures.leaves.touches in
-    let there : TellsAtOwn basis mid new c.args.request.now c.advance.new.self c.act_on_own.new.walk c.act_on_own.result =
-    subst (λ (t : ℕ). TellsAtOwn (basis_in g.P.Pseudo.bits_of c.args.setting.now t) mid new c.args.request.now c.advance.new.self c.act_on_own.new.walk c.act_on_own.result) tx c.act_on_own.ensures.tells in
-    record { tells = tells_there basis old c.args.request.now c.args.walk.now c.requires.ready mid c.advance.new.self c.in-Found.ensures.leaves c.in-Found.found c.in-Found.ensures.locks c.in-Found.ensures.tells new c.act_on_own.new.walk c.act_on_own.result there }
+    let there : TellsAtOwn basis mid new c.args.request.now c.advance.new.self c.act_on_own.result.0 c.act_on_own.new.walk c.act_on_own.result.1 =
+    subst (λ (t : ℕ). TellsAtOwn (basis_in g.P.Pseudo.bits_of c.args.setting.now t) mid new c.args.request.now c.advance.new.self c.act_on_own.result.0 c.act_on_own.new.walk c.act_on_own.result.1) tx c.act_on_own.ensures.tells in
+    record { tells = tells_there basis old c.args.request.now c.args.walk.now c.requires.ready mid c.advance.new.self c.in-Found.ensures.leaves c.in-Found.found c.in-Found.ensures.locks c.in-Found.ensures.tells new c.act_on_own.result.0 c.act_on_own.new.walk c.act_on_own.result.1 there }
 
 pub returns-in-Changed : goal.returns-in-Changed
 returns-in-Changed g c =

@@ -6,4 +6,4 @@ abbrev pub ghosts-run_with-L-Ledger : goal.ghosts-run_with-L-Ledger
 ghosts-run_with-L-Ledger g a = record { name = a.blank.name; parts = a.blank.parts }
 
 abbrev pub ghosts-run_with-L-MadeWith : goal.ghosts-run_with-L-MadeWith
-ghosts-run_with-L-MadeWith g a = record { made_with = Some (making_by a.limits a.pseudo) }
+ghosts-run_with-L-MadeWith g a = record { made_with = Some (making_by a.options.now.limits a.pseudo) }

@@ -2,42 +2,33 @@ use Rattle.std.proofs.Common.{◌≡◌, ℕ, ◌/◌, ◌%◌, slice_index, Non
 use Rattle.mlt_types.specs.declared.mode.Mode.TheVariants.{Exclusive}
 use Rattle.mlt_page.specs.Bits.{first_bits}
 use Rattle.mlt_page.specs.Values.{HeadFields}
-use Rattle.mlt_page.specs.declared.page.Page.{Page}
 use Rattle.mlt_page.specs.declared.page.Page.TheVariants as page
-use Rattle.mlt_page_locks.specs.LockTables.{can_read}
 use Rattle.mlt_hash_access.specs.Moments.{Moment, moment}
 use Rattle.mlt_hash_access.specs.Views.{ReadsHeldPage, view_of}
 use Rattle.mlt_hash.specs.Walks.{MayWalk, WalkFields, basis_after, before_of}
 use Rattle.mlt_hash.specs.declared.pass.Phase.TheVariants as at
-use Rattle.mlt_hash.proofs.Turning.{goes_on, may_read_header, reads_header, slots_stood, small}
+use Rattle.mlt_hash.proofs.Turning.{goes_on, header_read, slots_stood, small}
 use Rattle.mlt_hash.proofs.walk.Walk.go_on_to.Goals as goal
 
-pub read_held-requires-clause-held : goal.read_held-requires-clause-held
-read_held-requires-clause-held g c =
+pub read_held_head-header-requires-clause-head : goal.read_held_head-header-requires-clause-head
+read_held_head-header-requires-clause-head g c =
     let m : Moment = moment c.args.subtx.now c.args.pages.now in
-    subst (λ (q : ℕ). can_read m.locks m.running.tx q ≡ true) (sym c.requires.1.0) (may_read_header g.basis c.args.self.now m c.requires.1.1.1.0 c.requires.1.1.1.1.0 c.requires.1.1.1.1.1.0 c.requires.1.1.1.1.1.1)
-
-pub unreachable-requires : goal.unreachable-requires
-unreachable-requires g c =
-    let m : Moment = moment c.args.subtx.now c.args.pages.now in
-    let reads = subst (λ (q : ℕ). ReadsHeldPage (view_of m) q c.read_held.result.now) c.requires.1.0 c.read_held.ensures.reads in
-    let head = reads_header g.basis c.args.self.now m c.requires.1.1.1.0 c.requires.1.1.1.1.0 c.requires.1.1.1.1.1.0 c.requires.1.1.1.1.1.1 c.read_held.result.now reads in
-    c.in_default.not-Head head.0 head.1
+    subst (λ (q : ℕ). (h : HeadFields) × ReadsHeldPage (view_of m) q (page.Head h)) (sym c.requires.1.0) (header_read g.basis c.args.self.now m c.requires.1.1.1.0 c.requires.1.1.1.1.0 c.requires.1.1.1.1.1.0 c.requires.1.1.1.1.1.1)
 
 pub of-place-requires : goal.of-place-requires
 of-place-requires g c =
     let m : Moment = moment c.args.subtx.now c.args.pages.now in
     let h : HeadFields = record { depth = c.header.inside.depth; dirs = c.header.inside.dirs } in
-    let reads = subst (λ (q : ℕ). ReadsHeldPage (view_of m) q c.read_held.result.now) c.requires.1.0 c.read_held.ensures.reads in
-    let head = subst (λ (p : Page). ReadsHeldPage (view_of m) g.basis.root p) (c.in-Head.is ∙ ap page.Head (sym c.header.view_is)) reads in
+    let reads = subst (λ (q : ℕ). ReadsHeldPage (view_of m) q (page.Head c.read_held_head-header.result.now)) c.requires.1.0 c.read_held_head-header.ensures.reads in
+    let head = subst (λ (h : HeadFields). ReadsHeldPage (view_of m) g.basis.root (page.Head h)) (sym c.header.view_is) reads in
     small g.basis c.args.self.now m c.requires.1.1.1.0 c.requires.1.1.1.1.0 c.requires.1.1.1.1.1.0 c.requires.1.1.1.1.1.1 h head
 
 pub returns-clause-ready : goal.returns-clause-ready
 returns-clause-ready g c =
     let m : Moment = moment c.args.subtx.now c.args.pages.now in
     let h : HeadFields = record { depth = c.header.inside.depth; dirs = c.header.inside.dirs } in
-    let reads = subst (λ (q : ℕ). ReadsHeldPage (view_of m) q c.read_held.result.now) c.requires.1.0 c.read_held.ensures.reads in
-    let head = subst (λ (p : Page). ReadsHeldPage (view_of m) g.basis.root p) (c.in-Head.is ∙ ap page.Head (sym c.header.view_is)) reads in
+    let reads = subst (λ (q : ℕ). ReadsHeldPage (view_of m) q (page.Head c.read_held_head-header.result.now)) c.requires.1.0 c.read_held_head-header.ensures.reads in
+    let head = subst (λ (h : HeadFields). ReadsHeldPage (view_of m) g.basis.root (page.Head h)) (sym c.header.view_is) reads in
     let bits = c.bits.ensures ∙ (λ i. c.requires.1.1.0 i c.args.key) in
     let on = goes_on g.basis c.args.self.now m c.requires.1.1.1.0 c.requires.1.1.1.1.0 c.requires.1.1.1.1.1.0 c.requires.1.1.1.1.1.1 h head c.args.key c.dir.result c.of-place.result.entry c.header.inside.depth
     (c.dir.ensures ∙ ap (λ (h : HeadFields). slice_index h.dirs c.of-place.result.dir) (sym c.header.view_is) ∙ ap (slice_index c.header.inside.dirs) c.of-place.ensures.dir ∙ ap (λ x. slice_index c.header.inside.dirs (first_bits c.header.inside.depth x / 256)) bits)

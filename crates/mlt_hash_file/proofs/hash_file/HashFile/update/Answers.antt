@@ -24,9 +24,9 @@ update-requires g c κs within = (
   (
     c.find.ensures.arrives.same.mode ∙ (λ i. (c.find-walk.ensures i).mode),
     (
-      at_record (g.P.Pseudo.bits_of c.self.inside.root.pseudo) c.self.inside.root.page c.self.inside.root.max_depth c.self.inside.runner c.find.new.self c.find-walk.result c.find.new.walk c.find.result.0 c.self.invariant.0 c.self.invariant.1 c.find.ensures.keeps c.find.ensures.alone c.find.ensures.arrives
+      at_record (g.P.Pseudo.bits_of c.self.inside.root.pseudo) c.self.inside.root.page c.self.inside.root.max_depth c.self.inside.runner c.find.new.self c.find-walk.result c.find.new.walk c.find.result c.self.invariant.0 c.self.invariant.1 c.find.ensures.keeps c.find.ensures.alone c.find.ensures.arrives
           (subst IsSome (sym (λ i. map.get (live_records ((c.self.view_is i).pages)) ((c.find-walk.ensures i).key))) c.requires.present),
-      ready_there nothing_before g.P.Pseudo.bits_of c.self.inside.root c.self.inside.runner c.find.new.self c.find-walk.result c.find.new.walk c.find.result.0 c.find.ensures.keeps c.find.ensures.written (file_before (g.P.Pseudo.bits_of c.self.inside.root.pseudo) c.self.inside.root.page c.self.inside.root.max_depth c.self.inside.runner c.self.invariant.0 c.self.invariant.1) c.find.ensures.arrives,
+      ready_there nothing_before g.P.Pseudo.bits_of c.self.inside.root c.self.inside.runner c.find.new.self c.find-walk.result c.find.new.walk c.find.result c.find.ensures.keeps c.find.ensures.written (file_before (g.P.Pseudo.bits_of c.self.inside.root.pseudo) c.self.inside.root.page c.self.inside.root.max_depth c.self.inside.runner c.self.invariant.0 c.self.invariant.1) c.find.ensures.arrives,
     ),
   ),
 )

@@ -15,8 +15,8 @@ put-requires g c κs within = (
   (
     c.find.ensures.arrives.same.mode ∙ c.requires.mode,
     (
-      absent_here nothing_before (g.P.Pseudo.bits_of c.args.root.now.pseudo) c.args.root.now.page c.args.root.now.max_depth c.args.self.now c.find.new.self c.args.walk.now c.find.new.walk c.find.result.0 c.find.ensures.alone c.find.ensures.keeps c.find.ensures.arrives c.requires.absent,
-      ready_there nothing_before g.P.Pseudo.bits_of c.args.root.now c.args.self.now c.find.new.self c.args.walk.now c.find.new.walk c.find.result.0 c.find.ensures.keeps c.find.ensures.written c.requires.file c.find.ensures.arrives,
+      absent_here nothing_before (g.P.Pseudo.bits_of c.args.root.now.pseudo) c.args.root.now.page c.args.root.now.max_depth c.args.self.now c.find.new.self c.args.walk.now c.find.new.walk c.find.result c.find.ensures.alone c.find.ensures.keeps c.find.ensures.arrives c.requires.absent,
+      ready_there nothing_before g.P.Pseudo.bits_of c.args.root.now c.args.self.now c.find.new.self c.args.walk.now c.find.new.walk c.find.result c.find.ensures.keeps c.find.ensures.written c.requires.file c.find.ensures.arrives,
     ),
   ),
 )

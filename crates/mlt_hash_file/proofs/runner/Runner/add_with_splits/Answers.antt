@@ -25,8 +25,8 @@ returns-in-NeedSplit-clause-keeps g c = keeps_both c.args.self.now c.add_again.n
 
 pub returns-in-NeedSplit-clause-tells : goal.returns-in-NeedSplit-clause-tells
 returns-in-NeedSplit-clause-tells g c =
-    let tells = splits_before nothing_before (g.P.Pseudo.bits_of c.args.root.now.pseudo) c.args.root.now.page c.args.root.now.max_depth c.args.self.now c.add_again.new.self c.split.new.self c.add_again.new.walk c.split.new.walk _ _ c.split.result.0 c.in-NeedSplit.ensures.keeps c.split.ensures.tells in
-    splits_are_later (basis_of nothing_before (g.P.Pseudo.bits_of c.args.root.now.pseudo) c.args.root.now.page c.args.root.now.max_depth c.args.self.now) c.add_again.new.self c.split.new.self _ c.add_again.new.walk c.split.new.walk c.args.value c.split.result.0 c.split.ensures.keeps c.in-NeedSplit.ensures.tells c.requires.later tells
+    let tells = splits_before nothing_before (g.P.Pseudo.bits_of c.args.root.now.pseudo) c.args.root.now.page c.args.root.now.max_depth c.args.self.now c.add_again.new.self c.split.new.self c.add_again.new.walk c.split.new.walk _ _ c.split.result c.in-NeedSplit.ensures.keeps c.split.ensures.tells in
+    splits_are_later (basis_of nothing_before (g.P.Pseudo.bits_of c.args.root.now.pseudo) c.args.root.now.page c.args.root.now.max_depth c.args.self.now) c.add_again.new.self c.split.new.self _ c.add_again.new.walk c.split.new.walk c.args.value c.split.result c.split.ensures.keeps c.in-NeedSplit.ensures.tells c.requires.later tells
 
 pub returns-in_default : goal.returns-in_default
 returns-in_default g c = record {

@@ -1,6 +1,3 @@
-use Rattle.std.specs.Prelude.{◌≤◌, ◌+◌}
-use Rattle.mlt_hash_access.specs.Views.{view_over}
-use Rattle.mlt_hash.specs.StepsLeft.{steps_to_put}
 use Rattle.mlt_hash_file.specs.Alone.{basis_of}
 use Rattle.mlt_hash_file.proofs.AloneSplits.{IsSplittingOn, effort}
 use Rattle.mlt_hash_file.proofs.runner.Runner.split.Given as goal
@@ -11,7 +8,6 @@ ghost-step g a = g.since
 abbrev pub invariant-loop-answer : goal.invariant-loop-answer
 invariant-loop-answer g l =
     IsSplittingOn (basis_of g.since (g.P.Pseudo.bits_of l.root.pseudo) l.root.page l.root.max_depth l.fn.self) l.fn.self l.self l.fn.walk l.walk
-    × (l.steps + steps_to_put l.root.page l.walk (view_over g.since.written l.self) ≤ steps_to_put l.root.page l.fn.walk (view_over g.since.written l.fn.self))
 
 abbrev pub decreases-loop-answer : goal.decreases-loop-answer
 decreases-loop-answer g l = effort l.walk l.self

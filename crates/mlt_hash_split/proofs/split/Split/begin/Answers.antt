@@ -9,17 +9,22 @@ use Rattle.mlt_hash_access.proofs.Since.{reads_over_writes}
 use Rattle.mlt_hash_form.specs.Form.{half_of}
 use Rattle.mlt_hash_split.specs.Rests.{Aim, aim_by, held_page, seed_of}
 use Rattle.mlt_hash_split.proofs.Beginning.{begun, deeper_fits, few_at_rest, halves_made}
-use Rattle.mlt_hash_split.proofs.HeldPages.{clean_now, reads_as, same_bucket, same_header}
+use Rattle.mlt_hash_split.proofs.HeldPages.{clean_now, header_as_read, reads_as, reads_held, same_bucket, same_header}
 use Rattle.mlt_hash_split.proofs.split.Split.begin.Goals as goal
+
+pub read_held_head-header-requires-clause-head : goal.read_held_head-header-requires-clause-head
+read_held_head-header-requires-clause-head g c =
+    let m = moment c.args.subtx.now c.args.pages.now in
+    let begins = c.requires.1.1.1.1.1 in
+    (begins.header, reads_held g.aim.before m c.args.setting.now.root.now.page g.aim.root (page.Head begins.header) (sym (ap (λ (a : Aim). a.root) c.requires.1.0)) c.requires.1.1.1.0 begins.rest.head_held begins.rest.head)
 
 pub overflow_add-made : goal.overflow_add-made
 overflow_add-made g c =
     let m = moment c.args.subtx.now c.args.pages.now in
     let header : HeadFields = record { depth = c.header.inside.depth; dirs = c.header.inside.dirs } in
     let head : held_page (view_over g.aim.before m) g.aim.root ≡ Some (page.Head header) =
-    ap (λ (a : Aim). held_page (view_over g.aim.before m) a.root) c.requires.1.0
-    ∙ reads_as (view_over g.aim.before m) c.args.setting.now.root.now.page (Some c.read_held.result.now) (reads_over_writes g.aim.before m c.requires.1.1.1.0 c.args.setting.now.root.now.page c.read_held.result.now c.read_held.ensures.reads)
-    ∙ ap Some (c.in-Head.is ∙ ap page.Head (sym c.header.view_is)) in
+    header_as_read g.aim.before m c.args.setting.now.root.now.page g.aim.root c.read_held_head-header.result.now (sym (ap (λ (a : Aim). a.root) c.requires.1.0)) c.requires.1.1.1.0 c.read_held_head-header.ensures.reads
+    ∙ ap (λ (h : HeadFields). Some (page.Head h)) (sym c.header.view_is) in
     let small : c.header.inside.depth ≤ 16 = deeper_fits g.aim (view_over g.aim.before m) c.args.old header (clean_now g.aim m c.requires.1.1.0 c.requires.1.1.1.1.0) c.requires.1.1.1.1.1 head in
     omega (arith, small)
 
@@ -36,10 +41,9 @@ returns-clause-under_way g c =
     let m = moment c.args.subtx.now c.args.pages.now in
     let v = view_over g.aim.before m in
     let head : held_page v g.aim.root ≡ Some (page.Head header) =
-    ap (λ (a : Aim). held_page v a.root) c.requires.1.0
-    ∙ reads_as v c.args.setting.now.root.now.page (Some c.read_held.result.now) (reads_over_writes g.aim.before m c.requires.1.1.1.0 c.args.setting.now.root.now.page c.read_held.result.now c.read_held.ensures.reads)
-    ∙ ap Some (c.in-Head.is ∙ ap page.Head (sym c.header.view_is)) in
-    let found : held_page v c.args.old ≡ Some (page.Bucket bucket) = reads_as v c.args.old (Some c.read_held-2.result.now) (reads_over_writes g.aim.before m c.requires.1.1.1.0 c.args.old c.read_held-2.result.now c.read_held-2.ensures.reads) ∙ ap Some (c.in-Bucket.is ∙ ap page.Bucket (sym c.bucket.view_is)) in
+    header_as_read g.aim.before m c.args.setting.now.root.now.page g.aim.root c.read_held_head-header.result.now (sym (ap (λ (a : Aim). a.root) c.requires.1.0)) c.requires.1.1.1.0 c.read_held_head-header.ensures.reads
+    ∙ ap (λ (h : HeadFields). Some (page.Head h)) (sym c.header.view_is) in
+    let found : held_page v c.args.old ≡ Some (page.Bucket bucket) = reads_as v c.args.old (Some (page.Bucket c.read_held_bucket-bucket.result.now)) (reads_over_writes g.aim.before m c.requires.1.1.1.0 c.args.old (page.Bucket c.read_held_bucket-bucket.result.now) c.read_held_bucket-bucket.ensures.reads) ∙ ap (λ (b : BucketFields). Some (page.Bucket b)) (sym c.bucket.view_is) in
     begun g.aim v _ c.args.old c.in_ok-new.new c.bits.result header bucket c.part-zeros.result.0 c.part-zeros.result.1 c.new.result c.requires.1.1.1.1.1 head found
     (c.bits.ensures ∙ sym (ap seed_of c.requires.1.0))
     (c.part-zeros.ensures.zeros ∙ ap (λ (b : BucketFields). record { depth = bucket.depth + 1; slots = map (half there.bits there.opens bucket.depth 0) b.slots }) (sym c.bucket.view_is)
@@ -53,7 +57,7 @@ returns-clause-halves g c = λ seen at.
     let there : Aim = aim_by g.P.Pseudo.bits_of c.args.setting.now c.args.key c.args.subtx.now.tx g.aim.room_depth g.aim.before g.aim.held_before in
     let bucket : BucketFields = record { depth = c.bucket.inside.depth; slots = c.bucket.inside.slots } in
     let m = moment c.args.subtx.now c.args.pages.now in
-    let found : held_page (view_over g.aim.before m) c.args.old ≡ Some (page.Bucket bucket) = reads_as (view_over g.aim.before m) c.args.old (Some c.read_held-2.result.now) (reads_over_writes g.aim.before m c.requires.1.1.1.0 c.args.old c.read_held-2.result.now c.read_held-2.ensures.reads) ∙ ap Some (c.in-Bucket.is ∙ ap page.Bucket (sym c.bucket.view_is)) in
+    let found : held_page (view_over g.aim.before m) c.args.old ≡ Some (page.Bucket bucket) = reads_as (view_over g.aim.before m) c.args.old (Some (page.Bucket c.read_held_bucket-bucket.result.now)) (reads_over_writes g.aim.before m c.requires.1.1.1.0 c.args.old (page.Bucket c.read_held_bucket-bucket.result.now) c.read_held_bucket-bucket.ensures.reads) ∙ ap (λ (b : BucketFields). Some (page.Bucket b)) (sym c.bucket.view_is) in
     halves_made g.aim m _ c.args.old bucket seen c.part-zeros.result.1 _ found at
     (c.part-zeros.ensures.zeros ∙ ap (λ (b : BucketFields). record { depth = bucket.depth + 1; slots = map (half there.bits there.opens bucket.depth 0) b.slots }) (sym c.bucket.view_is)
     ∙ sym (ap (λ (a : Aim). half_of a.bits a.opens bucket 0) c.requires.1.0))
@@ -68,8 +72,7 @@ returns-clause-depths g c = λ header bucket rest.
     let read_header : HeadFields = record { depth = c.header.inside.depth; dirs = c.header.inside.dirs } in
     let read_bucket : BucketFields = record { depth = c.bucket.inside.depth; slots = c.bucket.inside.slots } in
     let head : held_page v g.aim.root ≡ Some (page.Head read_header) =
-    ap (λ (a : Aim). held_page v a.root) c.requires.1.0
-    ∙ reads_as v c.args.setting.now.root.now.page (Some c.read_held.result.now) (reads_over_writes g.aim.before m c.requires.1.1.1.0 c.args.setting.now.root.now.page c.read_held.result.now c.read_held.ensures.reads)
-    ∙ ap Some (c.in-Head.is ∙ ap page.Head (sym c.header.view_is)) in
-    let found : held_page v c.args.old ≡ Some (page.Bucket read_bucket) = reads_as v c.args.old (Some c.read_held-2.result.now) (reads_over_writes g.aim.before m c.requires.1.1.1.0 c.args.old c.read_held-2.result.now c.read_held-2.ensures.reads) ∙ ap Some (c.in-Bucket.is ∙ ap page.Bucket (sym c.bucket.view_is)) in
+    header_as_read g.aim.before m c.args.setting.now.root.now.page g.aim.root c.read_held_head-header.result.now (sym (ap (λ (a : Aim). a.root) c.requires.1.0)) c.requires.1.1.1.0 c.read_held_head-header.ensures.reads
+    ∙ ap (λ (h : HeadFields). Some (page.Head h)) (sym c.header.view_is) in
+    let found : held_page v c.args.old ≡ Some (page.Bucket read_bucket) = reads_as v c.args.old (Some (page.Bucket c.read_held_bucket-bucket.result.now)) (reads_over_writes g.aim.before m c.requires.1.1.1.0 c.args.old (page.Bucket c.read_held_bucket-bucket.result.now) c.read_held_bucket-bucket.ensures.reads) ∙ ap (λ (b : BucketFields). Some (page.Bucket b)) (sym c.bucket.view_is) in
     (ap (λ (b : BucketFields). b.depth) (same_bucket v c.args.old read_bucket bucket found rest.found), ap (λ (h : HeadFields). h.depth) (same_header v g.aim.root read_header header head rest.head))

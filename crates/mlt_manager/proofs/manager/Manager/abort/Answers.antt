@@ -1,15 +1,12 @@
-use Rattle.mlt_manager.specs.Answers.{counted}
 use Rattle.mlt_manager.specs.Parts.{fields_of}
-use Rattle.mlt_manager.proofs.Keeping.{counted_keeps, same_manager}
+use Rattle.mlt_manager.proofs.Keeping.{is_counted}
 use Rattle.mlt_manager.proofs.Kept.{abort_kept}
 use Rattle.mlt_manager.proofs.manager.Manager.abort.Goals as goal
 
 pub abort-requires : goal.abort-requires
-abort-requires g c = record {
-  sound = same_manager g.P.Pseudo.bits_of (fields_of c.count.new.self) (counted (fields_of c.self.inside.parts)) c.count.ensures (counted_keeps g.P.Pseudo.bits_of (fields_of c.self.inside.parts) c.self.invariant);
-}
+abort-requires g c = record { sound = is_counted g.P.Pseudo.bits_of (fields_of c.self.inside.parts) c.self.invariant (fields_of c.count.new.self) c.count.ensures }
 
 pub invariant_of-self : goal.invariant_of-self
 invariant_of-self g c =
     abort_kept g.P.Pseudo.bits_of (fields_of c.count.new.self) (fields_of c.abort.new.self)
-    (same_manager g.P.Pseudo.bits_of (fields_of c.count.new.self) (counted (fields_of c.self.inside.parts)) c.count.ensures (counted_keeps g.P.Pseudo.bits_of (fields_of c.self.inside.parts) c.self.invariant)) c.args.tx c.abort.result c.abort.ensures.answers
+    (is_counted g.P.Pseudo.bits_of (fields_of c.self.inside.parts) c.self.invariant (fields_of c.count.new.self) c.count.ensures) c.args.tx c.abort.result c.abort.ensures.answers

@@ -3,22 +3,20 @@ use Rattle.mlt_manager.specs.Bases.{KeepsWhatCounts}
 use Rattle.mlt_manager.proofs.WholeBases.{cancel_leads}
 use Rattle.mlt_manager.specs.Answers.{counted}
 use Rattle.mlt_manager.specs.Parts.{fields_of}
-use Rattle.mlt_manager.proofs.Keeping.{counted_keeps, same_manager}
+use Rattle.mlt_manager.proofs.Keeping.{is_counted}
 use Rattle.mlt_manager.proofs.Kept.{cancel_kept}
 use Rattle.mlt_manager.proofs.manager.Manager.cancel.Goals as goal
 
 pub cancel-requires : goal.cancel-requires
-cancel-requires g c = record {
-  sound = same_manager g.P.Pseudo.bits_of (fields_of c.count.new.self) (counted (fields_of c.self.inside.parts)) c.count.ensures (counted_keeps g.P.Pseudo.bits_of (fields_of c.self.inside.parts) c.self.invariant);
-}
+cancel-requires g c = record { sound = is_counted g.P.Pseudo.bits_of (fields_of c.self.inside.parts) c.self.invariant (fields_of c.count.new.self) c.count.ensures }
 
 pub invariant_of-self : goal.invariant_of-self
 invariant_of-self g c =
     cancel_kept g.P.Pseudo.bits_of (fields_of c.count.new.self) (fields_of c.cancel.new.self)
-    (same_manager g.P.Pseudo.bits_of (fields_of c.count.new.self) (counted (fields_of c.self.inside.parts)) c.count.ensures (counted_keeps g.P.Pseudo.bits_of (fields_of c.self.inside.parts) c.self.invariant)) c.args.tx c.cancel.result c.cancel.ensures.answers
+    (is_counted g.P.Pseudo.bits_of (fields_of c.self.inside.parts) c.self.invariant (fields_of c.count.new.self) c.count.ensures) c.args.tx c.cancel.result c.cancel.ensures.answers
 
 pub returns-clause-base : goal.returns-clause-base
 returns-clause-base g c =
     subst (λ m. OnOk c.cancel.result (KeepsWhatCounts m (fields_of c.cancel.new.self))) (c.count.ensures ∙ ap counted c.self.view_is)
     (cancel_leads g.P.Pseudo.bits_of (fields_of c.count.new.self) (fields_of c.cancel.new.self) c.args.tx
-    (same_manager g.P.Pseudo.bits_of (fields_of c.count.new.self) (counted (fields_of c.self.inside.parts)) c.count.ensures (counted_keeps g.P.Pseudo.bits_of (fields_of c.self.inside.parts) c.self.invariant)) c.cancel.result c.cancel.ensures.answers)
+    (is_counted g.P.Pseudo.bits_of (fields_of c.self.inside.parts) c.self.invariant (fields_of c.count.new.self) c.count.ensures) c.cancel.result c.cancel.ensures.answers)

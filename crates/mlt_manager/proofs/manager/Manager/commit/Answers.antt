@@ -1,15 +1,12 @@
-use Rattle.mlt_manager.specs.Answers.{counted}
 use Rattle.mlt_manager.specs.Parts.{fields_of}
-use Rattle.mlt_manager.proofs.Keeping.{counted_keeps, same_manager}
+use Rattle.mlt_manager.proofs.Keeping.{is_counted}
 use Rattle.mlt_manager.proofs.Kept.{commit_kept}
 use Rattle.mlt_manager.proofs.manager.Manager.commit.Goals as goal
 
 pub commit-requires : goal.commit-requires
-commit-requires g c = record {
-  sound = same_manager g.P.Pseudo.bits_of (fields_of c.count.new.self) (counted (fields_of c.self.inside.parts)) c.count.ensures (counted_keeps g.P.Pseudo.bits_of (fields_of c.self.inside.parts) c.self.invariant);
-}
+commit-requires g c = record { sound = is_counted g.P.Pseudo.bits_of (fields_of c.self.inside.parts) c.self.invariant (fields_of c.count.new.self) c.count.ensures }
 
 pub invariant_of-self : goal.invariant_of-self
 invariant_of-self g c =
     commit_kept g.P.Pseudo.bits_of (fields_of c.count.new.self) (fields_of c.commit.new.self)
-    (same_manager g.P.Pseudo.bits_of (fields_of c.count.new.self) (counted (fields_of c.self.inside.parts)) c.count.ensures (counted_keeps g.P.Pseudo.bits_of (fields_of c.self.inside.parts) c.self.invariant)) c.args.tx c.commit.result c.commit.ensures.answers
+    (is_counted g.P.Pseudo.bits_of (fields_of c.self.inside.parts) c.self.invariant (fields_of c.count.new.self) c.count.ensures) c.args.tx c.commit.result c.commit.ensures.answers

@@ -2,28 +2,26 @@ use Rattle.std.proofs.Common.{IfOk, ap, subst, ◌∙◌}
 use Rattle.mlt_manager.specs.Answers.{counted}
 use Rattle.mlt_manager.specs.Bases.{LeavesBase}
 use Rattle.mlt_manager.specs.Parts.{fields_of}
-use Rattle.mlt_manager.proofs.Keeping.{counted_keeps, same_manager}
+use Rattle.mlt_manager.proofs.Keeping.{is_counted}
 use Rattle.mlt_manager.proofs.Kept.{step_kept, step_leads}
 use Rattle.mlt_manager.proofs.Others.{step_others}
 use Rattle.mlt_manager.proofs.manager.Manager.step.Goals as goal
 
 pub step-requires : goal.step-requires
-step-requires g c = record {
-  sound = same_manager g.P.Pseudo.bits_of (fields_of c.count.new.self) (counted (fields_of c.self.inside.parts)) c.count.ensures (counted_keeps g.P.Pseudo.bits_of (fields_of c.self.inside.parts) c.self.invariant);
-}
+step-requires g c = record { sound = is_counted g.P.Pseudo.bits_of (fields_of c.self.inside.parts) c.self.invariant (fields_of c.count.new.self) c.count.ensures }
 
 pub invariant_of-self : goal.invariant_of-self
 invariant_of-self g c =
     step_kept g.P.Pseudo.bits_of (fields_of c.count.new.self) (fields_of c.step.new.self)
-    (same_manager g.P.Pseudo.bits_of (fields_of c.count.new.self) (counted (fields_of c.self.inside.parts)) c.count.ensures (counted_keeps g.P.Pseudo.bits_of (fields_of c.self.inside.parts) c.self.invariant)) c.args.tx c.step.result c.step.ensures.answers
+    (is_counted g.P.Pseudo.bits_of (fields_of c.self.inside.parts) c.self.invariant (fields_of c.count.new.self) c.count.ensures) c.args.tx c.step.result c.step.ensures.answers
 
 pub returns-clause-base : goal.returns-clause-base
 returns-clause-base g c =
     subst (λ m. IfOk c.step.result (λ told. LeavesBase told m (fields_of c.step.new.self) c.args.tx)) (c.count.ensures ∙ ap counted c.self.view_is)
     (step_leads g.P.Pseudo.bits_of (fields_of c.count.new.self) (fields_of c.step.new.self)
-    (same_manager g.P.Pseudo.bits_of (fields_of c.count.new.self) (counted (fields_of c.self.inside.parts)) c.count.ensures (counted_keeps g.P.Pseudo.bits_of (fields_of c.self.inside.parts) c.self.invariant)) c.args.tx c.step.result c.step.ensures.answers)
+    (is_counted g.P.Pseudo.bits_of (fields_of c.self.inside.parts) c.self.invariant (fields_of c.count.new.self) c.count.ensures) c.args.tx c.step.result c.step.ensures.answers)
 
 pub returns-clause-others : goal.returns-clause-others
 returns-clause-others g c =
     step_others g.P.Pseudo.bits_of (fields_of c.count.new.self) (fields_of c.step.new.self)
-    (same_manager g.P.Pseudo.bits_of (fields_of c.count.new.self) (counted (fields_of c.self.inside.parts)) c.count.ensures (counted_keeps g.P.Pseudo.bits_of (fields_of c.self.inside.parts) c.self.invariant)) c.args.tx c.step.result c.step.ensures.answers
+    (is_counted g.P.Pseudo.bits_of (fields_of c.self.inside.parts) c.self.invariant (fields_of c.count.new.self) c.count.ensures) c.args.tx c.step.result c.step.ensures.answers

@@ -3,28 +3,26 @@ use Rattle.mlt_manager.specs.Bases.{WholeLeavesBase}
 use Rattle.mlt_manager.proofs.WholeBases.{whole_leads}
 use Rattle.mlt_manager.specs.Answers.{counted}
 use Rattle.mlt_manager.specs.Parts.{fields_of}
-use Rattle.mlt_manager.proofs.Keeping.{counted_keeps, same_manager}
+use Rattle.mlt_manager.proofs.Keeping.{is_counted}
 use Rattle.mlt_manager.proofs.Kept.{whole_kept}
 use Rattle.mlt_manager.proofs.Others.{whole_others}
 use Rattle.mlt_manager.proofs.manager.Manager.whole.Goals as goal
 
 pub whole-requires : goal.whole-requires
-whole-requires g c = record {
-  sound = same_manager g.P.Pseudo.bits_of (fields_of c.count.new.self) (counted (fields_of c.self.inside.parts)) c.count.ensures (counted_keeps g.P.Pseudo.bits_of (fields_of c.self.inside.parts) c.self.invariant);
-}
+whole-requires g c = record { sound = is_counted g.P.Pseudo.bits_of (fields_of c.self.inside.parts) c.self.invariant (fields_of c.count.new.self) c.count.ensures }
 
 pub invariant_of-self : goal.invariant_of-self
 invariant_of-self g c =
     whole_kept g.P.Pseudo.bits_of (fields_of c.count.new.self) (fields_of c.whole.new.self)
-    (same_manager g.P.Pseudo.bits_of (fields_of c.count.new.self) (counted (fields_of c.self.inside.parts)) c.count.ensures (counted_keeps g.P.Pseudo.bits_of (fields_of c.self.inside.parts) c.self.invariant)) c.args.tx c.args.op c.whole.result c.whole.ensures.answers
+    (is_counted g.P.Pseudo.bits_of (fields_of c.self.inside.parts) c.self.invariant (fields_of c.count.new.self) c.count.ensures) c.args.tx c.args.op c.whole.result c.whole.ensures.answers
 
 pub returns-clause-others : goal.returns-clause-others
 returns-clause-others g c =
     whole_others g.P.Pseudo.bits_of (fields_of c.count.new.self) (fields_of c.whole.new.self)
-    (same_manager g.P.Pseudo.bits_of (fields_of c.count.new.self) (counted (fields_of c.self.inside.parts)) c.count.ensures (counted_keeps g.P.Pseudo.bits_of (fields_of c.self.inside.parts) c.self.invariant)) c.args.tx c.args.op c.whole.result c.whole.ensures.answers
+    (is_counted g.P.Pseudo.bits_of (fields_of c.self.inside.parts) c.self.invariant (fields_of c.count.new.self) c.count.ensures) c.args.tx c.args.op c.whole.result c.whole.ensures.answers
 
 pub returns-clause-base : goal.returns-clause-base
 returns-clause-base g c =
     subst (λ m. IfOk c.whole.result (λ told. WholeLeavesBase told m (fields_of c.whole.new.self) c.args.tx c.args.op)) (c.count.ensures ∙ ap counted c.self.view_is)
     (whole_leads g.P.Pseudo.bits_of (fields_of c.count.new.self) (fields_of c.whole.new.self) c.args.tx c.args.op
-    (same_manager g.P.Pseudo.bits_of (fields_of c.count.new.self) (counted (fields_of c.self.inside.parts)) c.count.ensures (counted_keeps g.P.Pseudo.bits_of (fields_of c.self.inside.parts) c.self.invariant)) c.whole.result c.whole.ensures.answers)
+    (is_counted g.P.Pseudo.bits_of (fields_of c.self.inside.parts) c.self.invariant (fields_of c.count.new.self) c.count.ensures) c.whole.result c.whole.ensures.answers)

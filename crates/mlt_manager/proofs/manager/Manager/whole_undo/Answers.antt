@@ -3,28 +3,26 @@ use Rattle.mlt_manager.specs.Bases.{UndoingLeavesBase}
 use Rattle.mlt_manager.proofs.UndoingBases.{whole_undo_leads}
 use Rattle.mlt_manager.specs.Answers.{counted}
 use Rattle.mlt_manager.specs.Parts.{fields_of}
-use Rattle.mlt_manager.proofs.Keeping.{counted_keeps, same_manager}
+use Rattle.mlt_manager.proofs.Keeping.{is_counted}
 use Rattle.mlt_manager.proofs.Kept.{whole_undo_kept}
 use Rattle.mlt_manager.proofs.Others.{whole_undo_others}
 use Rattle.mlt_manager.proofs.manager.Manager.whole_undo.Goals as goal
 
 pub whole_undo-requires : goal.whole_undo-requires
-whole_undo-requires g c = record {
-  sound = same_manager g.P.Pseudo.bits_of (fields_of c.count.new.self) (counted (fields_of c.self.inside.parts)) c.count.ensures (counted_keeps g.P.Pseudo.bits_of (fields_of c.self.inside.parts) c.self.invariant);
-}
+whole_undo-requires g c = record { sound = is_counted g.P.Pseudo.bits_of (fields_of c.self.inside.parts) c.self.invariant (fields_of c.count.new.self) c.count.ensures }
 
 pub invariant_of-self : goal.invariant_of-self
 invariant_of-self g c =
     whole_undo_kept g.P.Pseudo.bits_of (fields_of c.count.new.self) (fields_of c.whole_undo.new.self)
-    (same_manager g.P.Pseudo.bits_of (fields_of c.count.new.self) (counted (fields_of c.self.inside.parts)) c.count.ensures (counted_keeps g.P.Pseudo.bits_of (fields_of c.self.inside.parts) c.self.invariant)) c.args.tx c.whole_undo.result c.whole_undo.ensures.answers
+    (is_counted g.P.Pseudo.bits_of (fields_of c.self.inside.parts) c.self.invariant (fields_of c.count.new.self) c.count.ensures) c.args.tx c.whole_undo.result c.whole_undo.ensures.answers
 
 pub returns-clause-others : goal.returns-clause-others
 returns-clause-others g c =
     whole_undo_others g.P.Pseudo.bits_of (fields_of c.count.new.self) (fields_of c.whole_undo.new.self)
-    (same_manager g.P.Pseudo.bits_of (fields_of c.count.new.self) (counted (fields_of c.self.inside.parts)) c.count.ensures (counted_keeps g.P.Pseudo.bits_of (fields_of c.self.inside.parts) c.self.invariant)) c.args.tx c.whole_undo.result c.whole_undo.ensures.answers
+    (is_counted g.P.Pseudo.bits_of (fields_of c.self.inside.parts) c.self.invariant (fields_of c.count.new.self) c.count.ensures) c.args.tx c.whole_undo.result c.whole_undo.ensures.answers
 
 pub returns-clause-base : goal.returns-clause-base
 returns-clause-base g c =
     subst (λ m. IfOk c.whole_undo.result (λ told. UndoingLeavesBase told m (fields_of c.whole_undo.new.self) c.args.tx)) (c.count.ensures ∙ ap counted c.self.view_is)
     (whole_undo_leads g.P.Pseudo.bits_of (fields_of c.count.new.self) (fields_of c.whole_undo.new.self) c.args.tx
-    (same_manager g.P.Pseudo.bits_of (fields_of c.count.new.self) (counted (fields_of c.self.inside.parts)) c.count.ensures (counted_keeps g.P.Pseudo.bits_of (fields_of c.self.inside.parts) c.self.invariant)) c.whole_undo.result c.whole_undo.ensures.answers)
+    (is_counted g.P.Pseudo.bits_of (fields_of c.self.inside.parts) c.self.invariant (fields_of c.count.new.self) c.count.ensures) c.whole_undo.result c.whole_undo.ensures.answers)

@@ -6,7 +6,7 @@ use Rattle.mlt_tx_open.specs.TxSlots.{AreTxSlots, table_of}
 use Rattle.mlt_tx_open.proofs.TxSlots.{Changed, transaction_changed, slot_given, no_more_taken, none_sits, one_is_free, one_more_slot}
 use Rattle.mlt_tx_open.proofs.table.OpenTransactions.begin.Goals as goal
 
-behind : (c : goal.After-self-2-1) → Changed c.self.inside.slots.items (c.self.inside.slots.items ++ c.in_ok-slot.slot ∷ []) (c.self.inside.taken + 1) (map.insert (table_of c.self.inside.slots.items) c.args.tx c.in_ok-slot.slot.berth)
+behind : (c : goal.After-self-2-1) → Changed c.self.inside.slots.items (c.self.inside.slots.items ++ c.in_ok-slot.slot ∷ []) (c.self.inside.taken + 1) (map.insert (table_of c.self.inside.slots.items) c.args.tx c.in_ok-slot.slot.transaction.value)
 behind c =
     one_more_slot c.self.inside.slots.items c.self.inside.taken c.args.tx c.in_ok-slot.slot c.self.invariant
     (none_sits c.self.inside.slots.items c.deref.result.now c.args.tx c.deref.ensures.value (sym c.in_default.is ∙ c.slot_of.ensures)) c.in_ok-slot.ensures.tx_is c.in_ok-slot.ensures.used
@@ -17,7 +17,7 @@ invariant_of-self c = (transaction_changed c.self.inside.slots.items c.deref.res
 pub returns-in-Some-clause-begins : goal.returns-in-Some-clause-begins
 returns-in-Some-clause-begins c = record {
   one = c.restart.new.self;
-  nothing = c.restart.ensures;
+  nothing = record { subtx = c.restart.ensures.subtx; entries = c.restart.ensures.entries; idle = c.restart.ensures.at };
   is = (transaction_changed c.self.inside.slots.items c.deref.result.now c.self.inside.taken c.args.tx c.in-Some.place c.index_mut.result.now c.restart.new.self c.self.invariant c.deref.ensures.value c.in-Some.ensures c.index_mut.ensures.value).makes ∙ ap (λ (t : Table). map.insert t c.args.tx c.restart.new.self) c.self.view_is;
 }
 
@@ -35,10 +35,10 @@ invariant_of-self-in-Some-free_slot c = (slot_given c.self.inside.slots.items c.
 
 pub returns-in-Some-free_slot-clause-begins : goal.returns-in-Some-free_slot-clause-begins
 returns-in-Some-free_slot-clause-begins c = record {
-  one = c.give_to.new.self.berth;
+  one = c.give_to.new.self.transaction.value;
   nothing = c.give_to.ensures.nothing;
   is = (slot_given c.self.inside.slots.items c.deref-2.result.now c.self.inside.taken c.args.tx c.in-Some-free_slot.place c.index_mut-in-Some-free_slot.result.now c.give_to.new.self c.self.invariant c.deref-2.ensures.value
-      (none_sits c.self.inside.slots.items c.deref.result.now c.args.tx c.deref.ensures.value (sym c.in_default.is ∙ c.slot_of.ensures)) c.in-Some-free_slot.ensures c.give_to.ensures.tx_is c.give_to.ensures.used).makes ∙ ap (λ (t : Table). map.insert t c.args.tx c.give_to.new.self.berth) c.self.view_is;
+      (none_sits c.self.inside.slots.items c.deref.result.now c.args.tx c.deref.ensures.value (sym c.in_default.is ∙ c.slot_of.ensures)) c.in-Some-free_slot.ensures c.give_to.ensures.tx_is c.give_to.ensures.used).makes ∙ ap (λ (t : Table). map.insert t c.args.tx c.give_to.new.self.transaction.value) c.self.view_is;
 }
 
 pub overflow_add-self-2 : goal.overflow_add-self-2
@@ -54,7 +54,7 @@ invariant_of-self-2 c = subst (λ (slots : List TxSlot). AreTxSlots slots (c.sel
 
 pub returns-clause-begins : goal.returns-clause-begins
 returns-clause-begins c = record {
-  one = c.in_ok-slot.slot.berth;
+  one = c.in_ok-slot.slot.transaction.value;
   nothing = c.in_ok-slot.ensures.nothing;
-  is = ap table_of c.in_ok-push.ensures.items ∙ (behind c).makes ∙ ap (λ (t : Table). map.insert t c.args.tx c.in_ok-slot.slot.berth) c.self.view_is;
+  is = ap table_of c.in_ok-push.ensures.items ∙ (behind c).makes ∙ ap (λ (t : Table). map.insert t c.args.tx c.in_ok-slot.slot.transaction.value) c.self.view_is;
 }

@@ -14,6 +14,6 @@ returns-in_err-place c =
 
 pub returns : goal.returns
 returns c =
-    ap Some c.get.ensures ∙ ap (λ (s : TxSlot). Some s.berth) c.index.ensures
+    ap Some c.deref-2.ensures ∙ ap (λ (s : TxSlot). Some s.transaction.value) c.index.ensures
     ∙ sym (who_sits c.self.inside.slots.items c.deref.result.now c.args.tx c.in_ok-place.place c.index.result.now c.deref.ensures.value (sym c.in_ok-place.was ∙ c.slot_of.ensures))
     ∙ ap (λ (t : Table). map.get t c.args.tx) c.self.view_is

@@ -15,14 +15,14 @@ invariant_of-self c =
     let more = some_taken c.self.inside.slots.items c.deref.result.now c.args.tx c.in-Some.place c.index_mut.result.now c.deref.ensures.value c.in-Some.ensures in
     let counted = c.self.invariant.counted in
     let less : c.self.inside.taken - 1 + 1 ≡ c.self.inside.taken = omega arith in
-    (freed_slot c.self.inside.slots.items c.deref.result.now c.self.inside.taken (c.self.inside.taken - 1) c.args.tx c.in-Some.place c.index_mut.result.now (record { tx = c.index_mut.result.now.tx; is_free = true; berth = c.index_mut.result.now.berth }) c.self.invariant c.deref.ensures.value c.in-Some.ensures refl less).are_slots
+    (freed_slot c.self.inside.slots.items c.deref.result.now c.self.inside.taken (c.self.inside.taken - 1) c.args.tx c.in-Some.place c.index_mut.result.now (record c.index_mut.result.now { is_free = true }) c.self.invariant c.deref.ensures.value c.in-Some.ensures refl less).are_slots
 
 pub returns-in-Some : goal.returns-in-Some
 returns-in-Some c =
     let more = some_taken c.self.inside.slots.items c.deref.result.now c.args.tx c.in-Some.place c.index_mut.result.now c.deref.ensures.value c.in-Some.ensures in
     let counted = c.self.invariant.counted in
     let less : c.self.inside.taken - 1 + 1 ≡ c.self.inside.taken = omega arith in
-    (freed_slot c.self.inside.slots.items c.deref.result.now c.self.inside.taken (c.self.inside.taken - 1) c.args.tx c.in-Some.place c.index_mut.result.now (record { tx = c.index_mut.result.now.tx; is_free = true; berth = c.index_mut.result.now.berth }) c.self.invariant c.deref.ensures.value c.in-Some.ensures refl less).makes ∙ ap (λ (t : Table). map.remove t c.args.tx) c.self.view_is
+    (freed_slot c.self.inside.slots.items c.deref.result.now c.self.inside.taken (c.self.inside.taken - 1) c.args.tx c.in-Some.place c.index_mut.result.now (record c.index_mut.result.now { is_free = true }) c.self.invariant c.deref.ensures.value c.in-Some.ensures refl less).makes ∙ ap (λ (t : Table). map.remove t c.args.tx) c.self.view_is
 
 pub returns-in_default : goal.returns-in_default
 returns-in_default c =

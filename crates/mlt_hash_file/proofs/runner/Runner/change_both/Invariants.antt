@@ -1,4 +1,0 @@
-use Rattle.mlt_hash_file.proofs.runner.Runner.change_both.Given as goal
-
-abbrev pub ghost-change : goal.ghost-change
-ghost-change g a = g.read_by

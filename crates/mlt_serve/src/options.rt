@@ -1,0 +1,19 @@
+//! How connections are served.
+
+use mlt_types::Limits;
+use std::time::Duration;
+
+/// How connections are served.
+#[derive(Clone, Copy, Debug, PartialEq, Eq)]
+pub struct ServeOptions {
+    /// The limits of the manager.
+    pub limits: Limits,
+    /// How many session threads there are, 1 to 64.
+    pub sessions: usize,
+    /// How many connections are accepted in all, 1 to 1,000,000.
+    pub connections: u32,
+    /// How often an operation may be told to wait, or that it is blocked, 1 to 1,000,000. Then it is given up.
+    pub tries: u64,
+    /// For how long a connection may give nothing to read, or take nothing that is written, if that has an end.
+    pub idle: Option<Duration>,
+}

@@ -1,0 +1,16 @@
+//! What may be tuned. Beside each stands the group of `bench/run` that shows what it does.
+
+/// How many times an operation is told Waiting before it takes precedence. Measured by `readers`, where an insert doubles the
+/// directory beside 14 that never pause.
+pub(crate) const WAITS_BEFORE_PRECEDENCE: u64 = 8;
+
+/// How many times a thread looks at a lock that is taken before it queues. Measured by `connections`: to queue at once was slower.
+pub(crate) const LOCK_SPINS: u32 = 4;
+
+/// How many times the first of the queue looks at the lock before it sleeps. Measured by `connections`.
+pub(crate) const FIRST_LOCK_SPINS: u32 = 20;
+
+/// How many pauses of the processor follow each look at the lock. They take 3 to 14 microseconds, as processors differ, in which
+/// who has the lock takes it for its next ten events or more. Measured by `connections`: with a sixteenth of it and 16 times as
+/// many looks, 8 sessions did 5 to 16 in 100 less.
+pub(crate) const PAUSES_PER_LOCK_SPIN: u32 = 256;
