@@ -4,7 +4,7 @@ ghost use Rattle.std.specs.Prelude.{◌≡◌, Some};
 ghost use Rattle.mlt_work_desk.specs.Makings.{making_of};
 
 use crate::sessions::{LINES, OF_LINES};
-use crate::talks::{Outcome, Talk, Wanted, talk_at};
+use crate::talks::{Talk, Wanted, WantedOutcome, talk_at};
 use mlt_manager::Manager;
 use mlt_object_kinds::{AccountOp, CounterOp, ObjOp, ObjReply};
 use mlt_script_serial::End;
@@ -144,12 +144,12 @@ const TWO_IDS: &[Session] = &[Session {
         answer: Ok((5, 2)),
         text: b"begun 1\ncommitted 1\nbegun 2\ncommitted 2\nerror 9 IdsSpent\n",
         outcomes: &[
-            Outcome {
+            WantedOutcome {
                 tx: 1,
                 done: &[],
                 end: End::Committed(1),
             },
-            Outcome {
+            WantedOutcome {
                 tx: 2,
                 done: &[],
                 end: End::Committed(2),
@@ -172,7 +172,7 @@ const ONE_OPERATION: &[Session] = &[Session {
     wanted: Wanted {
         answer: Ok((4, 1)),
         text: b"begun 1\ndone\nerror 8 LogFull\ncommitted 1\n",
-        outcomes: &[Outcome {
+        outcomes: &[WantedOutcome {
             tx: 1,
             done: &[UP],
             end: End::Committed(1),
@@ -207,7 +207,7 @@ fn session_too_many_open(rt: HostRuntime) -> Result<(), Fail> {
 const CUT: Wanted = Wanted {
     answer: Ok((2, 0)),
     text: b"begun 1\ndone\n",
-    outcomes: &[Outcome {
+    outcomes: &[WantedOutcome {
         tx: 1,
         done: &[UP],
         end: End::Aborted,
@@ -256,7 +256,7 @@ const TRIES: &[Session] = &[Session {
     wanted: Wanted {
         answer: Ok((3, 1)),
         text: b"begun 2\nerror 14 GaveUp\ncommitted 1\n",
-        outcomes: &[Outcome {
+        outcomes: &[WantedOutcome {
             tx: 2,
             done: &[],
             end: End::Committed(1),

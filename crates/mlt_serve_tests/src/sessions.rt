@@ -1,6 +1,6 @@
 //! Sessions at a desk of answers, wherever their input is cut.
 
-use crate::talks::{Outcome, Wanted, talk_with};
+use crate::talks::{Wanted, WantedOutcome, talk_with};
 use mlt_object_kinds::{AccountOp, CounterOp, ObjOp, ObjReply};
 use mlt_script_cursor::DeskAnswer;
 use mlt_script_serial::End;
@@ -46,12 +46,12 @@ pub const OF_LINES: Wanted = Wanted {
     answer: Ok((7, 1)),
     text: b"begun 1\nopened\nerror 10 ScriptFault\ndone\ncommitted 1\nbegun 2\nis 5\n",
     outcomes: &[
-        Outcome {
+        WantedOutcome {
             tx: 1,
             done: &[(OPEN, ObjReply::Opened), (DEPOSIT, ObjReply::Done)],
             end: End::Committed(1),
         },
-        Outcome {
+        WantedOutcome {
             tx: 2,
             done: &[(BALANCE, ObjReply::Is(5))],
             end: End::Aborted,
@@ -113,7 +113,7 @@ const LONG: &[Session] = &[
         wanted: Wanted {
             answer: Err(Refusal::LineTooLong),
             text: b"begun 1\nopened\nerror 12 LineTooLong\n",
-            outcomes: &[Outcome {
+            outcomes: &[WantedOutcome {
                 tx: 1,
                 done: &[(OPEN, ObjReply::Opened)],
                 end: End::Aborted,
@@ -134,7 +134,7 @@ const LONG: &[Session] = &[
 // An operation outside a transaction, and a begin inside one.
 const OUTSIDE_AND_INSIDE: &[u8] = b"open 1\nbegin\nbegin\nquit\n";
 
-const BEGUN: Outcome = Outcome {
+const BEGUN: WantedOutcome = WantedOutcome {
     tx: 1,
     done: &[],
     end: End::Aborted,
@@ -160,7 +160,7 @@ const CUT: &[Session] = &[Session {
     wanted: Wanted {
         answer: Ok((2, 0)),
         text: b"begun 1\ndone\n",
-        outcomes: &[Outcome {
+        outcomes: &[WantedOutcome {
             tx: 1,
             done: &[(UP, ObjReply::Done)],
             end: End::Aborted,
@@ -194,12 +194,12 @@ const REFUSED: &[Session] = &[Session {
         text: b"error 7 TooManyOpen\nerror 3 NoSuchTx\nbegun 4\nerror 2 NoRoom\nerror 5 Running\ndone\n\
 aborted\nerror 3 NoSuchTx\nbegun 6\ncommitted 18446744073709551615\nbye\n",
         outcomes: &[
-            Outcome {
+            WantedOutcome {
                 tx: 4,
                 done: &[(UP, ObjReply::Done)],
                 end: End::Aborted,
             },
-            Outcome {
+            WantedOutcome {
                 tx: 6,
                 done: &[],
                 end: End::Committed(18446744073709551615),

@@ -24,7 +24,7 @@ pub struct Talk {
 
 /// An outcome that is wanted.
 #[derive(Clone, Copy)]
-pub struct Outcome {
+pub struct WantedOutcome {
     /// The transaction's number.
     pub tx: u64,
     /// What was done.
@@ -41,7 +41,7 @@ pub struct Wanted {
     /// What was written.
     pub text: &'static [u8],
     /// The outcomes, numbered from 1.
-    pub outcomes: &'static [Outcome],
+    pub outcomes: &'static [WantedOutcome],
 }
 
 /// What came of a session at this desk.
@@ -82,7 +82,7 @@ fn are_done(found: &[Done], wanted: &[(ObjOp, ObjReply)]) -> bool {
     found.len() == wanted.len()
 }
 
-fn is_outcome(number: u64, found: &Outcome, wanted: &Outcome) -> bool {
+fn is_outcome(number: u64, found: &Outcome, wanted: &WantedOutcome) -> bool {
     found.client == CLIENT
         && found.number == number
         && found.tx == wanted.tx
@@ -100,7 +100,7 @@ impl Talk {
     }
 
     // Its outcomes are these, numbered from 1.
-    fn has_outcomes(&self, wanted: &[Outcome]) -> bool {
+    fn has_outcomes(&self, wanted: &[WantedOutcome]) -> bool {
         for (before, (found, wanted)) in self.outcomes.iter().zip(wanted).enumerate() {
             if !is_outcome(before as u64 + 1, found, wanted) {
                 return false;
