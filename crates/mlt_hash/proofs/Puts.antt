@@ -25,7 +25,7 @@ use Rattle.mlt_hash_form.specs.Room.{crowds, is_crowded}
 use Rattle.mlt_hash_form.proofs.Crowd.{crowded_at_own_depth, crowded_in_fewer}
 use Rattle.mlt_hash_form.proofs.HeldPages.{keeps_more}
 use Rattle.mlt_hash_access.specs.Moments.{HasFileOver, MayStep, Moment, page_before}
-use Rattle.mlt_hash_access.specs.PageSteps.{MakesLockedPage, TouchesOnePage, WritesHeldPage, WritesHeldSlot}
+use Rattle.mlt_hash_access.specs.PageSteps.{MakesLockedPage, WritesHeldPage, WritesHeldSlot}
 use Rattle.mlt_hash_access.specs.Views.{HasWritten, MakesPage, ReadsHeldBucket, ReadsHeldPage, View, WritesPage, own_at, view_of}
 use Rattle.mlt_hash_access.proofs.Rebased.{rebased_makes_page, rebased_writes_page}
 use Rattle.mlt_hash_access.proofs.Since.{read_over_writes, reads_over_writes}

@@ -1,5 +1,5 @@
 -- What a walk that has written nothing reads of the clean pages, and how many it holds
-use Rattle.std.proofs.Common.{◌≡◌, ℕ, ◌<◌, ◌≤◌, ◌+◌, true, Option, None, Some, is_some, refl, ap, ◌∙◌, inl, arith}
+use Rattle.std.proofs.Common.{◌≡◌, ℕ, ◌<◌, ◌≤◌, ◌+◌, true, Option, None, Some, is_some, refl, ap, ◌∙◌, arith}
 use Rattle.std.specs.Cmp.{nat_cmp_total}
 use Rattle.std.specs.Ordering.{nat_cmp}
 use Rattle.std.specs.FinMap as map
@@ -9,7 +9,6 @@ use Rattle.mlt_page_store.specs.Stores.{page_at}
 use Rattle.mlt_page_locks.specs.LockTables.{Modes, page_count}
 use Rattle.mlt_page_locks.specs.Requests.{stronger, with_page}
 use Rattle.mlt_hash_access.specs.Moments.{IsCleanFor, MayStep, Moment}
-use Rattle.mlt_hash_access.specs.PageSteps.{LocksAtMost, TouchesOnePage}
 use Rattle.mlt_hash_form.specs.File.{FilePages}
 use Rattle.mlt_hash_form.specs.Held.{over, own_or}
 use Rattle.mlt_hash_access.specs.Views.{HasWritten, IsUnwrittenSince, ReadsPage, view_of, view_over}

@@ -6,7 +6,7 @@ use Rattle.mlt_types.specs.declared.mode.Mode.TheVariants.{Exclusive}
 use Rattle.mlt_page.specs.Values.{HeadFields}
 use Rattle.mlt_page.specs.declared.page.Page.{Page}
 use Rattle.mlt_page.specs.declared.page.Page.TheVariants as page
-use Rattle.mlt_page_locks.specs.LockTables.{Modes, can_read}
+use Rattle.mlt_page_locks.specs.LockTables.{Modes}
 use Rattle.mlt_page_locks.specs.Requests.{with_page}
 use Rattle.mlt_page_locks.proofs.Maps.{same_entries}
 use Rattle.mlt_page_locks.proofs.LockLaws.{stronger_exclusive}

@@ -5,7 +5,7 @@ use Rattle.mlt_page.specs.declared.page.Page.{Page}
 use Rattle.mlt_page_subtx.specs.Images.{Running}
 use Rattle.mlt_hash_access.specs.declared.locked_store.LockedStore.{LockedStore}
 use Rattle.mlt_hash_access.specs.Moments.{MayStep, Moment, moment}
-use Rattle.mlt_hash_access.specs.PageSteps.{Leaves, LocksAtMost, LocksPage, MakesLockedPage, TouchesOnePage, WritesHeldPage}
+use Rattle.mlt_hash_access.specs.PageSteps.{Leaves, LocksPage, MakesLockedPage, TouchesOnePage, WritesHeldPage}
 use Rattle.mlt_hash_access.proofs.Moments.{clean_after_step, may_after_step}
 
 -- what touches one page leaves clean what was clean, and the transaction may go on

@@ -10,7 +10,6 @@ use Rattle.mlt_hash_access.specs.Views.{ReadsHeldBucket, View, WritesSlot, view_
 use Rattle.mlt_hash_pair.specs.Changes.{IsFull, MakesAsked, Task}
 use Rattle.mlt_hash_pair.specs.Pairs.{PairFields}
 use Rattle.mlt_hash_pair.specs.Plans.{FitsSlots, IsPlanned}
-use Rattle.mlt_hash_pair.specs.declared.asked.Changes.{Changes}
 use Rattle.mlt_hash_pair.specs.declared.asked.RecordChange.{RecordChange}
 use Rattle.mlt_hash_pair.specs.declared.answer.ChangeAnswer.{ChangeAnswer}
 use Rattle.mlt_hash_pair.specs.declared.answer.ChangeAnswer.TheVariants as answer

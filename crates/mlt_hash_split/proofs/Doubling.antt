@@ -1,5 +1,5 @@
 -- A page of the old directory is rewritten as its first half doubled
-use Rattle.std.proofs.Common.{◌≡◌, ℕ, ◌+◌, ◌-◌, ◌*◌, ◌/◌, ◌%◌, ◌<◌, ◌≤◌, ◌^◌, true, cond, List, length, slice_index, slice_set, Option, None, Some, is_some, unwrap_or, refl, sym, ap, subst, ◌∙◌, arith}
+use Rattle.std.proofs.Common.{◌≡◌, ℕ, ◌+◌, ◌-◌, ◌*◌, ◌/◌, ◌%◌, ◌<◌, ◌≤◌, ◌^◌, true, cond, List, length, slice_index, slice_set, Option, Some, is_some, refl, sym, ap, subst, ◌∙◌, arith}
 use Rattle.std.specs.FinMap as map
 use Rattle.std.proofs.lemmas.Bool.{lt-ltb, le-ltb}
 use Rattle.mlt_types.specs.declared.mode.Mode.TheVariants.{Exclusive}
@@ -10,7 +10,7 @@ use Rattle.mlt_page.specs.Values.{HeadFields}
 use Rattle.mlt_page_locks.specs.LockTables.{Modes}
 use Rattle.mlt_page_store.specs.Stores.{page_at}
 use Rattle.mlt_hash_form.specs.File.{HasForm, buckets_of, bucket_of, depth_of, dirs_of, entry, header_of}
-use Rattle.mlt_hash_form.specs.Held.{Agrees, over, own_or}
+use Rattle.mlt_hash_form.specs.Held.{Agrees, over}
 use Rattle.mlt_hash_form.specs.Splits.{IsDoubled, IsMidway, prefix_of, target_of, bucket_split}
 use Rattle.mlt_hash_form.proofs.HeldPages.{writes_over}
 use Rattle.mlt_hash_form.proofs.PageContents.{doubled_right}

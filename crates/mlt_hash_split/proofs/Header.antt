@@ -21,7 +21,7 @@ use Rattle.mlt_hash_split.specs.declared.phase.SplitPhase.{SplitPhase}
 use Rattle.mlt_hash_split.specs.declared.phase.SplitPhase.TheVariants as at
 use Rattle.mlt_hash_split.proofs.Closing.{HasClean, HasClosed, IsClosed, closed_by_header, closes}
 use Rattle.mlt_hash_split.proofs.Later.{begins_now, stands_now}
-use Rattle.mlt_hash_access.proofs.Views.{agrees_through_write, may_read, may_write, seen_held, writes_over_clean}
+use Rattle.mlt_hash_access.proofs.Views.{agrees_through_write, may_write, writes_over_clean}
 
 -- the header may be written, and the depths are in their ranges
 module _ (aim : Aim) (m : Moment) (split : SplitFields) (phase : split.phase ≡ at.Header) (may : MayStep m) (file : HasClean aim (view_over aim.before m)) (under : IsUnderWay aim (view_over aim.before m) split) where

@@ -30,7 +30,7 @@ use Rattle.mlt_hash_split.proofs.Among.{among_after_lock, count_is_few, few_page
 use Rattle.mlt_hash_split.proofs.Closing.{HasClean, HasClosed, IsClosed, closed_in_place, closes, half_page, held_page_over}
 use Rattle.mlt_hash_split.proofs.Later.{IsLater, Rewrites, agreed_before, begins_now, held_still, later_by_rewrite, rewrites, same_head, stands_now, stays_under_way}
 use Rattle.mlt_hash_split.proofs.OldBucket.{depths_are_small}
-use Rattle.mlt_hash_access.proofs.Views.{over_is_there, reads_over}
+use Rattle.mlt_hash_access.proofs.Views.{reads_over}
 
 -- the places that the new bucket gets, in the words of the split
 pub record AreNewPlaces (split : SplitFields) (first count : ℕ) : Type 0 where

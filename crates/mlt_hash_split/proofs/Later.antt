@@ -1,5 +1,5 @@
 -- What stays of a split under way as its walk locks, writes and makes pages
-use Rattle.std.proofs.Common.{◌≡◌, ℕ, ◌-◌, ◌<◌, ◌≤◌, ◌^◌, Bool, cond, false, true, List, Option, None, Some, is_some, unwrap_or, refl, sym, ap, subst, ◌∙◌, inl, inr, arith}
+use Rattle.std.proofs.Common.{◌≡◌, ℕ, ◌-◌, ◌<◌, ◌≤◌, ◌^◌, true, List, Option, None, Some, is_some, unwrap_or, refl, sym, ap, subst, ◌∙◌, inl, inr, arith}
 use Rattle.std.specs.FinMap as map
 use Rattle.mlt_types.specs.declared.mode.Mode.TheVariants.{Exclusive}
 use Rattle.mlt_page.specs.declared.page.Page.{Page}
@@ -7,7 +7,7 @@ use Rattle.mlt_page.specs.Values.{HeadFields}
 use Rattle.mlt_page_locks.specs.LockTables.{Modes, can_write}
 use Rattle.mlt_page_locks.specs.Requests.{with_page}
 use Rattle.mlt_page_locks.proofs.LockLaws.{stronger_exclusive}
-use Rattle.mlt_hash_form.specs.File.{FilePages, HasForm}
+use Rattle.mlt_hash_form.specs.File.{HasForm}
 use Rattle.mlt_hash_form.specs.Held.{Agrees, over, own_or}
 use Rattle.mlt_hash_form.proofs.HeldPages.{keeps_more, seen_as}
 use Rattle.mlt_hash_access.specs.Moments.{MayStep, Moment}

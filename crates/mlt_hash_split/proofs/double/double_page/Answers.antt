@@ -1,7 +1,6 @@
 use Rattle.std.proofs.Math.Nat.{pow-le-pow_right}
 use Rattle.mlt_types.specs.declared.mode.Mode.TheVariants.{Exclusive}
-use Rattle.std.proofs.Common.{rules, is_some, true, ◌≡◌, ℕ, ◌+◌, ◌*◌, ◌≤◌, ◌<◌, ◌^◌, Some, ap, sym, subst, refl, arith}
-use Rattle.mlt_page.specs.declared.page.Page.{Page}
+use Rattle.std.proofs.Common.{◌≡◌, ℕ, ◌+◌, ◌*◌, ◌≤◌, ◌<◌, ◌^◌, Some, ap, sym, subst, refl, arith}
 use Rattle.mlt_page.specs.declared.page.Page.TheVariants as page
 use Rattle.mlt_hash_form.specs.Splits.{IsDoubled}
 use Rattle.mlt_hash_access.specs.Moments.{Moment, moment}
@@ -10,7 +9,7 @@ use Rattle.mlt_hash_split.proofs.HeldPages.{agrees_later, clean_now, file_is_the
 use Rattle.mlt_hash_split.specs.declared.phase.SplitPhase.TheVariants as at
 use Rattle.mlt_hash_split.proofs.Steps.{done_at, left_at, next_page_at}
 use Rattle.mlt_hash_split.specs.Splits.{SplitFields}
-use Rattle.mlt_hash_access.specs.Views.{view_over, ReadsPage, view_of}
+use Rattle.mlt_hash_access.specs.Views.{view_of}
 use Rattle.mlt_page.specs.Bits.{first_bits}
 use Rattle.mlt_hash_split.specs.contracts.split.Split.{the_view}
 use Rattle.mlt_hash_access.proofs.Views.{reads_held_after, reads_seen}

@@ -1,4 +1,4 @@
-use Rattle.std.proofs.Common.{ℕ, true, is_some, ◌≡◌, ◌≤◌, ◌<◌, ◌+◌, ◌^◌, Some, refl, sym, ◌∙◌, ap, subst, arith}
+use Rattle.std.proofs.Common.{◌≡◌, ◌≤◌, ◌<◌, ◌+◌, ◌^◌, Some, refl, sym, ap, subst, arith}
 use Rattle.std.proofs.Math.Nat.{pow-le-pow_right}
 use Rattle.mlt_types.specs.declared.mode.Mode.TheVariants.{Exclusive}
 use Rattle.mlt_page.specs.declared.page.Page.TheVariants as page
