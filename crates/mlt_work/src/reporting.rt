@@ -59,7 +59,7 @@ pub(crate) fn report_of<P: Pseudo, R: Threads>(
 ) -> Result<Report, Refusal>
     ensures outcomes { IfOk result (λ report. report.outcomes ≡ outcomes) }
     ensures events { IfOk result (λ report. report.events ≡ events) }
-    ensures outcomes { IfOk result
+    ensures agrees { IfOk result
         (λ report. Agrees report.outcomes manager.now.commons.history.items) }
     ensures base { IfOk result (λ report. IsBaseOfOutcomes report.outcomes report.base) }
     ensures refusal { IfErr result

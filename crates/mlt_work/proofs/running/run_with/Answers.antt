@@ -6,6 +6,6 @@ returns-in-Ok-report_of-clause-ran g c = record {
   made = search rules;
   outcomes = search rules;
   events = search rules;
-  outcomes = c.in-Ok-report_of.ensures.outcomes;
+  agrees = c.in-Ok-report_of.ensures.agrees;
   base = c.in-Ok-report_of.ensures.base;
 }
