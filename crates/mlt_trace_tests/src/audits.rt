@@ -25,11 +25,11 @@ enum Item {
     Abort(u64),
 }
 
-/// An outcome: client, script number, transaction number, operations and end.
-type Outcome = (u32, u64, u64, &'static [Told], End);
+/// What an outcome is to have: client, script number, transaction number, operations and end.
+type OutcomeRow = (u32, u64, u64, &'static [Told], End);
 
 /// A history, outcomes, whether they agree, and why.
-type Row = (&'static [Item], &'static [Outcome], bool, &'static str);
+type Row = (&'static [Item], &'static [OutcomeRow], bool, &'static str);
 
 fn item_of(item: Item) -> TraceItem {
     match item {
@@ -57,9 +57,9 @@ fn transcript_of(alloc: Global, told: &[Told]) -> Result<Transcript, Refusal> {
     Ok(Transcript::new(done))
 }
 
-fn outcomes_of(alloc: Global, outcomes: &[Outcome]) -> Result<Vec<Outcome>, Refusal> {
+fn outcomes_of(alloc: Global, rows: &[OutcomeRow]) -> Result<Vec<Outcome>, Refusal> {
     let mut outcomes = Vec::new(alloc);
-    for (client, number, tx, told, end) in outcomes {
+    for (client, number, tx, told, end) in rows {
         outcomes.push(Outcome {
             client: *client,
             number: *number,
