@@ -72,12 +72,13 @@ def each_link_to_a_line_leads_to_what_it_names(_mltx):
 
 
 @test
-def the_main_theorem_stands_in_three_documents(_mltx):
-    """Word for word it stands in README, where it is explained, and where it is defined. Elsewhere it is linked."""
+def the_main_theorem_stands_in_four_documents(_mltx):
+    """Word for word it stands in README, where it is explained, where it is defined, and above its whole text. Elsewhere it is
+    linked."""
     texts = {page.relative_to(ROOT): " ".join(text.replace("\n> ", "\n").split()).lower() for page, text in pages().items()}
     theorem = re.search(r"\*\*(after any list of [^*]*)\.\*\*", texts[(ROOT / "README.md").relative_to(ROOT)])[1]
     found = sorted(str(page) for page, text in texts.items() if theorem in text)
-    same(found, ["README.md", "docs/DEFINITIONS.md", "docs/THEOREM.md"], "where it stands")
+    same(found, ["README.md", "docs/DEFINITIONS.md", "docs/HEADLINE.md", "docs/THEOREM.md"], "where it stands")
 
 
 @test
@@ -171,15 +172,42 @@ def lines_of_the_headline_are_counted(_mltx):
     same(re.findall(r"last row of the table of DEFINITIONS:\s+(\d+)\s+lines", theorem), [views], "the lines in THEOREM")
 
 
+def is_written_by(page, tool, *words):
+    """The document is what the tool prints."""
+    written, ran = page.read_text(), subprocess.run([ROOT / "tools" / tool, *words], capture_output=True, text=True)
+    holds(not ran.returncode, ran.stderr)
+    lines = zip_longest(written.splitlines(), ran.stdout.splitlines())
+    first = next((f"{was}\nwanted {now}" for was, now in lines if was != now), "its end")
+    holds(written == ran.stdout, f"tools/{tool} --write was not run: {first}")
+
+
 @test
 def each_definition_is_told_as_its_file_tells_it(_mltx):
     """DEFINITIONS is what tools/definitions makes of its names and of the comments in specs/. A name that is gone fails, and so
     does a comment that was changed there alone, or here alone."""
-    written, ran = (ROOT / "docs/DEFINITIONS.md").read_text(), subprocess.run([ROOT / "tools/definitions"], capture_output=True, text=True)
-    holds(not ran.returncode, ran.stderr)
-    lines = zip_longest(written.splitlines(), ran.stdout.splitlines())
-    first = next((f"{was}\nwanted {now}" for was, now in lines if was != now), "its end")
-    holds(written == ran.stdout, f"tools/definitions --write was not run: {first}")
+    is_written_by(ROOT / "docs/DEFINITIONS.md", "definitions")
+
+
+@test
+def the_text_of_the_headline_is_that_of_its_files(_mltx):
+    """HEADLINE is what tools/headline-lines makes of the definitions. One that was changed in its file alone fails."""
+    is_written_by(ROOT / "docs/HEADLINE.md", "headline-lines", "--text")
+
+
+@test
+def each_definition_that_counts_is_shown_once(_mltx):
+    """In HEADLINE stand just the names that tools/headline-lines counts, each once in a block of its file, and as many lines:
+    one that is left out, cut off or shown twice fails. Of a Model only the view counts, and not its first line and its end."""
+    counted = output_of("headline-lines")
+    wanted = [(path, name) for path, names in re.findall(r"(?m)^ +\d+ (\S+): (.*)$", counted) for name in names.split()]
+    blocks = re.findall(r"(?ms)^\[(\S+)\]\(\.\./crates/\1\)\n\n```\w+\n(.*?)^```$", (ROOT / "docs/HEADLINE.md").read_text())
+    starts = {"rt": r"(?m)^(?:pub(?:\(crate\))? )?(?:enum|struct|type) (\w+)",
+              "antt": r"(?m)^(?:abbrev |unfoldable )?pub (?:record |data )?([^\s:]+)"}
+    shown = [(path, name) for path, code in blocks for name in re.findall(starts[path.rpartition(".")[2]], code)]
+    same(sorted(shown), sorted(wanted), "the definitions that are shown")
+    code = [re.sub(r"(?ms)^impl\b[^\n]*\n(.*?)^}$", r"\1", block) for _, block in blocks]
+    lines = [line for block in code for line in block.splitlines() if line.strip()]
+    same(len(lines), sum(map(int, re.findall(r"(?m)^ +(\d+) lines$", counted))), "the lines that are shown")
 
 
 @test
