@@ -109,7 +109,8 @@ READING: list[Part] = [
          """Now the field `serial`. It knows nothing of pages, of locks or of what an operation is: `S` is any kind of states,
          `P` any kind of items, and `step` says which item leads from which state to which. In the promises, states are bases
          and items are operations with their replies. What is committed and what is open comes from the history, entry by
-         entry.""", [
+         entry: of its lists the sentence needs `committed` and `transcripts`. A history is finite, so open transactions
+         always have an interleaving: all of one, and then all of the next.""", [
              Block("Commit-order serializable", "mlt_order/specs/Histories.antt", "IsCommitOrderSerializable"),
              Block("Runs", "mlt_order/specs/Runs.antt", "IsSerialBase Runs"),
              Block("What is left when others are taken back", "mlt_order/specs/Interleavings.antt",
@@ -132,7 +133,9 @@ READING: list[Part] = [
          ]),
     Part("Operations and their tables",
          """Each kind has a table: in which states an operation is told which reply, and which state that leaves. The state of an
-         account is its balance, if it is there; that of an element, whether it is in its set; that of a counter, its value.""", [
+         account is its balance, if it is there; that of an element, whether it is in its set; that of a counter, its value.
+         In each state an operation has at most one reply. So if a run goes through with the replies that were told, it goes
+         through with no others.""", [
              Block("Operations and replies", "mlt_object_kinds/src/operation.rt"),
              Block("Operations on accounts", "mlt_object_kinds/src/account.rt"),
              Block("The table of accounts", "mlt_object_kinds/specs/Accounts.antt"),
@@ -285,6 +288,7 @@ NOT_SHOWN: list[tuple[str, str]] = [
     ("ObjectLocks PageLocks", "who holds which operations and which pages"),
     ("Operation UndoList", "an operation that is pending, and the operations that an abort would take back"),
     ("OpenSet", "the numbers of open transactions"),
+    ("SLOTS", "8, the number of slots that a bucket has"),
     ("HeadPage DirPage", "the header and a page of the directory. The sentence reads no record from them"),
     ("Value", "the value of a record, a `u64`"),
     ("ScriptCause TraceCause", "what is wrong with a script or with a trace. No event is told them"),
