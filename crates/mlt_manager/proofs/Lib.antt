@@ -1,6 +1,7 @@
 pub mod AtOnce
 pub mod Called
 pub mod Chains
+pub mod CleanPages
 mod ClosedBases
 pub mod Counts
 pub mod Depths
@@ -8,6 +9,7 @@ pub mod EachOpen
 pub mod Ended
 pub mod Ending
 pub mod Finding
+pub mod Headline
 pub mod Keeping
 pub mod Kept
 pub mod Others

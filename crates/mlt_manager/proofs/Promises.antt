@@ -11,10 +11,13 @@ use Rattle.std.specs.FinSet as set
 use Rattle.std.specs.Ordering.{nat_cmp}
 use Rattle.mlt_hash_form.specs.File.{FilePages, GivesPseudokeys, HasForm}
 use Rattle.mlt_hash_form.specs.Prefixes.{IsExtendibleHashFile}
+use Rattle.mlt_hash_form.specs.Records.{IsRecordMap, live_records}
+use Rattle.mlt_page.specs.declared.page.Page.{Page}
 use Rattle.mlt_hash_ghosts.proofs.Transactions.{kept_by_match}
 use Rattle.mlt_hash_subtx_laws.specs.CleanPages.{clean_pages}
 use Rattle.mlt_trace_check.specs.AcceptedItems.{AreAccepted}
 use Rattle.mlt_trace_laws.specs.Writable.{AllFit, AreWritable}
+use Rattle.mlt_order.specs.Histories.{IsCommitOrderSerializable}
 use Rattle.mlt_order.specs.Runs.{IsSerialBase}
 use Rattle.mlt_trace.specs.Items.{trace_text}
 use Rattle.mlt_trace.specs.Numbers.{AreBegunInOrder, committed_txs}
@@ -25,20 +28,47 @@ use Rattle.mlt_manager_invariant.specs.States.{world_of}
 use Rattle.mlt_manager_trace.specs.Traced.{IsCommittedBase}
 use Rattle.mlt_manager_trace.proofs.CommittedBases.{only_base, with_base}
 use Rattle.mlt_manager.specs.Managers.{IsManager, ManagerFields, state_of}
+use Rattle.mlt_manager.specs.Headline.{KeepsMainPromise, Transcripts, transcripts_of}
 use Rattle.mlt_manager.specs.Promises.{IsCommittedBaseOf, KeepsPromises, PassesTheChecker, lists_by}
+use Rattle.mlt_manager.proofs.CleanPages.{pages_clean}
+use Rattle.mlt_manager.proofs.Headline.{pages_mean, same_transcripts}
 use Rattle.mlt_manager.proofs.PassLocks.{pass_locks, written_locks}
 use Rattle.mlt_manager.proofs.Stepped.{same_base}
 
 module _ {P : Type 0} (bits_of : P → ℕ → ℕ) (m : ManagerFields P) (h : IsManager bits_of m) where
-  -- **Every manager keeps its promises.**
-  pub promises_kept : ((bits : ℕ → ℕ) (opens : set.FinSet nat_cmp) (pages : FilePages) (root : ℕ) → GivesPseudokeys bits → HasForm bits pages root → IsExtendibleHashFile bits opens pages root) → KeepsPromises bits_of m
-  promises_kept has_file = record {
-    clean = clean_pages h.images m.commons.pages.store.pages;
-    is_clean = record { images = h.images; kept = h.sound.kept; put_back = λ q. refl };
+  abbrev pages : map.FinMap nat_cmp Page
+  pages = clean_pages h.images m.commons.pages.store.pages
+
+  -- what is committed leads to a base, and what is open leads on
+  serial : IsCommitOrderSerializable Step empty_base (lists_by m) h.base
+  serial = serializable m.commons.history.items h.base h.sound.match.records.history
+
+  open_taken_back : UndoneTo Step serial.0 (transcripts_of m.commons.history.items).of_open h.base
+  open_taken_back = subst (λ (t : Transcripts). UndoneTo Step serial.0 t.of_open h.base) (sym (same_transcripts m.commons.history.items)) serial.2
+
+  committed_alone : IsSerialBase Step empty_base (transcripts_of m.commons.history.items).committed serial.0
+  committed_alone = subst (λ (t : Transcripts). IsSerialBase Step empty_base t.committed serial.0) (sym (same_transcripts m.commons.history.items)) serial.1
+
+  -- **Every manager keeps the main promise.**
+  abbrev main_kept : IsRecordMap (live_records pages) (map.get pages) → KeepsMainPromise m
+  main_kept is_map = record {
+    base = serial.0;
+    alone = committed_alone;
+    clean = pages;
+    put_back = pages_clean bits_of m h.images h.base h.sound;
     state = h.base;
-    means = h.sound.match.records.means;
-    serial = serializable m.commons.history.items h.base h.sound.match.records.history;
-    file = has_file (bits_of m.root.pseudo) m.opens (map.get (clean_pages h.images m.commons.pages.store.pages)) m.root.page h.sound.match.file.bounded h.sound.match.file.form;
+    means = pages_mean pages h.base is_map h.sound.match.records.means;
+    taken_back = open_taken_back;
+  }
+
+  -- **Every manager keeps its promises.**
+  pub promises_kept : ((bits : ℕ → ℕ) (opens : set.FinSet nat_cmp) (pages : FilePages) (root : ℕ) → GivesPseudokeys bits → HasForm bits pages root → IsExtendibleHashFile bits opens pages root)
+      → ((bits : ℕ → ℕ) (pages : map.FinMap nat_cmp Page) (root : ℕ) → GivesPseudokeys bits → HasForm bits (map.get pages) root → IsRecordMap (live_records pages) (map.get pages))
+      → KeepsPromises bits_of m
+  promises_kept has_file has_records = record {
+    main = main_kept (has_records (bits_of m.root.pseudo) pages m.root.page h.sound.match.file.bounded h.sound.match.file.form);
+    file = has_file (bits_of m.root.pseudo) m.opens (map.get pages) m.root.page h.sound.match.file.bounded h.sound.match.file.form;
+    can_be = h.sound.match.records.means.can_be;
     ghosts = kept_by_match (ledger_of (world_of (state_of bits_of m h.images h.base))) h.sound.match.file.ghosts;
     locks = λ i. record { of_pass = pass_locks (state_of bits_of m h.images h.base) i h.sound; written = written_locks (state_of bits_of m h.images h.base) i h.sound };
     books = record {

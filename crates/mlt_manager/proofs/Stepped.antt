@@ -1,7 +1,7 @@
 -- A step keeps what is always true of a manager
 use Rattle.std.proofs.Common.{◌≡◌, ℕ, List, [], ◌∷◌, ◌++◌, Option, None, Some, refl, sym, ap, subst, ◌∙◌, arith}
 use Rattle.std.specs.FinMap as map
-use Rattle.std.specs.Cmp.{nat_cmp_total}
+use Rattle.std.specs.Ordering.{nat_cmp}
 use Rattle.mlt_page.specs.declared.page.Page.{Page}
 use Rattle.mlt_object_kinds.specs.Bases.{Base, Step}
 use Rattle.mlt_object_kinds.specs.declared.operation.ObjOp.{ObjOp}
@@ -9,7 +9,7 @@ use Rattle.mlt_object_kinds.specs.declared.operation.ObjReply.{ObjReply}
 use Rattle.mlt_object_locks.specs.Locks.{IsLowestClash}
 use Rattle.mlt_trace.specs.declared.item.TraceItem.{TraceItem}
 use Rattle.mlt_trace.specs.declared.item.TraceItem.TheVariants as trace
-use Rattle.mlt_hash_subtx_laws.specs.CleanPages.{RunningImages, clean_pages}
+use Rattle.mlt_hash_subtx_laws.specs.CleanPages.{clean_pages}
 use Rattle.mlt_hash.specs.Walks.{basis_by}
 use Rattle.mlt_tx_operation.specs.Operating.{OperationFields}
 use Rattle.mlt_object_base.specs.declared.request.Request.TheVariants.{Do}
@@ -23,9 +23,9 @@ use Rattle.mlt_tx.specs.declared.transaction.At.TheVariants as at
 use Rattle.mlt_tx.specs.declared.transaction.Transaction.{Transaction}
 use Rattle.mlt_tx.specs.Steps.{EndsBack, Ends}
 use Rattle.mlt_tx.specs.Transactions.{StepsBack, StepsPending, TellsAt, workplace_of}
-use Rattle.mlt_tx_open.specs.Tables.{Table}
+use Rattle.mlt_tx_open.specs.Tables.{KeepsImage, KeepsNoImage, Table}
 use Rattle.mlt_manager_invariant.specs.Events.{EndsPending, KeepsCleanPages}
-use Rattle.mlt_manager_invariant.specs.States.{State, images_kept, world_of}
+use Rattle.mlt_manager_invariant.specs.States.{State, world_of}
 use Rattle.mlt_manager_invariant.specs.Undoing.{LedBack, TakesLastBack, with_aborted, with_undone}
 use Rattle.mlt_manager_invariant.proofs.Aborting.{aborted_sound}
 use Rattle.mlt_manager_invariant.proofs.Done.{done_sound}
@@ -40,6 +40,7 @@ use Rattle.mlt_manager_trace.proofs.Stays.{clean_traced}
 use Rattle.mlt_manager.specs.Answers.{HasStepped, IsOpenAt, opens_after, txs_after}
 use Rattle.mlt_manager.specs.Bases.{HasBase, IsPendingWith, KeepsWhatCounts, LeavesBase, MakesStep, TakesStepBack}
 use Rattle.mlt_manager.specs.Managers.{IsManager, ManagerFields, state_of}
+use Rattle.mlt_manager.proofs.CleanPages.{clean_alike, pages_clean, same_clean}
 use Rattle.mlt_manager.proofs.Counts.{KeepsCounts, step_counts}
 use Rattle.mlt_manager.proofs.Keeping.{IsStill, changed_keeps, removed_keeps, same_manager}
 
@@ -50,10 +51,6 @@ module _ {P : Type 0} (bits_of : P → ℕ → ℕ) (m : ManagerFields P) (h : I
   -- one base is what the history leads to
   pub same_base : (base : Base) → HasBase m base → base ≡ h.base
   same_base base leads = history_fixes (world_of now) base h.sound.match leads
-
-  -- the first images that the transactions keep are one map
-  same_images : (images : RunningImages) → ((i : ℕ) → map.get images i ≡ images_kept (map.get m.txs i)) → images ≡ h.images
-  same_images images kept = map.same_map nat_cmp_total map.nat_cmp-IsAntisymmetric images h.images (λ i. kept i ∙ sym (h.sound.kept i))
 
   module _ (before after : Transaction) (commons : Commons) (was : map.get m.txs tx ≡ Some before) where
     -- an event that keeps the clean pages
@@ -67,12 +64,20 @@ module _ {P : Type 0} (bits_of : P → ℕ → ℕ) (m : ManagerFields P) (h : I
 
     pub keeps_what_counts : (m' : ManagerFields P) → m'.commons ≡ commons → m'.txs ≡ map.insert m.txs tx after → KeepsCleanPages now tx before after commons → KeepsWhatCounts m m'
     keeps_what_counts m' same_commons same_txs (images, keeps) = record {
-      clean = λ clean has. record {
-        images = images;
-        kept = λ i. (stays_sound now tx before after commons images h.sound was keeps).kept i ∙ sym (ap (λ (t : Table). images_kept (map.get t i)) same_txs);
-        put_back = λ q. has.put_back q ∙ ap (λ (r : RunningImages). map.get (clean_pages r m.commons.pages.store.pages) q) (same_images has.images has.kept)
-            ∙ sym (ap (λ (f : ℕ → Option Page). f q) keeps.clean) ∙ sym (ap (λ (k : Commons). map.get (clean_pages images k.pages.store.pages) q) same_commons);
-      };
+      clean = λ clean has.
+          let step = record m { commons = commons; txs = map.insert m.txs tx after } in
+          let old_pages = clean_pages h.images m.commons.pages.store.pages in
+          let new_pages = clean_pages images commons.pages.store.pages in
+          let same : (q : ℕ) → map.get clean q ≡ map.get new_pages q = λ q.
+          same_clean m clean old_pages q has (pages_clean bits_of m h.images h.base h.sound)
+          ∙ sym (ap (λ (f : ℕ → Option Page). f q) keeps.clean) in
+          let now_clean = pages_clean bits_of step images h.base (stays_sound now tx before after commons images h.sound was keeps) in
+          let is = clean_alike step new_pages clean same now_clean in
+          record {
+            put_back = λ q first kept. is.put_back q first (subst (λ (t : Table). KeepsImage t q first) same_txs kept);
+            as_stored = λ q none. is.as_stored q (subst (λ (t : Table). KeepsNoImage t q) same_txs none)
+                ∙ sym (ap (λ (k : Commons). map.get k.pages.store.pages q) same_commons);
+          };
       items = ap (λ (k : Commons). k.history.items) same_commons ∙ keeps.items;
       held = ap (λ (k : Commons). k.objects.held) same_commons ∙ keeps.held;
     }

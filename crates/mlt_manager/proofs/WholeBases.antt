@@ -12,7 +12,6 @@ use Rattle.mlt_object_locks.specs.Locks.{Held, IsLowestClash}
 use Rattle.mlt_trace.specs.declared.item.TraceItem.{TraceItem}
 use Rattle.mlt_trace.specs.declared.item.TraceItem.TheVariants as trace
 use Rattle.mlt_page_subtx.specs.Images.{Running}
-use Rattle.mlt_hash_subtx_laws.specs.CleanPages.{clean_pages}
 use Rattle.mlt_object_base.specs.declared.request.Request.TheVariants.{Do}
 use Rattle.mlt_tx_operation.specs.Operating.{OperationFields}
 use Rattle.mlt_event.specs.declared.answer.Answer.{Answer}
@@ -35,6 +34,7 @@ use Rattle.mlt_manager.specs.Managers.{IsManager, ManagerFields}
 use Rattle.mlt_manager.specs.Wholes.{AnswersWhole, DropsIfItStands, GoesOn, HasRun, Stops}
 use Rattle.mlt_manager.proofs.Called.{called_keeps, cancelled_keeps, one_there}
 use Rattle.mlt_manager.proofs.Chains.{found_before, steps_keep}
+use Rattle.mlt_manager.proofs.CleanPages.{still_clean}
 use Rattle.mlt_manager.proofs.RunningOn.{operation_at, steps_pending, there_by}
 use Rattle.mlt_manager.proofs.Stepped.{step_keeps}
 
@@ -68,11 +68,7 @@ module _ {P : Type 0} (m m' : ManagerFields P) (tx : ℕ) (op : ObjOp) (c : HasC
 
   called_counts : KeepsWhatCounts m m'
   called_counts = record {
-    clean = λ clean has. record {
-      images = has.images;
-      kept = λ i. has.kept i ∙ sym (images_stay i);
-      put_back = λ q. has.put_back q ∙ sym (λ p. map.get (clean_pages has.images (c.calls.tells.makes.pages p).store.pages) q);
-    };
+    clean = λ clean has. still_clean m m' clean images_stay (λ q. λ p. map.get (c.calls.tells.makes.pages p).store.pages q) has;
     items = c.calls.tells.makes.items;
     held = c.calls.tells.makes.held;
   }

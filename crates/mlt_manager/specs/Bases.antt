@@ -14,14 +14,13 @@ use Rattle.mlt_object_locks.specs.Locks.{IsLowestClash}
 use Rattle.mlt_trace.specs.declared.item.TraceItem.{TraceItem}
 use Rattle.mlt_hash_form.specs.File.{depth_of, header_of}
 use Rattle.mlt_trace.specs.declared.item.TraceItem.TheVariants as trace
-use Rattle.mlt_hash_subtx_laws.specs.CleanPages.{RunningImages, clean_pages}
 use Rattle.mlt_object_base.specs.declared.request.Request.TheVariants.{Do}
 use Rattle.mlt_event.specs.declared.answer.Answer.{Answer}
 use Rattle.mlt_event.specs.declared.answer.Answer.TheVariants as answer
 use Rattle.mlt_tx.specs.declared.transaction.At.{At}
 use Rattle.mlt_tx.specs.declared.transaction.At.TheVariants as at
 use Rattle.mlt_tx.specs.declared.transaction.Transaction.{Transaction}
-use Rattle.mlt_manager_invariant.specs.States.{images_kept}
+use Rattle.mlt_tx_open.specs.Tables.{KeepsImage, KeepsNoImage}
 use Rattle.mlt_manager.specs.Answers.{IsOpenAt}
 use Rattle.mlt_manager.specs.Managers.{ManagerFields}
 
@@ -29,13 +28,14 @@ use Rattle.mlt_manager.specs.Managers.{ManagerFields}
 abbrev pub HasBase : {P : Type 0} → ManagerFields P → Base → Type 0
 HasBase m base = IsHistory Step empty_base (entries_of m.commons.history.items) base
 
--- these pages are clean: those of the store, with the first images that the open transactions keep put back
+-- These pages are clean: of a page of which an open transaction keeps the first image, that image; any other page is that of
+-- the store.
 pub record HasCleanPages {P : Type 0} (m : ManagerFields P) (clean : map.FinMap nat_cmp Page)
     : Type 0 where
-  pub images : RunningImages
-  pub kept : (i : ℕ) → map.get images i ≡ images_kept (map.get m.txs i)
-  pub put_back : (q : ℕ)
-      → map.get clean q ≡ map.get (clean_pages images m.commons.pages.store.pages) q
+  pub put_back : (number : ℕ) (first : Option Page)
+      → KeepsImage m.txs number first → map.get clean number ≡ first
+  pub as_stored : (number : ℕ) → KeepsNoImage m.txs number
+      → map.get clean number ≡ map.get m.commons.pages.store.pages number
 
 -- what the page of this number is on the clean pages
 pub record HasCleanPage {P : Type 0} (m : ManagerFields P) (number : ℕ) (page : Option Page)

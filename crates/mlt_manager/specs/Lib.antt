@@ -2,6 +2,7 @@ pub mod Answers
 pub mod Bases
 pub mod Chains
 pub mod Events
+pub mod Headline
 pub mod Managers
 pub mod Openings
 pub mod Parts

@@ -3,12 +3,14 @@ use Rattle.std.specs.Prelude.{ℕ, ◌≡◌, ◌↔◌, true, Some, is_some}
 use Rattle.std.specs.Ordering.{nat_cmp}
 use Rattle.std.specs.FinMap as map
 use Rattle.std.specs.FinSet as set
+use Rattle.mlt_types.specs.declared.cell.Cell.{Cell}
+use Rattle.mlt_types.specs.Cells.{IsInRange, key_number}
 use Rattle.mlt_page.specs.declared.page.Page.{Page}
 use Rattle.mlt_object_kinds.specs.Bases.{Base, Step, empty_base}
 use Rattle.mlt_object_kinds.specs.declared.operation.ObjOp.{ObjOp}
 use Rattle.mlt_object_kinds.specs.declared.operation.ObjReply.{ObjReply}
-use Rattle.mlt_object_base.specs.Meaning.{Means}
-use Rattle.mlt_order.specs.Histories.{IsCommitOrderSerializable, Lists, lists_of}
+use Rattle.mlt_object_base.specs.Records.{IsRecord}
+use Rattle.mlt_order.specs.Histories.{Lists, lists_of}
 use Rattle.mlt_order.specs.Histories.Stage.{Running}
 use Rattle.mlt_order.specs.Interleavings.{UndoneTo, items_of}
 use Rattle.mlt_order.specs.Runs.{IsSerialBase}
@@ -24,7 +26,8 @@ use Rattle.mlt_trace_check.specs.Traces.{IsAcceptedTrace}
 use Rattle.mlt_tx.specs.declared.transaction.Transaction.{Transaction}
 use Rattle.mlt_tx_meaning.specs.Presences.{standing_of}
 use Rattle.mlt_manager_invariant.specs.States.{undoing_of}
-use Rattle.mlt_manager.specs.Bases.{HasBase, HasCleanPages}
+use Rattle.mlt_manager.specs.Bases.{HasBase}
+use Rattle.mlt_manager.specs.Headline.{KeepsMainPromise}
 use Rattle.mlt_manager.specs.Managers.{ManagerFields}
 use Rattle.mlt_manager.specs.PassLocks.{HoldsLocksOfItsPass}
 
@@ -57,20 +60,16 @@ pub record KeepsBooks {P : Type 0} (m : ManagerFields P) : Type 0 where
   pub held : (i : ℕ) → items_of i m.commons.objects.held ≡ (lists_by m).held i
   pub page_locks : AreCompatible m.commons.pages.locks
 
--- The committed transactions, run alone in commit order from the empty base, give exactly the replies that they were told;
--- and the base so reached is what the clean pages mean, once the operations of open transactions are taken back. The
--- clean pages are an extendible hash file, in which removals of open transactions have their ghosts. A running operation
--- holds the page locks of its pass, and nobody else holds any. Who is open, what may be taken back and what is held is
--- what the history says.
+-- The main promise, and what else is promised. The clean pages are an extendible hash file with records that the cells can
+-- have, in which removals of open transactions have their ghosts. A running operation holds the page locks of its pass, and
+-- nobody else holds any. Who is open, what may be taken back and what is held is what the history says.
 pub record KeepsPromises {P : Type 0} (bits_of : P → ℕ → ℕ) (m : ManagerFields P) : Type 0 where
-  pub clean : map.FinMap nat_cmp Page
-  pub is_clean : HasCleanPages m clean
-  pub state : Base
-  pub means : Means (live_records clean) state
-  pub serial : IsCommitOrderSerializable Step empty_base (lists_by m) state
-  pub file : IsExtendibleHashFile (bits_of m.root.pseudo) m.opens (map.get clean) m.root.page
-  pub ghosts : GhostsAreKept (ledger_by bits_of m clean)
-  pub locks : (i : ℕ) → HoldsLocksOfItsPass bits_of m (map.get clean) i
+  pub main : KeepsMainPromise m
+  pub file : IsExtendibleHashFile (bits_of m.root.pseudo) m.opens (map.get main.clean) m.root.page
+  pub can_be : (cell : Cell) → IsInRange cell
+      → IsRecord cell (map.get (live_records main.clean) (key_number cell))
+  pub ghosts : GhostsAreKept (ledger_by bits_of m main.clean)
+  pub locks : (i : ℕ) → HoldsLocksOfItsPass bits_of m (map.get main.clean) i
   pub books : KeepsBooks m
   pub begun : AreBegunInOrder m.commons.history.items
   pub commits : AreCounted m.commons.history.items

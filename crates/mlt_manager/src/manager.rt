@@ -1,8 +1,9 @@
 //! The manager of transactions.
 
-ghost use Rattle.std.specs.Prelude.{◌≡◌, ◌≤◌, IsOkUnless, IfOk, OnOk};
+ghost use Rattle.std.specs.Prelude.{◌≡◌, ◌≤◌, IfNone, IfOk, IfSome, IsOkUnless, OnOk};
 ghost use Rattle.mlt_trace_check.specs.Traces.{ArePlaced};
 ghost use Rattle.mlt_trace.specs.Numbers.{AreBegunInOrder};
+ghost use Rattle.mlt_tx_open.specs.Tables.{KeepsImage, KeepsNoImage};
 ghost use Rattle.mlt_manager.specs.Answers.{AnswersAbort, AnswersBegin, AnswersCall, AnswersCancel, AnswersCommit, AnswersStep, IsByAnother, counted};
 ghost use Rattle.mlt_manager.specs.Bases.{HasDepth, KeepsWhatCounts, LeavesBase, UndoingLeavesBase, WholeLeavesBase};
 ghost use Rattle.mlt_manager.specs.Events.{AreWholeEvents, Meets, NoneWaits, Plays, told_of};
@@ -14,15 +15,16 @@ ghost use Rattle.mlt_manager.specs.Promises.{IsCommittedBaseOf, KeepsPromises, P
 
 use crate::parts::Parts;
 use mlt_event::{Answer, Event, Told};
-use mlt_hash_form::form_is_extendible_hashing;
+use mlt_hash_form::{form_is_extendible_hashing, records_are_a_map};
 use mlt_manager_base::base_of_pages;
 use mlt_object_base::Base;
 use mlt_object_kinds::ObjOp;
+use mlt_page::Page;
 use mlt_page_store::Store;
 use mlt_trace::KeptItem;
 use mlt_trace_check::committed_base;
 use mlt_trace_laws::{history_passes_the_checker, items_fit, placed_items_are_writable};
-use mlt_types::{Limits, Pseudo, Refusal, TxId};
+use mlt_types::{Limits, PageNo, Pseudo, Refusal, TxId};
 use std::alloc::Global;
 use std::marker::Model;
 
@@ -243,6 +245,15 @@ impl<P: Pseudo> Manager<P> {
         &self.parts.commons.pages.store
     }
 
+    /// What a page was before the running subtransaction wrote it that has written it, where one has: `None` inside, where it
+    /// was made then. It takes no memory.
+    pub fn first_image(&self, number: PageNo) -> Option<&Option<Page>>
+        ensures kept { IfSome result (λ first. KeepsImage self.now.txs number first.now) }
+        ensures none { IfNone result (KeepsNoImage self.now.txs number) }
+    {
+        self.parts.txs.first_image(number)
+    }
+
     /// The depth of the directory, from 0 to 16, on the clean pages: those of the store, with what running operations have
     /// written put back. It differs from the header in the store while a split that doubled the directory runs. It takes no
     /// memory.
@@ -279,6 +290,7 @@ impl<P: Pseudo> Manager<P> {
         // What is always true of the parts is known where they are read.
         let _parts = &self.parts;
         form_is_extendible_hashing();
+        records_are_a_map();
     }
 
     /// What is always true of a manager, between any two events.

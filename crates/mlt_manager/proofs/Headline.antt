@@ -1,0 +1,168 @@
+-- Every manager keeps the main promise. What it says is what the invariant says, in other words
+use Prim.Native.Nat.{zero}
+use Rattle.std.proofs.Common.{suc, ◌≡◌, ◌<◌, ℕ, ◌^◌, ◌==◌, Bool, true, false, cond, List, [], ◌∷◌, length, get_or, Option, None, Some, Contains, fold, is_some, unwrap_or, ◌↔◌, refl, sym, ap, subst, ◌∙◌, arith}
+use Rattle.std.proofs.lemmas.Bool.{false≢true}
+use Rattle.std.specs.Ordering.{nat_cmp}
+use Rattle.std.specs.FinMap as map
+use Rattle.mlt_types.specs.declared.cell.Cell.{Cell}
+use Rattle.mlt_types.specs.declared.cell.Cell.TheVariants.{Account, Element, Counter, Size}
+use Rattle.mlt_types.specs.Cells.{IsInRange, key_number}
+use Rattle.mlt_order.specs.Histories.{Entry, Lists, after_entries, after_entry, lists_of, no_lists}
+use Rattle.mlt_object_kinds.specs.Bases.{Base, account_at, counter_at, element_at, size_at, state_at}
+use Rattle.mlt_object_kinds.specs.Cells.{CellState}
+use Rattle.mlt_object_kinds.specs.Cells.CellState.{AccountState, ElementState, CounterState, NoState}
+use Rattle.mlt_object_kinds.specs.declared.operation.ObjOp.{ObjOp}
+use Rattle.mlt_object_kinds.specs.declared.operation.ObjReply.{ObjReply}
+use Rattle.mlt_object_kinds.proofs.Sizes.{size_below}
+use Rattle.mlt_object_base.specs.Meaning.{Means}
+use Rattle.mlt_object_base.specs.Records.{IsRecord, counter_of_record, state_of_record}
+use Rattle.mlt_trace.specs.Entries.{entries_of, entry_of}
+use Rattle.mlt_trace.specs.declared.item.TraceItem.{TraceItem}
+use Rattle.mlt_trace.specs.declared.item.TraceItem.TheVariants.{Begin, Op, Back, Commit, Abort}
+use Rattle.mlt_page.specs.Values.{BucketFields}
+use Rattle.mlt_page.specs.declared.page.Page.{Page}
+use Rattle.mlt_page.specs.declared.page.Page.TheVariants as page
+use Rattle.mlt_page.specs.declared.slot.Slot.{Slot}
+use Rattle.mlt_page.specs.declared.slot.Slot.TheVariants.{Free, Live}
+use Rattle.mlt_hash_form.specs.File.{HasRecord, bucket_of}
+use Rattle.mlt_hash_form.specs.Records.{IsRecordMap, live_records}
+use Rattle.mlt_manager.specs.Headline.{HasLiveSlot, HoldsIn, IsRecordOf, PagesMean, Transcripts, after_item, transcripts_of}
+
+-- ## The transcripts are the lists of the laws of commit order
+
+abbrev of_lists : Lists (ObjOp × ObjReply) → Transcripts
+of_lists lists = record { committed = lists.committed; of_open = lists.transcripts }
+
+same_after : (lists : Lists (ObjOp × ObjReply)) (items : List TraceItem) → fold after_item (of_lists lists) items ≡ of_lists (after_entries lists (entries_of items))
+same_after lists [] = refl
+same_after lists (Begin tx ∷ items) = same_after (after_entry lists (Entry.Begun tx)) items
+same_after lists (Op tx done ∷ items) = same_after (after_entry lists (Entry.Did tx done)) items
+same_after lists (Back tx ∷ items) = same_after (after_entry lists (Entry.TookBack tx)) items
+same_after lists (Commit tx number ∷ items) = same_after (after_entry lists (Entry.Committed tx)) items
+same_after lists (Abort tx ∷ items) = same_after (after_entry lists (Entry.Closed tx)) items
+
+-- **A history tells of the same transcripts by its items as by its entries.**
+pub same_transcripts : (items : List TraceItem) → transcripts_of items ≡ of_lists (lists_of (entries_of items))
+same_transcripts items = same_after no_lists items
+
+-- ## A live slot is a record
+
+contained : (slots : List Slot) (i key value : ℕ) → get_or slots i Free ≡ Live key value → Contains slots (Live key value)
+contained [] i key value is = (let none : Free ≡ Live key value = is in cc)
+contained (slot ∷ slots) zero key value is = (zero, omega arith, is)
+contained (slot ∷ slots) (suc i) key value is =
+    let later = contained slots i key value is in
+    (suc later.0, omega (arith, later.1), later.2)
+
+same_slot : (slots : List Slot) (i : ℕ) (one other : Slot) → i < length slots → get_or slots i one ≡ get_or slots i other
+same_slot [] i one other within = absurd (omega (arith, within))
+same_slot (slot ∷ slots) zero one other within = refl
+same_slot (slot ∷ slots) (suc i) one other within = same_slot slots i one other (omega (arith, within))
+
+module _ (pages : map.FinMap nat_cmp Page) (key value : ℕ) where
+  on_page : (number i : ℕ) (p : Option Page) → map.get pages number ≡ p → get_or (bucket_of p).slots i Free ≡ Live key value → HasLiveSlot pages key value
+  on_page number i None there is = (let none : Free ≡ Live key value = is in cc)
+  on_page number i (Some (page.Head header)) there is = (let none : Free ≡ Live key value = is in cc)
+  on_page number i (Some (page.Dir dir)) there is = (let none : Free ≡ Live key value = is in cc)
+  on_page number i (Some (page.Bucket bucket)) there is = (number, bucket, there, contained bucket.slots i key value is)
+
+  slot_of_record : HasRecord (map.get pages) key value → HasLiveSlot pages key value
+  slot_of_record (number, i, is) = on_page number i (map.get pages number) refl is
+
+  record_of_slot : HasLiveSlot pages key value → HasRecord (map.get pages) key value
+  record_of_slot (number, bucket, there, inside) =
+      (number, inside.0, ap (λ (p : Option Page). get_or (bucket_of p).slots inside.0 Free) there ∙ same_slot bucket.slots inside.0 Free (Live key value) inside.1 ∙ inside.2)
+
+-- ## What the pages mean
+
+same_option : (a b : Option ℕ) → ((value : ℕ) → (a ≡ Some value) ↔ (b ≡ Some value)) → a ≡ b
+same_option None None same = refl
+same_option None (Some v) same = (same v).1 refl
+same_option (Some v) b same = sym ((same v).0 refl)
+
+-- what a cell holds is what its record says
+abbrev balance_in : CellState → Option ℕ
+balance_in (AccountState live) = live
+balance_in _ = None
+
+abbrev presence_in : CellState → Bool
+presence_in (ElementState present) = present
+presence_in _ = false
+
+abbrev value_in : CellState → ℕ
+value_in (CounterState value) = value
+value_in _ = 0
+
+counted : (live : Option ℕ) → counter_of_record live ≡ unwrap_or live 0
+counted None = refl
+counted (Some v) = refl
+
+module _ (base : Base) where
+  held : (cell : Cell) (live : Option ℕ) → state_at base cell ≡ state_of_record cell live → ((s : ℕ) → cell ≡ Size s → counter_of_record live ≡ size_at base s) → HoldsIn base cell live
+  held (Account a) live is sized = ap balance_in is
+  held (Element s e) live is sized = ap presence_in is
+  held (Counter c) live is sized = ap value_in is ∙ counted live
+  held (Size s) live is sized = sym (sized s refl) ∙ counted live
+
+  state_held : (cell : Cell) (live : Option ℕ) → HoldsIn base cell live → state_at base cell ≡ state_of_record cell live
+  state_held (Account a) live holds = ap AccountState holds
+  state_held (Element s e) live holds = ap ElementState holds
+  state_held (Counter c) live holds = ap CounterState (holds ∙ sym (counted live))
+  state_held (Size s) live holds = refl
+
+  no_elements : (s : ℕ) → ((e : ℕ) → element_at base s e ≡ false) → size_at base s ≡ 0
+  no_elements s none =
+      let few = size_below 0 base s (λ e there. absurd (false≢true (sym (none e) ∙ there))) in
+      omega (arith, few)
+
+-- **Where the records of clean pages mean a base, the pages do,**
+pub pages_mean : (pages : map.FinMap nat_cmp Page) (base : Base) → IsRecordMap (live_records pages) (map.get pages) → Means (live_records pages) base → PagesMean pages base
+pages_mean pages base is_map means = record { within = within; beyond = beyond }
+  where
+    records : map.FinMap nat_cmp ℕ
+    records = live_records pages
+
+    size_told : (cell : Cell) → IsInRange cell → (s : ℕ) → cell ≡ Size s → counter_of_record (map.get records (key_number cell)) ≡ size_at base s
+    size_told cell in_range s is =
+        subst (λ (c : Cell). IsInRange c → counter_of_record (map.get records (key_number c)) ≡ size_at base s) (sym is) (means.sized s) in_range
+
+    within : (cell : Cell) → IsInRange cell → (live : Option ℕ) × IsRecordOf pages (key_number cell) live × HoldsIn base cell live
+    within cell in_range = (
+      map.get records (key_number cell),
+      (λ value. (
+        (λ live. (is_map (key_number cell) value).1 (record_of_slot pages (key_number cell) value live)),
+        (λ is. slot_of_record pages (key_number cell) value ((is_map (key_number cell) value).0 is)),
+      )),
+      held base cell (map.get records (key_number cell)) (means.holds cell in_range) (size_told cell in_range),
+    )
+
+    none_told : (cell : Cell) → (IsInRange cell → ⊥) → (s : ℕ) → cell ≡ Size s → counter_of_record None ≡ size_at base s
+    none_told cell out s is =
+        let out_there : IsInRange (Size s) → ⊥ = subst (λ (c : Cell). IsInRange c → ⊥) is out in
+        sym (no_elements base s (λ e. ap presence_in (means.elsewhere (Element s e) (λ in_range. out_there in_range.0))))
+
+    beyond : (cell : Cell) → (IsInRange cell → ⊥) → HoldsIn base cell None
+    beyond cell out = held base cell None (means.elsewhere cell out) (none_told cell out)
+
+-- **and the other way round, where the records are such as cells can have.**
+pub records_mean : (pages : map.FinMap nat_cmp Page) (base : Base) → IsRecordMap (live_records pages) (map.get pages)
+    → ((cell : Cell) → IsInRange cell → IsRecord cell (map.get (live_records pages) (key_number cell))) → PagesMean pages base → Means (live_records pages) base
+records_mean pages base is_map can_be mean = record {
+  can_be = can_be;
+  holds = λ cell in_range.
+      let one = mean.within cell in_range in
+      state_held base cell (map.get records (key_number cell)) (subst (HoldsIn base cell) (same cell one.0 one.1) one.2);
+  elsewhere = λ cell out. state_held base cell None (mean.beyond cell out);
+  sized = λ s in_range.
+      let one = mean.within (Size s) in_range in
+      counted (map.get records (key_number (Size s))) ∙ sym (subst (HoldsIn base (Size s)) (same (Size s) one.0 one.1) one.2);
+}
+  where
+    records : map.FinMap nat_cmp ℕ
+    records = live_records pages
+
+    same : (cell : Cell) (live : Option ℕ) → IsRecordOf pages (key_number cell) live → live ≡ map.get records (key_number cell)
+    same cell live is = same_option live (map.get records (key_number cell)) (λ value. (
+      (λ (has : live ≡ Some value). (is_map (key_number cell) value).1 (record_of_slot pages (key_number cell) value ((is value).1 has))),
+      (λ has. (is value).0 (slot_of_record pages (key_number cell) value ((is_map (key_number cell) value).0 has))),
+    ))

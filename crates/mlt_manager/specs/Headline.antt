@@ -1,0 +1,80 @@
+-- The main theorem, as far as it speaks of a manager between any two events: what its history tells of, and what its pages mean
+use Rattle.std.specs.Prelude.{ℕ, ◌≡◌, ◌↔◌, List, [], ◌∷◌, ◌++◌, Option, None, Some, Contains, fold, is_some, unwrap_or}
+use Rattle.std.specs.Ordering.{nat_cmp}
+use Rattle.std.specs.FinMap as map
+use Rattle.mlt_types.specs.declared.cell.Cell.{Cell}
+use Rattle.mlt_types.specs.declared.cell.Cell.TheVariants.{Account, Element, Counter, Size}
+use Rattle.mlt_types.specs.Cells.{IsInRange, key_number}
+use Rattle.mlt_order.specs.Histories.{but_last}
+use Rattle.mlt_order.specs.Interleavings.{UndoneTo}
+use Rattle.mlt_order.specs.Runs.{IsSerialBase}
+use Rattle.mlt_order.specs.Tables.{with_entry}
+use Rattle.mlt_object_kinds.specs.Bases.{Base, Step, account_at, counter_at, element_at, empty_base, size_at}
+use Rattle.mlt_object_kinds.specs.declared.operation.ObjOp.{ObjOp}
+use Rattle.mlt_object_kinds.specs.declared.operation.ObjReply.{ObjReply}
+use Rattle.mlt_trace.specs.declared.item.TraceItem.{TraceItem}
+use Rattle.mlt_trace.specs.declared.item.TraceItem.TheVariants as trace
+use Rattle.mlt_page.specs.Values.{BucketFields}
+use Rattle.mlt_page.specs.declared.page.Page.{Page}
+use Rattle.mlt_page.specs.declared.page.Page.TheVariants.{Bucket}
+use Rattle.mlt_page.specs.declared.slot.Slot.TheVariants.{Live}
+use Rattle.mlt_manager.specs.Bases.{HasCleanPages}
+use Rattle.mlt_manager.specs.Managers.{ManagerFields}
+
+-- The transcript of a transaction: its operations that were not taken back, with their replies, in order. Those of the
+-- transactions that committed stand in the order of the commits, those of the open ones under their numbers.
+pub record Transcripts : Type 0 where
+  pub committed : List (List (ObjOp × ObjReply))
+  pub of_open : ℕ → List (ObjOp × ObjReply)
+
+-- the transcripts after one more item of the history
+abbrev pub after_item : Transcripts → TraceItem → Transcripts
+after_item t (trace.Begin tx) = t
+after_item t (trace.Op tx done) =
+    record t { of_open = with_entry t.of_open tx (t.of_open tx ++ done ∷ []) }
+after_item t (trace.Back tx) =
+    record t { of_open = with_entry t.of_open tx (but_last (t.of_open tx)) }
+after_item t (trace.Commit tx number) =
+    record { committed = t.committed ++ t.of_open tx ∷ []; of_open = with_entry t.of_open tx [] }
+after_item t (trace.Abort tx) = record t { of_open = with_entry t.of_open tx [] }
+
+-- the transcripts that a whole history tells of
+abbrev pub transcripts_of : List TraceItem → Transcripts
+transcripts_of items = fold after_item (record { committed = []; of_open = λ tx. [] }) items
+
+-- a live slot of some bucket has this key and this value
+abbrev pub HasLiveSlot : map.FinMap nat_cmp Page → ℕ → ℕ → Type 0
+HasLiveSlot pages key value =
+    (number : ℕ) × (bucket : BucketFields) × (map.get pages number ≡ Some (Bucket bucket))
+    × Contains bucket.slots (Live key value)
+
+-- The record of a key on the pages: the value of its live slots, which have only one, or None where it has no live slot.
+abbrev pub IsRecordOf : map.FinMap nat_cmp Page → ℕ → Option ℕ → Type 0
+IsRecordOf pages key live = (value : ℕ) → HasLiveSlot pages key value ↔ (live ≡ Some value)
+
+-- What the base holds in a cell is what this record says: of an account the balance, if there is a record; of an element,
+-- whether there is one; of a counter, and of the size of a set, the value, or else 0.
+abbrev pub HoldsIn : Base → Cell → Option ℕ → Type 0
+HoldsIn base (Account a) live = account_at base a ≡ live
+HoldsIn base (Element s e) live = element_at base s e ≡ is_some live
+HoldsIn base (Counter c) live = counter_at base c ≡ unwrap_or live 0
+HoldsIn base (Size s) live = size_at base s ≡ unwrap_or live 0
+
+-- The pages mean the base: in each cell that there can be it holds what the record of the cell's key says, in any other
+-- nothing.
+pub record PagesMean (pages : map.FinMap nat_cmp Page) (base : Base) : Type 0 where
+  pub within : (cell : Cell) → IsInRange cell
+      → (live : Option ℕ) × IsRecordOf pages (key_number cell) live × HoldsIn base cell live
+  pub beyond : (cell : Cell) → (IsInRange cell → ⊥) → HoldsIn base cell None
+
+-- The committed transactions, run alone in the order of their commits from the empty base, with the replies that they were
+-- told, lead to a base. With the first images that running subtransactions keep put back, the pages mean a state. And of
+-- that state the base is left, in whatever order the operations of open transactions are taken back.
+pub record KeepsMainPromise {P : Type 0} (m : ManagerFields P) : Type 0 where
+  pub base : Base
+  pub alone : IsSerialBase Step empty_base (transcripts_of m.commons.history.items).committed base
+  pub clean : map.FinMap nat_cmp Page
+  pub put_back : HasCleanPages m clean
+  pub state : Base
+  pub means : PagesMean clean state
+  pub taken_back : UndoneTo Step base (transcripts_of m.commons.history.items).of_open state
