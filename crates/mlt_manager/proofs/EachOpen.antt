@@ -15,7 +15,7 @@ use Rattle.mlt_manager_invariant.proofs.Tables.{inserted_elsewhere, inserted_her
 use Rattle.mlt_manager.specs.Answers.{AnswersAbort, AnswersBegin, AnswersCommit, HasCalled, HasStepped, IsOpenAt, txs_after}
 use Rattle.mlt_manager.specs.Chains.{StepsBy}
 use Rattle.mlt_manager.specs.Managers.{ManagerFields}
-use Rattle.mlt_manager.specs.Wholes.{AnswersWhole, DropsIfItStands, GoesOn, HasRun, Stops}
+use Rattle.mlt_manager.specs.Wholes.{AnswersWhole, DropsIfItStands, HasRun, LetsGoOn, Stops}
 use Rattle.mlt_manager.proofs.RunningOn.{steps_pending}
 use Rattle.mlt_manager.proofs.WholeBases.{called_with, steps_ask, weaker}
 
@@ -137,7 +137,7 @@ module _ {P : Type 0} (G : ℕ → Transaction → Type 0) (looks : LooksAt G) w
         let up = r.runs.steps in
         ends_still op told up.before r.runs.stopped m'
         (weaker up.before.txs tx op (steps_ask bits_of tx op r.called up.before up.steps up.goes (called_with m r.called tx op r.calls)))
-        up.ends up.stops r.runs.drops (steps_each GoesOn r.called up.before up.steps up.goes (called_each op m r.called r.calls each))
+        up.ends up.stops r.runs.drops (steps_each LetsGoOn r.called up.before up.steps up.goes (called_each op m r.called r.calls each))
 
     pub not_called_each : (op : ObjOp) (m m' : ManagerFields P) (reason : Refusal) → AnswersWhole bits_of m m' tx op (Err reason) → All m → All m'
     not_called_each op m m' refusal.OutOfMemory a each =

@@ -40,7 +40,7 @@ use Rattle.mlt_manager.specs.Answers.{AnswersStep, HasStepped, IsByAnother, IsOp
 use Rattle.mlt_manager.specs.Chains.{StepsUpTo}
 use Rattle.mlt_manager.specs.Managers.{IsManager, ManagerFields, state_of}
 use Rattle.mlt_manager.specs.Undoings.{AnswersWholeUndo, GoesOnBack, StopsBack}
-use Rattle.mlt_manager.specs.Wholes.{AnswersWhole, DropsIfItStands, GoesOn, Stops}
+use Rattle.mlt_manager.specs.Wholes.{AnswersWhole, DropsIfItStands, LetsGoOn, Stops}
 use Rattle.mlt_manager.proofs.Called.{called_keeps}
 use Rattle.mlt_manager.proofs.Chains.{steps_keep}
 
@@ -173,9 +173,9 @@ module _ {P : Type 0} (bits_of : P → ℕ → ℕ) (m : ManagerFields P) (h : I
       (in_table told d.txs c.after c.is (named_at c.before c.after m'.commons c.was c.before.at (basis_by bits_of m.root m.opens c.before.subtx.tx) told d.steps.tells))
 
 -- many steps
-module _ {P : Type 0} (bits_of : P → ℕ → ℕ) (GoesOn Stops : Answer → Type 0) where
-  pub steps_name : (m m' : ManagerFields P) (tx : ℕ) (told : Answer) → IsManager bits_of m → StepsUpTo bits_of GoesOn Stops m m' tx told → IsByAnother told m'.txs tx
-  steps_name m m' tx told h s = step_names bits_of s.before (steps_keep bits_of GoesOn tx m s.before s.steps h s.goes) tx m' told s.ends
+module _ {P : Type 0} (bits_of : P → ℕ → ℕ) (LetsGoOn Stops : Answer → Type 0) where
+  pub steps_name : (m m' : ManagerFields P) (tx : ℕ) (told : Answer) → IsManager bits_of m → StepsUpTo bits_of LetsGoOn Stops m m' tx told → IsByAnother told m'.txs tx
+  steps_name m m' tx told h s = step_names bits_of s.before (steps_keep bits_of LetsGoOn tx m s.before s.steps h s.goes) tx m' told s.ends
 
 -- an operation that is dropped
 dropped_names : {P : Type 0} (told : Answer) (m m' : ManagerFields P) (tx : ℕ) → DropsIfItStands told m m' tx → IsByAnother told m.txs tx → IsByAnother told m'.txs tx
@@ -202,5 +202,5 @@ module _ {P : Type 0} (bits_of : P → ℕ → ℕ) (m m' : ManagerFields P) (h 
   pub whole_others : (op : ObjOp) (r : Result Answer Refusal) → AnswersWhole bits_of m m' tx op r → IfOk r (λ told. IsByAnother told m'.txs tx)
   whole_others op (Ok told) a =
       dropped_names told a.runs.stopped m' tx a.runs.drops
-      (steps_name bits_of GoesOn Stops a.called a.runs.stopped tx told (called_keeps bits_of m h tx a.called a.calls.rest op a.calls) a.runs.steps)
+      (steps_name bits_of LetsGoOn Stops a.called a.runs.stopped tx told (called_keeps bits_of m h tx a.called a.calls.rest op a.calls) a.runs.steps)
   whole_others op (Err reason) a = tt

@@ -21,7 +21,7 @@ use Rattle.mlt_tx_open.specs.Tables.{Table}
 use Rattle.mlt_manager_invariant.proofs.Tables.{inserted_here}
 use Rattle.mlt_manager.specs.Answers.{AnswersCall, HasCalled, HasStepped, IsOpenAt, txs_after}
 use Rattle.mlt_manager.specs.Managers.{IsManager, ManagerFields}
-use Rattle.mlt_manager.specs.Wholes.{AnswersWhole, DropsIfItStands, GoesOn, HasRun, StandsIn, StepsOnUpTo, Stops}
+use Rattle.mlt_manager.specs.Wholes.{AnswersWhole, DropsIfItStands, HasRun, LetsGoOn, StandsIn, StepsOnUpTo, Stops}
 use Rattle.mlt_manager.proofs.Called.{called_keeps, cancelled_keeps, pending_of}
 use Rattle.mlt_manager.proofs.Chains.{IsUnderWay, found_before, last_taken, one_taken, there_after, up_to_keeps}
 
@@ -40,14 +40,14 @@ on_left m tx = most_for (map.get m.txs tx) m.root.page m.commons
 -- one step of a pending operation
 module _ {P : Type 0} (bits_of : P → ℕ → ℕ) (m m' : ManagerFields P) (tx : ℕ) (told : Answer) (pending : IsOpenAt m.txs tx IsPending) (d : HasStepped bits_of m m' tx told) where
   pub operation_at : (o : OperationFields) × (d.steps.changes.before.at ≡ at.Pending o)
-  operation_at = pending_of d.steps.changes.before.at (found_before bits_of GoesOn m m m' tx told IsPending pending d)
+  operation_at = pending_of d.steps.changes.before.at (found_before bits_of LetsGoOn m m m' tx told IsPending pending d)
 
   pub steps_pending : StepsPending (basis_by bits_of m.root m.opens d.steps.changes.before.subtx.tx) operation_at.0 d.steps.changes.before d.steps.changes.after m.commons m'.commons told
   steps_pending =
       subst (λ (a : At). TellsAt a (basis_by bits_of m.root m.opens d.steps.changes.before.subtx.tx) d.steps.changes.before d.steps.changes.after m.commons m'.commons told) operation_at.1 d.steps.tells
 
   pub there_by : (t : Answer) → told ≡ t → txs_after t tx d.txs ≡ d.txs → map.get m'.txs tx ≡ Some d.steps.changes.after
-  there_by t is on = there_after bits_of GoesOn m m m' tx told d (ap (λ (a : Answer). txs_after a tx d.txs) is ∙ on)
+  there_by t is on = there_after bits_of LetsGoOn m m m' tx told d (ap (λ (a : Answer). txs_after a tx d.txs) is ∙ on)
 
   pending_by : (t : Answer) → told ≡ t → txs_after t tx d.txs ≡ d.txs → pending_after t steps_pending.next ≡ at.Pending steps_pending.next → IsOpenAt m'.txs tx IsPending
   pending_by t is on stays = record {
@@ -98,13 +98,13 @@ fewer_on bits_of m m' tx pending d small =
     omega (arith, was, is, fewer)
 
 -- **One more step.**
-pub on_by_one : {P : Type 0} (bits_of : P → ℕ → ℕ) (old m m' : ManagerFields P) (tx : ℕ) → IsUnderWay bits_of GoesOn IsPending old m tx → HasStepped bits_of m m' tx answer.Going → IsUnderWay bits_of GoesOn IsPending old m' tx
-on_by_one bits_of old m m' tx w d = one_taken bits_of GoesOn old m m' tx answer.Going IsPending w d tt (still_pending bits_of m m' tx answer.Going w.is_at d refl)
+pub on_by_one : {P : Type 0} (bits_of : P → ℕ → ℕ) (old m m' : ManagerFields P) (tx : ℕ) → IsUnderWay bits_of LetsGoOn IsPending old m tx → HasStepped bits_of m m' tx answer.Going → IsUnderWay bits_of LetsGoOn IsPending old m' tx
+on_by_one bits_of old m m' tx w d = one_taken bits_of LetsGoOn old m m' tx answer.Going IsPending w d tt (still_pending bits_of m m' tx answer.Going w.is_at d refl)
 
 -- **The step that stops.**
-pub on_ends : {P : Type 0} (bits_of : P → ℕ → ℕ) (old m m' : ManagerFields P) (tx : ℕ) (told : Answer) → IsUnderWay bits_of GoesOn IsPending old m tx → HasStepped bits_of m m' tx told → (told ≡ answer.Going → ⊥)
+pub on_ends : {P : Type 0} (bits_of : P → ℕ → ℕ) (old m m' : ManagerFields P) (tx : ℕ) (told : Answer) → IsUnderWay bits_of LetsGoOn IsPending old m tx → HasStepped bits_of m m' tx told → (told ≡ answer.Going → ⊥)
     → StepsOnUpTo bits_of old m' tx told
-on_ends bits_of old m m' tx told w d not = last_taken bits_of GoesOn old m m' tx told IsPending Stops w d (stops_here bits_of m m' tx told w.is_at d not)
+on_ends bits_of old m m' tx told w d not = last_taken bits_of LetsGoOn old m m' tx told IsPending Stops w d (stops_here bits_of m m' tx told w.is_at d not)
 
 -- the depth of a manager's directory is at most 16
 pub is_small : {P : Type 0} (bits_of : P → ℕ → ℕ) (m : ManagerFields P) → IsManager bits_of m → m.root.max_depth ≤ 16
@@ -126,7 +126,7 @@ drops_keep bits_of other old new tx h same = subst (IsManager bits_of) (sym same
 -- **A whole operation keeps what is always true.**
 pub run_keeps : {P : Type 0} (bits_of : P → ℕ → ℕ) (old new : ManagerFields P) (tx : ℕ) (op : ObjOp) (told : Answer) → IsManager bits_of old → HasRun bits_of old new tx op told → IsManager bits_of new
 run_keeps bits_of old new tx op told h r =
-    drops_keep bits_of told r.runs.stopped new tx (up_to_keeps bits_of GoesOn tx Stops r.called r.runs.stopped told (called_keeps bits_of old h tx r.called r.calls.rest op r.calls) r.runs.steps) r.runs.drops
+    drops_keep bits_of told r.runs.stopped new tx (up_to_keeps bits_of LetsGoOn tx Stops r.called r.runs.stopped told (called_keeps bits_of old h tx r.called r.calls.rest op r.calls) r.runs.steps) r.runs.drops
 
 -- **An operation that stands is pending.**
 pub stands_in : {P : Type 0} (bits_of : P → ℕ → ℕ) (m m' : ManagerFields P) (tx : ℕ) (told : Answer) → IsOpenAt m.txs tx IsPending → HasStepped bits_of m m' tx told → StandsIn m' tx told

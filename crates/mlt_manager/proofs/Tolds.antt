@@ -6,7 +6,7 @@ use Rattle.std.specs.Ordering.{nat_cmp}
 use Rattle.mlt_types.specs.declared.limits.Limits.{Limits}
 use Rattle.mlt_types.specs.declared.refusal.Refusal.TheVariants as refusal
 use Rattle.mlt_object_kinds.specs.declared.operation.ObjOp.{ObjOp}
-use Rattle.mlt_order.specs.Tables.{with_entry}
+use Rattle.mlt_order.specs.Tables.{table_with}
 use Rattle.mlt_order.proofs.Tables.{with_entry-other, with_entry-same}
 use Rattle.mlt_trace.specs.declared.item.TraceItem.{TraceItem}
 use Rattle.mlt_trace.specs.declared.item.TraceItem.TheVariants as trace
@@ -52,7 +52,7 @@ abbrev Agree : {P : Type 0} → CalledOps → ManagerFields P → Type 0
 Agree called m = Each (IsCalled called) m.txs
 
 -- others are called as they were
-others_called : (called : CalledOps) (tx : ℕ) (entry : Option ObjOp) (txs : Table) → EachOther (IsCalled called) tx txs → EachOther (IsCalled (with_entry called tx entry)) tx txs
+others_called : (called : CalledOps) (tx : ℕ) (entry : Option ObjOp) (txs : Table) → EachOther (IsCalled called) tx txs → EachOther (IsCalled (table_with called tx entry)) tx txs
 others_called called tx entry txs each u one ne there op pending = with_entry-other called tx u entry ne ∙ each u one ne there op pending
 
 -- an answer that leaves the operation pending
@@ -107,7 +107,7 @@ module _ {P : Type 0} (bits_of : P → ℕ → ℕ) where
     begin_tells (told.Refused reason) a = let same = refused a.1 in ([], same.0, refl, same.1)
     begin_tells other none = absurd none
 
-    called_with : (tx : ℕ) (op : ObjOp) (after : Transaction) → IsPendingWith op after.at → IsCalled (with_entry called tx (Some op)) tx after
+    called_with : (tx : ℕ) (op : ObjOp) (after : Transaction) → IsPendingWith op after.at → IsCalled (table_with called tx (Some op)) tx after
     called_with tx op after asked other pending = with_entry-same called tx tx (Some op) refl ∙ same after.at asked pending
       where
         same : (a : At) → IsPendingWith op a → IsPendingWith other a → Some op ≡ Some other
@@ -118,7 +118,7 @@ module _ {P : Type 0} (bits_of : P → ℕ → ℕ) where
     call_tells : (tx : ℕ) (op : ObjOp) (t : Told) → Meets bits_of (event.Call tx op) t m m' → Tells (event.Call tx op) t called m m'
     call_tells tx op told.Called c =
         let ch = c.calls.changes in
-        let called' = with_entry called tx (Some op) in (
+        let called' = table_with called tx (Some op) in (
           [],
           same_items m m' c.calls.tells.makes.items,
           refl,
@@ -139,7 +139,7 @@ module _ {P : Type 0} (bits_of : P → ℕ → ℕ) where
     cancel_tells : (tx : ℕ) (t : Told) → Meets bits_of (event.Cancel tx) t m m' → Tells (event.Cancel tx) t called m m'
     cancel_tells tx told.Cancelled (a, keeps) =
         let ch = a.1.changes in
-        let called' = with_entry called tx None in (
+        let called' = table_with called tx None in (
           [],
           same_items m m' keeps.items,
           refl,
@@ -176,9 +176,9 @@ module _ {P : Type 0} (bits_of : P → ℕ → ℕ) where
           table_is G (looks called) m' (map.insert m.txs tx d.steps.changes.after) (ap (λ (n : ManagerFields P). n.txs) d.rest ∙ stays ∙ d.steps.changes.is)
           (each_with G m.txs tx d.steps.changes.after others_here (λ op pending. (after_is op pending).0))
 
-      ends_called : txs_after told tx d.txs ≡ d.txs → (LeavesCalled told → ⊥) → Agree (with_entry called tx None) m'
+      ends_called : txs_after told tx d.txs ≡ d.txs → (LeavesCalled told → ⊥) → Agree (table_with called tx None) m'
       ends_called stays ends =
-          let called' = with_entry called tx None in
+          let called' = table_with called tx None in
           table_is (IsCalled called') (looks called') m' (map.insert m.txs tx d.steps.changes.after) (ap (λ (n : ManagerFields P). n.txs) d.rest ∙ stays ∙ d.steps.changes.is)
           (each_with (IsCalled called') m.txs tx d.steps.changes.after (others_called called tx None m.txs others_here) (λ op pending. absurd (ends (after_is op pending).1)))
 

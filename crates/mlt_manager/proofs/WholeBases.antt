@@ -31,7 +31,7 @@ use Rattle.mlt_manager.specs.Answers.{AnswersCancel, HasCalled, HasStepped, IsOp
 use Rattle.mlt_manager.specs.Bases.{AddsStep, HasBase, IsBlockedBy, IsPendingWith, KeepsWhatCounts, LeavesBase, WholeLeavesBase}
 use Rattle.mlt_manager.specs.Chains.{StepsBy}
 use Rattle.mlt_manager.specs.Managers.{IsManager, ManagerFields}
-use Rattle.mlt_manager.specs.Wholes.{AnswersWhole, DropsIfItStands, GoesOn, HasRun, Stops}
+use Rattle.mlt_manager.specs.Wholes.{AnswersWhole, DropsIfItStands, HasRun, LetsGoOn, Stops}
 use Rattle.mlt_manager.proofs.Called.{called_keeps, cancelled_keeps, one_there}
 use Rattle.mlt_manager.proofs.Chains.{found_before, steps_keep}
 use Rattle.mlt_manager.proofs.CleanPages.{still_clean}
@@ -81,7 +81,7 @@ module _ {P : Type 0} (m m' : ManagerFields P) (tx : ℕ) (op : ObjOp) (c : HasC
   }
 
 -- steps of a pending operation that goes on
-on_counts : {P : Type 0} (told : Answer) (m m' : ManagerFields P) (tx : ℕ) → GoesOn told → LeavesBase told m m' tx → KeepsWhatCounts m m'
+on_counts : {P : Type 0} (told : Answer) (m m' : ManagerFields P) (tx : ℕ) → LetsGoOn told → LeavesBase told m m' tx → KeepsWhatCounts m m'
 on_counts answer.Going m m' tx goes leaves = leaves
 on_counts (answer.Waiting page by) m m' tx none leaves = absurd none
 on_counts (answer.Blocked by) m m' tx none leaves = absurd none
@@ -105,12 +105,12 @@ same_request basis old new o next (inr (inr restarts)) = restarts.request
 
 module _ {P : Type 0} (bits_of : P → ℕ → ℕ) (tx : ℕ) (op : ObjOp) where
   -- the operation stays the same
-  asked_on : (m m' : ManagerFields P) (told : Answer) → GoesOn told → IsOpenAt m.txs tx (IsPendingWith op) → HasStepped bits_of m m' tx told → IsOpenAt m'.txs tx (IsPendingWith op)
+  asked_on : (m m' : ManagerFields P) (told : Answer) → LetsGoOn told → IsOpenAt m.txs tx (IsPendingWith op) → HasStepped bits_of m m' tx told → IsOpenAt m'.txs tx (IsPendingWith op)
   asked_on m m' answer.Going goes pending d =
       let there = weaker m.txs tx op pending in
       let o = operation_at bits_of m m' tx answer.Going there d in
       let s = steps_pending bits_of m m' tx answer.Going there d in
-      let was : o.0.request ≡ Do op = subst (IsPendingWith op) o.1 (found_before bits_of GoesOn m m m' tx answer.Going (IsPendingWith op) pending d) in
+      let was : o.0.request ≡ Do op = subst (IsPendingWith op) o.1 (found_before bits_of LetsGoOn m m m' tx answer.Going (IsPendingWith op) pending d) in
       let is : s.next.request ≡ Do op =
       same_request (basis_by bits_of m.root m.opens d.steps.changes.before.subtx.tx) (moment d.steps.changes.before.subtx m.commons.pages) (moment d.steps.changes.after.subtx s.between.pages) o.0 s.next s.tells.tells ∙ was in
       record { one = d.steps.changes.after; there = there_by bits_of m m' tx answer.Going there d answer.Going refl refl; is_at = subst (IsPendingWith op) (sym s.now_at) is }
@@ -121,11 +121,11 @@ module _ {P : Type 0} (bits_of : P → ℕ → ℕ) (tx : ℕ) (op : ObjOp) wher
   asked_on m m' answer.Aborted none pending d = absurd none
   asked_on m m' (answer.Refused reason) none pending d = absurd none
 
-  pub steps_ask : (old last : ManagerFields P) (steps : List (ManagerFields P × Answer)) → StepsBy bits_of GoesOn old steps last tx → IsOpenAt old.txs tx (IsPendingWith op) → IsOpenAt last.txs tx (IsPendingWith op)
+  pub steps_ask : (old last : ManagerFields P) (steps : List (ManagerFields P × Answer)) → StepsBy bits_of LetsGoOn old steps last tx → IsOpenAt old.txs tx (IsPendingWith op) → IsOpenAt last.txs tx (IsPendingWith op)
   steps_ask old last [] same pending = subst (λ (n : ManagerFields P). IsOpenAt n.txs tx (IsPendingWith op)) (sym same) pending
   steps_ask old last (one ∷ more) (first, on, rest) pending = steps_ask one.0 last more rest (asked_on old one.0 one.1 on pending first)
 
-  steps_count : (old last : ManagerFields P) (steps : List (ManagerFields P × Answer)) → IsManager bits_of old → StepsBy bits_of GoesOn old steps last tx → KeepsWhatCounts old last
+  steps_count : (old last : ManagerFields P) (steps : List (ManagerFields P × Answer)) → IsManager bits_of old → StepsBy bits_of LetsGoOn old steps last tx → KeepsWhatCounts old last
   steps_count old last [] h same = same_keeps old last same
   steps_count old last (one ∷ more) h (first, on, rest) =
       let step = step_keeps bits_of old h tx one.0 one.1 first in
@@ -174,7 +174,7 @@ module _ {P : Type 0} (bits_of : P → ℕ → ℕ) (m m' : ManagerFields P) (tx
   run_leads told r =
       let up = r.runs.steps in
       let hc = called_keeps bits_of m h tx r.called r.calls.rest op r.calls in
-      let hb = steps_keep bits_of GoesOn tx r.called up.before up.steps hc up.goes in
+      let hb = steps_keep bits_of LetsGoOn tx r.called up.before up.steps hc up.goes in
       let last = step_keeps bits_of up.before hb tx r.runs.stopped told up.ends in
       by_told told up.before r.runs.stopped (then_keeps m r.called up.before (called_counts m r.called tx op r.calls) (steps_count bits_of tx op r.called up.before up.steps hc up.goes))
       (steps_ask bits_of tx op r.called up.before up.steps up.goes (called_with m r.called tx op r.calls)) last.0 last.1 up.stops r.runs.drops

@@ -8,7 +8,7 @@ use Rattle.mlt_types.specs.Cells.{IsInRange, key_number}
 use Rattle.mlt_order.specs.Histories.{but_last}
 use Rattle.mlt_order.specs.Interleavings.{UndoneTo}
 use Rattle.mlt_order.specs.Runs.{IsSerialBase}
-use Rattle.mlt_order.specs.Tables.{with_entry}
+use Rattle.mlt_order.specs.Tables.{table_with}
 use Rattle.mlt_object_kinds.specs.Bases.{Base, Step, account_at, counter_at, element_at, empty_base, size_at}
 use Rattle.mlt_object_kinds.specs.declared.operation.ObjOp.{ObjOp}
 use Rattle.mlt_object_kinds.specs.declared.operation.ObjReply.{ObjReply}
@@ -31,12 +31,12 @@ pub record Transcripts : Type 0 where
 abbrev pub after_item : Transcripts → TraceItem → Transcripts
 after_item t (trace.Begin tx) = t
 after_item t (trace.Op tx done) =
-    record t { of_open = with_entry t.of_open tx (t.of_open tx ++ done ∷ []) }
+    record t { of_open = table_with t.of_open tx (t.of_open tx ++ done ∷ []) }
 after_item t (trace.Back tx) =
-    record t { of_open = with_entry t.of_open tx (but_last (t.of_open tx)) }
+    record t { of_open = table_with t.of_open tx (but_last (t.of_open tx)) }
 after_item t (trace.Commit tx number) =
-    record { committed = t.committed ++ t.of_open tx ∷ []; of_open = with_entry t.of_open tx [] }
-after_item t (trace.Abort tx) = record t { of_open = with_entry t.of_open tx [] }
+    record { committed = t.committed ++ t.of_open tx ∷ []; of_open = table_with t.of_open tx [] }
+after_item t (trace.Abort tx) = record t { of_open = table_with t.of_open tx [] }
 
 -- the transcripts that a whole history tells of
 abbrev pub transcripts_of : List TraceItem → Transcripts

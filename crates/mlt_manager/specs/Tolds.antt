@@ -1,7 +1,7 @@
 -- What the history has, by the events and what they were told
 use Rattle.std.specs.Prelude.{ℕ, ◌≡◌, List, [], ◌∷◌, ◌++◌, Option, None, Some, replicate, true}
 use Rattle.mlt_object_kinds.specs.declared.operation.ObjOp.{ObjOp}
-use Rattle.mlt_order.specs.Tables.{with_entry}
+use Rattle.mlt_order.specs.Tables.{table_with}
 use Rattle.mlt_event.specs.declared.answer.Answer.TheVariants as answer
 use Rattle.mlt_event.specs.declared.event.Event.{Event}
 use Rattle.mlt_event.specs.declared.event.Event.TheVariants as event
@@ -20,11 +20,11 @@ none_called tx = None
 
 -- the same after an event that was told this
 abbrev pub called_after : Event → Told → CalledOps → CalledOps
-called_after (event.Call tx op) told.Called called = with_entry called tx (Some op)
-called_after (event.Step tx) (told.Answered (answer.Done reply)) called = with_entry called tx None
+called_after (event.Call tx op) told.Called called = table_with called tx (Some op)
+called_after (event.Step tx) (told.Answered (answer.Done reply)) called = table_with called tx None
 called_after (event.Step tx) (told.Answered (answer.Refused reason)) called =
-    with_entry called tx None
-called_after (event.Cancel tx) told.Cancelled called = with_entry called tx None
+    table_with called tx None
+called_after (event.Cancel tx) told.Cancelled called = table_with called tx None
 called_after event told called = called
 
 -- The items that an event that was told this adds to the history: that a transaction began; that it

@@ -11,9 +11,9 @@ use Rattle.mlt_manager.specs.Chains.{StepsUpTo}
 use Rattle.mlt_manager.specs.Managers.{ManagerFields}
 
 -- an operation goes on
-abbrev pub GoesOn : Answer → Type 0
-GoesOn answer.Going = Unit {0}
-GoesOn other = ⊥
+abbrev pub LetsGoOn : Answer → Type 0
+LetsGoOn answer.Going = Unit {0}
+LetsGoOn other = ⊥
 
 -- an operation is at its end, or stands
 abbrev pub Stops : Answer → Type 0
@@ -26,7 +26,7 @@ Stops other = ⊥
 -- the steps of a pending operation, up to the first that does not go on
 abbrev pub StepsOnUpTo : {P : Type 0} → (P → ℕ → ℕ) → ManagerFields P → ManagerFields P → ℕ → Answer
     → Type 0
-StepsOnUpTo bits_of old new tx told = StepsUpTo bits_of GoesOn Stops old new tx told
+StepsOnUpTo bits_of old new tx told = StepsUpTo bits_of LetsGoOn Stops old new tx told
 
 -- where it stands, it is pending
 abbrev pub StandsIn : {P : Type 0} → ManagerFields P → ℕ → Answer → Type 0

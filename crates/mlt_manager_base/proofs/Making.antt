@@ -16,7 +16,7 @@ use Rattle.mlt_object_kinds.specs.declared.operation.ObjOp.TheVariants as op
 use Rattle.mlt_object_kinds.specs.declared.operation.ObjReply.{ObjReply}
 use Rattle.mlt_object_kinds.specs.declared.operation.ObjReply.TheVariants.{Opened, Missing, Done, Added, Absent, No, Is}
 use Rattle.mlt_object_kinds.specs.Accounts.{AccountStep}
-use Rattle.mlt_object_kinds.specs.Counters.{CounterStep, IsLegal}
+use Rattle.mlt_object_kinds.specs.Counters.{CounterStep, IsLegalOnCounter}
 use Rattle.mlt_object_kinds.specs.Elements.{ElementStep}
 use Rattle.mlt_object_kinds.specs.Bases.{Base, Step, account_at, counter_at, counter_value, element_at, element_cmp, empty_base, state_at}
 use Rattle.mlt_object_kinds.specs.Cells.{CellStep}
@@ -28,7 +28,7 @@ use Rattle.mlt_order.specs.Histories.{Lists, after_entries, after_entry, but_las
 use Rattle.mlt_order.specs.Runs.{IsSerialBase, Runs}
 use Rattle.mlt_order.proofs.RunLemmas.{contains-first, contains-later, contains-nothing}
 use Rattle.mlt_order.proofs.Tables.{at_each, changed}
-use Rattle.mlt_order.specs.Tables.{with_entry}
+use Rattle.mlt_order.specs.Tables.{table_with}
 use Rattle.mlt_trace.specs.declared.item.TraceItem.{TraceItem}
 use Rattle.mlt_trace.specs.declared.item.TraceItem.TheVariants.{Begin, Op, Back, Commit, Abort}
 use Rattle.mlt_trace.specs.Entries.{entries_of, entry_of}
@@ -63,11 +63,11 @@ element_stays Remove Absent t h not = sym h.1
 element_stays Has No t h not = sym h.1
 element_stays _ _ t h not = absurd h.0
 
-up_is_done : (n : ℕ) (r : ObjReply) → IsLegal (Up n) r 0 → r ≡ Done
+up_is_done : (n : ℕ) (r : ObjReply) → IsLegalOnCounter (Up n) r 0 → r ≡ Done
 up_is_done n Done h = refl
 up_is_done n _ h = absurd h
 
-down_is_done : (n : ℕ) (r : ObjReply) → IsLegal (Down n) r 0 → r ≡ Done
+down_is_done : (n : ℕ) (r : ObjReply) → IsLegalOnCounter (Down n) r 0 → r ≡ Done
 down_is_done n Done h = refl
 down_is_done n _ h = absurd h
 
@@ -135,13 +135,13 @@ module _ (lists : Lists Item) (items : List TraceItem) (item : TraceItem) (h : A
   stays x has = (has.0, Contains-append_left items (item ∷ []) (Op has.0 x) has.1)
 
   -- where one transcript becomes another list of which this is true
-  with_list : (i : ℕ) (list : List Item) → ((x : Item) → Contains list x → Later x) → (tx : ℕ) (x : Item) → Contains (with_entry lists.transcripts i list tx) x → Later x
+  with_list : (i : ℕ) (list : List Item) → ((x : Item) → Contains list x → Later x) → (tx : ℕ) (x : Item) → Contains (table_with lists.transcripts i list tx) x → Later x
   with_list i list own =
-      at_each i (λ tx. (x : Item) → Contains (with_entry lists.transcripts i list tx) x → Later x)
+      at_each i (λ tx. (x : Item) → Contains (table_with lists.transcripts i list tx) x → Later x)
       (λ x has. own x (subst (λ l. Contains l x) (changed lists.transcripts i list).0 has))
       (λ tx apart x has. stays x (h.open_txs tx x (subst (λ l. Contains l x) ((changed lists.transcripts i list).1 tx apart) has)))
 
-  with_none : (i : ℕ) (tx : ℕ) (x : Item) → Contains (with_entry lists.transcripts i [] tx) x → Later x
+  with_none : (i : ℕ) (tx : ℕ) (x : Item) → Contains (table_with lists.transcripts i [] tx) x → Later x
   with_none i = with_list i [] (λ x has. absurd (contains-nothing x has))
 
   committed_stay : (t : List Item) (x : Item) → Contains lists.committed t → Contains t x → Later x

@@ -8,7 +8,7 @@ use Rattle.mlt_object_kinds.specs.declared.operation.ObjOp.{ObjOp}
 use Rattle.mlt_object_kinds.specs.declared.operation.ObjReply.{ObjReply}
 use Rattle.mlt_order.specs.Histories.{Entry, Lists, after_entry, lists_of, no_lists}
 use Rattle.mlt_order.specs.Interleavings.{items_of}
-use Rattle.mlt_order.specs.Tables.{SameElsewhere, with_entry}
+use Rattle.mlt_order.specs.Tables.{SameElsewhere, table_with}
 use Rattle.mlt_order.proofs.Growing.{after_entries-push}
 use Rattle.mlt_order.proofs.Tables.{changed}
 use Rattle.mlt_trace.specs.declared.item.TraceItem.{TraceItem}
@@ -50,8 +50,8 @@ ended_world s i entry = record (world_of s) {
 -- what a commit and a close have in common
 record IsEnd (s : State) (i : ℕ) (item : TraceItem) : Type 0 where
   match : PagesMeanHistory (ended_world s i (entry_of item))
-  transcripts : (after_entry (lists_in (world_of s)) (entry_of item)).transcripts ≡ with_entry (lists_in (world_of s)).transcripts i []
-  held : (after_entry (lists_in (world_of s)) (entry_of item)).held ≡ with_entry (lists_in (world_of s)).held i []
+  transcripts : (after_entry (lists_in (world_of s)) (entry_of item)).transcripts ≡ table_with (lists_in (world_of s)).transcripts i []
+  held : (after_entry (lists_in (world_of s)) (entry_of item)).held ≡ table_with (lists_in (world_of s)).held i []
   begins : begun_txs (item ∷ []) ≡ []
   commits : AreCounted (s.commons.history.items ++ item ∷ [])
 
@@ -77,10 +77,10 @@ module _ (s : State) (i : ℕ) (before : Transaction) (commons : Commons) (item 
   same_lists : lists_in (world_of now) ≡ after_entry (lists_in (world_of s)) (entry_of item)
   same_lists = ap lists_of entries_now ∙ after_entries-push (entries_of s.commons.history.items) no_lists (entry_of item)
 
-  transcripts_now : (lists_in (world_of now)).transcripts ≡ with_entry (lists_in (world_of s)).transcripts i []
+  transcripts_now : (lists_in (world_of now)).transcripts ≡ table_with (lists_in (world_of s)).transcripts i []
   transcripts_now = ap (λ (l : Lists (ObjOp × ObjReply)). l.transcripts) same_lists ∙ e.transcripts
 
-  held_now : (lists_in (world_of now)).held ≡ with_entry (lists_in (world_of s)).held i []
+  held_now : (lists_in (world_of now)).held ≡ table_with (lists_in (world_of s)).held i []
   held_now = ap (λ (l : Lists (ObjOp × ObjReply)). l.held) same_lists ∙ e.held
 
   match : PagesMeanHistory (world_of now)
@@ -136,7 +136,7 @@ module _ (s : State) (i : ℕ) (before : Transaction) (commons : Commons) (item 
       ap (items_of j) k.held ∙ elim (cases_eq j i) [
         | inl here ↦
             ap (λ n. items_of n (filter (is_of_other i) s.commons.objects.held)) here ∙ nothing_of i s.commons.objects.held
-            ∙ sym (ap (with_entry (lists_in (world_of s)).held i []) here ∙ list.0)
+            ∙ sym (ap (table_with (lists_in (world_of s)).held i []) here ∙ list.0)
         | inr differ ↦ all_of_others i j s.commons.objects.held differ ∙ sound.held j ∙ sym (list.1 j differ)
       ] ∙ sym (ap (λ f. f j) held_now)
 

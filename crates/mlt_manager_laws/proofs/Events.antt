@@ -21,7 +21,7 @@ use Rattle.mlt_manager.specs.Chains.{StepsBy, StepsUpTo}
 use Rattle.mlt_manager.specs.Events.{Meets}
 use Rattle.mlt_manager.specs.Managers.{IsManager, ManagerFields, state_of}
 use Rattle.mlt_manager.specs.Undoings.{GoesOnBack, StopsBack}
-use Rattle.mlt_manager.specs.Wholes.{DropsIfItStands, GoesOn, Stops}
+use Rattle.mlt_manager.specs.Wholes.{DropsIfItStands, LetsGoOn, Stops}
 use Rattle.mlt_manager.proofs.Called.{called_keeps, one_there, pending_of}
 use Rattle.mlt_manager.proofs.Chains.{steps_keep}
 use Rattle.mlt_manager.proofs.Stepped.{step_keeps}
@@ -70,18 +70,18 @@ module _ {P : Type 0} (bits_of : P → ℕ → ℕ) (i u : ℕ) (t : Transaction
       root = root;
     }
 
-  chain : (GoesOn : Answer → Type 0) (old last : ManagerFields P) (steps : List (ManagerFields P × Answer)) → IsManager bits_of old → map.get old.txs u ≡ Some t
-      → StepsBy bits_of GoesOn old steps last i → StaysAs old last u t
-  chain GoesOn old last [] h there same = same_stays old last u t same there
-  chain GoesOn old last (one ∷ more) h there (first, on, rest) =
+  chain : (LetsGoOn : Answer → Type 0) (old last : ManagerFields P) (steps : List (ManagerFields P × Answer)) → IsManager bits_of old → map.get old.txs u ≡ Some t
+      → StepsBy bits_of LetsGoOn old steps last i → StaysAs old last u t
+  chain LetsGoOn old last [] h there same = same_stays old last u t same there
+  chain LetsGoOn old last (one ∷ more) h there (first, on, rest) =
       let stays = step_leaves bits_of old h i u t ne there one.0 one.1 first in
-      both_stay old one.0 last u t stays (chain GoesOn one.0 last more (step_keeps bits_of old h i one.0 one.1 first).0 stays.there rest)
+      both_stay old one.0 last u t stays (chain LetsGoOn one.0 last more (step_keeps bits_of old h i one.0 one.1 first).0 stays.there rest)
 
-  up_to : (GoesOn Stops : Answer → Type 0) (old new : ManagerFields P) (told : Answer) → IsManager bits_of old → map.get old.txs u ≡ Some t
-      → StepsUpTo bits_of GoesOn Stops old new i told → StaysAs old new u t
-  up_to GoesOn Stops old new told h there s =
-      let stays = chain GoesOn old s.before s.steps h there s.goes in
-      both_stay old s.before new u t stays (step_leaves bits_of s.before (steps_keep bits_of GoesOn i old s.before s.steps h s.goes) i u t ne stays.there new told s.ends)
+  up_to : (LetsGoOn Stops : Answer → Type 0) (old new : ManagerFields P) (told : Answer) → IsManager bits_of old → map.get old.txs u ≡ Some t
+      → StepsUpTo bits_of LetsGoOn Stops old new i told → StaysAs old new u t
+  up_to LetsGoOn Stops old new told h there s =
+      let stays = chain LetsGoOn old s.before s.steps h there s.goes in
+      both_stay old s.before new u t stays (step_leaves bits_of s.before (steps_keep bits_of LetsGoOn i old s.before s.steps h s.goes) i u t ne stays.there new told s.ends)
 
   module _ (m m' : ManagerFields P) (h : IsManager bits_of m) (there : map.get m.txs u ≡ Some t) where
     call_leaves : (op : ObjOp) (r : Result (Unit {0}) Refusal) → AnswersCall m m' i op r → StaysAs m m' u t
@@ -134,8 +134,8 @@ module _ {P : Type 0} (bits_of : P → ℕ → ℕ) (i u : ℕ) (t : Transaction
     of_whole op (told.Answered answer) (a, base, named) =
         let first = called m a.called h there op a.calls in
         let h' = called_keeps bits_of m h i a.called a.calls.rest op a.calls in
-        let second = up_to GoesOn Stops a.called a.runs.stopped answer h' first.there a.runs.steps in
-        let h'' = (step_keeps bits_of a.runs.steps.before (steps_keep bits_of GoesOn i a.called a.runs.steps.before a.runs.steps.steps h' a.runs.steps.goes) i a.runs.stopped answer a.runs.steps.ends).0 in
+        let second = up_to LetsGoOn Stops a.called a.runs.stopped answer h' first.there a.runs.steps in
+        let h'' = (step_keeps bits_of a.runs.steps.before (steps_keep bits_of LetsGoOn i a.called a.runs.steps.before a.runs.steps.steps h' a.runs.steps.goes) i a.runs.stopped answer a.runs.steps.ends).0 in
         both_stay m a.called m' u t first (both_stay a.called a.runs.stopped m' u t second (dropped a.runs.stopped m' h'' second.there answer a.runs.drops))
     of_whole op (told.Refused reason) a = call_leaves op (Err reason) a
     of_whole op other none = absurd none

@@ -6,7 +6,7 @@ use Rattle.std.specs.Ordering.{nat_cmp}
 use Rattle.std.specs.FinMap as map
 use Rattle.mlt_types.specs.declared.refusal.Refusal.{Refusal}
 use Rattle.mlt_types.specs.declared.refusal.Refusal.TheVariants as refusal
-use Rattle.mlt_object_kinds.specs.Bases.{Base, Runs, Step, Transcript, empty_base}
+use Rattle.mlt_object_kinds.specs.Bases.{Base, TranscriptLeads, Step, Transcript, empty_base}
 use Rattle.mlt_object_kinds.specs.declared.operation.ObjOp.{ObjOp}
 use Rattle.mlt_object_kinds.specs.declared.operation.ObjReply.{ObjReply}
 use Rattle.mlt_order.specs.Histories.{Entry, IsHistory, no_lists}
@@ -21,7 +21,7 @@ use Rattle.mlt_script_cursor.specs.Follows.{Follows, IsNext, IsPartial, Question
 use Rattle.mlt_script_cursor.specs.Follows.Questions.{Asks, Ends}
 use Rattle.mlt_script_serial.specs.declared.outcome.End.{End}
 use Rattle.mlt_script_serial.specs.declared.outcome.End.TheVariants.{Committed, Aborted, Refused}
-use Rattle.mlt_script_serial.specs.Serial.{IsRun}
+use Rattle.mlt_script_serial.specs.Serial.{IsScriptRun}
 use Rattle.mlt_script_cursor.proofs.Transcripts.{is_partial}
 use Rattle.mlt_trace.specs.declared.item.TraceItem.TheVariants as trace
 use Rattle.mlt_trace.specs.Entries.{entries_of}
@@ -214,7 +214,7 @@ module _ {P : Type 0} (bits_of : P → ℕ → ℕ) where
       leads = λ base leads.
           let serial = subst (λ (ts : List (List (ObjOp × ObjReply))). IsSerialBase Step empty_base ts base) (sym begun_committed.committed) (serial_at_rest bits_of old rest base leads) in
           let run = ended.leads base (begun_base base leads) serial in
-          (run.0, run.1, subst (λ (n : ℕ). IsRun s base n t end run.0 new.commits) begun_committed.commits run.2);
+          (run.0, run.1, subst (λ (n : ℕ). IsScriptRun s base n t end run.0 new.commits) begun_committed.commits run.2);
       exchanges = (event.Begin, told.Begun tx) ∷ ended.exchanges;
       told = ended.told;
       run = (m, begun, ended.run);
@@ -241,7 +241,7 @@ module _ {P : Type 0} (bits_of : P → ℕ → ℕ) where
     leads = λ base leads.
         let here : HasBase new base = subst (λ (n : ManagerFields P). HasBase n base) (sym a.1) leads in
         let partial : IsPartial s t = subst (IsPartial s) (sym nothing) (is_partial s [] (questions_of_script s) refl) in
-        let runs : Runs base t base = subst (λ (u : Transcript). Runs base u base) (sym nothing) refl in
+        let runs : TranscriptLeads base t base = subst (λ (u : Transcript). TranscriptLeads base u base) (sym nothing) refl in
         (base, here, (partial, (base, runs), refl, ap (λ (n : ManagerFields P). n.commits) a.1));
     exchanges = (event.Begin, told.Refused reason) ∷ [];
     told = inl (record { nobody = refl; nothing = nothing; events = refl });

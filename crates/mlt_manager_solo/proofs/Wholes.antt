@@ -19,7 +19,7 @@ use Rattle.mlt_tx_open.specs.Tables.{Table}
 use Rattle.mlt_manager.specs.Answers.{AnswersCall, IsByAnother, IsIdle, IsNotIdle, IsOpenAt, IsUndoing}
 use Rattle.mlt_manager.specs.Bases.{HasBase}
 use Rattle.mlt_manager.specs.Managers.{IsManager, ManagerFields}
-use Rattle.mlt_manager.specs.Wholes.{DropsIfItStands, GoesOn, HasRun, Stops}
+use Rattle.mlt_manager.specs.Wholes.{DropsIfItStands, HasRun, LetsGoOn, Stops}
 use Rattle.mlt_manager.proofs.Called.{one_there}
 use Rattle.mlt_manager_solo.specs.Alone.{HasOneIdle}
 use Rattle.mlt_manager_solo.specs.Asking.{CanMark}
@@ -63,7 +63,7 @@ module _ {P : Type 0} (bits_of : P → ℕ → ℕ) (old new : ManagerFields P) 
   stopped_beside =
       let s = r.runs.steps in
       beside_both old r.called r.runs.stopped tx (changed_beside old r.called tx r.calls.calls.changes r.calls.rest)
-      (beside_both r.called r.runs.steps.before r.runs.stopped tx (steps_beside bits_of GoesOn r.called s.before tx s.steps s.goes) (step_beside bits_of s.before r.runs.stopped tx told s.ends))
+      (beside_both r.called r.runs.steps.before r.runs.stopped tx (steps_beside bits_of LetsGoOn r.called s.before tx s.steps s.goes) (step_beside bits_of s.before r.runs.stopped tx told s.ends))
 
   dropped_beside : (t : Answer) → DropsIfItStands t r.runs.stopped new tx → StaysBeside r.runs.stopped new tx
   dropped_beside (answer.Waiting page by) d = changed_beside r.runs.stopped new tx d.cancels.changes d.rest

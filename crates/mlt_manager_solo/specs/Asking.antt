@@ -2,7 +2,7 @@
 use Rattle.std.specs.Prelude.{ℕ, ◌≡◌, ◌⊎◌, ◌+◌, Bool, List, [], ◌∷◌, ◌++◌, Option, None, Some, map}
 use Rattle.mlt_types.specs.declared.refusal.Refusal.{Refusal}
 use Rattle.mlt_types.specs.declared.refusal.Refusal.TheVariants as refusal
-use Rattle.mlt_object_kinds.specs.Bases.{Base, Runs, Step, Transcript, empty_base}
+use Rattle.mlt_object_kinds.specs.Bases.{Base, TranscriptLeads, Step, Transcript, empty_base}
 use Rattle.mlt_object_kinds.specs.declared.operation.ObjOp.{ObjOp}
 use Rattle.mlt_object_kinds.specs.declared.operation.ObjReply.{ObjReply}
 use Rattle.mlt_order.specs.Runs.{IsSerialBase}
@@ -11,7 +11,7 @@ use Rattle.mlt_script_cursor.specs.Follows.{IsPartial}
 use Rattle.mlt_script_serial.specs.declared.outcome.End.{End}
 use Rattle.mlt_script_serial.specs.declared.outcome.End.TheVariants.{Refused}
 use Rattle.mlt_script_serial.specs.declared.outcome.Outcome.{Outcome}
-use Rattle.mlt_script_serial.specs.Serial.{AreNumbered, AreRuns, IsRun, mark_of}
+use Rattle.mlt_script_serial.specs.Serial.{AreNumbered, AreRuns, IsScriptRun, mark_of}
 use Rattle.mlt_event.specs.declared.answer.Answer.TheVariants as answer
 use Rattle.mlt_event.specs.declared.event.Event.TheVariants as event
 use Rattle.mlt_event.specs.declared.told.Told.{Told}
@@ -56,7 +56,7 @@ pub record IsRefused {P : Type 0} (bits_of : P → ℕ → ℕ) (old new : Manag
 pub record HasAsked {P : Type 0} (bits_of : P → ℕ → ℕ) (old new : ManagerFields P) (t : Transcript)
     (exchanges : List Exchange) : Type 0 where
   pub run : IsRunOf bits_of old exchanges new
-  pub leads : (base : Base) → HasBase old base → (next : Base) × Runs base t next × HasBase new next
+  pub leads : (base : Base) → HasBase old base → (next : Base) × TranscriptLeads base t next × HasBase new next
   pub keeps : KeepsCommitted old new
 
 -- the script is refused, once the operations of the transcript are done
@@ -99,7 +99,7 @@ CanEnd other = Unit {0}
 pub record HasRunScript {P : Type 0} (bits_of : P → ℕ → ℕ) (s : ScriptForm)
     (old new : ManagerFields P) (tx : ℕ) (t : Transcript) (end : End) : Type 0 where
   pub leads : (base : Base) → HasBase old base
-      → (next : Base) × HasBase new next × IsRun s base old.commits t end next new.commits
+      → (next : Base) × HasBase new next × IsScriptRun s base old.commits t end next new.commits
   pub exchanges : List Exchange
   pub told : AreEventsOf s tx t end exchanges
   pub run : IsRunOf bits_of old exchanges new
@@ -110,7 +110,7 @@ pub record HasEndedScript {P : Type 0} (bits_of : P → ℕ → ℕ) (s : Script
     (old new : ManagerFields P) (tx : ℕ) (t : Transcript) (end : End) : Type 0 where
   pub leads : (base : Base) → HasBase old base
       → IsSerialBase Step empty_base (lists_by old).committed base
-      → (next : Base) × HasBase new next × IsRun s base old.commits t end next new.commits
+      → (next : Base) × HasBase new next × IsScriptRun s base old.commits t end next new.commits
   pub exchanges : List Exchange
   pub told : AreEventsOf s tx t end ((event.Begin, told.Begun tx) ∷ exchanges)
   pub run : IsRunOf bits_of old exchanges new

@@ -1,7 +1,7 @@
 -- The table of accounts is exact.
 use Rattle.std.proofs.Common.{◌≡◌, ℕ, true, false, refl, sym, subst}
 use Rattle.std.specs.Bool.{MatchBool}
-use Rattle.mlt_object_kinds.specs.Accounts.{AccountStep, IsLegal, next_of}
+use Rattle.mlt_object_kinds.specs.Accounts.{AccountStep, IsLegalOnAccount, account_after}
 use Rattle.mlt_object_kinds.specs.declared.account.AccountOp.{AccountOp}
 use Rattle.mlt_object_kinds.specs.declared.operation.ObjReply.{ObjReply}
 use Rattle.mlt_object_conflicts.specs.declared.accounts.AccountClass.{AccountClass}
@@ -14,7 +14,7 @@ use Rattle.mlt_object_conflicts.proofs.Rows.{classes_commute, classes_break, Row
 
 pub account_classes_commute : (p q : AccountClass) → account_marks p q ≡ false → ClassesCommute AccountStep account_class p q
 account_classes_commute p q free =
-    classes_commute account_class IsLegal next_of amount Fits Legal after account_has_rows p q (account_rows_commute p q free)
+    classes_commute account_class IsLegalOnAccount account_after amount Fits Legal after account_has_rows p q (account_rows_commute p q free)
 
 item_class : (c : AccountClass) (n : ℕ) → IsOfClass account_class (account_item c n) c
 item_class c n = elim c as (λ c. IsOfClass account_class (account_item c n) c) [ Opened ↦ refl | _ ↦ refl ]
@@ -40,12 +40,12 @@ account_breach_breaks p q marked =
     let first = held_item p q in
     let second = requested_item p q in
     let fits = breach_fits p q in
-    let F : ℕ → Type 0 = λ n. RowsBreak account_class IsLegal next_of amount Fits Legal after p q n (amount second.0 second.1) x.2 in
-    let G : ℕ → Type 0 = λ k. RowsBreak account_class IsLegal next_of amount Fits Legal after p q (amount_in p x.0) k x.2 in
+    let F : ℕ → Type 0 = λ n. RowsBreak account_class IsLegalOnAccount account_after amount Fits Legal after p q n (amount second.0 second.1) x.2 in
+    let G : ℕ → Type 0 = λ k. RowsBreak account_class IsLegalOnAccount account_after amount Fits Legal after p q (amount_in p x.0) k x.2 in
     let rows = subst F (sym (item_amount p x.0)) (subst G (sym (item_amount q x.1)) (account_rows_break p q marked)) in (
       item_class p x.0,
       item_class q x.1,
-      classes_break account_class IsLegal next_of amount Fits Legal after account_has_rows p q first second x.2 (item_class p x.0) (item_class q x.1) fits.0 fits.1 rows,
+      classes_break account_class IsLegalOnAccount account_after amount Fits Legal after account_has_rows p q first second x.2 (item_class p x.0) (item_class q x.1) fits.0 fits.1 rows,
     )
 
 pub account_exact : (p q : AccountClass) → MatchBool (account_marks p q) (ClassesConflict AccountStep account_class p q) (ClassesCommute AccountStep account_class p q)

@@ -1,6 +1,6 @@
 -- The rows of accounts are those of the table of operations and replies.
 use Rattle.std.proofs.Common.{◌≡◌, ℕ, Option, None, Some, refl, arith}
-use Rattle.mlt_object_kinds.specs.Accounts.{IsLegal, next_of}
+use Rattle.mlt_object_kinds.specs.Accounts.{IsLegalOnAccount, account_after}
 use Rattle.mlt_object_kinds.specs.declared.account.AccountOp.{AccountOp}
 use Rattle.mlt_object_kinds.specs.declared.account.AccountOp.TheVariants.{Open, Deposit, Withdraw, Balance}
 use Rattle.mlt_object_kinds.specs.declared.operation.ObjReply.{ObjReply}
@@ -17,16 +17,16 @@ amount Balance (Is v) = v
 amount _ _ = 0
 
 abbrev RowLegal : AccountOp → ObjReply → Option ℕ → Type 0
-RowLegal o r s = RowIsLegal account_class IsLegal next_of amount Fits Legal after (account_class o r) (amount o r) s
+RowLegal o r s = RowIsLegal account_class IsLegalOnAccount account_after amount Fits Legal after (account_class o r) (amount o r) s
 
 abbrev Into : AccountOp → ObjReply → Option ℕ → Type 0
-Into o r s = IsLegal o r s → RowLegal o r s × Fits o
+Into o r s = IsLegalOnAccount o r s → RowLegal o r s × Fits o
 
 abbrev From : AccountOp → ObjReply → Option ℕ → Type 0
-From o r s = RowLegal o r s → Fits o → IsLegal o r s
+From o r s = RowLegal o r s → Fits o → IsLegalOnAccount o r s
 
 abbrev Next : AccountOp → ObjReply → Option ℕ → Type 0
-Next o r s = RowLegal o r s → next_of o r s ≡ row_after account_class IsLegal next_of amount Fits Legal after (account_class o r) (amount o r) s
+Next o r s = RowLegal o r s → account_after o r s ≡ row_after account_class IsLegalOnAccount account_after amount Fits Legal after (account_class o r) (amount o r) s
 
 into : (o : AccountOp) (r : ObjReply) (s : Option ℕ) → Into o r s
 into o r s =
@@ -67,5 +67,5 @@ next o r s =
       ]
     ]
 
-pub account_has_rows : HasRows account_class IsLegal next_of amount Fits Legal after
+pub account_has_rows : HasRows account_class IsLegalOnAccount account_after amount Fits Legal after
 account_has_rows = record { into = into; from = from; next = next }

@@ -13,9 +13,9 @@ use Rattle.mlt_object_kinds.specs.declared.operation.ObjReply.{ObjReply}
 use Rattle.mlt_object_kinds.specs.declared.operation.ObjReply.TheVariants as reply
 use Rattle.mlt_object_kinds.specs.declared.element.ElementOp.TheVariants.{Add, Remove, Has}
 use Rattle.mlt_object_kinds.specs.Sizes.{put_into, taken_from}
-use Rattle.mlt_object_kinds.specs.Accounts.{AccountStep, IsLegal as account_legal, next_of as account_next}
-use Rattle.mlt_object_kinds.specs.Elements.{ElementStep, IsLegal as element_legal, next_of as element_next}
-use Rattle.mlt_object_kinds.specs.Counters.{CounterStep, IsLegal as counter_legal, next_of as counter_next}
+use Rattle.mlt_object_kinds.specs.Accounts.{AccountStep, IsLegalOnAccount as account_legal, account_after as account_next}
+use Rattle.mlt_object_kinds.specs.Elements.{ElementStep, IsLegalOnElement as element_legal, element_after as element_next}
+use Rattle.mlt_object_kinds.specs.Counters.{CounterStep, IsLegalOnCounter as counter_legal, counter_after as counter_next}
 use Rattle.mlt_object_kinds.specs.Cells.CellState.{AccountState, ElementState, CounterState, NoState}
 use Rattle.mlt_object_kinds.specs.Cells.{CellStep}
 use Rattle.mlt_object_kinds.specs.Bases.{Step}

@@ -1,13 +1,13 @@
 -- The laws of commit order at the steps of bases.
 use Rattle.std.proofs.Common.{◌≡◌, ◌≢◌, ◌↔◌, ℕ, [], ◌∷◌, false, Contains}
-use Rattle.mlt_object_kinds.specs.Bases.{Base, Step, Transcript, Runs}
+use Rattle.mlt_object_kinds.specs.Bases.{Base, Step, Transcript, TranscriptLeads}
 use Rattle.mlt_object_kinds.proofs.BaseLaws.{base_one_answer, base_one_start}
 use Rattle.mlt_object_kinds.specs.declared.operation.ObjOp.{ObjOp}
 use Rattle.mlt_object_kinds.specs.declared.operation.ObjReply.{ObjReply}
 use Rattle.mlt_order.specs.Histories.{Lists, MayCome}
 use Rattle.mlt_order.specs.Histories.Entry.{Did}
 use Rattle.mlt_order.specs.Histories.Stage.{Running}
-use Rattle.mlt_order.specs.Runs.{IsFunctional, IsInjective, Runs as RunsOf}
+use Rattle.mlt_order.specs.Runs.{IsFunctional, IsInjective, Runs}
 use Rattle.mlt_object_conflicts.specs.Clashes.{clashes}
 use Rattle.mlt_object_conflicts.proofs.BaseCommutes.{clash_free_commute}
 
@@ -17,15 +17,15 @@ base_functional before one other item h k = (base_one_answer before one other it
 pub base_injective : IsInjective Step
 base_injective one other after item h k = base_one_start one other after item.0 item.1 h k
 
-into : (before after : Base) (transcript : Transcript) → RunsOf Step before transcript after → Runs before transcript after
+into : (before after : Base) (transcript : Transcript) → Runs Step before transcript after → TranscriptLeads before transcript after
 into before after [] r = r
 into before after (x ∷ transcript) r = (r.0, r.1, into r.0 after transcript r.2)
 
-from : (before after : Base) (transcript : Transcript) → Runs before transcript after → RunsOf Step before transcript after
+from : (before after : Base) (transcript : Transcript) → TranscriptLeads before transcript after → Runs Step before transcript after
 from before after [] r = r
 from before after (x ∷ transcript) r = (r.0, r.1, from r.0 after transcript r.2)
 
-pub runs_agree : (before after : Base) (transcript : Transcript) → RunsOf Step before transcript after ↔ Runs before transcript after
+pub runs_agree : (before after : Base) (transcript : Transcript) → Runs Step before transcript after ↔ TranscriptLeads before transcript after
 runs_agree before after transcript = (into before after transcript, from before after transcript)
 
 -- an operation that clashes with nothing that others hold may come

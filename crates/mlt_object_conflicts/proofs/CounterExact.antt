@@ -1,7 +1,7 @@
 -- The table of counters is exact.
 use Rattle.std.proofs.Common.{◌≡◌, false, refl, arith}
 use Rattle.std.specs.Bool.{MatchBool}
-use Rattle.mlt_object_kinds.specs.Counters.{CounterStep, IsLegal, next_of}
+use Rattle.mlt_object_kinds.specs.Counters.{CounterStep, IsLegalOnCounter, counter_after}
 use Rattle.mlt_object_conflicts.specs.declared.counters.CounterClass.{CounterClass}
 use Rattle.mlt_object_conflicts.specs.declared.counters.CounterClass.TheVariants.{Counted, Read}
 use Rattle.mlt_object_conflicts.specs.CounterTable.{counter_class, counter_marks, counter_item}
@@ -11,7 +11,7 @@ use Rattle.mlt_object_conflicts.proofs.Rows.{classes_commute}
 
 pub counter_classes_commute : (p q : CounterClass) → counter_marks p q ≡ false → ClassesCommute CounterStep counter_class p q
 counter_classes_commute p q free =
-    classes_commute counter_class IsLegal next_of amount Fits Legal after counter_has_rows p q (counter_rows_commute p q free)
+    classes_commute counter_class IsLegalOnCounter counter_after amount Fits Legal after counter_has_rows p q (counter_rows_commute p q free)
 
 -- a value that is read behind an addition was not there before it
 up_then_read : BreaksAt (paired CounterStep) 0 (counter_item Counted 1) (counter_item Read 1)

@@ -1,6 +1,6 @@
 -- The rows of counters, and which classes right commute backward.
 use Rattle.std.proofs.Common.{◌≡◌, ℕ, ◌+◌, ◌-◌, ◌<◌, ◌%◌, ◌^◌, false, refl, arith}
-use Rattle.mlt_object_kinds.specs.Counters.{IsLegal, next_of}
+use Rattle.mlt_object_kinds.specs.Counters.{IsLegalOnCounter, counter_after}
 use Rattle.mlt_object_kinds.specs.declared.counter.CounterOp.{CounterOp}
 use Rattle.mlt_object_kinds.specs.declared.counter.CounterOp.TheVariants.{Up, Down, Read}
 use Rattle.mlt_object_kinds.specs.declared.operation.ObjReply.{ObjReply}
@@ -35,12 +35,12 @@ amount Read (Is v) = v
 amount Read _ = 0
 
 abbrev RowLegal : CounterOp → ObjReply → ℕ → Type 0
-RowLegal o r s = RowIsLegal counter_class IsLegal next_of amount Fits Legal after (counter_class o r) (amount o r) s
+RowLegal o r s = RowIsLegal counter_class IsLegalOnCounter counter_after amount Fits Legal after (counter_class o r) (amount o r) s
 
 abbrev Fitting : CounterOp → ObjReply → ℕ → Type 0
 Fitting o r s =
-    (IsLegal o r s → RowLegal o r s × Fits o) × (RowLegal o r s → Fits o → IsLegal o r s) ×
-    (RowLegal o r s → next_of o r s ≡ row_after counter_class IsLegal next_of amount Fits Legal after (counter_class o r) (amount o r) s)
+    (IsLegalOnCounter o r s → RowLegal o r s × Fits o) × (RowLegal o r s → Fits o → IsLegalOnCounter o r s) ×
+    (RowLegal o r s → counter_after o r s ≡ row_after counter_class IsLegalOnCounter counter_after amount Fits Legal after (counter_class o r) (amount o r) s)
 
 fitting : (o : CounterOp) (r : ObjReply) (s : ℕ) → Fitting o r s
 fitting o r s =
@@ -50,7 +50,7 @@ fitting o r s =
       | Read ↦ elim r as (λ r. Fitting Read r s) [ Is v ↦ (λ h. (h, tt), λ h f. h, λ h. refl) | _ ↦ (λ h. absurd h, λ h f. absurd h, λ h. absurd h) ]
     ]
 
-pub counter_has_rows : HasRows counter_class IsLegal next_of amount Fits Legal after
+pub counter_has_rows : HasRows counter_class IsLegalOnCounter counter_after amount Fits Legal after
 counter_has_rows = record { into = λ o r s. (fitting o r s).0; from = λ o r s. (fitting o r s).1; next = λ o r s. (fitting o r s).2 }
 
 -- sums modulo 2^64 may be taken in either order

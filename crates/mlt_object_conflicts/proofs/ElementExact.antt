@@ -1,7 +1,7 @@
 -- The table of elements is exact.
 use Rattle.std.proofs.Common.{◌≡◌, true, false, refl}
 use Rattle.std.specs.Bool.{MatchBool}
-use Rattle.mlt_object_kinds.specs.Elements.{ElementStep, IsLegal, next_of}
+use Rattle.mlt_object_kinds.specs.Elements.{ElementStep, IsLegalOnElement, element_after}
 use Rattle.mlt_object_conflicts.specs.declared.elements.ElementClass.{ElementClass}
 use Rattle.mlt_object_conflicts.specs.declared.elements.ElementClass.TheVariants.{Added}
 use Rattle.mlt_object_conflicts.specs.ElementTable.{element_class, element_marks, element_item, element_before}
@@ -11,7 +11,7 @@ use Rattle.mlt_object_conflicts.proofs.Rows.{classes_commute, classes_break}
 
 pub element_classes_commute : (p q : ElementClass) → element_marks p q ≡ false → ClassesCommute ElementStep element_class p q
 element_classes_commute p q free =
-    classes_commute element_class IsLegal next_of amount Fits Legal after element_has_rows p q (element_rows_commute p q free)
+    classes_commute element_class IsLegalOnElement element_after amount Fits Legal after element_has_rows p q (element_rows_commute p q free)
 
 item_class : (c : ElementClass) → IsOfClass element_class (element_item c) c
 item_class c = elim c as (λ c. IsOfClass element_class (element_item c) c) [ Added ↦ refl | _ ↦ refl ]
@@ -25,7 +25,7 @@ pub element_breach_breaks : (p q : ElementClass) → element_marks p q ≡ true 
 element_breach_breaks p q marked = (
   item_class p,
   item_class q,
-  classes_break element_class IsLegal next_of amount Fits Legal after element_has_rows p q (element_item p) (element_item q) (element_before p)
+  classes_break element_class IsLegalOnElement element_after amount Fits Legal after element_has_rows p q (element_item p) (element_item q) (element_before p)
       (item_class p) (item_class q) tt tt (element_rows_break p q marked),
 )
 

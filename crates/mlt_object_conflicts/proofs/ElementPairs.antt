@@ -1,6 +1,6 @@
 -- The rows of elements, and which classes right commute backward: one tactic serves every pair.
 use Rattle.std.proofs.Common.{◌≡◌, ℕ, Bool, true, false, refl, arith}
-use Rattle.mlt_object_kinds.specs.Elements.{IsLegal, next_of}
+use Rattle.mlt_object_kinds.specs.Elements.{IsLegalOnElement, element_after}
 use Rattle.mlt_object_kinds.specs.declared.element.ElementOp.{ElementOp}
 use Rattle.mlt_object_kinds.specs.declared.element.ElementOp.TheVariants.{Add}
 use Rattle.mlt_object_kinds.specs.declared.operation.ObjReply.{ObjReply}
@@ -30,12 +30,12 @@ abbrev pub amount : ElementOp → ObjReply → ℕ
 amount _ _ = 0
 
 abbrev RowLegal : ElementOp → ObjReply → Bool → Type 0
-RowLegal o r s = RowIsLegal element_class IsLegal next_of amount Fits Legal after (element_class o r) 0 s
+RowLegal o r s = RowIsLegal element_class IsLegalOnElement element_after amount Fits Legal after (element_class o r) 0 s
 
 abbrev Fitting : ElementOp → ObjReply → Bool → Type 0
 Fitting o r s =
-    (IsLegal o r s → RowLegal o r s) × (RowLegal o r s → IsLegal o r s) ×
-    (RowLegal o r s → next_of o r s ≡ row_after element_class IsLegal next_of amount Fits Legal after (element_class o r) 0 s)
+    (IsLegalOnElement o r s → RowLegal o r s) × (RowLegal o r s → IsLegalOnElement o r s) ×
+    (RowLegal o r s → element_after o r s ≡ row_after element_class IsLegalOnElement element_after amount Fits Legal after (element_class o r) 0 s)
 
 fitting : (o : ElementOp) (r : ObjReply) (s : Bool) → Fitting o r s
 fitting o r s =
@@ -50,7 +50,7 @@ fitting o r s =
       ]
     ]
 
-pub element_has_rows : HasRows element_class IsLegal next_of amount Fits Legal after
+pub element_has_rows : HasRows element_class IsLegalOnElement element_after amount Fits Legal after
 element_has_rows = record {
   into = λ o r s h. ((fitting o r s).0 h, tt);
   from = λ o r s h f. (fitting o r s).1 h;

@@ -3,7 +3,7 @@
 ghost use Rattle.std.specs.Prelude.{◌≡◌, ◌≢◌, ◌↔◌, ℕ, List, ◌++◌, [], ◌∷◌, Contains, false, true};
 ghost use Rattle.mlt_object_conflicts.specs.BaseConflicts.{SomeLikeThemBreak};
 ghost use Rattle.mlt_object_conflicts.specs.Clashes.{clashes};
-ghost use Rattle.mlt_object_kinds.specs.Bases.{Base, Runs as RunsOfBases, Step, Transcript, empty_base};
+ghost use Rattle.mlt_object_kinds.specs.Bases.{Base, TranscriptLeads as RunsOfBases, Step, Transcript, empty_base};
 ghost use Rattle.mlt_object_kinds.specs.Operations.{AreApart};
 ghost use Rattle.mlt_object_kinds.specs.declared.operation.ObjOp.{ObjOp};
 ghost use Rattle.mlt_object_kinds.specs.declared.operation.ObjReply.{ObjReply};

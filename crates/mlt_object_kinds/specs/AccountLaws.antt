@@ -4,10 +4,10 @@ use Rattle.mlt_object_kinds.specs.declared.account.AccountOp.{AccountOp}
 use Rattle.mlt_object_kinds.specs.declared.account.AccountOp.TheVariants.{Open}
 use Rattle.mlt_object_kinds.specs.declared.operation.ObjReply.{ObjReply}
 use Rattle.mlt_object_kinds.specs.declared.operation.ObjReply.TheVariants.{Opened}
-use Rattle.mlt_object_kinds.specs.Accounts.{AccountStep, IsAccount, IsLegal, next_of}
+use Rattle.mlt_object_kinds.specs.Accounts.{AccountStep, IsAccount, IsLegalOnAccount, account_after}
 
 abbrev OneReply : Option ℕ → AccountOp → ObjReply → ObjReply → Type 0
-OneReply s o r q = IsLegal o r s → IsLegal o q s → r ≡ q
+OneReply s o r q = IsLegalOnAccount o r s → IsLegalOnAccount o q s → r ≡ q
 
 replies_none : (o : AccountOp) (r q : ObjReply) → OneReply None o r q
 replies_none o r q =
@@ -66,7 +66,7 @@ pub account_one_answer : (s : Option ℕ) (o : AccountOp) (r q : ObjReply) (t u 
     → AccountStep s o r t → AccountStep s o q u → (r ≡ q) × (t ≡ u)
 account_one_answer s o r q t u h k =
     let same : r ≡ q = one_reply s o r q h.0 k.0 in
-    (same, sym h.1 ∙ ap (λ r. next_of o r s) same ∙ k.1)
+    (same, sym h.1 ∙ ap (λ r. account_after o r s) same ∙ k.1)
 
 -- a state as a number, 0 where it is absent
 abbrev pub level : Option ℕ → ℕ
@@ -80,7 +80,7 @@ level_injective (Some b) None e = absurd (omega arith)
 level_injective (Some b) (Some c) e = let same : b ≡ c = omega arith in ap Some same
 
 abbrev OneStart : AccountOp → ObjReply → Option ℕ → Option ℕ → Type 0
-OneStart o r s u = IsLegal o r s → IsLegal o r u → level (next_of o r s) ≡ level (next_of o r u) → level s ≡ level u
+OneStart o r s u = IsLegalOnAccount o r s → IsLegalOnAccount o r u → level (account_after o r s) ≡ level (account_after o r u) → level s ≡ level u
 
 starts : (o : AccountOp) (r : ObjReply) (s u : Option ℕ) → OneStart o r s u
 starts o r s u =
@@ -136,7 +136,7 @@ pub account_one_start : (s u t : Option ℕ) (o : AccountOp) (r : ObjReply) → 
 account_one_start s u t o r h k = level_injective s u (starts o r s u h.0 k.0 (ap level (h.1 ∙ sym k.1)))
 
 abbrev Stays : AccountOp → ObjReply → Option ℕ → Type 0
-Stays o r s = IsLegal o r s → IsAccount s × IsAccount (next_of o r s)
+Stays o r s = IsLegalOnAccount o r s → IsAccount s × IsAccount (account_after o r s)
 
 stays : (o : AccountOp) (r : ObjReply) (s : Option ℕ) → Stays o r s
 stays o r s =

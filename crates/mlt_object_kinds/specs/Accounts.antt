@@ -15,30 +15,30 @@ IsAccount None = Unit {0}
 IsAccount (Some balance) = balance ≤ max_balance
 
 -- in which states an operation is told the reply
-abbrev pub IsLegal : AccountOp → ObjReply → Option ℕ → Type 0
-IsLegal Open Opened None = Unit {0}
-IsLegal Open Exists (Some b) = b ≤ max_balance
-IsLegal Close Closed (Some b) = b ≡ 0
-IsLegal Close NotEmpty (Some b) = (1 ≤ b) × (b ≤ max_balance)
-IsLegal (Deposit n) Done (Some b) = (n < 2 ^ 64) × (b + n ≤ max_balance)
-IsLegal (Deposit n) Over (Some b) = (n < 2 ^ 64) × (b ≤ max_balance) × (max_balance < b + n)
-IsLegal (Withdraw n) Done (Some b) = (n < 2 ^ 64) × (b ≤ max_balance) × (n ≤ b)
-IsLegal (Withdraw n) Short (Some b) = (n < 2 ^ 64) × (b ≤ max_balance) × (b < n)
-IsLegal Balance (Is v) (Some b) = (b ≤ max_balance) × (b ≡ v)
-IsLegal Close Missing None = Unit {0}
-IsLegal (Deposit n) Missing None = n < 2 ^ 64
-IsLegal (Withdraw n) Missing None = n < 2 ^ 64
-IsLegal Balance Missing None = Unit {0}
-IsLegal _ _ _ = ⊥
+abbrev pub IsLegalOnAccount : AccountOp → ObjReply → Option ℕ → Type 0
+IsLegalOnAccount Open Opened None = Unit {0}
+IsLegalOnAccount Open Exists (Some b) = b ≤ max_balance
+IsLegalOnAccount Close Closed (Some b) = b ≡ 0
+IsLegalOnAccount Close NotEmpty (Some b) = (1 ≤ b) × (b ≤ max_balance)
+IsLegalOnAccount (Deposit n) Done (Some b) = (n < 2 ^ 64) × (b + n ≤ max_balance)
+IsLegalOnAccount (Deposit n) Over (Some b) = (n < 2 ^ 64) × (b ≤ max_balance) × (max_balance < b + n)
+IsLegalOnAccount (Withdraw n) Done (Some b) = (n < 2 ^ 64) × (b ≤ max_balance) × (n ≤ b)
+IsLegalOnAccount (Withdraw n) Short (Some b) = (n < 2 ^ 64) × (b ≤ max_balance) × (b < n)
+IsLegalOnAccount Balance (Is v) (Some b) = (b ≤ max_balance) × (b ≡ v)
+IsLegalOnAccount Close Missing None = Unit {0}
+IsLegalOnAccount (Deposit n) Missing None = n < 2 ^ 64
+IsLegalOnAccount (Withdraw n) Missing None = n < 2 ^ 64
+IsLegalOnAccount Balance Missing None = Unit {0}
+IsLegalOnAccount _ _ _ = ⊥
 
 -- the state after an operation that is told the reply
-abbrev pub next_of : AccountOp → ObjReply → Option ℕ → Option ℕ
-next_of Open Opened s = Some 0
-next_of Close Closed s = None
-next_of (Deposit n) Done (Some b) = Some (b + n)
-next_of (Withdraw n) Done (Some b) = Some (b - n)
-next_of _ _ s = s
+abbrev pub account_after : AccountOp → ObjReply → Option ℕ → Option ℕ
+account_after Open Opened s = Some 0
+account_after Close Closed s = None
+account_after (Deposit n) Done (Some b) = Some (b + n)
+account_after (Withdraw n) Done (Some b) = Some (b - n)
+account_after _ _ s = s
 
 -- from the state before, the operation is told the reply and leads to the state after
 abbrev pub AccountStep : Option ℕ → AccountOp → ObjReply → Option ℕ → Type 0
-AccountStep before op reply after = IsLegal op reply before × (next_of op reply before ≡ after)
+AccountStep before op reply after = IsLegalOnAccount op reply before × (account_after op reply before ≡ after)

@@ -104,6 +104,6 @@ abbrev pub Transcript : Type 0
 Transcript = List (ObjOp × ObjReply)
 
 -- the transcript leads from the base to the other one
-abbrev pub Runs : Base → Transcript → Base → Type 0
-Runs b [] b' = b ≡ b'
-Runs b (x ∷ t) b' = (m : Base) × Step b x m × Runs m t b'
+abbrev pub TranscriptLeads : Base → Transcript → Base → Type 0
+TranscriptLeads b [] b' = b ≡ b'
+TranscriptLeads b (x ∷ t) b' = (m : Base) × Step b x m × TranscriptLeads m t b'

@@ -4,7 +4,7 @@ use Rattle.mlt_object_kinds.specs.declared.counter.CounterOp.{CounterOp}
 use Rattle.mlt_object_kinds.specs.declared.counter.CounterOp.TheVariants.{Up, Down, Read}
 use Rattle.mlt_object_kinds.specs.declared.operation.ObjReply.{ObjReply}
 use Rattle.mlt_object_kinds.specs.declared.operation.ObjReply.TheVariants.{Done, Is}
-use Rattle.mlt_object_kinds.specs.Counters.{CounterStep, IsCounter, IsLegal, next_of}
+use Rattle.mlt_object_kinds.specs.Counters.{CounterStep, IsCounter, IsLegalOnCounter, counter_after}
 
 -- what an operation is told
 abbrev reply_of : CounterOp → ℕ → ObjReply
@@ -12,18 +12,18 @@ reply_of (Up n) s = Done
 reply_of (Down n) s = Done
 reply_of Read s = Is s
 
-the_reply : (o : CounterOp) (r : ObjReply) (s : ℕ) → IsLegal o r s → r ≡ reply_of o s
+the_reply : (o : CounterOp) (r : ObjReply) (s : ℕ) → IsLegalOnCounter o r s → r ≡ reply_of o s
 the_reply o r s =
-    elim o as (λ o. IsLegal o r s → r ≡ reply_of o s) [
-      | Up n ↦ elim r as (λ r. IsLegal (Up n) r s → r ≡ Done) [ Done ↦ λ h. refl | _ ↦ λ h. absurd h ]
-      | Down n ↦ elim r as (λ r. IsLegal (Down n) r s → r ≡ Done) [ Done ↦ λ h. refl | _ ↦ λ h. absurd h ]
-      | Read ↦ elim r as (λ r. IsLegal Read r s → r ≡ Is s) [ Is v ↦ λ h. ap Is (sym h.1) | _ ↦ λ h. absurd h ]
+    elim o as (λ o. IsLegalOnCounter o r s → r ≡ reply_of o s) [
+      | Up n ↦ elim r as (λ r. IsLegalOnCounter (Up n) r s → r ≡ Done) [ Done ↦ λ h. refl | _ ↦ λ h. absurd h ]
+      | Down n ↦ elim r as (λ r. IsLegalOnCounter (Down n) r s → r ≡ Done) [ Done ↦ λ h. refl | _ ↦ λ h. absurd h ]
+      | Read ↦ elim r as (λ r. IsLegalOnCounter Read r s → r ≡ Is s) [ Is v ↦ λ h. ap Is (sym h.1) | _ ↦ λ h. absurd h ]
     ]
 
 pub counter_one_answer : (s : ℕ) (o : CounterOp) (r q : ObjReply) (t u : ℕ) → CounterStep s o r t → CounterStep s o q u → (r ≡ q) × (t ≡ u)
 counter_one_answer s o r q t u h k =
     let same : r ≡ q = the_reply o r s h.0 ∙ sym (the_reply o q s k.0) in
-    (same, sym h.1 ∙ ap (λ r. next_of o r s) same ∙ k.1)
+    (same, sym h.1 ∙ ap (λ r. counter_after o r s) same ∙ k.1)
 
 up_injective : (n s u : ℕ) → n < 2 ^ 64 → s < 2 ^ 64 → u < 2 ^ 64 → (s + n) % 2 ^ 64 ≡ (u + n) % 2 ^ 64 → s ≡ u
 up_injective n s u hn hs hu e = omega arith
@@ -32,7 +32,7 @@ down_injective : (n s u : ℕ) → n < 2 ^ 64 → s < 2 ^ 64 → u < 2 ^ 64 → 
 down_injective n s u hn hs hu e = omega arith
 
 abbrev OneStart : CounterOp → ObjReply → ℕ → ℕ → Type 0
-OneStart o r s u = IsLegal o r s → IsLegal o r u → next_of o r s ≡ next_of o r u → s ≡ u
+OneStart o r s u = IsLegalOnCounter o r s → IsLegalOnCounter o r u → counter_after o r s ≡ counter_after o r u → s ≡ u
 
 starts : (o : CounterOp) (r : ObjReply) (s u : ℕ) → OneStart o r s u
 starts o r s u =
@@ -46,7 +46,7 @@ pub counter_one_start : (s u t : ℕ) (o : CounterOp) (r : ObjReply) → Counter
 counter_one_start s u t o r h k = starts o r s u h.0 k.0 (h.1 ∙ sym k.1)
 
 abbrev Stays : CounterOp → ObjReply → ℕ → Type 0
-Stays o r s = IsLegal o r s → IsCounter s × IsCounter (next_of o r s)
+Stays o r s = IsLegalOnCounter o r s → IsCounter s × IsCounter (counter_after o r s)
 
 pub below : (s : ℕ) → s % 2 ^ 64 < 2 ^ 64
 below s = omega arith

@@ -10,18 +10,18 @@ abbrev pub IsCounter : ℕ → Type 0
 IsCounter value = value < 2 ^ 64
 
 -- in which states an operation is told the reply
-abbrev pub IsLegal : CounterOp → ObjReply → ℕ → Type 0
-IsLegal (Up n) Done s = (n < 2 ^ 64) × (s < 2 ^ 64)
-IsLegal (Down n) Done s = (n < 2 ^ 64) × (s < 2 ^ 64)
-IsLegal Read (Is v) s = (s < 2 ^ 64) × (s ≡ v)
-IsLegal _ _ _ = ⊥
+abbrev pub IsLegalOnCounter : CounterOp → ObjReply → ℕ → Type 0
+IsLegalOnCounter (Up n) Done s = (n < 2 ^ 64) × (s < 2 ^ 64)
+IsLegalOnCounter (Down n) Done s = (n < 2 ^ 64) × (s < 2 ^ 64)
+IsLegalOnCounter Read (Is v) s = (s < 2 ^ 64) × (s ≡ v)
+IsLegalOnCounter _ _ _ = ⊥
 
 -- the state after an operation that is told the reply
-abbrev pub next_of : CounterOp → ObjReply → ℕ → ℕ
-next_of (Up n) Done s = (s + n) % 2 ^ 64
-next_of (Down n) Done s = (s + (2 ^ 64 - n)) % 2 ^ 64
-next_of _ _ s = s
+abbrev pub counter_after : CounterOp → ObjReply → ℕ → ℕ
+counter_after (Up n) Done s = (s + n) % 2 ^ 64
+counter_after (Down n) Done s = (s + (2 ^ 64 - n)) % 2 ^ 64
+counter_after _ _ s = s
 
 -- from the state before, the operation is told the reply and leads to the state after
 abbrev pub CounterStep : ℕ → CounterOp → ObjReply → ℕ → Type 0
-CounterStep before op reply after = IsLegal op reply before × (next_of op reply before ≡ after)
+CounterStep before op reply after = IsLegalOnCounter op reply before × (counter_after op reply before ≡ after)

@@ -10,21 +10,21 @@ abbrev pub IsElement : Bool → Type 0
 IsElement _ = Unit {0}
 
 -- in which states an operation is told the reply
-abbrev pub IsLegal : ElementOp → ObjReply → Bool → Type 0
-IsLegal Add Added false = Unit {0}
-IsLegal Add Present true = Unit {0}
-IsLegal Remove Removed true = Unit {0}
-IsLegal Remove Absent false = Unit {0}
-IsLegal Has Yes true = Unit {0}
-IsLegal Has No false = Unit {0}
-IsLegal _ _ _ = ⊥
+abbrev pub IsLegalOnElement : ElementOp → ObjReply → Bool → Type 0
+IsLegalOnElement Add Added false = Unit {0}
+IsLegalOnElement Add Present true = Unit {0}
+IsLegalOnElement Remove Removed true = Unit {0}
+IsLegalOnElement Remove Absent false = Unit {0}
+IsLegalOnElement Has Yes true = Unit {0}
+IsLegalOnElement Has No false = Unit {0}
+IsLegalOnElement _ _ _ = ⊥
 
 -- the state after an operation that is told the reply
-abbrev pub next_of : ElementOp → ObjReply → Bool → Bool
-next_of Add Added s = true
-next_of Remove Removed s = false
-next_of _ _ s = s
+abbrev pub element_after : ElementOp → ObjReply → Bool → Bool
+element_after Add Added s = true
+element_after Remove Removed s = false
+element_after _ _ s = s
 
 -- from the state before, the operation is told the reply and leads to the state after
 abbrev pub ElementStep : Bool → ElementOp → ObjReply → Bool → Type 0
-ElementStep before op reply after = IsLegal op reply before × (next_of op reply before ≡ after)
+ElementStep before op reply after = IsLegalOnElement op reply before × (element_after op reply before ≡ after)

@@ -1,7 +1,7 @@
 -- An interleaving is what one gets by taking, again and again, the first item that is left of some list.
 use Rattle.std.proofs.Common.{◌≡◌, ◌↔◌, ℕ, List, [], ◌∷◌, refl, sym, ap, ◌∙◌}
 use Rattle.mlt_order.specs.Interleavings.{items_of, IsInterleaving, TakesFirstItems}
-use Rattle.mlt_order.specs.Tables.{with_entry}
+use Rattle.mlt_order.specs.Tables.{table_with}
 use Rattle.mlt_order.proofs.Tables.{at_each, changed}
 use Rattle.mlt_order.proofs.Parts.{items_of-same, items_of-other}
 
@@ -11,14 +11,14 @@ module _ {P : Type 0} where
   taken (x ∷ m) f mixes =
       let rest = items_of x.0 m in
       let c = changed f x.0 rest in
-      let left : IsInterleaving (with_entry f x.0 rest) m = at_each x.0 (λ j. items_of j m ≡ with_entry f x.0 rest j) (sym c.0)
+      let left : IsInterleaving (table_with f x.0 rest) m = at_each x.0 (λ j. items_of j m ≡ table_with f x.0 rest j) (sym c.0)
       (λ j n. sym (items_of-other j x m (λ e. n (sym e))) ∙ mixes j ∙ sym (c.1 j n)) in
-      (rest, sym (mixes x.0) ∙ items_of-same x.0 x m refl, taken m (with_entry f x.0 rest) left)
+      (rest, sym (mixes x.0) ∙ items_of-same x.0 x m refl, taken m (table_with f x.0 rest) left)
 
   mixed : (m : List (ℕ × P)) (f : ℕ → List P) → TakesFirstItems f m → IsInterleaving f m
   mixed [] f h = λ i. sym (h i)
   mixed (x ∷ m) f h =
-      let g = with_entry f x.0 h.0 in
+      let g = table_with f x.0 h.0 in
       let c = changed f x.0 h.0 in
       let left : IsInterleaving g m = mixed m g h.2 in
       at_each x.0 (λ j. items_of j (x ∷ m) ≡ f j)

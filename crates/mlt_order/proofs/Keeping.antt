@@ -3,7 +3,7 @@ use Rattle.std.proofs.Common.{◌≡◌, ◌≢◌, ℕ, List, [], ◌∷◌, �
 use Rattle.std.proofs.lemmas.List.Elements.{Contains-append_left, Contains-append_right, Contains-append_cases}
 use Rattle.mlt_order.specs.Runs.{Runs, IsFunctional, IsInjective}
 use Rattle.mlt_order.specs.Interleavings.{all_items, IsInterleaving}
-use Rattle.mlt_order.specs.Tables.{with_entry, Gains, IsEmptied}
+use Rattle.mlt_order.specs.Tables.{table_with, Gains, IsEmptied}
 use Rattle.mlt_order.specs.Histories.{Entry, Lists, no_lists, but_last, ended, after_entry, after_entries, MayCome, MayFollow, IsCommitOrderSerializable}
 use Rattle.mlt_order.specs.Histories.Entry.{Begun, Did, TookBack, Committed, Closed}
 use Rattle.mlt_order.specs.Histories.Stage.{Running, Ended}
@@ -58,23 +58,23 @@ module _ {P : Type 0} where
   running_begun : (lists : Lists P) (i : ℕ) → OnlyRunning lists → OnlyRunning (after_entry lists (Begun i))
   running_begun lists i only =
       let stage_now = changed lists.stage i Running in
-      at_each i (λ j. with_entry lists.stage i Running j ≢ Running → (lists.transcripts j ≡ []) × (lists.held j ≡ []))
+      at_each i (λ j. table_with lists.stage i Running j ≢ Running → (lists.transcripts j ≡ []) × (lists.held j ≡ []))
       (λ n. absurd (n stage_now.0)) (λ j n h. only j (λ e. h (stage_now.1 j n ∙ e)))
 
   -- under i, which is running, lists change
   running_changed : (lists : Lists P) (i : ℕ) (open_list held_list : List P) → lists.stage i ≡ Running → OnlyRunning lists →
-      OnlyRunning (record lists { transcripts = with_entry lists.transcripts i open_list; held = with_entry lists.held i held_list })
+      OnlyRunning (record lists { transcripts = table_with lists.transcripts i open_list; held = table_with lists.held i held_list })
   running_changed lists i open_list held_list running only =
       let open_now = changed lists.transcripts i open_list in
       let held_now = changed lists.held i held_list in
-      at_each i (λ j. lists.stage j ≢ Running → (with_entry lists.transcripts i open_list j ≡ []) × (with_entry lists.held i held_list j ≡ []))
+      at_each i (λ j. lists.stage j ≢ Running → (table_with lists.transcripts i open_list j ≡ []) × (table_with lists.held i held_list j ≡ []))
       (λ h. absurd (h running))
       (λ j n h. let k = only j h in (open_now.1 j n ∙ k.0, held_now.1 j n ∙ k.1))
 
   running_took_back : (lists : Lists P) (i : ℕ) → OnlyRunning lists → OnlyRunning (after_entry lists (TookBack i))
   running_took_back lists i only =
       let open_now = changed lists.transcripts i (but_last (lists.transcripts i)) in
-      at_each i (λ j. lists.stage j ≢ Running → (with_entry lists.transcripts i (but_last (lists.transcripts i)) j ≡ []) × (lists.held j ≡ []))
+      at_each i (λ j. lists.stage j ≢ Running → (table_with lists.transcripts i (but_last (lists.transcripts i)) j ≡ []) × (lists.held j ≡ []))
       (λ h. let k = only i h in (open_now.0 ∙ ap but_last k.0, k.1))
       (λ j n h. let k = only j h in (open_now.1 j n ∙ k.0, k.1))
 
@@ -102,7 +102,7 @@ module _ {S P : Type 0} (step : S → P → S → Type 0) (start : S) where
   kept_did : (lists : Lists P) (s t : S) (i : ℕ) (p : P) → MayCome step lists s (Did i p) t → Kept lists s → Kept (after_entry lists (Did i p)) t
   kept_did lists s t i p h k =
       let new = lists.transcripts i ++ p ∷ [] in
-      let g = with_entry lists.transcripts i new in
+      let g = table_with lists.transcripts i new in
       let gains : Gains lists.transcripts g i p = changed lists.transcripts i new in
       let b = k.serializable in
       record {
@@ -115,7 +115,7 @@ module _ {S P : Type 0} (step : S → P → S → Type 0) (start : S) where
   kept_took_back : IsInjective step → (lists : Lists P) (s t : S) (i : ℕ) → MayCome step lists s (TookBack i) t → Kept lists s → Kept (after_entry lists (TookBack i)) t
   kept_took_back inj lists s t i h k =
       let rest = but_last (lists.transcripts i) in
-      let g = with_entry lists.transcripts i rest in
+      let g = table_with lists.transcripts i rest in
       let c = changed lists.transcripts i rest in
       let was : rest ≡ h.0 = ap but_last h.2 ∙ but_last-push h.0 h.1 in
       let gains : Gains g lists.transcripts i h.1 = (h.2 ∙ ap (λ z. z ++ h.1 ∷ []) (sym (c.0 ∙ was)), λ j n. sym (c.1 j n)) in
@@ -130,7 +130,7 @@ module _ {S P : Type 0} (step : S → P → S → Type 0) (start : S) where
 
   kept_committed : IsFunctional step → (lists : Lists P) (s : S) (i : ℕ) → Kept lists s → Kept (after_entry lists (Committed i)) s
   kept_committed fun lists s i k =
-      let g = with_entry lists.transcripts i [] in
+      let g = table_with lists.transcripts i [] in
       let emptied : IsEmptied lists.transcripts g i = changed lists.transcripts i [] in
       let m = without i k.mixed.0 in
       let mixes = interleaving_without i lists.transcripts g emptied k.mixed.0 k.mixed.1 in
@@ -145,7 +145,7 @@ module _ {S P : Type 0} (step : S → P → S → Type 0) (start : S) where
 
   kept_closed : (lists : Lists P) (s : S) (i : ℕ) → lists.transcripts i ≡ [] → Kept lists s → Kept (after_entry lists (Closed i)) s
   kept_closed lists s i none k =
-      let g = with_entry lists.transcripts i [] in
+      let g = table_with lists.transcripts i [] in
       let emptied : IsEmptied lists.transcripts g i = changed lists.transcripts i [] in
       let b = k.serializable in
       record {
@@ -189,5 +189,5 @@ module _ {S P : Type 0} (step : S → P → S → Type 0) (start : S) where
       let k = kept_by_history fun inj history s h in
       let f = (after_entries no_lists history).transcripts in
       let new = changed f i rest in
-      undo_goes step inj k.serializable.0 s i item f (with_entry f i rest)
+      undo_goes step inj k.serializable.0 s i item f (table_with f i rest)
       (last ∙ ap (λ z. z ++ item ∷ []) (sym new.0), λ j n. sym (new.1 j n)) k.mixed.0 k.mixed.1 k.serializable.2

@@ -2,7 +2,7 @@
 use Rattle.std.proofs.Common.{◌≡◌, ◌≢◌, ◌↔◌, ℕ, zero, suc, ◌+◌, ◌≤◌, List, [], ◌∷◌, ◌++◌, refl, sym, ap, ◌∙◌, arith}
 use Rattle.std.proofs.lemmas.List.{append-nil}
 use Rattle.mlt_order.specs.Interleavings.{items_of, IsInterleaving}
-use Rattle.mlt_order.specs.Tables.{Gains, IsEmptied, AreFinitelyMany, with_entry}
+use Rattle.mlt_order.specs.Tables.{Gains, IsEmptied, AreFinitelyMany, table_with}
 use Rattle.mlt_order.proofs.Tables.{at_each, changed}
 use Rattle.mlt_order.proofs.Parts.{numbered, without, Last, last_of, items_of-same, items_of-other, items_of-append, items_of-numbered_same, items_of-numbered_other, items_of-without_same, items_of-without_other}
 
@@ -55,7 +55,7 @@ module _ {P : Type 0} where
   pub mix_below : (bound : ℕ) (lists : ℕ → List P) → ((i : ℕ) → bound ≤ i → lists i ≡ []) → (m : List (ℕ × P)) × IsInterleaving lists m
   mix_below zero lists none = ([], λ i. sym (none i (omega arith)))
   mix_below (suc bound) lists none =
-      let fewer = with_entry lists bound [] in
+      let fewer = table_with lists bound [] in
       let c = changed lists bound [] in
       let rest = mix_below bound fewer
       (at_each bound (λ j. bound ≤ j → fewer j ≡ []) (λ h. c.0) (λ j n h. c.1 j n ∙ none j (above bound j n h))) in

@@ -4,7 +4,7 @@ use Rattle.std.proofs.lemmas.Bool.{cases_eq}
 use Rattle.std.proofs.lemmas.List.{append-nil}
 use Rattle.std.proofs.lemmas.List.Elements.{Contains-append_cases}
 use Rattle.mlt_order.specs.Interleavings.{items_of}
-use Rattle.mlt_order.specs.Tables.{with_entry}
+use Rattle.mlt_order.specs.Tables.{table_with}
 use Rattle.mlt_order.specs.Histories.{Entry, Stage, Lists, no_lists, after_entry, after_entries, MayCome, MayFollow, items_done}
 use Rattle.mlt_order.specs.Histories.Entry.{Begun, Did, TookBack, Committed, Closed}
 use Rattle.mlt_order.specs.Histories.Stage.{Fresh, Running, Ended}
@@ -19,11 +19,11 @@ contains-one x y h =
 
 module _ {S P : Type 0} (step : S → P → S → Type 0) (i : ℕ) where
   -- under a number other than the one that changed
-  elsewhere : (stage : ℕ → Stage) (k : ℕ) (new : Stage) (F : Stage → Type 0) → k ≢ i → F (stage i) → F (with_entry stage k new i)
+  elsewhere : (stage : ℕ → Stage) (k : ℕ) (new : Stage) (F : Stage → Type 0) → k ≢ i → F (stage i) → F (table_with stage k new i)
   elsewhere stage k new F n h = subst F (sym ((changed stage k new).1 i (λ e. n (sym e)))) h
 
-  here : (stage : ℕ → Stage) (k : ℕ) (new : Stage) (F : Stage → Type 0) → k ≡ i → F new → F (with_entry stage k new i)
-  here stage k new F e h = let G : ℕ → Type 0 = λ z. F (with_entry stage k new z) in subst G e (subst F (sym (changed stage k new).0) h)
+  here : (stage : ℕ → Stage) (k : ℕ) (new : Stage) (F : Stage → Type 0) → k ≡ i → F new → F (table_with stage k new i)
+  here stage k new F e h = let G : ℕ → Type 0 = λ z. F (table_with stage k new z) in subst G e (subst F (sym (changed stage k new).0) h)
 
   -- what is fresh stays so until it begins
   fresh_stays : (lists : Lists P) (s t : S) (e : Entry P) → MayCome step lists s e t → e ≢ Begun i → lists.stage i ≡ Fresh → (after_entry lists e).stage i ≡ Fresh
@@ -88,8 +88,8 @@ module _ {S P : Type 0} (step : S → P → S → Type 0) (i : ℕ) where
       let rest = items_of i (items_done es) in
       elim (cases_eq k i) [
         | inl e ↦
-            let F : ℕ → Type 0 = λ z. with_entry lists.held k new z ≡ lists.held z ++ p ∷ [] in
-            let now : with_entry lists.held k new i ≡ lists.held i ++ p ∷ [] = subst F e (changed lists.held k new).0 in
+            let F : ℕ → Type 0 = λ z. table_with lists.held k new z ≡ lists.held z ++ p ∷ [] in
+            let now : table_with lists.held k new i ≡ lists.held i ++ p ∷ [] = subst F e (changed lists.held k new).0 in
             ap (λ l. l ++ rest) now ∙ append_assoc (lists.held i) (p ∷ []) rest ∙ ap (λ l. lists.held i ++ l) (sym (items_of-same i (k, p) (items_done es) e))
         | inr n ↦
             ap (λ l. l ++ rest) ((changed lists.held k new).1 i (λ e. n (sym e))) ∙ ap (λ l. lists.held i ++ l) (sym (items_of-other i (k, p) (items_done es) n))

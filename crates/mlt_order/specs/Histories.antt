@@ -2,7 +2,7 @@
 use Rattle.std.specs.Prelude.{◌≡◌, ◌≢◌, ℕ, List, [], ◌∷◌, ◌++◌, Contains}
 use Rattle.mlt_order.specs.Interleavings.{UndoneTo}
 use Rattle.mlt_order.specs.Runs.{IsSerialBase, RightCommutesBackward}
-use Rattle.mlt_order.specs.Tables.{with_entry}
+use Rattle.mlt_order.specs.Tables.{table_with}
 
 -- What happened to the transaction of a number.
 pub data Entry (P : Type 0) : Type 0 where
@@ -47,19 +47,19 @@ but_last (x ∷ y ∷ ys) = x ∷ but_last (y ∷ ys)
 -- the transaction ends, and nothing of it is open or held
 abbrev pub ended : {P : Type 0} → Lists P → ℕ → Lists P
 ended lists i = record lists {
-  stage = with_entry lists.stage i Stage.Ended;
-  transcripts = with_entry lists.transcripts i [];
-  held = with_entry lists.held i [];
+  stage = table_with lists.stage i Stage.Ended;
+  transcripts = table_with lists.transcripts i [];
+  held = table_with lists.held i [];
 }
 
 -- the lists after one more entry
 abbrev pub after_entry : {P : Type 0} → Lists P → Entry P → Lists P
-after_entry lists (Begun i) = record lists { stage = with_entry lists.stage i Stage.Running }
+after_entry lists (Begun i) = record lists { stage = table_with lists.stage i Stage.Running }
 after_entry lists (Did i item) = record lists {
-  transcripts = with_entry lists.transcripts i (lists.transcripts i ++ item ∷ []);
-  held = with_entry lists.held i (lists.held i ++ item ∷ []);
+  transcripts = table_with lists.transcripts i (lists.transcripts i ++ item ∷ []);
+  held = table_with lists.held i (lists.held i ++ item ∷ []);
 }
-after_entry lists (TookBack i) = record lists { transcripts = with_entry lists.transcripts i (but_last (lists.transcripts i)) }
+after_entry lists (TookBack i) = record lists { transcripts = table_with lists.transcripts i (but_last (lists.transcripts i)) }
 after_entry lists (Committed i) = record (ended lists i) { committed = lists.committed ++ lists.transcripts i ∷ [] }
 after_entry lists (Closed i) = ended lists i
 

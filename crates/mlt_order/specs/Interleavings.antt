@@ -1,7 +1,7 @@
 -- Interleavings of the lists that stand under numbers, and what is left when all of the lists are undone.
 use Rattle.std.specs.Prelude.{◌≡◌, ℕ, List, [], ◌∷◌, if◌then◌else◌, ◌==◌}
 use Rattle.mlt_order.specs.Runs.{Runs}
-use Rattle.mlt_order.specs.Tables.{with_entry}
+use Rattle.mlt_order.specs.Tables.{table_with}
 
 -- the items of one number, in order
 abbrev pub items_of : {P : Type 0} → ℕ → List (ℕ × P) → List P
@@ -21,7 +21,7 @@ IsInterleaving lists mixed = (i : ℕ) → items_of i mixed ≡ lists i
 abbrev pub TakesFirstItems : {P : Type 0} → (ℕ → List P) → List (ℕ × P) → Type 0
 TakesFirstItems lists [] = (i : ℕ) → lists i ≡ []
 TakesFirstItems {P} lists (x ∷ mixed) =
-    (rest : List P) × (lists x.0 ≡ x.1 ∷ rest) × TakesFirstItems (with_entry lists x.0 rest) mixed
+    (rest : List P) × (lists x.0 ≡ x.1 ∷ rest) × TakesFirstItems (table_with lists x.0 rest) mixed
 
 -- With the transcripts undone the base is left: every interleaving of them leads from the base to the state.
 abbrev pub UndoneTo : {S P : Type 0} → (S → P → S → Type 0) → S → (ℕ → List P) → S → Type 0

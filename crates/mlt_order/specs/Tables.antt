@@ -2,8 +2,8 @@
 use Rattle.std.specs.Prelude.{◌≡◌, ◌≢◌, ℕ, ◌≤◌, List, [], ◌∷◌, ◌++◌, if◌then◌else◌, ◌==◌}
 
 -- the table with this entry under the number
-abbrev pub with_entry : {X : Type 0} → (ℕ → X) → ℕ → X → ℕ → X
-with_entry table i entry j = if i == j then entry else table j
+abbrev pub table_with : {X : Type 0} → (ℕ → X) → ℕ → X → ℕ → X
+table_with table i entry j = if i == j then entry else table j
 
 -- under every other number the tables have the same
 abbrev pub SameElsewhere : {X : Type 0} → (ℕ → X) → (ℕ → X) → ℕ → Type 0

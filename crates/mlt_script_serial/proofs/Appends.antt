@@ -9,13 +9,13 @@ use Rattle.mlt_script_tree.specs.Scripts.{ScriptForm}
 use Rattle.mlt_script_serial.specs.declared.outcome.End.{End}
 use Rattle.mlt_script_serial.specs.declared.outcome.End.TheVariants.{Committed, Aborted, Refused}
 use Rattle.mlt_script_serial.specs.declared.outcome.Outcome.{Outcome}
-use Rattle.mlt_script_serial.specs.Serial.{IsRun, AreRuns, AreNumbered, AreMarksOf, AreWithoutTx, mark_of, mark_of_end, unmarked}
+use Rattle.mlt_script_serial.specs.Serial.{IsScriptRun, AreRuns, AreNumbered, AreMarksOf, AreWithoutTx, mark_of, mark_of_end, unmarked}
 
 -- one more script runs
-pub runs_push : (ss : List ScriptForm) (b c d : Base) (n k j : ℕ) (os : List Outcome) (s : ScriptForm) (o : Outcome) → AreRuns ss b n os c k → IsRun s c k o.done o.end d j
+pub runs_push : (ss : List ScriptForm) (b c d : Base) (n k j : ℕ) (os : List Outcome) (s : ScriptForm) (o : Outcome) → AreRuns ss b n os c k → IsScriptRun s c k o.done o.end d j
     → AreRuns (ss ++ s ∷ []) b n (os ++ o ∷ []) d j
 runs_push [] b c d n k j [] s o h r =
-    (d, j, subst (λ (z : Base). IsRun s z n o.done o.end d j) (sym h.0) (subst (λ (z : ℕ). IsRun s c z o.done o.end d j) (sym h.1) r), (refl, refl))
+    (d, j, subst (λ (z : Base). IsScriptRun s z n o.done o.end d j) (sym h.0) (subst (λ (z : ℕ). IsScriptRun s c z o.done o.end d j) (sym h.1) r), (refl, refl))
 runs_push [] b c d n k j (p ∷ os) s o h r = absurd h
 runs_push (x ∷ ss) b c d n k j [] s o h r = absurd h
 runs_push (x ∷ ss) b c d n k j (p ∷ os) s o h r = (h.0, h.1, h.2, runs_push ss h.0 c d h.1 k j os s o h.3 r)
@@ -79,13 +79,13 @@ next_number numbers ss s long small h =
     let here : s.client < length numbers = omega arith in
     get_or-set_same numbers s.client (get_or numbers s.client 0 + 1) 0 here ∙ ap (λ (n : ℕ). n + 1) (h s.client small)
 
-commits_le : (s : ScriptForm) (b c : Base) (n k : ℕ) (o : Outcome) (end : End) → IsRun s b n o.done end c k → k ≤ n + 1
+commits_le : (s : ScriptForm) (b c : Base) (n k : ℕ) (o : Outcome) (end : End) → IsScriptRun s b n o.done end c k → k ≤ n + 1
 commits_le s b c n k o (Committed number) h = omega arith
 commits_le s b c n k o Aborted h = omega arith
 commits_le s b c n k o (Refused refusal) h = omega arith
 
 -- a script adds one commit at most
-pub commits_after-le : (s : ScriptForm) (b c : Base) (n k : ℕ) (o : Outcome) → IsRun s b n o.done o.end c k → k ≤ n + 1
+pub commits_after-le : (s : ScriptForm) (b c : Base) (n k : ℕ) (o : Outcome) → IsScriptRun s b n o.done o.end c k → k ≤ n + 1
 commits_after-le s b c n k o h = commits_le s b c n k o o.end h
 
 -- the mark of a refused outcome says so

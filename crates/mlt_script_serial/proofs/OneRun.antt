@@ -3,7 +3,7 @@ use Rattle.std.proofs.Common.{map, ◌≡◌, ℕ, List, [], ◌∷◌, length, 
 use Rattle.mlt_object_kinds.specs.declared.operation.ObjOp.{ObjOp}
 use Rattle.mlt_object_kinds.specs.declared.operation.ObjReply.{ObjReply}
 use Rattle.mlt_object_kinds.proofs.BaseLaws.{base_one_answer}
-use Rattle.mlt_object_kinds.specs.Bases.{Base, Step, Runs, Transcript}
+use Rattle.mlt_object_kinds.specs.Bases.{Base, Step, TranscriptLeads, Transcript}
 use Rattle.mlt_script_tree.specs.declared.statement.Ending.{Ending}
 use Rattle.mlt_script_tree.specs.declared.statement.Ending.TheVariants.{Commit, Abort}
 use Rattle.mlt_script_tree.specs.Scripts.{ScriptForm}
@@ -12,12 +12,12 @@ use Rattle.mlt_types.specs.declared.refusal.Refusal.{Refusal}
 use Rattle.mlt_script_serial.specs.declared.outcome.End.{End}
 use Rattle.mlt_script_serial.specs.declared.outcome.End.TheVariants.{Committed, Aborted, Refused}
 use Rattle.mlt_script_serial.specs.declared.outcome.Outcome.{Outcome}
-use Rattle.mlt_script_serial.specs.Serial.{IsRun, AreRuns, mark_of, mark_of_end, story_of}
+use Rattle.mlt_script_serial.specs.Serial.{IsScriptRun, AreRuns, mark_of, mark_of_end, story_of}
 use Rattle.mlt_script_cursor.proofs.Transcripts.{reaches_front}
 use Rattle.mlt_script_cursor.specs.Follows.Questions.{Ends, Asks}
 
 -- Two transcripts of the same questions from one base are one, where both come to an end.
-one_transcript : (p : Questions) (b m n : Base) (t u : Transcript) (e f : Ending) → Reaches p t (Ends e) → Reaches p u (Ends f) → Runs b t m → Runs b u n
+one_transcript : (p : Questions) (b m n : Base) (t u : Transcript) (e f : Ending) → Reaches p t (Ends e) → Reaches p u (Ends f) → TranscriptLeads b t m → TranscriptLeads b u n
     → (t ≡ u) × (e ≡ f) × (m ≡ n)
 one_transcript (Ends d) b m n [] [] e f h k r s = let same : e ≡ f = cc in (refl, same, sym r ∙ s)
 one_transcript (Ends d) b m n (x ∷ t) u e f h k r s = absurd h
@@ -31,14 +31,14 @@ one_transcript (Asks o after) b m n ((op, rx) ∷ t) ((oq, ry) ∷ u) e f h k r 
     let sy : Step b (o, ry) s.0 = subst (λ (z : ObjOp). Step b (z, ry) s.0) oq_is s.1 in
     let one = base_one_answer b r.0 s.0 o rx ry sx sy in
     let k' : Reaches (after rx) u (Ends f) = subst (λ (z : ObjReply). Reaches (after z) u (Ends f)) (sym one.0) k.1 in
-    let s' : Runs r.0 u n = subst (λ (z : Base). Runs z u n) (sym one.1) s.2 in
+    let s' : TranscriptLeads r.0 u n = subst (λ (z : Base). TranscriptLeads z u n) (sym one.1) s.2 in
     let rest = one_transcript (after rx) r.0 m n t u e f h.1 k' r.2 s' in
     let first : ◌≡◌ {A = ObjOp × ObjReply} (op, rx) (oq, ry) = λ i. ((op_is ∙ sym oq_is) i, one.0 i) in
     let same : (op, rx) ∷ t ≡ (oq, ry) ∷ u = λ i. first i ∷ rest.0 i in
     (same, rest.1, rest.2)
 
 -- Two transcripts of the same questions from one base are one, where they have one length.
-one_front : (p q s : Questions) (b m n : Base) (t u : Transcript) → Reaches p t q → Reaches p u s → Runs b t m → Runs b u n → length t ≡ length u → t ≡ u
+one_front : (p q s : Questions) (b m n : Base) (t u : Transcript) → Reaches p t q → Reaches p u s → TranscriptLeads b t m → TranscriptLeads b u n → length t ≡ length u → t ≡ u
 one_front p q s b m n [] [] h k r v l = refl
 one_front p q s b m n [] (y ∷ u) h k r v l = absurd (omega arith)
 one_front p q s b m n (x ∷ t) [] h k r v l = absurd (omega arith)
@@ -50,7 +50,7 @@ one_front (Asks o after) q s b m n ((op, rx) ∷ t) ((oq, ry) ∷ u) h k r v l =
     let sy : Step b (o, ry) v.0 = subst (λ (z : ObjOp). Step b (z, ry) v.0) oq_is v.1 in
     let one = base_one_answer b r.0 v.0 o rx ry sx sy in
     let k' : Reaches (after rx) u s = subst (λ (z : ObjReply). Reaches (after z) u s) (sym one.0) k.1 in
-    let v' : Runs r.0 u n = subst (λ (z : Base). Runs z u n) (sym one.1) v.2 in
+    let v' : TranscriptLeads r.0 u n = subst (λ (z : Base). TranscriptLeads z u n) (sym one.1) v.2 in
     let rest = one_front (after rx) q s r.0 m n t u h.1 k' r.2 v' (omega arith) in
     let first : ◌≡◌ {A = ObjOp × ObjReply} (op, rx) (oq, ry) = λ i. ((op_is ∙ sym oq_is) i, one.0 i) in
     λ i. first i ∷ rest i
@@ -60,7 +60,7 @@ abbrev Same : Transcript → Transcript → End → End → Base → Base → �
 Same t u e f c d k j = (t ≡ u) × (e ≡ f) × (c ≡ d) × (k ≡ j)
 
 -- a script that commits and one that aborts end differently
-commits_or_aborts : (s : ScriptForm) (b m n : Base) (t u : Transcript) → Follows s t Commit → Follows s u Abort → Runs b t m → Runs b u n → ⊥
+commits_or_aborts : (s : ScriptForm) (b m n : Base) (t u : Transcript) → Follows s t Commit → Follows s u Abort → TranscriptLeads b t m → TranscriptLeads b u n → ⊥
 commits_or_aborts s b m n t u h k r v =
     let same : Commit ≡ Abort = (one_transcript (questions_of_script s) b m n t u Commit Abort h k r v).1 in cc
 
@@ -70,7 +70,7 @@ one_mark t u p q h =
     (ap (λ (x : ℕ × Refusal). x.0) pair, ap (λ (x : ℕ × Refusal). x.1) pair)
 
 -- One script, one base and one mark have one run.
-one_run : (s : ScriptForm) (b c d : Base) (n k j : ℕ) (t u : Transcript) (e f : End) → mark_of_end t e ≡ mark_of_end u f → IsRun s b n t e c k → IsRun s b n u f d j
+one_run : (s : ScriptForm) (b c d : Base) (n k j : ℕ) (t u : Transcript) (e f : End) → mark_of_end t e ≡ mark_of_end u f → IsScriptRun s b n t e c k → IsScriptRun s b n u f d j
     → Same t u e f c d k j
 one_run s b c d n k j t u (Committed x) (Committed y) m h g =
     let one = one_transcript (questions_of_script s) b c d t u Commit Commit h.0 g.0 h.1 g.1 in

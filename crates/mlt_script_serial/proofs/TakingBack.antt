@@ -20,7 +20,7 @@ use Rattle.mlt_object_kinds.specs.Cells.{CellState, CellStep}
 use Rattle.mlt_object_kinds.specs.Cells.CellState.{AccountState, ElementState, CounterState, NoState}
 use Rattle.mlt_object_kinds.specs.Operations.{cell_of}
 use Rattle.mlt_object_kinds.proofs.BaseLaws.{base_one_answer, same_base, one_cell_or_two}
-use Rattle.mlt_object_kinds.specs.Bases.{Base, Step, Runs, TellsSize, Transcript, state_at, SameBut}
+use Rattle.mlt_object_kinds.specs.Bases.{Base, Step, TranscriptLeads, TellsSize, Transcript, state_at, SameBut}
 use Rattle.mlt_script_serial.specs.TakingBack.{opposite_of}
 
 -- the opposite operation leads back with some reply; where there is none, nothing changed
@@ -28,19 +28,19 @@ abbrev LeadsBack : Cell → Option ObjOp → CellState → CellState → Type 0
 LeadsBack c None s t = s ≡ t
 LeadsBack c (Some o) s t = (cell_of o ≡ c) × (r : ObjReply) × CellStep t (o, r) s
 
-account_back : (a : ℕ) (o : AccountOp) (r : ObjReply) (s : Option ℕ) → accounts.IsLegal o r s → LeadsBack (cell.Account a) (opposite_of (op.Account a o, r)) (AccountState s) (AccountState (accounts.next_of o r s))
+account_back : (a : ℕ) (o : AccountOp) (r : ObjReply) (s : Option ℕ) → accounts.IsLegalOnAccount o r s → LeadsBack (cell.Account a) (opposite_of (op.Account a o, r)) (AccountState s) (AccountState (accounts.account_after o r s))
 account_back a account.Open Opened None h = (refl, Closed, (refl, refl))
 account_back a account.Close Closed (Some b) h = (refl, Opened, (tt, ap Some (sym h)))
 account_back a (account.Deposit n) Done (Some b) h = (refl, Done, ((h.0, h.1, omega arith), ap Some (omega arith)))
 account_back a (account.Withdraw n) Done (Some b) h = (refl, Done, ((h.0, omega arith), ap Some (omega arith)))
 account_back a _ _ _ h = first_of (cc, grind arith)
 
-element_back : (set e : ℕ) (o : ElementOp) (r : ObjReply) (s : Bool) → elements.IsLegal o r s → LeadsBack (cell.Element set e) (opposite_of (op.Element set e o, r)) (ElementState s) (ElementState (elements.next_of o r s))
+element_back : (set e : ℕ) (o : ElementOp) (r : ObjReply) (s : Bool) → elements.IsLegalOnElement o r s → LeadsBack (cell.Element set e) (opposite_of (op.Element set e o, r)) (ElementState s) (ElementState (elements.element_after o r s))
 element_back set e element.Add Added false h = (refl, Removed, (tt, refl))
 element_back set e element.Remove Removed true h = (refl, Added, (tt, refl))
 element_back set e _ _ _ h = first_of (cc, grind arith)
 
-counter_back : (c : ℕ) (o : CounterOp) (r : ObjReply) (s : ℕ) → counters.IsLegal o r s → LeadsBack (cell.Counter c) (opposite_of (op.Counter c o, r)) (CounterState s) (CounterState (counters.next_of o r s))
+counter_back : (c : ℕ) (o : CounterOp) (r : ObjReply) (s : ℕ) → counters.IsLegalOnCounter o r s → LeadsBack (cell.Counter c) (opposite_of (op.Counter c o, r)) (CounterState s) (CounterState (counters.counter_after o r s))
 counter_back c (counter.Up n) Done s h = (refl, Done, ((h.0, omega arith), omega arith))
 counter_back c (counter.Down n) Done s h = (refl, Done, ((h.0, omega arith), omega arith))
 counter_back c counter.Read r s h = refl
@@ -89,13 +89,13 @@ was_same x m c h is =
       | inr n ↦ h.1 other n
     ])
 
-runs_last : (b : Base) (t : Transcript) (x : ObjOp × ObjReply) (c : Base) → Runs b (t ++ x ∷ []) c → (m : Base) × Runs b t m × Step m x c
+runs_last : (b : Base) (t : Transcript) (x : ObjOp × ObjReply) (c : Base) → TranscriptLeads b (t ++ x ∷ []) c → (m : Base) × TranscriptLeads b t m × Step m x c
 runs_last b [] x c h = (b, refl, subst (λ (z : Base). Step b x z) h.2 h.1)
 runs_last b (y ∷ t) x c h = let k = runs_last h.0 t x c h.2 in (k.0, (h.0, h.1, k.1), k.2)
 
 -- what a front led to before its last operation
-pub before_last : (b : Base) (t : Transcript) (i : ℕ) (d : ObjOp × ObjReply) (c : Base) → i < length t → Runs b (take (i + 1) t) c → (m : Base) × Runs b (take i t) m × Step m (get_or t i d) c
+pub before_last : (b : Base) (t : Transcript) (i : ℕ) (d : ObjOp × ObjReply) (c : Base) → i < length t → TranscriptLeads b (take (i + 1) t) c → (m : Base) × TranscriptLeads b (take i t) m × Step m (get_or t i d) c
 before_last b t i d c h r =
     let next : suc i ≡ i + 1 = omega arith in
     let longer : take (i + 1) t ≡ take i t ++ get_or t i d ∷ [] = subst (λ n. take n t ≡ take i t ++ get_or t i d ∷ []) next (take-suc t i d h) in
-    runs_last b (take i t) (get_or t i d) c (subst (λ (z : Transcript). Runs b z c) longer r)
+    runs_last b (take i t) (get_or t i d) c (subst (λ (z : Transcript). TranscriptLeads b z c) longer r)

@@ -1,7 +1,7 @@
 -- Scripts that run one after another: what becomes of each, and the base that is reached.
 use Rattle.std.specs.Prelude.{◌≡◌, ℕ, ◌+◌, List, [], ◌∷◌, ◌++◌, length, map, Option, Some, None, ◌==◌, count_by}
 use Rattle.mlt_types.specs.declared.refusal.Refusal.{Refusal}
-use Rattle.mlt_object_kinds.specs.Bases.{Base, Runs, Transcript, empty_base}
+use Rattle.mlt_object_kinds.specs.Bases.{Base, TranscriptLeads, Transcript, empty_base}
 use Rattle.mlt_script_tree.specs.declared.statement.Ending.TheVariants.{Commit, Abort}
 use Rattle.mlt_script_tree.specs.Scripts.{ScriptForm}
 use Rattle.mlt_script_cursor.specs.Follows.{Follows, IsPartial}
@@ -11,18 +11,18 @@ use Rattle.mlt_script_serial.specs.declared.outcome.Outcome.{Outcome}
 
 -- A script runs from the base b, n scripts having committed before it. It is told the replies of the transcript, ends so,
 -- and leaves the base c, k scripts having committed.
-abbrev pub IsRun : ScriptForm → Base → ℕ → Transcript → End → Base → ℕ → Type 0
+abbrev pub IsScriptRun : ScriptForm → Base → ℕ → Transcript → End → Base → ℕ → Type 0
 -- a commit keeps the new base, under the next commit number
-IsRun s b n t (Committed number) c k = Follows s t Commit × Runs b t c × (k ≡ n + 1) × (number ≡ k)
+IsScriptRun s b n t (Committed number) c k = Follows s t Commit × TranscriptLeads b t c × (k ≡ n + 1) × (number ≡ k)
 -- an abort gives the old base back
-IsRun s b n t Aborted c k = Follows s t Abort × ((m : Base) × Runs b t m) × (c ≡ b) × (k ≡ n)
+IsScriptRun s b n t Aborted c k = Follows s t Abort × ((m : Base) × TranscriptLeads b t m) × (c ≡ b) × (k ≡ n)
 -- a refused script was told the replies of a partial transcript, and leaves the old base
-IsRun s b n t (Refused refusal) c k = IsPartial s t × ((m : Base) × Runs b t m) × (c ≡ b) × (k ≡ n)
+IsScriptRun s b n t (Refused refusal) c k = IsPartial s t × ((m : Base) × TranscriptLeads b t m) × (c ≡ b) × (k ≡ n)
 
 -- The scripts run in order, from the base b and after n commits; the base c is reached, after k commits.
 abbrev pub AreRuns : List ScriptForm → Base → ℕ → List Outcome → Base → ℕ → Type 0
 AreRuns [] b n [] c k = (b ≡ c) × (n ≡ k)
-AreRuns (s ∷ ss) b n (o ∷ os) c k = (m : Base) × (j : ℕ) × IsRun s b n o.done o.end m j × AreRuns ss m j os c k
+AreRuns (s ∷ ss) b n (o ∷ os) c k = (m : Base) × (j : ℕ) × IsScriptRun s b n o.done o.end m j × AreRuns ss m j os c k
 AreRuns [] b n (o ∷ os) c k = ⊥
 AreRuns (s ∷ ss) b n [] c k = ⊥
 

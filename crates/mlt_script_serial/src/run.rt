@@ -5,7 +5,7 @@ ghost use Rattle.mlt_types.specs.declared.refusal.Refusal.{Refusal as RefusalFor
 ghost use Rattle.mlt_object_kinds.specs.Bases.{Base as ObjectBase};
 ghost use Rattle.mlt_script_cursor.specs.Follows.{AsksAtMost, questions_of_script};
 ghost use Rattle.mlt_script_tree.specs.Scripts.{ScriptForm};
-ghost use Rattle.mlt_script_serial.specs.Serial.{AreMarksOf, AreNumbered, AreWithoutTx, IsRun, IsSerialRun, commits_after, mark_of, story_of, unmarked};
+ghost use Rattle.mlt_script_serial.specs.Serial.{AreMarksOf, AreNumbered, AreWithoutTx, IsScriptRun, IsSerialRun, commits_after, mark_of, story_of, unmarked};
 ghost use Rattle.mlt_script_serial.specs.declared.outcome.Outcome.{Outcome as OutcomeForm};
 
 use crate::base_desk::BaseDesk;
@@ -36,7 +36,7 @@ fn attempt(
     requires room { AsksAtMost (vec_capacity done.old) (questions_of_script script.now) }
     requires commits { commits < 2 ^ 63 }
     ensures run { IfOk result (λ end.
-        IsRun script.now desk.old.base commits done.new.items end desk.new.base
+        IsScriptRun script.now desk.old.base commits done.new.items end desk.new.base
         (commits_after commits end)) }
     ensures mark { (refusal : RefusalForm) → result ≡ Ok (End.Refused refusal)
         → refusal ≡ Refusal.OutOfMemory }
@@ -64,7 +64,7 @@ fn run_alone(
 ) -> Result<Outcome, Refusal>
     requires { commits < 2 ^ 63 }
     ensures run { IfOk result (λ outcome.
-        IsRun script.now desk.old.base commits outcome.done outcome.end desk.new.base
+        IsScriptRun script.now desk.old.base commits outcome.done outcome.end desk.new.base
         (commits_after commits outcome.end)) }
     ensures client { IfOk result (λ outcome. outcome.client ≡ script.now.client) }
     ensures number { IfOk result (λ outcome. outcome.number ≡ number) }

@@ -1,7 +1,7 @@
 //! Operations that take others back.
 
 ghost use Rattle.std.specs.Prelude.{◌≡◌, OnOk, IsOkUnless};
-ghost use Rattle.mlt_object_kinds.specs.Bases.{Base as ObjectBase, Runs};
+ghost use Rattle.mlt_object_kinds.specs.Bases.{Base as ObjectBase, TranscriptLeads};
 ghost use Rattle.mlt_script_serial.specs.TakingBack.{opposite_of};
 
 use mlt_object_base::Base;
@@ -47,7 +47,7 @@ fn opposite(done: &Done) -> Option<ObjOp>
 /// `OutOfMemory`, where a growth was refused.
 pub fn take_back(base: &mut Base, done: &[Done]) -> Result<(), Refusal>
     ensures ok { OnOk result
-        ((before : ObjectBase) → Runs before done.now base.old → base.new ≡ before) }
+        ((before : ObjectBase) → TranscriptLeads before done.now base.old → base.new ≡ before) }
     ensures refusal { IsOkUnless result Refusal.OutOfMemory }
 {
     let mut left = done.len();

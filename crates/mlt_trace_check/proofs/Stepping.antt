@@ -43,7 +43,7 @@ at_most m n = elim (cases_lt n m) [ inl over ↦ inr (λ fits. absurd (omega (ar
 pub below : (m n : ℕ) → Decided (m < n)
 below m n = elim (cases_lt m n) [ inl under ↦ inl under | inr over ↦ inr (λ under. absurd (omega (arith, over, under))) ]
 
-account_legal : (o : AccountOp) (r : ObjReply) (s : Option ℕ) → Decided (account.IsLegal o r s)
+account_legal : (o : AccountOp) (r : ObjReply) (s : Option ℕ) → Decided (account.IsLegalOnAccount o r s)
 account_legal Open Opened None = inl tt
 account_legal Open Exists (Some b) = at_most b account.max_balance
 account_legal Close Closed (Some b) = cases_eq b 0
@@ -59,7 +59,7 @@ account_legal (Withdraw n) Missing None = below n (2 ^ 64)
 account_legal Balance Missing None = inl tt
 account_legal _ _ _ = inr (λ h. h)
 
-element_legal : (o : ElementOp) (r : ObjReply) (s : Bool) → Decided (element.IsLegal o r s)
+element_legal : (o : ElementOp) (r : ObjReply) (s : Bool) → Decided (element.IsLegalOnElement o r s)
 element_legal Add Added false = inl tt
 element_legal Add Present true = inl tt
 element_legal Remove Removed true = inl tt
@@ -68,7 +68,7 @@ element_legal Has Yes true = inl tt
 element_legal Has No false = inl tt
 element_legal _ _ _ = inr (λ h. h)
 
-counter_legal : (o : CounterOp) (r : ObjReply) (s : ℕ) → Decided (counter.IsLegal o r s)
+counter_legal : (o : CounterOp) (r : ObjReply) (s : ℕ) → Decided (counter.IsLegalOnCounter o r s)
 counter_legal (Up n) Done s = both (below n (2 ^ 64)) (below s (2 ^ 64))
 counter_legal (Down n) Done s = both (below n (2 ^ 64)) (below s (2 ^ 64))
 counter_legal Read (Is v) s = both (below s (2 ^ 64)) (cases_eq s v)
@@ -78,15 +78,15 @@ counter_legal _ _ s = inr (λ h. h)
 abbrev CellStepsOrNot : CellState → ObjOp × ObjReply → Type 0
 CellStepsOrNot s x = ((t : CellState) × CellStep s x t) ⊎ ((t : CellState) → CellStep s x t → ⊥)
 
-no_account_step : (s : Option ℕ) (a : ℕ) (o : AccountOp) (r : ObjReply) → (account.IsLegal o r s → ⊥) → (t : CellState) → CellStep (AccountState s) (op.Account a o, r) t → ⊥
+no_account_step : (s : Option ℕ) (a : ℕ) (o : AccountOp) (r : ObjReply) → (account.IsLegalOnAccount o r s → ⊥) → (t : CellState) → CellStep (AccountState s) (op.Account a o, r) t → ⊥
 no_account_step s a o r n (AccountState t) h = n h.0
 no_account_step s a o r n _ h = h
 
-no_element_step : (s : Bool) (set e : ℕ) (o : ElementOp) (r : ObjReply) → (element.IsLegal o r s → ⊥) → (t : CellState) → CellStep (ElementState s) (op.Element set e o, r) t → ⊥
+no_element_step : (s : Bool) (set e : ℕ) (o : ElementOp) (r : ObjReply) → (element.IsLegalOnElement o r s → ⊥) → (t : CellState) → CellStep (ElementState s) (op.Element set e o, r) t → ⊥
 no_element_step s set e o r n (ElementState t) h = n h.0
 no_element_step s set e o r n _ h = h
 
-no_counter_step : (s c : ℕ) (o : CounterOp) (r : ObjReply) → (counter.IsLegal o r s → ⊥) → (t : CellState) → CellStep (CounterState s) (op.Counter c o, r) t → ⊥
+no_counter_step : (s c : ℕ) (o : CounterOp) (r : ObjReply) → (counter.IsLegalOnCounter o r s → ⊥) → (t : CellState) → CellStep (CounterState s) (op.Counter c o, r) t → ⊥
 no_counter_step s c o r n (CounterState t) h = n h.0
 no_counter_step s c o r n _ h = h
 
@@ -106,11 +106,11 @@ size_legal set r = inr (λ t h. size_is_number set r t h)
 
 cell_steps_or_not : (s : CellState) (x : ObjOp × ObjReply) → CellStepsOrNot s x
 cell_steps_or_not (AccountState s) (op.Account a o, r) =
-    elim (account_legal o r s) [ inl h ↦ inl (AccountState (account.next_of o r s), (h, refl)) | inr n ↦ inr (no_account_step s a o r n) ]
+    elim (account_legal o r s) [ inl h ↦ inl (AccountState (account.account_after o r s), (h, refl)) | inr n ↦ inr (no_account_step s a o r n) ]
 cell_steps_or_not (ElementState s) (op.Element set e o, r) =
-    elim (element_legal o r s) [ inl h ↦ inl (ElementState (element.next_of o r s), (h, refl)) | inr n ↦ inr (no_element_step s set e o r n) ]
+    elim (element_legal o r s) [ inl h ↦ inl (ElementState (element.element_after o r s), (h, refl)) | inr n ↦ inr (no_element_step s set e o r n) ]
 cell_steps_or_not (CounterState s) (op.Counter c o, r) =
-    elim (counter_legal o r s) [ inl h ↦ inl (CounterState (counter.next_of o r s), (h, refl)) | inr n ↦ inr (no_counter_step s c o r n) ]
+    elim (counter_legal o r s) [ inl h ↦ inl (CounterState (counter.counter_after o r s), (h, refl)) | inr n ↦ inr (no_counter_step s c o r n) ]
 cell_steps_or_not NoState (op.Size set, r) = size_legal set r
 cell_steps_or_not _ _ = inr (λ t h. h)
 

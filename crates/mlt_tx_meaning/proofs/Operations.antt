@@ -20,7 +20,7 @@ use Rattle.mlt_object_base.proofs.SizeRecords.{has_size_now, has_size_still}
 use Rattle.mlt_object_conflicts.proofs.BaseOrder.{did_may_come}
 use Rattle.mlt_order.specs.Histories.{Lists, after_entry}
 use Rattle.mlt_order.specs.Histories.Entry.{Did}
-use Rattle.mlt_order.specs.Tables.{Gains, with_entry}
+use Rattle.mlt_order.specs.Tables.{Gains, table_with}
 use Rattle.mlt_order.proofs.Tables.{changed}
 use Rattle.mlt_hash_form.specs.Records.{live_records}
 use Rattle.mlt_tx_meaning.specs.Ends.{ChangesPages}
@@ -41,12 +41,12 @@ only_one x y h =
 
 -- what is listed with one item more is listed before, or is that item
 listed : (table : ℕ → List (ObjOp × ObjReply)) (tx : ℕ) (item : ObjOp × ObjReply) (F : ObjOp × ObjReply → Type 0) → ((i : ℕ) (x : ObjOp × ObjReply) → Contains (table i) x → F x) → F item
-    → (i : ℕ) (x : ObjOp × ObjReply) → Contains (with_entry table tx (table tx ++ item ∷ []) i) x → F x
+    → (i : ℕ) (x : ObjOp × ObjReply) → Contains (table_with table tx (table tx ++ item ∷ []) i) x → F x
 listed table tx item F before new i x there =
     let now = changed table tx (table tx ++ item ∷ []) in
     let InList : List (ObjOp × ObjReply) → Type 0 = λ l. Contains l x in
     elim (cases_eq i tx) [
-      | inl e ↦ elim (Contains-append_cases (table tx) (item ∷ []) x (subst InList (ap (with_entry table tx (table tx ++ item ∷ [])) e ∙ now.0) there)) [
+      | inl e ↦ elim (Contains-append_cases (table tx) (item ∷ []) x (subst InList (ap (table_with table tx (table tx ++ item ∷ [])) e ∙ now.0) there)) [
         | inl old ↦ before tx x old
         | inr one ↦ subst F (only_one item x one) new
       ]

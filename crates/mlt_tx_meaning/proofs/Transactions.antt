@@ -7,7 +7,7 @@ use Rattle.mlt_object_kinds.specs.declared.operation.ObjReply.{ObjReply}
 use Rattle.mlt_order.specs.Histories.{Lists, Stage, after_entry, ended}
 use Rattle.mlt_order.specs.Histories.Entry.{Begun, Closed, Committed}
 use Rattle.mlt_order.specs.Histories.Stage.{Ended, Fresh, Running}
-use Rattle.mlt_order.specs.Tables.{SameElsewhere, with_entry}
+use Rattle.mlt_order.specs.Tables.{SameElsewhere, table_with}
 use Rattle.mlt_order.proofs.RunLemmas.{contains-nothing}
 use Rattle.mlt_order.proofs.Tables.{changed}
 use Rattle.mlt_hash_ghosts.specs.Ghosts.{PagesMatchOperations}
@@ -55,11 +55,11 @@ module _ (world : World) (undoing : ℕ → Bool) (h : PagesMeanHistory world) (
   nothing_stands : (key : ℕ) → standing_of lists.transcripts (world.begun + 1) key ≡ []
   nothing_stands key = ap (presences_on key) ((lists_kept world h).only (world.begun + 1) (fresh_is_not_running _ new_is_fresh)).0
 
-  begun_runs : (i : ℕ) → (set.contains (set.insert world.opens (world.begun + 1)) i ≡ true) ↔ (with_entry lists.stage (world.begun + 1) Running i ≡ Running)
+  begun_runs : (i : ℕ) → (set.contains (set.insert world.opens (world.begun + 1)) i ≡ true) ↔ (table_with lists.stage (world.begun + 1) Running i ≡ Running)
   begun_runs i =
       let stage = changed lists.stage (world.begun + 1) Running in
       elim (cases_eq i (world.begun + 1)) [
-        | inl e ↦ (λ o. ap (with_entry lists.stage (world.begun + 1) Running) e ∙ stage.0, λ r. ap (set.contains (set.insert world.opens (world.begun + 1))) e ∙ inserted_here world.opens (world.begun + 1))
+        | inl e ↦ (λ o. ap (table_with lists.stage (world.begun + 1) Running) e ∙ stage.0, λ r. ap (set.contains (set.insert world.opens (world.begun + 1))) e ∙ inserted_here world.opens (world.begun + 1))
         | inr n ↦
             let there = inserted_beside world.opens (world.begun + 1) i n in
             (λ o. stage.1 i n ∙ (h.records.running i).0 (sym there ∙ o), λ r. there ∙ (h.records.running i).1 (sym (stage.1 i n) ∙ r))
@@ -109,13 +109,13 @@ module _ (world : World) (tx : ℕ) (undoing : ℕ → Bool) (h : PagesMeanHisto
   abbrev closed : World
   closed = record world { opens = set.remove world.opens tx; undoing = undoing }
 
-  others_run : (i : ℕ) → (set.contains (set.remove world.opens tx) i ≡ true) ↔ (with_entry old.stage tx Ended i ≡ Running)
+  others_run : (i : ℕ) → (set.contains (set.remove world.opens tx) i ≡ true) ↔ (table_with old.stage tx Ended i ≡ Running)
   others_run i =
       let stage = changed old.stage tx Ended in
       elim (cases_eq i tx) [
         | inl e ↦ (
           λ o. absurd (both_ways _ (removed_here world.opens tx) (ap (set.contains (set.remove world.opens tx)) (sym e) ∙ o)),
-          λ r. absurd (let f : Ended ≡ Running = sym stage.0 ∙ ap (with_entry old.stage tx Ended) (sym e) ∙ r in cc f),
+          λ r. absurd (let f : Ended ≡ Running = sym stage.0 ∙ ap (table_with old.stage tx Ended) (sym e) ∙ r in cc f),
         )
         | inr n ↦
             let there = removed_beside world.opens tx i n in
@@ -123,11 +123,11 @@ module _ (world : World) (tx : ℕ) (undoing : ℕ → Bool) (h : PagesMeanHisto
       ]
 
   -- of other transactions what is listed stays
-  still : (table : ℕ → List (ObjOp × ObjReply)) (i : ℕ) (item : ObjOp × ObjReply) → Contains (with_entry table tx [] i) item → Contains (table i) item
+  still : (table : ℕ → List (ObjOp × ObjReply)) (i : ℕ) (item : ObjOp × ObjReply) → Contains (table_with table tx [] i) item → Contains (table i) item
   still table i item there =
       let list = changed table tx [] in
       elim (cases_eq i tx) [
-        | inl e ↦ absurd (contains-nothing item (subst (λ (l : List (ObjOp × ObjReply)). Contains l item) (ap (with_entry table tx []) e ∙ list.0) there))
+        | inl e ↦ absurd (contains-nothing item (subst (λ (l : List (ObjOp × ObjReply)). Contains l item) (ap (table_with table tx []) e ∙ list.0) there))
         | inr n ↦ subst (λ (l : List (ObjOp × ObjReply)). Contains l item) (list.1 i n) there
       ]
 

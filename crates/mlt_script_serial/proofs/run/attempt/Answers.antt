@@ -1,5 +1,5 @@
 use Rattle.std.proofs.Common.{◌≡◌, Err, refl, sym, subst}
-use Rattle.mlt_object_kinds.specs.Bases.{Base, Runs, Transcript}
+use Rattle.mlt_object_kinds.specs.Bases.{Base, TranscriptLeads, Transcript}
 use Rattle.mlt_script_tree.specs.declared.statement.Ending.{Ending}
 use Rattle.mlt_script_cursor.specs.Follows.{Follows}
 use Rattle.mlt_script_serial.specs.declared.base_desk.BaseDesk.{BaseDesk}
@@ -20,7 +20,7 @@ returns-clause-run c =
     let script = c.args.script.now in
     let done = c.play.new.done.items in
     let played = plays_runs base_of script 0 c.args.desk.now done c.play.result c.play.new.desk c.play.ensures in
-    let listed : Runs c.args.desk.now.base c.as_slice.result.now c.play.new.desk.base = subst (λ (t : Transcript). Runs c.args.desk.now.base t c.play.new.desk.base) (sym c.as_slice.ensures.value) played in
+    let listed : TranscriptLeads c.args.desk.now.base c.as_slice.result.now c.play.new.desk.base = subst (λ (t : Transcript). TranscriptLeads c.args.desk.now.base t c.play.new.desk.base) (sym c.as_slice.ensures.value) played in
     let back : c.take_back.new.base ≡ c.args.desk.now.base = c.in_ok-take_back.ensures.ok c.args.desk.now.base listed in
     elim c.match-play.branch [
       | in-Ok-Abort w ↦ rw w.end-is (subst (λ (e : Ending). Follows script done e) w.in-Ok-Abort.field-0-is w.in-Ok-Abort.ensures.0, (c.play.new.desk.base, played), back, refl)

@@ -1,5 +1,5 @@
 use Rattle.std.proofs.Common.{◌≡◌, ◌+◌, ◌-◌, ◌<◌, take, length, sym, subst, ◌∙◌, arith}
-use Rattle.mlt_object_kinds.specs.Bases.{Base, Runs, Step}
+use Rattle.mlt_object_kinds.specs.Bases.{Base, TranscriptLeads, Step}
 use Rattle.mlt_script_serial.proofs.TakingBack.{before_last, leads_back, was_same}
 use Rattle.mlt_script_serial.proofs.take_back.take_back.Goals as goal
 
@@ -13,11 +13,11 @@ loop-left-preserved-in_ok-apply c =
     record {
       within = omega (arith, c.loop-left.invariant.within);
       leads = λ before runs.
-          let here = subst (λ n. Runs before (take n done) c.loop-left.base) left_is (c.loop-left.invariant.leads before runs) in
+          let here = subst (λ n. TranscriptLeads before (take n done) c.loop-left.base) left_is (c.loop-left.invariant.leads before runs) in
           let last = before_last before done at item c.loop-left.base inside here in
           let step : Step last.0 item c.loop-left.base = subst (λ x. Step last.0 x c.loop-left.base) (sym c.index-done-left.is) last.2 in
           let back = leads_back item last.0 c.loop-left.base c.apply.new.self c.in-Some.op c.in_ok-apply.field-0 step (sym c.opposite.ensures ∙ c.in-Some.is) c.in_ok-apply.ensures.step in
-          subst (λ (z : Base). Runs before (take at done) z) (sym back) last.1;
+          subst (λ (z : Base). TranscriptLeads before (take at done) z) (sym back) last.1;
     }
 
 pub loop-left-preserved : goal.loop-left-preserved
@@ -30,9 +30,9 @@ loop-left-preserved c =
     record {
       within = omega (arith, c.loop-left.invariant.within);
       leads = λ before runs.
-          let here = subst (λ n. Runs before (take n done) c.loop-left.base) left_is (c.loop-left.invariant.leads before runs) in
+          let here = subst (λ n. TranscriptLeads before (take n done) c.loop-left.base) left_is (c.loop-left.invariant.leads before runs) in
           let last = before_last before done at item c.loop-left.base inside here in
           let step : Step last.0 item c.loop-left.base = subst (λ x. Step last.0 x c.loop-left.base) (sym c.index-done-left.is) last.2 in
           let same = was_same item last.0 c.loop-left.base step (sym c.opposite.ensures ∙ c.in_default.is) in
-          subst (λ (z : Base). Runs before (take at done) z) (sym same) last.1;
+          subst (λ (z : Base). TranscriptLeads before (take at done) z) (sym same) last.1;
     }

@@ -1,12 +1,12 @@
 use Rattle.std.proofs.Common.{take, ◌≤◌, length}
-use Rattle.mlt_object_kinds.specs.Bases.{Base, Runs}
+use Rattle.mlt_object_kinds.specs.Bases.{Base, TranscriptLeads}
 use Rattle.mlt_script_serial.proofs.take_back.take_back.Given as goal
 
 -- what is left is the front of the list, and it leads to the base
 abbrev pub invariant-loop-left : goal.invariant-loop-left
 invariant-loop-left l = record {
   within : l.left ≤ length l.done;
-  leads : (before : Base) → Runs before l.done l.fn.base → Runs before (take l.left l.done) l.base;
+  leads : (before : Base) → TranscriptLeads before l.done l.fn.base → TranscriptLeads before (take l.left l.done) l.base;
 }
 
 abbrev pub decreases-loop-left : goal.decreases-loop-left

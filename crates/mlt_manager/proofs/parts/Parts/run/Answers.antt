@@ -1,6 +1,6 @@
 use Rattle.std.proofs.Common.{refl, subst, sym}
 use Rattle.mlt_manager.specs.Parts.{fields_of}
-use Rattle.mlt_manager.specs.Wholes.{GoesOn, RunsToEnd, Stops}
+use Rattle.mlt_manager.specs.Wholes.{LetsGoOn, RunsToEnd, Stops}
 use Rattle.mlt_manager.proofs.Chains.{up_to_keeps}
 use Rattle.mlt_manager.proofs.RunningOn.{not_dropped}
 use Rattle.mlt_manager.proofs.Stepping.{may_cancel}
@@ -9,13 +9,13 @@ use Rattle.mlt_manager.proofs.parts.Parts.run.Goals as goal
 pub cancel-requires : goal.cancel-requires
 cancel-requires g c = record {
   is_open = may_cancel g.P.Pseudo.bits_of (fields_of c.run_on-answer.new.self) c.args.tx
-      (up_to_keeps g.P.Pseudo.bits_of GoesOn c.args.tx Stops (fields_of c.args.self.now) (fields_of c.run_on-answer.new.self) c.run_on-answer.result c.requires.sound c.run_on-answer.ensures.steps) c.in-Waiting.ensures.pending;
+      (up_to_keeps g.P.Pseudo.bits_of LetsGoOn c.args.tx Stops (fields_of c.args.self.now) (fields_of c.run_on-answer.new.self) c.run_on-answer.result c.requires.sound c.run_on-answer.ensures.steps) c.in-Waiting.ensures.pending;
 }
 
 pub cancel-requires-in-Blocked : goal.cancel-requires-in-Blocked
 cancel-requires-in-Blocked g c = record {
   is_open = may_cancel g.P.Pseudo.bits_of (fields_of c.run_on-answer.new.self) c.args.tx
-      (up_to_keeps g.P.Pseudo.bits_of GoesOn c.args.tx Stops (fields_of c.args.self.now) (fields_of c.run_on-answer.new.self) c.run_on-answer.result c.requires.sound c.run_on-answer.ensures.steps) c.in-Blocked.ensures.pending;
+      (up_to_keeps g.P.Pseudo.bits_of LetsGoOn c.args.tx Stops (fields_of c.args.self.now) (fields_of c.run_on-answer.new.self) c.run_on-answer.result c.requires.sound c.run_on-answer.ensures.steps) c.in-Blocked.ensures.pending;
 }
 
 pub returns-in-Waiting : goal.returns-in-Waiting

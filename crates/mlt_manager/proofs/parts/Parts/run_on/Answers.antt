@@ -3,14 +3,14 @@ use Rattle.mlt_event.specs.declared.answer.Answer.{Answer}
 use Rattle.mlt_manager.specs.Answers.{HasStepped}
 use Rattle.mlt_tx.specs.Transactions.{IsPending}
 use Rattle.mlt_manager.specs.Parts.{fields_of}
-use Rattle.mlt_manager.specs.Wholes.{GoesOn}
+use Rattle.mlt_manager.specs.Wholes.{LetsGoOn}
 use Rattle.mlt_manager.proofs.Chains.{none_taken}
 use Rattle.mlt_manager.proofs.Finding.{pending_is_busy}
 use Rattle.mlt_manager.proofs.RunningOn.{fewer_on, is_small, on_by_one, on_ends, stands_in}
 use Rattle.mlt_manager.proofs.parts.Parts.run_on.Goals as goal
 
 pub loop-answer-init : goal.loop-answer-init
-loop-answer-init g c = none_taken g.P.Pseudo.bits_of GoesOn IsPending (fields_of c.args.self.now) c.args.tx c.requires.sound c.requires.pending
+loop-answer-init g c = none_taken g.P.Pseudo.bits_of LetsGoOn IsPending (fields_of c.args.self.now) c.args.tx c.requires.sound c.requires.pending
 
 pub step_open-requires-clause-busy : goal.step_open-requires-clause-busy
 step_open-requires-clause-busy g c = pending_is_busy c.loop-answer.self.txs c.args.tx c.loop-answer.invariant.is_at

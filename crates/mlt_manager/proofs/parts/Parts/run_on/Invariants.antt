@@ -1,12 +1,12 @@
 use Rattle.mlt_tx.specs.Transactions.{IsPending}
 use Rattle.mlt_manager.specs.Parts.{fields_of}
-use Rattle.mlt_manager.specs.Wholes.{GoesOn}
+use Rattle.mlt_manager.specs.Wholes.{LetsGoOn}
 use Rattle.mlt_manager.proofs.Chains.{IsUnderWay}
 use Rattle.mlt_manager.proofs.RunningOn.{on_left}
 use Rattle.mlt_manager.proofs.parts.Parts.run_on.Given as goal
 
 abbrev pub invariant-loop-answer : goal.invariant-loop-answer
-invariant-loop-answer g l = IsUnderWay g.P.Pseudo.bits_of GoesOn IsPending (fields_of l.fn.self) (fields_of l.self) l.tx
+invariant-loop-answer g l = IsUnderWay g.P.Pseudo.bits_of LetsGoOn IsPending (fields_of l.fn.self) (fields_of l.self) l.tx
 
 abbrev pub decreases-loop-answer : goal.decreases-loop-answer
 decreases-loop-answer g l = on_left (fields_of l.self) l.tx
