@@ -97,6 +97,7 @@ def the_map_of_the_crates_is_that_of_their_list(_mltx):
     crates = re.findall(r"(?m)^(\w+):", (ROOT / "crates.txt").read_text())
     same(re.findall(r"(?m)^\| \[`(\w+)`\]\(\S+\) \| \S", table), crates, "the crates with a promise")
     same(sorted(crates), sorted(folder.name for folder in (ROOT / "crates").iterdir()), "the folders of crates")
+    holds(output_of("crate-map", "--types") in text, "tools/crate-map --write was not run: the types of each crate differ")
 
 
 def linked_libraries(kit):
