@@ -10,6 +10,10 @@ from harness import ROOT, expect, holds, same, test
 LINK = re.compile(r"\]\(([^)\s]+)\)")
 # A link to a line of code: the name that is defined there, the file and the line.
 LINE_LINK = re.compile(r"\[`(?:\w+::)?(\w+)`\]\(([^)\s#]+)#L(\d+)\)")
+# A link to a name of a crate: the name, the crate, and the file in it.
+NAME_LINK = re.compile(r"\[`(\w+)`\]\(\.\./crates/(\w+)/([^)\s#]+)\)")
+# The most words of a document that is to be short.
+MOST_WORDS = {"README.md": 1_000, "docs/TEXTBOOK.md": 700}
 
 
 def pages():
@@ -69,6 +73,35 @@ def each_link_to_a_line_leads_to_what_it_names(_mltx):
             holds(re.search(rf"\bfn {name}\b", line), f"{page.relative_to(ROOT)}: line {number} of {path} is {line!r}")
     linked = [(name, path) for name, path, _ in LINE_LINK.findall((ROOT / "README.md").read_text())]
     same(linked, [("play", "crates/mlt_manager/src/manager.rt")], "the lines that README links")
+
+
+@test
+def short_documents_stay_short(_mltx):
+    """Words are counted as between blanks, also in what is shown."""
+    counts = {page: len((ROOT / page).read_text().split()) for page in MOST_WORDS}
+    holds(all(counts[page] <= most for page, most in MOST_WORDS.items()), f"{counts}, and at most {MOST_WORDS} are to be")
+
+
+def defines(text, name):
+    """Whether a file of code or of definitions defines the name."""
+    return re.search(rf"(?m)^\s*(?:(?:pub|unfoldable|abbrev|fn|trait|struct|enum|record|data)\s+)+{name}\b", text)
+
+
+@test
+def each_name_of_the_textbook_page_is_defined(_mltx):
+    """A name in code is defined in the file that it links, whose crate its row names. What else is set as code stands so in
+    FORMATS, as a word of a script, a reply, a refusal or a command."""
+    text, formats = (ROOT / "docs/TEXTBOOK.md").read_text(), (ROOT / "docs/FORMATS.md").read_text()
+    rows = [row for row in text.splitlines() if NAME_LINK.search(row)]
+    holds(len(rows) > 15, "the page has its rows")
+    for row in rows:
+        found = NAME_LINK.findall(row)
+        lost = [name for name, crate, path in found if not defines((ROOT / "crates" / crate / path).read_text(), name)]
+        same(lost, [], f"names that their files do not define, in {row}")
+        same(re.findall(r"`(mlt_\w+)`", row), list(dict.fromkeys(crate for _, crate, _ in found)), f"the crates of {row}")
+    words = [word for quoted in re.findall(r"`([^`]+)`", NAME_LINK.sub("", text)) for word in quoted.split()]
+    strange = [word for word in words if not word.isdecimal() and not re.match("mlt_", word) and not re.search(rf"\b{word}\b", formats)]
+    same(strange, [], "words that FORMATS does not have")
 
 
 @test
