@@ -3,14 +3,18 @@ end anywhere, and pipelines. All that was done stands in the server's trace, whi
 import ast
 import contextlib
 import enum
+import importlib.util
+import os
 import random
 import re
+import shutil
 import socket
 import subprocess
 import sys
 import threading
 import time
 from concurrent.futures import ThreadPoolExecutor
+from unittest import mock
 
 from harness import PATIENCE, ROOT, each, expect, holds, lines, same, test
 
@@ -33,6 +37,7 @@ from mltx import (  # noqa: E402
     Running,
     ScriptFault,
     ServerAway,
+    SessionsTaken,
     TimedOut,
     TransactionOver,
     UnexpectedAnswer,
@@ -41,7 +46,7 @@ from mltx import (  # noqa: E402
 # How long to listen for a line that must not come, in seconds.
 SILENCE = 0.2
 # Retries that do not stop before a test does.
-PATIENT = Retries(attempts=10_000, first_pause=0.001, longest_pause=0.05)
+PATIENT = Retries(attempts=10_000, first_pause=0.001, longest_pause=0.05, connects=10_000)
 
 
 def connected(server, **options):
@@ -149,9 +154,40 @@ def client_knows_the_replies_of_formats(_mltx):
     same(tried, wanted | {(word, "is") for word, form in FORMS.items() if form.tells_number}, "what is tried")
 
 
+def installed(folder):
+    """The folder of what pip installs, from a copy of the sources and without network. Where there is no pip, it is the wheel
+    itself, from which Python imports too."""
+    source, target = folder / "source", folder / "target"
+    shutil.copytree(FOLDER, source, ignore=shutil.ignore_patterns("__pycache__"))
+    build = "import build_wheel; print(build_wheel.build_wheel('..'))"
+    has_pip = importlib.util.find_spec("pip")
+    words = ["-m", "pip", "install", "--no-index", "--target", target, source] if has_pip else ["-c", build]
+    made = subprocess.run([sys.executable, "-B", *words], cwd=source, capture_output=True, text=True, timeout=PATIENCE)
+    same(made.returncode, 0, f"the installation: {made.stderr}")
+    return target if has_pip else folder / made.stdout.strip()
+
+
+@test(seconds=4)
+def client_can_be_installed(mltx):
+    """Both modules are there, away from the sources; the prompt is a command; the version is the program's."""
+    target = installed(mltx.folder)
+    env = {**os.environ, "PYTHONPATH": str(target), "PYTHONDONTWRITEBYTECODE": "1"}
+    code = "import importlib.metadata as told, mltx; print(mltx.__file__, told.version('mltx-client'))"
+    found = subprocess.run([sys.executable, "-c", code], cwd=mltx.folder, capture_output=True, text=True, env=env)
+    version = mltx.run("--version").out.decode().split()[1]
+    same(found.stdout, f"{target}/mltx.py {version}\n", f"the module and its version: {found.stderr}")
+    command = [target / "bin/mltx-shell"] if target.is_dir() else [sys.executable, "-m", "mltx_shell"]
+    with mltx.serve(limit=2) as server:
+        connected(server).close()
+        words = [*command, "%s:%d" % server.address]
+        given = "begin\nup 7 1\ncommit\n"
+        ran = subprocess.run(words, input=given, capture_output=True, text=True, env=env, timeout=PATIENCE)
+        same((ran.returncode, ran.stdout, ran.stderr), (0, "begun 1\ndone\ncommitted 1\n", ""), "the command")
+
+
 @test
 def client_is_python_3_9(_mltx):
-    for file in ("mltx.py", "mltx_shell.py"):
+    for file in ("mltx.py", "mltx_shell.py", "build_wheel.py"):
         ast.parse((FOLDER / file).read_text(), feature_version=(3, 9))
 
 
@@ -187,6 +223,7 @@ def numbers_out_of_range_are_not_sent(mltx):
     for address in (("127.0.0.1", 0), ("127.0.0.1", 65_536)):
         raised(ValueError, lambda address=address: Client(*address))
     raised(ValueError, lambda: Retries(attempts=0))
+    raised(ValueError, lambda: Retries(connects=0))
 
 
 @test
@@ -462,6 +499,47 @@ def server_that_is_not_there(mltx):
         raised(ServerAway, lambda: Client(*server.address, retries=few).run(lambda tx: 1 // 0))
     with mltx.serve() as server, Client(*server.address, retries=PATIENT) as client:
         same(client.run(lambda tx: tx.read(7)), 0, "a client that comes before the server")
+
+
+@test
+def server_that_is_not_there_is_tried_a_few_times(_mltx):
+    """So is a host without an address. Each other failure begins a new row of tries."""
+    quick, away = Retries(first_pause=0.001), ConnectionRefusedError("nobody listens")
+    with socket.create_server(("127.0.0.1", 0)) as listener:
+        ended = socket.create_connection(listener.getsockname())
+        listener.accept()[0].close()
+    for turns in ([away] * 20, [socket.gaierror("no such host")] * 20, [away, away, ended, away, away, away, away]):
+        with mock.patch.object(socket, "create_connection", side_effect=turns) as tried:
+            raised(ServerAway, lambda: Client("127.0.0.1", 9, retries=quick).run(lambda tx: 1 // 0))
+        same(tried.call_count, 6 if ended in turns else 3, f"the tries at {turns}")
+
+
+@test(seconds=1)
+def sessions_that_are_all_taken(mltx):
+    """A client beyond them is told so in time, also by `run`, and is served once another one has left."""
+    with mltx.serve("--sessions", 1, limit=6) as server, connected(server) as holder:
+        holder.run(lambda tx: tx.up(7, 1))
+        with Client(*server.address, session_timeout=SILENCE) as client:
+            said = str(raised(SessionsTaken, client.begin))
+            holds(said.startswith("all sessions of the server are taken, or it has stopped"), said)
+            few = Retries(first_pause=0.001, connects=2)
+            raised(SessionsTaken, lambda: client.run(lambda tx: 1 // 0, retries=few))
+        with Client(*server.address, session_timeout=None, answer_timeout=SILENCE) as client:
+            raised(SessionsTaken, client.begin)
+        holder.close()
+        with Client(*server.address, session_timeout=None) as client:
+            same(client.run(lambda tx: tx.read(7)), 1, "the counter")
+        expect(server.end(), out="served 6\n")
+
+
+@test(seconds=3)
+def first_answer_alone_has_its_timeout(mltx):
+    """An operation that waits behind the first answer waits on, for longer than that one may."""
+    with mltx.serve(limit=2) as server, connected(server) as holder, holder.begin() as held:
+        held.up(7, 1)
+        with Client(*server.address, session_timeout=2) as client, client.begin() as tx:
+            threading.Timer(3, held.commit).start()
+            same(tx.read(7), 1, "what it is told once the other one has committed")
 
 
 @test

@@ -1,5 +1,7 @@
 """The prompt in Python: what it writes of each line, the first line that fails, files of lines, servers that go away,
 and its use at a terminal."""
+import contextlib
+import io
 import os
 import pty
 import re
@@ -10,8 +12,11 @@ import sys
 import time
 from contextlib import contextmanager
 
-from client import FOLDER, Relay, connected, shown_in
+from client import FOLDER, SILENCE, Relay, connected, shown_in
 from harness import PATIENCE, Failed, Ran, each, expect, free_address, holds, lines, same, test
+
+import mltx_shell
+from mltx import Client
 
 # A process that uses no time for so long waits, in seconds.
 QUIET = 0.1
@@ -176,6 +181,45 @@ def servers_that_go_away_from_a_prompt(mltx):
             ran = typed(relay.address, "begin\nup 7 1\ncommit\n")
             expect(ran, status=1, out=lines(out), err=lines(err), what=f"{cut}")
         expect(server.end(), out="served 2\n")
+
+
+@test(seconds=1)
+def prompt_beyond_the_sessions(mltx):
+    """`status` and `begin` say that all sessions are taken, and go on once one is free."""
+    with mltx.serve("--sessions", 1, limit=4) as server, connected(server) as holder:
+        holder.run(lambda tx: tx.up(7, 1))
+        shell = mltx_shell.Shell(Client(*server.address, session_timeout=SILENCE))
+        for line in ("status", "begin"):
+            with contextlib.redirect_stderr(io.StringIO()) as said:
+                shell.onecmd(line)
+            holds(said.getvalue().startswith("all sessions of the server are taken"), f"{line}: {said.getvalue()!r}")
+            same(shell.failed, True, f"{line} fails")
+        holder.close()
+        shell.client.session_timeout = None
+        with contextlib.redirect_stdout(io.StringIO()) as said:
+            for line in ("status", "begin", "read 7", "status", "quit"):
+                shell.onecmd(line)
+        told = "connected; no transaction is open|begun 3|is 1|connected; transaction 3 is open|transaction 3 is taken back"
+        same(said.getvalue(), lines(told), "what it says once a session is free")
+        expect(server.end(), out="served 4\n")
+
+
+@test
+def prompt_that_nobody_reads(mltx):
+    """Its output is a pipe whose other end is closed, as behind `| head`: it ends without a word, and commits nothing more."""
+    trace = mltx.folder / "trace"
+    # Without a buffer nothing would be left to be written at its end.
+    env = {name: value for name, value in os.environ.items() if name != "PYTHONUNBUFFERED"}
+    with mltx.serve("--trace", trace, limit=2) as server:
+        connected(server).close()
+        read, write = os.pipe()
+        os.close(read)
+        how = {"stdout": write, "stderr": subprocess.PIPE, "env": env, "timeout": PATIENCE}
+        ran = subprocess.run([*SHELL, "%s:%d" % server.address], input=b"begin\nup 7 1\ncommit\n", **how)
+        os.close(write)
+        same((ran.returncode, ran.stderr), (1, b""), "the status, and what is said")
+        expect(server.end(), out="served 2\n")
+    same(trace.read_text(), lines("begin 1|abort 1"), "the trace")
 
 
 @test

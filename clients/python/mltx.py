@@ -31,7 +31,8 @@ from typing import Any, Generic, Optional, TypeVar
 __all__ = [
     *("connect", "parse_address", "Client", "Retries", "Session", "Transaction"),
     *("Operation", "Form", "FORMS", "Argument", "Reply"),
-    *("MltxError", "ConnectionLost", "ServerAway", "TimedOut", "CommitUnknown", "TransactionOver", "UnexpectedAnswer"),
+    *("MltxError", "ConnectionLost", "ServerAway", "TimedOut", "SessionsTaken", "CommitUnknown", "TransactionOver"),
+    "UnexpectedAnswer",
     *("Refused", "OutOfMemory", "NoRoom", "NoSuchTx", "Running", "TooManyOpen", "LogFull", "IdsSpent", "ScriptFault"),
     "GaveUp",
 ]
@@ -144,6 +145,11 @@ class ServerAway(ConnectionLost):
 class TimedOut(ConnectionLost):
     """No answer came in time. The client has closed the connection, so the server takes the transaction back. Where an
     operation still waits there, that is once its wait has ended."""
+
+
+class SessionsTaken(TimedOut):
+    """The first line of a connection got no answer in time, and the client has closed the connection. A server that
+    holds as many sessions as it may (`--sessions`) lets a client connect, and hears it once a session has ended."""
 
 
 class CommitUnknown(MltxError):
@@ -372,17 +378,27 @@ class Session:
     that of a later line."""
 
     def __init__(
-        self, host: str, port: int, connect_timeout: Optional[float] = None, answer_timeout: Optional[float] = None
+        self,
+        host: str,
+        port: int,
+        connect_timeout: Optional[float] = None,
+        answer_timeout: Optional[float] = None,
+        session_timeout: Optional[float] = None,
     ) -> None:
-        """Connects. Raises `ServerAway` where that fails, or takes longer than `connect_timeout` seconds."""
+        """Connects. Raises `ServerAway` where that fails, or takes longer than `connect_timeout` seconds. The first
+        answer is waited for `session_timeout` seconds, and each other one `answer_timeout`; None is for ever."""
         try:
             self._socket = socket.create_connection((host, port), connect_timeout)
         except OSError as fault:
             raise ServerAway(f"no server answers at {host}:{port} ({fault})") from fault
         self._socket.setsockopt(socket.IPPROTO_TCP, socket.TCP_NODELAY, 1)
-        self._socket.settimeout(answer_timeout)
         self._answers = self._socket.makefile("rb")
-        self._timeout = answer_timeout
+        # Whether an answer came: then it is one of the sessions that the server holds.
+        self.is_held = False
+        self._answer_timeout = answer_timeout
+        # How long the next answer is waited for.
+        self._timeout = _shorter(answer_timeout, session_timeout)
+        self._socket.settimeout(self._timeout)
         self.bytes_left = MOST_SESSION_BYTES
         self.is_open = True
 
@@ -425,6 +441,9 @@ class Session:
             answer = self._answers.readline(MOST_ANSWER_BYTES)
             if not answer.endswith(b"\n"):
                 raise ConnectionLost("the server ended the connection")
+            if not self.is_held:
+                self.is_held, self._timeout = True, self._answer_timeout
+                self._socket.settimeout(self._timeout)
             return answer[:-1].decode("ascii", "replace")
 
     def ask(self, *lines: str) -> list[str]:
@@ -435,6 +454,12 @@ class Session:
             self.send(*part)
             answers += [self.receive() for _ in part]
         return answers
+
+    def wait_until_held(self) -> None:
+        """Returns once the server holds the session, which a line shows that does nothing where no transaction is open.
+        Raises `SessionsTaken`, and what `ask` raises."""
+        if not self.is_held:
+            self.ask("abort")
 
     @contextmanager
     def understood(self) -> Iterator[None]:
@@ -451,13 +476,27 @@ class Session:
             yield
         except socket.timeout as fault:
             self.close()
-            raise TimedOut(f"no answer came within {self._timeout} seconds, and the connection was closed") from fault
+            raise self._too_late() from fault
         except OSError as fault:
             self.close()
             raise ConnectionLost(f"the connection ended ({fault})") from fault
         except BaseException:
             self.close()
             raise
+
+    def _too_late(self) -> TimedOut:
+        """What to raise where no answer came in time."""
+        if self.is_held:
+            return TimedOut(f"no answer came within {self._timeout} seconds, and the connection was closed")
+        return SessionsTaken(
+            f"all sessions of the server are taken, or it has stopped: it connected, and did not answer within {self._timeout}"
+            " seconds"
+        )
+
+
+def _shorter(first: Optional[float], second: Optional[float]) -> Optional[float]:
+    """The shorter of two timeouts, of which None is for ever."""
+    return min((timeout for timeout in (first, second) if timeout is not None), default=None)
 
 
 # Transactions
@@ -622,15 +661,19 @@ class Retries:
     """How often a transaction is tried, at most, and how long `Client.run` pauses in between, in seconds.
 
     The pause before try n + 1 is drawn from 0 up to `first_pause * 2**(n - 1)`, or up to `longest_pause` where that is
-    less. So clients that were in each other's way come back at different times."""
+    less. So clients that were in each other's way come back at different times.
+
+    A server that is away, or whose sessions are all taken, is tried no more than `connects` times in a row."""
 
     attempts: int = 20
     first_pause: float = 0.01
     longest_pause: float = 1.0
+    connects: int = 3
 
     def __post_init__(self) -> None:
-        if self.attempts < 1:
-            raise ValueError(f"attempts has to be at least 1, and is {self.attempts}")
+        for name, count in (("attempts", self.attempts), ("connects", self.connects)):
+            if count < 1:
+                raise ValueError(f"{name} has to be at least 1, and is {count}")
 
     def pauses(self) -> Iterator[float]:
         """The pauses between the tries, one fewer than these."""
@@ -652,16 +695,19 @@ class Client:
         *,
         connect_timeout: Optional[float] = 5.0,
         answer_timeout: Optional[float] = None,
+        session_timeout: Optional[float] = 5.0,
         retries: Retries = Retries(),
     ) -> None:
-        """`connect_timeout` and `answer_timeout` are in seconds, and None waits for ever. An operation may wait as long
-        as another transaction stays open, and a `begin` as long as the server holds as many sessions as it may."""
+        """The timeouts are in seconds, and None waits for ever. `session_timeout` is for the first answer on a connection,
+        which comes as soon as the server holds the session, and `answer_timeout` for the others: an operation may wait as
+        long as another transaction stays open."""
         if not 1 <= port <= 65_535:
             raise ValueError(f"port has to be 1 to 65535, and is {port}")
         self.host = host
         self.port = port
         self.connect_timeout = connect_timeout
         self.answer_timeout = answer_timeout
+        self.session_timeout = session_timeout
         self.retries = retries
         self._session: Optional[Session] = None
         # The transaction that was begun last.
@@ -683,7 +729,9 @@ class Client:
         """The connection: the one that is there, or a new one where that has ended. Raises `ServerAway`."""
         if self._session is None or self._session.has_ended():
             self.close()
-            self._session = Session(self.host, self.port, self.connect_timeout, self.answer_timeout)
+            self._session = Session(
+                self.host, self.port, self.connect_timeout, self.answer_timeout, self.session_timeout
+            )
         return self._session
 
     def begin(self) -> Transaction:
@@ -708,7 +756,8 @@ class Client:
         """Runs a function in a transaction, commits, and answers what the function answered.
 
         After `GaveUp` or `ConnectionLost` nothing of it is left, and it is run again in a new transaction, up to
-        `retries.attempts` times in all; then the last one of these is raised. So the function may be called several
+        `retries.attempts` times in all; then the last one of these is raised. It is raised earlier where no session could
+        be had `retries.connects` times in a row (`ServerAway`, `SessionsTaken`). So the function may be called several
         times, and should do nothing else that lasts. It may call `abort`, which is no failure; its answer is then
         answered.
 
@@ -717,16 +766,18 @@ class Client:
 
             total = client.run(lambda tx: tx.balance(1) + tx.balance(2))
         """
-        pauses = (retries or self.retries).pauses()
+        retries = retries or self.retries
+        pauses, in_vain = retries.pauses(), 0
         while True:
             tx = None
             try:
                 tx = self.begin()
                 with tx:
                     return function(tx)
-            except (GaveUp, ConnectionLost):
+            except (GaveUp, ConnectionLost) as failure:
+                in_vain = in_vain + 1 if isinstance(failure, (ServerAway, SessionsTaken)) else 0
                 pause = next(pauses, None)
-                if pause is None or (tx is not None and tx.commit_number is not None):
+                if pause is None or in_vain == retries.connects or (tx is not None and tx.commit_number is not None):
                     raise
             time.sleep(pause)
 
@@ -737,6 +788,7 @@ def connect(
     *,
     connect_timeout: Optional[float] = 5.0,
     answer_timeout: Optional[float] = None,
+    session_timeout: Optional[float] = 5.0,
     retries: Retries = Retries(),
 ) -> Client:
     """A client that has connected, with these options of `Client`. Raises `ServerAway`.
@@ -744,7 +796,14 @@ def connect(
         with mltx.connect("127.0.0.1", 7000, connect_timeout=2.0) as client:
             ...
     """
-    client = Client(host, port, connect_timeout=connect_timeout, answer_timeout=answer_timeout, retries=retries)
+    client = Client(
+        host,
+        port,
+        connect_timeout=connect_timeout,
+        answer_timeout=answer_timeout,
+        session_timeout=session_timeout,
+        retries=retries,
+    )
     client.session()
     return client
 

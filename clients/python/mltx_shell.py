@@ -167,6 +167,7 @@ class Shell(cmd.Cmd):
         if session.has_ended():
             session.close()
             raise ConnectionLost("the connection has ended")
+        session.wait_until_held()
         if self.tx:
             self.say(f"connected; transaction {self.tx.number} is open")
         else:
@@ -342,6 +343,23 @@ def run_input(shell: Shell) -> int:
     return 1 if shell.failed else 0
 
 
+def run_shell(shell: Shell) -> int:
+    """Reads lines at a terminal, or else from standard input. Answers the status."""
+    if not sys.stdin.isatty():
+        return run_input(shell)
+    if readline:
+        keep_history()
+    shell.interact()
+    return 0
+
+
+def leave_output() -> None:
+    """Has what is still to be written go nowhere, once nobody reads it: else Python complains as it ends."""
+    nowhere = os.open(os.devnull, os.O_WRONLY)
+    for stream in (sys.stdout, sys.stderr):
+        os.dup2(nowhere, stream.fileno())
+
+
 def main() -> int:
     parser = argparse.ArgumentParser(description="A prompt for a server that `mltx serve` runs.")
     parser.add_argument("address", metavar="HOST:PORT", help="where the server listens, as 127.0.0.1:7000")
@@ -349,14 +367,12 @@ def main() -> int:
         host, port = parse_address(parser.parse_args().address)
     except ValueError as fault:
         parser.error(str(fault))
-    with Client(host, port) as client:
-        shell = Shell(client)
-        if not sys.stdin.isatty():
-            return run_input(shell)
-        if readline:
-            keep_history()
-        shell.interact()
-    return 0
+    try:
+        with Client(host, port) as client:
+            return run_shell(Shell(client))
+    except BrokenPipeError:
+        leave_output()
+        return 1
 
 
 if __name__ == "__main__":
