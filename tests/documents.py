@@ -47,6 +47,18 @@ def block_after(text, words):
     return re.sub("(?m)^    ", "", found[1]) + "\n"
 
 
+def columns_after(text, words):
+    """The two columns of such a block: the lines that go in, and those that come out."""
+    rows = [re.split(" {2,}", line) for line in block_after(text, words).splitlines()]
+    left, right = ["".join(f"{row[at]}\n" for row in rows if row[at:] and row[at]) for at in (0, 1)]
+    return left, right
+
+
+def without_comments(path):
+    """The lines of a file but comments and blank ones."""
+    return "".join(line for line in path.read_text().splitlines(keepends=True) if line.strip() and not line.startswith("#"))
+
+
 @test
 def each_link_leads_to_a_file_and_a_heading(_mltx):
     """A file that moved or a heading that was renamed fails."""
@@ -262,26 +274,42 @@ def each_view_that_counts_is_linked(_mltx):
     same(sorted(linked), sorted(typed), "the files of views")
 
 
+def shown_by_readme(subcommand):
+    """What README shows of a subcommand: its words, those that name an example as a path, and both columns."""
+    readme = (ROOT / "README.md").read_text()
+    words = re.search(rf"as `\./mltx\s+({subcommand}\s[^`]*)`", readme)[1].split()
+    return [ROOT / word if word.startswith("examples/") else word for word in words], *columns_after(readme, f"**`{subcommand}`**")
+
+
 @test
 def readme_shows_what_is_written(mltx):
-    """Of `solo` a script of the example and all that it writes, of `steps` a part, of `run` and `check` the last line."""
-    readme, examples = (ROOT / "README.md").read_text(), ROOT / "examples"
-    holds(block_after(readme, "one of `examples/transfer.txt`") in (examples / "transfer.txt").read_text(), "no such script")
-    expect(mltx.run("solo", examples / "transfer.txt"), out=block_after(readme, "solo examples/transfer.txt` writes"))
-    told = mltx.run("steps", examples / "block-by-reply.txt").out.decode()
-    holds("\n" + block_after(readme, "`./mltx steps examples/block-by-reply.txt`") in told, told)
-    last = re.search(in_text("The last line is") + r"\s+`(.*?)`", readme)[1]
-    for command in block_after(readme, "**`run`** runs scripts").splitlines():
-        ran = mltx.run(*[ROOT / word if word.startswith("examples/") else word for word in command.split()[1:]])
-        same((ran.status, ran.out.decode().splitlines()[-1], ran.err), (0, last, b""), command)
+    """Of `solo` and `steps` a whole example with all that it writes; of `run` too, as one worker runs it, and with the trace that
+    `check` then checks. By more workers the counter is the same."""
+    for subcommand in ("solo", "steps", "run"):
+        words, given, wanted = shown_by_readme(subcommand)
+        same(without_comments(words[1]), given, f"the example of {subcommand}")
+        expect(mltx.run(*words, *["--workers", 1][: 2 * (subcommand == "run")]), out=wanted, what=subcommand)
+    trace, given, wanted = shown_by_readme("check")
+    same((mltx.folder / trace[1]).read_text(), given, "the trace")
+    expect(mltx.run(*trace), out=wanted, what="check")
+    ran = mltx.run(*words)
+    same((ran.status, ran.out.decode().splitlines()[-1], ran.err), (0, "counter 7 7", b""), "more workers")
 
 
 @test
 def readme_shows_a_session(mltx):
-    """Lines and answers in turns, over a connection of a server whose only option is its address."""
-    shown = block_after((ROOT / "README.md").read_text(), "**`serve`** is a server").splitlines()
+    """Lines and answers, over a connection of a server whose only option is its address."""
+    left, right = columns_after((ROOT / "README.md").read_text(), "**`serve`** is a server")
     with mltx.serve(limit=None) as server, server.connect() as peer:
-        same([peer.ask(line) for line in shown[::2]], shown[1::2], "the answers")
+        same([peer.ask(line) for line in left.splitlines()], right.splitlines(), "the answers")
+
+
+@test
+def readme_lists_the_operations(_mltx):
+    """They are those of the table of scripts in FORMATS."""
+    listed = re.search(r"(?s)Operations are (.*?)\. ", (ROOT / "README.md").read_text())[1]
+    table = (ROOT / "docs/FORMATS.md").read_text().partition("| OP | On | Asks for |")[2].partition("\n\n")[0]
+    same(re.findall(r"`(\w+)`", listed), re.findall(r"(?m)^\| `(\w+) ", table), "the operations")
 
 
 @test

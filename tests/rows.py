@@ -369,6 +369,7 @@ def shown_examples():
 
 # How each example is run whose output the examples' page shows.
 EXAMPLES = {
+    "two-clients.txt": ("run", "--workers", "1"),
     "side-by-side.txt": ("run", "--workers", "1"),
     "wait-for-a-page.txt": ("steps",),
     "block-by-reply.txt": ("steps",),
