@@ -194,7 +194,7 @@ def the_rooms_are_those_of_the_list(_mltx):
         room = found[1] if (found := re.match(r"# (\w+): ", line)) else room
         if crate := re.match(r"\w+(?=:)", line):
             known.setdefault(room, []).append(crate[0])
-    text = (ROOT / "docs/ARCHITECTURE.md").read_text().partition("## The rooms\n")[2].partition("\n## ")[0]
+    text = (ROOT / "docs/ARCHITECTURE.md").read_text().partition("## The rooms\n")[2].partition("\n**Which crate")[0]
     same(re.findall(r"(?m)^\| `(\w+)` \| \S", text), list(known), "the rooms with a promise")
     for room, crates in known.items():
         strange = [crate for crate in crates if not f"{crate}_".startswith((f"mlt_{room}_", "mltx_"))]
