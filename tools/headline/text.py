@@ -28,7 +28,8 @@ says what one has to trust. `tools/headline-lines --write` writes this page: to 
 PHRASES: list[tuple[str, str]] = [
     ("After any list of page steps, commits and aborts by any number of transactions,",
      "the argument `events` of `play`: any list of [[Event]]s"),
-    ("the committed transactions,", "field `committed` of the [[Transcripts]] that the history tells of"),
+    ("the committed transactions,",
+     "field `committed` of the [[Transcripts]] that the history tells of; by field `none_back`, all that these transactions did"),
     ("run alone in commit order", "field `alone` of [[KeepsMainPromise]]: [[IsSerialBase]]"),
     ("from the empty base,", "[[empty_base]], in field `alone`"),
     ("give exactly the replies", "[[Step]], in field `alone`: it leads on with the reply that is told, and with no other"),
@@ -38,7 +39,7 @@ PHRASES: list[tuple[str, str]] = [
     ("read through both maps,", "[[PagesMean]]: from pages to records by [[IsRecordOf]], and from records to a base by [[HoldsIn]]"),
     ("once the pages of running subtransactions are put back", "field `put_back` of [[KeepsMainPromise]]: [[HasCleanPages]]"),
     ("and the operations of open transactions are taken back.",
-     "field `taken_back` of [[KeepsMainPromise]]: [[UndoneTo]], in every order"),
+     "field `taken_back` of [[KeepsMainPromise]]: [[UndoneTo]], from `base` to `state` in every order"),
 ]
 
 # How the definitions are to be read: what is written, and what it says.
@@ -46,8 +47,10 @@ NOTATION: list[tuple[str, str]] = [
     ("`name : A → B → C`, then `name a b = …`",
      "a function of an `A` and a `B` to a `C`; of several lines the first one that fits counts, and `_` fits all"),
     ("`… → Type 0`", "what it gives is a statement, or a kind of values"),
-    ("`(x : A) → P`", "for each `x` of `A`, `P`"),
+    ("`(x : A) → P`", "for each `x` of `A`, `P`; of several in a row, as `(x : A) (y : B) → P`, for each of both"),
     ("`(x : A) × P`", "there is an `x` of `A` with `P`"),
+    ("`f x`, `f`", "what the function `f` gives for `x`; without an `x`, or with fewer than it wants, the function itself"),
+    ("`xs ++ y ∷ ys`", "`xs ++ (y ∷ ys)`: what stands on the right of a sign goes together"),
     ("`P → Q`, `P × Q`, `P → ⊥`", "of statements: if `P`, then `Q`; `P` and `Q`; not `P`"),
     ("`⊥`, `Unit {0}`",
      "the statement that is false, and the one that is true. Of values, `Unit {0}` is a kind with only one: a map to it is a "
@@ -57,8 +60,10 @@ NOTATION: list[tuple[str, str]] = [
      "a value with named fields. Where a field is a statement, it holds of the fields before it: so the record says that there "
      "are such values. `record { f = v; }` is one, and `record r { f = v; }` is `r` with another `f`"),
     ("`data`, `enum`",
-     "one of several cases. A case is written alone, as `Call`, or behind a short name of its type, as `event.Call`; one of "
-     "`TraceItem` as `trace.Begin` or `item.Begin`"),
+     "one of several cases, a line each: its name, and the values that it has. A case is written alone, as `Call`, or behind a "
+     "short name of its type, as `event.Call`; one of `TraceItem` as `trace.Begin`"),
+    ("`ensures name { P }`", "of a call: `P` holds when it returns. A clause may have no name"),
+    ("`self.now`", "the value of what `self`, or any other reference, leads to"),
     ("`{X : Type 0}`", "for any kind `X` of values. A call leaves it out"),
     ("`λ x. e`, `let x = e in d`", "the function that gives `e` for `x`; `d`, where `x` is `e`"),
     ("`b'`, `Account`",
@@ -74,16 +79,24 @@ LIBRARY_SAID = "What the library has, as lists and finite maps, is told [at the 
 
 CONTRACT = """`result` is what the call answers, and each `ensures` is a clause that is proved of it. `played.0` is the
 manager, `played.1.items` the list of what the events were told, and `events.now` the list of events. `P` is any type of
-functions from keys to pseudokeys, of which hash files are made, and `P.bits_of` says which function. The sentence is the
-clause `plays`. The clause `whole` says more than the sentence: among whole events nobody waits. The clause `refusal` says
-that the only failure is one of memory."""
+functions from keys to pseudokeys: numbers whose bits lead a key to its bucket. `P.bits_of` says which function. The sentence is
+the clause `plays`. The clause `whole` says more than the sentence: among whole events nobody waits. The clause `refusal` says
+that the only failure is one of memory. Then nothing is promised."""
 
 READING: list[Part] = [
     Part("The run and its promises",
          """The sentence has two halves. One is about the history: it is what the events were told. It is the field `told` of the
-         first record. The other is about the manager to which the run leads: it keeps the main promise, the field `main` of the
-         second record, and all that the sentence says of pages and of commit order is there. The other fields of the two say
-         more, and [their names](#names-that-are-not-shown) are not followed here.""", [
+         first record. The other is about the last manager, to which the run leads: it keeps the main promise, the field `main` of
+         the second record, and all that the sentence says of pages and of commit order is there. Of a manager `m` it reads
+         three things: `m.commons.history.items`, the items of its history, `m.commons.pages.store.pages`, the pages of its
+         store, and `m.txs`, the open transactions with their first images. Each can be read by a call, which is shown
+         [at the end](#what-is-seen-of-a-manager).
+
+         The other fields of the two records say more, and [their names](#names-that-are-not-shown) are not followed here. One of
+         them matters to a reader who thinks of time: by `run` each event was told what it was told by the manager to which the
+         events before it had led, whatever came later. And the manager between any two events keeps the same promises: that is
+         the contract of `Manager::keeps_its_promises`. One more thing is no part of the sentence: that anything gets done. A manager that refused each event would keep it. What else is not said, as that
+         anything outlives the process, [THEOREM](THEOREM.md#what-it-does-not-say) tells.""", [
              Block("A run from a new manager", "mlt_manager/specs/Events.antt"),
              Block("The promises", "mlt_manager/specs/Promises.antt"),
              Block("The main promise", "mlt_manager/specs/Headline.antt", "KeepsMainPromise"),
@@ -92,21 +105,26 @@ READING: list[Part] = [
          """First the field `told`. The history is read off the events and what they were told: it has an operation exactly where
          some event was told `done`, with that reply. Which operation that was, a table of those that were called says. Of an
          abort that is one event, how many operations it took back is not told here: the field `run` says that it is all that
-         stood. The `Done` of an item is the pair of an operation and its reply.""", [
-             Block("The history that was told", "mlt_manager/specs/Tolds.antt", "AreToldBy AddsItems"),
-             Block("Operations that were called", "mlt_manager/specs/Tolds.antt", "CalledOps none_called called_after"),
-             Block("A changed table", "mlt_order/specs/Tables.antt"),
-             Block("Items of a history", "mlt_trace/src/item.rt"),
+         stood. A whole operation that would wait or is blocked is dropped, so none is pending behind it. The `Done` of an item is
+         the pair of an operation and its reply.""", [
              Block("Events", "mlt_event/src/event.rt"),
              Block("What an event is told", "mlt_event/src/told.rt"),
              Block("Answers to steps", "mlt_event/src/answer.rt"),
+             Block("Items of a history", "mlt_trace/src/item.rt"),
+             Block("The history that was told", "mlt_manager/specs/Tolds.antt", "AreToldBy AddsItems"),
+             Block("Operations that were called", "mlt_manager/specs/Tolds.antt", "CalledOps none_called called_after"),
+             Block("A changed table", "mlt_order/specs/Tables.antt"),
          ]),
     Part("Commit order",
-         """Now the fields `alone` and `taken_back`. The history tells of transcripts, item by item. [[IsSerialBase]] and
-         [[UndoneTo]] know nothing of pages, of locks or of what an operation is: `S` is any kind of states, `P` any kind of
-         items, and `step` says which item leads from which state to which. In the promise, states are bases and items are
-         operations with their replies. A history is finite, so open transactions always have an interleaving: all of one, and
-         then all of the next.""", [
+         """Now the fields `none_back`, `alone` and `taken_back`. The history tells of transcripts, item by item. By `none_back`, one
+         that committed has all that the transaction was told. [[IsSerialBase]] and [[UndoneTo]] know nothing of pages, of locks
+         or of what an operation is: `S` is any kind of states, `P` any kind of items, and `step` says which item leads from which
+         state to which. In the promise, states are bases and items are operations with their replies.
+
+         [[UndoneTo]] leads forward, from the base to the state. A step and the base behind it leave one base that can stand
+         before it. So whoever goes back from the state, operation by operation, comes to that base: it is what is left when the
+         open transactions are taken back. A history is finite, so they always have an interleaving: all of one, and then all of
+         the next.""", [
              Block("What a history tells of", "mlt_manager/specs/Headline.antt", "Transcripts transcripts_of after_item"),
              Block("A list without its last item", "mlt_order/specs/Histories.antt"),
              Block("Runs", "mlt_order/specs/Runs.antt", "IsSerialBase Runs"),
@@ -127,8 +145,8 @@ READING: list[Part] = [
     Part("Operations and their tables",
          """Each kind has a table: in which states an operation is told which reply, and which state that leaves. The state of an
          account is its balance, if it is there; that of an element, whether it is in its set; that of a counter, its value.
-         In each state an operation has at most one reply. So if a run goes through with the replies that were told, it goes
-         through with no others.""", [
+         By [[Step]] an operation has at most one reply in each base; of a size it is [[TellsSize]] that fixes it. So if a run goes
+         through with the replies that were told, it goes through with no others.""", [
              Block("Operations and replies", "mlt_object_kinds/src/operation.rt"),
              Block("Operations on accounts", "mlt_object_kinds/src/account.rt"),
              Block("The table of accounts", "mlt_object_kinds/specs/Accounts.antt"),
@@ -139,8 +157,10 @@ READING: list[Part] = [
          ]),
     Part("What the pages mean",
          """Now the field `means`. A page is the header, a page of the directory, or a bucket, and a bucket has slots. A live slot
-         is a record: a key with a value. Each cell has a key of its own, and what the base holds in the cell is what the record
-         of that key says. No header and no directory is read for that, and nothing is said of a key that is that of no cell.""", [
+         is a record: a key with a value. A ghost is none: it keeps room for a record that may come back. Each cell has a key of
+         its own, and what the base holds in the cell is what the record of that key says. In the definitions numbers have no
+         limit, so there are cells that the program can't have; no two that it can have share a key. No header and no directory
+         is read here: that a look-up finds just these records is the field `file`.""", [
              Block("The base of the pages", "mlt_manager/specs/Headline.antt", "PagesMean HoldsIn IsRecordOf HasLiveSlot"),
              Block("Keys of cells", "mlt_types/specs/Cells.antt"),
              Block("Pages", "mlt_page/src/page.rt"),
@@ -148,9 +168,10 @@ READING: list[Part] = [
              Block("Slots", "mlt_page/src/slot.rt"),
          ]),
     Part("First images and clean pages",
-         """Which pages are read so? The clean ones, by the field `put_back`: those of the store, but for what running
-         subtransactions have written. Before one first writes a page, it keeps the page as it was, the first image; of a page
-         that it makes, it keeps that there was none.""", [
+         """Which pages are read so? The clean ones, by the field `put_back`. A *subtransaction* is what one operation, or what takes
+         one back, does to pages, a page a step; it is running from its first step up to its end. Before it first writes a page,
+         it keeps the page as it was, the first image. Of a page that it makes, it keeps that there was none. With its end it
+         drops them: a transaction that runs nothing keeps no image, by the field `locks`.""", [
              Block("Clean pages of a manager", "mlt_manager/specs/Bases.antt"),
              Block("Who keeps a first image", "mlt_tx_open/specs/Tables.antt", "KeepsImage KeepsNoImage Table"),
              Block("A first image", "mlt_page_subtx/specs/Images.antt"),
@@ -159,21 +180,20 @@ READING: list[Part] = [
 
 VIEWS: list[Part] = [
     Part("What is seen of a manager",
-         """The definitions speak of values, and the memory of a program is none. So each type has a *view*, the value that its
-         memory stands for, and in a contract the type is that value. The sentence reads three things of a manager `m`: the
-         items of its history, the pages of its store, and the first images that its open transactions keep. Each can be read
-         by a call, and the contract of the call is what the view means: whatever the memory looks like, the call answers just
-         that.""", [
+         """The definitions speak of values, and a program has memory. What value some memory stands for is its *view*, and
+         contracts speak of that. Of a manager the sentence reads the items of its history, the pages of its store, and the first
+         images that its open transactions keep. Each can be read by a call, and the contract of the call says what is seen:
+         whatever the memory looks like, the call answers just that.""", [
              Block("The three things", "mlt_manager/src/manager.rt"),
              Block("A page of the store", "mlt_page_store/src/store.rt"),
              Block("An item of the history", "mlt_trace/src/kept.rt"),
              Block("An operation with its reply", "mlt_object_kinds/src/done.rt"),
          ]),
     Part("What is seen of a bucket and of numbers",
-         """Where a type is as simple as its view, the view is shown. `Value` says of what kind it is, and `view` which one. The
-         `impl` of a view says more, which is left out here. A type without a view is seen as its fields, or its cases, are; a
-         number like `u64` as the number, an array and a slice as the list. Numbers of transactions, pages and keys have types
-         of their own, and are seen as numbers.""", [
+         """Where memory is as simple as its view, the view is shown: `Value` is the kind of the value, and `view` the value. The
+         `impl` of a view says more, which is left out here. A type without an `impl` is seen by its fields or its cases; a number
+         like `u64` as the number, an array and a slice as the list. Numbers of transactions, pages and keys have types of their
+         own, and are seen as numbers.""", [
              Block("The memory of a bucket", "mlt_page/src/bucket.rt"),
              Block("Numbers of transactions and pages", "mlt_types/src/number.rt"),
              Block("Keys", "mlt_types/src/cell.rt", "Key"),
@@ -225,17 +245,18 @@ NOT_SHOWN: list[tuple[str, str]] = [
     ("AreWholeEvents NoneWaits",
      "in the clause `whole`: each event is a begin, a whole operation, a commit, an abort or a whole abort; none is told to wait"),
     ("IsNew", "the manager from which a run begins: no transaction, an empty history, a file without records, these limits"),
-    ("IsRun", "each event meets the contract of its call, one after another: so answers, causes and waits are as they should be"),
-    ("IsExtendibleHashFile", "the clean pages are an extendible hash file"),
+    ("IsRun", "each event meets the contract of its call, one after another. These contracts fix what it may be told, and why"),
+    ("IsExtendibleHashFile", "the clean pages are an extendible hash file: a look-up finds each live slot, and no key has two"),
     ("IsRecord live_records", "in the field `can_be`: balances are in range, and the records of counters and sizes have 64 bits"),
-    ("GhostsAreKept ledger_by", "removals by open transactions have left their ghosts"),
-    ("HoldsLocksOfItsPass", "a running operation holds the page locks of its pass, and nobody else holds any"),
+    ("GhostsAreKept ledger_by", "removals by open transactions have left their ghosts, with room to take them back"),
+    ("HoldsLocksOfItsPass",
+     "a running operation holds locks of the pages that it came to, exclusive ones of those that it wrote; nobody else holds any"),
     ("KeepsBooks", "who is open, what may be taken back and what is held is what the history says"),
     ("AreBegunInOrder AreCounted", "numbers of transactions and of commits are given out in order, from 1"),
     ("Manager ManagerFields",
      "a manager in memory, and what contracts see of it. Of its fields the sentence reads the three that calls answer"),
     ("Limits", "how many transactions, numbers, pages and operations there may be, and how deep the directory may get"),
-    ("Refusal", "why an event was refused. No definition reads which"),
+    ("Refusal", "why an event was refused. No definition reads which; a clause of the contract names one"),
     ("Transaction Images", "an open transaction, and its first images by the numbers of pages: its part `subtx.images`"),
     ("Store page_at", "the pages in memory, and `page_at pages n`: the page of number `n`, if there is one"),
     ("KeptItem Done", "an item as the history keeps it, and the pair of an operation and its reply as an item has it"),

@@ -52,8 +52,8 @@ take_all (x ∷ xs) (suc i) within = ap (λ zs. x ∷ zs) (take_all xs i (omega 
 pub all_played : {P : Type 0} (bits_of : P → ℕ → ℕ) (limits : Limits) (pseudo : P) (events : List Event) (i : ℕ) (tolds : List Told) (m : ManagerFields P) → length events ≤ i
     → HasPlayed bits_of limits pseudo (take i events) tolds m → KeepsPromises bits_of m → Plays bits_of limits pseudo events tolds m
 all_played bits_of limits pseudo events i tolds m over h promises = record {
-  opening = h.opening;
-  opens = h.opens;
+  first = h.opening;
+  is_new = h.opens;
   run = subst (λ (es : List Event). IsRun bits_of h.opening es tolds m) (take_all events i over) h.run;
   told = history_told bits_of limits pseudo events tolds h.opening m h.opens (subst (λ (es : List Event). IsRun bits_of h.opening es tolds m) (take_all events i over) h.run);
   promises = promises;

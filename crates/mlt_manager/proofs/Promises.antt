@@ -7,6 +7,7 @@ use Rattle.mlt_types.specs.declared.refusal.Refusal.TheVariants as refusal
 use Rattle.mlt_object_kinds.specs.Bases.{Base, Step, empty_base}
 use Rattle.mlt_order.specs.Interleavings.{UndoneTo}
 use Rattle.mlt_trace.specs.declared.item.TraceItem.{TraceItem}
+use Rattle.mlt_trace.specs.declared.item.TraceItem.TheVariants as trace
 use Rattle.std.specs.FinSet as set
 use Rattle.std.specs.Ordering.{nat_cmp}
 use Rattle.mlt_hash_form.specs.File.{FilePages, GivesPseudokeys, HasForm}
@@ -52,6 +53,7 @@ module _ {P : Type 0} (bits_of : P → ℕ → ℕ) (m : ManagerFields P) (h : I
   -- **Every manager keeps the main promise.**
   abbrev main_kept : IsRecordMap (live_records pages) (map.get pages) → KeepsMainPromise m
   main_kept is_map = record {
+    none_back = λ before later tx number is. (h.traced.placed before later (trace.Commit tx number) is).1;
     base = serial.0;
     alone = committed_alone;
     clean = pages;

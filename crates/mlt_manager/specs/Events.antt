@@ -60,15 +60,15 @@ IsRun {P = P} bits_of old (event ∷ events) (told ∷ tolds) new =
     × IsRun bits_of next events tolds new
 IsRun bits_of old events tolds new = ⊥
 
--- A run from a new manager with these limits and this function to pseudokeys. The history of the one that it leads to is
--- what the events were told, and what is promised of a manager holds of it.
+-- A run from a new manager with these limits and this function to pseudokeys. The history of the last manager, to which it
+-- leads, is what the events were told, and what is promised of a manager holds of it.
 pub record Plays {P : Type 0} (bits_of : P → ℕ → ℕ) (limits : Limits) (pseudo : P)
-    (events : List Event) (tolds : List Told) (new : ManagerFields P) : Type 0 where
-  pub opening : ManagerFields P
-  pub opens : IsNew opening limits pseudo
-  pub run : IsRun bits_of opening events tolds new
-  pub told : AreToldBy events tolds none_called new.commons.history.items
-  pub promises : KeepsPromises bits_of new
+    (events : List Event) (tolds : List Told) (last : ManagerFields P) : Type 0 where
+  pub first : ManagerFields P
+  pub is_new : IsNew first limits pseudo
+  pub run : IsRun bits_of first events tolds last
+  pub told : AreToldBy events tolds none_called last.commons.history.items
+  pub promises : KeepsPromises bits_of last
 
 -- an event that leaves no operation and no inverse running, where none ran
 abbrev pub IsWholeEvent : Event → Type 0

@@ -48,12 +48,12 @@ HasLiveSlot pages key value =
     (number : ℕ) × (bucket : BucketFields) × (map.get pages number ≡ Some (Bucket bucket))
     × Contains bucket.slots (Live key value)
 
--- The record of a key on the pages: the value of its live slots, which have only one, or None where it has no live slot.
+-- The record of a key on the pages: the one value that all its live slots have, or None where it has no live slot.
 abbrev pub IsRecordOf : map.FinMap nat_cmp Page → ℕ → Option ℕ → Type 0
 IsRecordOf pages key live = (value : ℕ) → HasLiveSlot pages key value ↔ (live ≡ Some value)
 
--- What the base holds in a cell is what this record says: of an account the balance, if there is a record; of an element,
--- whether there is one; of a counter, and of the size of a set, the value, or else 0.
+-- The base holds in the cell what this record says: of an account its balance, and that there is none where there is no
+-- record; of an element that it is in its set, or that it is not; of a counter or a set's size the value, or else 0.
 abbrev pub HoldsIn : Base → Cell → Option ℕ → Type 0
 HoldsIn base (Account a) live = account_at base a ≡ live
 HoldsIn base (Element s e) live = element_at base s e ≡ is_some live
@@ -67,10 +67,14 @@ pub record PagesMean (pages : map.FinMap nat_cmp Page) (base : Base) : Type 0 wh
       → (live : Option ℕ) × IsRecordOf pages (key_number cell) live × HoldsIn base cell live
   pub beyond : (cell : Cell) → (IsInRange cell → ⊥) → HoldsIn base cell None
 
--- The committed transactions, run alone in the order of their commits from the empty base, with the replies that they were
--- told, lead to a base. With the first images that running subtransactions keep put back, the pages mean a state. And of
--- that state the base is left, in whatever order the operations of open transactions are taken back.
+-- The transactions that committed took nothing back. Run alone in the order of their commits from the empty base, with the
+-- replies that they were told, they lead to `base`. The pages, with the first images of running subtransactions put back,
+-- mean `state`. From `base` the operations of open transactions lead to `state`, in every order in which they may be done:
+-- so `base` is what is left when they are taken back.
 pub record KeepsMainPromise {P : Type 0} (m : ManagerFields P) : Type 0 where
+  pub none_back : (before later : List TraceItem) (tx number : ℕ)
+      → m.commons.history.items ≡ before ++ trace.Commit tx number ∷ later
+      → Contains before (trace.Back tx) → ⊥
   pub base : Base
   pub alone : IsSerialBase Step empty_base (transcripts_of m.commons.history.items).committed base
   pub clean : map.FinMap nat_cmp Page

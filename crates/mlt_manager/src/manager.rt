@@ -245,8 +245,8 @@ impl<P: Pseudo> Manager<P> {
         &self.parts.commons.pages.store
     }
 
-    /// What a page was before the running subtransaction wrote it that has written it, where one has: `None` inside, where it
-    /// was made then. It takes no memory.
+    /// The first image of a page that a running subtransaction has written: the page as it was before, or `None` where it was
+    /// made then. Without such a subtransaction there is no answer. It takes no memory.
     pub fn first_image(&self, number: PageNo) -> Option<&Option<Page>>
         ensures kept { IfSome result (λ first. KeepsImage self.now.txs number first.now) }
         ensures none { IfNone result (KeepsNoImage self.now.txs number) }
