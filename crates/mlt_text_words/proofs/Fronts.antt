@@ -1,24 +1,25 @@
 -- Digits at the front of a text.
-use Rattle.std.proofs.Common.{◌≡◌, ℕ, suc, zero, ◌+◌, ◌-◌, ◌^◌, ◌<◌, ◌≤◌, List, [], ◌∷◌, ◌++◌, length, take, drop, map, Bool, true, false, cond, Some, refl, sym, ap, subst, ◌∙◌, append_assoc, arith}
-use Rattle.std.specs.List.{list_all}
+use Rattle.std.proofs.Common.{◌≡◌, ℕ, suc, zero, ◌+◌, ◌-◌, ◌^◌, ◌<◌, ◌≤◌, List, [], ◌∷◌, ◌++◌, length, take, drop, map, Bool, true, false, cond, not, Some, None, refl, sym, ap, subst, ◌∙◌, append_assoc, arith}
+use Rattle.std.specs.List.{list_all, position, position_or_len, prefix_len}
 use Rattle.std.specs.Char.{digit_value}
 use Rattle.std.specs.Str.{bytes_eq}
 use Rattle.std.specs.Str.Parse.{AllDigits, digits_value}
 use Rattle.std.proofs.Math.Nat.{pow-le-pow_right}
+use Rattle.std.proofs.lemmas.Bool.{ltb-false}
 use Rattle.std.proofs.lemmas.Int.Digits.{digits_value-lt}
-use Rattle.std.proofs.lemmas.List.{take-append-drop}
+use Rattle.std.proofs.lemmas.List.{append-nil, take-append-drop, take_all}
 use Rattle.std.proofs.lemmas.Slice.Eq.{bytes_eq-Decides}
 use Rattle.mlt_text_words.specs.declared.keyword.Keyword.{Keyword}
 use Rattle.mlt_text_words.specs.declared.keyword.Keyword.TheVariants as key
 use Rattle.mlt_text_words.specs.declared.keyword.Word.{Word}
 use Rattle.mlt_text_words.specs.declared.keyword.Word.TheVariants.{Number}
-use Rattle.mlt_text_words.specs.Fronts.{BeginsWithNumber, BeginsWithWords, begins_with_digit}
+use Rattle.mlt_text_words.specs.Fronts.{BeginsWithNumber, BeginsWithWords, begins_with_digit, front_letters, is_letter, is_no_letter}
 use Rattle.mlt_text_words.specs.Lines.{is_comment}
 use Rattle.mlt_text_words.specs.Numbers.{is_digit, number_of}
 use Rattle.mlt_text_words.specs.Words.{all_keywords, keyword_of, spelled_among, spelling, word_of, words_of}
 use Rattle.mlt_text_words.proofs.Digits.{writes, taken}
 use Rattle.mlt_text_words.proofs.Pieces.{beside, digits_printable, digits_word, first_and, word_alone, word_is_number}
-use Rattle.mlt_text_words.proofs.Splitting.{to_the_end}
+use Rattle.mlt_text_words.proofs.Splitting.{none_found, to_the_end}
 
 digit_below : (b : ℕ) → is_digit b ≡ true → digit_value b < 10
 digit_below b h = grind arith
@@ -102,11 +103,35 @@ spelled_so (x ∷ keys) bytes k h = first_or (bytes_eq (spelling x) bytes) refl 
   first_or true e h rest = let same : x ≡ k = cc h in subst (λ y. spelling y ≡ bytes) same ((bytes_eq-Decides (spelling x) bytes).0 e)
   first_or false e h rest = rest h
 
--- a keyword at the front, and the rest
-pub spelled_front : (text : List ℕ) (end : ℕ) (k : Keyword) → Some k ≡ keyword_of (take end text) → text ≡ spelling k ++ take (length text - end) (drop end text)
+-- a keyword that the front of a text spells
+pub spelled_before : (text front rest : List ℕ) (k : Keyword) → text ≡ front ++ rest → Some k ≡ keyword_of front → text ≡ spelling k ++ rest
 unfolding keyword_of
-spelled_front text end k h =
-    rw (to_the_end text end) (sym (take-append-drop end text) ∙ ap (λ (xs : List ℕ). xs ++ drop end text) (sym (spelled_so all_keywords (take end text) k (sym h))))
+spelled_before text front rest k e h = e ∙ ap (λ (xs : List ℕ). xs ++ rest) (sym (spelled_so all_keywords front k (sym h)))
+
+letters_len : (text : List ℕ) → position_or_len is_no_letter text ≡ prefix_len is_letter text
+letters_len [] = refl
+letters_len (b ∷ bs) = by (is_letter b) _ _ (letters_len bs) where
+  by : (c : Bool) (m n : ℕ) → m ≡ n → cond (not (not c)) (1 + m) 0 ≡ cond c (1 + n) 0
+  by true m n e = ap (λ (k : ℕ). 1 + k) e
+  by false m n e = refl
+
+found_at : (b : Bool) (i end : ℕ) → cond b (Some i) None ≡ Some end → end ≡ i
+found_at true i end e = cc
+found_at false i end e = absurd (cc e)
+
+-- the bytes before the first one that is no small letter
+pub letters_before : (text : List ℕ) (end : ℕ) → position is_no_letter text ≡ Some end → take end text ≡ front_letters text
+letters_before text end e = ap (λ (n : ℕ). take n text) (found_at _ _ end e ∙ letters_len text)
+
+-- a text of small letters alone
+pub letters_alone : (text : List ℕ) → position is_no_letter text ≡ None → text ≡ front_letters text
+letters_alone text e =
+    let h : length text ≤ position_or_len is_no_letter text = ltb-false _ _ (none_found _ _ e) in
+    let s = letters_len text in
+    sym (take_all (prefix_len is_letter text) text (omega (arith, h, s)))
+
+pub parted : (text : List ℕ) (end : ℕ) → text ≡ take end text ++ take (length text - end) (drop end text)
+parted text end = rw (to_the_end text end) (sym (take-append-drop end text))
 
 -- what begins with a keyword is no comment
 pub no_comment : (k : Keyword) (rest : List ℕ) → is_comment (spelling k ++ rest) ≡ false

@@ -55,7 +55,7 @@ pub is_word : (w : List ℕ) → 0 < length w → word_if w ≡ w ∷ []
 is_word [] h = absurd (omega arith)
 is_word (b ∷ bs) h = refl
 
-none_found : (b : Bool) (i : ℕ) → cond b (Some i) None ≡ None → b ≡ false
+pub none_found : (b : Bool) (i : ℕ) → cond b (Some i) None ≡ None → b ≡ false
 none_found true i h = absurd (cc h)
 none_found false i h = refl
 

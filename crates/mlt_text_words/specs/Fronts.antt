@@ -1,5 +1,5 @@
 -- What stands at the front of a text.
-use Rattle.std.specs.Prelude.{◌≡◌, ◌<◌, ◌≤◌, ℕ, List, [], ◌∷◌, ◌++◌, length, nat_le, Some, Bool, true, false, ◌&&◌}
+use Rattle.std.specs.Prelude.{◌≡◌, ◌<◌, ◌≤◌, ℕ, List, [], ◌∷◌, ◌++◌, length, nat_le, not, take_while, Some, Bool, true, false, ◌&&◌}
 use Rattle.std.specs.List.{list_all}
 use Rattle.mlt_text_words.specs.declared.keyword.Word.{Word}
 use Rattle.mlt_text_words.specs.Numbers.{is_digit, number_of}
@@ -32,3 +32,15 @@ BeginsWithNumber text number rest =
 -- the text begins with a piece of these words, at most so long, and then comes the rest
 abbrev pub BeginsWithWords : List ℕ → List Word → ℕ → List ℕ → Type 0
 BeginsWithWords text words n rest = (t : List ℕ) × (text ≡ t ++ rest) × TextIs t words n
+
+-- a to z
+abbrev pub is_letter : ℕ → Bool
+is_letter byte = nat_le 97 byte && nat_le byte 122
+
+-- any other byte
+abbrev pub is_no_letter : ℕ → Bool
+is_no_letter byte = not (nat_le 97 byte && nat_le byte 122)
+
+-- the small letters at the front of a text, up to any other byte
+abbrev pub front_letters : List ℕ → List ℕ
+front_letters text = take_while is_letter text

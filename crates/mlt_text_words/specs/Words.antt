@@ -66,6 +66,7 @@ abbrev pub spelled_among : List Keyword → List ℕ → Option Keyword
 spelled_among [] bytes = None
 spelled_among (k ∷ keys) bytes = if bytes_eq (spelling k) bytes then Some k else spelled_among keys bytes
 
+-- the keyword that is spelled so
 unfoldable pub keyword_of : List ℕ → Option Keyword
 keyword_of bytes = spelled_among all_keywords bytes
 

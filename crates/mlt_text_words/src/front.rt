@@ -1,11 +1,11 @@
 //! What stands at the front of a text, read in one pass over its bytes.
 
-ghost use Rattle.std.specs.Prelude.{◌≡◌, ◌≢◌, ◌≤◌, ◌++◌, ℕ, List, length, take, drop, true, false, IfSome, IfNone};
-ghost use Rattle.std.specs.List.{list_all};
+ghost use Rattle.std.specs.Prelude.{◌≡◌, ◌≢◌, ◌≤◌, ◌++◌, ℕ, List, length, take, drop, true, false, Some, None, IfSome, IfNone};
+ghost use Rattle.std.specs.List.{list_all, position};
 ghost use Rattle.std.specs.Str.Parse.{digits_value};
-ghost use Rattle.mlt_text_words.specs.Fronts.{BeginsWithNumber, begins_with_digit};
+ghost use Rattle.mlt_text_words.specs.Fronts.{BeginsWithNumber, begins_with_digit, front_letters, is_no_letter};
 ghost use Rattle.mlt_text_words.specs.Numbers.{is_digit};
-ghost use Rattle.mlt_text_words.specs.Words.{spelling};
+ghost use Rattle.mlt_text_words.specs.Words.{keyword_of, spelling};
 
 use crate::keyword::{Keyword, find_keyword};
 
@@ -65,13 +65,33 @@ pub fn front_number(text: &[u8]) -> Option<(u64, &[u8])>
     }
 }
 
-/// The keyword that the small letters at the front of a text spell, and the text behind them.
-#[tactic(auto, using(crate::proofs::Fronts::spelled_front))]
-pub fn front_keyword(text: &[u8]) -> Option<(Keyword, &[u8])>
-    ensures { IfSome result (λ x. text.now ≡ spelling x.0 ++ x.1.now) }
+// Where the first byte stands that is no small letter.
+fn find_no_letter(text: &[u8]) -> Option<usize>
+    ensures { result ≡ position is_no_letter text.now }
 {
-    let letters = text.iter().position(|byte| *byte < b'a' || *byte > b'z');
-    let end = letters.unwrap_or(text.len());
-    let keyword = find_keyword(&text[..end])?;
-    Some((keyword, &text[end..]))
+    text.iter()
+        .position(|byte| !(*byte >= b'a' && *byte <= b'z'))
+}
+
+// The small letters at the front of a text, and the text behind them.
+fn split_letters(text: &[u8]) -> (&[u8], &[u8])
+    ensures letters { result.0.now ≡ front_letters text.now }
+    ensures whole { text.now ≡ result.0.now ++ result.1.now }
+{
+    match find_no_letter(text) {
+        Some(end) => (&text[..end], &text[end..]),
+        None => (text, &[]),
+    }
+}
+
+/// The keyword that all the small letters at the front of a text spell, and the text behind them. `None` exactly where
+/// they spell none.
+pub fn front_keyword(text: &[u8]) -> Option<(Keyword, &[u8])>
+    ensures some { IfSome result (λ x. text.now ≡ spelling x.0 ++ x.1.now) }
+    ensures letters { IfSome result (λ x. keyword_of (front_letters text.now) ≡ Some x.0) }
+    ensures none { IfNone result (keyword_of (front_letters text.now) ≡ None) }
+{
+    let (letters, rest) = split_letters(text);
+    let keyword = find_keyword(letters)?;
+    Some((keyword, rest))
 }
