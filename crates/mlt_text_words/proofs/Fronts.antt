@@ -95,7 +95,7 @@ words_then text middle rest ws vs n m (t, e, h) (u, f, k) = (
   beside t u ws vs n m h k,
 )
 
-spelled_so : (keys : List Keyword) (bytes : List ℕ) (k : Keyword) → spelled_among keys bytes ≡ Some k → spelling k ≡ bytes
+pub spelled_so : (keys : List Keyword) (bytes : List ℕ) (k : Keyword) → spelled_among keys bytes ≡ Some k → spelling k ≡ bytes
 spelled_so [] bytes k h = absurd (cc h)
 spelled_so (x ∷ keys) bytes k h = first_or (bytes_eq (spelling x) bytes) refl h (spelled_so keys bytes k) where
   first_or : (b : Bool) → bytes_eq (spelling x) bytes ≡ b → cond b (Some x) (spelled_among keys bytes) ≡ Some k

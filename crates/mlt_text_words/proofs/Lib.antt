@@ -5,3 +5,4 @@ pub mod Numerals
 pub mod Pieces
 pub mod Digits
 pub mod Fronts
+pub mod Keywords

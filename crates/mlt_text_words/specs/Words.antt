@@ -1,6 +1,5 @@
 -- The words of a line.
-use Rattle.std.specs.Prelude.{ℕ, nat_eq, List, [], ◌∷◌, ◌++◌, map, Option, Some, None, option_and_then, ◌==◌, Bool, true, ◌||◌, not, if◌then◌else◌, codes}
-use Rattle.std.specs.List.{starts_with}
+use Rattle.std.specs.Prelude.{ℕ, ◌-◌, List, [], ◌∷◌, ◌++◌, map, Option, Some, None, option_and_then, ◌==◌, Bool, true, ◌&&◌, ◌||◌, not, length, slice_index, if◌then◌else◌, codes}
 use Rattle.std.specs.Str.{bytes_eq}
 use Rattle.mlt_text_words.specs.declared.keyword.Keyword.{Keyword}
 use Rattle.mlt_text_words.specs.declared.keyword.Keyword.TheVariants as key
@@ -57,9 +56,10 @@ all_keywords =
     key.Closed ∷ key.NotEmpty ∷ key.Done ∷ key.Over ∷ key.Short ∷ key.Missing ∷ key.Added ∷
     key.Present ∷ key.Removed ∷ key.Absent ∷ key.Yes ∷ key.No ∷ []
 
--- whether the keyword begins with the byte
-abbrev pub begins_with : ℕ → Keyword → Bool
-begins_with byte k = starts_with nat_eq (spelling k) (byte ∷ [])
+-- whether the keyword has this first byte, this length and this last byte
+abbrev pub has_ends : ℕ → ℕ → ℕ → Keyword → Bool
+has_ends first size last k =
+    slice_index (spelling k) 0 == first && (length (spelling k) == size && slice_index (spelling k) (length (spelling k) - 1) == last)
 
 -- the one of the keywords that is spelled so
 abbrev pub spelled_among : List Keyword → List ℕ → Option Keyword

@@ -1,8 +1,7 @@
 //! Keywords, and what a word of a line is.
 
-ghost use Rattle.std.specs.Prelude.{◌≡◌, filter, if◌then◌else◌, Some};
-ghost use Rattle.std.specs.Str.{bytes_eq};
-ghost use Rattle.mlt_text_words.specs.Words.{spelling, keyword_of, letter_word, word_of, all_keywords, begins_with, spelled_among};
+ghost use Rattle.std.specs.Prelude.{◌≡◌, find};
+ghost use Rattle.mlt_text_words.specs.Words.{spelling, keyword_of, letter_word, word_of, all_keywords, has_ends};
 
 use crate::letter::{Letter, find_letter};
 use crate::number::number;
@@ -107,71 +106,64 @@ impl Keyword {
     }
 }
 
-// The keyword, where it is spelled so, and else the other.
-fn or_else(keyword: Keyword, word: &[u8], other: Option<Keyword>) -> Option<Keyword>
-    ensures { result ≡ (if bytes_eq (spelling keyword) word.now then Some keyword else other) }
+// The only keyword that has this first byte, this length and this last byte.
+fn candidate(first: u8, length: usize, last: u8) -> Option<Keyword>
+    ensures { result ≡ find (has_ends first length last) all_keywords }
 {
-    if keyword.text() == word {
-        Some(keyword)
-    } else {
-        other
-    }
-}
-
-// The keyword that begins with this byte and is spelled so.
-fn spelled(first: u8, word: &[u8]) -> Option<Keyword>
-    ensures { result ≡ spelled_among (filter (begins_with first) all_keywords) word.now }
-{
-    match first {
-        b'=' => or_else(Keyword::Equals, word, None),
-        b'a' => {
-            let added = or_else(Keyword::Added, word, or_else(Keyword::Absent, word, None));
-            or_else(Keyword::Abort, word, or_else(Keyword::Add, word, added))
-        }
-        b'b' => or_else(Keyword::Begin, word, or_else(Keyword::Balance, word, None)),
-        b'c' => {
-            let closed = or_else(Keyword::Closed, word, None);
-            or_else(Keyword::Commit, word, or_else(Keyword::Close, word, closed))
-        }
-        b'd' => {
-            let done = or_else(Keyword::Done, word, None);
-            or_else(Keyword::Deposit, word, or_else(Keyword::Down, word, done))
-        }
-        b'e' => {
-            let exists = or_else(Keyword::Exists, word, None);
-            or_else(Keyword::Else, word, or_else(Keyword::End, word, exists))
-        }
-        b'h' => or_else(Keyword::Has, word, None),
-        b'i' => or_else(Keyword::If, word, or_else(Keyword::Is, word, None)),
-        b'l' => or_else(Keyword::Let, word, None),
-        b'm' => or_else(Keyword::Missing, word, None),
-        b'n' => {
-            let no = or_else(Keyword::No, word, None);
-            or_else(Keyword::Need, word, or_else(Keyword::NotEmpty, word, no))
-        }
-        b'o' => {
-            let over = or_else(Keyword::Over, word, None);
-            or_else(Keyword::Open, word, or_else(Keyword::Opened, word, over))
-        }
-        b'p' => or_else(Keyword::Present, word, None),
-        b'r' => {
-            let removed = or_else(Keyword::Removed, word, None);
-            or_else(Keyword::Remove, word, or_else(Keyword::Read, word, removed))
-        }
-        b's' => or_else(Keyword::Size, word, or_else(Keyword::Short, word, None)),
-        b'u' => or_else(Keyword::Up, word, None),
-        b'w' => or_else(Keyword::Withdraw, word, None),
-        b'y' => or_else(Keyword::Yes, word, None),
+    match (first, length, last) {
+        (b'=', 1, b'=') => Some(Keyword::Equals),
+        (b'a', 3, b'd') => Some(Keyword::Add),
+        (b'a', 5, b't') => Some(Keyword::Abort),
+        (b'a', 5, b'd') => Some(Keyword::Added),
+        (b'a', 6, b't') => Some(Keyword::Absent),
+        (b'b', 5, b'n') => Some(Keyword::Begin),
+        (b'b', 7, b'e') => Some(Keyword::Balance),
+        (b'c', 5, b'e') => Some(Keyword::Close),
+        (b'c', 6, b't') => Some(Keyword::Commit),
+        (b'c', 6, b'd') => Some(Keyword::Closed),
+        (b'd', 4, b'n') => Some(Keyword::Down),
+        (b'd', 4, b'e') => Some(Keyword::Done),
+        (b'd', 7, b't') => Some(Keyword::Deposit),
+        (b'e', 3, b'd') => Some(Keyword::End),
+        (b'e', 4, b'e') => Some(Keyword::Else),
+        (b'e', 6, b's') => Some(Keyword::Exists),
+        (b'h', 3, b's') => Some(Keyword::Has),
+        (b'i', 2, b'f') => Some(Keyword::If),
+        (b'i', 2, b's') => Some(Keyword::Is),
+        (b'l', 3, b't') => Some(Keyword::Let),
+        (b'm', 7, b'g') => Some(Keyword::Missing),
+        (b'n', 2, b'o') => Some(Keyword::No),
+        (b'n', 4, b'd') => Some(Keyword::Need),
+        (b'n', 8, b'y') => Some(Keyword::NotEmpty),
+        (b'o', 4, b'n') => Some(Keyword::Open),
+        (b'o', 4, b'r') => Some(Keyword::Over),
+        (b'o', 6, b'd') => Some(Keyword::Opened),
+        (b'p', 7, b't') => Some(Keyword::Present),
+        (b'r', 4, b'd') => Some(Keyword::Read),
+        (b'r', 6, b'e') => Some(Keyword::Remove),
+        (b'r', 7, b'd') => Some(Keyword::Removed),
+        (b's', 4, b'e') => Some(Keyword::Size),
+        (b's', 5, b't') => Some(Keyword::Short),
+        (b'u', 2, b'p') => Some(Keyword::Up),
+        (b'w', 8, b'w') => Some(Keyword::Withdraw),
+        (b'y', 3, b's') => Some(Keyword::Yes),
         _ => None,
     }
 }
 
-/// The keyword that is spelled so. It is compared only with those that begin with its first byte.
+/// The keyword that is spelled so. It is compared with one keyword at most.
 pub fn find_keyword(word: &[u8]) -> Option<Keyword>
     ensures { result ≡ keyword_of word.now }
 {
-    let first = word.first()?;
-    spelled(*first, word)
+    if word.is_empty() {
+        return None;
+    }
+    let keyword = candidate(word[0], word.len(), word[word.len() - 1])?;
+    if keyword.text() == word {
+        Some(keyword)
+    } else {
+        None
+    }
 }
 
 fn variable(word: &[u8]) -> Option<Letter>
