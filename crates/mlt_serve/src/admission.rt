@@ -1,6 +1,7 @@
-//! The way of one session through the admission queue.
+//! The way of one session through the admission queue, and what it waits for before it begins a transaction.
 
 use crate::admission_queue::AdmissionQueue;
+use crate::restart_queue::Restarts;
 use crate::socket::Socket;
 use crate::tuning::{EVENTS_PER_TURN, MOST_BYPASSING_BYTES};
 use mlt_event::{Answer, Told};
@@ -27,22 +28,29 @@ enum Place {
 /// on outside, since it may have locks for which others wait. One that yields before a call, since another has precedence, sleeps in
 /// its place.
 #[derive(Drop)]
-pub(crate) struct Admission<'a, R: Wait> {
+pub(crate) struct Admission<'a, R: Wait + Clock> {
     rt: &'a R,
     admission_queue: &'a AdmissionQueue,
     place: Cell<Place>,
     /// How many events it has made since it came.
     events: Cell<u32>,
+    /// Before a restarted transaction begins it waits outside.
+    restarts: Restarts<'a>,
 }
 
-impl<'a, R: Wait> Admission<'a, R> {
+impl<'a, R: Wait + Clock> Admission<'a, R> {
     /// A session that is outside.
-    pub(crate) fn new(rt: &'a R, admission_queue: &'a AdmissionQueue) -> Admission<'a, R> {
+    pub(crate) fn new(
+        rt: &'a R,
+        admission_queue: &'a AdmissionQueue,
+        restarts: Restarts<'a>,
+    ) -> Admission<'a, R> {
         Admission {
             rt,
             admission_queue,
             place: Cell::new(Place::Outside),
             events: Cell::new(0),
+            restarts,
         }
     }
 
@@ -71,8 +79,16 @@ impl<'a, R: Wait> Admission<'a, R> {
     }
 }
 
-impl<R: Wait> Gate for Admission<'_, R> {
+impl<R: Wait + Clock> Gate for Admission<'_, R> {
+    fn begin(&self, _client: u32) {
+        if self.restarts.is_due() {
+            self.leave();
+            self.restarts.wait(self.rt);
+        }
+    }
+
     fn pause(&self, _client: u32, told: &Told) {
+        self.restarts.note(told);
         let events = self.events.get().saturating_add(1);
         self.events.set(events);
         if is_to_wait(told) {

@@ -8,6 +8,7 @@ mod gathering;
 mod lingering_close;
 mod options;
 mod reporting;
+mod restart_queue;
 mod service;
 mod serving;
 mod session_thread;

@@ -2,6 +2,7 @@
 
 use crate::admission_queue::AdmissionQueue;
 use crate::options::ServeOptions;
+use crate::restart_queue::RestartQueue;
 use crate::spin_policy::SpinPolicy;
 use mlt_types::Pseudo;
 use mlt_work_desk::{MadeWith, Shared};
@@ -11,6 +12,7 @@ use mlt_work_desk::{MadeWith, Shared};
 pub(crate) struct Service<'a, P: Pseudo, L: MadeWith<P>> {
     pub(crate) shared: &'a Shared<P, L>,
     pub(crate) admission_queue: &'a AdmissionQueue,
+    pub(crate) restart_queue: &'a RestartQueue,
     pub(crate) spin_policy: &'a SpinPolicy,
     pub(crate) options: &'a ServeOptions,
 }

@@ -10,6 +10,7 @@ use crate::admission_queue::AdmissionQueue;
 use crate::gathering::{gather, new_threads};
 use crate::options::ServeOptions;
 use crate::reporting::outcomes_of;
+use crate::restart_queue::RestartQueue;
 use crate::service::Service;
 use crate::session_threads::serve_connections;
 use crate::spin_policy::SpinPolicy;
@@ -57,10 +58,12 @@ fn serve_with<
     let manager = Manager::new(alloc, options.limits, pseudo)?;
     let shared = Shared::new(LockedState::new(manager, book));
     let admission_queue = AdmissionQueue::new();
+    let restart_queue = RestartQueue::new();
     let spin_policy = SpinPolicy::new(rt);
     let service = Service {
         shared: &shared,
         admission_queue: &admission_queue,
+        restart_queue: &restart_queue,
         spin_policy: &spin_policy,
         options,
     };

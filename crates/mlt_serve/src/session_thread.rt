@@ -6,6 +6,7 @@ ghost use Rattle.mlt_serve.specs.Clients.{GrowsFor};
 use crate::accepting::Connection;
 use crate::admission::Admission;
 use crate::lingering_close::lingering_close;
+use crate::restart_queue::Restarts;
 use crate::service::Service;
 use crate::socket::Socket;
 use crate::talking::talk;
@@ -80,7 +81,8 @@ impl<L: Ledger> SessionThread<L> {
         } = self;
         let Connection { client, stream } = connection;
         let mine = share.split_off(1, 0);
-        let admission = Admission::new(rt, service.admission_queue);
+        let restarts = Restarts::new(service.restart_queue);
+        let admission = Admission::new(rt, service.admission_queue, restarts);
         let tries = Tries::PerOperation(service.options.tries);
         let mut desk = LockDesk::new(rt, service.shared, &admission, mine, tries);
         desk.serve(client);

@@ -18,6 +18,16 @@ pub(crate) const MOST_BYPASSING_BYTES: usize = 24;
 /// keep the others waiting. By `serve`.
 pub(crate) const EVENTS_PER_TURN: u32 = 64;
 
+/// How many microseconds the first of those that are to begin a restarted transaction sleeps before it looks whether another is
+/// open. `bystander` has two sessions that restart; decision 158 tells why.
+pub(crate) const RESTART_NAP_MICROSECONDS: u64 = 100;
+
+/// The most such naps that it takes where one transaction gave up: then it begins all the same. By decision 158.
+pub(crate) const RESTART_NAPS: u32 = 16;
+
+/// How often their number doubles at most: with each further transaction that gave up in a row. By decision 158.
+pub(crate) const MOST_DOUBLED_RESTART_NAPS: u32 = 3;
+
 /// How many times one that is awake looks whether it is admitted before it sleeps, with a pause of the processor after each look:
 /// some microseconds, up to twenty. By `hot`.
 pub(crate) const ADMISSION_SPINS: u32 = 400;
