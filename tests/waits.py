@@ -208,3 +208,119 @@ def insert_that_doubles_gets_through(mltx):
                 peer.socket.close()
             same([one for one in told if one.startswith("error")], [], "what the insert was refused with")
             expect(server.end(), out=f"served {readers + 1}\n")
+
+
+# What each end of a transaction is told by, if by anything.
+ENDS = {"commit": "committed", "abort": "aborted", "quit": "bye", "close": None}
+
+# After four GaveUp in a row a session begins again after at least so many seconds, beside another that does.
+LONGEST_RESTART = 0.0128
+
+
+def moved(peer, one, other):
+    """Whether a move between two accounts, which are looked at before, committed. Else it gave up, and was aborted."""
+    same(peer.ask("begin").split()[0], "begun")
+    for line in (f"balance {one}", f"balance {other}", f"withdraw {one} 1", f"deposit {other} 1"):
+        if peer.ask(line) == "error 14 GaveUp":
+            same(peer.ask("abort"), "aborted")
+            return False
+    same(peer.ask("commit").split()[0], "committed")
+    return True
+
+
+def moves_until(ended, server, seed):
+    """Moves between four accounts, and begins again at once after GaveUp. It answers how many committed and how many gave up,
+    and how often one was tried at most."""
+    source, committed, gave_up, tries, most = random.Random(seed), 0, 0, 0, 0
+    with server.connect() as peer:
+        peer.socket.settimeout(SOON)
+        pair = source.sample(range(1, 5), 2)
+        while time.monotonic() < ended:
+            tries += 1
+            most = max(most, tries)
+            if moved(peer, *pair):
+                pair, committed, tries = source.sample(range(1, 5), 2), committed + 1, 0
+            else:
+                gave_up += 1
+    return committed, gave_up, most
+
+
+@test(seconds=4)
+def clients_that_begin_again_at_once_get_through(mltx):
+    """Eight of them for three seconds: where all begin at once, each takes from the others what they need, again and again. Then
+    hundreds give up for a commit, or some where other programs work beside; and one is tried more than a hundred times."""
+    clients = 8
+    opened = "|".join(f"open {account}|deposit {account} 1000000" for account in range(1, 5))
+    with mltx.serve("--sessions", clients, limit=clients + 1) as server:
+        server.talk(lines(f"begin|{opened}|commit"))
+        ended = time.monotonic() + 3
+        with ThreadPoolExecutor(clients) as threads:
+            ends = list(threads.map(lambda seed: moves_until(ended, server, seed), range(clients)))
+        expect(server.end(), out=f"served {clients + 1}\n")
+    committed, gave_up, most = (list(of_all) for of_all in zip(*ends))
+    what = f"each committed {committed} and gave up {gave_up}, and tried one at most {most} times"
+    holds(sum(committed) >= 100 and sum(gave_up) <= 2 * sum(committed) and max(most) <= 50, what)
+
+
+def gives_up(peer, times):
+    """So many transactions in a row give up, by the one try that each operation has."""
+    for _ in range(times):
+        same(peer.ask("begin").split()[0], "begun")
+        same([peer.ask("read 1"), peer.ask("abort")], ["error 14 GaveUp", "aborted"])
+
+
+def number_begun(line):
+    """The number of the transaction that has begun."""
+    same(line.split()[0], "begun")
+    return int(line.split()[1])
+
+
+@test(seconds=1)
+def first_tries_do_not_wait_behind_restarted_ones(mltx):
+    """Forty sessions gave up and begin again, beside a restarted transaction that stays open: one after another, each after a
+    while. Three that come after them begin before the last of them: one never gave up, one has committed since, and one has
+    aborted what did not give up."""
+    count = 40
+    with mltx.serve("--tries", 1, "--sessions", count + 5, limit=count + 5) as server:
+        holder, new, committed, aborted, silent, *queue = peers = [server.connect() for _ in range(count + 5)]
+        for peer in peers:
+            peer.socket.settimeout(SOON)
+        same([holder.ask("begin"), holder.ask("up 1 1")], ["begun 1", "done"])
+        for peer in (committed, aborted, silent, *queue):
+            gives_up(peer, 4)
+        for peer, end in ((committed, "commit"), (aborted, "abort")):
+            number_begun(peer.ask("begin"))
+            same(peer.ask(end).split()[0], ENDS[end])
+        number_begun(silent.ask("begin"))
+        began = time.monotonic()
+        for peer in queue:
+            peer.send("begin\n")
+        time.sleep(2 * LONGEST_RESTART)
+        first_tries = [number_begun(peer.ask("begin")) for peer in (new, committed, aborted)]
+        last = max(number_begun(peer.line()) for peer in queue)
+        took = time.monotonic() - began
+        for peer in peers:
+            peer.socket.close()
+        expect(server.end(), out=f"served {count + 5}\n")
+    holds(max(first_tries) < last, f"first tries have the numbers {first_tries}, and the last that was restarted {last}")
+    holds(took >= count * LONGEST_RESTART, f"{count} began again within {took} seconds")
+
+
+@each({f"restarted-one-is-not-waited-for-after-its-{end}": end for end in ENDS})
+def restarted_one_is_not_waited_for_after_its_end(mltx, end):
+    """A hundred begin again after that: if each waited it would take more than a second."""
+    with mltx.serve("--tries", 1, limit=3) as server:
+        with server.connect() as holder, server.connect() as peer, server.connect() as other:
+            same([holder.ask("begin"), holder.ask("up 1 1")], ["begun 1", "done"])
+            gives_up(peer, 4)
+            gives_up(other, 4)
+            number_begun(peer.ask("begin"))
+            if ENDS[end] is None:
+                peer.socket.close()
+            else:
+                same(peer.ask(end).split()[0], ENDS[end])
+            began = time.monotonic()
+            gives_up(other, 100)
+            took = time.monotonic() - began
+        expect(server.end(), out="served 3\n")
+    holds(took < 100 * LONGEST_RESTART, f"a hundred began again within {took} seconds")
