@@ -1,6 +1,7 @@
 """Writes a scene as an SVG."""
 import re
 from collections.abc import Iterator
+from itertools import chain
 from xml.sax.saxutils import escape
 
 from . import legend
@@ -106,36 +107,33 @@ def head(kind: str, x: float, y: float, up: bool) -> str:
     return shape("path", class_=f"head-{kind}", d=path)
 
 
-class _RowDrawing:
+class RowDrawing:
     """One row of time: its lanes from `top` down."""
 
     def __init__(self, scene: Scene, row: Row, left: float, right: float, top: int) -> None:
         self.scene, self.row, self.left, self.right, self.top = scene, row, left, right, top
-        is_last = row.last == len(scene.note_at) - 1
-        # Where what goes on behind the row ends.
-        self.edge = row.x(row.last) + OPEN if is_last else right
+        now = len(scene.note_at) - 1
+        # Where what goes on behind the row, or up to now, ends.
+        self.edge = row.x(now) + OPEN if row.first <= now <= row.last else right
         first = top + (HEADER if scene.story.notes else 0)
-        self.tops = {id(lane): first + at * (LANE + LANE_GAP) for at, lane in enumerate(row.lanes)}
-        self.bottom = first + len(row.lanes) * (LANE + LANE_GAP) - LANE_GAP + 4
+        self.tops = {number: first + at * (LANE + LANE_GAP) for at, number in enumerate(row.numbers)}
+        self.bottom = first + len(row.numbers) * (LANE + LANE_GAP) - LANE_GAP + 4
 
     def middle(self, lane: Lane) -> float:
-        return self.tops[id(lane)] + BAR_AT + BAR / 2
+        return self.tops[lane.number] + BAR_AT + BAR / 2
 
     def drawn(self) -> Iterator[str]:
         """All shapes, those below before those above."""
-        yield from self._notes()
-        for lane in self.row.lanes:
-            yield from self._lane(lane)
-        for bar in self.row.bars:
-            yield from self._bar(bar)
-        for arrow in self.row.arrows:
-            yield from self._arrow(arrow)
-        for mark in self.row.marks:
-            yield from self._mark(mark)
-        for label in self.row.labels:
-            yield from self._label(label)
+        return chain(self.notes(), *self.layers())
 
-    def _notes(self) -> Iterator[str]:
+    def layers(self) -> list[list[str]]:
+        """All shapes of the lanes in layers, those below before those above."""
+        row = self.row
+        drawn = [map(self._lane, row.lanes), map(self._bar, row.bars), map(self._arrow, row.arrows)]
+        drawn += [map(self._mark, row.marks), map(self._label, row.labels)]
+        return [list(chain.from_iterable(layer)) for layer in drawn]
+
+    def notes(self) -> Iterator[str]:
         """A band for each note's span of time, with its number. Every second one is darker."""
         notes = self.scene.note_at[self.row.first:self.row.last + 1]
         starts = [at for at, note in enumerate(notes) if at == 0 or note != notes[at - 1]]
@@ -164,7 +162,7 @@ class _RowDrawing:
         return self.row.x(first), self.edge if last is None or last > self.row.last else self.row.x(last)
 
     def _bar(self, bar: Bar) -> Iterator[str]:
-        top = self.tops[id(bar.lane)] + BAR_AT
+        top = self.tops[bar.lane.number] + BAR_AT
         begin, end = self._span(bar.first, bar.last)
         yield box(bar.kind, begin, top, end - begin, BAR, 3)
         for pause in bar.still:
@@ -189,7 +187,7 @@ class _RowDrawing:
         yield sign(mark.kind, self.row.x(mark.point), self.middle(mark.lane))
 
     def _label(self, label: Label) -> Iterator[str]:
-        x, top = self.row.x(label.point), self.tops[id(label.lane)]
+        x, top = self.row.x(label.point), self.tops[label.lane.number]
         middle = x + (label.right - label.left) / 2
         at = {"start": x - label.left, "middle": middle, "end": x + label.right}[label.anchor]
         if label.role in ("committed", "aborted"):
@@ -226,6 +224,23 @@ def _paragraphs(scene: Scene, top: int, wide: float) -> tuple[list[str], int]:
     return drawn, top
 
 
+def stacked(
+    scene: Scene, placed: list[Row], left: float, wide: float, top: int
+) -> tuple[list[RowDrawing], list[list[str]]]:
+    """The rows one below another from `top` down, and what parts each from the one before."""
+    drawings: list[RowDrawing] = []
+    between: list[list[str]] = []
+    for row in placed:
+        between.append([])
+        if drawings:
+            top = drawings[-1].bottom + ROW_GAP
+            between[-1] = [text(MARGIN, top + 4, "later", "about"), line("life", MARGIN + 44, top, wide - MARGIN, top)]
+            top += ROW_GAP
+        right = wide if row is not placed[-1] else row.right
+        drawings.append(RowDrawing(scene, row, left, right - MARGIN, top))
+    return drawings, between
+
+
 def picture(scene: Scene, title: str, about: str) -> str:
     """The whole SVG, with a title and a line about it."""
     placed, left = rows(scene)
@@ -240,14 +255,10 @@ def picture(scene: Scene, title: str, about: str) -> str:
     for part in wrapped(about, LABEL_SIZE, wide - 2 * MARGIN):
         heading.append(text(MARGIN, top - 4, part, "about"))
         top += NOTE_LINE
-    for row in placed:
-        if row is not placed[0]:
-            drawn += [text(MARGIN, top + 4, "later", "about"), line("life", MARGIN + 44, top, wide - MARGIN, top)]
-            top += ROW_GAP
-        right = wide if row is not placed[-1] else row.right
-        drawing = _RowDrawing(scene, row, left, right - MARGIN, top)
-        drawn += drawing.drawn()
-        top = drawing.bottom + ROW_GAP
+    drawings, between = stacked(scene, placed, left, wide, top)
+    for drawing, later in zip(drawings, between):
+        drawn += [*later, *drawing.drawn()]
+    top = drawings[-1].bottom + ROW_GAP if drawings else top
     notes, top = _paragraphs(scene, top + 12, wide)
     keys, top = legend.drawn(scene, top + 2, wide)
     size = f'width="{wide:.0f}" height="{top:.0f}" viewBox="0 0 {wide:.0f} {top:.0f}"'

@@ -69,7 +69,7 @@ class Item(NamedTuple):
 @dataclass(frozen=True)
 class Moment:
     """An event of a schedule with its answer, or a line of a trace. `note` counts the comments before it, from 1;
-    `place` says where it was told, as an error names it."""
+    `place` says where it was told, as an error names it; `reason` has the comments that follow its answer."""
 
     kind: str
     number: int | None
@@ -77,6 +77,11 @@ class Moment:
     answer: str
     note: int
     place: tuple[str, int]
+    reason: str = ""
+
+    def event(self) -> str:
+        """The event as a line of a schedule."""
+        return " ".join([self.kind, *([] if self.number is None else [str(self.number)]), self.operation]).rstrip()
 
 
 @dataclass(frozen=True)
@@ -198,11 +203,25 @@ def check_schedule(name: str, data: bytes) -> None:
         pass
 
 
+def _told(name: str, answers: bytes) -> tuple[list[tuple[int, str]], dict[int, str]]:
+    """The answers with the numbers of their lines, and the comments behind each, by that number."""
+    told: list[tuple[int, str]] = []
+    reasons: dict[int, str] = {}
+    for number, line in _lines(name, answers):
+        words = line.decode(errors="replace")
+        if told and words.startswith("#"):
+            place = told[-1][0]
+            reasons[place] = f"{reasons.get(place, '')}\n{printable(words).lstrip('#').strip()}".strip()
+        else:
+            told.append((number, words))
+    return told, reasons
+
+
 def schedule(name: str, data: bytes, answers_name: str, answers: bytes) -> Story:
     """The story of a schedule and what `steps` wrote of it."""
     notes = _Notes()
     moments: list[Moment] = []
-    told = [(number, line.decode(errors="replace")) for number, line in _lines(answers_name, answers)]
+    told, reasons = _told(answers_name, answers)
     events = list(_events(name, data, notes))
     for line, (kind, number, operation, times), note in events:
         for _ in range(times):
@@ -211,7 +230,7 @@ def schedule(name: str, data: bytes, answers_name: str, answers: bytes) -> Story
             place, answer = told[len(moments)]
             if not re.fullmatch(f"{ANSWERS[kind]}|{REFUSED}", answer):
                 raise Faulty(answers_name, place, f"`{answer}` is no answer to `{kind}` of line {line} of {name}")
-            moments.append(Moment(kind, number, operation, answer, note, (answers_name, place)))
+            moments.append(Moment(kind, number, operation, answer, note, (answers_name, place), reasons.get(place, "")))
     end = told[len(moments):]
     for at, (place, words) in enumerate(end):
         if not re.fullmatch(r"depth \d{1,2}" if at == len(end) - 1 else BASE, words):

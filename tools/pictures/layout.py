@@ -1,6 +1,6 @@
 """Gives points their places. Time that does not fit into one width goes on in the next row, as in a score."""
 from collections.abc import Iterator
-from dataclasses import dataclass
+from dataclasses import dataclass, replace
 from itertools import accumulate
 from math import inf
 
@@ -29,12 +29,13 @@ Demand = tuple[int, int, float]
 class Row:
     """The points from `first` to `last` with their places, what is drawn of them, and the lanes, from top to bottom.
     The first place is that of the point `base`: `first`, or in a later row the one before, at which what goes on
-    begins."""
+    begins. `numbers` are those of all lanes that the row has room for."""
 
     base: int
     first: int
     last: int
     places: list[float]
+    numbers: list[int | None]
     lanes: list[Lane]
     bars: list[Bar]
     labels: list[Label]
@@ -47,18 +48,25 @@ class Row:
         return self.places[min(max(point, self.base), self.last) - self.base]
 
 
-def rows(scene: Scene) -> tuple[list[Row], float]:
-    """The rows of a scene, and how many pixels the names of lanes take."""
+def rows(scene: Scene, most: int = MOST_WIDTH) -> tuple[list[Row], float]:
+    """The rows of a scene, at most so many pixels wide, and how many the names of lanes take."""
     left = MARGIN + max((width(lane.name(), NAME_SIZE, bold=True) for lane in scene.lanes.values()), default=0) + 24
     if not scene.note_at:
         return [], left
     placed: list[Row] = []
     for spare in SPARES:
-        parts = [_Part(scene, first, last) for first, last in _breaks(scene, MOST_WIDTH - left - MARGIN - EDGE - spare)]
+        parts = [_Part(scene, first, last) for first, last in _breaks(scene, most - left - MARGIN - EDGE - spare)]
         placed = [part.row(left) for part in parts]
-        if all(row.right <= MOST_WIDTH for row in placed):
+        if all(row.right <= most for row in placed):
             break
     return placed, left
+
+
+def so_far(scene: Scene, row: Row) -> Row:
+    """What an earlier state of the scene has of a row, in the places of the row."""
+    part = _Part(scene, row.first, row.last)
+    labels = [label for label in part.labels if label.role != "open"]
+    return replace(row, lanes=part.lanes, bars=part.bars, labels=labels, arrows=part.arrows, marks=part.marks)
 
 
 def _breaks(scene: Scene, room: float) -> list[tuple[int, int]]:
@@ -173,7 +181,8 @@ class _Part:
         shift = max(edge, edge - min(low for low, _ in reaches))
         places = [shift + place for place in self.places()]
         right = shift + max(high for _, high in reaches) + MARGIN
-        kept = (self.lanes, self.bars, self.labels, self.arrows, self.marks)
+        numbers = [lane.number for lane in self.lanes]
+        kept = (numbers, self.lanes, self.bars, self.labels, self.arrows, self.marks)
         return Row(self.base, self.first, self.last, places, *kept, right)
 
 

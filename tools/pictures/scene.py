@@ -3,7 +3,7 @@ from 0; how far apart they are is left to the layout."""
 from __future__ import annotations
 
 from dataclasses import dataclass, field
-from typing import NoReturn
+from typing import NamedTuple, NoReturn
 
 from .events import Faulty, Moment, Story, meet
 from .fonts import width
@@ -21,6 +21,14 @@ class Pause:
 
     since: int
     until: int | None = None
+
+
+class Done(NamedTuple):
+    """An operation with its reply, and the point at which it was told."""
+
+    operation: str
+    reply: str
+    point: int
 
 
 @dataclass
@@ -43,17 +51,19 @@ class Bar:
 
 @dataclass
 class Lane:
-    """A transaction. `closed` is the point of its end, `seen` the last at which something is drawn in it."""
+    """A transaction. `closed` is the point of its end, `commit` the number under which it committed, `seen` the last
+    point at which something is drawn in it. `standing` is what it did and has not taken back, `held` all that it did."""
 
     number: int | None
     first: int
     is_open: bool
     closed: int | None = None
+    commit: int | None = None
     seen: int = 0
     bar: Bar | None = None
     undoing: bool = False
-    standing: list[str] = field(default_factory=list)
-    held: list[str] = field(default_factory=list)
+    standing: list[Done] = field(default_factory=list)
+    held: list[Done] = field(default_factory=list)
     held_from: int | None = None
 
     def name(self) -> str:
@@ -191,7 +201,7 @@ class Scene:
         if not lane.standing:
             self._fault(moment, f"transaction {lane.number} has no operation left")
         lane.undoing = True
-        bar = self._start(lane, "undo", lane.standing.pop(), self._point(moment, lane))
+        bar = self._start(lane, "undo", lane.standing.pop().operation, self._point(moment, lane))
         self._stop(bar, self._point(moment, lane))
 
     def _step(self, lane: Lane, moment: Moment) -> None:
@@ -204,16 +214,17 @@ class Scene:
         if word == "going":
             bar.ticks.append(point)
         elif word == "done":
-            lane.standing.append(bar.text)
-            lane.held.append(bar.text)
+            done = Done(bar.text, moment.answer.partition(" ")[2], point)
+            lane.standing.append(done)
+            lane.held.append(done)
             lane.held_from = point if lane.held_from is None else lane.held_from
-            self._stop(bar, point, moment.answer.partition(" ")[2])
+            self._stop(bar, point, done.reply)
         elif word == "undone":
             lane.standing.pop()
             self._stop(bar, point, word)
             self._take_back(lane, moment, point)
         elif word == "aborted":
-            bar.text = _named(lane.standing[::-1], " then ")
+            bar.text = _named([it.operation for it in lane.standing[::-1]], " then ")
             self._stop(bar, point)
             self._close(lane, point, word, "aborted")
         else:
@@ -235,10 +246,10 @@ class Scene:
         self._label(lane, "low", point, moment.answer, "reply", anchor if arrow.goes_up() else "beside")
         held = "the page"
         if kind == "blocked":
-            here = [it for it in target.held if meet(it, bar.text)]
+            here = in_the_way(target, bar.text)
             if not here:
                 self._fault(moment, f"transaction {number} has done nothing to what `{bar.text}` is on")
-            held = _named(here)
+            held = _named([it.operation for it in here])
         self._label(target, "low" if arrow.goes_up() else "top", point, f"holds {held}", "event", "beside")
         target.seen = max(target.seen, point)
 
@@ -254,7 +265,7 @@ class Scene:
         number = int(moment.answer.split()[1])
         if lane.bar or lane.undoing or number != self.commits + 1:
             self._fault(moment, f"transaction {lane.number} can't commit, or not under this number")
-        self.commits = number
+        self.commits = lane.commit = number
         self._close(lane, self._point(moment, lane), moment.answer, "committed")
 
     def _abort(self, lane: Lane, moment: Moment) -> None:
@@ -272,7 +283,7 @@ class Scene:
     def _take_back(self, lane: Lane, moment: Moment, point: int) -> None:
         if not lane.standing:
             self._fault(moment, f"transaction {lane.number} has no operation left")
-        self._start(lane, "undo", lane.standing[-1], point)
+        self._start(lane, "undo", lane.standing[-1].operation, point)
 
     def _start(self, lane: Lane, kind: str, text: str, point: int) -> Bar:
         lane.bar = Bar(lane, kind, point, text)
@@ -304,6 +315,11 @@ class Scene:
             "behind": (-16, room + 16, "start"),
         }[anchor]
         self.labels.append(Label(lane, row, point, text, role, left, right, anchor))
+
+
+def in_the_way(target: Lane, operation: str) -> list[Done]:
+    """What a transaction did to what the operation is on. The answer `blocked by T` tells no more of it."""
+    return [it for it in target.held if meet(it.operation, operation)]
 
 
 def _named(operations: list[str], between: str = ", ") -> str:
