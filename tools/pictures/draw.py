@@ -124,14 +124,14 @@ class RowDrawing:
 
     def drawn(self) -> Iterator[str]:
         """All shapes, those below before those above."""
-        return chain(self.notes(), *self.layers())
+        return chain(self.notes(), *chain.from_iterable(self.layers()))
 
-    def layers(self) -> list[list[str]]:
-        """All shapes of the lanes in layers, those below before those above."""
+    def layers(self) -> list[list[list[str]]]:
+        """All shapes of the lanes in layers, those of each thing together, and those below before those above."""
         row = self.row
         drawn = [map(self._lane, row.lanes), map(self._bar, row.bars), map(self._arrow, row.arrows)]
         drawn += [map(self._mark, row.marks), map(self._label, row.labels)]
-        return [list(chain.from_iterable(layer)) for layer in drawn]
+        return [[list(shapes) for shapes in layer] for layer in drawn]
 
     def notes(self) -> Iterator[str]:
         """A band for each note's span of time, with its number. Every second one is darker."""

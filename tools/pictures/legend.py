@@ -55,14 +55,20 @@ def _sample(kind: str, x: float, y: int) -> list[str]:
     return [draw.sign(kind, x + SAMPLE / 2, y)]
 
 
+def asked(operation: str) -> str:
+    """What an operation asks for, in words."""
+    name, *numbers = operation.split()
+    return ASKED[name].format(*numbers)
+
+
 def _operations(scene: Scene) -> Iterator[str]:
     """The first operation of each name, with what it asks for."""
     first: dict[str, str] = {}
     for bar in scene.bars:
         if bar.kind == "operation":
             first.setdefault(bar.text.split()[0], bar.text)
-    for name, operation in first.items():
-        yield f"`{operation}` {ASKED[name].format(*operation.split()[1:])}"
+    for operation in first.values():
+        yield f"`{operation}` {asked(operation)}"
 
 
 def drawn(scene: Scene, top: int, wide: float) -> tuple[list[str], int]:

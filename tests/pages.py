@@ -1,0 +1,303 @@
+"""Pages: what `tools/picture --page` makes of a schedule or a trace is one file that needs no other, and shows after each
+event what the schedule says, worked out by hand. Where a browser is installed, it steps through the page."""
+from __future__ import annotations
+
+import re
+import shutil
+import subprocess
+from collections.abc import Iterable
+from html.parser import HTMLParser
+from xml.etree import ElementTree
+
+from harness import PATIENCE, ROOT, Program, Ran, expect, holds, lines, same, test
+
+TOOL = ROOT / "tools/picture"
+BROWSERS = ("chromium", "chromium-browser", "google-chrome")
+VOID = ("meta", "br")
+# Objects by their names, with what committed transactions leave and what the pages have.
+Objects = dict[str, tuple[str, str]]
+
+# examples/block-by-reply.txt. Account 1 is opened, has 5, and transaction 1 commits it. Transaction 2 takes 3 and is
+# taken back; transaction 3 takes 1 and, after that, 4.
+ACCOUNT = "account 1"
+BLOCK_OBJECTS: list[Objects] = [
+    {}, {}, {ACCOUNT: ("–", "0")}, {ACCOUNT: ("–", "5")}, *[{ACCOUNT: ("5", "5")}] * 2, *[{ACCOUNT: ("5", "2")}] * 8,
+    *[{ACCOUNT: ("5", "1")}] * 2, *[{ACCOUNT: ("5", "4")}] * 5, {ACCOUNT: ("5", "0")}, {ACCOUNT: ("0", "0")},
+]
+BLOCKED = "3 is blocked by 2: withdraw 1 4 is asked, and on the same object 2 holds withdraw 1 3 done"
+# examples/wait-for-a-page.txt. Transactions 2 and 3 put 5 and 7 into account 1, which has 0. The third commits first.
+PAGE_OBJECTS: list[Objects] = [
+    {}, {}, {ACCOUNT: ("–", "0")}, *[{ACCOUNT: ("0", "0")}] * 11, {ACCOUNT: ("0", "5")}, {ACCOUNT: ("0", "5")},
+    {ACCOUNT: ("0", "12")}, {ACCOUNT: ("7", "12")}, {ACCOUNT: ("12", "12")},
+]
+WAITS = "3 waits for 2: deposit 1 7 asks for a page that is locked by what 2 runs, deposit 1 5"
+# Two transactions that wait for each other. The third one, of which the operation is dropped, waits for one of them.
+CIRCLE = lines(
+    "begin|begin|whole 1 up 1 2|whole 2 up 2 3|call 1 read 2|step 1 4|call 2 read 1|step 2 4|begin|whole 3 read 1|abort 2"
+)
+CIRCLE_TOLD = lines(
+    "begun 1|begun 2|done done|done done|called|going|going|going|blocked by 2|called|going|going|going|blocked by 1"
+    "|begun 3|blocked by 1|refused 5 Running|depth 0"
+)
+
+
+def make(*words: object) -> Ran:
+    """What a run of the tool came to."""
+    ran = subprocess.run([TOOL, "--page", *map(str, words)], capture_output=True)
+    return Ran(ran.returncode, ran.stdout, ran.stderr)
+
+
+class _Reader(HTMLParser):
+    """Reads HTML into a tree."""
+
+    def __init__(self) -> None:
+        super().__init__()
+        self.builder = ElementTree.TreeBuilder()
+
+    def handle_starttag(self, tag: str, attrs: list[tuple[str, str | None]]) -> None:
+        self.builder.start(tag, {name: value or "" for name, value in attrs})
+        if tag in VOID:
+            self.builder.end(tag)
+
+    def handle_startendtag(self, tag: str, attrs: list[tuple[str, str | None]]) -> None:
+        self.builder.start(tag, {name: value or "" for name, value in attrs})
+        self.builder.end(tag)
+
+    def handle_endtag(self, tag: str) -> None:
+        self.builder.end(tag)
+
+    def handle_data(self, data: str) -> None:
+        self.builder.data(data)
+
+
+class Section:
+    """What holds after so many events, as a page shows it."""
+
+    def __init__(self, element: ElementTree.Element) -> None:
+        self.element, self.step = element, int(element.get("data-step", ""))
+        self.is_shown = "on" in element.get("class", "").split()
+        self.heading = self.said("h2")[0]
+
+    def said(self, path: str) -> list[str]:
+        return [" ".join("".join(found.itertext()).split()) for found in self.element.findall(path)]
+
+    def objects(self) -> Objects:
+        rows = ([*row.itertext()] for row in self.element.findall(".//tbody/tr"))
+        return {name: (committed, pages) for name, committed, pages in rows}
+
+    def of(self, role: str) -> list[str]:
+        """What stands under a role, as the reason."""
+        return self.said(f".//p[@class='{role}']")
+
+    def items(self, role: str) -> list[str]:
+        """The items of a list."""
+        return self.said(f"ul[@class='{role}']/li")
+
+
+class Page:
+    """A page, read from its text or from what a browser made of it."""
+
+    def __init__(self, text: str) -> None:
+        reader = _Reader()
+        reader.feed(text)
+        self.text, self.root = text, reader.builder.close()
+        self.sections = [Section(it) for it in self.root.iter("section")]
+        self.shapes = [it for it in self.root.iter("g") if it.get("data-from")]
+
+    def of_step(self, step: int) -> list[str]:
+        """What the lanes have to show of a step: the text of each label, and the class of each other shape."""
+        return [self._named(it) for it in self.shapes if int(it.get("data-from", "")) <= step <= int(it.get("data-to", ""))]
+
+    def shown(self) -> list[str]:
+        """What the lanes show."""
+        return [self._named(it) for it in self.shapes if "on" in it.get("class", "").split()]
+
+    def _named(self, shape: ElementTree.Element) -> str:
+        return "".join(shape.itertext()) or shape[0].get("class", "")
+
+    def check_needs_nothing(self) -> None:
+        """It names no other file and no address, and allows none."""
+        same(re.findall(r"https?:|@import|\ssrc=", self.text.partition("<body>")[0]), [], "the head")
+        for element in self.root.iter():
+            holds(element.tag not in ("link", "img", "iframe", "object", "image", "use"), f"<{element.tag}> is there")
+            for name, value in element.attrib.items():
+                holds(name not in ("src", "srcset", "xlink:href"), f"{name}={value}")
+                holds(name != "href" or value.startswith("#"), f"{name}={value}")
+        same(set(re.findall(r"url\(([^)]*)\)", self.text)), {"#hatch"}, "what styles refer to")
+        policy = [it.get("content", "") for it in self.root.iter("meta") if it.get("http-equiv") == "Content-Security-Policy"]
+        holds(len(policy) == 1 and policy[0].startswith("default-src 'none';"), f"the policy {policy}")
+
+
+def page(*words: object) -> Page:
+    """The page that the tool makes."""
+    ran = make(*words)
+    expect(Ran(ran.status, b"", ran.err), what=f"tools/picture --page {' '.join(map(str, words))}")
+    made = Page(ran.out.decode())
+    made.check_needs_nothing()
+    same([it.step for it in made.sections], list(range(len(made.sections))), "the steps")
+    return made
+
+
+def example(mltx: Program, name: str) -> Page:
+    return page("--program", mltx.path, ROOT / "examples" / name)
+
+
+def by_step(made: Page, role: str) -> dict[int, list[str]]:
+    """The lists of a role that have something, by their steps."""
+    return {it.step: it.items(role) for it in made.sections if it.items(role)}
+
+
+@test
+def page_of_a_block(mltx: Program) -> None:
+    """Each step of examples/block-by-reply.txt."""
+    made = example(mltx, "block-by-reply.txt")
+    same([it.objects() for it in made.sections], BLOCK_OBJECTS, "the objects")
+    same(by_step(made, "waits"), {12: [BLOCKED]}, "who waits for whom")
+    section = made.sections[12]
+    same(section.heading, "12. step 3 blocked by 2", "the heading")
+    holds(section.of("note")[0].startswith("Transaction 3 wants 4 and would be told short."), f"{section.of('note')}")
+    running = "transaction 3 holds nothing; runs withdraw 1 4, 3 steps so far"
+    same(section.items("open"), ["transaction 2 holds withdraw 1 3 done", running], "what is open")
+    takes_back = "transaction 2 holds withdraw 1 3 done; takes back withdraw 1 3"
+    same(made.sections[15].items("open"), [takes_back, "transaction 3 holds withdraw 1 1 done"], "in the abort")
+    same(made.sections[22].items("open"), [], "what is open at the end")
+    same({it.of("depth")[0] for it in made.sections}, {"Depth of the directory: 0"}, "the depth")
+
+
+@test
+def page_of_a_wait(mltx: Program) -> None:
+    """Each step of examples/wait-for-a-page.txt. As the deposit of 2 is done, 3 may go on."""
+    made = example(mltx, "wait-for-a-page.txt")
+    same([it.objects() for it in made.sections], PAGE_OBJECTS, "the objects")
+    gone = "3 waits for 2: deposit 1 7 asks for a page that is locked by what 2 runs. It has ended, and a next step may go on"
+    same(by_step(made, "waits"), {13: [WAITS], 14: [gone]}, "who waits for whom")
+
+
+@test
+def page_of_lanes(mltx: Program) -> None:
+    """The lanes are shown up to the step, and at the last one as the picture of the whole has them."""
+    made = example(mltx, "block-by-reply.txt")
+    words = [word for word in made.of_step(6) if word in ("transaction 1", "transaction 2", "transaction 3", "committed 1")]
+    same(sorted(words), ["committed 1", "transaction 1", "transaction 2"], "the lanes of step 6")
+    holds("blocked" not in made.of_step(11) and "blocked" in made.of_step(12), "the arrow comes with its answer")
+    same(made.shown(), made.of_step(22), "what is shown where nobody steps")
+    holds("committed 2" in made.shown() and "committed 2" not in made.of_step(21), "the last commit")
+
+
+@test
+def page_of_a_circle(mltx: Program) -> None:
+    """Two that wait for each other, one whose operation is dropped, and the comments that follow an answer."""
+    told = CIRCLE_TOLD.replace("blocked by 2\n", "blocked by 2\n# `read 2` is asked\n#after < up 2 3\n")
+    answers, schedule = mltx.file("circle.out", told), mltx.file("circle.txt", CIRCLE)
+    made = page("--program", mltx.path, schedule, answers)
+    blocked = [
+        "1 is blocked by 2: read 2 is asked, and on the same object 2 holds up 2 3 done",
+        "2 is blocked by 1: read 1 is asked, and on the same object 1 holds up 1 2 done",
+    ]
+    circle = "A circle: 1 → 2 → 1. None of them can go on before one of them ends"
+    dropped = "3 is blocked by 1: read 1 is asked, and on the same object 1 holds up 1 2 done. The operation is dropped"
+    waits = {**dict.fromkeys(range(9, 14), blocked[:1]), **dict.fromkeys((14, 15, 17), [*blocked, circle])}
+    same(by_step(made, "waits"), {**waits, 16: [*blocked, dropped, circle]}, "who waits for whom")
+    reasons = {it.step: it.of("reason") for it in made.sections if it.of("reason")}
+    same(reasons, {9: ["read 2 is askedafter < up 2 3"]}, "the reasons")
+    same(made.sections[17].objects(), {"counter 1": ("–", "2"), "counter 2": ("–", "3")}, "the objects")
+
+
+@test
+def page_of_sets(mltx: Program) -> None:
+    """The elements of a set stand together, and what is taken out goes."""
+    schedule = lines("begin|whole 1 add 4 9|whole 1 add 4 12|whole 1 add 10 7|commit 1|begin|whole 2 remove 4 9")
+    made = page("--program", mltx.path, mltx.file("sets.txt", schedule))
+    same(made.sections[3].objects(), {"set 4": ("–", "{9, 12}")}, "before the third is added")
+    wanted = {"set 4": ("{9, 12}", "{12}"), "set 10": ("{7}", "{7}")}
+    same(made.sections[7].objects(), wanted, "as one is taken out")
+
+
+@test
+def page_of_a_trace(mltx: Program) -> None:
+    """Each step of examples/abort-under-deposit.trace: 5 and 7 are put into an account, and the 5 taken back."""
+    made = page("--trace", "--program", mltx.path, ROOT / "examples/abort-under-deposit.trace")
+    objects = [it.objects() for it in made.sections]
+    pages = [{}, {}, {ACCOUNT: ("–", "0")}, *[{ACCOUNT: ("0", it)} for it in ("0", "0", "0", "5", "12", "7", "7")]]
+    same(objects, [*pages, {ACCOUNT: ("7", "7")}], "the objects")
+    same(made.sections[6].heading, "6. op 2 deposit 1 5 done", "a heading")
+    same(made.sections[8].items("open")[0], "transaction 2 holds deposit 1 5 done (taken back)", "what is taken back")
+
+
+@test
+def page_of_a_false_trace(mltx: Program) -> None:
+    """examples/false-reply.trace: `check` refuses it from the first commit on, and before that what stands."""
+    made = page("--trace", "--program", mltx.path, ROOT / "examples/false-reply.trace")
+    faults = {it.step: it.of("fault") for it in made.sections if it.of("fault")}
+    refused = ["mltx check failed: mltx: 11 TraceFault line 4 Reply"]
+    same({step: faults.get(step) for step in (3, 5, 6, 7)}, {3: None, 5: refused, 6: refused, 7: refused}, "the faults")
+    holds("does not accept the replies of what stands" in faults[4][0], f"{faults[4]}")
+    same(made.sections[3].objects(), {ACCOUNT: ("–", "0")}, "before that")
+
+
+@test
+def page_of_nothing(mltx: Program) -> None:
+    """A schedule without events, and one with any bytes in its comments."""
+    made = page("--program", mltx.path, mltx.file("none.txt", ""))
+    same([it.heading for it in made.sections], ["Before the first event"], "the steps")
+    comment = b"# </style><script>alert(1)</script> & \xff\nbegin\n"
+    made = page("--title", "</title><b>", "--program", mltx.path, mltx.file("any.txt", comment))
+    same(made.sections[1].of("note"), ["</style><script>alert(1)</script> & \ufffd"], "the note")
+    same(["".join(it.itertext()) for it in made.root.iter("title")], ["</title><b>"], "the title")
+
+
+@test
+def page_that_is_refused(mltx: Program) -> None:
+    """Too many events, a program that is not there, and a comment before all answers."""
+    many = mltx.file("many.txt", "begin\ncall 1 up 1 1\n" + "step 1\n" * 499)
+    ran = make("--program", mltx.path, many)
+    fault = "tools/picture: the program's answers line 501: a page has at most 500 events\n"
+    expect(ran, status=1, err=fault, what="501 events")
+    away, schedule = mltx.folder / "away", mltx.file("schedule.txt", "begin\n")
+    ran = make("--program", away, schedule, mltx.file("answers.txt", "begun 1\ndepth 0\n"))
+    holds(ran.status == 1 and str(away).encode() in ran.err, f"a program that is not there: {ran}")
+    answers = mltx.file("comment.out", "# why\nbegun 1\ndepth 0\n")
+    fault = f"tools/picture: {answers} line 1: `# why` is no answer to `begin` of line 1 of {schedule}\n"
+    expect(make("--program", mltx.path, schedule, answers), status=1, err=fault, what="a comment before all answers")
+
+
+def browsed(browser: str, mltx: Program, address: str) -> Page:
+    """What a browser makes of a page."""
+    words = ["--headless", "--no-sandbox", "--disable-gpu", f"--user-data-dir={mltx.folder}/profile"]
+    ran = subprocess.run([browser, *words, "--dump-dom", address], capture_output=True, timeout=PATIENCE)
+    holds(ran.returncode == 0, f"{browser} {address}: {ran.stderr.decode(errors='replace')[-300:]}")
+    return Page(ran.stdout.decode())
+
+
+def browsers() -> Iterable[str]:
+    return (found for name in BROWSERS if (found := shutil.which(name)))
+
+
+@test(seconds=20)
+def pages_in_a_browser(mltx: Program) -> None:
+    """A browser shows of each step that is named its state and its lanes alone; and keys and buttons step."""
+    browser = next(iter(browsers()), None)
+    if browser is None:
+        print("    no chromium is installed: what a browser makes of pages is not looked at", flush=True)
+        return
+    file = mltx.folder / "block.html"
+    expect(make("--program", mltx.path, "-o", file, ROOT / "examples/block-by-reply.txt"))
+    for fragment, step in (("", 0), ("#step=6", 6), ("#step=12", 12), ("#step=99", 22)):
+        _check_shown(browsed(browser, mltx, f"file://{file}{fragment}"), step)
+    keys = ("End", "ArrowLeft", "ArrowLeft", "Home", "ArrowRight", "ArrowLeft", "ArrowLeft", "ArrowRight", "ArrowRight")
+    for count, step in ((1, 22), (3, 20), (4, 0), (7, 0), (9, 2)):
+        pressed = [f"document.dispatchEvent(new KeyboardEvent('keydown', {{key: '{key}'}}))" for key in keys[:count]]
+        clicked = [f"document.querySelector('[data-move={key}]').click()" for key in keys[:count]]
+        for does in (pressed, clicked):
+            text = file.read_text().replace("</body>", f"<script>{'; '.join(does)}</script></body>")
+            moved = mltx.file("moved.html", text)
+            _check_shown(browsed(browser, mltx, f"file://{moved}"), step)
+
+
+def _check_shown(seen: Page, step: int) -> None:
+    shown = [it for it in seen.sections if it.is_shown]
+    same([it.step for it in shown], [step], "the step that is shown")
+    same(shown[0].objects(), BLOCK_OBJECTS[step], f"the objects of step {step}")
+    same(shown[0].items("waits"), [BLOCKED] if step == 12 else [], f"who waits at step {step}")
+    same(seen.shown(), seen.of_step(step), f"the lanes of step {step}")
+    same(["".join(it.itertext()) for it in seen.root.iter("span") if it.get("id") == "at"], [f"{step} of 22"], "the count")
