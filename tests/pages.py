@@ -10,10 +10,12 @@ from html.parser import HTMLParser
 from xml.etree import ElementTree
 
 from harness import PATIENCE, ROOT, Program, Ran, expect, holds, lines, same, test
+from model import Cell, Op, apply, cell_of
 
 TOOL = ROOT / "tools/picture"
 BROWSERS = ("chromium", "chromium-browser", "google-chrome")
 VOID = ("meta", "br")
+ABSENT = "–"
 # Objects by their names, with what committed transactions leave and what the pages have.
 Objects = dict[str, tuple[str, str]]
 
@@ -21,13 +23,13 @@ Objects = dict[str, tuple[str, str]]
 # taken back; transaction 3 takes 1 and, after that, 4.
 ACCOUNT = "account 1"
 BLOCK_OBJECTS: list[Objects] = [
-    {}, {}, {ACCOUNT: ("–", "0")}, {ACCOUNT: ("–", "5")}, *[{ACCOUNT: ("5", "5")}] * 2, *[{ACCOUNT: ("5", "2")}] * 8,
+    {}, {}, {ACCOUNT: (ABSENT, "0")}, {ACCOUNT: (ABSENT, "5")}, *[{ACCOUNT: ("5", "5")}] * 2, *[{ACCOUNT: ("5", "2")}] * 8,
     *[{ACCOUNT: ("5", "1")}] * 2, *[{ACCOUNT: ("5", "4")}] * 5, {ACCOUNT: ("5", "0")}, {ACCOUNT: ("0", "0")},
 ]
 BLOCKED = "3 is blocked by 2: withdraw 1 4 is asked, and on the same object 2 holds withdraw 1 3 done"
 # examples/wait-for-a-page.txt. Transactions 2 and 3 put 5 and 7 into account 1, which has 0. The third commits first.
 PAGE_OBJECTS: list[Objects] = [
-    {}, {}, {ACCOUNT: ("–", "0")}, *[{ACCOUNT: ("0", "0")}] * 11, {ACCOUNT: ("0", "5")}, {ACCOUNT: ("0", "5")},
+    {}, {}, {ACCOUNT: (ABSENT, "0")}, *[{ACCOUNT: ("0", "0")}] * 11, {ACCOUNT: ("0", "5")}, {ACCOUNT: ("0", "5")},
     {ACCOUNT: ("0", "12")}, {ACCOUNT: ("7", "12")}, {ACCOUNT: ("12", "12")},
 ]
 WAITS = "3 waits for 2: deposit 1 7 asks for a page that is locked by what 2 runs, deposit 1 5"
@@ -41,10 +43,15 @@ CIRCLE_TOLD = lines(
 )
 
 
-def make(*words: object) -> Ran:
+def draw(*words: object) -> Ran:
     """What a run of the tool came to."""
-    ran = subprocess.run([TOOL, "--page", *map(str, words)], capture_output=True)
+    ran = subprocess.run([TOOL, *map(str, words)], capture_output=True)
     return Ran(ran.returncode, ran.stdout, ran.stderr)
+
+
+def make(*words: object) -> Ran:
+    """What a run of it that is to make a page came to."""
+    return draw("--page", *words)
 
 
 class _Reader(HTMLParser):
@@ -91,7 +98,7 @@ class Section:
 
     def items(self, role: str) -> list[str]:
         """The items of a list."""
-        return self.said(f"ul[@class='{role}']/li")
+        return self.said(f".//ul[@class='{role}']/li")
 
 
 class Page:
@@ -179,6 +186,8 @@ def page_of_lanes(mltx: Program) -> None:
     made = example(mltx, "block-by-reply.txt")
     words = [word for word in made.of_step(6) if word in ("transaction 1", "transaction 2", "transaction 3", "committed 1")]
     same(sorted(words), ["committed 1", "transaction 1", "transaction 2"], "the lanes of step 6")
+    shown = made.of_step(12)
+    holds(shown.index("tick") > max(at for at, it in enumerate(shown) if it == "operation"), "ticks lie on their bars")
     holds("blocked" not in made.of_step(11) and "blocked" in made.of_step(12), "the arrow comes with its answer")
     same(made.shown(), made.of_step(22), "what is shown where nobody steps")
     holds("committed 2" in made.shown() and "committed 2" not in made.of_step(21), "the last commit")
@@ -187,7 +196,7 @@ def page_of_lanes(mltx: Program) -> None:
 @test
 def page_of_a_circle(mltx: Program) -> None:
     """Two that wait for each other, one whose operation is dropped, and the comments that follow an answer."""
-    told = CIRCLE_TOLD.replace("blocked by 2\n", "blocked by 2\n# `read 2` is asked\n#after < up 2 3\n")
+    told = CIRCLE_TOLD.replace("blocked by 2\n", f"blocked by 2\n# `read 2` is asked {'by 1 ' * 50}\n#after < up 2 3\n")
     answers, schedule = mltx.file("circle.out", told), mltx.file("circle.txt", CIRCLE)
     made = page("--program", mltx.path, schedule, answers)
     blocked = [
@@ -199,8 +208,54 @@ def page_of_a_circle(mltx: Program) -> None:
     waits = {**dict.fromkeys(range(9, 14), blocked[:1]), **dict.fromkeys((14, 15, 17), [*blocked, circle])}
     same(by_step(made, "waits"), {**waits, 16: [*blocked, dropped, circle]}, "who waits for whom")
     reasons = {it.step: it.of("reason") for it in made.sections if it.of("reason")}
-    same(reasons, {9: ["read 2 is askedafter < up 2 3"]}, "the reasons")
-    same(made.sections[17].objects(), {"counter 1": ("–", "2"), "counter 2": ("–", "3")}, "the objects")
+    same(reasons, {9: [f"read 2 is asked {'by 1 ' * 49}by 1after < up 2 3"]}, "the reasons")
+    bare = mltx.file("bare.out", CIRCLE_TOLD)
+    same(draw(schedule, answers), draw(schedule, bare), "the picture, in which they are not")
+    same(made.sections[17].objects(), {"counter 1": (ABSENT, "2"), "counter 2": (ABSENT, "3")}, "the objects")
+
+
+class Standing:
+    """What stands after each event of a schedule, by the model of the tables."""
+
+    def __init__(self) -> None:
+        self.done: list[tuple[int, Op]] = []
+        self.asked: dict[int, Op] = {}
+        self.commits: list[int] = []
+
+    def tell(self, event: str, answer: str) -> None:
+        kind, number, operation = [*event.split(" ", 2), "0", ""][:3]
+        transaction, word = int(number), answer.split()[0]
+        if kind in ("call", "whole"):
+            name, *numbers = operation.split()
+            self.asked[transaction] = (name, *map(int, numbers))
+        if word == "done":
+            self.done.append((transaction, self.asked[transaction]))
+        elif word == "committed":
+            self.commits.append(transaction)
+        elif word == "undone":
+            del self.done[max(at for at, it in enumerate(self.done) if it[0] == transaction)]
+        elif word == "aborted":
+            self.done = [it for it in self.done if it[0] != transaction]
+
+    def objects(self) -> Objects:
+        """What the commits leave, in their order, and what all that stands leaves."""
+        committed = self._left([op for number in self.commits for it, op in self.done if it == number])
+        pages = self._left([op for _, op in self.done])
+        return {name: (committed.get(name, ABSENT), pages.get(name, ABSENT)) for name in {**committed, **pages}}
+
+    def _left(self, ops: list[Op]) -> dict[str, str]:
+        cells: dict[Cell, int | None] = {}
+        for op in ops:
+            if op[0] != "size":
+                cells[cell_of(op)] = apply(cells.get(cell_of(op)), op)[1]
+        left: dict[str, str] = {}
+        for (kind, number, *element), value in sorted(cells.items()):
+            if kind == "element" and value is not None:
+                before = left.get(f"set {number}", "").strip("{}")
+                left[f"set {number}"] = "{" + ", ".join([*filter(None, [before]), str(element[0])]) + "}"
+            elif kind != "element" and value is not None and (kind, value) != ("counter", 0):
+                left[f"{kind} {number}"] = str(value)
+        return left
 
 
 @test
@@ -208,7 +263,7 @@ def page_of_sets(mltx: Program) -> None:
     """The elements of a set stand together, and what is taken out goes."""
     schedule = lines("begin|whole 1 add 4 9|whole 1 add 4 12|whole 1 add 10 7|commit 1|begin|whole 2 remove 4 9")
     made = page("--program", mltx.path, mltx.file("sets.txt", schedule))
-    same(made.sections[3].objects(), {"set 4": ("–", "{9, 12}")}, "before the third is added")
+    same(made.sections[3].objects(), {"set 4": (ABSENT, "{9, 12}")}, "before the third is added")
     wanted = {"set 4": ("{9, 12}", "{12}"), "set 10": ("{7}", "{7}")}
     same(made.sections[7].objects(), wanted, "as one is taken out")
 
@@ -218,7 +273,7 @@ def page_of_a_trace(mltx: Program) -> None:
     """Each step of examples/abort-under-deposit.trace: 5 and 7 are put into an account, and the 5 taken back."""
     made = page("--trace", "--program", mltx.path, ROOT / "examples/abort-under-deposit.trace")
     objects = [it.objects() for it in made.sections]
-    pages = [{}, {}, {ACCOUNT: ("–", "0")}, *[{ACCOUNT: ("0", it)} for it in ("0", "0", "0", "5", "12", "7", "7")]]
+    pages = [{}, {}, {ACCOUNT: (ABSENT, "0")}, *[{ACCOUNT: ("0", it)} for it in ("0", "0", "0", "5", "12", "7", "7")]]
     same(objects, [*pages, {ACCOUNT: ("7", "7")}], "the objects")
     same(made.sections[6].heading, "6. op 2 deposit 1 5 done", "a heading")
     same(made.sections[8].items("open")[0], "transaction 2 holds deposit 1 5 done (taken back)", "what is taken back")
@@ -232,7 +287,7 @@ def page_of_a_false_trace(mltx: Program) -> None:
     refused = ["mltx check failed: mltx: 11 TraceFault line 4 Reply"]
     same({step: faults.get(step) for step in (3, 5, 6, 7)}, {3: None, 5: refused, 6: refused, 7: refused}, "the faults")
     holds("does not accept the replies of what stands" in faults[4][0], f"{faults[4]}")
-    same(made.sections[3].objects(), {ACCOUNT: ("–", "0")}, "before that")
+    same(made.sections[3].objects(), {ACCOUNT: (ABSENT, "0")}, "before that")
 
 
 @test

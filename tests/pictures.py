@@ -9,6 +9,7 @@ from itertools import combinations
 from xml.etree import ElementTree
 
 from harness import ROOT, Ran, each, expect, holds, same, test
+from pages import ABSENT, Standing, page
 from rows import EXAMPLES, shown_examples
 from schedules import ROWS
 
@@ -27,6 +28,8 @@ HELD = {"block-by-reply.txt": ["holds withdraw 1 3"], "wait-for-a-page.txt": ["h
 HELD["size-of-a-set.txt"] = ["holds size 4", "holds add 4 12"]
 # The most pixels of a picture's width, the least size of a font, and the part of it that a character takes at least.
 MOST_WIDTH, LEAST_SIZE, NARROW = 1000, 12, 0.5
+# The most lines of the output of a row of which a page is made.
+MOST_LINES = 40
 ENDS_A_WHOLE = ("refused 1 OutOfMemory", "refused 2 NoRoom")
 
 
@@ -212,6 +215,24 @@ def pictures_of_all_schedules(mltx):
         check(seen, [(event, answer) for event, answers in row.told() for answer in answers])
         same(" ".join(seen.said("note")).split(), left_by(row.end().splitlines()).split(), f"{name}: what is left")
         same(seen.said("picture"), [name.replace("-", " ").capitalize()], "the title")
+
+
+@test(seconds=10)
+def pages_of_schedules(mltx):
+    """Each step of a page of each worked row, but for the longest ones, has the objects that the model has."""
+    for name, row in ((name, row) for name, row in ROWS.items() if row.output().count("\n") <= MOST_LINES):
+        made = page(*row.options[0], "--program", mltx.path, mltx.file(f"{name}.txt", row.events()))
+        model, sections = Standing(), iter(made.sections)
+        same(next(sections).objects(), {}, f"{name}: before the first event")
+        for event, answer in ((event, answer) for event, answers in row.told() for answer in answers):
+            model.tell(event, answer)
+            section = next(sections)
+            holds(section.heading.endswith(f" {answer}"), f"{name}: `{section.heading}` for `{event}`, {answer}")
+            # What the event took away has a row of dashes.
+            seen = {name: values for name, values in section.objects().items() if values != (ABSENT, ABSENT)}
+            same(seen, model.objects(), f"{name}: {section.heading}")
+            same(section.of("fault"), [], f"{name}: {section.heading}")
+        same(list(sections), [], f"{name}: more steps")
 
 
 def items(trace):

@@ -4,7 +4,8 @@ from collections.abc import Iterator
 from dataclasses import dataclass
 from typing import NamedTuple
 
-MOST_BYTES = 200
+# The most bytes of a line, and of a comment that follows an answer.
+MOST_BYTES, MOST_BYTES_OF_REASON = 200, 1_000
 MOST_STEPS = 1_000
 BIG, CELL, SET = 2**64, 2**32, 2**16
 # Of each operation the ends of its numbers' ranges: those that name its cell, and that of its amount.
@@ -93,12 +94,12 @@ class Story:
     end: list[str]
 
 
-def _lines(name: str, data: bytes) -> Iterator[tuple[int, bytes]]:
-    """The lines of a text with their numbers."""
+def _lines(name: str, data: bytes, most: int = MOST_BYTES) -> Iterator[tuple[int, bytes]]:
+    """The lines of a text with their numbers, each of at most so many bytes."""
     parts = data.split(b"\n")
     for number, line in enumerate(parts if parts[-1] else parts[:-1], 1):
-        if len(line) > MOST_BYTES:
-            raise Faulty(name, number, f"more than {MOST_BYTES} bytes")
+        if len(line) > most:
+            raise Faulty(name, number, f"more than {most} bytes")
         yield number, (line[:-1] if line.endswith(b"\r") else line)
 
 
@@ -207,7 +208,7 @@ def _told(name: str, answers: bytes) -> tuple[list[tuple[int, str]], dict[int, s
     """The answers with the numbers of their lines, and the comments behind each, by that number."""
     told: list[tuple[int, str]] = []
     reasons: dict[int, str] = {}
-    for number, line in _lines(name, answers):
+    for number, line in _lines(name, answers, MOST_BYTES_OF_REASON):
         words = line.decode(errors="replace")
         if told and words.startswith("#"):
             place = told[-1][0]

@@ -227,13 +227,13 @@ def _cell(name: str, now: Base | None, then: Base | None) -> str:
 
 
 def _listed(heading: str, role: str, items: list[str]) -> Iterator[str]:
-    yield f"<h3>{heading}</h3>"
+    yield f'<div class="part{"" if items else " empty"}"><h3>{heading}</h3>'
     if items:
         yield f'<ul class="{role}">'
         yield from (f"<li>{item}</li>" for item in items)
-        yield "</ul>"
+        yield "</ul></div>"
     else:
-        yield f'<p class="none {role}">none</p>'
+        yield f'<p class="none {role}">none</p></div>'
 
 
 def _transaction(lane: Lane) -> str:
