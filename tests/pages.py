@@ -5,7 +5,7 @@ from __future__ import annotations
 import re
 import shutil
 import subprocess
-from collections.abc import Iterable
+from collections.abc import Iterator
 from html.parser import HTMLParser
 from xml.etree import ElementTree
 
@@ -15,7 +15,6 @@ from model import Cell, Op, apply, cell_of
 TOOL = ROOT / "tools/picture"
 BROWSERS = ("chromium", "chromium-browser", "google-chrome")
 VOID = ("meta", "br")
-ABSENT = "–"
 # Objects by their names, with what committed transactions leave and what the pages have.
 Objects = dict[str, tuple[str, str]]
 
@@ -23,13 +22,13 @@ Objects = dict[str, tuple[str, str]]
 # taken back; transaction 3 takes 1 and, after that, 4.
 ACCOUNT = "account 1"
 BLOCK_OBJECTS: list[Objects] = [
-    {}, {}, {ACCOUNT: (ABSENT, "0")}, {ACCOUNT: (ABSENT, "5")}, *[{ACCOUNT: ("5", "5")}] * 2, *[{ACCOUNT: ("5", "2")}] * 8,
+    {}, {}, {ACCOUNT: ("–", "0")}, {ACCOUNT: ("–", "5")}, *[{ACCOUNT: ("5", "5")}] * 2, *[{ACCOUNT: ("5", "2")}] * 8,
     *[{ACCOUNT: ("5", "1")}] * 2, *[{ACCOUNT: ("5", "4")}] * 5, {ACCOUNT: ("5", "0")}, {ACCOUNT: ("0", "0")},
 ]
 BLOCKED = "3 is blocked by 2: withdraw 1 4 is asked, and on the same object 2 holds withdraw 1 3 done"
 # examples/wait-for-a-page.txt. Transactions 2 and 3 put 5 and 7 into account 1, which has 0. The third commits first.
 PAGE_OBJECTS: list[Objects] = [
-    {}, {}, {ACCOUNT: (ABSENT, "0")}, *[{ACCOUNT: ("0", "0")}] * 11, {ACCOUNT: ("0", "5")}, {ACCOUNT: ("0", "5")},
+    {}, {}, {ACCOUNT: ("–", "0")}, *[{ACCOUNT: ("0", "0")}] * 11, {ACCOUNT: ("0", "5")}, {ACCOUNT: ("0", "5")},
     {ACCOUNT: ("0", "12")}, {ACCOUNT: ("7", "12")}, {ACCOUNT: ("12", "12")},
 ]
 WAITS = "3 waits for 2: deposit 1 7 asks for a page that is locked by what 2 runs, deposit 1 5"
@@ -211,7 +210,12 @@ def page_of_a_circle(mltx: Program) -> None:
     same(reasons, {9: [f"read 2 is asked {'by 1 ' * 49}by 1after < up 2 3"]}, "the reasons")
     bare = mltx.file("bare.out", CIRCLE_TOLD)
     same(draw(schedule, answers), draw(schedule, bare), "the picture, in which they are not")
-    same(made.sections[17].objects(), {"counter 1": (ABSENT, "2"), "counter 2": (ABSENT, "3")}, "the objects")
+    same(made.sections[17].objects(), {"counter 1": ("0", "2"), "counter 2": ("0", "3")}, "the objects")
+
+
+def nothing(name: str) -> str:
+    """What stands for an object of which nothing is told."""
+    return {"account": "–", "set": "{}", "counter": "0"}[name.split()[0]]
 
 
 class Standing:
@@ -241,7 +245,8 @@ class Standing:
         """What the commits leave, in their order, and what all that stands leaves."""
         committed = self._left([op for number in self.commits for it, op in self.done if it == number])
         pages = self._left([op for _, op in self.done])
-        return {name: (committed.get(name, ABSENT), pages.get(name, ABSENT)) for name in {**committed, **pages}}
+        names = {**committed, **pages}
+        return {it: (committed.get(it, nothing(it)), pages.get(it, nothing(it))) for it in names}
 
     def _left(self, ops: list[Op]) -> dict[str, str]:
         cells: dict[Cell, int | None] = {}
@@ -263,7 +268,7 @@ def page_of_sets(mltx: Program) -> None:
     """The elements of a set stand together, and what is taken out goes."""
     schedule = lines("begin|whole 1 add 4 9|whole 1 add 4 12|whole 1 add 10 7|commit 1|begin|whole 2 remove 4 9")
     made = page("--program", mltx.path, mltx.file("sets.txt", schedule))
-    same(made.sections[3].objects(), {"set 4": (ABSENT, "{9, 12}")}, "before the third is added")
+    same(made.sections[3].objects(), {"set 4": ("{}", "{9, 12}")}, "before the third is added")
     wanted = {"set 4": ("{9, 12}", "{12}"), "set 10": ("{7}", "{7}")}
     same(made.sections[7].objects(), wanted, "as one is taken out")
 
@@ -273,7 +278,7 @@ def page_of_a_trace(mltx: Program) -> None:
     """Each step of examples/abort-under-deposit.trace: 5 and 7 are put into an account, and the 5 taken back."""
     made = page("--trace", "--program", mltx.path, ROOT / "examples/abort-under-deposit.trace")
     objects = [it.objects() for it in made.sections]
-    pages = [{}, {}, {ACCOUNT: (ABSENT, "0")}, *[{ACCOUNT: ("0", it)} for it in ("0", "0", "0", "5", "12", "7", "7")]]
+    pages = [{}, {}, {ACCOUNT: ("–", "0")}, *[{ACCOUNT: ("0", it)} for it in ("0", "0", "0", "5", "12", "7", "7")]]
     same(objects, [*pages, {ACCOUNT: ("7", "7")}], "the objects")
     same(made.sections[6].heading, "6. op 2 deposit 1 5 done", "a heading")
     same(made.sections[8].items("open")[0], "transaction 2 holds deposit 1 5 done (taken back)", "what is taken back")
@@ -287,7 +292,7 @@ def page_of_a_false_trace(mltx: Program) -> None:
     refused = ["mltx check failed: mltx: 11 TraceFault line 4 Reply"]
     same({step: faults.get(step) for step in (3, 5, 6, 7)}, {3: None, 5: refused, 6: refused, 7: refused}, "the faults")
     holds("does not accept the replies of what stands" in faults[4][0], f"{faults[4]}")
-    same(made.sections[3].objects(), {ACCOUNT: (ABSENT, "0")}, "before that")
+    same(made.sections[3].objects(), {ACCOUNT: ("–", "0")}, "before that")
 
 
 @test
@@ -324,14 +329,18 @@ def browsed(browser: str, mltx: Program, address: str) -> Page:
     return Page(ran.stdout.decode())
 
 
-def browsers() -> Iterable[str]:
-    return (found for name in BROWSERS if (found := shutil.which(name)))
+def browsers() -> Iterator[str]:
+    """The browsers that are installed and run."""
+    for found in (shutil.which(name) for name in BROWSERS):
+        if found and subprocess.run([found, "--version"], capture_output=True).returncode == 0:
+            yield found
 
 
 @test(seconds=20)
 def pages_in_a_browser(mltx: Program) -> None:
-    """A browser shows of each step that is named its state and its lanes alone; and keys and buttons step."""
-    browser = next(iter(browsers()), None)
+    """Where a browser is installed, it shows of each step that is named its state and its lanes alone, and keys and
+    buttons step."""
+    browser = next(browsers(), None)
     if browser is None:
         print("    no chromium is installed: what a browser makes of pages is not looked at", flush=True)
         return

@@ -9,7 +9,7 @@ from itertools import combinations
 from xml.etree import ElementTree
 
 from harness import ROOT, Ran, each, expect, holds, same, test
-from pages import ABSENT, Standing, page
+from pages import Standing, nothing, page
 from rows import EXAMPLES, shown_examples
 from schedules import ROWS
 
@@ -228,8 +228,8 @@ def pages_of_schedules(mltx):
             model.tell(event, answer)
             section = next(sections)
             holds(section.heading.endswith(f" {answer}"), f"{name}: `{section.heading}` for `{event}`, {answer}")
-            # What the event took away has a row of dashes.
-            seen = {name: values for name, values in section.objects().items() if values != (ABSENT, ABSENT)}
+            # What the event took away has a row that tells of nothing.
+            seen = {it: values for it, values in section.objects().items() if values != (nothing(it),) * 2}
             same(seen, model.objects(), f"{name}: {section.heading}")
             same(section.of("fault"), [], f"{name}: {section.heading}")
         same(list(sections), [], f"{name}: more steps")

@@ -17,7 +17,7 @@ function show(step) {
   for (const shape of shapes) {
     shape.classList.toggle("on", shape.dataset.from <= at && at <= shape.dataset.to);
   }
-  links.forEach((link, number) => link.toggleAttribute("aria-current", number + 1 === at));
+  links.forEach((link, number) => link.setAttribute("aria-current", number + 1 === at ? "step" : "false"));
   document.querySelector("#at").textContent = `${at} of ${last}`;
   for (const button of document.querySelectorAll("[data-move]")) {
     button.disabled = at === (["Home", "ArrowLeft"].includes(button.dataset.move) ? 0 : last);

@@ -16,7 +16,8 @@ from .states import Base, State, Wait, states, trace_line
 MOST_MOMENTS, WIDTH = 500, 760
 # How many layers a row has, and how many shapes of one thing lie one on another.
 LAYERS, DEPTH = 6, 3
-KINDS, ABSENT = ("account", "set", "counter"), "\u2013"
+# The kinds of objects in the order of a base, with what stands for one that a base does not name.
+NOTHING = {"account": "\u2013", "set": "{}", "counter": "0"}
 HERE = Path(__file__).resolve().parent
 # No other file and no network, whatever the texts have.
 POLICY = "default-src 'none'; style-src 'unsafe-inline'; script-src 'unsafe-inline'"
@@ -28,7 +29,7 @@ HELP = (
     "Arrow keys step forward and back, Home and End go to the start and to the end.",
     "<i>Committed</i> is what the committed transactions leave, run alone in the order of their commits. <i>Pages</i> is"
     " what the pages have: also what open transactions did, but not what an operation that runs has changed so far."
-    " An object that is not there has a dash, and counters that are 0 are left out. What an event has changed is marked.",
+    " An account that is not there has a dash. What an event has changed is marked.",
 )
 
 
@@ -216,14 +217,14 @@ class _Section:
 
 def _order(name: str) -> tuple[int, int]:
     kind, number = name.split()
-    return KINDS.index(kind), int(number)
+    return list(NOTHING).index(kind), int(number)
 
 
 def _cell(name: str, now: Base | None, then: Base | None) -> str:
     if now is None:
         return "<td>?</td>"
     marked = ' class="new"' if then is not None and now.get(name) != then.get(name) else ""
-    return f"<td{marked}>{now.get(name, ABSENT)}</td>"
+    return f"<td{marked}>{now.get(name, NOTHING[name.split()[0]])}</td>"
 
 
 def _listed(heading: str, role: str, items: list[str]) -> Iterator[str]:
