@@ -175,7 +175,7 @@ def page_of_a_wait(mltx: Program) -> None:
     """Each step of examples/wait-for-a-page.txt. As the deposit of 2 is done, 3 may go on."""
     made = example(mltx, "wait-for-a-page.txt")
     same([it.objects() for it in made.sections], PAGE_OBJECTS, "the objects")
-    gone = "3 waits for 2: deposit 1 7 asks for a page that is locked by what 2 runs. It has ended, and a next step may go on"
+    gone = "3 waited for 2, whose operation has ended: a next step may go on (deposit 1 7)"
     same(by_step(made, "waits"), {13: [WAITS], 14: [gone]}, "who waits for whom")
 
 
@@ -261,6 +261,17 @@ class Standing:
             elif kind != "element" and value is not None and (kind, value) != ("counter", 0):
                 left[f"{kind} {number}"] = str(value)
         return left
+
+
+@test
+def page_of_a_block_that_ends(mltx: Program) -> None:
+    """Once the transaction that is in the way has ended, a next step may go on, and then nobody waits."""
+    schedule = lines("begin|whole 1 up 1 2|begin|call 2 read 1|step 2 4|commit 1|step 2")
+    made = page("--program", mltx.path, mltx.file("ends.txt", schedule))
+    blocked = "2 is blocked by 1: read 1 is asked, and on the same object 1 holds up 1 2 done"
+    gone = "2 was blocked by 1, which has ended: a next step may go on (read 1)"
+    same(by_step(made, "waits"), {8: [blocked], 9: [gone]}, "who waits for whom")
+    same(made.sections[10].heading, "10. step 2 going", "the last step")
 
 
 @test

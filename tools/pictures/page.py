@@ -259,15 +259,18 @@ def _running(bar: Bar) -> str:
 
 def _wait(wait: Wait) -> str:
     """Who waits for whom, and what of that one is in the way."""
-    here = ", ".join(map(_done, wait.here))
     what = f"takes back {_code(wait.bar.text)}" if wait.bar.kind == "undo" else _code(wait.bar.text)
-    if wait.kind == "blocked":
+    here = ", ".join(map(_done, wait.here))
+    if wait.is_over:
+        said = f"was blocked by <b>{wait.target}</b>, which" if wait.kind == "blocked" else (
+            f"waited for <b>{wait.target}</b>, whose operation"
+        )
+        said += f" has ended: a next step may go on ({what})"
+    elif wait.kind == "blocked":
         said = f"is blocked by <b>{wait.target}</b>: {what} is asked, and on the same object {wait.target} holds {here}"
     else:
-        said = f"waits for <b>{wait.target}</b>: {what} asks for a page that is locked by what {wait.target} runs"
-        said += f", {here}" if here else ""
-    over = ". It has ended, and a next step may go on" if wait.is_over else ""
-    return f"<b>{wait.number}</b> {said}{over}{'. The operation is dropped' if wait.is_dropped else ''}"
+        said = f"waits for <b>{wait.target}</b>: {what} asks for a page that is locked by what {wait.target} runs, {here}"
+    return f"<b>{wait.number}</b> {said}{'. The operation is dropped' if wait.is_dropped else ''}"
 
 
 def _circle(numbers: list[int]) -> str:
