@@ -24,4 +24,4 @@ returns-clause-plays g c =
 pub returns-clause-whole : goal.returns-clause-whole
 returns-clause-whole g c = λ whole.
     let plays = all_played g.P.Pseudo.bits_of c.args.limits c.args.pseudo c.args.events.now c.loop-event.event-index c.loop-event.tolds.items c.loop-event.manager c.loop-event-test.false c.loop-event.invariant c.keeps_its_promises.ensures in
-    none_waits g.P.Pseudo.bits_of c.args.limits c.args.pseudo c.args.events.now c.loop-event.tolds.items plays.opening c.loop-event.manager plays.opens plays.run whole
+    none_waits g.P.Pseudo.bits_of c.args.limits c.args.pseudo c.args.events.now c.loop-event.tolds.items plays.first c.loop-event.manager plays.is_new plays.run whole
