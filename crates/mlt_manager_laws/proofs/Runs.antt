@@ -7,9 +7,11 @@ use Rattle.std.specs.Ordering.{nat_cmp}
 use Rattle.mlt_types.specs.declared.limits.Limits.{Limits}
 use Rattle.mlt_object_kinds.specs.declared.operation.ObjOp.{ObjOp}
 use Rattle.mlt_object_kinds.specs.declared.operation.ObjReply.{ObjReply}
+use Rattle.mlt_page.specs.declared.page.Page.{Page}
 use Rattle.mlt_hash_access.specs.Views.{View}
 use Rattle.mlt_hash_form.specs.File.{FilePages, GivesPseudokeys, HasForm}
 use Rattle.mlt_hash_form.specs.Prefixes.{IsExtendibleHashFile}
+use Rattle.mlt_hash_form.specs.Records.{IsRecordMap, live_records}
 use Rattle.mlt_hash_form.specs.declared.root.Root.{Root}
 use Rattle.mlt_hash.specs.Walks.{basis_by}
 use Rattle.mlt_event.specs.declared.answer.Answer.{Answer}
@@ -69,9 +71,10 @@ pub reached : {P : Type 0} (bits_of : P → ℕ → ℕ) (m : ManagerFields P) �
 reached bits_of m keys r = run_keeps bits_of r.events r.tolds r.opening m (new_kept bits_of r.opening r.limits r.pseudo (keys r.opening.root.pseudo) r.opens) r.run
 
 -- **And a run can be cut behind any of its events.**
-module _ {P : Type 0} (bits_of : P → ℕ → ℕ) (has_file : (bits : ℕ → ℕ) (opens : set.FinSet nat_cmp) (pages : FilePages) (root : ℕ) → GivesPseudokeys bits → HasForm bits pages root → IsExtendibleHashFile bits opens pages root) where
+module _ {P : Type 0} (bits_of : P → ℕ → ℕ) (has_file : (bits : ℕ → ℕ) (opens : set.FinSet nat_cmp) (pages : FilePages) (root : ℕ) → GivesPseudokeys bits → HasForm bits pages root → IsExtendibleHashFile bits opens pages root)
+    (has_records : (bits : ℕ → ℕ) (pages : map.FinMap nat_cmp Page) (root : ℕ) → GivesPseudokeys bits → HasForm bits (map.get pages) root → IsRecordMap (live_records pages) (map.get pages)) where
   cut : (before later : List Event) (tolds : List Told) (m m' : ManagerFields P) → IsManager bits_of m → IsRun bits_of m (before ++ later) tolds m' → IsCutBehind bits_of m m' before later tolds
-  cut [] later tolds m m' h run = record { told_before = []; told_later = tolds; told = refl; between = m; leads = refl; goes_on = run; promises = promises_kept bits_of m h has_file }
+  cut [] later tolds m m' h run = record { told_before = []; told_later = tolds; told = refl; between = m; leads = refl; goes_on = run; promises = promises_kept bits_of m h has_file has_records }
   cut (e ∷ es) later [] m m' h none = absurd none
   cut (e ∷ es) later (t ∷ ts) m m' h (next, meets, rest) =
       let c = cut es later ts next m' (meets_keeps bits_of (counted m) next (counted_keeps bits_of m h) e t meets) rest in

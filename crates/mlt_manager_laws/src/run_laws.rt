@@ -21,7 +21,7 @@ ghost use Rattle.mlt_manager.specs.Openings.{IsNew};
 ghost use Rattle.mlt_manager.specs.Promises.{KeepsPromises};
 ghost use Rattle.mlt_manager_laws.specs.Runs.{HasOwnSteps, IsCutBehind, IsReached, OnlySteps, TakesOwnSteps, TakesPassInRun};
 
-use mlt_hash_form::form_is_extendible_hashing;
+use mlt_hash_form::{form_is_extendible_hashing, records_are_a_map};
 use mlt_types::Pseudo;
 
 /// Each manager to which a run leads from a new one keeps its promises. So does each between two events of a run, for the
@@ -34,6 +34,7 @@ pub fn managers_of_a_run_keep_their_promises<P: Pseudo>()
         → IsCutBehind P.bits_of opening new before later tolds }
 {
     form_is_extendible_hashing();
+    records_are_a_map();
 }
 
 /// The steps that a transaction takes in a run of a manager, where nothing else is asked of it, are steps of its own:
