@@ -1,0 +1,324 @@
+"""The script `mltx` at the top: which program it runs, what it builds before, and what it tells of that. It stands in a small
+copy of this repository, beside a kit that makes scripts in place of programs; so nothing is compiled, and nothing proved."""
+from __future__ import annotations
+
+import os
+import re
+import shutil
+import signal
+import subprocess
+import time
+from collections.abc import Mapping
+from pathlib import Path
+
+from harness import PATIENCE, ROOT, Program, Ran, each, expect, holds, same, test
+
+# What of this repository stands in the copy.
+COPIED = ("mltx", "tools/quick-build", "tools/proved-build", "crates.txt", "crates/mltx/src", "crates/mlt_cli/src")
+# The kit's rt. Each call is noted in $NOTES, and files there say how it is to work: `try` without proof, `run` with it.
+RT = r"""#!/bin/sh
+kit=$(dirname "$(dirname "$(readlink -f "$0")")")
+echo "$*" >>"$NOTES/asked"
+cat >/dev/null
+program() {
+    version=$(sed -n 's/^const VERSION: &str = "\(.*\)";/\1/p' ../mlt_cli/src/commands.rt)
+    printf '#!/bin/sh\n[ "$1" = --version ] && { echo "mltx %s"; exit; }\n' "$version"
+    printf 'echo %s "$@"\ncat\necho told >&2\nexit 3\n' "$1"
+}
+case $1 in
+try)
+    [ -e "$NOTES/tries-fail" ] && { echo 'rt: there is no try' >&2; exit 2; }
+    [ -e "$NOTES/edit" ] && touch "$(cat "$NOTES/edit")"
+    if [ -e "$NOTES/two" ]; then
+        touch "$NOTES/here.$$"
+        until [ "$(ls "$NOTES" | grep -c here)" = 2 ]; do sleep 0.01; done
+    fi
+    [ -e "$NOTES/stay" ] && { touch "$NOTES/staying"; sleep 60 & trap 'kill $!; exit 130' INT; wait; }
+    "$kit/bin/rattle" check
+    room=$(mktemp -d)
+    program unproved >"$room/input"
+    cd "$room" || exit
+    "$kit/toolchain/bin/clang" -c 'a  b.bc' -O0 -fsanitize=address -o input.o
+    "$kit/toolchain/bin/ld.lld" -o program input --whole-archive watcher --no-whole-archive library
+    status=$?
+    rm -r "$room"
+    exit $status
+    ;;
+run)
+    [ -e "$NOTES/proofs-fail" ] && { echo 'error: a clause is not proved'; exit 1; }
+    printf 'rt: chose --jobs 2 for mlt_types\nlater\n'
+    mkdir -p out
+    program proved >out/mltx
+    chmod +x out/mltx
+    ;;
+esac
+"""
+# Its compiler notes its words, and its linker makes a program that tells what it was linked from.
+CLANG = r"""#!/bin/sh
+printf '%s\n' "$@" >"$NOTES/clang"
+"""
+LINKER = r"""#!/bin/sh
+before=
+for word in "$@"; do
+    [ "$before" = -o ] && made=$word
+    [ "$word" = watcher ] && watched=' watched'
+    before=$word
+done
+sed "s/unproved/unproved$watched/" input >"$made"
+chmod +x "$made"
+"""
+# No check is to be made.
+RATTLE = '#!/bin/sh\necho "rattle $*" >>"$NOTES/asked"\n'
+
+BUILDS = "mltx: building the program without proof, in some two minutes\n"
+BUILT = "mltx: built in T. It is not proved: ./test proves it, and puts the proved one in its place\n"
+FAILS = "mltx: that failed, for the reason above, so it has to be proved\n"
+PROVES = "mltx: proving and building the program: from nothing some 40 minutes on four cores, later only what changed\n"
+PROVED = "mltx: proving mlt_types\nmltx: proved and built in T\n"
+TRY, RUN = "try -- --version\n", "run -- --version\n"
+
+
+class Tree:
+    """A copy of this repository in which nothing is built, with a kit of its own, and the files by which the kit is told."""
+
+    def __init__(self, mltx: Program) -> None:
+        self.top, self.kit, self.notes = (mltx.folder / name for name in ("tree", "the kit", "notes"))
+        for name in COPIED:
+            source, copy = ROOT / name, self.top / name
+            copy.parent.mkdir(parents=True, exist_ok=True)
+            shutil.copytree(source, copy) if source.is_dir() else shutil.copy(source, copy)
+        parts = {"bin/rt": RT, "bin/rtlib.py": "", "bin/rattle": RATTLE, "toolchain/bin/clang": CLANG, "toolchain/bin/ld.lld": LINKER}
+        for name, text in {**parts, "toolchain/lib": "", "logic": ""}.items():
+            (self.kit / name).parent.mkdir(parents=True, exist_ok=True)
+            (self.kit / name).write_text(text)
+            (self.kit / name).chmod(0o755)
+        # What another branch may have left behind.
+        (self.top / "crates/gone/out").mkdir(parents=True)
+        (mltx.folder / "bin").mkdir()
+        (mltx.folder / "bin/rt").symlink_to(self.kit / "bin/rt")
+        (mltx.folder / "tmp").mkdir()
+        self.notes.mkdir()
+        paths = {"PATH": f"{mltx.folder}/bin:/usr/bin:/bin", "TMPDIR": f"{mltx.folder}/tmp", "NOTES": str(self.notes)}
+        self.env: Mapping[str, str] = {**os.environ, **paths}
+        self.unproved, self.proved = self.top / "out/unproved/mltx", self.top / "crates/mltx/out/mltx"
+
+    def start(self, *words: str) -> subprocess.Popen[bytes]:
+        """The script, started with these words, in a group of processes of its own."""
+        pipe = subprocess.PIPE
+        command = [str(self.top / "mltx"), *words]
+        return subprocess.Popen(command, env=self.env, start_new_session=True, stdin=pipe, stdout=pipe, stderr=pipe)
+
+    def run(self, *words: str) -> Ran:
+        return ended(self.start(*words))
+
+    def asked(self) -> str:
+        """What rt was asked since this was called last."""
+        asked = self.notes / "asked"
+        text = asked.read_text() if asked.exists() else ""
+        asked.unlink(missing_ok=True)
+        return text
+
+    def tell(self, name: str, text: str = "") -> None:
+        """Tells the kit how it is to work."""
+        (self.notes / name).write_text(text)
+
+    def prove(self) -> None:
+        """Proves and builds the program, as the gate does."""
+        subprocess.run([self.top / "tools/proved-build"], env=self.env, check=True, stderr=subprocess.DEVNULL)
+        self.asked()
+
+    def left(self) -> list[str]:
+        """What stands beside the unproved program, and among the temporary files."""
+        found = [*self.unproved.parent.glob("*"), *Path(self.env["TMPDIR"]).glob("*")]
+        return sorted(path.name for path in found if path != self.unproved)
+
+
+def ended(process: subprocess.Popen[bytes]) -> Ran:
+    """What a script came to. Times are left out."""
+    out, err = process.communicate(b"given\n", PATIENCE)
+    return Ran(process.returncode, out, re.sub(rb"\d+ min \d+ s", b"T", err))
+
+
+def shows(ran: Ran, kind: str, told: str = "", words: str = "solo a  b") -> None:
+    """The script became this program: words, both streams and the status are the program's, behind what the script told."""
+    expect(ran, status=3, out=f"{kind} {words}\ngiven\n", err=f"{told}told\n", what=kind)
+
+
+def make_old(path: Path, seconds: float) -> None:
+    """Has a file so old."""
+    changed = time.time() - seconds
+    os.utime(path, (changed, changed))
+
+
+@test
+def first_run_builds_without_proof(mltx: Program) -> None:
+    """It says so, and later runs take what it built. What it tells of its version says that it is not proved."""
+    tree = Tree(mltx)
+    shows(tree.run("solo", "a  b"), "unproved", BUILDS + BUILT)
+    same(tree.asked(), TRY, "what rt is asked")
+    same(tree.left(), [], "what is left behind")
+    shows(tree.run("solo", "a  b"), "unproved")
+    expect(tree.run("--version"), out="mltx 0.1.0 (not proved)\n")
+    same(tree.asked(), "", "what rt is asked by later runs")
+    same(tree.proved.exists(), False, "whether something lies where the proved program is to be")
+
+
+@test
+def first_run_by_way_of_a_link(mltx: Program) -> None:
+    """The script may be called from any folder, and by a link."""
+    tree = Tree(mltx)
+    link = mltx.folder / "linked"
+    link.symlink_to(tree.top / "mltx")
+    ran = subprocess.run([str(link), "solo", "-"], input=b"given\n", capture_output=True, cwd="/", env=tree.env)
+    shows(Ran(ran.returncode, ran.stdout, re.sub(rb"\d+ min \d+ s", b"T", ran.stderr)), "unproved", BUILDS + BUILT, "solo -")
+
+
+@test
+def unproved_program_is_optimised_and_not_watched(mltx: Program) -> None:
+    """The compiler is asked to optimise, and else for the same; nothing of what watches accesses is linked."""
+    tree = Tree(mltx)
+    tree.run("solo")
+    words = ["-c", "a  b.bc", "-o", "input.o", "-O2"]
+    same(sorted((tree.notes / "clang").read_text().splitlines()), sorted(words), "the words of the compiler")
+    holds("watched" not in tree.unproved.read_text(), "the program is not watched")
+
+
+@test
+def proved_program_is_run_where_there_is_one(mltx: Program) -> None:
+    """Both are built: the proved one is run, and the version that it tells is that of the sources."""
+    tree = Tree(mltx)
+    tree.run("solo")
+    tree.prove()
+    shows(tree.run("solo", "a  b"), "proved")
+    expect(tree.run("--version"), out="mltx 0.1.0\n")
+    same(tree.asked(), "", "what rt is asked")
+
+
+# Of each changed file: whether the proved program is old then, and whether the unproved one is.
+CHANGED = {
+    "code": ("crates/mlt_cli/src/commands.rt", True),
+    "a-folder-of-code": ("crates/mlt_cli/src", True),
+    "the-list-of-crates": ("crates.txt", True),
+    "a-definition": ("crates/mlt_cli/specs/Words.antt", False),
+    "a-proof": ("crates/mlt_cli/proofs/Words.antt", False),
+}
+
+
+@each({f"first-run-after-a-change-of-{name}": case for name, case in CHANGED.items()})
+def first_run_after_a_change(mltx: Program, case: tuple[str, bool]) -> None:
+    """A proved program that is older than a source is not run. An unproved one is built anew where it is old itself."""
+    name, is_of_code = case
+    tree = Tree(mltx)
+    changed = tree.top / name
+    if not changed.exists():
+        changed.parent.mkdir()
+        changed.write_text("")
+    tree.run("solo")
+    tree.prove()
+    tree.asked()
+    ages = {tree.unproved: 100, tree.proved: 100, changed: 50}
+    for path in tree.top.rglob("*"):
+        make_old(path, ages.get(path, 200))
+    shows(tree.run("solo", "a  b"), "unproved", BUILDS + BUILT if is_of_code else "")
+    same(tree.asked(), TRY if is_of_code else "", "what rt is asked")
+    tree.prove()
+    shows(tree.run("solo", "a  b"), "proved")
+
+
+@test
+def first_run_while_a_source_changes(mltx: Program) -> None:
+    """What was built may lack the change, so the next run builds again."""
+    tree = Tree(mltx)
+    tree.tell("edit", str(tree.top / "crates/mlt_cli/src/commands.rt"))
+    shows(tree.run("solo", "a  b"), "unproved", BUILDS + BUILT)
+    (tree.notes / "edit").unlink()
+    shows(tree.run("solo", "a  b"), "unproved", BUILDS + BUILT)
+    shows(tree.run("solo", "a  b"), "unproved")
+
+
+@test
+def first_run_proves_where_it_must(mltx: Program) -> None:
+    """Where nothing can be built without proof, the reason is told, and then the program is proved."""
+    tree = Tree(mltx)
+    tree.tell("tries-fail")
+    reason = "rt: there is no try\ntools/quick-build: rt try failed\n"
+    shows(tree.run("solo", "a  b"), "proved", BUILDS + reason + FAILS + PROVES + PROVED)
+    same(tree.asked(), TRY + RUN, "what rt is asked")
+    same((tree.unproved.exists(), tree.left()), (False, []), "what is left behind")
+    shows(tree.run("solo", "a  b"), "proved")
+    same(tree.asked(), "", "what rt is asked by the next run")
+
+
+# Kits over which no program comes about, or one that does not work alone: what is changed, and what is told.
+OTHER_KITS = {
+    "links-nothing": ("toolchain/bin/ld.lld", "#!/bin/sh\n"),
+    "links-what-does-not-run": ("toolchain/bin/ld.lld", LINKER + 'echo exit 1 >"$made"\n'),
+    "has-no-version-of-ours": ("toolchain/bin/ld.lld", LINKER + "sed -i 's/ (not proved)//' \"$made\"\n"),
+}
+
+
+@each({f"first-run-with-a-kit-that-{name}": case for name, case in OTHER_KITS.items()})
+def first_run_with_another_kit(mltx: Program, case: tuple[str, str]) -> None:
+    """What does not work is not put in place, and the program is proved."""
+    tree, (name, text) = Tree(mltx), case
+    (tree.kit / name).write_text(text)
+    ran = tree.run("solo", "a  b")
+    reason = "tools/quick-build: what rt try linked does not run alone\n"
+    same((ran.status, ran.out), (3, b"proved solo a  b\ngiven\n"), "the proved program")
+    holds((reason + FAILS + PROVES + PROVED + "told\n").encode() in ran.err, f"standard error lacks the reason: {ran}")
+    same((tree.unproved.exists(), tree.left()), (False, []), "what is left behind")
+
+
+@test
+def first_run_with_nothing_to_build_by(mltx: Program) -> None:
+    """Neither way leads to a program: the status is 1, and nothing is run."""
+    tree = Tree(mltx)
+    for name in ("tries-fail", "proofs-fail"):
+        tree.tell(name)
+    told = BUILDS + "rt: there is no try\ntools/quick-build: rt try failed\n" + FAILS + PROVES
+    told += "error: a clause is not proved\nmltx: it was not built, for the reason above\n"
+    expect(tree.run("solo"), status=1, err=told)
+    (mltx.folder / "bin/rt").unlink()
+    ran = tree.run("solo")
+    same((ran.status, ran.out), (1, b""), "without rt")
+    holds(b"tools/quick-build: there is no rt on PATH\n" in ran.err, f"nothing tells of rt: {ran}")
+    same(tree.left(), [], "what is left behind")
+
+
+@test
+def two_first_runs_at_once(mltx: Program) -> None:
+    """Both build, each for itself, and both run what was built; it is whole at any time."""
+    tree = Tree(mltx)
+    tree.tell("two")
+    both = [tree.start("solo", "a  b") for _ in range(2)]
+    for process in both:
+        shows(ended(process), "unproved", BUILDS + BUILT)
+    same((tree.asked(), tree.left()), (TRY * 2, []), "what rt is asked, and what is left behind")
+    shows(tree.run("solo", "a  b"), "unproved")
+
+
+@test
+def an_interrupted_first_run_proves_nothing(mltx: Program) -> None:
+    """Ctrl-C ends the build, and no other one follows."""
+    tree = Tree(mltx)
+    tree.tell("stay")
+    process, until = tree.start("solo"), time.monotonic() + PATIENCE
+    while not (tree.notes / "staying").exists():
+        holds(time.monotonic() < until, "nothing is built")
+        time.sleep(0.01)
+    os.killpg(process.pid, signal.SIGINT)
+    ran = ended(process)
+    expect(ran, status=130, err=BUILDS)
+    same((tree.asked(), tree.unproved.exists(), tree.left()), (TRY, False, []), "what rt is asked, and what is left behind")
+
+
+@test
+def benchmarks_say_where_a_program_is_not_proved(mltx: Program) -> None:
+    """Above the figures; and nothing of the proved one, which is measured beside it."""
+    tree = Tree(mltx)
+    tree.run("solo")
+    tree.prove()
+    words = ["--quick", "--program", str(tree.unproved), "--other", str(tree.proved), "solo"]
+    ran = subprocess.run([str(ROOT / "bench/run"), *words], capture_output=True, text=True, env=tree.env)
+    said = re.findall("(?m)^Not proved.*$", ran.stdout)
+    same(said, [f"Not proved: {tree.unproved}. No figure of it is one of mltx."], f"what stands above: {ran.stdout}")
