@@ -25,6 +25,12 @@ program() {
     printf '#!/bin/sh\n[ "$1" = --version ] && { echo "mltx %s"; exit; }\n' "$version"
     printf 'echo %s "$@"\ncat\necho told >&2\nexit 3\n' "$1"
 }
+if [ -e "$NOTES/stay-in-$1" ]; then
+    sleep 60 &
+    trap 'kill $!; exit 130' INT
+    touch "$NOTES/stays"
+    wait
+fi
 case $1 in
 try)
     [ -e "$NOTES/tries-fail" ] && { echo 'rt: there is no try' >&2; exit 2; }
@@ -33,7 +39,6 @@ try)
         touch "$NOTES/here.$$"
         until [ "$(ls "$NOTES" | grep -c here)" = 2 ]; do sleep 0.01; done
     fi
-    [ -e "$NOTES/stay" ] && { touch "$NOTES/staying"; sleep 60 & trap 'kill $!; exit 130' INT; wait; }
     "$kit/bin/rattle" check
     room=$(mktemp -d)
     program unproved >"$room/input"
@@ -72,6 +77,7 @@ RATTLE = '#!/bin/sh\necho "rattle $*" >>"$NOTES/asked"\n'
 
 BUILDS = "mltx: building the program without proof, in some two minutes\n"
 BUILT = "mltx: built in T. It is not proved: ./test proves it, and puts the proved one in its place\n"
+NO_TRY = "rt: there is no try\ntools/quick-build: rt try failed\n"
 FAILS = "mltx: that failed, for the reason above, so it has to be proved\n"
 PROVES = "mltx: proving and building the program: from nothing some 40 minutes on four cores, later only what changed\n"
 PROVED = "mltx: proving mlt_types\nmltx: proved and built in T\n"
@@ -241,8 +247,7 @@ def first_run_proves_where_it_must(mltx: Program) -> None:
     """Where nothing can be built without proof, the reason is told, and then the program is proved."""
     tree = Tree(mltx)
     tree.tell("tries-fail")
-    reason = "rt: there is no try\ntools/quick-build: rt try failed\n"
-    shows(tree.run("solo", "a  b"), "proved", BUILDS + reason + FAILS + PROVES + PROVED)
+    shows(tree.run("solo", "a  b"), "proved", BUILDS + NO_TRY + FAILS + PROVES + PROVED)
     same(tree.asked(), TRY + RUN, "what rt is asked")
     same((tree.unproved.exists(), tree.left()), (False, []), "what is left behind")
     shows(tree.run("solo", "a  b"), "proved")
@@ -275,7 +280,7 @@ def first_run_with_nothing_to_build_by(mltx: Program) -> None:
     tree = Tree(mltx)
     for name in ("tries-fail", "proofs-fail"):
         tree.tell(name)
-    told = BUILDS + "rt: there is no try\ntools/quick-build: rt try failed\n" + FAILS + PROVES
+    told = BUILDS + NO_TRY + FAILS + PROVES
     told += "error: a clause is not proved\nmltx: it was not built, for the reason above\n"
     expect(tree.run("solo"), status=1, err=told)
     (mltx.folder / "bin/rt").unlink()
@@ -297,19 +302,26 @@ def two_first_runs_at_once(mltx: Program) -> None:
     shows(tree.run("solo", "a  b"), "unproved")
 
 
-@test
-def an_interrupted_first_run_proves_nothing(mltx: Program) -> None:
-    """Ctrl-C ends the build, and no other one follows."""
-    tree = Tree(mltx)
-    tree.tell("stay")
+# What is interrupted: how the kit is told to stay there, what the script has told, and what it has asked.
+INTERRUPTED = {
+    "a-first-run-that-builds": (["stay-in-try"], BUILDS, TRY),
+    "a-first-run-that-proves": (["tries-fail", "stay-in-run"], BUILDS + NO_TRY + FAILS + PROVES, TRY + RUN),
+}
+
+
+@each({f"an-interrupt-of-{name}": case for name, case in INTERRUPTED.items()})
+def interrupt_of_a_first_run(mltx: Program, case: tuple[list[str], str, str]) -> None:
+    """Ctrl-C ends the script: nothing else is built, and nothing is left behind."""
+    tree, (told, said, asked) = Tree(mltx), case
+    for name in told:
+        tree.tell(name)
     process, until = tree.start("solo"), time.monotonic() + PATIENCE
-    while not (tree.notes / "staying").exists():
+    while not (tree.notes / "stays").exists():
         holds(time.monotonic() < until, "nothing is built")
         time.sleep(0.01)
     os.killpg(process.pid, signal.SIGINT)
-    ran = ended(process)
-    expect(ran, status=130, err=BUILDS)
-    same((tree.asked(), tree.unproved.exists(), tree.left()), (TRY, False, []), "what rt is asked, and what is left behind")
+    expect(ended(process), status=130, err=said)
+    same((tree.asked(), tree.unproved.exists(), tree.left()), (asked, False, []), "what rt is asked, and what is left behind")
 
 
 @test
