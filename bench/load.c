@@ -2,10 +2,15 @@
 
        load [OPTIONS] LINE ..
 
-   Each client sends the lines of a transaction over and over; a `?` in a line is a counter drawn anew. By default it sends a
-   line once the one before is answered, with --whole all of them in one write. A transaction that is refused an operation is
-   aborted and run again. At the end one line tells how many transactions ended, in how many seconds, the median and the 99th
-   percentile of how long they took, in microseconds, and how many were refused. What can't go on ends with status 1.
+   Each client sends the lines of a transaction over and over; a `?` in a line is a counter drawn anew, and `@1` to `@4` are
+   counters drawn for the transaction, each another one. By default it sends a line once the one before is answered, with --whole
+   all of them in one write; a line that begins with `+` goes out with the one before it. `think N` is not sent: the client waits
+   for so many microseconds. A transaction that is refused an operation is aborted and run again, at once or, with --rest N, once
+   N to 2 N microseconds have passed. With --aborts N one of N transactions is aborted in place of its last line, by chance.
+
+   At the end one line tells how many transactions ended, in how many seconds, the median and the 99th percentile of how long they
+   took, in microseconds, from the first line of the first try, how many tries were refused, how many transactions were aborted in
+   place of their last line, and the most tries of one transaction. What can't go on ends with status 1.
 
    With --threads N the connections are shared out among so many threads, and so is the number of transactions. */
 #define _GNU_SOURCE
@@ -22,7 +27,9 @@
 
 #include "common.h"
 
-enum { MOST_CONNECTIONS = 64, MOST_LATENCIES = 1 << 24 };
+enum { MOST_CONNECTIONS = 64, MOST_LATENCIES = 1 << 24, MOST_DRAWN = 4 };
+/* For how long a thread sleeps at most before it looks whether the load is over. */
+static const double LONGEST_SLEEP = 0.05;
 /* How many bytes a line may have as it is given, what it may come to, and what all lines of a transaction may come to. */
 enum { MOST_GIVEN = 32, MOST_LINE = 1 << 10, MOST_TEXT = 1 << 18 };
 /* A session of mltx ends after so many bytes, so a client connects again where a transaction more might not fit. */
@@ -32,7 +39,7 @@ struct options {
     int port, connections, threads;
     bool redis, whole;
     double seconds;
-    unsigned long transactions, counters, seed;
+    unsigned long transactions, counters, seed, rest, aborts;
 };
 
 struct connection {
@@ -41,6 +48,11 @@ struct connection {
     int awaited;        /* how many answers are to come */
     size_t sent;        /* how many bytes went out since it connected */
     double began;       /* when its transaction began */
+    double resumes;     /* where no answer is to come: when it goes on */
+    unsigned long drawn[MOST_DRAWN]; /* the counters of its transaction */
+    size_t tries;       /* how often this one was begun */
+    bool aborts;        /* whether it is aborted in place of its last line */
+    bool rests;         /* whether it waits before it begins again */
     bool refused;       /* whether an answer since the transaction began was a refusal */
     long parts;         /* how many parts of an answer of Redis are to come */
     size_t heard_count; /* how many bytes of a line of an answer have come */
@@ -50,14 +62,14 @@ struct connection {
 /* What the clients of one thread have seen. */
 struct seen {
     float *latencies;
-    size_t ended, refusals;
+    size_t ended, refusals, aborted, most_tries;
     double seconds;
 };
 
 static struct options options = {
     .connections = 1, .threads = 1, .seconds = 1, .transactions = MOST_LATENCIES, .counters = 1, .seed = 1};
 static char **lines;
-static int line_count;
+static int line_count, drawn_count;
 static struct connection connections[MOST_CONNECTIONS];
 static struct seen seen_by[MOST_CONNECTIONS];
 /* Those of this thread. */
@@ -72,22 +84,50 @@ static double now(void)
     return (double)time.tv_sec + (double)time.tv_nsec / 1e9;
 }
 
-/* The next number of a xorshift generator, below the number of counters. */
-static unsigned long some_counter(void)
+/* The next number of a xorshift generator, below a limit. */
+static unsigned long some_number(unsigned long limit)
 {
     random_state ^= random_state << 13;
     random_state ^= random_state >> 7;
     random_state ^= random_state << 17;
-    return (random_state >> 16) % options.counters;
+    return (random_state >> 16) % limit;
 }
 
-/* A line with a counter for each `?`: how many bytes it has. */
-static size_t fill_in(char *to, const char *line)
+static bool is_among(unsigned long number, const unsigned long *numbers, int count)
+{
+    int place = 0;
+    while (place < count && numbers[place] != number)
+        place++;
+    return place < count;
+}
+
+/* Draws what a new transaction is about. */
+static void draw(struct connection *it)
+{
+    for (int place = 0; place < drawn_count; place++) {
+        do
+            it->drawn[place] = some_number(options.counters);
+        while (is_among(it->drawn[place], it->drawn, place));
+    }
+    it->aborts = options.aborts > 0 && some_number(options.aborts) == 0;
+    it->tries = 1;
+}
+
+/* The place of the counter that stands in a line as `@` and a digit; MOST_DRAWN or more where that is none. */
+static int place_of_drawn(const char *sign)
+{
+    return (unsigned char)(sign[1] - '1');
+}
+
+/* A line with a counter for each `?` and each `@` with its digit: how many bytes it has. */
+static size_t fill_in(const struct connection *it, char *to, const char *line)
 {
     size_t count = 0;
     for (; *line; line++) {
         if (*line == '?')
-            count += (size_t)sprintf(to + count, "%lu", some_counter());
+            count += (size_t)sprintf(to + count, "%lu", some_number(options.counters));
+        else if (*line == '@')
+            count += (size_t)sprintf(to + count, "%lu", it->drawn[place_of_drawn(line++)]);
         else
             to[count++] = *line;
     }
@@ -95,20 +135,20 @@ static size_t fill_in(char *to, const char *line)
     return count;
 }
 
-static size_t put_for_mltx(char *to, const char *line)
+static size_t put_for_mltx(const struct connection *it, char *to, const char *line)
 {
-    size_t count = fill_in(to, line);
+    size_t count = fill_in(it, to, line);
     to[count++] = '\n';
     return count;
 }
 
 /* A command of Redis: an array of words. */
-static size_t put_for_redis(char *to, const char *line)
+static size_t put_for_redis(const struct connection *it, char *to, const char *line)
 {
     char filled[MOST_LINE], words[2 * MOST_LINE], *rest = filled, *word;
     size_t count = 0;
     int words_put = 0;
-    fill_in(filled, line);
+    fill_in(it, filled, line);
     while ((word = strsep(&rest, " ")) != NULL) {
         count += (size_t)sprintf(words + count, "$%zu\r\n%s\r\n", strlen(word), word);
         words_put++;
@@ -116,9 +156,34 @@ static size_t put_for_redis(char *to, const char *line)
     return (size_t)sprintf(to, "*%d\r\n%s", words_put, words);
 }
 
-static size_t put(char *to, const char *line)
+static size_t put(const struct connection *it, char *to, const char *line)
 {
-    return options.redis ? put_for_redis(to, line) : put_for_mltx(to, line);
+    line += *line == '+';
+    return options.redis ? put_for_redis(it, to, line) : put_for_mltx(it, to, line);
+}
+
+/* The line that takes a transaction back. */
+static const char *abort_line(void)
+{
+    return options.redis ? "DISCARD" : "abort";
+}
+
+/* The line of this number in the transaction of a client. */
+static const char *line_of(const struct connection *it, int number)
+{
+    return it->aborts && number == line_count - 1 ? abort_line() : lines[number];
+}
+
+/* For how many microseconds a line has the client wait; 0 where it is one that is sent. */
+static unsigned long think_time(const char *line)
+{
+    return strncmp(line, "think ", 6) == 0 ? strtoul(line + 6, NULL, 10) : 0;
+}
+
+/* Whether the line of this number goes out with the one before it. */
+static bool is_joined(int number)
+{
+    return number < line_count && (options.whole || *lines[number] == '+') && think_time(lines[number]) == 0;
 }
 
 static void send_all(struct connection *it, const char *bytes, size_t count)
@@ -142,14 +207,15 @@ static void open_connection(struct connection *it)
     it->sent = 0;
 }
 
-static void send_lines(struct connection *it, int count)
+/* Sends the next line, and all that go out with it. */
+static void send_lines(struct connection *it)
 {
     static _Thread_local char text[MOST_TEXT];
     size_t length = 0;
-    for (int line = it->next; line < it->next + count; line++)
-        length += put(text + length, lines[line]);
-    it->next += count;
-    it->awaited = count;
+    do {
+        length += put(it, text + length, line_of(it, it->next++));
+        it->awaited++;
+    } while (is_joined(it->next));
     send_all(it, text, length);
 }
 
@@ -158,58 +224,93 @@ static void end_transaction(struct connection *it)
     double time = now();
     if (seen->ended < MOST_LATENCIES)
         seen->latencies[seen->ended++] = (float)((time - it->began) * 1e6);
+    seen->aborted += it->aborts;
     it->began = time;
+    draw(it);
 }
 
-/* What follows a transaction that was refused something. Where it was sent as a whole it has ended. */
-static void run_again(struct connection *it)
+/* Counts a try that was refused something. The transaction is to be run again. */
+static void count_refusal(struct connection *it)
+{
+    seen->refusals++;
+    it->tries++;
+    if (it->tries > seen->most_tries)
+        seen->most_tries = it->tries;
+    it->rests = options.rest > 0;
+}
+
+/* What follows a refusal before the last line. */
+static void take_back(struct connection *it)
 {
     char text[MOST_LINE];
-    size_t length = put(text, options.redis ? "DISCARD" : "abort");
-    seen->refusals++;
+    size_t length = put(it, text, abort_line());
+    count_refusal(it);
     it->refused = false;
     it->next = 0;
     it->awaited = 1;
     send_all(it, text, length);
 }
 
-/* Sends what follows once all is answered. */
+/* What follows once the last line is answered. */
+static void end_try(struct connection *it)
+{
+    if (it->refused)
+        count_refusal(it);
+    else
+        end_transaction(it);
+    it->refused = false;
+    it->next = 0;
+}
+
+static void pause_for(struct connection *it, unsigned long microseconds)
+{
+    it->resumes = now() + (double)microseconds / 1e6;
+}
+
+/* Goes on where no answer is to come: sends what follows, or waits. */
 static void go_on(struct connection *it)
 {
     if (it->refused && it->next < line_count) {
-        run_again(it);
+        take_back(it);
         return;
     }
-    if (it->next == line_count) {
-        if (it->refused)
-            seen->refusals++;
-        else
-            end_transaction(it);
-        it->refused = false;
-        it->next = 0;
+    if (it->next == line_count)
+        end_try(it);
+    if (it->rests) {
+        it->rests = false;
+        pause_for(it, options.rest + some_number(options.rest));
+        return;
     }
     if (it->next == 0 && it->sent > MOST_SENT - MOST_TEXT) {
         close(it->socket);
         open_connection(it);
     }
-    send_lines(it, options.whole ? line_count : 1);
+    if (think_time(lines[it->next]) > 0)
+        pause_for(it, think_time(lines[it->next++]));
+    else
+        send_lines(it);
 }
 
+/* Redis answers with an empty list where what it watched was changed. */
 static bool is_refusal(const char *answer)
 {
-    return strncmp(answer, "error ", 6) == 0 || *answer == '-';
+    return strncmp(answer, "error ", 6) == 0 || *answer == '-' || strncmp(answer, "*-1", 3) == 0;
 }
 
-/* A line of an answer is complete. One of Redis is a list where it begins with `*`. */
+/* How many lines follow the first one of an answer: in Redis those of a list, or a text. */
+static long lines_behind(const char *answer)
+{
+    long count = *answer == '*' || *answer == '$' ? atol(answer + 1) : -1;
+    return count < 0 ? 0 : *answer == '$' ? 1 : count;
+}
+
+/* A line of an answer is complete. */
 static void hear_line(struct connection *it)
 {
     it->heard[it->heard_count] = 0;
     it->heard_count = 0;
     it->refused = it->refused || is_refusal(it->heard);
-    if (it->parts > 0)
-        it->parts--;
-    else if (*it->heard == '*')
-        it->parts = atol(it->heard + 1);
+    it->parts = it->parts > 0 ? it->parts - 1 : lines_behind(it->heard);
     if (it->parts == 0)
         it->awaited--;
 }
@@ -242,8 +343,20 @@ static void start_all(struct connection *first, int count, struct pollfd *polled
         open_connection(&first[number]);
         polled[number] = (struct pollfd){.fd = first[number].socket, .events = POLLIN};
         first[number].began = now();
+        draw(&first[number]);
         go_on(&first[number]);
     }
+}
+
+/* How long it is until one of these clients goes on by itself. */
+static struct timespec until_next(const struct connection *first, int count)
+{
+    double time = now(), next = time + LONGEST_SLEEP;
+    for (int number = 0; number < count; number++) {
+        if (first[number].awaited == 0 && first[number].resumes < next)
+            next = first[number].resumes;
+    }
+    return (struct timespec){.tv_nsec = next > time ? (long)((next - time) * 1e9) : 0};
 }
 
 static void run(struct connection *first, int count)
@@ -251,13 +364,13 @@ static void run(struct connection *first, int count)
     struct pollfd polled[MOST_CONNECTIONS];
     start_all(first, count, polled);
     while (!is_over()) {
-        must(poll(polled, (nfds_t)count, 50), "load: poll");
+        struct timespec longest = until_next(first, count);
+        must(ppoll(polled, (nfds_t)count, &longest, NULL), "load: ppoll");
         for (int number = 0; number < count; number++) {
             struct connection *it = &first[number];
-            if (polled[number].revents == 0)
-                continue;
-            receive(it);
-            if (it->awaited == 0)
+            if (polled[number].revents != 0)
+                receive(it);
+            if (it->awaited == 0 && now() >= it->resumes)
                 go_on(it);
             polled[number].fd = it->socket;
         }
@@ -275,6 +388,7 @@ static void *run_thread(void *given)
 {
     int thread = (int)(long)given, first = first_of(thread);
     seen = &seen_by[thread];
+    seen->most_tries = 1;
     seen->latencies = calloc(MOST_LATENCIES, sizeof *seen->latencies);
     if (seen->latencies == NULL)
         give_up("load: calloc");
@@ -306,6 +420,8 @@ static struct seen gathered(void)
         memcpy(all.latencies + all.ended, one->latencies, taken * sizeof *all.latencies);
         all.ended += taken;
         all.refusals += one->refusals;
+        all.aborted += one->aborted;
+        all.most_tries = one->most_tries > all.most_tries ? one->most_tries : all.most_tries;
         all.seconds = one->seconds > all.seconds ? one->seconds : all.seconds;
     }
     return all;
@@ -327,8 +443,9 @@ static void report(void)
 {
     struct seen all = gathered();
     qsort(all.latencies, all.ended, sizeof *all.latencies, compare);
-    printf("transactions %zu seconds %.6f median %.2f ninety_ninth %.2f refused %zu\n", all.ended, all.seconds,
-           percentile(&all, 50), percentile(&all, 99), all.refusals);
+    printf("transactions %zu seconds %.6f median %.2f ninety_ninth %.2f ", all.ended, all.seconds, percentile(&all, 50),
+           percentile(&all, 99));
+    printf("refused %zu aborted %zu most_tries %zu\n", all.refusals, all.aborted, all.most_tries);
 }
 
 static void read_options(int count, char **words)
@@ -338,7 +455,8 @@ static void read_options(int count, char **words)
         {"redis", no_argument, NULL, 'r'},              {"whole", no_argument, NULL, 'w'},
         {"seconds", required_argument, NULL, 's'},      {"counters", required_argument, NULL, 'k'},
         {"transactions", required_argument, NULL, 't'}, {"seed", required_argument, NULL, 'd'},
-        {"threads", required_argument, NULL, 'h'},      {NULL, 0, NULL, 0},
+        {"threads", required_argument, NULL, 'h'},      {"rest", required_argument, NULL, 'e'},
+        {"aborts", required_argument, NULL, 'a'},       {NULL, 0, NULL, 0},
     };
     for (int option; (option = getopt_long(count, words, "", known, NULL)) != -1;) {
         switch (option) {
@@ -351,11 +469,25 @@ static void read_options(int count, char **words)
         case 't': options.transactions = strtoul(optarg, NULL, 10); break;
         case 'd': options.seed = strtoul(optarg, NULL, 10); break;
         case 'h': options.threads = atoi(optarg); break;
+        case 'e': options.rest = strtoul(optarg, NULL, 10); break;
+        case 'a': options.aborts = strtoul(optarg, NULL, 10); break;
         default: exit(2);
         }
     }
     lines = words + optind;
     line_count = count - optind;
+}
+
+/* The greatest digit that stands behind an `@`, of which a line has one at most. */
+static int most_drawn(void)
+{
+    int most = 0;
+    for (int line = 0; line < line_count; line++) {
+        const char *sign = strchr(lines[line], '@');
+        if (sign != NULL && place_of_drawn(sign) >= most)
+            most = place_of_drawn(sign) + 1;
+    }
+    return most;
 }
 
 static bool options_are_lawful(void)
@@ -364,12 +496,14 @@ static bool options_are_lawful(void)
     for (int line = 0; line < line_count; line++)
         fits = fits && strlen(lines[line]) < MOST_GIVEN;
     fits = fits && options.connections > 0 && options.connections <= MOST_CONNECTIONS && options.counters > 0;
+    fits = fits && drawn_count <= MOST_DRAWN && (unsigned long)drawn_count <= options.counters;
     return fits && options.threads > 0 && options.threads <= options.connections;
 }
 
 int main(int count, char **words)
 {
     read_options(count, words);
+    drawn_count = most_drawn();
     if (!options_are_lawful()) {
         fputs("load: an option is out of its range, or the lines are too many or too long\n", stderr);
         return 2;

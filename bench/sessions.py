@@ -3,7 +3,7 @@ import os
 import statistics
 import sys
 import time
-from collections.abc import Iterator
+from collections.abc import Iterator, Sequence
 from contextlib import AbstractContextManager, ExitStack, closing
 from dataclasses import dataclass, replace
 from functools import partial
@@ -16,7 +16,7 @@ from works import SECONDS, Bench, Group, Limit, Sample, Side, Work
 sys.path.insert(0, str(ROOT / "clients/python"))
 from mltx import MltxError, Session, TimedOut  # noqa: E402
 
-__all__ = ["GROUPS", "MltxError"]
+__all__ = ["GROUPS", "MltxError", "Session"]
 
 BEGIN, COMMIT, GAVE_UP = "begin", "commit", "error 14 GaveUp"
 # How many sessions a server holds at once.
@@ -29,7 +29,9 @@ CLIENT_THREADS = max(2, min(8, os.cpu_count() or 1))
 
 @dataclass(frozen=True)
 class Load:
-    """What clients send: the lines of a transaction, from how many connections, whether in one write, and in how many threads."""
+    """What clients send: the lines of a transaction, from how many connections, whether in one write, and in how many threads;
+    the least microseconds that they wait after a refusal, which some wait for twice as long, and that one of so many
+    transactions is aborted."""
 
     lines: tuple[str, ...]
     connections: int = 1
@@ -37,6 +39,8 @@ class Load:
     counters: int = 1
     threads: int = 1
     redis: bool = False
+    rest: int = 0
+    aborts: int = 0
 
     def for_redis(self) -> "Load":
         words = {BEGIN: "MULTI", COMMIT: "EXEC"}
@@ -54,6 +58,7 @@ def loading(bench: Bench, port: int, load: Load, limit: Limit) -> AbstractContex
     words += ["--connections", load.connections, "--counters", load.counters]
     words += ["--seed", bench.seed, "--seconds", limit.seconds, "--threads", load.threads]
     words += ["--transactions", limit.transactions] if limit.transactions else []
+    words += ["--rest", load.rest, "--aborts", load.aborts]
     words += [*["--whole"] * load.whole, *["--redis"] * load.redis, "--", *load.lines]
     return started(words, **PIPES)
 
@@ -225,14 +230,20 @@ OTHERS = Load(transaction("up 11 1", "up 12 1", "up 13 1"))
 CROSSED = [Load(transaction("up 1 1", "read 2")), Load(transaction("up 2 1", "read 1"))]
 
 
-def beside_deadlock(bench: Bench, program: Path) -> Sample:
-    """The rate of a client while two others stand in each other's way, and what became of those two."""
+def beside(loads: Sequence[Load], bench: Bench, server: Server) -> tuple[dict[str, float], list[dict[str, float]]]:
+    """What is told of a client while there are these loads in which it has no part, and of these."""
     limit = Limit(bench.pick(SECONDS, 0.1) + 0.2)
     with ExitStack() as stack:
-        server = stack.enter_context(mltx_server(program))
-        two = [stack.enter_context(loading(bench, server.port, load, limit)) for load in CROSSED]
+        processes = [stack.enter_context(loading(bench, server.port, load, limit)) for load in loads]
         told = figures_of(bench, server.port, OTHERS)
-        ends = [figures(process) for process in two]
+        ends = [figures(process) for process in processes]
+    return told, ends
+
+
+def beside_deadlock(bench: Bench, program: Path) -> Sample:
+    """The rate of a client while two others stand in each other's way, and what became of those two."""
+    with mltx_server(program) as server:
+        told, ends = beside(CROSSED, bench, server)
     more: dict[str, float] = {}
     for place, end in zip(("first", "second"), ends):
         more |= {f"{place} GaveUp": end["refused"], f"{place} commits": end["transactions"]}
@@ -262,9 +273,11 @@ def blocked_by_silent_holder(bench: Bench, program: Path) -> Sample:
     return Sample(waited, more={"GaveUp": float(gave_up), "commits beside": told["transactions"]})
 
 
+ALONE = Side("without them", partial(load_on_mltx, OTHERS), ("load",))
+
+
 def bystander_works() -> Iterator[Work]:
-    alone = Side("without them", partial(load_on_mltx, OTHERS), ("load",))
-    deadlock = (Side("mltx", beside_deadlock, ("load",)), alone)
+    deadlock = (Side("mltx", beside_deadlock, ("load",)), ALONE)
     yield Work("bystander", "a client beside two that deadlock", "transactions/s", deadlock)
     blocked = (Side("mltx", blocked_by_silent_holder, ("load",)),)
     yield Work("bystander", "a read that a silent session blocks waits", "s", blocked)

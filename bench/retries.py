@@ -1,0 +1,118 @@
+"""What is measured of clients that run a transaction again once it gave up."""
+import statistics
+import time
+from collections.abc import Iterator
+from concurrent.futures import ThreadPoolExecutor
+from contextlib import ExitStack
+from functools import partial
+from pathlib import Path
+
+from machine import PATIENCE, Failed, Server
+from sessions import (
+    ALONE, BEGIN, CLIENT_THREADS, COMMIT, GAVE_UP, Load, Session, beside, figures, loading, mltx_server, must_answer, rate,
+    session, transaction,
+)
+from works import SECONDS, Bench, Group, Limit, Sample, Side, Work
+
+# The accounts, and what each has at first: more than is ever taken.
+ACCOUNTS, RICH = range(4), 1_000_000
+TRANSFER = transaction("balance @1", "balance @2", "withdraw @1 1", "deposit @2 1")
+# The least microseconds of a pause; others last up to twice as long.
+PAUSE = 1_000
+# After how many seconds an operation that was sent is surely blocked, and for how long the answer that ends a deadlock is
+# waited for.
+BLOCKED, DEADLOCKED = 0.005, 20.0
+
+
+def transfers(clients: int, rest: int = 0) -> Load:
+    """So many clients that move money between the accounts, and wait so long before they try again."""
+    return Load(TRANSFER, clients, counters=len(ACCOUNTS), threads=min(clients, CLIENT_THREADS), rest=rest)
+
+
+def open_accounts(server: Server) -> None:
+    with session(server) as first:
+        must_answer(first, BEGIN)
+        for account in ACCOUNTS:
+            must_answer(first, f"open {account}", f"deposit {account} {RICH}")
+        must_answer(first, COMMIT)
+
+
+def tries(told: dict[str, float]) -> dict[str, float]:
+    """How many tries gave up for one that committed, or in all where none did, and the most that one transaction took."""
+    return {"GaveUp/commit": told["refused"] / max(told["transactions"], 1), "most tries": told["most_tries"]}
+
+
+def commits(load: Load, bench: Bench, program: Path) -> Sample:
+    """How many transactions commit in a second, which may be none."""
+    limit = bench.pick(Limit(SECONDS), Limit(0.2))
+    with mltx_server(program) as server:
+        open_accounts(server)
+        with loading(bench, server.port, load, limit) as process:
+            told = figures(process)
+    return rate(told, **tries(told))
+
+
+def bystander(load: Load, bench: Bench, program: Path) -> Sample:
+    """The rate of a client that has other cells, beside these."""
+    with mltx_server(program) as server:
+        open_accounts(server)
+        told, _ = beside([load], bench, server)
+    return rate(told)
+
+
+# A deadlock.
+
+
+def answer_of(blocked: Session) -> tuple[float, str]:
+    """When a session that is blocked is answered, and what. Then it takes back its transaction, for those whom this blocks."""
+    answer, at = blocked.receive(), time.monotonic()
+    must_answer(blocked, "abort")
+    return at, answer
+
+
+def time_to_gave_up(server: Server, count: int, turn: int) -> float:
+    """How long so many sessions are in a deadlock until the first is told GaveUp, in milliseconds: each holds a counter and
+    reads that of the next one. The turn gives them counters of their own."""
+    counters = range(turn * count, (turn + 1) * count)
+    with ExitStack() as stack:
+        circle = [stack.enter_context(session(server, DEADLOCKED)) for _ in counters]
+        for it, counter in zip(circle, counters):
+            must_answer(it, BEGIN, f"up {counter} 1")
+        for it, counter in zip(circle[1:], [*counters[2:], counters[0]]):
+            it.send(f"read {counter}")
+        pool = stack.enter_context(ThreadPoolExecutor(count))
+        answers = [pool.submit(answer_of, it) for it in circle[1:]]
+        time.sleep(BLOCKED)
+        began = time.monotonic()
+        circle[0].send(f"read {counters[1]}")
+        told = [answer_of(circle[0]), *(answer.result(PATIENCE) for answer in answers)]
+    gave_up = [at for at, answer in told if answer == GAVE_UP]
+    if not gave_up:
+        raise Failed(f"{count} that deadlock were told {[answer for _, answer in told]}")
+    return (min(gave_up) - began) * 1_000
+
+
+def deadlocks(count: int, bench: Bench, program: Path) -> Sample:
+    with mltx_server(program) as server:
+        times = [time_to_gave_up(server, count, turn) for turn in range(bench.pick(50, 2))]
+    return Sample(statistics.median(times), more={"longest": max(times)})
+
+
+def works() -> Iterator[Work]:
+    for clients in (2, 8, 63):
+        sides = (
+            Side("mltx", partial(commits, transfers(clients)), ("load",)),
+            Side("with pauses", partial(commits, transfers(clients, PAUSE)), ("load",)),
+        )
+        yield Work("retries", f"{clients} clients that try again at once, 4 accounts", "commits/s", sides)
+    yield Work("retries", "a client beside 8 that try again at once", "transactions/s", (
+        Side("mltx", partial(bystander, transfers(8)), ("load",)),
+        Side("with pauses", partial(bystander, transfers(8, PAUSE)), ("load",)),
+        ALONE,
+    ))
+    for count in (2, 3):
+        side = Side("mltx", partial(deadlocks, count))
+        yield Work("retries", f"a deadlock of {count} until one is told GaveUp", "ms", (side,))
+
+
+GROUPS = {"retries": Group("clients that try again at once after GaveUp, against those that pause, and deadlocks", works)}
