@@ -6,9 +6,10 @@ import shutil
 import signal
 import statistics
 import time
-from collections.abc import Iterator
+from collections.abc import Iterator, Sequence
 from contextlib import contextmanager, suppress
 from pathlib import Path
+from typing import NamedTuple
 
 from machine import LOCAL, START, Failed, Process, Words, free_port, run, started, wait_for
 
@@ -16,11 +17,13 @@ PROGRAMS = ("initdb", "postgres", "pg_isready", "psql", "pgbench")
 # The server refuses to run for the superuser of the machine, who runs it for this user.
 USER = "postgres"
 SETTINGS = {"fsync": "off", "synchronous_commit": "off", "full_page_writes": "off", "unix_socket_directories": ""}
+# What each counter, and each account, has at first: more than is ever taken from it.
+RICH = 1_000_000
 TABLE = (
     "DROP TABLE IF EXISTS counter; CREATE UNLOGGED TABLE counter (id INTEGER PRIMARY KEY, value BIGINT NOT NULL);"
-    "INSERT INTO counter SELECT id, 0 FROM generate_series(0, {last}) AS id; VACUUM ANALYZE counter"
+    f"INSERT INTO counter SELECT id, {RICH} FROM generate_series(0, {{last}}) AS id; VACUUM ANALYZE counter"
 )
-# How often a transaction that deadlocks is tried.
+# How often a transaction is tried that deadlocks, or can't be put in a serial order.
 TRIES = 1_000
 
 
@@ -97,24 +100,51 @@ def script(count: int, counters: int) -> str:
     return "\n".join([*drawn, "BEGIN;", *updates, "END;", ""])
 
 
+class Weighed(NamedTuple):
+    """A script, and how often it is sent beside others."""
+
+    text: str
+    weight: int = 1
+
+
+class Told(NamedTuple):
+    """What pgbench tells: how many transactions of the first script ended, and in a second; the sorted microseconds of all
+    transactions, and how many tries of them failed."""
+
+    ended: int
+    per_second: float
+    times: list[float]
+    lost: int
+
+
 def load(
-    programs: Path, folder: Path, connections: int, count: int, counters: int, limit: Words
-) -> tuple[float, list[float]]:
-    """What pgbench tells of so many connections: transactions in a second, and the sorted microseconds of each. The limit is
-    one of its own options."""
+    programs: Path, folder: Path, scripts: Sequence[Weighed], connections: int, threads: int, counters: int, limit: Words
+) -> Told:
+    """What comes of so many connections that send these scripts. The limit is one of pgbench's own options."""
     place = home(programs, folder)
     for log in place.glob("transactions.*"):
         log.unlink()
-    (folder / "counters.sql").write_text(script(count, counters))
     with server(programs, folder, counters) as port:
-        words = ["--host", LOCAL, "--port", port, "--username", USER, "--client", connections, "--no-vacuum", *limit]
+        words = ["--host", LOCAL, "--port", port, "--username", USER, "--no-vacuum", *limit]
+        words += ["--client", connections, "--jobs", threads]
         words += ["--protocol", "prepared", "--max-tries", TRIES, "--log", "--log-prefix", place / "transactions"]
-        told, _ = run([programs / "pgbench", *words, "--file", folder / "counters.sql", USER], cwd=place)
-    found = re.search(rb"tps = ([\d.]+)", told)
-    lines = [line for log in place.glob("transactions.*") for line in log.read_text().splitlines()]
-    if not found or not lines:
+        for number, (text, weight) in enumerate(scripts):
+            file = folder / f"script-{number}.sql"
+            file.write_text(text)
+            words += ["--file", f"{file}@{weight}"]
+        told, _ = run([programs / "pgbench", *words, USER], cwd=place)
+    return understood(told, [line for log in place.glob("transactions.*") for line in log.read_text().splitlines()])
+
+
+def understood(told: bytes, log: list[str]) -> Told:
+    """What pgbench has told, and written of each transaction: after its client and its number how long it took, or that it
+    failed, and the number of its script."""
+    rate, lost = re.search(rb"tps = ([\d.]+)", told), re.search(rb"total number of retries: (\d+)", told)
+    ended = [words for words in map(str.split, log) if words[2] != "failed"]
+    if not rate or not lost or not ended:
         raise Failed(f"pgbench does not tell what it did: {told.decode(errors='replace')}")
-    return float(found[1]), sorted(float(line.split()[2]) for line in lines)
+    first = sum(words[3] == "0" for words in ended)
+    return Told(first, float(rate[1]) * first / len(ended), sorted(float(words[2]) for words in ended), int(lost[1]))
 
 
 def percentiles(times: list[float]) -> tuple[float, float]:

@@ -9,13 +9,12 @@ from pathlib import Path
 
 from machine import PATIENCE, Failed, Server
 from sessions import (
-    ALONE, BEGIN, CLIENT_THREADS, COMMIT, GAVE_UP, Load, Session, beside, figures, loading, mltx_server, must_answer, rate,
-    session, transaction,
+    ALONE, BEGIN, CLIENT_THREADS, GAVE_UP, Load, Session, beside, figures, loading, mltx_server, must_answer, open_accounts,
+    rate, session, transaction,
 )
 from works import SECONDS, Bench, Group, Limit, Sample, Side, Work
 
-# The accounts, and what each has at first: more than is ever taken.
-ACCOUNTS, RICH = range(4), 1_000_000
+ACCOUNTS = range(4)
 TRANSFER = transaction("balance @1", "balance @2", "withdraw @1 1", "deposit @2 1")
 # The least microseconds of a pause; others last up to twice as long.
 PAUSE = 1_000
@@ -29,14 +28,6 @@ def transfers(clients: int, rest: int = 0) -> Load:
     return Load(TRANSFER, clients, counters=len(ACCOUNTS), threads=min(clients, CLIENT_THREADS), rest=rest)
 
 
-def open_accounts(server: Server) -> None:
-    with session(server) as first:
-        must_answer(first, BEGIN)
-        for account in ACCOUNTS:
-            must_answer(first, f"open {account}", f"deposit {account} {RICH}")
-        must_answer(first, COMMIT)
-
-
 def tries(told: dict[str, float]) -> dict[str, float]:
     """How many tries gave up for one that committed, or in all where none did, and the most that one transaction took."""
     return {"GaveUp/commit": told["refused"] / max(told["transactions"], 1), "most tries": told["most_tries"]}
@@ -46,7 +37,7 @@ def commits(load: Load, bench: Bench, program: Path) -> Sample:
     """How many transactions commit in a second, which may be none."""
     limit = bench.pick(Limit(SECONDS), Limit(0.2))
     with mltx_server(program) as server:
-        open_accounts(server)
+        open_accounts(server, ACCOUNTS)
         with loading(bench, server.port, load, limit) as process:
             told = figures(process)
     return rate(told, **tries(told))
@@ -55,7 +46,7 @@ def commits(load: Load, bench: Bench, program: Path) -> Sample:
 def bystander(load: Load, bench: Bench, program: Path) -> Sample:
     """The rate of a client that has other cells, beside these."""
     with mltx_server(program) as server:
-        open_accounts(server)
+        open_accounts(server, ACCOUNTS)
         told, _ = beside([load], bench, server)
     return rate(told)
 

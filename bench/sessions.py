@@ -3,7 +3,7 @@ import os
 import statistics
 import sys
 import time
-from collections.abc import Iterator, Sequence
+from collections.abc import Iterable, Iterator, Sequence
 from contextlib import AbstractContextManager, ExitStack, closing
 from dataclasses import dataclass, replace
 from functools import partial
@@ -11,6 +11,7 @@ from pathlib import Path
 
 import postgres
 from machine import LOCAL, PATIENCE, PIPES, ROOT, Failed, Process, Server, busy, ended, listening, redis, started
+from postgres import RICH
 from works import SECONDS, Bench, Group, Limit, Sample, Side, Work
 
 sys.path.insert(0, str(ROOT / "clients/python"))
@@ -108,9 +109,11 @@ def load_on_echo(load: Load, bench: Bench, _program: Path) -> Sample:
 
 def load_on_postgres(load: Load, bench: Bench, _program: Path) -> Sample:
     limit = bench.pick(["--time", SECONDS], ["--transactions", 20])
-    programs, operations = bench.tools.paths["postgres"], len(load.lines) - 2
-    per_second, times = postgres.load(programs, bench.folder, load.connections, operations, load.counters, limit)
-    return Sample(per_second, *postgres.percentiles(times))
+    scripts = [postgres.Weighed(postgres.script(len(load.lines) - 2, load.counters))]
+    told = postgres.load(
+        bench.tools.paths["postgres"], bench.folder, scripts, load.connections, load.threads, load.counters, limit
+    )
+    return Sample(told.per_second, *postgres.percentiles(told.times))
 
 
 def sides_of(load: Load, *others: str) -> tuple[Side, ...]:
@@ -182,6 +185,12 @@ def must_answer(asked: Session, *lines: str) -> list[str]:
     if refused := [answer for answer in answers if answer.startswith("error ")]:
         raise Failed(f"a session was told {refused[0]}")
     return answers
+
+
+def open_accounts(server: Server, accounts: Iterable[int]) -> None:
+    """Opens accounts, and gives each so much that it is never spent."""
+    with session(server) as first:
+        must_answer(first, BEGIN, *(line for it in accounts for line in (f"open {it}", f"deposit {it} {RICH}")), COMMIT)
 
 
 # How many operations a transaction holds where many are held, and how many are asked beside them.

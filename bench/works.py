@@ -78,6 +78,8 @@ class Work:
     unit: str
     sides: tuple[Side, ...]
     most_runs: int = 1_000
+    # Where it belongs to the plot: how many clients it has.
+    plotted_at: int | None = None
 
 
 class Group(NamedTuple):

@@ -9,6 +9,7 @@ import time
 from pathlib import Path
 
 from harness import PATIENCE, ROOT, holds, same, test
+from pictures import Picture
 
 RUN = ROOT / "bench/run"
 # A signal, a group that is interrupted by it, and the words with which the group runs the program.
@@ -37,10 +38,25 @@ def rows(out):
     return [line.strip("| ").split(" | ") for line in out.splitlines() if line.startswith("| ")][2:]
 
 
+def check_plot(plot, rows):
+    """Each system that was measured with 64 clients has its line with four points, its name and its figure; and so has the limit
+    of these: 9 of 10 commit, and each thinks 4 milliseconds."""
+    plot.check_places()
+    said = dict(re.fullmatch(r"(.*): ([\d,]+)", it.text).groups() for it in plot.labels if ": " in it.text and it.role != "about")
+    figures = {"mltx": rows[0][3], **{cells[2]: cells[4] for cells in rows if cells[2] != "-"}}
+    same(sorted(said), sorted([*figures, "no lock"]), "the names beside the lines")
+    same(said["no lock"], f"{64 * 900 // 4:,}", "the limit")
+    for name, figure in figures.items():
+        told = [float(it.replace(",", "")) for it in (said[name], figure)]
+        holds(abs(told[0] - told[1]) <= 1, f"{name}: the plot says {told[0]}, the table {told[1]}")
+    same(len(list(plot.time.iter("circle"))), 4 * len(figures), "the points")
+
+
 @test(seconds=20)
 def each_benchmark_runs_through(mltx):
     """Each group has lines with a figure, or is told to be left out, which nothing is that needs a C compiler alone."""
-    words = [RUN, "--quick", "--markdown", "--program", mltx.path]
+    plot = mltx.folder / "plot.svg"
+    words = [RUN, "--quick", "--markdown", "--plot", plot, "--program", mltx.path]
     ran = subprocess.run(words, capture_output=True, text=True, env=in_folder(mltx), timeout=PATIENCE)
     same((ran.returncode, ran.stderr), (0, ""), f"the status and standard error; standard output was {ran.stdout}")
     measured = {cells[0].partition(":")[0] for cells in rows(ran.stdout)}
@@ -49,6 +65,8 @@ def each_benchmark_runs_through(mltx):
     holds(not shutil.which("cc") or left_out <= NEED_MORE, f"these are left out: {left_out}")
     for cells in rows(ran.stdout):
         holds(re.fullmatch(r"-?[\d,.]+", cells[3]), f"this line has no figure: {cells}")
+    if shutil.which("cc"):
+        check_plot(Picture(plot.read_text()), [cells for cells in rows(ran.stdout) if ": 64 clients, a hot counter, 2 ms" in cells[0]])
     same(list(mltx.folder.glob("mltx-bench-*")), [], "the folders that are left behind")
 
 

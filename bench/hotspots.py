@@ -1,0 +1,180 @@
+"""What is measured of transactions that all change the same counter or account, with and without time to think."""
+import socket
+import sys
+from collections.abc import Iterator
+from dataclasses import dataclass, replace
+from functools import partial
+from pathlib import Path
+
+import postgres
+import tools
+from machine import LOCAL, ROOT, START, Failed, Server, redis
+from postgres import RICH
+from sessions import CLIENT_THREADS, Load, figures_of, mltx_server, open_accounts, transaction
+from works import SECONDS, Bench, Group, Sample, Side, Work
+
+sys.path.insert(0, str(ROOT / "tools"))
+from pictures.plot import Curve, picture  # noqa: E402
+
+# By its name what each system does, by the number of clients.
+Curves = dict[str, dict[int, float]]
+# The name of what no lock would hold up.
+LIMIT = "no lock"
+
+# The cells: some of which each transaction draws one, and the hot one behind them.
+DRAWN, HOT = 4, 4
+# How long a client thinks after each change, in microseconds, and that one of so many transactions is aborted.
+THINK, ABORTED = 2_000, 10
+# How many transactions there are where it is to be quick.
+FEW = 40
+BEGINS = {"PostgreSQL": "BEGIN;", "PostgreSQL SSI": "BEGIN ISOLATION LEVEL SERIALIZABLE;"}
+UPDATE = "UPDATE counter SET value = value"
+
+
+@dataclass(frozen=True)
+class Changes:
+    """What a transaction changes, and the two changes in the words of each system; the hot cell is changed first."""
+
+    cell: str
+    mltx: tuple[str, str]
+    redis: tuple[str, str]
+    postgres: tuple[str, str]
+
+
+DEPOSIT = f"{UPDATE} + 1 WHERE id = :drawn;"
+COUNTERS = Changes(
+    "counter", (f"up {HOT} 1", "up @1 1"), (f"INCRBY {HOT} 1", "INCRBY @1 1"), (f"{UPDATE} + 1 WHERE id = {HOT};", DEPOSIT)
+)
+ACCOUNTS = Changes(
+    "account",
+    (f"withdraw {HOT} 1", "deposit @1 1"),
+    (f"DECRBY {HOT} 1", "INCRBY @1 1"),
+    (f"{UPDATE} - 1 WHERE id = {HOT} AND value >= 1;", DEPOSIT),
+)
+
+
+@dataclass(frozen=True)
+class Case:
+    """So many clients that make these changes, and think for so many microseconds after each."""
+
+    changes: Changes
+    clients: int
+    think: int
+
+    def with_thought(self, steps: tuple[str, str], pause: str) -> list[str]:
+        """Two steps, each with a pause behind it where the clients think."""
+        return [line for step in steps for line in (step, *[pause] * (self.think > 0))]
+
+    def load(self, *lines: str, is_redis: bool = False) -> Load:
+        return Load(lines, self.clients, counters=DRAWN, threads=self.threads(), aborts=ABORTED, redis=is_redis)
+
+    def threads(self) -> int:
+        return min(self.clients, CLIENT_THREADS)
+
+    def on_mltx(self) -> Load:
+        return self.load(*transaction(*self.with_thought(self.changes.mltx, f"think {self.think}")))
+
+    def on_redis(self) -> Load:
+        """With MULTI alone, which can't be where a client thinks about what it read."""
+        return self.load("MULTI", *self.changes.redis, "EXEC", is_redis=True)
+
+    def on_redis_that_watches(self) -> Load:
+        """What is read is watched, and changed in one write."""
+        reads = self.with_thought((f"GET {HOT}", "GET @1"), f"think {self.think}")
+        changes = [f"+{change}" for change in self.changes.redis]
+        return self.load(f"WATCH {HOT} @1", *reads, "MULTI", *changes, "+EXEC", is_redis=True)
+
+    def on_postgres(self, begin: str) -> list[postgres.Weighed]:
+        """Two scripts: most transactions commit."""
+        changes = self.with_thought(self.changes.postgres, f"\\sleep {self.think} us")
+        lines = [f"\\set drawn random(0, {DRAWN - 1})", begin, *changes]
+        ends = {"COMMIT;": ABORTED - 1, "ROLLBACK;": 1}
+        return [postgres.Weighed("\n".join([*lines, end, ""]), weight) for end, weight in ends.items()]
+
+    def limit(self) -> dict[str, float]:
+        """How many would commit in a second if they only thought; nothing where they don't."""
+        commits = self.clients * (1 - 1 / ABORTED)
+        return {LIMIT: commits * 1e6 / (2 * self.think)} if self.think else {}
+
+    def what(self) -> str:
+        clients = f"{self.clients} client{'s' * (self.clients > 1)}"
+        return f"{clients}, a hot {self.changes.cell}, {f'{self.think // 1_000} ms to think' if self.think else 'no thought'}"
+
+
+def commits(told: dict[str, float], **more: float) -> Sample:
+    """How many commit in a second, and how many tries are lost for each of these."""
+    committed = told["transactions"] - told["aborted"]
+    more = {"lost/commit": told["refused"] / max(committed, 1), **more}
+    return Sample(committed / told["seconds"], told["median"], told["ninety_ninth"], more)
+
+
+def on_mltx(case: Case, bench: Bench, program: Path) -> Sample:
+    with mltx_server(program) as server:
+        open_accounts(server, range(HOT + 1))
+        return commits(figures_of(bench, server.port, case.on_mltx(), bench.limit(FEW)), **case.limit())
+
+
+def fill(server: Server) -> None:
+    """Gives all cells of a Redis so much that it is never spent."""
+    with socket.create_connection((LOCAL, server.port), START) as client:
+        client.sendall(f"MSET {' '.join(f'{cell} {RICH}' for cell in range(HOT + 1))}\r\n".encode())
+        if (answer := client.recv(100)) != b"+OK\r\n":
+            raise Failed(f"redis-server answers {answer!r}")
+
+
+def on_redis(load: Load, bench: Bench, _program: Path) -> Sample:
+    with redis(bench.folder) as server:
+        fill(server)
+        return commits(figures_of(bench, server.port, load, bench.limit(FEW)))
+
+
+def on_postgres(case: Case, begin: str, bench: Bench, _program: Path) -> Sample:
+    limit = bench.pick(["--time", SECONDS], ["--transactions", max(1, FEW // case.clients)])
+    programs = bench.tools.paths["postgres"]
+    told = postgres.load(programs, bench.folder, case.on_postgres(begin), case.clients, case.threads(), HOT + 1, limit)
+    lost = told.lost / max(told.ended, 1)
+    return Sample(told.per_second, *postgres.percentiles(told.times), {"lost/commit": lost})
+
+
+def sides_of(case: Case) -> Iterator[Side]:
+    yield Side("mltx", partial(on_mltx, case), ("load",))
+    for name, begin in BEGINS.items():
+        yield Side(name, partial(on_postgres, case, begin), ("postgres",))
+    needs = ("load", "redis-server")
+    yield Side("Redis WATCH", partial(on_redis, case.on_redis_that_watches()), needs)
+    if not case.think:
+        yield Side("Redis MULTI", partial(on_redis, case.on_redis()), needs)
+
+
+def works() -> Iterator[Work]:
+    """Those of the plot, the same without thought, and accounts."""
+    for think in (THINK, 0):
+        for clients in (1, 8, 32, 64):
+            case = Case(COUNTERS, clients, think)
+            work = Work("hotspots", case.what(), "commits/s", tuple(sides_of(case)))
+            yield replace(work, plotted_at=clients) if think else work
+    for think in (THINK, 0):
+        case = Case(ACCOUNTS, 32, think)
+        yield Work("hotspots", case.what(), "commits/s", tuple(sides_of(case)))
+
+
+TITLE = "Transactions that all change one counter"
+ABOUT = (
+    f"Each adds to a counter that all share, thinks {THINK // 1_000} ms, adds to one of four others, thinks {THINK // 1_000} ms,"
+    " and commits, or is aborted in one case of ten. Dashed is what clients would do that no lock held up."
+    " PostgreSQL locks rows (read committed), or is serializable (SSI) and tries again, as Redis does, which watches keys."
+)
+
+
+def plot(curves: Curves, bench: Bench, runs: int) -> str:
+    """The medians of each system by clients as an SVG, and on what they were measured. The limit is drawn last."""
+    drawn = [Curve(name, sorted(curves[name].items()), name == LIMIT) for name in sorted(curves, key=LIMIT.__eq__)]
+    versions = [version for version in tools.versions(bench.tools) if version.split()[0] in ("PostgreSQL", "Redis")]
+    where = f"Medians of {runs} run{'s' * (runs > 1)} on {', '.join([tools.description(), *versions])}."
+    about = [ABOUT, where, *["Quick: the figures mean nothing."] * bench.quick]
+    return picture(TITLE, " ".join(about), "clients", "commits a second", drawn)
+
+
+GROUPS = {
+    "hotspots": Group("1 to 64 sessions that all change one counter or account, against PostgreSQL and Redis", works)
+}
