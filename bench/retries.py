@@ -4,6 +4,7 @@ import time
 from collections.abc import Iterator
 from concurrent.futures import ThreadPoolExecutor
 from contextlib import ExitStack
+from dataclasses import replace
 from functools import partial
 from pathlib import Path
 
@@ -15,7 +16,13 @@ from sessions import (
 from works import SECONDS, Bench, Group, Limit, Sample, Side, Work
 
 ACCOUNTS = range(4)
-TRANSFER = transaction("balance @1", "balance @2", "withdraw @1 1", "deposit @2 1")
+
+
+def transfer(source: int, target: int) -> tuple[str, ...]:
+    """The operations that move money between two of the accounts that were drawn."""
+    return (f"balance @{source}", f"balance @{target}", f"withdraw @{source} 1", f"deposit @{target} 1")
+
+
 # The least microseconds of a pause; others last up to twice as long.
 PAUSE = 1_000
 # After how many seconds an operation that was sent is surely blocked, and for how long the answer that ends a deadlock is
@@ -25,7 +32,7 @@ BLOCKED, DEADLOCKED = 0.005, 20.0
 
 def transfers(clients: int, rest: int = 0) -> Load:
     """So many clients that move money between the accounts, and wait so long before they try again."""
-    return Load(TRANSFER, clients, counters=len(ACCOUNTS), threads=min(clients, CLIENT_THREADS), rest=rest)
+    return Load(transaction(*transfer(1, 2)), clients, counters=len(ACCOUNTS), threads=min(clients, CLIENT_THREADS), rest=rest)
 
 
 def tries(told: dict[str, float]) -> dict[str, float]:
@@ -33,12 +40,16 @@ def tries(told: dict[str, float]) -> dict[str, float]:
     return {"GaveUp/commit": told["refused"] / max(told["transactions"], 1), "most tries": told["most_tries"]}
 
 
+def limit(bench: Bench, more: float = 0.0) -> Limit:
+    """Where a load ends of which perhaps no transaction ever does."""
+    return Limit(bench.pick(SECONDS, 0.2) + more)
+
+
 def commits(load: Load, bench: Bench, program: Path) -> Sample:
     """How many transactions commit in a second, which may be none."""
-    limit = bench.pick(Limit(SECONDS), Limit(0.2))
     with mltx_server(program) as server:
         open_accounts(server, ACCOUNTS)
-        with loading(bench, server.port, load, limit) as process:
+        with loading(bench, server.port, load, limit(bench)) as process:
             told = figures(process)
     return rate(told, **tries(told))
 
@@ -49,6 +60,42 @@ def bystander(load: Load, bench: Bench, program: Path) -> Sample:
         open_accounts(server, ACCOUNTS)
         told, _ = beside([load], bench, server)
     return rate(told)
+
+
+# Transfers that are long, beside short ones; and what waits for those who hold something all the time.
+
+# How many transfers a long transaction has, of which two clients run one each, beside six with short ones over as many accounts.
+LONG = transaction(*transfer(1, 2), *transfer(3, 4), *transfer(2, 3), *transfer(4, 1))
+TRANSFERS, SIX = 4, range(6)
+
+
+def long_beside_short(bench: Bench, program: Path) -> Sample:
+    """How many long transactions commit in a second beside short ones, and how much they do by what those do."""
+    loads = [replace(transfers(2), lines=LONG, counters=len(SIX)), replace(transfers(6), counters=len(SIX))]
+    with mltx_server(program) as server, ExitStack() as stack:
+        open_accounts(server, SIX)
+        processes = [stack.enter_context(loading(bench, server.port, load, limit(bench))) for load in loads]
+        told, short = [figures(process) for process in processes]
+    work = TRANSFERS * told["transactions"] / max(short["transactions"], 1)
+    return rate(told, **{"short": short["transactions"] / short["seconds"], "work long/short": work, **tries(told)})
+
+
+# How many hold what others wait for, and for how many microseconds each time.
+HOLDERS, HELD = 12, 20_000
+# By what holds it all the time, what waits: for an account, a counter and a set.
+WAITS = {"balance 0": "withdraw 0 1", "up 0 1": "read 0", "add 0 ?": "size 0"}
+
+
+def beside_holders(held: str, waits: str, bench: Bench, program: Path) -> Sample:
+    """How often one gets through that waits for those who hold something."""
+    holders = Load(transaction(held, f"think {HELD}"), HOLDERS, counters=1_000, threads=CLIENT_THREADS)
+    with mltx_server(program) as server:
+        open_accounts(server, ACCOUNTS)
+        with loading(bench, server.port, holders, limit(bench, 0.5)):
+            time.sleep(0.2)
+            with loading(bench, server.port, Load(transaction(waits)), limit(bench)) as process:
+                told = figures(process)
+    return rate(told, **tries(told))
 
 
 # A deadlock.
@@ -101,7 +148,13 @@ def works() -> Iterator[Work]:
         Side("with pauses", partial(bystander, transfers(8, PAUSE)), ("load",)),
         ALONE,
     ))
-    for count in (2, 3):
+    side = Side("mltx", long_beside_short, ("load",))
+    yield Work("retries", "2 clients with long transactions beside 6 with short ones", "commits/s", (side,))
+    for held, waits in WAITS.items():
+        side = Side("mltx", partial(beside_holders, held, waits), ("load",))
+        what = f"`{waits}` beside {HOLDERS} that hold `{held.replace('?', '..')}` in turn"
+        yield Work("retries", what, "commits/s", (side,))
+    for count in (2, 3, 8):
         side = Side("mltx", partial(deadlocks, count))
         yield Work("retries", f"a deadlock of {count} until one is told GaveUp", "ms", (side,))
 

@@ -1,14 +1,16 @@
 """Benchmarks: each runs through, small, and prints its lines; an interrupt leaves no process and no file behind. What is not
-there to build or to compare with is left out, and told."""
+there to build or to compare with is left out, and told. The load generator tells what the server has seen of it."""
 import os
 import re
 import shutil
 import signal
+import socketserver
 import subprocess
+import threading
 import time
 from pathlib import Path
 
-from harness import PATIENCE, ROOT, holds, same, test
+from harness import PATIENCE, ROOT, holds, may_break_off, same, test
 from pictures import Picture
 
 RUN = ROOT / "bench/run"
@@ -20,6 +22,8 @@ INTERRUPTED = (
 )
 # Groups that need more than a C compiler and this program.
 NEED_MORE = {"instructions"}
+# Where the load generator looks for a server.
+LOCAL = "127.0.0.1"
 
 
 def in_folder(mltx):
@@ -68,6 +72,116 @@ def each_benchmark_runs_through(mltx):
     if shutil.which("cc"):
         check_plot(Picture(plot.read_text()), [cells for cells in rows(ran.stdout) if ": 64 clients, a hot counter, 2 ms" in cells[0]])
     same(list(mltx.folder.glob("mltx-bench-*")), [], "the folders that are left behind")
+
+
+@test
+def plot_of_what_is_not_measured(mltx):
+    """It is refused before anything is measured."""
+    words = [RUN, "--plot", mltx.folder / "plot.svg", "--program", mltx.path, "texts"]
+    ran = subprocess.run(words, capture_output=True, text=True, timeout=PATIENCE)
+    holds(ran.returncode == 2 and not ran.stdout and "--plot" in ran.stderr, f"{ran}")
+
+
+def load(mltx, port, *words):
+    """What the load generator tells of a server, by name."""
+    program = mltx.folder / "load"
+    if not program.exists():
+        subprocess.run(["cc", "-o", program, ROOT / "bench/load.c"], check=True)
+    ran = subprocess.run([program, "--port", str(port), *words], capture_output=True, text=True, check=True, timeout=PATIENCE)
+    told = ran.stdout.split()
+    return {name: float(figure) for name, figure in zip(told[::2], told[1::2])}
+
+
+@test(seconds=1)
+def load_generator_tells_what_the_server_keeps(mltx):
+    """Of 200 transactions those that it says were not aborted have added to two counters that differ and to a third one, and it
+    has thought in each."""
+    if not shutil.which("cc"):
+        return
+    with mltx.serve(limit=2, address=(LOCAL, 0)) as server:
+        server.address = LOCAL, int(server.first_line().rpartition(":")[2])
+        words = ["--transactions", "200", "--seconds", str(PATIENCE), "--aborts", "3", "--counters", "2", "--"]
+        lines = ["begin", "up @1 1", "think 500", "up @2 1", "+up 7 1", "commit"]
+        told = load(mltx, server.address[1], *words, *lines)
+        kept = server.talk("begin\nread 0\nread 1\nread 7\n").decode().split()
+    commits = told["transactions"] - told["aborted"]
+    same((told["transactions"], told["refused"], told["most_tries"]), (200, 0, 1), "what it tells")
+    same([int(word) for word in kept if word.isdigit()][1:], [commits] * 3, "the counters")
+    holds(0 < told["aborted"] < 200, "nothing, or all, is aborted")
+    holds(told["seconds"] >= 0.1 and told["median"] >= 500, f"it does not think: {told}")
+
+
+class GivesUp(socketserver.StreamRequestHandler):
+    """A server that answers two tries of each transaction with GaveUp, and keeps what it heard, each with the time."""
+
+    heard = []
+
+    def handle(self):
+        tries = 0
+        with may_break_off():
+            for line in self.rfile:
+                words = line.decode().strip()
+                self.heard.append((time.monotonic(), words))
+                tries += words == "begin"
+                answer = "error 14 GaveUp" if words.startswith("up") and tries % 3 else "done"
+                self.wfile.write(f"{answer}\n".encode())
+
+
+class Watches(socketserver.BaseRequestHandler):
+    """A Redis that does every second EXEC, and none of the others; it keeps the commands of each write."""
+
+    heard = []
+
+    def handle(self):
+        answers = {"GET": "$1\r\n5", "MULTI": "+OK", "INCRBY": "+QUEUED", "WATCH": "+OK"}
+        with may_break_off():
+            while write := self.request.recv(4096):
+                words = re.findall(r"(?m)^[A-Z]+", write.decode())
+                self.heard.append(words)
+                tries = sum("EXEC" in it for it in self.heard)
+                answers["EXEC"] = "*-1" if tries % 2 else "*1\r\n:6"
+                self.request.sendall("".join(f"{answers[word]}\r\n" for word in words).encode())
+
+
+def load_on(handler, mltx, *words):
+    """What the load generator tells of a server that answers one connection in this way."""
+    with socketserver.TCPServer((LOCAL, 0), handler) as server:
+        answering = threading.Thread(target=server.handle_request)
+        answering.start()
+        told = load(mltx, server.server_address[1], *words)
+        answering.join(PATIENCE)
+    return told
+
+
+@test
+def load_generator_runs_again_what_redis_did_not_do(mltx):
+    """An EXEC that does nothing, as a key that is watched was changed, has the transaction run again; lines go out together that
+    say so."""
+    if not shutil.which("cc"):
+        return
+    words = ["--redis", "--transactions", "10", "--seconds", "10", "--", "WATCH 0", "GET 0", "MULTI", "+INCRBY 0 1", "+EXEC"]
+    told = load_on(Watches, mltx, *words)
+    same((told["transactions"], told["refused"], told["most_tries"]), (10, 10, 2), "what it tells")
+    same(Watches.heard[:60], [["WATCH"], ["GET"], ["MULTI", "INCRBY", "EXEC"]] * 20, "what it sends")
+
+
+@test
+def load_generator_runs_again_what_gave_up(mltx):
+    """Each transaction is begun three times, with the counters that it had, and each time but the first after a pause."""
+    if not shutil.which("cc"):
+        return
+    words = ["--transactions", "20", "--seconds", "10", "--counters", "9", "--rest", "2000", "--"]
+    told = load_on(GivesUp, mltx, *words, "begin", "up @1 1", "commit")
+    same((told["transactions"], told["refused"], told["most_tries"]), (20, 40, 3), "what it tells")
+    asked = [words for _, words in GivesUp.heard]
+    ups = [words for words in asked if words.startswith("up")]
+    same(ups, [words for words in ups[::3] for _ in range(3)], "the tries")
+    holds(len(set(ups)) > 1, "each transaction has the same counter")
+    aborted = ["begin", ups[0], "abort"]
+    same(asked[:9], [*aborted, *aborted, "begin", ups[0], "commit"], "what it sends")
+    for (before, words), (after, _) in zip(GivesUp.heard, GivesUp.heard[1:]):
+        holds(words != "abort" or after - before >= 0.002, f"it begins again after {after - before} seconds")
+    holds(told["median"] >= 4_000, f"a transaction is not timed from its first try: {told}")
 
 
 def commands_with(text):
