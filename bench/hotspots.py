@@ -98,7 +98,7 @@ class Case:
 
     def what(self) -> str:
         clients = f"{self.clients} client{'s' * (self.clients > 1)}"
-        return f"{clients}, a hot {self.changes.cell}, {f'{self.think // 1_000} ms to think' if self.think else 'no thought'}"
+        return f"{clients}, a hot {self.changes.cell}, {f'{self.think // 1_000} ms to think' if self.think else 'no time to think'}"
 
 
 def commits(told: dict[str, float], **more: float) -> Sample:

@@ -149,7 +149,7 @@ def works() -> Iterator[Work]:
         ALONE,
     ))
     side = Side("mltx", long_beside_short, ("load",))
-    yield Work("retries", "2 clients with long transactions beside 6 with short ones", "commits/s", (side,))
+    yield Work("retries", "2 with long transactions beside 6 with short ones", "commits/s", (side,))
     for held, waits in WAITS.items():
         side = Side("mltx", partial(beside_holders, held, waits), ("load",))
         what = f"`{waits}` beside {HOLDERS} that hold `{held.replace('?', '..')}` in turn"
