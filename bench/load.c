@@ -48,7 +48,7 @@ struct connection {
     int awaited;        /* how many answers are to come */
     size_t sent;        /* how many bytes went out since it connected */
     double began;       /* when its transaction began */
-    double resumes;     /* where no answer is to come: when it goes on */
+    double resumes;     /* when it goes on by itself; 0 where it does not wait */
     unsigned long drawn[MOST_DRAWN]; /* the counters of its transaction */
     size_t tries;       /* how often this one was begun */
     bool aborts;        /* whether it is aborted in place of its last line */
@@ -76,6 +76,8 @@ static struct seen seen_by[MOST_CONNECTIONS];
 static _Thread_local struct seen *seen;
 static _Thread_local unsigned long random_state;
 static _Thread_local double started;
+/* How many of them go on by themselves. */
+static _Thread_local int waiting;
 
 static double now(void)
 {
@@ -265,11 +267,20 @@ static void end_try(struct connection *it)
 static void pause_for(struct connection *it, unsigned long microseconds)
 {
     it->resumes = now() + (double)microseconds / 1e6;
+    waiting++;
 }
 
-/* Goes on where no answer is to come: sends what follows, or waits. */
+/* Whether no answer is to come, and the client need not wait any longer. */
+static bool is_ready(const struct connection *it)
+{
+    return it->awaited == 0 && (it->resumes == 0 || now() >= it->resumes);
+}
+
+/* Goes on: sends what follows, or waits. */
 static void go_on(struct connection *it)
 {
+    waiting -= it->resumes > 0;
+    it->resumes = 0;
     if (it->refused && it->next < line_count) {
         take_back(it);
         return;
@@ -348,15 +359,17 @@ static void start_all(struct connection *first, int count, struct pollfd *polled
     }
 }
 
-/* How long it is until one of these clients goes on by itself. */
-static struct timespec until_next(const struct connection *first, int count)
+/* How many seconds it is until one of these clients goes on by itself, or the thread has slept for long enough. */
+static double until_next(const struct connection *first, int count)
 {
+    if (waiting == 0)
+        return LONGEST_SLEEP;
     double time = now(), next = time + LONGEST_SLEEP;
     for (int number = 0; number < count; number++) {
-        if (first[number].awaited == 0 && first[number].resumes < next)
+        if (first[number].resumes > 0 && first[number].resumes < next)
             next = first[number].resumes;
     }
-    return (struct timespec){.tv_nsec = next > time ? (long)((next - time) * 1e9) : 0};
+    return next > time ? next - time : 0;
 }
 
 static void run(struct connection *first, int count)
@@ -364,13 +377,13 @@ static void run(struct connection *first, int count)
     struct pollfd polled[MOST_CONNECTIONS];
     start_all(first, count, polled);
     while (!is_over()) {
-        struct timespec longest = until_next(first, count);
+        struct timespec longest = {.tv_nsec = (long)(until_next(first, count) * 1e9)};
         must(ppoll(polled, (nfds_t)count, &longest, NULL), "load: ppoll");
         for (int number = 0; number < count; number++) {
             struct connection *it = &first[number];
             if (polled[number].revents != 0)
                 receive(it);
-            if (it->awaited == 0 && now() >= it->resumes)
+            if (is_ready(it))
                 go_on(it);
             polled[number].fd = it->socket;
         }
