@@ -27,9 +27,9 @@ says what one has to trust. `tools/headline-lines --write` writes this page: to 
 # The phrases of the sentence, each with what carries it.
 PHRASES: list[tuple[str, str]] = [
     ("After any list of page steps, commits and aborts by any number of transactions,",
-     "the argument `events` of `play`: any list of [[Event]]s"),
+     "the argument `events` of `play`: any list of [[Event]]s, of which a call and its steps, or an abort, may be one"),
     ("the committed transactions,",
-     "field `committed` of the [[Transcripts]] that the history tells of; by field `none_back`, all that these transactions did"),
+     "field `committed` of the [[Transcripts]] that the history tells of; by field `none_back` they took nothing back"),
     ("run alone in commit order", "field `alone` of [[KeepsMainPromise]]: [[IsSerialBase]]"),
     ("from the empty base,", "[[empty_base]], in field `alone`"),
     ("give exactly the replies", "[[Step]], in field `alone`: it leads on with the reply that is told, and with no other"),
@@ -50,7 +50,8 @@ NOTATION: list[tuple[str, str]] = [
     ("`(x : A) → P`", "for each `x` of `A`, `P`; of several in a row, as `(x : A) (y : B) → P`, for each of both"),
     ("`(x : A) × P`", "there is an `x` of `A` with `P`"),
     ("`f x`, `f`", "what the function `f` gives for `x`; without an `x`, or with fewer than it wants, the function itself"),
-    ("`xs ++ y ∷ ys`", "`xs ++ (y ∷ ys)`: what stands on the right of a sign goes together"),
+    ("`xs ++ y ∷ ys`",
+     "`xs ++ (y ∷ ys)`. A function and its arguments go together first, then `∷` and `++`, then `≡`, `<`, `≤`, then `×`, then `→`"),
     ("`P → Q`, `P × Q`, `P → ⊥`", "of statements: if `P`, then `Q`; `P` and `Q`; not `P`"),
     ("`⊥`, `Unit {0}`",
      "the statement that is false, and the one that is true. Of values, `Unit {0}` is a kind with only one: a map to it is a "
@@ -64,7 +65,7 @@ NOTATION: list[tuple[str, str]] = [
      "short name of its type, as `event.Call`; one of `TraceItem` as `trace.Begin`"),
     ("`ensures name { P }`", "of a call: `P` holds when it returns. A clause may have no name"),
     ("`self.now`", "the value of what `self`, or any other reference, leads to"),
-    ("`{X : Type 0}`", "for any kind `X` of values. A call leaves it out"),
+    ("`{X : Type 0}`", "for any kind `X` of values. A call leaves it out; on the left of a `=`, `{X}` only gives it a name"),
     ("`λ x. e`, `let x = e in d`", "the function that gives `e` for `x`; `d`, where `x` is `e`"),
     ("`b'`, `Account`",
      "`'` is a letter. One name may be a case of several types, as `Account`: the kinds of its arguments tell which it is"),
@@ -92,18 +93,27 @@ READING: list[Part] = [
          store, and `m.txs`, the open transactions with their first images. Each can be read by a call, which is shown
          [at the end](#what-is-seen-of-a-manager).
 
-         The other fields of the two records say more, and [their names](#names-that-are-not-shown) are not followed here. One of
-         them matters to a reader who thinks of time: by `run` each event was told what it was told by the manager to which the
-         events before it had led, whatever came later. And the manager between any two events keeps the same promises: that is
-         the contract of `Manager::keeps_its_promises`. One more thing is no part of the sentence: that anything gets done. A manager that refused each event would keep it. What else is not said, as that
-         anything outlives the process, [THEOREM](THEOREM.md#what-it-does-not-say) tells.""", [
+         The other fields of the two records say more, and [their names](#names-that-are-not-shown) are not followed here. Three
+         things that a careful reader will miss are said by them and by other contracts, and not by the sentence:
+
+         *Time.* By `run` what an event is told depends on the events before it alone. And the manager between any two events keeps
+         the same promises: that is the contract of `Manager::keeps_its_promises`.
+
+         *The life of a transaction.* That a number begins once, does nothing before that, and nothing once it has committed or was
+         closed, is the contract of `Manager::keeps_a_placed_history`. An answer that does not fit its event is never told: by
+         `run`.
+
+         *That anything gets done.* A manager that refused each event would keep the sentence, and so would a `play` that always
+         answered that memory ran out. A call of Rattle returns, and does not panic, but for what [THEOREM](THEOREM.md#what-it-does-not-say)
+         tells; nor does anything outlive the process. How a server's calls are events of a manager is said by [its own
+         contracts](ARCHITECTURE.md#what-is-proved).""", [
              Block("A run from a new manager", "mlt_manager/specs/Events.antt"),
              Block("The promises", "mlt_manager/specs/Promises.antt"),
              Block("The main promise", "mlt_manager/specs/Headline.antt", "KeepsMainPromise"),
          ]),
     Part("Events, and the history that was told",
-         """First the field `told`. The history is read off the events and what they were told: it has an operation exactly where
-         some event was told `done`, with that reply. Which operation that was, a table of those that were called says. Of an
+         """First the field `told`. The history is read off the events and what they were told: it has an operation exactly where a
+         step, or a whole operation, was told `done`, with that reply. Which operation that was, a table of those that were called says. Of an
          abort that is one event, how many operations it took back is not told here: the field `run` says that it is all that
          stood. A whole operation that would wait or is blocked is dropped, so none is pending behind it. The `Done` of an item is
          the pair of an operation and its reply.""", [
@@ -117,12 +127,12 @@ READING: list[Part] = [
          ]),
     Part("Commit order",
          """Now the fields `none_back`, `alone` and `taken_back`. The history tells of transcripts, item by item. By `none_back`, one
-         that committed has all that the transaction was told. [[IsSerialBase]] and [[UndoneTo]] know nothing of pages, of locks
+         that committed lacks nothing that was taken back. [[IsSerialBase]] and [[UndoneTo]] know nothing of pages, of locks
          or of what an operation is: `S` is any kind of states, `P` any kind of items, and `step` says which item leads from which
          state to which. In the promise, states are bases and items are operations with their replies.
 
-         [[UndoneTo]] leads forward, from the base to the state. A step and the base behind it leave one base that can stand
-         before it. So whoever goes back from the state, operation by operation, comes to that base: it is what is left when the
+         [[UndoneTo]] leads forward, from the base to the state. [[Step]] is fixed backwards too: an item and the base after it
+         leave one base that can be before it. So whoever goes back from the state, operation by operation, comes to that base: it is what is left when the
          open transactions are taken back. A history is finite, so they always have an interleaving: all of one, and then all of
          the next.""", [
              Block("What a history tells of", "mlt_manager/specs/Headline.antt", "Transcripts transcripts_of after_item"),
@@ -160,7 +170,8 @@ READING: list[Part] = [
          is a record: a key with a value. A ghost is none: it keeps room for a record that may come back. Each cell has a key of
          its own, and what the base holds in the cell is what the record of that key says. In the definitions numbers have no
          limit, so there are cells that the program can't have; no two that it can have share a key. No header and no directory
-         is read here: that a look-up finds just these records is the field `file`.""", [
+         is read here: that a look-up finds just these records is the field `file`. A live slot under a key that is that of no cell
+         would not be seen; no operation makes one.""", [
              Block("The base of the pages", "mlt_manager/specs/Headline.antt", "PagesMean HoldsIn IsRecordOf HasLiveSlot"),
              Block("Keys of cells", "mlt_types/specs/Cells.antt"),
              Block("Pages", "mlt_page/src/page.rt"),
@@ -171,7 +182,9 @@ READING: list[Part] = [
          """Which pages are read so? The clean ones, by the field `put_back`. A *subtransaction* is what one operation, or what takes
          one back, does to pages, a page a step; it is running from its first step up to its end. Before it first writes a page,
          it keeps the page as it was, the first image. Of a page that it makes, it keeps that there was none. With its end it
-         drops them: a transaction that runs nothing keeps no image, by the field `locks`.""", [
+         drops them. The definitions take any image that an open transaction keeps. That only one who runs keeps any, and only of
+         pages that it holds exclusively, is the field `locks`; that an image is the page as it was, is said step by step by
+         `run`.""", [
              Block("Clean pages of a manager", "mlt_manager/specs/Bases.antt"),
              Block("Who keeps a first image", "mlt_tx_open/specs/Tables.antt", "KeepsImage KeepsNoImage Table"),
              Block("A first image", "mlt_page_subtx/specs/Images.antt"),
@@ -229,7 +242,8 @@ LIBRARY: list[tuple[str, str]] = [
     ("Ordering", "less, equal or greater"),
     ("nat_cmp", "how two numbers compare"),
     ("ordering_then", "the first comparison, and where that is equal the second one"),
-    ("map.FinMap", "`map.FinMap cmp V`: finite maps to values of `V`, from keys that `cmp` compares"),
+    ("map.FinMap",
+     "`map.FinMap cmp V`: finite maps to values of `V`, from keys that `cmp` compares. Two with the same value at each key are one"),
     ("map.empty", "the map without keys"),
     ("map.get", "`map.get m k`: the value at `k`, if there is one"),
     ("map.retain_keys", "`map.retain_keys m p`: the map of those keys alone of which `p` is true"),
@@ -250,15 +264,17 @@ NOT_SHOWN: list[tuple[str, str]] = [
     ("IsRecord live_records", "in the field `can_be`: balances are in range, and the records of counters and sizes have 64 bits"),
     ("GhostsAreKept ledger_by", "removals by open transactions have left their ghosts, with room to take them back"),
     ("HoldsLocksOfItsPass",
-     "a running operation holds locks of the pages that it came to, exclusive ones of those that it wrote; nobody else holds any"),
+     "a running operation holds locks of the pages that it came to on its way to its bucket, its pass, and exclusive ones of those "
+     "of which it keeps an image; whoever runs nothing holds none"),
     ("KeepsBooks", "who is open, what may be taken back and what is held is what the history says"),
     ("AreBegunInOrder AreCounted", "numbers of transactions and of commits are given out in order, from 1"),
     ("Manager ManagerFields",
      "a manager in memory, and what contracts see of it. Of its fields the sentence reads the three that calls answer"),
     ("Limits", "how many transactions, numbers, pages and operations there may be, and how deep the directory may get"),
     ("Refusal", "why an event was refused. No definition reads which; a clause of the contract names one"),
-    ("Transaction Images", "an open transaction, and its first images by the numbers of pages: its part `subtx.images`"),
-    ("Store page_at", "the pages in memory, and `page_at pages n`: the page of number `n`, if there is one"),
+    ("Transaction Images",
+     "an open transaction, and its first images: its part `subtx.images`, a finite map from numbers of pages to `Option Page`"),
+    ("Store page_at", "the pages in memory, and `page_at pages n`, which is `map.get pages n`"),
     ("KeptItem Done", "an item as the history keeps it, and the pair of an operation and its reply as an item has it"),
     ("SLOTS", "8, the number of slots that a bucket has"),
     ("HeadPage DirPage", "the header and a page of the directory. The sentence reads no record from them"),
