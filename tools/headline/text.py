@@ -96,17 +96,17 @@ READING: list[Part] = [
          The other fields of the two records say more, and [their names](#names-that-are-not-shown) are not followed here. Three
          things that a careful reader will miss are said by them and by other contracts, and not by the sentence:
 
-         *Time.* By `run` what an event is told depends on the events before it alone. And the manager between any two events keeps
-         the same promises: that is the contract of `Manager::keeps_its_promises`.
+         *Time.* By `run` each event meets the contract of its call on the manager that the events before it have left, whatever
+         comes later. And the manager between any two events keeps the same promises: that is the contract of
+         `Manager::keeps_its_promises`.
 
          *The life of a transaction.* That a number begins once, does nothing before that, and nothing once it has committed or was
          closed, is the contract of `Manager::keeps_a_placed_history`. An answer that does not fit its event is never told: by
          `run`.
 
          *That anything gets done.* A manager that refused each event would keep the sentence, and so would a `play` that always
-         answered that memory ran out. A call of Rattle returns, and does not panic, but for what [THEOREM](THEOREM.md#what-it-does-not-say)
-         tells; nor does anything outlive the process. How a server's calls are events of a manager is said by [its own
-         contracts](ARCHITECTURE.md#what-is-proved).""", [
+         answered that memory ran out. [THEOREM](THEOREM.md#what-it-does-not-say) tells what else is not said. How a server's
+         calls are events of a manager is said by [its own contracts](ARCHITECTURE.md#what-is-proved).""", [
              Block("A run from a new manager", "mlt_manager/specs/Events.antt"),
              Block("The promises", "mlt_manager/specs/Promises.antt"),
              Block("The main promise", "mlt_manager/specs/Headline.antt", "KeepsMainPromise"),
@@ -171,7 +171,7 @@ READING: list[Part] = [
          its own, and what the base holds in the cell is what the record of that key says. In the definitions numbers have no
          limit, so there are cells that the program can't have; no two that it can have share a key. No header and no directory
          is read here: that a look-up finds just these records is the field `file`. A live slot under a key that is that of no cell
-         would not be seen; no operation makes one.""", [
+         is not seen here.""", [
              Block("The base of the pages", "mlt_manager/specs/Headline.antt", "PagesMean HoldsIn IsRecordOf HasLiveSlot"),
              Block("Keys of cells", "mlt_types/specs/Cells.antt"),
              Block("Pages", "mlt_page/src/page.rt"),
@@ -183,8 +183,8 @@ READING: list[Part] = [
          one back, does to pages, a page a step; it is running from its first step up to its end. Before it first writes a page,
          it keeps the page as it was, the first image. Of a page that it makes, it keeps that there was none. With its end it
          drops them. The definitions take any image that an open transaction keeps. That only one who runs keeps any, and only of
-         pages that it holds exclusively, is the field `locks`; that an image is the page as it was, is said step by step by
-         `run`.""", [
+         pages that it holds exclusively, is the field `locks`. By `run` a step that ends no operation leaves the clean pages as
+         they are: so an image is the page as it was.""", [
              Block("Clean pages of a manager", "mlt_manager/specs/Bases.antt"),
              Block("Who keeps a first image", "mlt_tx_open/specs/Tables.antt", "KeepsImage KeepsNoImage Table"),
              Block("A first image", "mlt_page_subtx/specs/Images.antt"),
